@@ -1,0 +1,9 @@
+pub mod Append
+pub mod Case
+pub mod Formatted
+pub mod Kept
+pub mod Layout
+pub mod OpenHeader
+pub mod Opening
+pub mod Record
+pub mod Standing

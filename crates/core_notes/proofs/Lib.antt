@@ -1,0 +1,3 @@
+pub mod NulPlaces
+pub mod Entries
+pub mod Looking

@@ -1,0 +1,7 @@
+pub mod Descriptor
+pub mod FileList
+pub mod DescriptorWords
+pub mod FileWords
+pub mod Typed
+pub mod NoteWords
+pub mod CoreWords

@@ -1,0 +1,28 @@
+use thiserror::Error;
+
+/// What is wrong with a descriptor.
+#[derive(Clone, Copy, Debug, PartialEq, Eq, Error)]
+pub enum NoteField {
+    /// It has another size than its kind of note.
+    #[error("DescSize")]
+    DescSize,
+    /// The count of an NT_FILE, or the entries that it tells, do not fit in it.
+    #[error("FileCount")]
+    FileCount,
+    /// An entry of an NT_FILE ends before it starts, or its last byte's place in the file is over 2^64 - 1.
+    #[error("FileOffset")]
+    FileOffset,
+    /// An NT_FILE has fewer names than entries.
+    #[error("FileNames")]
+    FileNames,
+}
+
+/// The first faulty note among those that are looked at.
+#[derive(Clone, Copy, Debug, PartialEq, Eq, Error)]
+#[error("{field} {index}")]
+pub struct NoteFault {
+    /// The note's number among all notes of the core. It stays at the greatest u64 where there are more.
+    pub index: u64,
+    /// What is wrong with its descriptor.
+    pub field: NoteField,
+}

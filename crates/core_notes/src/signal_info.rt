@@ -1,0 +1,93 @@
+// NT_SIGINFO: the signal that was met.
+ghost use Rattle.std.specs.Prelude.{◌≡◌, ◌+◌, ◌*◌, ◌≤◌, ◌<◌, length};
+
+use elf_view::{u32_at, u64_at};
+
+/// The signal that a process met (siginfo).
+#[derive(Clone, Copy, Debug)]
+pub struct SigInfo<'a> {
+    desc: &'a [u8],
+    pub ghost whole: { 24 ≤ length desc.now },
+}
+
+impl<'a> SigInfo<'a> {
+    ghost use Rattle.core_notes.specs.Descriptor as spec;
+    ghost use Rattle.core_notes.specs.DescriptorWords.{siginfo_bytes};
+
+    pub(crate) fn new(desc: &'a [u8]) -> SigInfo<'a>
+        requires { 24 ≤ length desc.now }
+        ensures { siginfo_bytes result ≡ desc.now }
+    {
+        SigInfo { desc }
+    }
+
+    /// The signal's number.
+    pub fn si_signo(&self) -> i32
+        ensures { result ≡ spec.si_signo (siginfo_bytes self.now) }
+    {
+        u32_at(self.desc, 0).cast_signed()
+    }
+
+    /// The errno. Here it stands before the code.
+    pub fn si_errno(&self) -> i32
+        ensures { result ≡ spec.si_errno (siginfo_bytes self.now) }
+    {
+        u32_at(self.desc, 4).cast_signed()
+    }
+
+    /// The code: where the signal came from.
+    pub fn si_code(&self) -> i32
+        ensures { result ≡ spec.si_code (siginfo_bytes self.now) }
+    {
+        u32_at(self.desc, 8).cast_signed()
+    }
+
+    /// Whether the code tells of a sender.
+    fn has_sender(&self) -> bool
+        ensures { result ≡ spec.has_sender (spec.si_code (siginfo_bytes self.now)) }
+    {
+        let code = self.si_code();
+        code == 0 || code == -1 || code == -6
+    }
+
+    /// Whether the signal tells of an address.
+    fn is_address_signal(&self) -> bool
+        ensures { result ≡ spec.is_address_signal (spec.si_signo (siginfo_bytes self.now)) }
+    {
+        let signal = self.si_signo();
+        signal == 4 || signal == 5 || signal == 7 || signal == 8 || signal == 11
+    }
+
+    /// The sender's process, where the code is SI_USER, SI_QUEUE or SI_TKILL.
+    pub fn si_pid(&self) -> Option<i32>
+        ensures { result ≡ spec.si_pid (siginfo_bytes self.now) }
+    {
+        if self.has_sender() {
+            Some(u32_at(self.desc, 16).cast_signed())
+        } else {
+            None
+        }
+    }
+
+    /// The sender's user, where the code is SI_USER, SI_QUEUE or SI_TKILL.
+    pub fn si_uid(&self) -> Option<u32>
+        ensures { result ≡ spec.si_uid (siginfo_bytes self.now) }
+    {
+        if self.has_sender() {
+            Some(u32_at(self.desc, 20))
+        } else {
+            None
+        }
+    }
+
+    /// The address that was met, where there is no sender and the signal is SIGILL, SIGTRAP, SIGBUS, SIGFPE or SIGSEGV.
+    pub fn si_addr(&self) -> Option<u64>
+        ensures { result ≡ spec.si_addr (siginfo_bytes self.now) }
+    {
+        if !self.has_sender() && self.is_address_signal() {
+            Some(u64_at(self.desc, 16))
+        } else {
+            None
+        }
+    }
+}

@@ -1,0 +1,348 @@
+use super::*;
+use elf_view::sample::{
+    FilePart, NT_AUXV, NT_FILE, NT_PRPSINFO, NT_PRSTATUS, NT_SIGINFO, NotePart, core_image,
+    file_core, files, process, registers, stack_core, status,
+};
+use elf_view::{Elf, Note, Want};
+use std::alloc::{AllocError, Global};
+use std::test::Fail;
+
+/// A note whose descriptor this is.
+fn note_of(desc: &[u8]) -> Note<'_> {
+    Note {
+        name: b"CORE",
+        kind: 0,
+        desc,
+    }
+}
+
+/// A note named CORE.
+fn note_part(kind: u32, desc: &[u8]) -> NotePart<'_> {
+    NotePart {
+        name: b"CORE",
+        kind,
+        desc,
+    }
+}
+
+/// The first fault of a core of these notes.
+fn fault_of(alloc: Global, notes: &[NotePart<'_>]) -> Result<Option<NoteFault>, AllocError> {
+    let image = core_image(alloc, notes, &[])?;
+    match Elf::read(&image, Want::Core) {
+        Ok(elf) => Ok(CoreNotes::of(&elf).err()),
+        Err(_) => Ok(None),
+    }
+}
+
+#[test]
+fn a_thread_and_its_process_are_read(rt: HostRuntime) -> Result<(), Fail> {
+    let image = stack_core(rt.alloc())?;
+    let elf = Elf::read(&image, Want::Core).ok().ok_or("refused")?;
+    let notes = CoreNotes::of(&elf).ok().ok_or("faulty")?;
+    let mut statuses = notes.statuses();
+    let status = statuses.next().ok_or("no thread")?;
+    assert_eq!(rt; (status.pr_cursig(), status.pr_pid()), (11, 4242));
+    assert_eq!(rt;
+        (status.pr_reg(0), status.pr_reg(8), status.pr_reg(31)),
+        (0x10400, 0x7f40, 31)
+    );
+    assert!(rt; statuses.next().is_none());
+    let process = notes.psinfo().ok_or("no process")?;
+    assert_eq!(rt;
+        (process.pr_pid(), process.pr_ppid(), process.pr_pgrp()),
+        (4242, 1, 4242)
+    );
+    assert_eq!(rt;
+        (process.pr_uid(), process.pr_gid(), process.pr_sname()),
+        (1000, 1000, b'R')
+    );
+    assert_eq!(rt; process.pr_fname(), b"demo".as_slice());
+    assert_eq!(rt; process.pr_psargs(), b"demo -v".as_slice());
+    assert!(rt; notes.siginfo().is_none());
+    assert!(rt; notes.auxv().is_none());
+    assert!(rt; notes.files().is_none());
+    Ok(())
+}
+
+#[test]
+fn a_mapped_file_is_read(rt: HostRuntime) -> Result<(), Fail> {
+    let image = file_core(rt.alloc())?;
+    let elf = Elf::read(&image, Want::Core).ok().ok_or("refused")?;
+    let notes = CoreNotes::of(&elf).ok().ok_or("faulty")?;
+    let mut maps = notes.files().ok_or("no files")?.maps();
+    let map = maps.next().ok_or("no file")?;
+    assert_eq!(rt; (map.start, map.past, map.offset), (0x10000, 0x11000, 0));
+    assert_eq!(rt; map.name, b"/bin/cat".as_slice());
+    assert!(rt; maps.next().is_none());
+    Ok(())
+}
+
+#[test]
+fn status_fields_stand_at_their_places(rt: HostRuntime) -> Result<(), Fail> {
+    let mut bytes = [0u8; 376];
+    for i in 0..376 {
+        bytes[i] = (i % 251) as u8;
+    }
+    let status = descriptors::status(&note_of(&bytes)).ok().ok_or("size")?;
+    assert_eq!(rt;
+        (status.si_signo(), status.si_code()),
+        (0x0302_0100, 0x0706_0504)
+    );
+    assert_eq!(rt;
+        (status.si_errno(), status.pr_cursig()),
+        (0x0b0a_0908, 0x0d0c)
+    );
+    assert_eq!(rt; status.pr_sigpend(), 0x1716_1514_1312_1110);
+    assert_eq!(rt; status.pr_sighold(), 0x1f1e_1d1c_1b1a_1918);
+    assert_eq!(rt;
+        (status.pr_pid(), status.pr_ppid()),
+        (0x2322_2120, 0x2726_2524)
+    );
+    assert_eq!(rt;
+        (status.pr_pgrp(), status.pr_sid()),
+        (0x2b2a_2928, 0x2f2e_2d2c)
+    );
+    assert_eq!(rt; status.pr_reg(1), 0x7f7e_7d7c_7b7a_7978);
+    assert_eq!(rt; status.pr_fpvalid(), 0x7877_7675);
+    Ok(())
+}
+
+#[test]
+fn process_fields_stand_at_their_places(rt: HostRuntime) -> Result<(), Fail> {
+    let mut bytes = [0u8; 136];
+    for i in 0..136 {
+        bytes[i] = i as u8;
+    }
+    let process = descriptors::psinfo(&note_of(&bytes)).ok().ok_or("size")?;
+    assert_eq!(rt;
+        (process.pr_state(), process.pr_sname(), process.pr_zomb()),
+        (0, 1, 2)
+    );
+    assert_eq!(rt;
+        (process.pr_nice(), process.pr_flag()),
+        (3, 0x0f0e_0d0c_0b0a_0908)
+    );
+    assert_eq!(rt;
+        (process.pr_uid(), process.pr_gid()),
+        (0x1312_1110, 0x1716_1514)
+    );
+    assert_eq!(rt;
+        (process.pr_pid(), process.pr_ppid()),
+        (0x1b1a_1918, 0x1f1e_1d1c)
+    );
+    assert_eq!(rt;
+        (process.pr_pgrp(), process.pr_sid()),
+        (0x2322_2120, 0x2726_2524)
+    );
+    assert_eq!(rt;
+        (process.pr_fname().len(), process.pr_psargs().len()),
+        (16, 80)
+    );
+    Ok(())
+}
+
+#[test]
+fn a_signal_shows_its_sender_or_its_address(rt: HostRuntime) -> Result<(), Fail> {
+    let cases: [(i32, i32, Option<i32>, Option<u64>); 7] = [
+        (11, 1, None, Some(0x7_0000_0010)),
+        (11, 0, Some(16), None),
+        (6, -6, Some(16), None),
+        (10, -1, Some(16), None),
+        (7, 2, None, Some(0x7_0000_0010)),
+        (9, 1, None, None),
+        (5, -2, None, Some(0x7_0000_0010)),
+    ];
+    for (signo, code, pid, addr) in cases {
+        let mut desc = [0u8; 24];
+        desc[..4].copy_from_slice(&signo.to_le_bytes());
+        desc[8..12].copy_from_slice(&code.to_le_bytes());
+        desc[16] = 16;
+        desc[20] = 7;
+        let signal = descriptors::siginfo(&note_of(&desc)).ok().ok_or("size")?;
+        assert_eq!(rt;
+            (signal.si_signo(), signal.si_errno(), signal.si_code()),
+            (signo, 0, code)
+        );
+        assert_eq!(rt;
+            (signal.si_pid(), signal.si_addr()),
+            (pid, addr),
+            "signal {signo} code {code}"
+        );
+        assert_eq!(rt; signal.si_uid(), pid.map(|_| 7));
+    }
+    Ok(())
+}
+
+#[test]
+fn pairs_end_before_the_null(rt: HostRuntime) -> Result<(), Fail> {
+    let mut desc = [0u8; 64];
+    desc[0] = 6;
+    desc[9] = 0x10;
+    desc[16] = 51;
+    desc[24] = 5;
+    desc[48] = 9;
+    let mut pairs = descriptors::auxv(&note_of(&desc))
+        .ok()
+        .ok_or("size")?
+        .pairs();
+    assert_eq!(rt;
+        pairs.next(),
+        Some(AuxvPair {
+            kind: 6,
+            value: 4096
+        })
+    );
+    assert_eq!(rt; pairs.next(), Some(AuxvPair { kind: 51, value: 5 }));
+    assert_eq!(rt; pairs.next(), None);
+    let mut open = descriptors::auxv(&note_of(&desc[..16]))
+        .ok()
+        .ok_or("size")?
+        .pairs();
+    assert_eq!(rt;
+        open.next(),
+        Some(AuxvPair {
+            kind: 6,
+            value: 4096
+        })
+    );
+    assert_eq!(rt; open.next(), None);
+    Ok(())
+}
+
+#[test]
+fn each_size_is_checked(rt: HostRuntime) {
+    let bytes = [0u8; 400];
+    for length in 0..400 {
+        let note = note_of(&bytes[..length]);
+        let size = Some(NoteField::DescSize);
+        let wrong = |right: bool| if right { None } else { size };
+        assert_eq!(rt;
+            descriptors::status(&note).err(),
+            wrong(length == 376),
+            "{length}"
+        );
+        assert_eq!(rt;
+            descriptors::psinfo(&note).err(),
+            wrong(length == 136),
+            "{length}"
+        );
+        assert_eq!(rt;
+            descriptors::auxv(&note).err(),
+            wrong(length % 16 == 0),
+            "{length}"
+        );
+        assert_eq!(rt;
+            descriptors::siginfo(&note).err(),
+            wrong(length >= 24),
+            "{length}"
+        );
+        let count = if length < 16 {
+            Some(NoteField::FileCount)
+        } else {
+            None
+        };
+        assert_eq!(rt; descriptors::files(&note).err(), count, "{length}");
+    }
+}
+
+/// An NT_FILE of one entry.
+fn one_file(alloc: Global, page: u64, end: u64, offset: u64) -> Result<Vec<u8>, AllocError> {
+    let start = 0x10000;
+    let name = b"/bin/cat";
+    files(
+        alloc,
+        page,
+        &[FilePart {
+            start,
+            end,
+            offset,
+            name,
+        }],
+    )
+}
+
+#[test]
+fn a_file_list_has_its_entries_and_names(rt: HostRuntime) -> Result<(), Fail> {
+    let desc = one_file(rt.alloc(), 4096, 0x11000, 0)?;
+    for length in 0..desc.len() {
+        let cut = note_of(&desc[..length]);
+        let field = if length < 40 {
+            NoteField::FileCount
+        } else {
+            NoteField::FileNames
+        };
+        assert_eq!(rt; descriptors::files(&cut).err(), Some(field), "{length}");
+    }
+    let mut most = Vec::from_slice(rt.alloc(), &[0xff; 8])?;
+    most.extend_from_slice(&[0; 41])?;
+    assert_eq!(rt;
+        descriptors::files(&note_of(&most)).err(),
+        Some(NoteField::FileCount)
+    );
+    Ok(())
+}
+
+#[test]
+fn the_place_of_a_file_fits(rt: HostRuntime) -> Result<(), Fail> {
+    let wrong = Some(NoteField::FileOffset);
+    let cases = [
+        (2, 0x11000, 1 << 63, wrong),
+        (1, 0xffff, 0, wrong),
+        (1, 0x11000, u64::MAX - 0x1000, None),
+        (1, 0x11000, u64::MAX - 0xfff, wrong),
+        (0, 0x11000, u64::MAX, None),
+        (1, 0x10000, 0, None),
+    ];
+    for (page, end, offset, fault) in cases {
+        let desc = one_file(rt.alloc(), page, end, offset)?;
+        assert_eq!(rt;
+            descriptors::files(&note_of(&desc)).err(),
+            fault,
+            "{offset}"
+        );
+    }
+    Ok(())
+}
+
+#[test]
+fn the_first_faulty_note_is_named(rt: HostRuntime) -> Result<(), Fail> {
+    let state = status(11, 1, &registers());
+    let good = note_part(NT_PRSTATUS, &state);
+    let size = Some(NoteFault {
+        index: 2,
+        field: NoteField::DescSize,
+    });
+    for kind in [NT_PRSTATUS, NT_PRPSINFO, NT_AUXV, NT_SIGINFO] {
+        let notes = [good, note_part(2, b"f"), note_part(kind, b"short")];
+        assert_eq!(rt; fault_of(rt.alloc(), &notes)?, size, "kind {kind}");
+    }
+    let count = Some(NoteFault {
+        index: 1,
+        field: NoteField::FileCount,
+    });
+    let files = [
+        good,
+        note_part(NT_FILE, b"short"),
+        note_part(NT_AUXV, b"short"),
+    ];
+    assert_eq!(rt; fault_of(rt.alloc(), &files)?, count);
+    let states = [good, good, note_part(NT_PRSTATUS, b"short")];
+    assert_eq!(rt; fault_of(rt.alloc(), &states)?, size);
+    Ok(())
+}
+
+#[test]
+fn some_notes_are_not_looked_at(rt: HostRuntime) -> Result<(), Fail> {
+    let process = process();
+    let known = note_part(NT_PRPSINFO, &process);
+    let second = [known, note_part(NT_PRPSINFO, b"short")];
+    assert_eq!(rt; fault_of(rt.alloc(), &second)?, None);
+    let other = NotePart {
+        name: b"LINUX",
+        ..note_part(NT_PRSTATUS, b"short")
+    };
+    assert_eq!(rt; fault_of(rt.alloc(), &[known, other])?, None);
+    let untyped = note_part(5, b"short");
+    assert_eq!(rt; fault_of(rt.alloc(), &[known, untyped])?, None);
+    Ok(())
+}

@@ -1,0 +1,2 @@
+mod Replays
+mod Steps

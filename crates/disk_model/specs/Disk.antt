@@ -1,0 +1,32 @@
+-- What the calls of a disk do to the bytes that it shows, and to those that a crash may leave.
+use Rattle.std.specs.Prelude.{◌≡◌, ◌⊎◌, ℕ, ◌+◌, ◌-◌, ◌^◌, ◌≤◌, min, List, Result, OnErr}
+use Rattle.disk_model.specs.Places.{SameOutside}
+
+-- each new outcome of a crash is an old outcome after a step
+abbrev pub Follows : (List ℕ → List ℕ → Type 0) → (List ℕ → Type 0) → (List ℕ → Type 0) → Type 0
+Follows step old new = (c : List ℕ) → new c → (d : List ℕ) × old d × step d c
+
+-- a crash leaves these bytes and nothing else
+abbrev pub Only : List ℕ → (List ℕ → Type 0) → Type 0
+Only bytes outcomes = (c : List ℕ) → outcomes c → c ≡ bytes
+
+-- one of the outcomes, with any bytes in the n from place at on
+abbrev pub ChangedIn : ℕ → ℕ → (List ℕ → Type 0) → List ℕ → Type 0
+ChangedIn at n outcomes c = (d : List ℕ) × outcomes d × SameOutside at n d c
+
+-- Time goes on in a call: a crash since t may have left what it may have left before the call, or what it may leave now.
+pub record Elapses {D : Type 0} (clock : D → ℕ) (may_leave : D → List ℕ → Type 0) (left_since : D → ℕ → List ℕ → Type 0) (old new : D) : Type 0 where
+  pub later : clock old ≤ clock new
+  pub nothing_else : (t : ℕ) (c : List ℕ) → t ≤ clock old → left_since new t c → left_since old t c ⊎ may_leave new c
+  pub keeps : (t : ℕ) (c : List ℕ) → t ≤ clock old → left_since old t c → left_since new t c
+  -- where the clock stands still, a crash leaves nothing new
+  pub still : clock new ≡ clock old → (c : List ℕ) → may_leave new c → may_leave old c
+
+-- a count of failures rose; a count that is kept in 64 bits and stands at its greatest number is taken as risen
+abbrev pub HasRisen : ℕ → ℕ → Type 0
+HasRisen old new = min (old + 1) (2 ^ 64 - 1) ≤ new
+
+-- a failure is answered only where the count of failures rose
+pub record HasCause {T E : Type 0} (before now : ℕ) (result : Result T E) : Type 0 where
+  pub later : before ≤ now
+  pub risen : OnErr result (HasRisen before now)

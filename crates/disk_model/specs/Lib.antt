@@ -1,0 +1,13 @@
+pub mod Agree
+pub mod Crash
+pub mod CrashLaws
+pub mod Disk
+pub mod Faulty
+pub mod MemDisk
+pub mod MomentLaws
+pub mod Moments
+pub mod NoteLaws
+pub mod Notes
+pub mod PartLaws
+pub mod PlaceLaws
+pub mod Places

@@ -1,0 +1,24 @@
+//! Disks as an archive sees them: the bytes that reads give, and what a crash may leave of them.
+#![tactic(auto)]
+
+mod agree;
+mod crash;
+mod disk;
+mod file_disk;
+mod fuse;
+mod mem_disk;
+mod note;
+mod one_fault;
+mod stable;
+
+pub use agree::agrees_outside_writes;
+pub use crash::Pick;
+pub use disk::{Disk, DiskFault};
+pub use file_disk::{FileDisk, FileFault};
+pub use fuse::Fuse;
+pub use mem_disk::MemDisk;
+pub use one_fault::OneFault;
+pub use stable::write_stable;
+
+#[cfg(test)]
+mod tests;

@@ -1,0 +1,8 @@
+use Rattle.std.proofs.Common.{◌∙◌, ◌-◌, length, arith}
+use Rattle.elf_view.proofs.Fields.{reads_field}
+use Rattle.elf_view.proofs.numbers.u16_at.Goals as goal
+
+pub returns : goal.returns
+returns c =
+    let b = c.args.bytes.now in
+    c.read_u16.ensures ∙ reads_field b c.args.at (length b - c.args.at) 2 (omega arith)

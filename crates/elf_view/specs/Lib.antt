@@ -1,0 +1,10 @@
+pub mod Field
+pub mod Header
+pub mod Sound
+pub mod NoteList
+pub mod SectionTable
+pub mod SegmentWords
+pub mod NoteWords
+pub mod SectionWords
+pub mod ViewWords
+pub mod NoteGrammar

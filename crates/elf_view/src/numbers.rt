@@ -1,0 +1,43 @@
+// Numbers and stretches of bytes, as every structure of ELF64 is read.
+ghost use Rattle.std.specs.Prelude.{◌≡◌, ◌+◌, ◌≤◌, ◌^◌, ◌<◌, length};
+ghost use Rattle.elf_view.specs.Field as spec;
+
+use byteorder::{ByteOrder, LittleEndian};
+
+/// The little-endian number in the two bytes from place `at` on.
+
+pub fn u16_at(bytes: &[u8], at: usize) -> u16
+    requires { at + 2 ≤ length bytes.now }
+    ensures { result ≡ spec.field bytes.now at 2 }
+{
+    LittleEndian::read_u16(&bytes[at..])
+}
+
+/// The little-endian number in the four bytes from place `at` on.
+
+pub fn u32_at(bytes: &[u8], at: usize) -> u32
+    requires { at + 4 ≤ length bytes.now }
+    ensures { result ≡ spec.field bytes.now at 4 }
+{
+    LittleEndian::read_u32(&bytes[at..])
+}
+
+/// The little-endian number in the eight bytes from place `at` on.
+
+pub fn u64_at(bytes: &[u8], at: usize) -> u64
+    requires { at + 8 ≤ length bytes.now }
+    ensures { result ≡ spec.field bytes.now at 8 }
+{
+    LittleEndian::read_u64(&bytes[at..])
+}
+
+/// What the slice has of the `size` bytes from place `at` on: fewer where it ends before.
+pub fn part(bytes: &[u8], at: u64, size: u64) -> &[u8]
+    ensures { result.now ≡ spec.part bytes.now at size }
+{
+    let length = bytes.len() as u64;
+    let start = at.min(length) as usize;
+    let rest = &bytes[start..];
+    let end = size.min(rest.len() as u64) as usize;
+    &rest[..end]
+}

@@ -1,0 +1,22 @@
+-- The bytes of data blocks and of what they hold.
+use Rattle.std.specs.Prelude.{ℕ, ◌+◌, ◌*◌, List, take}
+use Rattle.std.specs.List.{flat_map}
+use Rattle.disk_model.specs.Places.{part}
+use Rattle.case_journal.specs.declared.shape.Shape.{Shape}
+use Rattle.case_journal.specs.Layout.{data_start}
+
+-- where a data block begins on the disk
+abbrev pub block_start : Shape → ℕ → ℕ
+block_start shape k = data_start shape + 4096 * k
+
+-- the bytes of a data block
+abbrev pub block_bytes : Shape → List ℕ → ℕ → List ℕ
+block_bytes shape bytes k = part bytes (block_start shape k) 4096
+
+-- the bytes of these blocks, one after another
+abbrev pub joined : Shape → List ℕ → List ℕ → List ℕ
+joined shape bytes blocks = flat_map (block_bytes shape bytes) blocks
+
+-- an image: its blocks joined and cut to its length
+abbrev pub image_in : Shape → List ℕ → List ℕ → ℕ → List ℕ
+image_in shape bytes blocks len = take len (joined shape bytes blocks)

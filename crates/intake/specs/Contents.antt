@@ -1,0 +1,70 @@
+-- The bytes that an archive holds: an image for each case, and for each stream what it has taken and what is lent next.
+use Rattle.std.specs.Prelude.{◌≡◌, ℕ, List, [], ◌∷◌, ◌++◌, Option, None, Some, Result, Ok, Err, take, drop, replicate, slice_set}
+use Rattle.intake.specs.Slots.{stream_at, closed}
+use Rattle.intake.specs.declared.faults.ArchiveFault.{ArchiveFault}
+use Rattle.intake.specs.declared.faults.ArchiveFault.TheVariants.{Stopped, NoStream, Disk}
+
+pub record Taken : Type 0 where
+  -- the bytes taken, in order
+  pub bytes : List ℕ
+  -- the free part of the block that is filled: what stands there now
+  pub free : List ℕ
+
+pub record Contents : Type 0 where
+  -- of the cases, in their order
+  pub images : List (List ℕ)
+  -- by slot
+  pub taken : List (Option Taken)
+
+-- a block of zeros
+unfoldable pub zero_block : List ℕ
+zero_block = replicate 4096 0
+
+-- a new stream has no bytes and a block of zeros to fill
+abbrev pub empty_taken : Taken
+empty_taken = record { bytes = []; free = zero_block }
+
+-- what is free next: a full block gives way to one of zeros
+abbrev pub next_free : List ℕ → List ℕ
+next_free [] = zero_block
+next_free (x ∷ xs) = x ∷ xs
+
+-- the first n bytes of the free part, as they stand, go to the end of the bytes
+abbrev pub advanced : ℕ → Taken → Taken
+advanced n t = record { bytes = t.bytes ++ take n t.free; free = next_free (drop n t.free) }
+
+-- the same contents with this in a slot
+abbrev pub with_taken : Contents → ℕ → Option Taken → Contents
+with_taken c slot o = record c { taken = slice_set c.taken slot o }
+
+-- no stream has taken anything
+abbrev pub without_streams : Contents → Contents
+without_streams c = record c { taken = closed c.taken }
+
+-- The bytes at each call's end. A refusal leaves them, but where it drops the stream, or where the disk failed.
+abbrev pub BeginBytes : Contents → ℕ → Result (Unit {0}) ArchiveFault → Contents → Type 0
+BeginBytes old slot (Ok u) new = new ≡ with_taken old slot (Some empty_taken)
+BeginBytes old slot (Err f) new = new ≡ old
+
+-- what a stream's slot holds after the stream was refused
+abbrev pub RefusedBytes : Contents → ℕ → ArchiveFault → Contents → Type 0
+RefusedBytes old slot Stopped new = new ≡ old
+RefusedBytes old slot NoStream new = new ≡ old
+RefusedBytes old slot Disk new = new ≡ without_streams old
+RefusedBytes old slot _ new = new ≡ with_taken old slot None
+
+abbrev pub AdvanceBytes : Contents → ℕ → ℕ → Result (Unit {0}) ArchiveFault → Contents → Type 0
+AdvanceBytes old slot n (Ok u) new =
+    (t : Taken) × (stream_at old.taken slot ≡ Some t) × (new ≡ with_taken old slot (Some (advanced n t)))
+AdvanceBytes old slot n (Err f) new = RefusedBytes old slot f new
+
+-- the stream's bytes become the last image
+abbrev pub FinishBytes : Contents → ℕ → Result ℕ ArchiveFault → Contents → Type 0
+FinishBytes old slot (Ok seq) new =
+    (t : Taken) × (stream_at old.taken slot ≡ Some t)
+    × (new ≡ record { images = old.images ++ t.bytes ∷ []; taken = slice_set old.taken slot None })
+FinishBytes old slot (Err f) new = RefusedBytes old slot f new
+
+abbrev pub AbandonBytes : Contents → ℕ → Result (Unit {0}) ArchiveFault → Contents → Type 0
+AbandonBytes old slot (Ok u) new = new ≡ with_taken old slot None
+AbandonBytes old slot (Err f) new = new ≡ old

@@ -1,0 +1,14 @@
+pub mod Blocks
+pub mod Closing
+pub mod Contents
+pub mod Faults
+pub mod Growth
+pub mod Lending
+pub mod Opened
+pub mod Parts
+pub mod Room
+pub mod Slots
+pub mod Sound
+pub mod State
+pub mod Step
+pub mod StreamView

@@ -1,0 +1,72 @@
+-- What an archive is made of, as its contracts see it.
+use Rattle.std.specs.Prelude.{ℕ, ◌%◌, Bool, List, Option, ◌++◌, map, option_map, take, drop, length}
+use Rattle.extents.specs.Runs.{runs_of}
+use Rattle.case_journal.specs.declared.entry.Kind.{Kind}
+use Rattle.case_journal.specs.Case.{Case}
+use Rattle.case_journal.specs.Standing.{Journaled}
+use Rattle.intake.specs.Blocks.{joined, image_in}
+use Rattle.intake.specs.State.{BareCase, BareStream, Bare}
+use Rattle.intake.specs.Contents.{Taken, Contents}
+
+-- a stream: what it is of, the blocks that it has filled, and the block that it fills
+pub record StreamParts : Type 0 where
+  pub kind : Kind
+  pub name : List ℕ
+  pub pid : ℕ
+  pub signal : ℕ
+  pub time : ℕ
+  -- the bytes taken so far
+  pub len : ℕ
+  pub blocks : List ℕ
+  -- the 4,096 bytes of the block that is filled now
+  pub block : List ℕ
+
+pub record Parts (D : Type 0) : Type 0 where
+  pub disk : D
+  pub journal : Journaled
+  pub limit : ℕ
+  -- by slot
+  pub streams : List (Option StreamParts)
+  pub stopped : Bool
+
+abbrev pub bare_case : Case → BareCase
+bare_case c = record {
+  seq = c.seq;
+  kind = c.kind;
+  name = c.name;
+  pid = c.pid;
+  signal = c.signal;
+  time = c.time;
+  pinned = c.pinned;
+  len = c.len;
+  runs = length (runs_of c.blocks);
+}
+
+abbrev pub bare_stream : StreamParts → BareStream
+bare_stream s = record { kind = s.kind; name = s.name; pid = s.pid; signal = s.signal; time = s.time; len = s.len }
+
+-- the state without bytes
+abbrev pub bare_of : {D : Type 0} → Parts D → Bare
+bare_of a = record {
+  shape = a.journal.standing.shape;
+  limit = a.limit;
+  cases = map bare_case a.journal.standing.cases;
+  next = a.journal.standing.next;
+  used = a.journal.standing.used;
+  streams = map (option_map bare_stream) a.streams;
+  stopped = a.stopped;
+}
+
+-- the bytes that a stream has taken, of which the disk holds these
+abbrev pub taken_in : Journaled → List ℕ → StreamParts → Taken
+taken_in j bytes s = record {
+  bytes = joined j.standing.shape bytes s.blocks ++ take (s.len % 4096) s.block;
+  free = drop (s.len % 4096) s.block;
+}
+
+-- the bytes of the cases and of the streams, on a disk that reads so
+abbrev pub contents_of : {D : Type 0} → (D → List ℕ) → Parts D → Contents
+contents_of seen a = record {
+  images = map (λ (c : Case). image_in a.journal.standing.shape (seen a.disk) c.blocks c.len) a.journal.standing.cases;
+  taken = map (option_map (taken_in a.journal (seen a.disk))) a.streams;
+}

@@ -1,0 +1,49 @@
+// A stream: an image on its way into the archive.
+ghost use Rattle.std.specs.Prelude.{◌≡◌};
+ghost use Rattle.case_journal.specs.Case.{case_of};
+ghost use Rattle.intake.specs.StreamView.{case_from_stream};
+
+use case_journal::{Entry, Kind, Name};
+use extents::RunList;
+
+/// The facts of an image that is streamed, and what it has taken so far.
+#[derive(Drop)]
+pub(crate) struct Stream {
+    pub(crate) kind: Kind,
+    pub(crate) name: Name,
+    pub(crate) pid: u32,
+    pub(crate) signal: u32,
+    pub(crate) time: u64,
+    // The bytes taken so far.
+    pub(crate) length: u64,
+    // The blocks that they have filled.
+    pub(crate) runs: RunList,
+}
+
+impl Stream {
+    /// The case that the stream becomes. Its number is given later.
+    pub(crate) fn into_entry(self) -> Entry
+        ensures { case_of result ≡ case_from_stream self }
+    {
+        let Stream {
+            kind,
+            name,
+            pid,
+            signal,
+            time,
+            length,
+            runs,
+        } = self;
+        Entry {
+            seq: 0,
+            kind,
+            name,
+            pid,
+            signal,
+            time,
+            pinned: false,
+            length,
+            runs,
+        }
+    }
+}

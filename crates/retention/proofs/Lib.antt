@@ -1,0 +1,3 @@
+pub mod StayLemmas
+pub mod RisingLemmas
+pub mod KindLemmas

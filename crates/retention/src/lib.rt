@@ -1,0 +1,44 @@
+//! Which cases of an archive go, by a policy.
+#![tactic(auto)]
+
+mod laws;
+mod rule;
+
+pub use laws::what_goes_and_what_stays;
+pub use rule::decide;
+
+/// What the rule looks at of a case.
+#[derive(Clone, Copy, PartialEq, Eq, Debug)]
+pub struct Brief {
+    /// Its number.
+    pub seq: u32,
+    /// When it was made, in seconds since the epoch.
+    pub time: u64,
+    /// Its bytes.
+    pub length: u64,
+    /// It is never dropped.
+    pub pinned: bool,
+}
+
+/// What an archive is to be brought down to. A limit that is absent is always met.
+#[derive(Clone, Copy, PartialEq, Eq, Debug)]
+pub struct Policy {
+    /// At most so many cases stay.
+    pub keep: Option<u64>,
+    /// At most so many bytes stay.
+    pub bytes: Option<u64>,
+    /// No unpinned case from before this time stays, in seconds since the epoch.
+    pub before: Option<u64>,
+}
+
+/// What the rule says of an archive's cases.
+#[derive(Drop)]
+pub struct Decision {
+    /// The numbers of the cases that go, rising.
+    pub dropped: Vec<u32>,
+    /// `keep` or `bytes` does not hold even when all of them are gone.
+    pub unmet: bool,
+}
+
+#[cfg(test)]
+mod tests;

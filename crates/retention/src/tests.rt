@@ -1,0 +1,63 @@
+//! Archives of three cases.
+ghost use Rattle.std.specs.Prelude.{◌≡◌, ◌<◌};
+
+use crate::*;
+use std::alloc::{AllocError, Global};
+use std::test::Fail;
+
+// A case of 10 bytes for each second of its time.
+fn case(seq: u32, time: u8, pinned: bool) -> Brief
+    ensures { result.seq ≡ seq }
+{
+    Brief { seq, time: u64::from(time), length: 10 * u64::from(time), pinned }
+}
+
+// What is decided of three cases.
+fn decided(alloc: Global, cases: (Brief, Brief, Brief), policy: &Policy) -> Result<Decision, AllocError>
+    requires second { cases.0.seq < cases.1.seq }
+    requires third { cases.1.seq < cases.2.seq }
+{
+    let (first, second, third) = cases;
+    decide(alloc, &[first, second, third], policy)
+}
+
+fn policy(keep: Option<u64>, bytes: Option<u64>, before: Option<u64>) -> Policy {
+    Policy { keep, bytes, before }
+}
+
+#[test]
+fn the_first_is_pinned(rt: HostRuntime) -> Result<(), Fail> {
+    let cases = (case(1, 1, true), case(2, 2, false), case(3, 3, false));
+    let kept = decided(rt.alloc(), cases, &policy(Some(1), None, None))?;
+    assert_eq!(rt; kept.dropped.as_slice(), [2, 3].as_slice());
+    assert!(rt; !kept.unmet);
+    let none = decided(rt.alloc(), cases, &policy(Some(0), None, None))?;
+    assert_eq!(rt; none.dropped.as_slice(), [2, 3].as_slice());
+    assert!(rt; none.unmet);
+    let all = decided(rt.alloc(), cases, &policy(None, None, None))?;
+    assert!(rt; all.dropped.is_empty());
+    assert!(rt; !all.unmet);
+    Ok(())
+}
+
+#[test]
+fn the_last_is_pinned(rt: HostRuntime) -> Result<(), Fail> {
+    let cases = (case(4, 1, false), case(7, 2, false), case(9, 3, true));
+    let old = decided(rt.alloc(), cases, &policy(None, None, Some(3)))?;
+    assert_eq!(rt; old.dropped.as_slice(), [4, 7].as_slice());
+    let bytes = decided(rt.alloc(), cases, &policy(None, Some(50), None))?;
+    assert_eq!(rt; bytes.dropped.as_slice(), [4].as_slice());
+    let both = decided(rt.alloc(), cases, &policy(Some(3), Some(29), Some(2)))?;
+    assert_eq!(rt; both.dropped.as_slice(), [4, 7].as_slice());
+    assert!(rt; both.unmet);
+    Ok(())
+}
+
+#[test]
+fn all_are_pinned(rt: HostRuntime) -> Result<(), Fail> {
+    let cases = (case(1, 1, true), case(2, 2, true), case(3, 3, true));
+    let decision = decided(rt.alloc(), cases, &policy(Some(2), None, Some(9)))?;
+    assert!(rt; decision.dropped.is_empty());
+    assert!(rt; decision.unmet);
+    Ok(())
+}

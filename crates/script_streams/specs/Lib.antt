@@ -1,0 +1,6 @@
+pub mod Streams
+pub mod Lines
+pub mod Reading
+pub mod GoingOn
+pub mod Telling
+pub mod Writing

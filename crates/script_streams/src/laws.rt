@@ -1,0 +1,31 @@
+//! What holds over several lines, and over several texts.
+ghost use Rattle.std.specs.Prelude.{◌≡◌, ℕ, List, [], ◌∷◌, ◌++◌, Option, Some};
+ghost use Rattle.std.specs.Io.KnownBytes.{Appends};
+ghost use Rattle.script_streams.specs.Lines.{IsLine};
+ghost use Rattle.script_streams.specs.Reading.{Gives, IsUsedUp, held_bytes};
+ghost use Rattle.script_streams.specs.Telling.{Told, Tells};
+ghost use Rattle.script_streams.specs.declared.reader.ScriptBuffer.{ScriptBuffer};
+ghost use Rattle.script_streams.specs.declared.reply.Reply.{Reply};
+
+/// What stands before the first newline of a text is one line and no other, and a line has no newline in it.
+pub fn lines_are_cut_one_way()
+    ensures first { (line other rest others : List ℕ) → IsLine line → IsLine other
+        → line ++ 10 ∷ rest ≡ other ++ 10 ∷ others → (line ≡ other) × (rest ≡ others) }
+    ensures last { (line front rest : List ℕ) → IsLine line → line ≡ front ++ 10 ∷ rest → ⊥ }
+{}
+
+/// What was given adds up. From an empty buffer to the end of an input all of it was given, where it is known.
+pub fn reading_adds_up()
+    ensures nothing { (a : Option (List ℕ)) (buffer : ScriptBuffer) → Gives a a buffer buffer [] }
+    ensures then { (a b c : Option (List ℕ)) (old mid new : ScriptBuffer) (x y : List ℕ)
+        → Gives a b old mid x → Gives b c mid new y → Gives a c old new (x ++ y) }
+    ensures all { (input given : List ℕ) (b : Option (List ℕ)) (old new : ScriptBuffer)
+        → held_bytes old ≡ [] → Gives (Some input) b old new given → IsUsedUp b new → given ≡ input }
+{}
+
+/// What was told adds up.
+pub fn telling_adds_up()
+    ensures nothing { (a : Option (List ℕ)) (n : ℕ) (reply : Reply) → Tells a a n n reply reply [] }
+    ensures then { (a b c : Option (List ℕ)) (f g h : ℕ) (old mid new : Reply) (x y : List ℕ)
+        → Tells a b f g old mid x → Tells b c g h mid new y → Tells a c f h old new (x ++ y) }
+{}

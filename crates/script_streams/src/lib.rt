@@ -1,0 +1,17 @@
+//! A script's input by lines and parts, and the text of its replies.
+#![tactic(auto)]
+
+mod kept_line;
+mod laws;
+mod reader;
+mod reply;
+mod streams;
+
+pub use kept_line::KeptLine;
+pub use laws::{lines_are_cut_one_way, reading_adds_up, telling_adds_up};
+pub use reader::{LineEnding, ReadStop, ScriptBuffer};
+pub use reply::Reply;
+pub use streams::{Input, Output, ReadInput, StreamFault, WriteOutput};
+
+#[cfg(test)]
+mod tests;

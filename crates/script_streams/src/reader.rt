@@ -1,0 +1,225 @@
+//! A script's input, by lines and parts.
+ghost use Rattle.std.specs.Prelude.{◌≡◌, ◌≢◌, ℕ, ◌+◌, ◌<◌, ◌≤◌, ◌^◌, List, [], ◌++◌, ◌∷◌, length, min, take, OnOk, OnErr, None};
+
+use crate::kept_line::KeptLine;
+use crate::streams::Input;
+use memchr::memchr;
+use thiserror::Error;
+
+/// Why a script could not be read on.
+#[derive(Clone, Copy, PartialEq, Eq, Debug, Error)]
+pub enum ReadStop {
+    /// The input failed.
+    #[error("the input failed")]
+    ReadFailed,
+    /// 2^40 reads were made, and each gave a byte.
+    #[error("too many reads")]
+    TooManyReads,
+}
+
+/// What ended a line.
+#[derive(Clone, Copy, PartialEq, Eq, Debug)]
+pub enum LineEnding {
+    /// A newline, which is not of the line.
+    Newline,
+    /// The end of the input, behind a byte at least.
+    EndOfInput,
+    /// The input ended before another line began.
+    NothingLeft,
+}
+
+/// What was read of a script's input and not used yet. It is of a fixed size.
+#[derive(Drop)]
+pub struct ScriptBuffer {
+    bytes: [u8; 4096],
+    start: usize,
+    end: usize,
+    reads: u64,
+    ghost ordered: { start ≤ end },
+    ghost within: { end ≤ 4096 },
+    ghost counted: { reads ≤ 1099511627776 },
+}
+
+// How many reads a script may take.
+const MOST_READS: u64 = 1 << 40;
+
+impl ScriptBuffer {
+    ghost use Rattle.script_streams.specs.Lines.{KeepsLine};
+    ghost use Rattle.std.specs.Bool.{OnFalse};
+    ghost use Rattle.std.specs.Io.KnownBytes.{IsAtEnd};
+    ghost use Rattle.script_streams.specs.Reading.{held_bytes, reads_made, steps_left, Gives, GivesLine, GivesRaw, Stops};
+    ghost use Rattle.script_streams.specs.GoingOn.{TakesLine, GoesOn};
+
+    /// A buffer that holds nothing, before the first read.
+    pub fn new() -> Self
+        ensures empty { held_bytes result ≡ [] }
+        ensures unread { reads_made result ≡ 0 }
+    {
+        ScriptBuffer {
+            bytes: zeros(),
+            start: 0,
+            end: 0,
+            reads: 0,
+        }
+    }
+
+    // The bytes that were read and not used yet.
+    fn held(&self) -> &[u8]
+        ensures { result.now ≡ held_bytes self.now }
+    {
+        self.bytes
+            .split_at(self.start)
+            .1
+            .split_at(self.end - self.start)
+            .0
+    }
+
+    // The first bytes that are held are used.
+    fn use_up(&mut self, count: usize)
+        requires { count ≤ length (held_bytes self.old) }
+        ensures held { held_bytes self.old ≡ take count (held_bytes self.old) ++ held_bytes self.new }
+        ensures reads { reads_made self.new ≡ reads_made self.old }
+        ensures steps { steps_left self.new + count ≡ steps_left self.old }
+    {
+        self.start += count;
+    }
+
+    /// Reads the next line: all before the next newline, or all that is left where the input ends before one.
+    /// `line` then keeps it, whatever it kept before.
+    ///
+    /// # Errors
+    ///
+    /// `ReadFailed` where the input failed in this call, and `TooManyReads` where more bytes are wanted and 2^40 reads
+    /// were made, each of which gave a byte. In both cases the bytes since the last newline are lost.
+    pub fn next_line<I: Input>(
+        &mut self,
+        input: &mut I,
+        line: &mut KeptLine,
+    ) -> Result<LineEnding, ReadStop>
+        ensures gives { GivesLine (I.remaining input.old) (I.remaining input.new) self.old self.new line.new result }
+        ensures stops { Stops (I.failures input.old) (I.failures input.new) self.new result }
+    {
+        line.clear();
+        loop {
+            if let Some(ending) = self.go_on(input, line)? {
+                return Ok(ending);
+            }
+        }
+    }
+
+    /// Reads the next bytes as they are, to the front of `into`, and answers how many: as many as are there, and at
+    /// least one unless the input has ended.
+    ///
+    /// # Errors
+    ///
+    /// As for `next_line`, and no byte is lost.
+    pub fn next_raw<I: Input>(&mut self, input: &mut I, into: &mut [u8]) -> Result<usize, ReadStop>
+        requires { 0 < length into.old }
+        ensures gives { GivesRaw (I.remaining input.old) (I.remaining input.new) self.old self.new into.new result }
+        ensures stops { Stops (I.failures input.old) (I.failures input.new) self.new result }
+    {
+        self.hold_some(input)?;
+        Ok(self.copy_held(into))
+    }
+
+    // Goes on with a line: to its end, or to the next read.
+    fn go_on<I: Input>(
+        &mut self,
+        input: &mut I,
+        line: &mut KeptLine,
+    ) -> Result<Option<LineEnding>, ReadStop>
+        ensures gives { (front : List ℕ) → KeepsLine front line.old
+            → GoesOn front (I.remaining input.old) (I.remaining input.new) self.old self.new line.new result }
+        ensures nearer { result ≡ Ok None → steps_left self.new < steps_left self.old }
+        ensures stops { Stops (I.failures input.old) (I.failures input.new) self.new result }
+    {
+        if self.take_line(line) {
+            return Ok(Some(LineEnding::Newline));
+        }
+        self.refill(input)?;
+        if !self.held().is_empty() {
+            return Ok(None);
+        }
+        if line.is_empty() {
+            Ok(Some(LineEnding::NothingLeft))
+        } else {
+            Ok(Some(LineEnding::EndOfInput))
+        }
+    }
+
+    // Moves what is held into a line, up to the next newline, which goes too. Answers whether there was one.
+    fn take_line(&mut self, line: &mut KeptLine) -> bool
+        ensures gives { (front : List ℕ) → KeepsLine front line.old → TakesLine front self.old self.new line.new result }
+        ensures emptied { OnFalse result (held_bytes self.new ≡ []) }
+        ensures steps { steps_left self.new ≤ steps_left self.old }
+    {
+        let held = self.held();
+        match memchr(b'\n', held) {
+            Some(at) => {
+                line.keep(held.split_at(at).0);
+                self.use_up(at + 1);
+                true
+            }
+            None => {
+                let all = held.len();
+                line.keep(held);
+                self.use_up(all);
+                false
+            }
+        }
+    }
+
+    // Copies what is held to the front of a slice, as much of it as fits there, and answers how much.
+    fn copy_held(&mut self, into: &mut [u8]) -> usize
+        ensures count { result ≡ min (length (held_bytes self.old)) (length into.old) }
+        ensures bytes { held_bytes self.old ≡ take result into.new ++ held_bytes self.new }
+        ensures reads { reads_made self.new ≡ reads_made self.old }
+        ensures steps { steps_left self.new + result ≡ steps_left self.old }
+    {
+        let held = self.held();
+        let count = held.len().min(into.len());
+        into[..count].copy_from_slice(&held[..count]);
+        self.use_up(count);
+        count
+    }
+
+    // Reads once, unless something is held.
+    fn hold_some<I: Input>(&mut self, input: &mut I) -> Result<(), ReadStop>
+        ensures gives { Gives (I.remaining input.old) (I.remaining input.new) self.old self.new [] }
+        ensures end { OnOk result (held_bytes self.new ≡ [] → IsAtEnd (I.remaining input.new)) }
+        ensures err { OnErr result (held_bytes self.new ≡ []) }
+        ensures stops { Stops (I.failures input.old) (I.failures input.new) self.new result }
+    {
+        if self.held().is_empty() {
+            return self.refill(input);
+        }
+        Ok(())
+    }
+
+    // Reads once, where nothing is held.
+    fn refill<I: Input>(&mut self, input: &mut I) -> Result<(), ReadStop>
+        requires { held_bytes self.old ≡ [] }
+        ensures gives { Gives (I.remaining input.old) (I.remaining input.new) self.old self.new [] }
+        ensures nearer { 0 < length (held_bytes self.new) → steps_left self.new < steps_left self.old }
+        ensures end { OnOk result (held_bytes self.new ≡ [] → IsAtEnd (I.remaining input.new)) }
+        ensures err { OnErr result (held_bytes self.new ≡ []) }
+        ensures stops { Stops (I.failures input.old) (I.failures input.new) self.new result }
+    {
+        if self.reads == MOST_READS {
+            return Err(ReadStop::TooManyReads);
+        }
+        let Ok(count) = input.read(&mut self.bytes) else {
+            return Err(ReadStop::ReadFailed);
+        };
+        if count > 0 {
+            self.reads += 1;
+        }
+        self.start = 0;
+        self.end = count;
+        Ok(())
+    }
+}
+
+fn zeros() -> [u8; 4096] {
+    [0; 4096]
+}

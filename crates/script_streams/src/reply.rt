@@ -1,0 +1,178 @@
+//! The text of replies, on its way to an output.
+ghost use Rattle.std.specs.Prelude.{◌≡◌, ℕ, ◌+◌, ◌≤◌, List, [], ◌++◌, length, Option, decimal};
+ghost use Rattle.std.specs.List.{flat_map};
+ghost use Rattle.std.specs.Fmt.{signed_decimal};
+ghost use Rattle.script_words.specs.Hex.{hex_of};
+ghost use Rattle.script_words.specs.Printing.{shown, shown_byte, hexadecimal};
+ghost use Rattle.script_streams.specs.Writing.{Writes, PassesOn};
+
+use crate::streams::{Output, StreamFault};
+use arrayvec::ArrayVec;
+use script_words::{print_byte, print_decimal, print_hex_pair, print_hexadecimal, print_signed};
+
+/// Text that an output is told and has not taken yet, in a buffer of a fixed size. Once a write has failed no more is
+/// written, and `finish` says so: so replies are told with no look at each write.
+#[derive(Drop)]
+pub struct Reply {
+    held: ArrayVec<u8, 1024>,
+    failed: bool,
+}
+
+impl Reply {
+    ghost use Rattle.arrayvec.specs.ArrayVec.{array_vec_len};
+    ghost use Rattle.script_streams.specs.Telling.{Told, Tells, IsDelivered, held_text};
+
+    /// Nothing was told yet.
+    pub fn new() -> Self
+        ensures { (start : Option (List ℕ)) (count : ℕ) → Told start count start count result [] }
+    {
+        Reply {
+            held: ArrayVec::new(),
+            failed: false,
+        }
+    }
+
+    /// Tells a text as it is.
+    pub fn tell<O: Output>(&mut self, output: &mut O, text: &[u8])
+        ensures { Tells (O.taken output.old) (O.taken output.new) (O.failures output.old) (O.failures output.new)
+            self.old self.new text.now }
+    {
+        if text.len() <= self.held.remaining_capacity() {
+            self.hold(text);
+        } else {
+            self.flush(output);
+            self.write_behind(output, text);
+        }
+    }
+
+    /// Tells how a text prints: bytes outside 0x21 to 0x7e and backslashes as `\xHH`, the empty text as `-`, and the text
+    /// `-` as `\x2d`.
+    pub fn tell_text<O: Output>(&mut self, output: &mut O, text: &[u8])
+        ensures { Tells (O.taken output.old) (O.taken output.new) (O.failures output.old) (O.failures output.new)
+            self.old self.new (shown text.now) }
+    {
+        match text {
+            [] => self.tell(output, b"-"),
+            [b'-'] => self.tell(output, b"\\x2d"),
+            _ => self.tell_bytes(output, text),
+        }
+    }
+
+    /// Tells how each byte of a text prints, one behind the other. So a long text can be told in pieces.
+    pub fn tell_bytes<O: Output>(&mut self, output: &mut O, text: &[u8])
+        ensures { Tells (O.taken output.old) (O.taken output.new) (O.failures output.old) (O.failures output.new)
+            self.old self.new (flat_map shown_byte text.now) }
+    {
+        for byte in text {
+            self.tell(output, print_byte(*byte).as_slice());
+        }
+    }
+
+    /// Tells bytes as pairs of hexadecimal digits, with nothing between them.
+    pub fn tell_hex<O: Output>(&mut self, output: &mut O, bytes: &[u8])
+        ensures { Tells (O.taken output.old) (O.taken output.new) (O.failures output.old) (O.failures output.new)
+            self.old self.new (hex_of bytes.now) }
+    {
+        for byte in bytes {
+            self.tell(output, print_hex_pair(*byte).as_slice());
+        }
+    }
+
+    /// Tells a number in decimal.
+    pub fn tell_decimal<O: Output>(&mut self, output: &mut O, number: u128)
+        ensures { Tells (O.taken output.old) (O.taken output.new) (O.failures output.old) (O.failures output.new)
+            self.old self.new (decimal number) }
+    {
+        self.tell(output, print_decimal(number).as_slice());
+    }
+
+    /// Tells a signed number in decimal, with `-` before a negative one.
+    pub fn tell_signed<O: Output>(&mut self, output: &mut O, number: i64)
+        ensures { Tells (O.taken output.old) (O.taken output.new) (O.failures output.old) (O.failures output.new)
+            self.old self.new (signed_decimal number) }
+    {
+        self.tell(output, print_signed(number).as_slice());
+    }
+
+    /// Tells a number as `0x` and its hexadecimal digits.
+    pub fn tell_hexadecimal<O: Output>(&mut self, output: &mut O, number: u128)
+        ensures { Tells (O.taken output.old) (O.taken output.new) (O.failures output.old) (O.failures output.new)
+            self.old self.new (hexadecimal number) }
+    {
+        self.tell(output, print_hexadecimal(number).as_slice());
+    }
+
+    /// Writes what was told and is not written yet.
+    ///
+    /// # Errors
+    ///
+    /// `StreamFault` where a write has failed, in this call or before. More may be told then, and none of it is written.
+    pub fn finish<O: Output>(&mut self, output: &mut O) -> Result<(), StreamFault>
+        ensures tells { Tells (O.taken output.old) (O.taken output.new) (O.failures output.old) (O.failures output.new)
+            self.old self.new [] }
+        ensures delivered { (start : Option (List ℕ)) (count : ℕ) (told : List ℕ)
+            → Told start count (O.taken output.old) (O.failures output.old) self.old told
+            → IsDelivered start count (O.taken output.new) (O.failures output.new) told result }
+    {
+        self.flush(output);
+        if self.failed {
+            Err(StreamFault)
+        } else {
+            Ok(())
+        }
+    }
+
+    // Holds a text, for which there is room.
+    fn hold(&mut self, text: &[u8])
+        requires { length (held_text self.old) + length text.now ≤ 1024 }
+        ensures { (a : Option (List ℕ)) (n : ℕ) → Tells a a n n self.old self.new text.now }
+    {
+        let _ = self.held.try_extend_from_slice(text);
+    }
+
+    // Writes what is held.
+    fn flush<O: Output>(&mut self, output: &mut O)
+        ensures tells { Tells (O.taken output.old) (O.taken output.new) (O.failures output.old) (O.failures output.new)
+            self.old self.new [] }
+        ensures emptied { held_text self.new ≡ [] }
+    {
+        self.failed = pass_on(self.failed, output, self.held.as_slice());
+        self.held.clear();
+    }
+
+    // Writes a text, where nothing is held.
+    fn write_behind<O: Output>(&mut self, output: &mut O, text: &[u8])
+        requires { held_text self.old ≡ [] }
+        ensures { Tells (O.taken output.old) (O.taken output.new) (O.failures output.old) (O.failures output.new)
+            self.old self.new text.now }
+    {
+        self.failed = pass_on(self.failed, output, text);
+    }
+}
+
+// Writes a text unless a write has failed before, and answers whether one has failed by now.
+fn pass_on<O: Output>(failed: bool, output: &mut O, text: &[u8]) -> bool
+    ensures { PassesOn failed (O.taken output.old) (O.taken output.new)
+        (O.failures output.old) (O.failures output.new) text.now result }
+{
+    if failed {
+        return true;
+    }
+    match write_whole(output, text) {
+        Ok(()) => false,
+        Err(_) => true,
+    }
+}
+
+// Writes a text, in as many writes as it takes.
+fn write_whole<O: Output>(output: &mut O, text: &[u8]) -> Result<(), StreamFault>
+    ensures { Writes (O.taken output.old) (O.taken output.new)
+        (O.failures output.old) (O.failures output.new) text.now result }
+{
+    let mut rest = text;
+    while !rest.is_empty() {
+        let count = output.write(rest)?;
+        rest = rest.split_at(count).1;
+    }
+    Ok(())
+}

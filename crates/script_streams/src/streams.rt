@@ -1,0 +1,129 @@
+//! Where a script comes from, and where replies go.
+ghost use Rattle.std.specs.Prelude.{◌≡◌, ℕ, ◌<◌, ◌≤◌, List, Option, None, length, IfOk, OnOk, OnErr};
+ghost use Rattle.std.specs.Io.KnownBytes.{ReadConsumes, WriteAppends};
+ghost use Rattle.script_streams.specs.Streams.{Rose};
+
+use std::io::{Read, Write};
+use thiserror::Error;
+
+/// A stream's call failed, for whatever cause.
+#[derive(Clone, Copy, PartialEq, Eq, Debug, Error)]
+#[error("a stream failed")]
+pub struct StreamFault;
+
+/// Gives a script's bytes, piece by piece.
+pub trait Input {
+    // The bytes that are still to come, where they are known.
+    ghost remaining: { Self → Option (List ℕ) };
+
+    // How many calls have failed.
+    ghost failures: { Self → ℕ };
+
+    /// Writes the next bytes to the front of `into`, and answers how many. 0 is the end of the input.
+    fn read(&mut self, into: &mut [u8]) -> Result<usize, StreamFault>
+        requires { 0 < length into.old }
+        ensures count { IfOk result (λ n. n ≤ length into.new) }
+        ensures bytes { ReadConsumes (remaining self.old) (remaining self.new) result into.new }
+        ensures ok { OnOk result (failures self.new ≡ failures self.old) }
+        ensures err { OnErr result (Rose (failures self.old) (failures self.new)) };
+}
+
+/// Takes the text of replies.
+pub trait Output {
+    // The bytes that it has taken, where they are known.
+    ghost taken: { Self → Option (List ℕ) };
+
+    // How many calls have failed.
+    ghost failures: { Self → ℕ };
+
+    /// Takes bytes from the front of `from`, at least one, and answers how many.
+    fn write(&mut self, from: &[u8]) -> Result<usize, StreamFault>
+        requires { 0 < length from.now }
+        ensures count { IfOk result (λ n. (0 < n) × (n ≤ length from.now)) }
+        ensures bytes { WriteAppends (taken self.old) (taken self.new) result from.now }
+        ensures ok { OnOk result (failures self.new ≡ failures self.old) }
+        ensures err { OnErr result (Rose (failures self.old) (failures self.new)) };
+}
+
+/// The bytes of one of std's readers. Each `Err`, of any kind, is a failure.
+#[derive(Drop)]
+pub struct ReadInput<R> {
+    reader: R,
+    failures: u64,
+}
+
+impl<R: Read> ReadInput<R> {
+    /// The input of a reader, from where it stands. No failure is counted yet.
+    pub fn new(reader: R) -> Self
+        ensures remaining { ⟦<ReadInput<R> as Input>⟧.remaining result ≡ R.remaining reader }
+        ensures failures { ⟦<ReadInput<R> as Input>⟧.failures result ≡ 0 }
+    {
+        ReadInput {
+            reader,
+            failures: 0,
+        }
+    }
+}
+
+impl<R: Read> Input for ReadInput<R> {
+    ghost remaining = { λ s. R.remaining s.reader };
+
+    ghost failures = { λ s. s.failures };
+
+    fn read(&mut self, into: &mut [u8]) -> Result<usize, StreamFault> {
+        match self.reader.read(into) {
+            Ok(count) => Ok(count),
+            Err(_) => {
+                self.failures = self.failures.saturating_add(1);
+                Err(StreamFault)
+            }
+        }
+    }
+}
+
+/// The bytes that one of std's writers takes. Each `Err`, of any kind, is a failure, and so is a write that takes nothing.
+#[derive(Drop)]
+pub struct WriteOutput<W> {
+    writer: W,
+    failures: u64,
+}
+
+impl<W: Write> WriteOutput<W> {
+    /// The output to a writer, behind what it holds already. No failure is counted yet.
+    pub fn new(writer: W) -> Self
+        ensures taken { ⟦<WriteOutput<W> as Output>⟧.taken result ≡ W.contents writer }
+        ensures failures { ⟦<WriteOutput<W> as Output>⟧.failures result ≡ 0 }
+    {
+        WriteOutput {
+            writer,
+            failures: 0,
+        }
+    }
+
+    /// The writer, with all that was written.
+    pub fn into_inner(self) -> W
+        ensures { W.contents result ≡ ⟦<WriteOutput<W> as Output>⟧.taken self }
+    {
+        let WriteOutput {
+            writer,
+            failures: _,
+        } = self;
+        writer
+    }
+}
+
+impl<W: Write> Output for WriteOutput<W> {
+    ghost taken = { λ s. W.contents s.writer };
+
+    ghost failures = { λ s. s.failures };
+
+    fn write(&mut self, from: &[u8]) -> Result<usize, StreamFault> {
+        match self.writer.write(from) {
+            Ok(0) | Err(_) => {
+                self.failures = self.failures.saturating_add(1);
+                Err(StreamFault)
+            }
+            Ok(count) => Ok(count),
+        }
+    }
+}

@@ -1,0 +1,5 @@
+pub mod WordLemmas
+pub mod NumberLemmas
+pub mod PrintingLemmas
+pub mod TextLemmas
+pub mod LawLemmas

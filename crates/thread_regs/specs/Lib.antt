@@ -1,0 +1,4 @@
+pub mod Register
+pub mod SignalNames
+pub mod RegisterWords
+pub mod ThreadWords

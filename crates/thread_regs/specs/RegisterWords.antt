@@ -1,0 +1,6 @@
+-- What the code's registers stand for.
+use Rattle.std.specs.Prelude.{ℕ}
+use Rattle.thread_regs.specs.declared.registers.Reg.{Reg}
+
+abbrev pub reg_number : Reg → ℕ
+reg_number r = r.number

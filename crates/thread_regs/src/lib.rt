@@ -1,0 +1,13 @@
+//! The threads of a core file of a RISC-V 64 Linux process, their registers and signals.
+#![tactic(auto)]
+
+mod registers;
+mod signals;
+mod thread_list;
+
+pub use registers::Reg;
+pub use signals::signal_name;
+pub use thread_list::{Thread, ThreadList, threads};
+
+#[cfg(test)]
+mod tests;

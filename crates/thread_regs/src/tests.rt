@@ -1,0 +1,123 @@
+use super::*;
+use core_notes::CoreNotes;
+use elf_view::sample::{NT_PRSTATUS, NotePart, core_image, registers, stack_core, status};
+use elf_view::{Elf, Want};
+use std::test::Fail;
+
+/// Each register's name with another, and what it holds in the sample.
+const REGISTERS: [(&[u8], &[u8], u64); 33] = [
+    (b"pc", b"pc", 0x10400),
+    (b"zero", b"x0", 0),
+    (b"ra", b"x1", 0x10500),
+    (b"sp", b"x2", 0x7f20),
+    (b"gp", b"x3", 3),
+    (b"tp", b"x4", 4),
+    (b"t0", b"x5", 5),
+    (b"t1", b"x6", 6),
+    (b"t2", b"x7", 7),
+    (b"s0", b"x8", 0x7f40),
+    (b"s1", b"x9", 9),
+    (b"a0", b"x10", 10),
+    (b"a1", b"x11", 11),
+    (b"a2", b"x12", 12),
+    (b"a3", b"x13", 13),
+    (b"a4", b"x14", 14),
+    (b"a5", b"x15", 15),
+    (b"a6", b"x16", 16),
+    (b"a7", b"x17", 17),
+    (b"s2", b"x18", 18),
+    (b"s3", b"x19", 19),
+    (b"s4", b"x20", 20),
+    (b"s5", b"x21", 21),
+    (b"s6", b"x22", 22),
+    (b"s7", b"x23", 23),
+    (b"s8", b"x24", 24),
+    (b"s9", b"x25", 25),
+    (b"s10", b"x26", 26),
+    (b"s11", b"x27", 27),
+    (b"t3", b"x28", 28),
+    (b"t4", b"x29", 29),
+    (b"t5", b"x30", 30),
+    (b"t6", b"x31", 31),
+];
+
+#[test]
+fn registers_are_their_words(rt: HostRuntime) -> Result<(), Fail> {
+    let image = stack_core(rt.alloc())?;
+    let elf = Elf::read(&image, Want::Core).ok().ok_or("refused")?;
+    let notes = CoreNotes::of(&elf).ok().ok_or("faulty")?;
+    let thread = threads(&notes).thread(0).ok_or("no thread")?;
+    assert_eq!(rt; (thread.tid(), thread.signal()), (4242, 11));
+    for (name, other, value) in REGISTERS {
+        let register = Reg::from_name(name).ok_or("no register")?;
+        assert_eq!(rt; thread.register(register), value);
+        assert_eq!(rt; register.name().as_bytes(), name);
+        let plain = Reg::from_name(other).ok_or("no register")?;
+        assert_eq!(rt; plain.name().as_bytes(), name);
+    }
+    for (word, name) in [(0usize, "pc"), (1, "ra"), (8, "s0"), (31, "t6")] {
+        assert_eq!(rt; Reg::of_word(word).name(), name);
+    }
+    let frame = Reg::from_name(b"fp").ok_or("no register")?;
+    assert_eq!(rt; frame.name(), "s0");
+    for name in [
+        b"x32".as_slice(),
+        b"",
+        b"x",
+        b"PC",
+        b"x08",
+        b"s12",
+        b"fp0",
+        b"t7",
+    ] {
+        assert!(rt; Reg::from_name(name).is_none());
+    }
+    assert!(rt; threads(&notes).thread(1).is_none());
+    assert!(rt; threads(&notes).thread(u64::MAX).is_none());
+    Ok(())
+}
+
+#[test]
+fn signals_have_names(rt: HostRuntime) {
+    let names = [
+        "HUP", "INT", "QUIT", "ILL", "TRAP", "ABRT", "BUS", "FPE", "KILL", "USR1", "SEGV", "USR2",
+        "PIPE", "ALRM", "TERM", "STKFLT", "CHLD", "CONT", "STOP", "TSTP", "TTIN", "TTOU", "URG",
+        "XCPU", "XFSZ", "VTALRM", "PROF", "WINCH", "IO", "PWR", "SYS",
+    ];
+    for (signal, name) in (1i32..32).zip(names) {
+        assert_eq!(rt; signal_name(signal), Some(name));
+    }
+    for signal in [i32::MIN, -1, 0, 32, 33, i32::MAX] {
+        assert!(rt; signal_name(signal).is_none(), "{signal}");
+    }
+}
+
+#[test]
+fn many_threads_are_listed_in_one_pass(rt: HostRuntime) -> Result<(), Fail> {
+    let first = status(11, 1, &registers());
+    let second = status(0, -2, &registers());
+    let leader = NotePart {
+        name: b"CORE",
+        kind: NT_PRSTATUS,
+        desc: &first,
+    };
+    let worker = NotePart {
+        desc: &second,
+        ..leader
+    };
+    let mut parts = vec![in rt.alloc(); worker; 10000]?;
+    parts.insert(0, leader)?;
+    let image = core_image(rt.alloc(), &parts, &[])?;
+    let elf = Elf::read(&image, Want::Core).ok().ok_or("refused")?;
+    let notes = CoreNotes::of(&elf).ok().ok_or("faulty")?;
+    let mut count = 0u64;
+    for thread in threads(&notes) {
+        let tid = if count == 0 { 1 } else { -2 };
+        assert_eq!(rt; thread.tid(), tid);
+        count = count.saturating_add(1);
+    }
+    assert_eq!(rt; count, 10001);
+    assert_eq!(rt; threads(&notes).thread(10000).map(|t| t.signal()), Some(0));
+    assert!(rt; threads(&notes).thread(10001).is_none());
+    Ok(())
+}
