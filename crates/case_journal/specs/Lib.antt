@@ -1,5 +1,6 @@
 pub mod Append
 pub mod Case
+pub mod FieldNames
 pub mod Formatted
 pub mod Kept
 pub mod Layout

@@ -1,4 +1,7 @@
 // Why a call of the journal is refused.
+ghost use Rattle.std.specs.Prelude.{◌≡◌};
+ghost use Rattle.case_journal.specs.FieldNames.{field_name};
+
 use std::fmt;
 use thiserror::Error;
 
@@ -27,7 +30,9 @@ pub enum Field {
 
 impl Field {
     /// The field's name.
-    pub fn name(self) -> &'static str {
+    pub fn name(self) -> &'static str
+        ensures { result.now ≡ field_name self }
+    {
         match self {
             Field::Shape => "shape",
             Field::Gate => "gate",
