@@ -1,5 +1,5 @@
 // Why a call of the journal is refused.
-ghost use Rattle.std.specs.Prelude.{◌≡◌};
+ghost use Rattle.std.specs.Prelude.{◌≡◌, Some};
 ghost use Rattle.case_journal.specs.FieldNames.{field_name};
 
 use std::fmt;
@@ -57,6 +57,8 @@ impl Field {
 }
 
 impl fmt::Display for Field {
+    ghost output = { λ field. Some (field_name field) };
+
     fn fmt<W: fmt::Write>(&self, f: &mut fmt::Formatter<W>) -> fmt::Result {
         let name = self.name();
         write!(f, "{name}")
