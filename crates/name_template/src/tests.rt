@@ -78,7 +78,10 @@ fn no_names(rt: HostRuntime) -> Result<(), Fail> {
     assert_eq!(rt; host_refused(0, 129), Some(NameFault::TooLong));
     assert_eq!(rt; host_refused(0, 1), Some(NameFault::NulByte));
     let process = facts(b"", b"", b"");
-    assert_eq!(rt; Template::parse(b"%q")?.expand(&process, false).err(), Some(NameFault::Empty));
+    assert_eq!(rt;
+        Template::parse(b"%q")?.expand(&process, false).err(),
+        Some(NameFault::Empty)
+    );
     Ok(())
 }
 

@@ -9,11 +9,20 @@ use std::test::Fail;
 fn case(seq: u32, time: u8, pinned: bool) -> Brief
     ensures { result.seq ≡ seq }
 {
-    Brief { seq, time: u64::from(time), length: 10 * u64::from(time), pinned }
+    Brief {
+        seq,
+        time: u64::from(time),
+        length: 10 * u64::from(time),
+        pinned,
+    }
 }
 
 // What is decided of three cases.
-fn decided(alloc: Global, cases: (Brief, Brief, Brief), policy: &Policy) -> Result<Decision, AllocError>
+fn decided(
+    alloc: Global,
+    cases: (Brief, Brief, Brief),
+    policy: &Policy,
+) -> Result<Decision, AllocError>
     requires second { cases.0.seq < cases.1.seq }
     requires third { cases.1.seq < cases.2.seq }
 {
@@ -22,7 +31,11 @@ fn decided(alloc: Global, cases: (Brief, Brief, Brief), policy: &Policy) -> Resu
 }
 
 fn policy(keep: Option<u64>, bytes: Option<u64>, before: Option<u64>) -> Policy {
-    Policy { keep, bytes, before }
+    Policy {
+        keep,
+        bytes,
+        before,
+    }
 }
 
 #[test]

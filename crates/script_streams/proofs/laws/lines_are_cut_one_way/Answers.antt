@@ -1,4 +1,4 @@
-use Rattle.std.proofs.Common.{◌≡◌, ℕ, List, [], ◌∷◌, ◌++◌, refl, sym, ap}
+use Rattle.std.proofs.Common.{◌≡◌, ℕ, List, [], ◌∷◌, ◌++◌, refl, sym}
 use Rattle.script_streams.specs.Lines.{IsLine}
 use Rattle.script_streams.proofs.laws.lines_are_cut_one_way.Goals as goal
 

@@ -1,8 +1,6 @@
 use Rattle.std.proofs.Common.{◌≡◌, ℕ, List, [], ◌++◌, Option, None, Some, refl, sym, ap, ◌∙◌, arith}
 use Rattle.std.proofs.lemmas.List.{append-nil}
 use Rattle.std.specs.Io.KnownBytes.{Consumes, IsAtEnd}
-use Rattle.script_streams.specs.Reading.{Gives, IsUsedUp, held_bytes}
-use Rattle.script_streams.specs.declared.reader.ScriptBuffer.{ScriptBuffer}
 use Rattle.script_streams.proofs.ReadingLemmas.{gives_held, gives_then}
 use Rattle.script_streams.proofs.laws.reading_adds_up.Goals as goal
 

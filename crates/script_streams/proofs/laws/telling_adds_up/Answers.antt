@@ -1,4 +1,4 @@
-use Rattle.std.proofs.Common.{[], sym, subst}
+use Rattle.std.proofs.Common.{sym, subst}
 use Rattle.std.proofs.lemmas.List.{append-nil}
 use Rattle.script_streams.specs.Telling.{Told}
 use Rattle.script_streams.proofs.TellingLemmas.{tells_then}

@@ -1,0 +1,12 @@
+pub mod WordLemmas
+pub mod TellLemmas
+pub mod CaseLemmas
+pub mod BeginLemmas
+pub mod SlotLemmas
+pub mod TakeLemmas
+pub mod RoomLemmas
+pub mod GiveLemmas
+pub mod LineLemmas
+pub mod RunLemmas
+pub mod CloseLemmas
+pub mod SessionLemmas

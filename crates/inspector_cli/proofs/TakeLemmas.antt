@@ -1,0 +1,166 @@
+-- Bytes of a part that are taken piece by piece are taken as one step.
+use Rattle.std.proofs.Common.{◌≡◌, ◌≢◌, ◌⊎◌, ⊎_elim, ℕ, zero, suc, ◌+◌, ◌*◌, ◌/◌, ◌%◌, ◌<◌, ◌≤◌, false, true, List, [], ◌∷◌, ◌++◌, length, Option, Some, None, Result, Ok, Err, refl, sym, ap, subst, ◌∙◌, arith, add_assoc}
+use Rattle.std.proofs.lemmas.Bool.{cases_lt, true≢false, false≢true}
+use Rattle.std.specs.Prelude.{slice_set, sum_by}
+use Rattle.intake.specs.declared.faults.ArchiveFault.{ArchiveFault}
+use Rattle.intake.specs.declared.faults.ArchiveFault.TheVariants.{Stopped, BadSlot, SlotBusy, NameTaken, NoStream, TooLong, SpaceFull, NoCase, Pinned, JournalFull, NumbersSpent, OutOfMemory, Disk}
+use Rattle.intake.specs.Slots.{stream_at, closed}
+use Rattle.intake.specs.State.{Bare, BareStream, BareCase, blocks_for, blocks_in, filled_by}
+use Rattle.intake.specs.Step.{AdvanceStep, FindsNoBlock, with_stream, longer, halted}
+use Rattle.inspector_cli.specs.Reply.{IsWall, MayTake, IsOpen, TakeStep}
+use Rattle.inspector_cli.proofs.SlotLemmas.{set_again, at_set, closed_set, sum_set}
+
+-- so many bytes fit into what is left of the stream's block
+abbrev pub FitsBlock : Option BareStream → ℕ → Type 0
+FitsBlock None n = Unit {0}
+FitsBlock (Some s) n = s.len % 4096 + n ≤ 4096
+
+-- the state in the middle of a part
+abbrev pub midway : Bare → ℕ → BareStream → ℕ → Bare
+midway b slot s k = with_stream b slot (Some (longer s k))
+
+-- the blocks in use there
+in_use : (b : Bare) (slot k : ℕ) (s : BareStream) → stream_at b.streams slot ≡ Some s
+    → blocks_in (midway b slot s k) + s.len / 4096 ≡ blocks_in b + (s.len + k) / 4096
+in_use b slot k s is =
+    let e : sum_by filled_by (slice_set b.streams slot (Some (longer s k))) + s.len / 4096 ≡ sum_by filled_by b.streams + (s.len + k) / 4096 =
+    sum_set b.streams slot s (longer s k) is in
+    omega (arith, e)
+
+-- the first place at which no block is free is met by the piece that ends there
+met_numbers : (len k n m used used' all : ℕ) → m % 4096 ≡ 0 → len + k < m → (len + k) % 4096 + n ≤ 4096
+    → used + m / 4096 ≡ all + len / 4096 + 1 → used' + len / 4096 ≡ used + (len + k) / 4096 → m ≤ len + (k + n)
+    → (n ≢ 0) × ((len + k + n) % 4096 ≡ 0) × (used' ≡ all) × (m ≡ len + (k + n))
+met_numbers len k n m used used' all whole above fits wall grown met =
+    let same : m ≡ len + (k + n) = omega arith in
+    (omega arith, omega arith, omega arith, same)
+
+wall_numbers : (len k n used used' all : ℕ) → n ≢ 0 → (len + k + n) % 4096 ≡ 0 → (len + k) % 4096 + n ≤ 4096
+    → used' ≡ all → used' + len / 4096 ≡ used + (len + k) / 4096
+    → ((len + (k + n)) % 4096 ≡ 0) × (len < len + (k + n)) × (used + (len + (k + n)) / 4096 ≡ all + len / 4096 + 1)
+wall_numbers len k n used used' all some whole fits is grown = (omega arith, omega arith, omega arith)
+
+some_is : {X : Type 0} (x y : X) → Some x ≡ Some y → x ≡ y
+some_is x y e = cc
+
+none_is : {X : Type 0} (x : X) → Some x ≡ None → ⊥
+none_is x e = cc
+
+module _ (b : Bare) (slot k n : ℕ) (s : BareStream) (stands : IsOpen b slot s) (may : MayTake b s k) (fits : (s.len + k) % 4096 + n ≤ 4096) where
+  here : stream_at (midway b slot s k).streams slot ≡ Some (longer s k)
+  here = at_set b.streams slot s (Some (longer s k)) stands.1
+
+  grown : blocks_in (midway b slot s k) + s.len / 4096 ≡ blocks_in b + (s.len + k) / 4096
+  grown = in_use b slot k s stands.1
+
+  met : (m : ℕ) → IsWall b s m → m ≤ s.len + (k + n)
+      → (n ≢ 0) × ((s.len + k + n) % 4096 ≡ 0) × (blocks_in (midway b slot s k) ≡ b.shape.data_blocks) × (m ≡ s.len + (k + n))
+  met m wall low = met_numbers s.len k n m (blocks_in b) (blocks_in (midway b slot s k)) b.shape.data_blocks wall.0 (may.1 m wall) fits wall.2 grown low
+
+  may_more : s.len + k + n ≤ b.limit → (FindsNoBlock (midway b slot s k) (longer s k) n → ⊥) → MayTake b s (k + n)
+  may_more low free = (omega arith, λ m wall. ⊎_elim (λ lt. lt) (λ ge. (let x = met m wall (omega arith) in absurd (free (x.0, x.1, x.2)))) (cases_lt (s.len + (k + n)) m))
+
+  dropped : with_stream (midway b slot s k) slot None ≡ with_stream b slot None
+  dropped = ap (λ (xs : List (Option BareStream)). record b { streams = xs }) (set_again b.streams slot (Some (longer s k)) None)
+
+  stopped : halted (midway b slot s k) ≡ halted b
+  stopped = ap (λ (xs : List (Option BareStream)). record b { stopped = true; streams = xs }) (closed_set b.streams slot (Some (longer s k)))
+
+  longer_yet : longer (longer s k) n ≡ longer s (k + n)
+  longer_yet = ap (λ (len : ℕ). record s { len = len }) (add_assoc s.len k n)
+
+  went_on : with_stream (midway b slot s k) slot (Some (longer (longer s k) n)) ≡ with_stream b slot (Some (longer s (k + n)))
+  went_on =
+      ap (λ (xs : List (Option BareStream)). record b { streams = xs })
+      (set_again b.streams slot (Some (longer s k)) (Some (longer (longer s k) n)) ∙ ap (λ (t : BareStream). slice_set b.streams slot (Some t)) longer_yet)
+
+  which : (t : BareStream) → stream_at (midway b slot s k).streams slot ≡ Some t → t ≡ longer s k
+  which t is = some_is t (longer s k) (sym is ∙ here)
+
+  pub piece_taken : (r : Result (Unit {0}) ArchiveFault) (new : Bare) → AdvanceStep (midway b slot s k) slot n r new → TakeStep b slot (k + n) r new
+  piece_taken (Ok u) new step =
+      let is = which step.0 step.1.1 in
+      let low : s.len + k + n ≤ b.limit = subst (λ (t : BareStream). t.len + n ≤ b.limit) is step.1.2 in
+      let free = subst (λ (t : BareStream). FindsNoBlock (midway b slot s k) t n → ⊥) is step.2 in
+      (s, stands, may_more low free, step.3 ∙ ap (λ (t : BareStream). with_stream (midway b slot s k) slot (Some (longer t n))) is ∙ went_on)
+  piece_taken (Err Stopped) new step = absurd (false≢true (sym stands.0 ∙ step.0))
+  piece_taken (Err NoStream) new step = absurd (none_is (longer s k) (sym here ∙ step.1))
+  piece_taken (Err TooLong) new step =
+      let is = which step.0 step.2 in
+      let high : b.limit < s.len + k + n = subst (λ (t : BareStream). b.limit < t.len + n) is step.3 in (
+        s,
+        stands,
+        omega arith,
+        λ m wall. ⊎_elim (λ lt. lt) (λ ge. (let x = met m wall (omega arith) in let same = x.3 in omega arith)) (cases_lt b.limit m),
+        step.4 ∙ dropped,
+      )
+  piece_taken (Err SpaceFull) new step =
+      let is = which step.0 step.1.1 in
+      let low : s.len + k + n ≤ b.limit = subst (λ (t : BareStream). t.len + n ≤ b.limit) is step.1.2 in
+      let none = subst (λ (t : BareStream). FindsNoBlock (midway b slot s k) t n) is step.2 in (
+        s,
+        s.len + (k + n),
+        stands,
+        wall_numbers s.len k n (blocks_in b) (blocks_in (midway b slot s k)) b.shape.data_blocks none.0 none.1 fits none.2 grown,
+        omega arith,
+        omega arith,
+        step.3 ∙ dropped,
+      )
+  piece_taken (Err OutOfMemory) new step =
+      let is = which step.0 step.1.1 in
+      let low : s.len + k + n ≤ b.limit = subst (λ (t : BareStream). t.len + n ≤ b.limit) is step.1.2 in
+      let free = subst (λ (t : BareStream). FindsNoBlock (midway b slot s k) t n → ⊥) is step.2 in
+      (s, k + n, stands, omega arith, may_more low free, step.3 ∙ dropped)
+  piece_taken (Err Disk) new step =
+      let is = which step.0 step.1.1 in
+      let low : s.len + k + n ≤ b.limit = subst (λ (t : BareStream). t.len + n ≤ b.limit) is step.1.2 in
+      let free = subst (λ (t : BareStream). FindsNoBlock (midway b slot s k) t n → ⊥) is step.2 in
+      (s, k + n, stands, omega arith, may_more low free, step.3 ∙ stopped)
+  piece_taken (Err BadSlot) new step = absurd step
+  piece_taken (Err SlotBusy) new step = absurd step
+  piece_taken (Err NameTaken) new step = absurd step
+  piece_taken (Err NoCase) new step = absurd step
+  piece_taken (Err Pinned) new step = absurd step
+  piece_taken (Err JournalFull) new step = absurd step
+  piece_taken (Err NumbersSpent) new step = absurd step
+
+-- the next piece of a part
+pub took_piece : (b mid new : Bare) (slot k n : ℕ) (u : Unit {0}) (r : Result (Unit {0}) ArchiveFault) → TakeStep b slot k (Ok u) mid → FitsBlock (stream_at mid.streams slot) n
+    → AdvanceStep mid slot n r new → TakeStep b slot (k + n) r new
+took_piece b mid new slot k n u r taken fits step =
+    let f = subst (λ (x : Bare). FitsBlock (stream_at x.streams slot) n) taken.3 fits in
+    let g : FitsBlock (Some (longer taken.0 k)) n = subst (λ (o : Option BareStream). FitsBlock o n) (at_set b.streams slot taken.0 (Some (longer taken.0 k)) taken.1.1) f in
+    piece_taken b slot k n taken.0 taken.1 taken.2 g r new (subst (λ (x : Bare). AdvanceStep x slot n r new) taken.3 step)
+
+-- no byte yet
+pub took_none : (b new : Bare) (slot : ℕ) (r : Result (Unit {0}) ArchiveFault) → AdvanceStep b slot 0 r new → TakeStep b slot 0 r new
+took_none b new slot (Ok u) step = (step.0, (step.1.0, step.1.1), (step.1.2, λ m wall. omega (arith, wall.1)), step.3)
+took_none b new slot (Err Stopped) step = step
+took_none b new slot (Err NoStream) step = step
+took_none b new slot (Err TooLong) step = (step.0, (step.1, step.2), step.3, λ m wall. omega (arith, wall.1, step.3), step.4)
+took_none b new slot (Err SpaceFull) step = absurd (step.2.0 refl)
+took_none b new slot (Err OutOfMemory) step = (step.0, 0, (step.1.0, step.1.1), omega arith, (step.1.2, λ m wall. omega (arith, wall.1)), step.3)
+took_none b new slot (Err Disk) step = (step.0, 0, (step.1.0, step.1.1), omega arith, (step.1.2, λ m wall. omega (arith, wall.1)), step.3)
+took_none b new slot (Err BadSlot) step = absurd step
+took_none b new slot (Err SlotBusy) step = absurd step
+took_none b new slot (Err NameTaken) step = absurd step
+took_none b new slot (Err NoCase) step = absurd step
+took_none b new slot (Err Pinned) step = absurd step
+took_none b new slot (Err JournalFull) step = absurd step
+took_none b new slot (Err NumbersSpent) step = absurd step
+
+-- a part that is refused stays so, however many bytes follow
+pub refused_yet : (b new : Bare) (slot k n : ℕ) (f : ArchiveFault) → TakeStep b slot k (Err f) new → TakeStep b slot (k + n) (Err f) new
+refused_yet b new slot k n Stopped step = step
+refused_yet b new slot k n NoStream step = step
+refused_yet b new slot k n TooLong step = (step.0, step.1, omega (arith, step.2), step.3, step.4)
+refused_yet b new slot k n SpaceFull step = (step.0, step.1, step.2, step.3, omega (arith, step.4), step.5, step.6)
+refused_yet b new slot k n OutOfMemory step = (step.0, step.1, step.2, omega (arith, step.3), step.4, step.5)
+refused_yet b new slot k n Disk step = (step.0, step.1, step.2, omega (arith, step.3), step.4, step.5)
+refused_yet b new slot k n BadSlot step = absurd step
+refused_yet b new slot k n SlotBusy step = absurd step
+refused_yet b new slot k n NameTaken step = absurd step
+refused_yet b new slot k n NoCase step = absurd step
+refused_yet b new slot k n Pinned step = absurd step
+refused_yet b new slot k n JournalFull step = absurd step
+refused_yet b new slot k n NumbersSpent step = absurd step

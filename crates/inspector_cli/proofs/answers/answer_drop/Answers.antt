@@ -1,0 +1,7 @@
+use Rattle.std.proofs.Common.{refl}
+use Rattle.inspector_cli.specs.Reply.{plain_reply}
+use Rattle.inspector_cli.proofs.answers.answer_drop.Goals as goal
+
+pub returns : goal.returns
+returns g c =
+    (plain_reply c.abandon-outcome.result, (c.abandon-outcome.result, c.abandon-outcome.ensures.step, refl), c.tell_outcome.ensures)

@@ -1,0 +1,7 @@
+use Rattle.std.proofs.Common.{refl}
+use Rattle.inspector_cli.specs.Reply.{end_reply}
+use Rattle.inspector_cli.proofs.answers.answer_end.Goals as goal
+
+pub returns : goal.returns
+returns g c =
+    (end_reply c.finish-outcome.result, (c.finish-outcome.result, c.finish-outcome.ensures.step, refl), c.tell_stored.ensures)

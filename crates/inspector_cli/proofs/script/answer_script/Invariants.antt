@@ -1,0 +1,25 @@
+use Rattle.std.proofs.Common.{◌≡◌, ◌+◌, cond}
+use Rattle.intake.specs.Parts.{bare_of}
+use Rattle.script_streams.specs.Reading.{steps_left}
+use Rattle.inspector_cli.proofs.RunLemmas.{Along}
+use Rattle.inspector_cli.proofs.script.answer_script.Given as goal
+
+abbrev pub invariant-loop-goes_on : goal.invariant-loop-goes_on
+invariant-loop-goes_on g l = record {
+  along :
+      Along
+      (record { before = g.I.Input.remaining l.initial.input; after = g.I.Input.remaining l.input; buffer = l.initial.buffer; buffer' = l.buffer })
+      (record {
+        taken = g.O.Output.taken l.initial.output;
+        taken' = g.O.Output.taken l.output;
+        failures = g.O.Output.failures l.initial.output;
+        failures' = g.O.Output.failures l.output;
+        reply = l.initial.reply;
+        reply' = l.reply;
+      })
+      (bare_of l.initial.archive) (bare_of l.archive) l.goes_on;
+  failures : g.I.Input.failures l.input ≡ g.I.Input.failures l.initial.input;
+}
+
+abbrev pub decreases-loop-goes_on : goal.decreases-loop-goes_on
+decreases-loop-goes_on g l = steps_left l.buffer + cond l.goes_on 1 0

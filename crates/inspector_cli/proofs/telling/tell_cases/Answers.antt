@@ -1,0 +1,9 @@
+use Rattle.std.proofs.Common.{arith}
+use Rattle.inspector_cli.proofs.CaseLemmas.{one_line_more, lines_of}
+use Rattle.inspector_cli.proofs.TellLemmas.{tells_then, tells_as, tells_nothing}
+use Rattle.inspector_cli.proofs.telling.tell_cases.Goals as goal
+
+pub loop-entry-preserved : goal.loop-entry-preserved
+loop-entry-preserved g c =
+    tells_as _ _ _ _ _ _ _ _ (one_line_more c.args.cases.now c.loop-entry.entry-index c.entry-item.result (omega arith) c.entry-item.is)
+    (tells_then _ _ _ _ _ _ _ _ _ _ _ c.loop-entry.invariant c.tell_case.ensures)

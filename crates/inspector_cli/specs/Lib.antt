@@ -1,0 +1,5 @@
+pub mod Said
+pub mod Commands
+pub mod Reply
+pub mod Session
+pub mod Answering

@@ -1,0 +1,122 @@
+// The bytes of a part.
+ghost use Rattle.std.specs.Prelude.{◌≡◌, ℕ, ◌+◌, ◌<◌, ◌≤◌};
+ghost use Rattle.intake.specs.Parts.{bare_of};
+ghost use Rattle.intake.specs.State.{Bare};
+ghost use Rattle.inspector_cli.specs.Said.{part_of};
+ghost use Rattle.script_streams.specs.Reading.{Stops, steps_left};
+ghost use Rattle.inspector_cli.specs.Reply.{TakeStep};
+ghost use Rattle.inspector_cli.specs.Answering.{PieceEnds, PartEnds, PartAnswers, SkipEnds};
+
+use crate::telling::{tell_no, tell_outcome};
+use disk_model::Disk;
+use intake::{Archive, ArchiveFault};
+use script_streams::{Input, Output, ReadStop, Reply, ScriptBuffer};
+
+// Answers a part. Says whether all of its bytes were there.
+pub(crate) fn answer_part<I: Input, O: Output, D: Disk>(
+    slot: u8,
+    count: u32,
+    buffer: &mut ScriptBuffer,
+    input: &mut I,
+    reply: &mut Reply,
+    output: &mut O,
+    archive: &mut Archive<D>,
+) -> Result<bool, ReadStop>
+    ensures answers { PartAnswers (record { before = I.remaining input.old; after = I.remaining input.new; buffer = buffer.old; buffer' = buffer.new }) (record { taken = O.taken output.old; taken' = O.taken output.new; failures = O.failures output.old; failures' = O.failures output.new; reply = reply.old; reply' = reply.new }) (bare_of archive.old) (part_of slot count) (bare_of archive.new) result }
+    ensures stops { Stops (I.failures input.old) (I.failures input.new) buffer.new result }
+{
+    let (missing, verdict) = take_part(slot, count, buffer, input, archive)?;
+    if missing == 0 {
+        tell_outcome(reply, output, verdict);
+        return Ok(true);
+    }
+    let _ = archive.abandon(slot);
+    tell_no(reply, output, b"Truncated");
+    Ok(false)
+}
+
+// Takes the bytes of a part. Answers how many were missing where the input ended, and what the archive answers.
+fn take_part<I: Input, D: Disk>(
+    slot: u8,
+    count: u32,
+    buffer: &mut ScriptBuffer,
+    input: &mut I,
+    archive: &mut Archive<D>,
+) -> Result<(u32, Result<(), ArchiveFault>), ReadStop>
+    ensures takes { PartEnds (record { before = I.remaining input.old; after = I.remaining input.new; buffer = buffer.old; buffer' = buffer.new }) (bare_of archive.old) slot count (bare_of archive.new) result }
+    ensures stops { Stops (I.failures input.old) (I.failures input.new) buffer.new result }
+{
+    let mut verdict = archive.advance(slot, 0);
+    let mut missing = count;
+    while missing > 0 {
+        let (taken, answer) = take_piece(slot, missing, verdict, buffer, input, archive)?;
+        verdict = answer;
+        if taken == 0 {
+            return Ok((missing, verdict));
+        }
+        missing -= taken;
+    }
+    Ok((missing, verdict))
+}
+
+// Takes the next bytes of a part, or throws them away once it is refused.
+fn take_piece<I: Input, D: Disk>(
+    slot: u8,
+    most: u32,
+    verdict: Result<(), ArchiveFault>,
+    buffer: &mut ScriptBuffer,
+    input: &mut I,
+    archive: &mut Archive<D>,
+) -> Result<(u32, Result<(), ArchiveFault>), ReadStop>
+    requires { 0 < most }
+    ensures takes { (begun : Bare) (so_far : ℕ) → TakeStep begun slot so_far verdict (bare_of archive.old)
+        → PieceEnds (record { before = I.remaining input.old; after = I.remaining input.new; buffer = buffer.old; buffer' = buffer.new }) begun slot so_far most verdict (bare_of archive.new) result }
+    ensures stops { Stops (I.failures input.old) (I.failures input.new) buffer.new result }
+{
+    match verdict {
+        Ok(()) => fill_piece(slot, most, buffer, input, archive),
+        Err(fault) => {
+            let skipped = skip_piece(most, buffer, input)?;
+            Ok((skipped, Err(fault)))
+        }
+    }
+}
+
+// Takes the next bytes of a part into the free part of the stream's block.
+fn fill_piece<I: Input, D: Disk>(
+    slot: u8,
+    most: u32,
+    buffer: &mut ScriptBuffer,
+    input: &mut I,
+    archive: &mut Archive<D>,
+) -> Result<(u32, Result<(), ArchiveFault>), ReadStop>
+    requires { 0 < most }
+    ensures takes { (begun : Bare) (so_far : ℕ) → TakeStep begun slot so_far (Ok tt) (bare_of archive.old)
+        → PieceEnds (record { before = I.remaining input.old; after = I.remaining input.new; buffer = buffer.old; buffer' = buffer.new }) begun slot so_far most (Ok tt) (bare_of archive.new) result }
+    ensures stops { Stops (I.failures input.old) (I.failures input.new) buffer.new result }
+{
+    let (lent, room) = archive.room(slot);
+    if let Err(fault) = lent {
+        return Ok((0, Err(fault)));
+    }
+    let size = room.len().min(most as usize);
+    let taken = buffer.next_raw(input, &mut room[..size])?;
+    let answer = archive.advance(slot, taken);
+    Ok((taken as u32, answer))
+}
+
+// Throws the next bytes of a part away.
+fn skip_piece<I: Input>(
+    most: u32,
+    buffer: &mut ScriptBuffer,
+    input: &mut I,
+) -> Result<u32, ReadStop>
+    requires { 0 < most }
+    ensures skips { SkipEnds (record { before = I.remaining input.old; after = I.remaining input.new; buffer = buffer.old; buffer' = buffer.new }) most result }
+    ensures stops { Stops (I.failures input.old) (I.failures input.new) buffer.new result }
+{
+    let mut scratch = [0u8; 4096];
+    let size = scratch.len().min(most as usize);
+    let taken = buffer.next_raw(input, &mut scratch[..size])?;
+    Ok(taken as u32)
+}

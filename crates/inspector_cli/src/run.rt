@@ -1,0 +1,57 @@
+// A session from its first line to its end.
+ghost use Rattle.intake.specs.Parts.{bare_of};
+ghost use Rattle.inspector_cli.specs.Session.{SessionEnds, Closes};
+ghost use Rattle.inspector_cli.specs.Answering.{session_fault};
+ghost use Rattle.std.specs.Prelude.{◌≡◌};
+
+use crate::script::answer_script;
+use crate::session::SessionFault;
+use disk_model::Disk;
+use intake::Archive;
+use script_streams::{Input, Output, ReadStop, Reply, ScriptBuffer};
+
+/// Reads a script to its end, answers its commands in order, and drops the streams that are open then.
+///
+/// # Errors
+///
+/// `ReadFailed` where the input failed, and `TooManyReads` where 2^40 reads were made and each gave a byte: the commands
+/// that are whole in what was read are answered. `WriteFailed` where the output failed: it has a front of the replies.
+/// In each case no stream is open.
+pub fn run_session<I: Input, O: Output, D: Disk>(
+    input: &mut I,
+    output: &mut O,
+    archive: &mut Archive<D>,
+) -> Result<(), SessionFault>
+    ensures { SessionEnds (I.remaining input.old) (I.remaining input.new) (I.failures input.old) (I.failures input.new) (O.taken output.old) (O.taken output.new) (O.failures output.old) (O.failures output.new) (bare_of archive.old) (bare_of archive.new) result }
+{
+    let mut buffer = ScriptBuffer::new();
+    let mut reply = Reply::new();
+    let answered = answer_script(&mut buffer, input, &mut reply, output, archive);
+    close_streams(archive);
+    let Ok(()) = reply.finish(output) else {
+        return Err(SessionFault::WriteFailed);
+    };
+    match answered {
+        Ok(()) => Ok(()),
+        Err(stop) => Err(session_fault(stop)),
+    }
+}
+
+// What a session answers where its script could not be read on.
+fn session_fault(stop: ReadStop) -> SessionFault
+    ensures { result ≡ session_fault stop }
+{
+    match stop {
+        ReadStop::ReadFailed => SessionFault::ReadFailed,
+        ReadStop::TooManyReads => SessionFault::TooManyReads,
+    }
+}
+
+// Drops the streams that are open.
+fn close_streams<D: Disk>(archive: &mut Archive<D>)
+    ensures { Closes (bare_of archive.old) (bare_of archive.new) }
+{
+    for slot in 0..8u8 {
+        let _ = archive.abandon(slot);
+    }
+}

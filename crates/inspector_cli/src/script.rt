@@ -1,0 +1,115 @@
+// The commands of a script, one after the other.
+ghost use Rattle.std.specs.Prelude.{◌≡◌, ℕ, ◌<◌, List, length};
+ghost use Rattle.script_streams.specs.Lines.{IsLine, KeepsLine};
+ghost use Rattle.script_streams.specs.Reading.{Stops};
+ghost use Rattle.intake.specs.Parts.{bare_of};
+ghost use Rattle.inspector_cli.specs.Said.{said, part_of};
+ghost use Rattle.inspector_cli.specs.Answering.{CommandEnds, ScriptEnds, PartAnswers, LastAnswers};
+
+use crate::answers::answer_plain;
+use crate::command::{Command, parse_line};
+use crate::parts::answer_part;
+use crate::telling::{tell_no, tell_outcome};
+use disk_model::Disk;
+use intake::Archive;
+use script_streams::{Input, KeptLine, LineEnding, Output, ReadStop, Reply, ScriptBuffer};
+
+// Answers all commands of a script.
+pub(crate) fn answer_script<I: Input, O: Output, D: Disk>(
+    buffer: &mut ScriptBuffer,
+    input: &mut I,
+    reply: &mut Reply,
+    output: &mut O,
+    archive: &mut Archive<D>,
+) -> Result<(), ReadStop>
+    ensures answers { ScriptEnds (record { before = I.remaining input.old; after = I.remaining input.new; buffer = buffer.old; buffer' = buffer.new }) (record { taken = O.taken output.old; taken' = O.taken output.new; failures = O.failures output.old; failures' = O.failures output.new; reply = reply.old; reply' = reply.new }) (bare_of archive.old) (bare_of archive.new) result }
+    ensures stops { Stops (I.failures input.old) (I.failures input.new) buffer.new result }
+{
+    let mut line = KeptLine::new();
+    let mut goes_on = true;
+    while goes_on {
+        goes_on = answer_command(&mut line, buffer, input, reply, output, archive)?;
+    }
+    Ok(())
+}
+
+// Reads the next command and answers it. Says whether the script may go on.
+fn answer_command<I: Input, O: Output, D: Disk>(
+    line: &mut KeptLine,
+    buffer: &mut ScriptBuffer,
+    input: &mut I,
+    reply: &mut Reply,
+    output: &mut O,
+    archive: &mut Archive<D>,
+) -> Result<bool, ReadStop>
+    ensures answers { CommandEnds (record { before = I.remaining input.old; after = I.remaining input.new; buffer = buffer.old; buffer' = buffer.new }) (record { taken = O.taken output.old; taken' = O.taken output.new; failures = O.failures output.old; failures' = O.failures output.new; reply = reply.old; reply' = reply.new }) (bare_of archive.old) (bare_of archive.new) result }
+    ensures stops { Stops (I.failures input.old) (I.failures input.new) buffer.new result }
+{
+    match buffer.next_line(input, line)? {
+        LineEnding::Newline => answer_line(line, buffer, input, reply, output, archive),
+        LineEnding::EndOfInput => {
+            answer_last(line, reply, output, archive);
+            Ok(false)
+        }
+        LineEnding::NothingLeft => Ok(false),
+    }
+}
+
+// Answers a line, with the bytes behind its newline. Says whether they were all there.
+fn answer_line<I: Input, O: Output, D: Disk>(
+    line: &KeptLine,
+    buffer: &mut ScriptBuffer,
+    input: &mut I,
+    reply: &mut Reply,
+    output: &mut O,
+    archive: &mut Archive<D>,
+) -> Result<bool, ReadStop>
+    requires { (text : List ℕ) × KeepsLine text line.now }
+    ensures answers { (text : List ℕ) → KeepsLine text line.now → PartAnswers (record { before = I.remaining input.old; after = I.remaining input.new; buffer = buffer.old; buffer' = buffer.new }) (record { taken = O.taken output.old; taken' = O.taken output.new; failures = O.failures output.old; failures' = O.failures output.new; reply = reply.old; reply' = reply.new }) (bare_of archive.old) (said text) (bare_of archive.new) result }
+    ensures stops { Stops (I.failures input.old) (I.failures input.new) buffer.new result }
+{
+    match parse_line(line) {
+        Command::Part { slot, count } => {
+            answer_part(slot, count, buffer, input, reply, output, archive)
+        }
+        Command::Plain(request) => {
+            answer_plain(request, reply, output, archive);
+            Ok(true)
+        }
+    }
+}
+
+// Answers a last line that no newline ends: no bytes stand behind it.
+fn answer_last<O: Output, D: Disk>(
+    line: &KeptLine,
+    reply: &mut Reply,
+    output: &mut O,
+    archive: &mut Archive<D>,
+)
+    requires { (text : List ℕ) × KeepsLine text line.now }
+    ensures { (text : List ℕ) → KeepsLine text line.now → LastAnswers (record { taken = O.taken output.old; taken' = O.taken output.new; failures = O.failures output.old; failures' = O.failures output.new; reply = reply.old; reply' = reply.new }) (bare_of archive.old) (said text) (bare_of archive.new) }
+{
+    match parse_line(line) {
+        Command::Part { slot, count } => answer_cut(slot, count, reply, output, archive),
+        Command::Plain(request) => answer_plain(request, reply, output, archive),
+    }
+}
+
+// Answers a part that has no bytes behind it.
+fn answer_cut<O: Output, D: Disk>(
+    slot: u8,
+    count: u32,
+    reply: &mut Reply,
+    output: &mut O,
+    archive: &mut Archive<D>,
+)
+    ensures { LastAnswers (record { taken = O.taken output.old; taken' = O.taken output.new; failures = O.failures output.old; failures' = O.failures output.new; reply = reply.old; reply' = reply.new }) (bare_of archive.old) (part_of slot count) (bare_of archive.new) }
+{
+    let verdict = archive.advance(slot, 0);
+    if count == 0 {
+        tell_outcome(reply, output, verdict);
+        return;
+    }
+    let _ = archive.abandon(slot);
+    tell_no(reply, output, b"Truncated");
+}

@@ -1,0 +1,144 @@
+// The texts of replies.
+ghost use Rattle.std.specs.Prelude.{◌≡◌, ◌++◌, map};
+ghost use Rattle.std.specs.List.{flat_map};
+ghost use Rattle.case_journal.specs.Case.{case_of};
+ghost use Rattle.intake.specs.Parts.{bare_case};
+ghost use Rattle.inspector_cli.specs.Reply.{ok_reply, no_reply, reason_of, plain_reply, begin_reply, end_reply, number_word, case_line, kind_name, pin_name};
+ghost use Rattle.inspector_cli.specs.Answering.{TellsText};
+
+use case_journal::{Entry, Kind};
+use intake::ArchiveFault;
+use script_streams::{Output, Reply};
+
+// The name that a refusal is told by.
+pub(crate) fn reason(fault: ArchiveFault) -> &'static [u8]
+    ensures { result.now ≡ reason_of fault }
+{
+    match fault {
+        ArchiveFault::Stopped => b"Stopped",
+        ArchiveFault::BadSlot => b"BadSlot",
+        ArchiveFault::SlotBusy => b"SlotBusy",
+        ArchiveFault::NameTaken => b"NameTaken",
+        ArchiveFault::NoStream => b"NoStream",
+        ArchiveFault::TooLong => b"TooLong",
+        ArchiveFault::SpaceFull => b"SpaceFull",
+        ArchiveFault::NoCase => b"NoCase",
+        ArchiveFault::Pinned => b"Pinned",
+        ArchiveFault::JournalFull => b"JournalFull",
+        ArchiveFault::NumbersSpent => b"NumbersSpent",
+        ArchiveFault::OutOfMemory => b"OutOfMemory",
+        ArchiveFault::Disk => b"Disk",
+    }
+}
+
+// Tells a refusal.
+pub(crate) fn tell_no<O: Output>(reply: &mut Reply, output: &mut O, reason: &[u8])
+    ensures { TellsText (record { taken = O.taken output.old; taken' = O.taken output.new; failures = O.failures output.old; failures' = O.failures output.new; reply = reply.old; reply' = reply.new }) (no_reply reason.now) }
+{
+    reply.tell(output, b"no ");
+    reply.tell(output, reason);
+    reply.tell(output, b"\n");
+}
+
+// Tells a call's answer that has no lines.
+pub(crate) fn tell_outcome<O: Output>(
+    reply: &mut Reply,
+    output: &mut O,
+    outcome: Result<(), ArchiveFault>,
+)
+    ensures { TellsText (record { taken = O.taken output.old; taken' = O.taken output.new; failures = O.failures output.old; failures' = O.failures output.new; reply = reply.old; reply' = reply.new }) (plain_reply outcome) }
+{
+    match outcome {
+        Ok(()) => reply.tell(output, b"ok\n"),
+        Err(fault) => tell_no(reply, output, reason(fault)),
+    }
+}
+
+// Tells the name of a stream that was begun, or why it was not.
+pub(crate) fn tell_begun<O: Output>(
+    reply: &mut Reply,
+    output: &mut O,
+    name: &[u8],
+    outcome: Result<(), ArchiveFault>,
+)
+    ensures { TellsText (record { taken = O.taken output.old; taken' = O.taken output.new; failures = O.failures output.old; failures' = O.failures output.new; reply = reply.old; reply' = reply.new }) (begin_reply name.now outcome) }
+{
+    match outcome {
+        Ok(()) => {
+            reply.tell(output, b"name ");
+            reply.tell_text(output, name);
+            reply.tell(output, b"\n");
+            reply.tell(output, b"ok\n");
+        }
+        Err(fault) => tell_no(reply, output, reason(fault)),
+    }
+}
+
+// Tells the number of a case that was stored, or why there is none.
+pub(crate) fn tell_stored<O: Output>(
+    reply: &mut Reply,
+    output: &mut O,
+    outcome: Result<u32, ArchiveFault>,
+)
+    ensures { TellsText (record { taken = O.taken output.old; taken' = O.taken output.new; failures = O.failures output.old; failures' = O.failures output.new; reply = reply.old; reply' = reply.new }) (end_reply outcome) }
+{
+    match outcome {
+        Ok(seq) => {
+            reply.tell(output, b"stored ");
+            reply.tell_decimal(output, u128::from(seq));
+            reply.tell(output, b"\n");
+            reply.tell(output, b"ok\n");
+        }
+        Err(fault) => tell_no(reply, output, reason(fault)),
+    }
+}
+
+// Tells a line for each case.
+pub(crate) fn tell_cases<O: Output>(reply: &mut Reply, output: &mut O, cases: &[Entry])
+    ensures { TellsText (record { taken = O.taken output.old; taken' = O.taken output.new; failures = O.failures output.old; failures' = O.failures output.new; reply = reply.old; reply' = reply.new }) (flat_map case_line (map bare_case (map case_of cases.now)) ++ ok_reply) }
+{
+    for entry in cases {
+        tell_case(reply, output, entry);
+    }
+    reply.tell(output, b"ok\n");
+}
+
+// Tells the line of a case.
+fn tell_case<O: Output>(reply: &mut Reply, output: &mut O, entry: &Entry)
+    ensures { TellsText (record { taken = O.taken output.old; taken' = O.taken output.new; failures = O.failures output.old; failures' = O.failures output.new; reply = reply.old; reply' = reply.new }) (case_line (bare_case (case_of entry.now))) }
+{
+    tell_number(reply, output, entry.seq as u64);
+    reply.tell(output, kind_word(entry.kind));
+    reply.tell(output, b" ");
+    tell_number(reply, output, entry.length);
+    tell_number(reply, output, entry.pid as u64);
+    tell_number(reply, output, entry.signal as u64);
+    tell_number(reply, output, entry.time);
+    reply.tell(output, pin_word(entry.pinned));
+    reply.tell(output, b" ");
+    reply.tell_text(output, entry.name.as_slice());
+    reply.tell(output, b"\n");
+}
+
+// Tells a number and a space.
+fn tell_number<O: Output>(reply: &mut Reply, output: &mut O, number: u64)
+    ensures { TellsText (record { taken = O.taken output.old; taken' = O.taken output.new; failures = O.failures output.old; failures' = O.failures output.new; reply = reply.old; reply' = reply.new }) (number_word number) }
+{
+    reply.tell_decimal(output, u128::from(number));
+    reply.tell(output, b" ");
+}
+
+fn kind_word(kind: Kind) -> &'static [u8]
+    ensures { result.now ≡ kind_name kind }
+{
+    match kind {
+        Kind::Core => b"core",
+        Kind::Exec => b"exec",
+    }
+}
+
+fn pin_word(pinned: bool) -> &'static [u8]
+    ensures { result.now ≡ pin_name pinned }
+{
+    if pinned { b"pinned" } else { b"-" }
+}
