@@ -61,7 +61,8 @@ fn first_header() -> [u8; 33]
 fn write_headers<D: Disk>(disk: &mut D, shape: Shape) -> Result<(), DiskFault>
     requires limits { IsWithinLimits shape }
     requires size { D.size disk.old ≡ disk_length shape }
-    ensures headers { IsTrue (D.is_honest disk.old) → OnOk result (HasHeaders shape (D.seen disk.new)) }
+    ensures headers { IsTrue (D.is_honest disk.old)
+        → OnOk result (HasHeaders shape (D.seen disk.new)) }
     ensures cause { HasCause (D.failures disk.old) (D.failures disk.new) result }
     ensures honesty { D.is_honest disk.new ≡ D.is_honest disk.old }
     ensures size { D.size disk.new ≡ D.size disk.old }
@@ -76,12 +77,15 @@ fn write_headers<D: Disk>(disk: &mut D, shape: Shape) -> Result<(), DiskFault>
 /// is not the disk's, and then nothing was written, and else `Disk` where the disk failed. Until it answers `Ok`,
 /// nothing is promised of the disk: it is done again. It takes no memory.
 pub fn format<D: Disk>(disk: &mut D, shape: Shape) -> Result<(), FormatFault>
-    ensures shape { (result ≡ Err FormatFault.BadShape) ↔ (is_shape_of (D.size disk.old) shape ≡ false) }
+    ensures shape { (result ≡ Err FormatFault.BadShape) ↔ (is_shape_of (D.size disk.old) shape
+        ≡ false) }
     ensures untouched { result ≡ Err FormatFault.BadShape → disk.new ≡ disk.old }
     // On an honest disk, what stands there then opens as an archive with no case, and a crash leaves it so.
-    ensures made { IsTrue (D.is_honest disk.old) → OnOk result (opening (D.seen disk.new) ≡ Ok (fresh shape Half.A)) }
+    ensures made { IsTrue (D.is_honest disk.old) → OnOk result (opening (D.seen disk.new)
+        ≡ Ok (fresh shape Half.A)) }
     ensures stable { IsTrue (D.is_honest disk.old) → OnOk result (IsSettled D.Disk disk.new) }
-    ensures cause { result ≡ Err FormatFault.Disk → HasRisen (D.failures disk.old) (D.failures disk.new) }
+    ensures cause { result ≡ Err FormatFault.Disk
+        → HasRisen (D.failures disk.old) (D.failures disk.new) }
     ensures later { D.failures disk.old ≤ D.failures disk.new }
     ensures honesty { D.is_honest disk.new ≡ D.is_honest disk.old }
     ensures size { D.size disk.new ≡ D.size disk.old }

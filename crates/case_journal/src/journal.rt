@@ -56,9 +56,12 @@ impl Journal {
     /// archive that holds a record is answered `Damaged` at the first record's kind for now.
     pub fn open<D: Disk>(alloc: Global, disk: &mut D) -> Result<Journal, OpenFault>
         ensures gives { IsTrue (D.is_honest disk.old) → Gives result (opening (D.seen disk.old)) }
-        ensures fresh { IfOk result (λ j. (j ≡ running (fresh j.standing.shape j.standing.half)) × IsWithinLimits j.standing.shape × (D.size disk.new ≡ disk_length j.standing.shape)) }
+        ensures fresh { IfOk result (λ j. (j
+            ≡ running (fresh j.standing.shape j.standing.half))
+            × IsWithinLimits j.standing.shape × (D.size disk.new ≡ disk_length j.standing.shape)) }
         ensures seen { IsTrue (D.is_honest disk.old) → D.seen disk.new ≡ D.seen disk.old }
-        ensures cause { result ≡ Err OpenFault.Disk → HasRisen (D.failures disk.old) (D.failures disk.new) }
+        ensures cause { result ≡ Err OpenFault.Disk
+            → HasRisen (D.failures disk.old) (D.failures disk.new) }
         ensures later { D.failures disk.old ≤ D.failures disk.new }
         ensures honesty { D.is_honest disk.new ≡ D.is_honest disk.old }
         ensures size { D.size disk.new ≡ D.size disk.old }
@@ -134,7 +137,8 @@ impl Journal {
         ensures handed_back { IfErr result (λ e. e.1 ≡ entry) }
         ensures cause { IsDiskFault result → HasRisen (D.failures disk.old) (D.failures disk.new) }
         ensures later { D.failures disk.old ≤ D.failures disk.new }
-        ensures written { IsTrue (D.is_honest disk.old) → OnOk result (StandsAt self.old.standing (case_of entry) (D.seen disk.new)) }
+        ensures written { IsTrue (D.is_honest disk.old)
+            → OnOk result (StandsAt self.old.standing (case_of entry) (D.seen disk.new)) }
         // No byte outside the taken half is changed.
         ensures outside { IsTrue (D.is_honest disk.old)
             → SameOutside (half_start self.old.standing.shape self.old.standing.half) (half_length self.old.standing.shape) (D.seen disk.old) (D.seen disk.new) }
@@ -165,7 +169,8 @@ fn prepare_store(entries: &mut Vec<Entry>, seq: u32, entry: &Entry) -> Result<Ve
     requires { length entry.now.runs ≤ 16777216 }
     ensures entries { entries.new.items ≡ entries.old.items }
     ensures room { OnOk result (vec_len entries.new < vec_capacity entries.new) }
-    ensures record { IfOk result (λ v. v.items ≡ store_behind_gate (numbered seq (case_of entry.now)) ++ 0 ∷ []) }
+    ensures record { IfOk result (λ v. v.items
+        ≡ store_behind_gate (numbered seq (case_of entry.now)) ++ 0 ∷ []) }
     ensures size { IfOk result (λ v. vec_len v ≡ store_size (case_of entry.now)) }
 {
     entries.reserve(1)?;

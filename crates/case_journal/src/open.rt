@@ -142,7 +142,8 @@ fn open_superblock<D: Disk>(disk: &mut D) -> Result<Shape, OpenFault>
     ensures gives { IsTrue (D.is_honest disk.old) → ShapeGives result (D.seen disk.old) }
     ensures shape { IfOk result (λ s. IsWithinLimits s × (D.size disk.new ≡ disk_length s)) }
     ensures seen { IsTrue (D.is_honest disk.old) → D.seen disk.new ≡ D.seen disk.old }
-    ensures cause { result ≡ Err OpenFault.Disk → HasRisen (D.failures disk.old) (D.failures disk.new) }
+    ensures cause { result ≡ Err OpenFault.Disk
+        → HasRisen (D.failures disk.old) (D.failures disk.new) }
     ensures later { D.failures disk.old ≤ D.failures disk.new }
     ensures honesty { D.is_honest disk.new ≡ D.is_honest disk.old }
     ensures size { D.size disk.new ≡ D.size disk.old }
@@ -165,7 +166,8 @@ fn open_superblock<D: Disk>(disk: &mut D) -> Result<Shape, OpenFault>
 fn read_half<D: Disk>(disk: &mut D, shape: Shape, half: Half) -> Result<[u8; 33], OpenFault>
     requires limits { IsWithinLimits shape }
     requires size { D.size disk.old ≡ disk_length shape }
-    ensures bytes { IsTrue (D.is_honest disk.old) → IfOk result (λ b. b ≡ part (D.seen disk.old) (half_start shape half) 33) }
+    ensures bytes { IsTrue (D.is_honest disk.old) → IfOk result (λ b. b
+        ≡ part (D.seen disk.old) (half_start shape half) 33) }
     ensures seen { IsTrue (D.is_honest disk.old) → D.seen disk.new ≡ D.seen disk.old }
     ensures only { IsOkUnless result OpenFault.Disk }
     ensures cause { HasCause (D.failures disk.old) (D.failures disk.new) result }
@@ -183,9 +185,11 @@ fn read_half<D: Disk>(disk: &mut D, shape: Shape, half: Half) -> Result<[u8; 33]
 fn open_halves<D: Disk>(disk: &mut D, shape: Shape) -> Result<Half, OpenFault>
     requires limits { IsWithinLimits shape }
     requires size { D.size disk.old ≡ disk_length shape }
-    ensures gives { IsTrue (D.is_honest disk.old) → TakenGives shape result (halves_opening (D.seen disk.old) (Ok shape)) }
+    ensures gives { IsTrue (D.is_honest disk.old)
+        → TakenGives shape result (halves_opening (D.seen disk.old) (Ok shape)) }
     ensures seen { IsTrue (D.is_honest disk.old) → D.seen disk.new ≡ D.seen disk.old }
-    ensures cause { result ≡ Err OpenFault.Disk → HasRisen (D.failures disk.old) (D.failures disk.new) }
+    ensures cause { result ≡ Err OpenFault.Disk
+        → HasRisen (D.failures disk.old) (D.failures disk.new) }
     ensures later { D.failures disk.old ≤ D.failures disk.new }
     ensures honesty { D.is_honest disk.new ≡ D.is_honest disk.old }
     ensures size { D.size disk.new ≡ D.size disk.old }
@@ -206,7 +210,8 @@ pub(crate) fn open_empty<D: Disk>(disk: &mut D) -> Result<(Shape, Half), OpenFau
     ensures gives { IsTrue (D.is_honest disk.old) → EmptyGives result (opening (D.seen disk.old)) }
     ensures shape { IfOk result (λ r. IsWithinLimits r.0 × (D.size disk.new ≡ disk_length r.0)) }
     ensures seen { IsTrue (D.is_honest disk.old) → D.seen disk.new ≡ D.seen disk.old }
-    ensures cause { result ≡ Err OpenFault.Disk → HasRisen (D.failures disk.old) (D.failures disk.new) }
+    ensures cause { result ≡ Err OpenFault.Disk
+        → HasRisen (D.failures disk.old) (D.failures disk.new) }
     ensures later { D.failures disk.old ≤ D.failures disk.new }
     ensures honesty { D.is_honest disk.new ≡ D.is_honest disk.old }
     ensures size { D.size disk.new ≡ D.size disk.old }

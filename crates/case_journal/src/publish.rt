@@ -12,7 +12,8 @@ pub(crate) fn publish<D: Disk>(disk: &mut D, gate: u64, behind: &[u8]) -> Result
     requires { gate + 1 + length behind.now ≤ D.size disk.old }
     ensures written { IsTrue (D.is_honest disk.old) → OnOk result (D.seen disk.new
         ≡ overwritten (overwritten (D.seen disk.old) (gate + 1) behind.now) gate (165 ∷ [])) }
-    ensures others { IsTrue (D.is_honest disk.old) → SameOutside gate (1 + length behind.now) (D.seen disk.old) (D.seen disk.new) }
+    ensures others { IsTrue (D.is_honest disk.old)
+        → SameOutside gate (1 + length behind.now) (D.seen disk.old) (D.seen disk.new) }
     ensures cause { HasCause (D.failures disk.old) (D.failures disk.new) result }
     ensures honesty { D.is_honest disk.new ≡ D.is_honest disk.old }
     ensures size { D.size disk.new ≡ D.size disk.old }

@@ -17,7 +17,8 @@ pub(crate) const GATE_OPEN: u8 = 0xa5;
 // The bytes of a Store record, without its padding.
 fn plain_size(entry: &Entry) -> u64
     requires { length entry.now.runs ≤ 16777216 }
-    ensures value { result ≡ 48 + 8 * length (runs_of entry.now.runs) + length entry.now.name.items }
+    ensures value { result ≡ 48 + 8 * length
+        (runs_of entry.now.runs) + length entry.now.name.items }
     ensures small { result ≤ 134217904 }
 {
     48 + 8 * entry.runs.runs().len() as u64 + entry.name.len() as u64
@@ -73,7 +74,8 @@ fn push_u64(bytes: &mut Vec<u8>, number: u64) -> Result<(), AllocError>
 #[tactic(auto, unfolding(crate::specs::Record::store_facts))]
 fn push_facts(bytes: &mut Vec<u8>, seq: u32, entry: &Entry) -> Result<(), AllocError>
     requires { length entry.now.runs ≤ 16777216 }
-    ensures { OnOk result (bytes.new.items ≡ bytes.old.items ++ store_facts (numbered seq (case_of entry.now))) }
+    ensures { OnOk result (bytes.new.items
+        ≡ bytes.old.items ++ store_facts (numbered seq (case_of entry.now))) }
 {
     push_u32(bytes, seq)?;
     bytes.extend_from_slice(&[kind_byte(entry.kind), u8::from(entry.pinned)])?;
@@ -125,7 +127,8 @@ fn plain_record(alloc: Global, seq: u32, entry: &Entry) -> Result<Vec<u8>, Alloc
 /// A Store record behind its gate, and the closed gate after it: as many bytes as the record has.
 pub(crate) fn store_record(alloc: Global, seq: u32, entry: &Entry) -> Result<Vec<u8>, AllocError>
     requires { length entry.now.runs ≤ 16777216 }
-    ensures record { IfOk result (λ v. v.items ≡ store_behind_gate (numbered seq (case_of entry.now)) ++ 0 ∷ []) }
+    ensures record { IfOk result (λ v. v.items
+        ≡ store_behind_gate (numbered seq (case_of entry.now)) ++ 0 ∷ []) }
     ensures size { IfOk result (λ v. vec_len v ≡ store_size (case_of entry.now)) }
 {
     let mut bytes = plain_record(alloc, seq, entry)?;

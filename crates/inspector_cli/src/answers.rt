@@ -21,7 +21,14 @@ pub(crate) fn answer_plain<O: Output, D: Disk>(
     output: &mut O,
     archive: &mut Archive<D>,
 )
-    ensures { AnswersTo (record { taken = O.taken output.old; taken' = O.taken output.new; failures = O.failures output.old; failures' = O.failures output.new; reply = reply.old; reply' = reply.new }) (bare_of archive.old) (asked_by request) (bare_of archive.new) }
+    ensures { AnswersTo (record {
+      taken = O.taken output.old;
+      taken' = O.taken output.new;
+      failures = O.failures output.old;
+      failures' = O.failures output.new;
+      reply = reply.old;
+      reply' = reply.new;
+    }) (bare_of archive.old) (asked_by request) (bare_of archive.new) }
 {
     match request {
         Request::Silence => {}
@@ -48,7 +55,15 @@ fn answer_begin<O: Output, D: Disk>(
     output: &mut O,
     archive: &mut Archive<D>,
 )
-    ensures { AnswersTo (record { taken = O.taken output.old; taken' = O.taken output.new; failures = O.failures output.old; failures' = O.failures output.new; reply = reply.old; reply' = reply.new }) (bare_of archive.old) (begin_exec slot text.now) (bare_of archive.new) }
+    ensures { AnswersTo (record {
+      taken = O.taken output.old;
+      taken' = O.taken output.new;
+      failures = O.failures output.old;
+      failures' = O.failures output.new;
+      reply = reply.old;
+      reply' = reply.new;
+    }) (bare_of archive.old) (begin_exec slot text.now)
+        (bare_of archive.new) }
 {
     match checked_name(text) {
         Ok(name) => {
@@ -61,7 +76,8 @@ fn answer_begin<O: Output, D: Disk>(
 
 // A name, or what is wrong with it.
 fn checked_name(text: &[u8]) -> Result<Name, &'static [u8]>
-    ensures { MatchResult result (λ name. (name.items ≡ text.now) × (name_fault text.now ≡ None)) (λ reason. name_fault text.now ≡ Some reason.now) }
+    ensures { MatchResult result (λ name. (name.items ≡ text.now) × (name_fault text.now
+        ≡ None)) (λ reason. name_fault text.now ≡ Some reason.now) }
 {
     if text.len() > 128 {
         return Err(b"TooLong");
@@ -95,7 +111,14 @@ fn answer_end<O: Output, D: Disk>(
     output: &mut O,
     archive: &mut Archive<D>,
 )
-    ensures { AnswersTo (record { taken = O.taken output.old; taken' = O.taken output.new; failures = O.failures output.old; failures' = O.failures output.new; reply = reply.old; reply' = reply.new }) (bare_of archive.old) (end_of slot) (bare_of archive.new) }
+    ensures { AnswersTo (record {
+      taken = O.taken output.old;
+      taken' = O.taken output.new;
+      failures = O.failures output.old;
+      failures' = O.failures output.new;
+      reply = reply.old;
+      reply' = reply.new;
+    }) (bare_of archive.old) (end_of slot) (bare_of archive.new) }
 {
     let outcome = archive.finish(slot);
     tell_stored(reply, output, outcome);
@@ -108,7 +131,14 @@ fn answer_drop<O: Output, D: Disk>(
     output: &mut O,
     archive: &mut Archive<D>,
 )
-    ensures { AnswersTo (record { taken = O.taken output.old; taken' = O.taken output.new; failures = O.failures output.old; failures' = O.failures output.new; reply = reply.old; reply' = reply.new }) (bare_of archive.old) (drop_of slot) (bare_of archive.new) }
+    ensures { AnswersTo (record {
+      taken = O.taken output.old;
+      taken' = O.taken output.new;
+      failures = O.failures output.old;
+      failures' = O.failures output.new;
+      reply = reply.old;
+      reply' = reply.new;
+    }) (bare_of archive.old) (drop_of slot) (bare_of archive.new) }
 {
     let outcome = archive.abandon(slot);
     tell_outcome(reply, output, outcome);
@@ -116,7 +146,14 @@ fn answer_drop<O: Output, D: Disk>(
 
 // Answers `list`.
 fn answer_list<O: Output, D: Disk>(reply: &mut Reply, output: &mut O, archive: &Archive<D>)
-    ensures { AnswersTo (record { taken = O.taken output.old; taken' = O.taken output.new; failures = O.failures output.old; failures' = O.failures output.new; reply = reply.old; reply' = reply.new }) (bare_of archive.now) list_all_cases (bare_of archive.now) }
+    ensures { AnswersTo (record {
+      taken = O.taken output.old;
+      taken' = O.taken output.new;
+      failures = O.failures output.old;
+      failures' = O.failures output.new;
+      reply = reply.old;
+      reply' = reply.new;
+    }) (bare_of archive.now) list_all_cases (bare_of archive.now) }
 {
     match archive.cases() {
         Ok(cases) => tell_cases(reply, output, cases),

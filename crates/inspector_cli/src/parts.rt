@@ -22,7 +22,24 @@ pub(crate) fn answer_part<I: Input, O: Output, D: Disk>(
     output: &mut O,
     archive: &mut Archive<D>,
 ) -> Result<bool, ReadStop>
-    ensures answers { PartAnswers (record { before = I.remaining input.old; after = I.remaining input.new; buffer = buffer.old; buffer' = buffer.new }) (record { taken = O.taken output.old; taken' = O.taken output.new; failures = O.failures output.old; failures' = O.failures output.new; reply = reply.old; reply' = reply.new }) (bare_of archive.old) (part_of slot count) (bare_of archive.new) result }
+    ensures answers { PartAnswers
+        (record {
+          before = I.remaining input.old;
+          after = I.remaining input.new;
+          buffer =
+              buffer.old;
+          buffer' = buffer.new;
+        })
+        (record {
+          taken = O.taken output.old;
+          taken' = O.taken output.new;
+          failures = O.failures
+              output.old;
+          failures' = O.failures output.new;
+          reply = reply.old;
+          reply' = reply.new;
+        })
+        (bare_of archive.old) (part_of slot count) (bare_of archive.new) result }
     ensures stops { Stops (I.failures input.old) (I.failures input.new) buffer.new result }
 {
     let (missing, verdict) = take_part(slot, count, buffer, input, archive)?;
@@ -43,7 +60,15 @@ fn take_part<I: Input, D: Disk>(
     input: &mut I,
     archive: &mut Archive<D>,
 ) -> Result<(u32, Result<(), ArchiveFault>), ReadStop>
-    ensures takes { PartEnds (record { before = I.remaining input.old; after = I.remaining input.new; buffer = buffer.old; buffer' = buffer.new }) (bare_of archive.old) slot count (bare_of archive.new) result }
+    ensures takes { PartEnds
+        (record {
+          before = I.remaining input.old;
+          after = I.remaining input.new;
+          buffer =
+              buffer.old;
+          buffer' = buffer.new;
+        }) (bare_of archive.old) slot count
+        (bare_of archive.new) result }
     ensures stops { Stops (I.failures input.old) (I.failures input.new) buffer.new result }
 {
     let mut verdict = archive.advance(slot, 0);
@@ -69,7 +94,8 @@ fn take_piece<I: Input, D: Disk>(
     archive: &mut Archive<D>,
 ) -> Result<(u32, Result<(), ArchiveFault>), ReadStop>
     requires { 0 < most }
-    ensures takes { (begun : Bare) (so_far : ℕ) → TakeStep begun slot so_far verdict (bare_of archive.old)
+    ensures takes { (begun : Bare) (so_far : ℕ)
+        → TakeStep begun slot so_far verdict (bare_of archive.old)
         → PieceEnds (record { before = I.remaining input.old; after = I.remaining input.new; buffer = buffer.old; buffer' = buffer.new }) begun slot so_far most verdict (bare_of archive.new) result }
     ensures stops { Stops (I.failures input.old) (I.failures input.new) buffer.new result }
 {
@@ -91,7 +117,8 @@ fn fill_piece<I: Input, D: Disk>(
     archive: &mut Archive<D>,
 ) -> Result<(u32, Result<(), ArchiveFault>), ReadStop>
     requires { 0 < most }
-    ensures takes { (begun : Bare) (so_far : ℕ) → TakeStep begun slot so_far (Ok tt) (bare_of archive.old)
+    ensures takes { (begun : Bare) (so_far : ℕ)
+        → TakeStep begun slot so_far (Ok tt) (bare_of archive.old)
         → PieceEnds (record { before = I.remaining input.old; after = I.remaining input.new; buffer = buffer.old; buffer' = buffer.new }) begun slot so_far most (Ok tt) (bare_of archive.new) result }
     ensures stops { Stops (I.failures input.old) (I.failures input.new) buffer.new result }
 {
@@ -112,7 +139,14 @@ fn skip_piece<I: Input>(
     input: &mut I,
 ) -> Result<u32, ReadStop>
     requires { 0 < most }
-    ensures skips { SkipEnds (record { before = I.remaining input.old; after = I.remaining input.new; buffer = buffer.old; buffer' = buffer.new }) most result }
+    ensures skips { SkipEnds
+        (record {
+          before = I.remaining input.old;
+          after = I.remaining input.new;
+          buffer =
+              buffer.old;
+          buffer' = buffer.new;
+        }) most result }
     ensures stops { Stops (I.failures input.old) (I.failures input.new) buffer.new result }
 {
     let mut scratch = [0u8; 4096];

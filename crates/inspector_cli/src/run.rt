@@ -22,7 +22,9 @@ pub fn run_session<I: Input, O: Output, D: Disk>(
     output: &mut O,
     archive: &mut Archive<D>,
 ) -> Result<(), SessionFault>
-    ensures { SessionEnds (I.remaining input.old) (I.remaining input.new) (I.failures input.old) (I.failures input.new) (O.taken output.old) (O.taken output.new) (O.failures output.old) (O.failures output.new) (bare_of archive.old) (bare_of archive.new) result }
+    ensures { SessionEnds (I.remaining input.old) (I.remaining input.new) (I.failures input.old)
+        (I.failures input.new) (O.taken output.old) (O.taken output.new) (O.failures output.old)
+        (O.failures output.new) (bare_of archive.old) (bare_of archive.new) result }
 {
     let mut buffer = ScriptBuffer::new();
     let mut reply = Reply::new();

@@ -22,7 +22,24 @@ pub(crate) fn answer_script<I: Input, O: Output, D: Disk>(
     output: &mut O,
     archive: &mut Archive<D>,
 ) -> Result<(), ReadStop>
-    ensures answers { ScriptEnds (record { before = I.remaining input.old; after = I.remaining input.new; buffer = buffer.old; buffer' = buffer.new }) (record { taken = O.taken output.old; taken' = O.taken output.new; failures = O.failures output.old; failures' = O.failures output.new; reply = reply.old; reply' = reply.new }) (bare_of archive.old) (bare_of archive.new) result }
+    ensures answers { ScriptEnds
+        (record {
+          before = I.remaining input.old;
+          after = I.remaining input.new;
+          buffer =
+              buffer.old;
+          buffer' = buffer.new;
+        })
+        (record {
+          taken = O.taken output.old;
+          taken' = O.taken output.new;
+          failures = O.failures
+              output.old;
+          failures' = O.failures output.new;
+          reply = reply.old;
+          reply' = reply.new;
+        })
+        (bare_of archive.old) (bare_of archive.new) result }
     ensures stops { Stops (I.failures input.old) (I.failures input.new) buffer.new result }
 {
     let mut line = KeptLine::new();
@@ -42,7 +59,24 @@ fn answer_command<I: Input, O: Output, D: Disk>(
     output: &mut O,
     archive: &mut Archive<D>,
 ) -> Result<bool, ReadStop>
-    ensures answers { CommandEnds (record { before = I.remaining input.old; after = I.remaining input.new; buffer = buffer.old; buffer' = buffer.new }) (record { taken = O.taken output.old; taken' = O.taken output.new; failures = O.failures output.old; failures' = O.failures output.new; reply = reply.old; reply' = reply.new }) (bare_of archive.old) (bare_of archive.new) result }
+    ensures answers { CommandEnds
+        (record {
+          before = I.remaining input.old;
+          after = I.remaining input.new;
+          buffer =
+              buffer.old;
+          buffer' = buffer.new;
+        })
+        (record {
+          taken = O.taken output.old;
+          taken' = O.taken output.new;
+          failures = O.failures
+              output.old;
+          failures' = O.failures output.new;
+          reply = reply.old;
+          reply' = reply.new;
+        })
+        (bare_of archive.old) (bare_of archive.new) result }
     ensures stops { Stops (I.failures input.old) (I.failures input.new) buffer.new result }
 {
     match buffer.next_line(input, line)? {
@@ -65,7 +99,23 @@ fn answer_line<I: Input, O: Output, D: Disk>(
     archive: &mut Archive<D>,
 ) -> Result<bool, ReadStop>
     requires { (text : List ℕ) × KeepsLine text line.now }
-    ensures answers { (text : List ℕ) → KeepsLine text line.now → PartAnswers (record { before = I.remaining input.old; after = I.remaining input.new; buffer = buffer.old; buffer' = buffer.new }) (record { taken = O.taken output.old; taken' = O.taken output.new; failures = O.failures output.old; failures' = O.failures output.new; reply = reply.old; reply' = reply.new }) (bare_of archive.old) (said text) (bare_of archive.new) result }
+    ensures answers { (text : List ℕ) → KeepsLine text line.now
+        → PartAnswers (record {
+          before = I.remaining input.old;
+          after = I.remaining input.new;
+          buffer = buffer.old;
+          buffer' = buffer.new;
+        })
+        (record {
+          taken = O.taken output.old;
+          taken' = O.taken output.new;
+          failures = O.failures
+              output.old;
+          failures' = O.failures output.new;
+          reply = reply.old;
+          reply' = reply.new;
+        })
+        (bare_of archive.old) (said text) (bare_of archive.new) result }
     ensures stops { Stops (I.failures input.old) (I.failures input.new) buffer.new result }
 {
     match parse_line(line) {
@@ -87,7 +137,17 @@ fn answer_last<O: Output, D: Disk>(
     archive: &mut Archive<D>,
 )
     requires { (text : List ℕ) × KeepsLine text line.now }
-    ensures { (text : List ℕ) → KeepsLine text line.now → LastAnswers (record { taken = O.taken output.old; taken' = O.taken output.new; failures = O.failures output.old; failures' = O.failures output.new; reply = reply.old; reply' = reply.new }) (bare_of archive.old) (said text) (bare_of archive.new) }
+    ensures { (text : List ℕ) → KeepsLine text line.now
+        → LastAnswers (record {
+          taken = O.taken output.old;
+          taken' = O.taken output.new;
+          failures
+              = O.failures output.old;
+          failures' = O.failures output.new;
+          reply = reply.old;
+          reply' =
+              reply.new;
+        }) (bare_of archive.old) (said text) (bare_of archive.new) }
 {
     match parse_line(line) {
         Command::Part { slot, count } => answer_cut(slot, count, reply, output, archive),
@@ -103,7 +163,14 @@ fn answer_cut<O: Output, D: Disk>(
     output: &mut O,
     archive: &mut Archive<D>,
 )
-    ensures { LastAnswers (record { taken = O.taken output.old; taken' = O.taken output.new; failures = O.failures output.old; failures' = O.failures output.new; reply = reply.old; reply' = reply.new }) (bare_of archive.old) (part_of slot count) (bare_of archive.new) }
+    ensures { LastAnswers (record {
+      taken = O.taken output.old;
+      taken' = O.taken output.new;
+      failures = O.failures output.old;
+      failures' = O.failures output.new;
+      reply = reply.old;
+      reply' = reply.new;
+    }) (bare_of archive.old) (part_of slot count) (bare_of archive.new) }
 {
     let verdict = archive.advance(slot, 0);
     if count == 0 {

@@ -33,7 +33,14 @@ pub(crate) fn reason(fault: ArchiveFault) -> &'static [u8]
 
 // Tells a refusal.
 pub(crate) fn tell_no<O: Output>(reply: &mut Reply, output: &mut O, reason: &[u8])
-    ensures { TellsText (record { taken = O.taken output.old; taken' = O.taken output.new; failures = O.failures output.old; failures' = O.failures output.new; reply = reply.old; reply' = reply.new }) (no_reply reason.now) }
+    ensures { TellsText (record {
+      taken = O.taken output.old;
+      taken' = O.taken output.new;
+      failures = O.failures output.old;
+      failures' = O.failures output.new;
+      reply = reply.old;
+      reply' = reply.new;
+    }) (no_reply reason.now) }
 {
     reply.tell(output, b"no ");
     reply.tell(output, reason);
@@ -46,7 +53,14 @@ pub(crate) fn tell_outcome<O: Output>(
     output: &mut O,
     outcome: Result<(), ArchiveFault>,
 )
-    ensures { TellsText (record { taken = O.taken output.old; taken' = O.taken output.new; failures = O.failures output.old; failures' = O.failures output.new; reply = reply.old; reply' = reply.new }) (plain_reply outcome) }
+    ensures { TellsText (record {
+      taken = O.taken output.old;
+      taken' = O.taken output.new;
+      failures = O.failures output.old;
+      failures' = O.failures output.new;
+      reply = reply.old;
+      reply' = reply.new;
+    }) (plain_reply outcome) }
 {
     match outcome {
         Ok(()) => reply.tell(output, b"ok\n"),
@@ -61,7 +75,14 @@ pub(crate) fn tell_begun<O: Output>(
     name: &[u8],
     outcome: Result<(), ArchiveFault>,
 )
-    ensures { TellsText (record { taken = O.taken output.old; taken' = O.taken output.new; failures = O.failures output.old; failures' = O.failures output.new; reply = reply.old; reply' = reply.new }) (begin_reply name.now outcome) }
+    ensures { TellsText (record {
+      taken = O.taken output.old;
+      taken' = O.taken output.new;
+      failures = O.failures output.old;
+      failures' = O.failures output.new;
+      reply = reply.old;
+      reply' = reply.new;
+    }) (begin_reply name.now outcome) }
 {
     match outcome {
         Ok(()) => {
@@ -80,7 +101,14 @@ pub(crate) fn tell_stored<O: Output>(
     output: &mut O,
     outcome: Result<u32, ArchiveFault>,
 )
-    ensures { TellsText (record { taken = O.taken output.old; taken' = O.taken output.new; failures = O.failures output.old; failures' = O.failures output.new; reply = reply.old; reply' = reply.new }) (end_reply outcome) }
+    ensures { TellsText (record {
+      taken = O.taken output.old;
+      taken' = O.taken output.new;
+      failures = O.failures output.old;
+      failures' = O.failures output.new;
+      reply = reply.old;
+      reply' = reply.new;
+    }) (end_reply outcome) }
 {
     match outcome {
         Ok(seq) => {
@@ -95,7 +123,15 @@ pub(crate) fn tell_stored<O: Output>(
 
 // Tells a line for each case.
 pub(crate) fn tell_cases<O: Output>(reply: &mut Reply, output: &mut O, cases: &[Entry])
-    ensures { TellsText (record { taken = O.taken output.old; taken' = O.taken output.new; failures = O.failures output.old; failures' = O.failures output.new; reply = reply.old; reply' = reply.new }) (flat_map case_line (map bare_case (map case_of cases.now)) ++ ok_reply) }
+    ensures { TellsText (record {
+      taken = O.taken output.old;
+      taken' = O.taken output.new;
+      failures = O.failures output.old;
+      failures' = O.failures output.new;
+      reply = reply.old;
+      reply' = reply.new;
+    }) (flat_map case_line (map bare_case
+        (map case_of cases.now)) ++ ok_reply) }
 {
     for entry in cases {
         tell_case(reply, output, entry);
@@ -105,7 +141,14 @@ pub(crate) fn tell_cases<O: Output>(reply: &mut Reply, output: &mut O, cases: &[
 
 // Tells the line of a case.
 fn tell_case<O: Output>(reply: &mut Reply, output: &mut O, entry: &Entry)
-    ensures { TellsText (record { taken = O.taken output.old; taken' = O.taken output.new; failures = O.failures output.old; failures' = O.failures output.new; reply = reply.old; reply' = reply.new }) (case_line (bare_case (case_of entry.now))) }
+    ensures { TellsText (record {
+      taken = O.taken output.old;
+      taken' = O.taken output.new;
+      failures = O.failures output.old;
+      failures' = O.failures output.new;
+      reply = reply.old;
+      reply' = reply.new;
+    }) (case_line (bare_case (case_of entry.now))) }
 {
     tell_number(reply, output, entry.seq as u64);
     reply.tell(output, kind_word(entry.kind));
@@ -122,7 +165,14 @@ fn tell_case<O: Output>(reply: &mut Reply, output: &mut O, entry: &Entry)
 
 // Tells a number and a space.
 fn tell_number<O: Output>(reply: &mut Reply, output: &mut O, number: u64)
-    ensures { TellsText (record { taken = O.taken output.old; taken' = O.taken output.new; failures = O.failures output.old; failures' = O.failures output.new; reply = reply.old; reply' = reply.new }) (number_word number) }
+    ensures { TellsText (record {
+      taken = O.taken output.old;
+      taken' = O.taken output.new;
+      failures = O.failures output.old;
+      failures' = O.failures output.new;
+      reply = reply.old;
+      reply' = reply.new;
+    }) (number_word number) }
 {
     reply.tell_decimal(output, u128::from(number));
     reply.tell(output, b" ");

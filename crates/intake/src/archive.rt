@@ -81,10 +81,12 @@ impl<D: Disk> Archive<D> {
     /// fails, or `Disk`, or `OutOfMemory`.
     pub fn open(alloc: Global, disk: D, settings: Settings) -> Result<Archive<D>, (OpenFault, D)>
         ensures gives { IsTrue (D.is_honest disk) → Opens result (opening (D.seen disk)) }
-        ensures state { IfOk result (λ a. IsOpened settings.limit a × (D.size a.disk ≡ D.size disk)) }
+        ensures state { IfOk result (λ a. IsOpened settings.limit a × (D.size a.disk
+            ≡ D.size disk)) }
         ensures honesty { IfOk result (λ a. D.is_honest a.disk ≡ D.is_honest disk) }
         ensures seen { IsTrue (D.is_honest disk) → IfOk result (λ a. D.seen a.disk ≡ D.seen disk) }
-        ensures cause { IfErr result (λ e. e.0 ≡ OpenFault.Disk → HasRisen (D.failures disk) (D.failures e.1)) }
+        ensures cause { IfErr result (λ e. e.0 ≡ OpenFault.Disk
+            → HasRisen (D.failures disk) (D.failures e.1)) }
     {
         let mut disk = disk;
         match Journal::open(alloc, &mut disk) {
@@ -130,8 +132,17 @@ impl<D: Disk> Archive<D> {
         signal: u32,
         time: u64,
     ) -> Result<(), ArchiveFault>
-        ensures step { BeginStep (bare_of self.old) slot (record { kind = kind; name = name.items; pid = pid; signal = signal; time = time; len = 0 }) result (bare_of self.new) }
-        ensures bytes { BeginBytes (contents_of D.seen self.old) slot result (contents_of D.seen self.new) }
+        ensures step { BeginStep (bare_of self.old) slot
+            (record {
+              kind = kind;
+              name = name.items;
+              pid = pid;
+              signal = signal;
+              time = time;
+              len = 0;
+            }) result (bare_of self.new) }
+        ensures bytes { BeginBytes (contents_of D.seen self.old) slot result
+            (contents_of D.seen self.new) }
         ensures disk { self.new.disk ≡ self.old.disk }
     {
         if self.stopped {
@@ -169,7 +180,8 @@ impl<D: Disk> Archive<D> {
         ensures reply { RoomReply (bare_of self.old) slot result.0 }
         ensures lent { result.1.now ≡ room_of self.old slot result.0 }
         ensures never_empty { OnOk result.0 (0 < length result.1.now) }
-        ensures fits { OnOk result.0 (FitsFree (stream_at self.old.streams slot) (length result.1.now)) }
+        ensures fits { OnOk result.0 (FitsFree (stream_at self.old.streams slot)
+            (length result.1.now)) }
     {
         let (reply, from) = free_from(self.stopped, &self.stream, slot, self.block.len());
         self.block.lend(reply, from)
@@ -181,8 +193,11 @@ impl<D: Disk> Archive<D> {
     pub fn advance(&mut self, slot: u8, n: usize) -> Result<(), ArchiveFault>
         requires { FitsFree (stream_at self.old.streams slot) n }
         ensures step { AdvanceStep (bare_of self.old) slot n result (bare_of self.new) }
-        ensures bytes { IsTrue (D.is_honest self.old.disk) → AdvanceBytes (contents_of D.seen self.old) slot n result (contents_of D.seen self.new) }
-        ensures cause { IsDiskFault result → HasRisen (D.failures self.old.disk) (D.failures self.new.disk) }
+        ensures bytes { IsTrue (D.is_honest self.old.disk)
+            → AdvanceBytes (contents_of D.seen self.old) slot n result
+            (contents_of D.seen self.new) }
+        ensures cause { IsDiskFault result
+            → HasRisen (D.failures self.old.disk) (D.failures self.new.disk) }
         ensures later { D.failures self.old.disk ≤ D.failures self.new.disk }
         ensures honesty { D.is_honest self.new.disk ≡ D.is_honest self.old.disk }
     {
@@ -218,8 +233,10 @@ impl<D: Disk> Archive<D> {
     /// but the first two drop the stream.
     pub fn finish(&mut self, slot: u8) -> Result<u32, ArchiveFault>
         ensures step { FinishStep (bare_of self.old) slot result (bare_of self.new) }
-        ensures bytes { IsTrue (D.is_honest self.old.disk) → FinishBytes (contents_of D.seen self.old) slot result (contents_of D.seen self.new) }
-        ensures cause { IsDiskFault result → HasRisen (D.failures self.old.disk) (D.failures self.new.disk) }
+        ensures bytes { IsTrue (D.is_honest self.old.disk)
+            → FinishBytes (contents_of D.seen self.old) slot result (contents_of D.seen self.new) }
+        ensures cause { IsDiskFault result
+            → HasRisen (D.failures self.old.disk) (D.failures self.new.disk) }
         ensures later { D.failures self.old.disk ≤ D.failures self.new.disk }
         ensures honesty { D.is_honest self.new.disk ≡ D.is_honest self.old.disk }
     {
@@ -257,7 +274,8 @@ impl<D: Disk> Archive<D> {
     /// Drops the stream in a slot. Answers, in this order: `Stopped`; `NoStream`.
     pub fn abandon(&mut self, slot: u8) -> Result<(), ArchiveFault>
         ensures step { AbandonStep (bare_of self.old) slot result (bare_of self.new) }
-        ensures bytes { AbandonBytes (contents_of D.seen self.old) slot result (contents_of D.seen self.new) }
+        ensures bytes { AbandonBytes (contents_of D.seen self.old) slot result
+            (contents_of D.seen self.new) }
         ensures slots { length self.new.streams ≤ 8 }
         ensures disk { self.new.disk ≡ self.old.disk }
     {
@@ -307,7 +325,8 @@ fn has_entry(entries: &[Entry], name: &[u8]) -> bool
 
 // Whether the stream, if one is open, has the name.
 fn has_stream(stream: &Option<Stream>, name: &[u8]) -> bool
-    ensures { result ≡ has_name name.now (option_map (λ (s : Stream). bare_stream (parts_of [] s)) stream.now) }
+    ensures { result ≡ has_name name.now (option_map (λ (s : Stream). bare_stream
+        (parts_of [] s)) stream.now) }
 {
     match stream {
         Some(stream) => stream.name.as_slice() == name,

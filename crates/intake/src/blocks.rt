@@ -42,8 +42,10 @@ pub(crate) fn add_block<D: Disk>(
     requires bytes { length bytes.now ≡ 4096 }
     ensures reply { BlockReply shape block result }
     ensures runs { OnOk result (runs.new ≡ runs.old ++ block ∷ []) }
-    ensures written { IsTrue (D.is_honest disk.old) → OnOk result (D.seen disk.new ≡ overwritten (D.seen disk.old) (block_start shape block) bytes.now) }
-    ensures others { IsTrue (D.is_honest disk.old) → SameOutside (block_start shape block) 4096 (D.seen disk.old) (D.seen disk.new) }
+    ensures written { IsTrue (D.is_honest disk.old) → OnOk result (D.seen disk.new
+        ≡ overwritten (D.seen disk.old) (block_start shape block) bytes.now) }
+    ensures others { IsTrue (D.is_honest disk.old)
+        → SameOutside (block_start shape block) 4096 (D.seen disk.old) (D.seen disk.new) }
     ensures cause { IsDiskFault result → HasRisen (D.failures disk.old) (D.failures disk.new) }
     ensures later { D.failures disk.old ≤ D.failures disk.new }
     ensures honesty { D.is_honest disk.new ≡ D.is_honest disk.old }
@@ -99,9 +101,11 @@ pub(crate) fn grow<D: Disk>(
 ) -> Result<(), ArchiveFault>
     requires limits { IsWithinLimits space.shape }
     requires disk { D.size disk.old ≡ disk_length space.shape }
-    requires filling { IsFilling space.filled space.shape.data_blocks space.limit (parts_of block.old stream.old) }
+    requires filling { IsFilling space.filled space.shape.data_blocks space.limit
+        (parts_of block.old stream.old) }
     requires free { stream.old.length % 4096 + n ≤ 4096 }
-    ensures step { Grows space.shape.data_blocks space.filled space.limit (parts_of block.old stream.old) n result (parts_of block.new stream.new) }
+    ensures step { Grows space.shape.data_blocks space.filled space.limit
+        (parts_of block.old stream.old) n result (parts_of block.new stream.new) }
     ensures others { IsTrue (D.is_honest disk.old)
         → SameOutside (block_start space.shape (next_block space.filled stream.old.length)) 4096 (D.seen disk.old) (D.seen disk.new) }
     ensures written { IsTrue (D.is_honest disk.old) → OnOk result (NeedsBlock stream.old.length n
@@ -134,11 +138,15 @@ fn last_block<D: Disk>(
 ) -> Result<(), ArchiveFault>
     requires limits { IsWithinLimits space.shape }
     requires disk { D.size disk.old ≡ disk_length space.shape }
-    requires filling { IsFilling space.filled space.shape.data_blocks space.limit (parts_of block.old stream.old) }
-    ensures step { Closes space.shape.data_blocks space.filled (parts_of block.old stream.old) result stream.new }
+    requires filling { IsFilling space.filled space.shape.data_blocks space.limit
+        (parts_of block.old stream.old) }
+    ensures step { Closes space.shape.data_blocks space.filled
+        (parts_of block.old stream.old) result stream.new }
     ensures others { IsTrue (D.is_honest disk.old)
         → SameOutside (block_start space.shape (next_block space.filled stream.old.length)) 4096 (D.seen disk.old) (D.seen disk.new) }
-    ensures written { IsTrue (D.is_honest disk.old) → OnOk result (HoldsRest space.shape space.filled (parts_of block.old stream.old) (D.seen disk.new)) }
+    ensures written { IsTrue (D.is_honest disk.old)
+        → OnOk result (HoldsRest space.shape space.filled (parts_of block.old stream.old)
+        (D.seen disk.new)) }
     ensures cause { IsDiskFault result → HasRisen (D.failures disk.old) (D.failures disk.new) }
     ensures later { D.failures disk.old ≤ D.failures disk.new }
     ensures honesty { D.is_honest disk.new ≡ D.is_honest disk.old }
@@ -164,11 +172,15 @@ pub(crate) fn seal<D: Disk>(
 ) -> Result<(), ArchiveFault>
     requires limits { IsWithinLimits space.shape }
     requires disk { D.size disk.old ≡ disk_length space.shape }
-    requires filling { IsFilling space.filled space.shape.data_blocks space.limit (parts_of block.old stream.old) }
-    ensures step { Closes space.shape.data_blocks space.filled (parts_of block.old stream.old) result stream.new }
+    requires filling { IsFilling space.filled space.shape.data_blocks space.limit
+        (parts_of block.old stream.old) }
+    ensures step { Closes space.shape.data_blocks space.filled
+        (parts_of block.old stream.old) result stream.new }
     ensures others { IsTrue (D.is_honest disk.old)
         → SameOutside (block_start space.shape (next_block space.filled stream.old.length)) 4096 (D.seen disk.old) (D.seen disk.new) }
-    ensures written { IsTrue (D.is_honest disk.old) → OnOk result (HoldsRest space.shape space.filled (parts_of block.old stream.old) (D.seen disk.new)) }
+    ensures written { IsTrue (D.is_honest disk.old)
+        → OnOk result (HoldsRest space.shape space.filled (parts_of block.old stream.old)
+        (D.seen disk.new)) }
     ensures cause { IsDiskFault result → HasRisen (D.failures disk.old) (D.failures disk.new) }
     ensures later { D.failures disk.old ≤ D.failures disk.new }
     ensures honesty { D.is_honest disk.new ≡ D.is_honest disk.old }
