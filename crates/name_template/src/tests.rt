@@ -71,6 +71,21 @@ fn host_refused(byte: u8, count: usize) -> Option<NameFault> {
     template.expand(&process, false).err()
 }
 
+// Why a template is no name of a process whose facts hold a NUL.
+fn nul_refused(template: &[u8]) -> Option<NameFault> {
+    let process = facts(b"a\0b", b"/usr\0/bin", b"h\0");
+    let template = Template::parse(template).ok()?;
+    template.expand(&process, false).err()
+}
+
+#[test]
+fn a_nul_in_any_fact_is_no_name(rt: HostRuntime) {
+    for template in [b"%e", b"%E", b"%h"] {
+        assert_eq!(rt; nul_refused(template), Some(NameFault::NulByte));
+    }
+    assert_eq!(rt; nul_refused(b"%p"), None);
+}
+
 #[test]
 fn no_names(rt: HostRuntime) -> Result<(), Fail> {
     assert_eq!(rt; host_refused(b'h', 0), Some(NameFault::Empty));
