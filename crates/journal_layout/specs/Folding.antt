@@ -1,0 +1,56 @@
+-- What the records of a journal say together: its cases and the number of the next one.
+use Rattle.std.specs.Prelude.{ℕ, ◌+◌, Bool, not, List, [], ◌∷◌, ◌++◌, map, if◌then◌else◌, ◌==◌, nat_eq}
+use Rattle.std.specs.List.{filter, list_any, flat_map}
+use Rattle.std.specs.Str.{bytes_eq}
+use Rattle.journal_layout.specs.Case.{Case}
+use Rattle.journal_layout.specs.Record.{Record, Store, Drop, Pin, Next, record_size}
+
+pub record Folded : Type 0 where
+  -- in the order of their numbers
+  pub cases : List Case
+  -- the number of the next case
+  pub next : ℕ
+
+-- before the first record
+abbrev pub nothing_yet : Folded
+nothing_yet = record { cases = []; next = 1 }
+
+-- the number is one of these
+abbrev pub is_among : List ℕ → ℕ → Bool
+is_among seqs seq = list_any (nat_eq seq) seqs
+
+-- without the cases that have these numbers
+abbrev pub dropped : List ℕ → List Case → List Case
+dropped seqs cases = filter (λ (c : Case). not (is_among seqs c.seq)) cases
+
+-- the case, pinned or not where it has this number
+abbrev pub pinned_as : ℕ → Bool → Case → Case
+pinned_as seq flag c = if c.seq == seq then record c { pinned = flag } else c
+
+abbrev pub with_pin : ℕ → Bool → List Case → List Case
+with_pin seq flag cases = map (pinned_as seq flag) cases
+
+-- what a record makes of what the records before it say
+abbrev pub after : Record → Folded → Folded
+after (Store c) f = record { cases = f.cases ++ c ∷ []; next = c.seq + 1 }
+after (Drop seqs) f = record f { cases = dropped seqs f.cases }
+after (Pin seq flag) f = record f { cases = with_pin seq flag f.cases }
+after (Next n) f = record f { next = n }
+
+-- the same of a list of records, one after the other
+abbrev pub replayed : List Record → Folded → Folded
+replayed [] f = f
+replayed (r ∷ rest) f = replayed rest (after r f)
+
+-- the bytes of a list of records
+abbrev pub sizes : List Record → ℕ
+sizes [] = 0
+sizes (r ∷ rest) = record_size r + sizes rest
+
+-- the blocks of the cases
+abbrev pub used_blocks : List Case → List ℕ
+used_blocks cases = flat_map (λ (c : Case). c.blocks) cases
+
+-- some case has this name
+abbrev pub is_name_of : List Case → List ℕ → Bool
+is_name_of cases name = list_any (λ (c : Case). bytes_eq c.name name) cases

@@ -1,0 +1,11 @@
+pub mod Case
+pub mod Checks
+pub mod FieldNames
+pub mod Folding
+pub mod Front
+pub mod Layout
+pub mod Reading
+pub mod Record
+pub mod Soundness
+pub mod Standing
+pub mod Stands
