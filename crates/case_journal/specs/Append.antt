@@ -1,58 +1,58 @@
 -- What an append does to a journal, and when it is refused.
-use Rattle.std.specs.Prelude.{◌≡◌, ℕ, ◌+◌, ◌^◌, ◌<◌, ◌≤◌, List, ◌∷◌, true, false, Result, Ok, Err}
+use Rattle.std.specs.Prelude.{◌≡◌, ℕ, Bool, ◌+◌, ◌^◌, ◌<◌, ◌≤◌, List, ◌∷◌, true, false, Result, Ok, Err}
+use Rattle.disk_model.specs.Places.{part}
+use Rattle.journal_layout.specs.Layout.{half_start, half_length}
+use Rattle.journal_layout.specs.Case.{Case, numbered}
+use Rattle.journal_layout.specs.Record.{Record, Store, Drop, Pin, record_size, spelling}
+use Rattle.journal_layout.specs.Standing.{Standing, folded_of, store_of}
+use Rattle.journal_layout.specs.Soundness.{IsSound, IsStorable}
+use Rattle.journal_layout.specs.declared.entry.Entry.{Entry}
+use Rattle.case_journal.specs.Journaled.{Journaled, running, halted, goes_on}
 use Rattle.case_journal.specs.declared.faults.JournalFault.{JournalFault}
 use Rattle.case_journal.specs.declared.faults.JournalFault.TheVariants.{Stopped, JournalFull, NumbersSpent, OutOfMemory, Disk}
-use Rattle.disk_model.specs.Places.{part}
-use Rattle.case_journal.specs.Layout.{half_start, half_length}
-use Rattle.case_journal.specs.Case.{Case, numbered}
-use Rattle.case_journal.specs.Record.{store_size, store_behind_gate}
-use Rattle.case_journal.specs.Standing.{Standing, Journaled, stored}
-use Rattle.case_journal.specs.declared.entry.Entry.{Entry}
 
--- a record of so many bytes and the gate behind it fit into the taken half
-abbrev pub HasRoom : Standing → ℕ → Type 0
-HasRoom s size = s.used + size + 1 ≤ half_length s.shape
+-- the record and the gate behind it fit into the taken half
+abbrev pub HasRoom : Standing → Record → Type 0
+HasRoom s r = s.used + record_size r + 1 ≤ half_length s.shape
 
--- the same journal, stopped by a disk fault
-abbrev pub halted : Journaled → Journaled
-halted j = record j { stopped = true }
+abbrev pub LacksRoom : Standing → Record → Type 0
+LacksRoom s r = half_length s.shape < s.used + record_size r + 1
 
-abbrev pub running : Standing → Journaled
-running s = record { standing = s; stopped = false }
+-- the case may be stored: its record passes every check but that of its number
+abbrev pub MayStore : Standing → Case → Type 0
+MayStore s c = IsStorable s.shape.data_blocks s.cases c
 
--- A Store record of the case: refused in the order of the faults, each under its condition.
+-- the record may stand behind those that stand there
+abbrev pub MayFollow : Standing → Record → Type 0
+MayFollow s r = IsSound s.shape.data_blocks (folded_of s) r
+
+-- A record's append: refused in the order of the faults, each under its condition.
+abbrev pub AppendStep : Journaled → Record → Result (Unit {0}) JournalFault → Journaled → Type 0
+AppendStep old r (Ok u) new = (old.stopped ≡ false) × HasRoom old.standing r × (new ≡ goes_on old r)
+AppendStep old r (Err Stopped) new = (old.stopped ≡ true) × (new ≡ old)
+AppendStep old r (Err JournalFull) new = (old.stopped ≡ false) × LacksRoom old.standing r × (new ≡ old)
+AppendStep old r (Err NumbersSpent) new = ⊥
+AppendStep old r (Err OutOfMemory) new = (old.stopped ≡ false) × HasRoom old.standing r × (new ≡ old)
+AppendStep old r (Err Disk) new = (old.stopped ≡ false) × HasRoom old.standing r × (new ≡ halted old)
+
+-- the same of a case, which gets the next number, where numbers are left
 abbrev pub StoreRefused : Journaled → Case → JournalFault → Journaled → Type 0
 StoreRefused old c Stopped new = (old.stopped ≡ true) × (new ≡ old)
-StoreRefused old c JournalFull new =
-    (old.stopped ≡ false) × (half_length old.standing.shape < old.standing.used + store_size c + 1) × (new ≡ old)
+StoreRefused old c JournalFull new = (old.stopped ≡ false) × LacksRoom old.standing (store_of old.standing c) × (new ≡ old)
 StoreRefused old c NumbersSpent new =
-    (old.stopped ≡ false) × HasRoom old.standing (store_size c) × (old.standing.next ≡ 2 ^ 32) × (new ≡ old)
+    (old.stopped ≡ false) × HasRoom old.standing (store_of old.standing c) × (old.standing.next ≡ 2 ^ 32) × (new ≡ old)
 StoreRefused old c OutOfMemory new =
-    (old.stopped ≡ false) × HasRoom old.standing (store_size c) × (old.standing.next < 2 ^ 32) × (new ≡ old)
+    (old.stopped ≡ false) × HasRoom old.standing (store_of old.standing c) × (old.standing.next < 2 ^ 32) × (new ≡ old)
 StoreRefused old c Disk new =
-    (old.stopped ≡ false) × HasRoom old.standing (store_size c) × (old.standing.next < 2 ^ 32) × (new ≡ halted old)
-
--- the same of a test that writes nothing
-abbrev pub StoreRefusal : Journaled → Case → Result (Unit {0}) JournalFault → Type 0
-StoreRefusal j c (Ok u) = (j.stopped ≡ false) × HasRoom j.standing (store_size c) × (j.standing.next < 2 ^ 32)
-StoreRefusal j c (Err Stopped) = j.stopped ≡ true
-StoreRefusal j c (Err JournalFull) = (j.stopped ≡ false) × (half_length j.standing.shape < j.standing.used + store_size c + 1)
-StoreRefusal j c (Err NumbersSpent) = (j.stopped ≡ false) × HasRoom j.standing (store_size c) × (j.standing.next ≡ 2 ^ 32)
-StoreRefusal j c (Err OutOfMemory) = ⊥
-StoreRefusal j c (Err Disk) = ⊥
+    (old.stopped ≡ false) × HasRoom old.standing (store_of old.standing c) × (old.standing.next < 2 ^ 32) × (new ≡ halted old)
 
 abbrev pub StoreStep : Journaled → Case → Result ℕ (JournalFault × Entry) → Journaled → Type 0
 StoreStep old c (Ok seq) new =
-    (old.stopped ≡ false) × HasRoom old.standing (store_size c) × (old.standing.next < 2 ^ 32)
-    × (seq ≡ old.standing.next) × (new ≡ running (stored old.standing c))
+    (old.stopped ≡ false) × HasRoom old.standing (store_of old.standing c) × (old.standing.next < 2 ^ 32)
+    × (seq ≡ old.standing.next) × (new ≡ goes_on old (store_of old.standing c))
 StoreStep old c (Err e) new = StoreRefused old c e.0 new
 
 -- the answer is that the disk failed
-abbrev pub IsDiskFault : Result ℕ (JournalFault × Entry) → Type 0
-IsDiskFault (Ok seq) = ⊥
-IsDiskFault (Err e) = e.0 ≡ Disk
-
--- the case's record stands behind those that stood before, its gate open
-abbrev pub StandsAt : Standing → Case → List ℕ → Type 0
-StandsAt s c bytes =
-    part bytes (half_start s.shape s.half + s.used) (store_size c) ≡ 165 ∷ store_behind_gate (numbered s.next c)
+abbrev pub IsStoreDiskFault : Result ℕ (JournalFault × Entry) → Type 0
+IsStoreDiskFault (Ok seq) = ⊥
+IsStoreDiskFault (Err e) = e.0 ≡ Disk

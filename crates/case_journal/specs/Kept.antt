@@ -1,7 +1,7 @@
 -- What an open journal keeps of its numbers.
 use Rattle.std.specs.Prelude.{ℕ, ◌+◌, ◌^◌, ◌≤◌}
-use Rattle.case_journal.specs.declared.shape.Shape.{Shape}
-use Rattle.case_journal.specs.Layout.{IsWithinLimits, half_length}
+use Rattle.journal_layout.specs.declared.shape.Shape.{Shape}
+use Rattle.journal_layout.specs.Layout.{IsWithinLimits, half_length}
 
 pub record IsKept (shape : Shape) (next used : ℕ) : Type 0 where
   pub limits : IsWithinLimits shape

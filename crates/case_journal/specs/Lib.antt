@@ -1,10 +1,7 @@
 pub mod Append
-pub mod Case
-pub mod FieldNames
 pub mod Formatted
+pub mod Journaled
+pub mod Keeping
 pub mod Kept
-pub mod Layout
 pub mod OpenHeader
-pub mod Opening
-pub mod Record
-pub mod Standing
+pub mod Publishing

@@ -1,17 +1,32 @@
 // A record is made of a write behind its closed gate, and then of a write of the gate.
-ghost use Rattle.std.specs.Prelude.{◌≡◌, ◌+◌, ◌<◌, ◌≤◌, ◌∷◌, [], length, IsTrue, OnOk};
+ghost use Rattle.std.specs.Prelude.{◌≡◌, ◌⊎◌, ℕ, List, ◌+◌, ◌<◌, ◌≤◌, ◌∷◌, [], length, IsTrue, OnOk};
 ghost use Rattle.disk_model.specs.Places.{overwritten, SameOutside};
-ghost use Rattle.disk_model.specs.Disk.{HasCause};
+ghost use Rattle.disk_model.specs.Disk.{HasCause, ChangedIn};
+ghost use Rattle.disk_model.specs.Moments.{LeavesOnly, IsSettled};
+ghost use Rattle.journal_layout.specs.Record.{Record};
+ghost use Rattle.journal_layout.specs.Standing.{Standing, appended};
+ghost use Rattle.journal_layout.specs.Stands.{Stands};
+ghost use Rattle.case_journal.specs.Publishing.{Publishes};
 
 use crate::record::GATE_OPEN;
 use disk_model::{Disk, DiskFault, write_stable};
 
 /// Publishes a record whose closed gate stands at `gate`: writes what stands behind the gate and makes it stable, and
-/// then opens the gate by a write of its own.
+/// then opens the gate by a write of its own. On an honest disk a crash at any moment leaves what stands for the cases
+/// before or after, whatever the disk stood for; once it has answered `Ok`, what stands for those after.
 pub(crate) fn publish<D: Disk>(disk: &mut D, gate: u64, behind: &[u8]) -> Result<(), DiskFault>
     requires { gate + 1 + length behind.now ≤ D.size disk.old }
-    ensures written { IsTrue (D.is_honest disk.old) → OnOk result (D.seen disk.new
-        ≡ overwritten (overwritten (D.seen disk.old) (gate + 1) behind.now) gate (165 ∷ [])) }
+    ensures any_moment { (s : Standing) (r : Record) → Publishes s r gate behind.now
+        → IsTrue (D.is_honest disk.old) → ((c : List ℕ) → D.may_leave disk.old c → Stands c s)
+        → LeavesOnly D.Disk disk.old disk.new (λ c. Stands c s ⊎ Stands c (appended s r)) }
+    ensures made { (s : Standing) (r : Record) → Publishes s r gate behind.now
+        → IsTrue (D.is_honest disk.old) → ((c : List ℕ) → D.may_leave disk.old c → Stands c s)
+        → OnOk result ((c : List ℕ) → D.may_leave disk.new c → Stands c (appended s r)) }
+    ensures outside { IsTrue (D.is_honest disk.old)
+        → LeavesOnly D.Disk disk.old disk.new (ChangedIn gate (1 + length behind.now) (D.may_leave disk.old)) }
+    ensures stable { IsTrue (D.is_honest disk.old)
+        → OnOk result (IsSettled D.Disk disk.new × (D.seen disk.new
+        ≡ overwritten (overwritten (D.seen disk.old) (gate + 1) behind.now) gate (165 ∷ []))) }
     ensures others { IsTrue (D.is_honest disk.old)
         → SameOutside gate (1 + length behind.now) (D.seen disk.old) (D.seen disk.new) }
     ensures cause { HasCause (D.failures disk.old) (D.failures disk.new) result }

@@ -1,36 +1,40 @@
-// The spelling of a Store record.
-ghost use Rattle.std.specs.Prelude.{◌≡◌, ◌+◌, ◌*◌, ◌<◌, ◌≤◌, ◌^◌, ◌++◌, [], ◌∷◌, length, IfOk, OnOk, vec_len};
+// The spelling of records: what stands behind a record's gate, and the closed gate after it.
+ghost use Rattle.std.specs.Prelude.{◌≡◌, ℕ, ◌+◌, ◌*◌, ◌<◌, ◌≤◌, ◌^◌, ◌++◌, [], ◌∷◌, length, IfOk, OnOk, vec_len};
 ghost use Rattle.std.specs.List.{flat_map};
 ghost use Rattle.extents.specs.Runs.{runs_of};
-ghost use Rattle.case_journal.specs.Case.{case_of, numbered};
-ghost use Rattle.case_journal.specs.Layout.{number_bytes};
-ghost use Rattle.case_journal.specs.Record.{rounded, kind_byte, flag_byte, run_bytes, store_facts, store_size, store_plain, store_behind_gate};
+ghost use Rattle.journal_layout.specs.Case.{case_of, numbered};
+ghost use Rattle.journal_layout.specs.Layout.{number_bytes};
+ghost use Rattle.journal_layout.specs.Record.{Store, Drop, Pin, rounded, kind_byte, run_bytes, seq_bytes, store_facts, record_size, plain, behind_gate};
 
-use crate::{Entry, Kind};
 use byteorder::{ByteOrder, LittleEndian};
 use extents::Run;
+use journal_layout::{Entry, Kind};
 use std::alloc::{AllocError, Global};
 
 /// The byte that opens a gate.
 pub(crate) const GATE_OPEN: u8 = 0xa5;
 
-// The bytes of a Store record, without its padding.
-fn plain_size(entry: &Entry) -> u64
-    requires { length entry.now.runs ≤ 16777216 }
-    ensures value { result ≡ 48 + 8 * length
-        (runs_of entry.now.runs) + length entry.now.name.items }
-    ensures small { result ≤ 134217904 }
+// The bytes of a record, once it is filled up.
+fn rounded(size: u64) -> u64
+    requires { size + 15 < 2 ^ 64 }
+    ensures { result ≡ rounded size }
 {
-    48 + 8 * entry.runs.runs().len() as u64 + entry.name.len() as u64
+    (size + 15) / 16 * 16
 }
 
 /// The bytes of the entry's Store record.
 pub(crate) fn store_size(entry: &Entry) -> u64
-    requires { length entry.now.runs ≤ 16777216 }
-    ensures value { result ≡ store_size (case_of entry.now) }
-    ensures small { result ≤ 134217904 }
+    requires { length entry.now.runs ≤ 2 ^ 52 }
+    ensures value { (seq : ℕ) → result ≡ record_size (Store (numbered seq (case_of entry.now))) }
 {
-    (plain_size(entry) + 15) / 16 * 16
+    rounded(48 + 8 * entry.runs.runs().len() as u64 + entry.name.len() as u64)
+}
+
+/// The bytes of the Drop record of so many cases.
+pub(crate) fn drop_size(seqs: &[u32]) -> u64
+    ensures value { result ≡ record_size (Drop seqs.now) }
+{
+    rounded(12 + 4 * seqs.len() as u64)
 }
 
 fn kind_byte(kind: Kind) -> u8
@@ -43,7 +47,7 @@ fn kind_byte(kind: Kind) -> u8
 }
 
 // Adds a number in two, four or eight bytes.
-#[tactic(auto, unfolding(crate::specs::Layout::number_bytes))]
+#[tactic(auto, unfolding(journal_layout::specs::Layout::number_bytes))]
 fn push_u16(bytes: &mut Vec<u8>, number: u16) -> Result<(), AllocError>
     ensures { OnOk result (bytes.new.items ≡ bytes.old.items ++ number_bytes 2 number) }
 {
@@ -52,7 +56,7 @@ fn push_u16(bytes: &mut Vec<u8>, number: u16) -> Result<(), AllocError>
     bytes.extend_from_slice(&spelled)
 }
 
-#[tactic(auto, unfolding(crate::specs::Layout::number_bytes))]
+#[tactic(auto, unfolding(journal_layout::specs::Layout::number_bytes))]
 fn push_u32(bytes: &mut Vec<u8>, number: u32) -> Result<(), AllocError>
     ensures { OnOk result (bytes.new.items ≡ bytes.old.items ++ number_bytes 4 number) }
 {
@@ -61,7 +65,7 @@ fn push_u32(bytes: &mut Vec<u8>, number: u32) -> Result<(), AllocError>
     bytes.extend_from_slice(&spelled)
 }
 
-#[tactic(auto, unfolding(crate::specs::Layout::number_bytes))]
+#[tactic(auto, unfolding(journal_layout::specs::Layout::number_bytes))]
 fn push_u64(bytes: &mut Vec<u8>, number: u64) -> Result<(), AllocError>
     ensures { OnOk result (bytes.new.items ≡ bytes.old.items ++ number_bytes 8 number) }
 {
@@ -71,9 +75,9 @@ fn push_u64(bytes: &mut Vec<u8>, number: u64) -> Result<(), AllocError>
 }
 
 // Adds the numbers of a Store record's body.
-#[tactic(auto, unfolding(crate::specs::Record::store_facts))]
+#[tactic(auto, unfolding(journal_layout::specs::Record::store_facts))]
 fn push_facts(bytes: &mut Vec<u8>, seq: u32, entry: &Entry) -> Result<(), AllocError>
-    requires { length entry.now.runs ≤ 16777216 }
+    requires { length (runs_of entry.now.runs) < 2 ^ 32 }
     ensures { OnOk result (bytes.new.items
         ≡ bytes.old.items ++ store_facts (numbered seq (case_of entry.now))) }
 {
@@ -89,7 +93,7 @@ fn push_facts(bytes: &mut Vec<u8>, seq: u32, entry: &Entry) -> Result<(), AllocE
     Ok(())
 }
 
-#[tactic(auto, unfolding(crate::specs::Record::run_bytes))]
+#[tactic(auto, unfolding(journal_layout::specs::Record::run_bytes))]
 fn push_run(bytes: &mut Vec<u8>, run: Run) -> Result<(), AllocError>
     ensures { OnOk result (bytes.new.items ≡ bytes.old.items ++ run_bytes run) }
 {
@@ -108,16 +112,36 @@ fn push_runs(bytes: &mut Vec<u8>, runs: &[Run]) -> Result<(), AllocError>
     Ok(())
 }
 
-// A Store record behind its gate, without its padding, in room for all of it.
-#[tactic(auto, unfolding(crate::specs::Record::store_plain))]
-fn plain_record(alloc: Global, seq: u32, entry: &Entry) -> Result<Vec<u8>, AllocError>
-    requires { length entry.now.runs ≤ 16777216 }
-    ensures { IfOk result (λ v. v.items ≡ store_plain (numbered seq (case_of entry.now))) }
+// Adds the numbers of cases.
+#[tactic(auto, unfolding(journal_layout::specs::Record::seq_bytes))]
+fn push_seqs(bytes: &mut Vec<u8>, seqs: &[u32]) -> Result<(), AllocError>
+    ensures { OnOk result (bytes.new.items ≡ bytes.old.items ++ flat_map seq_bytes seqs.now) }
 {
-    let size = store_size(entry);
+    for seq in seqs {
+        push_u32(bytes, *seq)?;
+    }
+    Ok(())
+}
+
+// The front of a record of this kind and size behind its gate, in room for all of it.
+fn front(alloc: Global, kind: u8, size: u64) -> Result<Vec<u8>, AllocError>
+    requires { size ≤ 16777216 }
+    ensures { IfOk result (λ v. v.items ≡ (kind ∷ 0 ∷ 0 ∷ []) ++ number_bytes 4 size) }
+{
     let mut bytes = Vec::with_capacity(alloc, size as usize)?;
-    bytes.extend_from_slice(&[1, 0, 0])?;
+    bytes.extend_from_slice(&[kind, 0, 0])?;
     push_u32(&mut bytes, size as u32)?;
+    Ok(bytes)
+}
+
+// A Store record behind its gate, without its padding.
+#[tactic(auto, unfolding(journal_layout::specs::Record::plain, journal_layout::specs::Record::body))]
+fn plain_store(alloc: Global, seq: u32, entry: &Entry, size: u64) -> Result<Vec<u8>, AllocError>
+    requires size { size ≡ record_size (Store (numbered seq (case_of entry.now))) }
+    requires small { size ≤ 16777216 }
+    ensures { IfOk result (λ v. v.items ≡ plain (Store (numbered seq (case_of entry.now)))) }
+{
+    let mut bytes = front(alloc, 1, size)?;
     push_facts(&mut bytes, seq, entry)?;
     push_runs(&mut bytes, entry.runs.runs())?;
     bytes.extend_from_slice(entry.name.as_slice())?;
@@ -125,13 +149,56 @@ fn plain_record(alloc: Global, seq: u32, entry: &Entry) -> Result<Vec<u8>, Alloc
 }
 
 /// A Store record behind its gate, and the closed gate after it: as many bytes as the record has.
-pub(crate) fn store_record(alloc: Global, seq: u32, entry: &Entry) -> Result<Vec<u8>, AllocError>
-    requires { length entry.now.runs ≤ 16777216 }
+pub(crate) fn store_record(alloc: Global, seq: u32, entry: &Entry, size: u64) -> Result<Vec<u8>, AllocError>
+    requires size { size ≡ record_size (Store (numbered seq (case_of entry.now))) }
+    requires small { size ≤ 16777216 }
     ensures record { IfOk result (λ v. v.items
-        ≡ store_behind_gate (numbered seq (case_of entry.now)) ++ 0 ∷ []) }
-    ensures size { IfOk result (λ v. vec_len v ≡ store_size (case_of entry.now)) }
+        ≡ behind_gate (Store (numbered seq (case_of entry.now))) ++ 0 ∷ []) }
+    ensures size { IfOk result (λ v. vec_len v ≡ size) }
 {
-    let mut bytes = plain_record(alloc, seq, entry)?;
-    bytes.resize(store_size(entry) as usize, 0)?;
+    let mut bytes = plain_store(alloc, seq, entry, size)?;
+    bytes.resize(size as usize, 0)?;
     Ok(bytes)
+}
+
+// A Drop record behind its gate, without its padding.
+#[tactic(auto, unfolding(journal_layout::specs::Record::plain, journal_layout::specs::Record::body))]
+fn plain_drop(alloc: Global, seqs: &[u32], size: u64) -> Result<Vec<u8>, AllocError>
+    requires size { size ≡ record_size (Drop seqs.now) }
+    requires small { size ≤ 16777216 }
+    ensures { IfOk result (λ v. v.items ≡ plain (Drop seqs.now)) }
+{
+    let mut bytes = front(alloc, 2, size)?;
+    push_u32(&mut bytes, seqs.len() as u32)?;
+    push_seqs(&mut bytes, seqs)?;
+    Ok(bytes)
+}
+
+/// A Drop record behind its gate, and the closed gate after it.
+pub(crate) fn drop_record(alloc: Global, seqs: &[u32], size: u64) -> Result<Vec<u8>, AllocError>
+    requires size { size ≡ record_size (Drop seqs.now) }
+    requires small { size ≤ 16777216 }
+    ensures record { IfOk result (λ v. v.items ≡ behind_gate (Drop seqs.now) ++ 0 ∷ []) }
+    ensures size { IfOk result (λ v. vec_len v ≡ size) }
+{
+    let mut bytes = plain_drop(alloc, seqs, size)?;
+    bytes.resize(size as usize, 0)?;
+    Ok(bytes)
+}
+
+/// The bytes of a Pin record.
+pub(crate) const PIN_SIZE: u64 = 16;
+
+/// A Pin record behind its gate, and the closed gate after it. It takes no memory.
+#[tactic(auto, unfolding(journal_layout::specs::Record::plain, journal_layout::specs::Record::body))]
+pub(crate) fn pin_record(seq: u32, flag: bool) -> [u8; 16]
+    ensures record { result ≡ behind_gate (Pin seq flag) ++ 0 ∷ [] }
+    ensures size { length result ≡ 16 }
+{
+    let mut bytes = [0; 16];
+    bytes[0] = 3;
+    LittleEndian::write_u32(&mut bytes[3..], PIN_SIZE as u32);
+    LittleEndian::write_u32(&mut bytes[7..], seq);
+    bytes[11] = u8::from(flag);
+    bytes
 }

@@ -1,0 +1,21 @@
+-- What contracts see of an open journal.
+use Rattle.std.specs.Prelude.{Bool, true, false}
+use Rattle.journal_layout.specs.Record.{Record}
+use Rattle.journal_layout.specs.Standing.{Standing, appended}
+
+pub record Journaled : Type 0 where
+  pub standing : Standing
+  -- whether a disk fault has stopped it
+  pub stopped : Bool
+
+-- a journal that runs
+abbrev pub running : Standing → Journaled
+running s = record { standing = s; stopped = false }
+
+-- the same journal, stopped by a disk fault
+abbrev pub halted : Journaled → Journaled
+halted j = record j { stopped = true }
+
+-- the same after one record more
+abbrev pub goes_on : Journaled → Record → Journaled
+goes_on j r = running (appended j.standing r)
