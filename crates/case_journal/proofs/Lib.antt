@@ -1,4 +1,5 @@
-pub mod FormatLemmas
-pub mod OpenLemmas
+pub mod AppendLemmas
+pub mod FrontLemmas
 pub mod PublishLemmas
 pub mod RecordLemmas
+pub mod StandLemmas

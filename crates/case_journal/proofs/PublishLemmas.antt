@@ -1,57 +1,152 @@
--- Where a record stands once it is published.
-use Rattle.std.proofs.Common.{◌≡◌, ℕ, ◌+◌, ◌≤◌, List, [], ◌∷◌, ◌++◌, length, refl, sym, ap, ◌∙◌, arith}
-use Rattle.std.proofs.lemmas.List.{length-append, take_at}
+-- What a disk stands for while a record is published.
+use Rattle.std.proofs.Common.{◌≡◌, ◌≢◌, ◌⊎◌, inl, inr, ⊎_elim, ℕ, ◌+◌, ◌-◌, ◌<◌, ◌≤◌, List, [], ◌∷◌, ◌++◌, length, take, get_or, slice_index, refl, sym, ap, ◌∙◌, arith, Result, Ok, Err, OnOk}
+use Rattle.std.proofs.lemmas.List.{length-append, take_at, get_or_at}
+use Rattle.std.proofs.lemmas.Bool.{cases_eq}
 use Rattle.disk_model.specs.Places.{part, overwritten, SameOutside}
+use Rattle.disk_model.specs.Disk.{ChangedIn}
 use Rattle.disk_model.specs.PlaceLaws.{overwritten_outside, overwritten_length}
-use Rattle.disk_model.specs.PartLaws.{part_is, part_split, part_overwritten, part_within, part_after, widened}
-use Rattle.case_journal.specs.declared.shape.Shape.{Shape}
-use Rattle.case_journal.specs.declared.shape.Half.{Half}
-use Rattle.case_journal.specs.declared.shape.Half.TheVariants.{A, B}
-use Rattle.case_journal.specs.Layout.{half_start, half_length, disk_length}
-use Rattle.case_journal.specs.Case.{Case, numbered}
-use Rattle.case_journal.specs.Record.{store_size, store_behind_gate}
-use Rattle.case_journal.specs.Standing.{Standing}
-use Rattle.case_journal.specs.Append.{HasRoom, StandsAt}
+use Rattle.disk_model.specs.PartLaws.{part_is, part_split, part_overwritten, part_within, part_place, part_after, part_length, place_before, place_after, same_twice, widened}
+use Rattle.journal_layout.specs.declared.shape.Half.TheVariants.{A, B}
+use Rattle.journal_layout.specs.Layout.{half_start, half_length, disk_length, data_start}
+use Rattle.journal_layout.specs.Record.{Record, record_size, behind_gate, spelling}
+use Rattle.journal_layout.specs.Standing.{Standing, appended}
+use Rattle.journal_layout.specs.Stands.{Stands, records_area}
+use Rattle.case_journal.specs.Publishing.{Publishes}
+use Rattle.case_journal.proofs.StandLemmas.{gate_of, half_ends, half_low, limits_in, gate_within, area_place, still_stands, stands_after}
 
--- what stands behind the gate, and the open gate before it
-pub published : (s behind : List ℕ) (gate : ℕ) → gate + 1 + (length behind + 1) ≤ length s
-    → part (overwritten (overwritten s (gate + 1) (behind ++ 0 ∷ [])) gate (165 ∷ [])) gate (1 + length behind) ≡ 165 ∷ behind
-published s behind gate fits =
-    let all : List ℕ = behind ++ 0 ∷ [] in
-    let len : length all ≡ length behind + 1 = length-append behind (0 ∷ []) in
-    let once : List ℕ = overwritten s (gate + 1) all in
-    let first : gate + 1 + length all ≤ length s = omega arith in
-    let long : length once ≡ length s = overwritten_length s (gate + 1) all first in
-    let second : gate + 1 ≤ length once = omega arith in
-    let start : gate + 1 ≡ gate + 1 + 0 = omega arith in
-    part_split (overwritten once gate (165 ∷ [])) gate 1 (length behind)
-    ∙ ap (λ (xs : List ℕ). xs ++ part (overwritten once gate (165 ∷ [])) (gate + 1) (length behind)) (part_overwritten once gate (165 ∷ []) second)
-    ∙ ap (λ (xs : List ℕ). (165 ∷ []) ++ xs)
-    (part_after gate 1 once (overwritten once gate (165 ∷ [])) (overwritten_outside once gate (165 ∷ []) second) (gate + 1) (length behind) (omega arith)
-    ∙ ap (λ (p : ℕ). part once p (length behind)) start
-    ∙ part_within s (gate + 1) all 0 (length behind) first (omega arith)
-    ∙ part_is all 0 (length behind) ∙ take_at behind (0 ∷ []) (length behind) refl)
+-- the gate of the next record is closed
+pub closed_gate : (b : List ℕ) (s : Standing) → Stands b s → slice_index b (gate_of s) ≢ 165
+closed_gate b s stands opened =
+    let size = stands.records.size in
+    let header = stands.header in
+    let gate = gate_within b s stands in
+    let e : half_start s.shape s.half + 32 + (s.used - 32) ≡ gate_of s = omega arith in
+    stands.records.closed (ap (slice_index (records_area b s.shape s.half)) size ∙ area_place b s (s.used - 32) (omega arith) ∙ ap (slice_index b) e ∙ opened)
 
--- a record that fits, at its place, lies in the taken half
-pub in_half : (s : Standing) (gate n size : ℕ) (a b : List ℕ) → gate ≡ half_start s.shape s.half + s.used → n ≡ size → HasRoom s size
-    → SameOutside gate (1 + n) a b → SameOutside (half_start s.shape s.half) (half_length s.shape) a b
-in_half s gate n size a b at same room change =
-    widened gate (1 + n) a b change (half_start s.shape s.half) (half_length s.shape) (omega arith) (omega arith)
+-- what follows from what an Ok says
+pub on_ok : {T E : Type 0} → (r : Result T E) (P Q : Type 0) → (P → Q) → OnOk r P → OnOk r Q
+on_ok (Ok x) P Q implies p = implies p
+on_ok (Err e) P Q implies p = p
 
-half_ends : (shape : Shape) (half : Half) → half_start shape half + half_length shape ≤ disk_length shape
-half_ends shape A = omega arith
-half_ends shape B = omega arith
+one_of : (l : List ℕ) → length l ≡ 1 → l ≡ get_or l 0 0 ∷ []
+one_of [] e = absurd (omega arith)
+one_of (x ∷ []) e = refl
+one_of (x ∷ y ∷ l) e = absurd (omega arith)
 
--- the record's own bytes, at its place
-pub stands : (s : Standing) (c : Case) (gate : ℕ) (bytes old new : List ℕ) → gate ≡ half_start s.shape s.half + s.used
-    → bytes ≡ store_behind_gate (numbered s.next c) ++ 0 ∷ [] → length bytes ≡ store_size c → HasRoom s (store_size c) → length old ≡ disk_length s.shape
-    → new ≡ overwritten (overwritten old (gate + 1) bytes) gate (165 ∷ []) → StandsAt s c new
-stands s c gate bytes old new at is len room long written =
-    let behind : List ℕ = store_behind_gate (numbered s.next c) in
-    let l : length bytes ≡ length behind + 1 = ap length is ∙ length-append behind (0 ∷ []) in
-    let ends = half_ends s.shape s.half in
-    let e : store_size c ≡ 1 + length behind = omega arith in
-    ap (λ (b : List ℕ). part b (half_start s.shape s.half + s.used) (store_size c)) (written ∙ ap (λ (b : List ℕ). overwritten (overwritten old (gate + 1) b) gate (165 ∷ [])) is)
-    ∙ ap (λ (p : ℕ). part (overwritten (overwritten old (gate + 1) (behind ++ 0 ∷ [])) gate (165 ∷ [])) p (store_size c)) (sym at)
-    ∙ ap (λ (n : ℕ). part (overwritten (overwritten old (gate + 1) (behind ++ 0 ∷ [])) gate (165 ∷ [])) gate n) e
-    ∙ published old behind gate (omega arith)
+-- a part of one byte
+one_place : (b : List ℕ) (k : ℕ) → k + 1 ≤ length b → part b k 1 ≡ slice_index b k ∷ []
+one_place b k below =
+    one_of (part b k 1) (part_length b k 1 below)
+    ∙ ap (λ (x : ℕ). x ∷ []) (part_place b k 1 0 0 (omega arith) ∙ ap (slice_index b) (let e : k + 0 ≡ k = omega arith in e))
+
+zero_is_closed : ◌≡◌ {A = ℕ} 0 165 → ⊥
+zero_is_closed e = omega (arith, e)
+
+module _ (s : Standing) (r : Record) (gate : ℕ) (behind : List ℕ) (p : Publishes s r gate behind) (d : List ℕ) (stands : Stands d s) where
+  lies : gate + 1 + length behind ≤ length d
+  lies =
+      let place = p.place in
+      let room = p.room in
+      let long = p.long in
+      let ends = half_ends s.shape s.half in
+      let l = (limits_in d s stands).1 in
+      omega arith
+
+  -- while the bytes behind the gate are written
+  pub before_gate : (c : List ℕ) → SameOutside (gate + 1) (length behind) d c → Stands c s
+  before_gate c same =
+      let place = p.place in
+      let room = p.room in
+      let long = p.long in
+      let wide : SameOutside gate (1 + length behind) d c = widened (gate + 1) (length behind) d c same gate (1 + length behind) (omega arith) (omega arith) in
+      let there : SameOutside (gate_of s) (1 + length behind) d c = rw (← place) wide in
+      still_stands s (1 + length behind) d c stands there (omega arith)
+      (λ opened. closed_gate d s stands (sym (place_before (gate + 1) (length behind) d c same (gate_of s) 0 (omega arith)) ∙ opened))
+
+  abbrev pub once : List ℕ
+  once = overwritten d (gate + 1) behind
+
+  once_same : SameOutside gate (1 + length behind) d once
+  once_same = widened (gate + 1) (length behind) d once (overwritten_outside d (gate + 1) behind lies) gate (1 + length behind) (omega arith) (omega arith)
+
+  first_length : length behind ≡ length (behind_gate r) + 1
+  first_length = ap length p.bytes ∙ length-append (behind_gate r) (0 ∷ [])
+
+  -- the record's bytes behind its gate
+  behind_part : (c : List ℕ) → SameOutside gate 1 once c → part c (gate + 1) (length (behind_gate r)) ≡ behind_gate r
+  behind_part c same =
+      let first = first_length in
+      let within = lies in
+      let e : gate + 1 + 0 ≡ gate + 1 = omega arith in
+      part_after gate 1 once c same (gate + 1) (length (behind_gate r)) (omega arith)
+      ∙ ap (λ (k : ℕ). part once k (length (behind_gate r))) (sym e)
+      ∙ part_within d (gate + 1) behind 0 (length (behind_gate r)) within (omega arith)
+      ∙ part_is behind 0 (length (behind_gate r))
+      ∙ ap (take (length (behind_gate r))) p.bytes
+      ∙ take_at (behind_gate r) (0 ∷ []) (length (behind_gate r)) refl
+
+  -- the gate behind it
+  next_gate : (c : List ℕ) → SameOutside gate 1 once c → slice_index c (gate + record_size r) ≡ 0
+  next_gate c same =
+      let first = first_length in
+      let long = p.long in
+      let within = lies in
+      let k : ℕ = length (behind_gate r) in
+      let e : gate + record_size r ≡ gate + 1 + k = omega arith in
+      place_after gate 1 once c same (gate + record_size r) 0 (omega arith)
+      ∙ ap (slice_index once) e
+      ∙ sym (part_place once (gate + 1) (length behind) k 0 (omega arith))
+      ∙ ap (λ (l : List ℕ). get_or l k 0) (part_overwritten d (gate + 1) behind within ∙ p.bytes)
+      ∙ get_or_at (behind_gate r) 0 [] 0 k refl
+
+  wide_same : (c : List ℕ) → SameOutside gate 1 once c → SameOutside (gate_of s) (1 + length behind) d c
+  wide_same c same =
+      let place = p.place in
+      let all : SameOutside gate (1 + length behind) d c = same_twice gate (1 + length behind) d once c once_same (widened gate 1 once c same gate (1 + length behind) (omega arith) (omega arith)) in
+      rw (← place) all
+
+  long_enough : (c : List ℕ) → SameOutside gate 1 once c → gate + 1 ≤ length c
+  long_enough c same =
+      let within = lies in
+      let e = same.same_length in
+      let f = overwritten_length d (gate + 1) behind within in
+      omega arith
+
+  opened_gate : (c : List ℕ) → SameOutside gate 1 once c → slice_index c gate ≡ 165 → part c gate (record_size r) ≡ spelling r
+  opened_gate c same opened =
+      let first = first_length in
+      let long = p.long in
+      let k : ℕ = length (behind_gate r) in
+      let e : record_size r ≡ 1 + k = omega arith in
+      ap (part c gate) e ∙ part_split c gate 1 k
+      ∙ ap (λ (l : List ℕ). l ++ part c (gate + 1) k) (one_place c gate (long_enough c same) ∙ ap (λ (x : ℕ). x ∷ []) opened)
+      ∙ ap (λ (l : List ℕ). 165 ∷ l) (behind_part c same)
+
+  after_gate : (c : List ℕ) → SameOutside gate 1 once c → slice_index c gate ≡ 165 → Stands c (appended s r)
+  after_gate c same opened =
+      let place = p.place in
+      let room = p.room in
+      let long = p.long in
+      stands_after s r (1 + length behind) d c stands (wide_same c same) (omega arith) (omega arith) p.sound
+      (ap (λ (k : ℕ). part c k (record_size r)) (sym place) ∙ opened_gate c same opened)
+      (λ again. zero_is_closed (sym (next_gate c same) ∙ ap (λ (k : ℕ). slice_index c (k + record_size r)) place ∙ again))
+
+  unopened : (c : List ℕ) → SameOutside gate 1 once c → (slice_index c gate ≡ 165 → ⊥) → Stands c s
+  unopened c same closed =
+      let place = p.place in
+      let room = p.room in
+      let long = p.long in
+      still_stands s (1 + length behind) d c stands (wide_same c same) (omega arith) (λ opened. closed (ap (slice_index c) place ∙ opened))
+
+  -- while the gate is written
+  pub at_gate : (c : List ℕ) → SameOutside gate 1 once c → Stands c s ⊎ Stands c (appended s r)
+  at_gate c same = ⊎_elim (λ opened. inr (after_gate c same opened)) (λ closed. inl (unopened c same closed)) (cases_eq (slice_index c gate) 165)
+
+  -- once it is written
+  pub made : Stands (overwritten once gate (165 ∷ [])) (appended s r)
+  made =
+      let within = lies in
+      let f = overwritten_length d (gate + 1) behind within in
+      after_gate (overwritten once gate (165 ∷ [])) (overwritten_outside once gate (165 ∷ []) (omega arith))
+      (sym (part_place (overwritten once gate (165 ∷ [])) gate 1 0 0 (omega arith) ∙ ap (slice_index (overwritten once gate (165 ∷ []))) (let e : gate + 0 ≡ gate = omega arith in e))
+      ∙ ap (λ (l : List ℕ). get_or l 0 0) (part_overwritten once gate (165 ∷ []) (omega arith)))

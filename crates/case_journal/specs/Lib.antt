@@ -1,7 +1,7 @@
 pub mod Append
-pub mod Formatted
+pub mod Entering
 pub mod Journaled
 pub mod Keeping
 pub mod Kept
-pub mod OpenHeader
 pub mod Publishing
+pub mod Putting

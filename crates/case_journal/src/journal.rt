@@ -1,15 +1,24 @@
 // An open journal, and its appends.
-ghost use Rattle.std.specs.Prelude.{◌≡◌, ◌<◌, ◌≤◌, ◌++◌, ◌∷◌, [], length, map, IsTrue, OnOk, IfOk, IfErr, Err, vec_len, vec_capacity};
-ghost use Rattle.case_journal.specs.Case.{case_of, numbered};
-ghost use Rattle.case_journal.specs.Record.{store_size, store_behind_gate};
+ghost use Rattle.std.specs.Prelude.{◌≡◌, ◌+◌, ◌<◌, ◌≤◌, ◌^◌, false, Bool, ◌++◌, ◌∷◌, [], length, map, IsTrue, OnOk, IfOk, IfErr, Err, Ok, ℕ, vec_len, vec_capacity, option_map};
 ghost use Rattle.disk_model.specs.Places.{SameOutside};
-ghost use Rattle.disk_model.specs.Disk.{HasRisen};
+ghost use Rattle.disk_model.specs.Disk.{HasRisen, HasCause};
+ghost use Rattle.journal_layout.specs.Case.{case_of, numbered};
+ghost use Rattle.journal_layout.specs.Record.{Record, Store, Drop, Pin, record_size, behind_gate};
+ghost use Rattle.journal_layout.specs.Layout.{IsWithinLimits, disk_length, half_start, half_length};
+ghost use Rattle.journal_layout.specs.Folding.{with_pin};
+ghost use Rattle.journal_layout.specs.Soundness.{case_numbered, Rise};
+ghost use Rattle.journal_layout.specs.Standing.{store_of};
+ghost use Rattle.case_journal.specs.Journaled.{Journaled, halted, goes_on};
+ghost use Rattle.case_journal.specs.Keeping.{Keeps, LeavesEither, LeavesOutside};
+ghost use Rattle.case_journal.specs.Append.{MayStore, MayFollow, StoreStep, AppendStep, IsStoreDiskFault};
+ghost use Rattle.case_journal.specs.Entering.{entered, left, repinned, EntersCase};
+ghost use Rattle.case_journal.specs.Putting.{IsPut, MayBegin};
 
-use crate::open::open_empty;
+use crate::JournalFault;
 use crate::publish::publish;
-use crate::record::{store_record, store_size};
-use crate::{Entry, Half, JournalFault, OpenFault, Shape};
-use disk_model::Disk;
+use crate::record::{PIN_SIZE, drop_record, drop_size, pin_record, store_record, store_size};
+use disk_model::{Disk, DiskFault};
+use journal_layout::{Entry, Half, Shape};
 use std::alloc::{AllocError, Global};
 use std::marker::Model;
 
@@ -17,29 +26,39 @@ use std::marker::Model;
 /// what it stands for.
 #[derive(Drop)]
 pub struct Journal {
-    shape: Shape,
-    // The half whose records count.
-    half: Half,
+    pub(crate) shape: Shape,
+    // The half whose records count, and what its header says.
+    pub(crate) half: Half,
+    pub(crate) version: u32,
+    pub(crate) generation: u64,
     // In the order of their numbers.
-    entries: Vec<Entry>,
+    pub(crate) entries: Vec<Entry>,
     // The number of the next case, at most 2^32.
-    next: u64,
+    pub(crate) next: u64,
     // The bytes of the taken half's header and records.
-    used: u64,
+    pub(crate) used: u64,
     // Whether a disk fault has stopped it.
-    stopped: bool,
+    pub(crate) stopped: bool,
 }
 
 impl Model for Journal {
     ghost use Rattle.std.specs.Prelude.{map};
-    ghost use Rattle.case_journal.specs.Standing.{Journaled};
-    ghost use Rattle.case_journal.specs.Case.{case_of};
+    ghost use Rattle.case_journal.specs.Journaled.{Journaled};
+    ghost use Rattle.journal_layout.specs.Case.{case_of};
     ghost use Rattle.case_journal.specs.Kept.{IsKept};
 
     ghost Value = { Journaled };
 
     ghost view = { λ j. record {
-      standing = record { shape = j.shape; half = j.half; cases = map case_of j.entries.items; next = j.next; used = j.used };
+      standing = record {
+        shape = j.shape;
+        half = j.half;
+        version = j.version;
+        generation = j.generation;
+        cases = map case_of j.entries.items;
+        next = j.next;
+        used = j.used
+      };
       stopped = j.stopped;
     } };
 
@@ -47,41 +66,18 @@ impl Model for Journal {
 }
 
 impl Journal {
-    ghost use Rattle.case_journal.specs.Layout.{IsWithinLimits, disk_length, half_start, half_length};
-    ghost use Rattle.case_journal.specs.Standing.{fresh};
-    ghost use Rattle.case_journal.specs.Opening.{opening, Gives};
-    ghost use Rattle.case_journal.specs.Append.{running, StoreRefusal, StoreStep, IsDiskFault, StandsAt};
-
-    /// Opens the journal on a disk, beginning with a sync, and answers the first check of the layout that fails. An
-    /// archive that holds a record is answered `Damaged` at the first record's kind for now.
-    pub fn open<D: Disk>(alloc: Global, disk: &mut D) -> Result<Journal, OpenFault>
-        ensures gives { IsTrue (D.is_honest disk.old) → Gives result (opening (D.seen disk.old)) }
-        ensures fresh { IfOk result (λ j. (j
-            ≡ running (fresh j.standing.shape j.standing.half))
-            × IsWithinLimits j.standing.shape × (D.size disk.new ≡ disk_length j.standing.shape)) }
-        ensures seen { IsTrue (D.is_honest disk.old) → D.seen disk.new ≡ D.seen disk.old }
-        ensures cause { result ≡ Err OpenFault.Disk
-            → HasRisen (D.failures disk.old) (D.failures disk.new) }
-        ensures later { D.failures disk.old ≤ D.failures disk.new }
-        ensures honesty { D.is_honest disk.new ≡ D.is_honest disk.old }
-        ensures size { D.size disk.new ≡ D.size disk.old }
-    {
-        let (shape, half) = open_empty(disk)?;
-        Ok(Journal {
-            shape,
-            half,
-            entries: Vec::new(alloc),
-            next: 1,
-            used: 32,
-            stopped: false,
-        })
-    }
-
     /// The cases in the order of their numbers. After a disk fault they are those from before the failed call.
     pub fn entries(&self) -> &[Entry]
         ensures { map case_of result.now ≡ self.now.standing.cases }
     {
         &self.entries
+    }
+
+    /// The case of this number, if it is live.
+    pub fn entry(&self, seq: u32) -> Option<&Entry>
+        ensures { option_map (λ (e : _). case_of e.now) result ≡ case_numbered seq self.now.standing.cases }
+    {
+        self.entries.iter().find(|entry| entry.seq == seq)
     }
 
     /// The number of the next case, at most 2^32.
@@ -105,74 +101,234 @@ impl Journal {
         self.shape
     }
 
-    // Whether a Store record of the entry may be begun, but for memory.
-    fn store_refusal(&self, entry: &Entry) -> Result<(), JournalFault>
-        requires { length entry.now.runs ≤ 16777216 }
-        ensures { StoreRefusal self.now (case_of entry.now) result }
+    // Whether a record of so many bytes may be begun, but for memory and numbers.
+    fn may_begin(&self, size: u64) -> Result<(), JournalFault>
+        requires { size < 2 ^ 63 }
+        ensures { MayBegin self.now size result }
     {
         if self.stopped {
             return Err(JournalFault::Stopped);
         }
-        if self.used + store_size(entry) + 1 > self.shape.half_length() {
+        if self.used + size + 1 > self.shape.half_length() {
             return Err(JournalFault::JournalFull);
-        }
-        if self.next > u64::from(u32::MAX) {
-            return Err(JournalFault::NumbersSpent);
         }
         Ok(())
     }
 
+    // Puts a record behind those that stand there, whatever record it is.
+    fn put<D: Disk>(&self, disk: &mut D, behind: &[u8]) -> Result<(), DiskFault>
+        requires keeps { Keeps D.Disk disk.old self.now }
+        requires runs { self.now.stopped ≡ false }
+        requires room { self.now.standing.used + length behind.now + 1 ≤ half_length self.now.standing.shape }
+        ensures any_moment { (r : Record) → IsPut self.now.standing r behind.now
+            → IsTrue (D.is_honest disk.old)
+            → LeavesEither D.Disk disk.old disk.new self.now.standing r }
+        ensures kept { (r : Record) → IsPut self.now.standing r behind.now
+            → OnOk result (Keeps D.Disk disk.new (goes_on self.now r)) }
+        ensures outside { IsTrue (D.is_honest disk.old)
+            → LeavesOutside D.Disk disk.old disk.new self.now.standing }
+        ensures others { IsTrue (D.is_honest disk.old)
+            → SameOutside (half_start self.now.standing.shape self.now.standing.half) (half_length self.now.standing.shape) (D.seen disk.old) (D.seen disk.new) }
+        ensures cause { HasCause (D.failures disk.old) (D.failures disk.new) result }
+        ensures honesty { D.is_honest disk.new ≡ D.is_honest disk.old }
+        ensures size { D.size disk.new ≡ D.size disk.old }
+    {
+        publish(disk, self.shape.half_start(self.half) + self.used, behind)
+    }
+
     /// Appends the Store record of a case, which gets the next number. A refusal hands the entry back, and all but `Disk`
-    /// leave the journal as it is. Answers, in this order: `Stopped`; `JournalFull` where the record with the gate behind
-    /// it does not fit into the half; `NumbersSpent` where the next number is 2^32; `OutOfMemory`; `Disk`, after which
-    /// the journal is stopped.
+    /// leave the journal and the disk as they are. Answers, in this order: `Stopped`; `JournalFull` where the record with
+    /// the gate behind it does not fit into the half; `NumbersSpent` where the next number is 2^32; `OutOfMemory`;
+    /// `Disk`, after which the journal is stopped.
     pub fn append_store<D: Disk>(
         &mut self,
         disk: &mut D,
         entry: Entry,
     ) -> Result<u32, (JournalFault, Entry)>
-        requires disk { D.size disk.old ≡ disk_length self.old.standing.shape }
-        requires blocks { length entry.runs ≤ 16777216 }
+        requires keeps { Keeps D.Disk disk.old self.old }
+        requires storable { MayStore self.old.standing (case_of entry) }
         ensures step { StoreStep self.old (case_of entry) result self.new }
         ensures handed_back { IfErr result (λ e. e.1 ≡ entry) }
-        ensures cause { IsDiskFault result → HasRisen (D.failures disk.old) (D.failures disk.new) }
-        ensures later { D.failures disk.old ≤ D.failures disk.new }
-        ensures written { IsTrue (D.is_honest disk.old)
-            → OnOk result (StandsAt self.old.standing (case_of entry) (D.seen disk.new)) }
+        // What a crash at any moment since the start leaves stands for the cases before or after.
+        ensures any_moment { IsTrue (D.is_honest disk.old) → self.old.stopped ≡ false
+            → LeavesEither D.Disk disk.old disk.new self.old.standing (store_of self.old.standing (case_of entry)) }
+        // Now it leaves what stands for those that the journal shows, unless it is stopped.
+        ensures keeps { Keeps D.Disk disk.new self.new }
         // No byte outside the taken half is changed.
         ensures outside { IsTrue (D.is_honest disk.old)
+            → LeavesOutside D.Disk disk.old disk.new self.old.standing }
+        ensures others { IsTrue (D.is_honest disk.old)
             → SameOutside (half_start self.old.standing.shape self.old.standing.half) (half_length self.old.standing.shape) (D.seen disk.old) (D.seen disk.new) }
+        ensures cause { IsStoreDiskFault result → HasRisen (D.failures disk.old) (D.failures disk.new) }
+        ensures later { D.failures disk.old ≤ D.failures disk.new }
         ensures honesty { D.is_honest disk.new ≡ D.is_honest disk.old }
         ensures size { D.size disk.new ≡ D.size disk.old }
     {
-        if let Err(fault) = self.store_refusal(&entry) {
+        let size = store_size(&entry);
+        if let Err(fault) = self.may_begin(size) {
             return Err((fault, entry));
         }
-        let seq = self.next as u32;
-        let Ok(record) = prepare_store(&mut self.entries, seq, &entry) else {
+        let next = self.next_seq();
+        if next > u64::from(u32::MAX) {
+            return Err((JournalFault::NumbersSpent, entry));
+        }
+        let seq = next as u32;
+        match self.store(disk, seq, entry, size) {
+            Ok(()) => Ok(seq),
+            Err(refused) => Err(refused),
+        }
+    }
+
+    /// Appends the Drop record of cases, which are then gone. All faults but `Disk` leave the journal and the disk as they
+    /// are. Answers, in this order: `Stopped`; `JournalFull` where the record with the gate behind it does not fit into the
+    /// half; `OutOfMemory`; `Disk`, after which the journal is stopped.
+    pub fn append_drop<D: Disk>(&mut self, disk: &mut D, seqs: &[u32]) -> Result<(), JournalFault>
+        requires keeps { Keeps D.Disk disk.old self.old }
+        requires droppable { MayFollow self.old.standing (Drop seqs.now) }
+        ensures step { AppendStep self.old (Drop seqs.now) result self.new }
+        ensures any_moment { IsTrue (D.is_honest disk.old) → self.old.stopped ≡ false
+            → LeavesEither D.Disk disk.old disk.new self.old.standing (Drop seqs.now) }
+        ensures keeps { Keeps D.Disk disk.new self.new }
+        ensures outside { IsTrue (D.is_honest disk.old)
+            → LeavesOutside D.Disk disk.old disk.new self.old.standing }
+        ensures others { IsTrue (D.is_honest disk.old)
+            → SameOutside (half_start self.old.standing.shape self.old.standing.half) (half_length self.old.standing.shape) (D.seen disk.old) (D.seen disk.new) }
+        ensures cause { result ≡ Err JournalFault.Disk → HasRisen (D.failures disk.old) (D.failures disk.new) }
+        ensures later { D.failures disk.old ≤ D.failures disk.new }
+        ensures honesty { D.is_honest disk.new ≡ D.is_honest disk.old }
+        ensures size { D.size disk.new ≡ D.size disk.old }
+    {
+        let size = drop_size(seqs);
+        self.may_begin(size)?;
+        let Ok(record) = drop_record(self.alloc(), seqs, size) else {
+            return Err(JournalFault::OutOfMemory);
+        };
+        let Ok(()) = self.put(disk, &record) else {
+            self.stop();
+            return Err(JournalFault::Disk);
+        };
+        self.leave_out(seqs, size);
+        Ok(())
+    }
+
+    /// Appends the Pin record of a live case, which is then pinned or not. All faults but `Disk` leave the journal and the
+    /// disk as they are. Answers, in this order: `Stopped`; `JournalFull` where the record with the gate behind it does not
+    /// fit into the half; `Disk`, after which the journal is stopped. It takes no memory.
+    pub fn append_pin<D: Disk>(&mut self, disk: &mut D, seq: u32, flag: bool) -> Result<(), JournalFault>
+        requires keeps { Keeps D.Disk disk.old self.old }
+        requires pinnable { MayFollow self.old.standing (Pin seq flag) }
+        ensures step { AppendStep self.old (Pin seq flag) result self.new }
+        ensures any_moment { IsTrue (D.is_honest disk.old) → self.old.stopped ≡ false
+            → LeavesEither D.Disk disk.old disk.new self.old.standing (Pin seq flag) }
+        ensures keeps { Keeps D.Disk disk.new self.new }
+        ensures outside { IsTrue (D.is_honest disk.old)
+            → LeavesOutside D.Disk disk.old disk.new self.old.standing }
+        ensures others { IsTrue (D.is_honest disk.old)
+            → SameOutside (half_start self.old.standing.shape self.old.standing.half) (half_length self.old.standing.shape) (D.seen disk.old) (D.seen disk.new) }
+        ensures cause { result ≡ Err JournalFault.Disk → HasRisen (D.failures disk.old) (D.failures disk.new) }
+        ensures later { D.failures disk.old ≤ D.failures disk.new }
+        ensures honesty { D.is_honest disk.new ≡ D.is_honest disk.old }
+        ensures size { D.size disk.new ≡ D.size disk.old }
+    {
+        self.may_begin(PIN_SIZE)?;
+        let Ok(()) = self.put(disk, &pin_record(seq, flag)) else {
+            self.stop();
+            return Err(JournalFault::Disk);
+        };
+        self.pin_entry(seq, flag, PIN_SIZE);
+        Ok(())
+    }
+
+    // Puts the record of an entry under this number, and keeps the entry.
+    fn store<D: Disk>(&mut self, disk: &mut D, seq: u32, entry: Entry, size: u64) -> Result<(), (JournalFault, Entry)>
+        requires keeps { Keeps D.Disk disk.old self.old }
+        requires runs { self.old.stopped ≡ false }
+        requires number { seq ≡ self.old.standing.next }
+        requires size { size ≡ record_size (Store (numbered seq (case_of entry))) }
+        requires room { self.old.standing.used + size + 1 ≤ half_length self.old.standing.shape }
+        requires sound { MayFollow self.old.standing (Store (numbered seq (case_of entry))) }
+        ensures step { EntersCase self.old (numbered seq (case_of entry)) size result self.new }
+        ensures handed_back { IfErr result (λ e. e.1 ≡ entry) }
+        ensures any_moment { IsTrue (D.is_honest disk.old)
+            → LeavesEither D.Disk disk.old disk.new self.old.standing (Store (numbered seq (case_of entry))) }
+        ensures kept { OnOk result (Keeps D.Disk disk.new (goes_on self.old (Store (numbered seq (case_of entry))))) }
+        ensures size { D.size disk.new ≡ D.size disk.old }
+        ensures outside { IsTrue (D.is_honest disk.old)
+            → LeavesOutside D.Disk disk.old disk.new self.old.standing }
+        ensures others { IsTrue (D.is_honest disk.old)
+            → SameOutside (half_start self.old.standing.shape self.old.standing.half) (half_length self.old.standing.shape) (D.seen disk.old) (D.seen disk.new) }
+        ensures unmoved { IfErr result (λ e. e.0 ≡ JournalFault.OutOfMemory → disk.new ≡ disk.old) }
+        ensures cause { IfErr result (λ e. e.0 ≡ JournalFault.Disk
+            → HasRisen (D.failures disk.old) (D.failures disk.new)) }
+        ensures later { D.failures disk.old ≤ D.failures disk.new }
+        ensures honesty { D.is_honest disk.new ≡ D.is_honest disk.old }
+    {
+        let Ok(record) = prepare_store(&mut self.entries, seq, &entry, size) else {
             return Err((JournalFault::OutOfMemory, entry));
         };
-        let gate = self.shape.half_start(self.half) + self.used;
-        let Ok(()) = publish(disk, gate, &record) else {
+        let Ok(()) = self.put(disk, &record) else {
             self.stopped = true;
             return Err((JournalFault::Disk, entry));
         };
-        self.used += record.len() as u64;
+        self.used += size;
         self.next += 1;
         self.entries.push(Entry { seq, ..entry }).unwrap();
-        Ok(seq)
+        Ok(())
+    }
+
+    // The allocator of the entries.
+    fn alloc(&self) -> Global {
+        *self.entries.allocator()
+    }
+
+    // A disk fault has stopped it.
+    fn stop(&mut self)
+        ensures { self.new ≡ halted self.old }
+    {
+        self.stopped = true;
+    }
+
+    // Leaves out the entries of these numbers, which rise, by a record of so many bytes.
+    fn leave_out(&mut self, seqs: &[u32], size: u64)
+        requires rise { Rise 0 seqs.now }
+        requires room { self.old.standing.used + size + 1 ≤ half_length self.old.standing.shape }
+        ensures { self.new ≡ left self.old seqs.now size }
+    {
+        self.entries.retain(|entry| seqs.binary_search(&entry.seq).is_err());
+        self.used += size;
+    }
+
+    // Sets the flag of the entry of this number, by a record of so many bytes.
+    fn pin_entry(&mut self, seq: u32, flag: bool, size: u64)
+        requires { self.old.standing.used + size + 1 ≤ half_length self.old.standing.shape }
+        ensures { self.new ≡ repinned self.old seq flag size }
+    {
+        set_pin(&mut self.entries, seq, flag);
+        self.used += size;
+    }
+}
+
+// Sets the flag of the entries of this number.
+fn set_pin(entries: &mut [Entry], seq: u32, flag: bool)
+    ensures { map case_of entries.new ≡ with_pin seq flag (map case_of entries.old) }
+{
+    for entry in entries.iter_mut() {
+        if entry.seq == seq {
+            entry.pinned = flag;
+        }
     }
 }
 
 // Makes room for one more entry, and spells its record behind the gate.
-fn prepare_store(entries: &mut Vec<Entry>, seq: u32, entry: &Entry) -> Result<Vec<u8>, AllocError>
-    requires { length entry.now.runs ≤ 16777216 }
+fn prepare_store(entries: &mut Vec<Entry>, seq: u32, entry: &Entry, size: u64) -> Result<Vec<u8>, AllocError>
+    requires size { size ≡ record_size (Store (numbered seq (case_of entry.now))) }
+    requires small { size ≤ 16777216 }
     ensures entries { entries.new.items ≡ entries.old.items }
     ensures room { OnOk result (vec_len entries.new < vec_capacity entries.new) }
     ensures record { IfOk result (λ v. v.items
-        ≡ store_behind_gate (numbered seq (case_of entry.now)) ++ 0 ∷ []) }
-    ensures size { IfOk result (λ v. vec_len v ≡ store_size (case_of entry.now)) }
+        ≡ behind_gate (Store (numbered seq (case_of entry.now))) ++ 0 ∷ []) }
+    ensures size { IfOk result (λ v. vec_len v ≡ size) }
 {
     entries.reserve(1)?;
-    store_record(*entries.allocator(), seq, entry)
+    store_record(*entries.allocator(), seq, entry, size)
 }

@@ -1,17 +1,8 @@
-//! The journal of an archive: gated records of cases in two halves of a disk.
+//! scratch
 #![tactic(auto)]
-
-mod entry;
 mod faults;
-mod formatting;
 mod journal;
-mod open;
 mod publish;
 mod record;
-mod shape;
-
-pub use entry::{Entry, Kind, Name};
-pub use faults::{Field, FormatFault, JournalFault, OpenFault};
-pub use formatting::format;
+pub use faults::{FormatFault, JournalFault};
 pub use journal::Journal;
-pub use shape::{BLOCK, BadShape, Half, Shape};

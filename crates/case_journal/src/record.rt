@@ -190,7 +190,7 @@ pub(crate) fn drop_record(alloc: Global, seqs: &[u32], size: u64) -> Result<Vec<
 pub(crate) const PIN_SIZE: u64 = 16;
 
 /// A Pin record behind its gate, and the closed gate after it. It takes no memory.
-#[tactic(auto, unfolding(journal_layout::specs::Record::plain, journal_layout::specs::Record::body))]
+#[tactic(auto, unfolding(journal_layout::specs::Record::behind_gate, journal_layout::specs::Record::plain, journal_layout::specs::Record::body, journal_layout::specs::Layout::number_bytes))]
 pub(crate) fn pin_record(seq: u32, flag: bool) -> [u8; 16]
     ensures record { result ≡ behind_gate (Pin seq flag) ++ 0 ∷ [] }
     ensures size { length result ≡ 16 }

@@ -1,6 +1,6 @@
 use Rattle.std.proofs.Common.{◌≡◌, ◌++◌, take}
 use Rattle.std.specs.List.{flat_map}
-use Rattle.case_journal.specs.Record.{run_bytes}
+use Rattle.journal_layout.specs.Record.{run_bytes}
 use Rattle.case_journal.proofs.record.push_runs.Given as goal
 
 abbrev pub invariant-loop-run : goal.invariant-loop-run

@@ -1,0 +1,180 @@
+-- What a list of bytes stands for depends on a few parts of it: how it stays the same, and how it grows by a record.
+use Rattle.std.proofs.Common.{◌≡◌, ◌≢◌, ◌⊎◌, inl, inr, ℕ, ◌+◌, ◌-◌, ◌<◌, ◌≤◌, List, [], ◌∷◌, ◌++◌, length, take, drop, get_or, slice_index, refl, sym, ap, ◌∙◌, subst, arith, Ok}
+use Rattle.std.proofs.lemmas.List.{take-take, length-drop}
+use Rattle.disk_model.specs.Places.{part, SameOutside}
+use Rattle.disk_model.specs.PartLaws.{part_is, part_part, part_length, part_place, part_before, part_after, place_before, place_after}
+use Rattle.journal_layout.specs.declared.shape.Shape.{Shape}
+use Rattle.journal_layout.specs.declared.shape.Half.{Half}
+use Rattle.journal_layout.specs.declared.shape.Half.TheVariants.{A, B}
+use Rattle.journal_layout.specs.Layout.{IsWithinLimits, disk_length, half_start, half_length, data_start}
+use Rattle.journal_layout.specs.Record.{Record, record_size, spelling}
+use Rattle.journal_layout.specs.Folding.{Folded, nothing_yet, after, replayed, sizes}
+use Rattle.journal_layout.specs.Standing.{Standing, folded_of, appended}
+use Rattle.journal_layout.specs.Soundness.{IsSound}
+use Rattle.journal_layout.specs.Front.{Front, front_opening}
+use Rattle.journal_layout.specs.Stands.{AreRead, Stands, StandInRow, records_start, records_area, front_of}
+use Rattle.journal_layout.specs.RowLaws.{row_same, row_push, row_room, sizes_push, replayed_push}
+use Rattle.case_journal.specs.Append.{HasRoom, MayFollow}
+use Rattle.case_journal.specs.Keeping.{SameHeaders}
+use Rattle.case_journal.proofs.FrontLemmas.{limits_of, front_same}
+
+-- where the next record's gate stands
+abbrev pub gate_of : Standing → ℕ
+gate_of s = half_start s.shape s.half + s.used
+
+pub half_low : (shape : Shape) (half : Half) → 4096 ≤ half_start shape half
+half_low shape A = omega arith
+half_low shape B = omega arith
+
+pub half_ends : (shape : Shape) (half : Half) → half_start shape half + half_length shape ≤ data_start shape
+half_ends shape A = omega arith
+half_ends shape B = omega arith
+
+-- what is changed in the taken half behind its header leaves both headers
+pub headers_stay : (shape : Shape) (half : Half) (at n : ℕ) (d c : List ℕ) → IsWithinLimits shape → SameOutside at n d c
+    → half_start shape half + 32 ≤ at → at + n ≤ half_start shape half + half_length shape → SameHeaders shape d c
+headers_stay shape A at n d c limits same low high = let some = limits.some_half in record {
+  first = part_before at n d c same (half_start shape A) 32 (omega arith);
+  second = part_after at n d c same (half_start shape B) 32 (omega arith);
+}
+headers_stay shape B at n d c limits same low high = let some = limits.some_half in record {
+  first = part_before at n d c same (half_start shape A) 32 (omega arith);
+  second = part_before at n d c same (half_start shape B) 32 (omega arith);
+}
+
+pub limits_in : (b : List ℕ) (s : Standing) → Stands b s → IsWithinLimits s.shape × (length b ≡ disk_length s.shape)
+limits_in b s stands = limits_of b (front_of s) stands.front
+
+area_length : (b : List ℕ) (s : Standing) → Stands b s → length (records_area b s.shape s.half) ≡ half_length s.shape - 32
+area_length b s stands =
+    let l = limits_in b s stands in
+    let some = l.0.some_half in
+    let long = l.1 in
+    let ends = half_ends s.shape s.half in
+    part_length b (records_start s.shape s.half) (half_length s.shape - 32) (omega arith)
+
+-- the gate of the next record lies in the half
+pub gate_within : (b : List ℕ) (s : Standing) → Stands b s → s.used + 1 ≤ half_length s.shape
+gate_within b s stands =
+    let l = limits_in b s stands in
+    let some = l.0.some_half in
+    let area = area_length b s stands in
+    let room = row_room s.shape.data_blocks (records_area b s.shape s.half) nothing_yet stands.records.records (omega arith) stands.records.row in
+    let size = stands.records.size in
+    let header = stands.header in
+    omega arith
+
+front_part : (b : List ℕ) (p n q : ℕ) → q ≤ n → take q (part b p n) ≡ part b p q
+front_part b p n q low =
+    ap (take q) (part_is b p n) ∙ take-take q n (drop p b) low ∙ sym (part_is b p q)
+
+-- the records' bytes are the same where the half is changed from the next gate on
+front_stays : (s : Standing) (n : ℕ) (d c : List ℕ) → 32 ≤ s.used → s.used ≤ half_length s.shape → SameOutside (gate_of s) n d c
+    → take (s.used - 32) (records_area c s.shape s.half) ≡ take (s.used - 32) (records_area d s.shape s.half)
+front_stays s n d c header within same =
+    front_part c (records_start s.shape s.half) (half_length s.shape - 32) (s.used - 32) (omega arith)
+    ∙ part_before (gate_of s) n d c same (records_start s.shape s.half) (s.used - 32) (omega arith)
+    ∙ sym (front_part d (records_start s.shape s.half) (half_length s.shape - 32) (s.used - 32) (omega arith))
+
+-- a place of the records' bytes
+pub area_place : (b : List ℕ) (s : Standing) (k : ℕ) → k < half_length s.shape - 32 → slice_index (records_area b s.shape s.half) k ≡ slice_index b (records_start s.shape s.half + k)
+area_place b s k below = part_place b (records_start s.shape s.half) (half_length s.shape - 32) k 0 below
+
+-- a disk that stands so still does where only the half from the next gate on is changed, and that gate is not open
+pub still_stands : (s : Standing) (n : ℕ) (d c : List ℕ) → Stands d s → SameOutside (gate_of s) n d c → s.used + n ≤ half_length s.shape
+    → slice_index c (gate_of s) ≢ 165 → Stands c s
+still_stands s n d c stands same within closed =
+    let l = limits_in d s stands in
+    let some = l.0.some_half in
+    let low = half_low s.shape s.half in
+    let header = stands.header in
+    let size = stands.records.size in
+    let gate = gate_within d s stands in
+    let long : length c ≡ length d = same.same_length in
+    let area = area_length d s stands in
+    let ends = half_ends s.shape s.half in
+    let area_c : length (records_area c s.shape s.half) ≡ length (records_area d s.shape s.half) =
+    part_length c (records_start s.shape s.half) (half_length s.shape - 32) (let e = l.1 in omega arith) ∙ sym area in
+    let e : half_start s.shape s.half + 32 + (s.used - 32) ≡ gate_of s = omega arith in
+    record {
+      front = front_same d c (front_of s) stands.front long (part_before (gate_of s) n d c same 0 24 (omega arith))
+          (headers_stay s.shape s.half (gate_of s) n d c l.0 same (omega arith) (omega arith));
+      header = header;
+      records = record {
+        records = stands.records.records;
+        row = row_same s.shape.data_blocks (s.used - 32) (records_area d s.shape s.half) (records_area c s.shape s.half) nothing_yet stands.records.records
+            area_c (omega arith) (front_stays s n d c header (omega arith) same) stands.records.row;
+        closed = λ opened. closed (sym (ap (slice_index c) e) ∙ sym (area_place c s (s.used - 32) (omega arith)) ∙ sym (ap (slice_index (records_area c s.shape s.half)) size) ∙ opened);
+        folded = stands.records.folded;
+        size = size;
+      };
+    }
+
+-- the same bytes from the next gate on, in the words of the records' bytes
+area_rest : (b : List ℕ) (s : Standing) (n : ℕ) → 32 ≤ s.used → s.used + n ≤ half_length s.shape
+    → take n (drop (s.used - 32) (records_area b s.shape s.half)) ≡ part b (gate_of s) n
+area_rest b s n header within =
+    let e : half_start s.shape s.half + 32 + (s.used - 32) ≡ gate_of s = omega arith in
+    sym (part_is (records_area b s.shape s.half) (s.used - 32) n)
+    ∙ part_part b (records_start s.shape s.half) (half_length s.shape - 32) (s.used - 32) n (omega arith)
+    ∙ ap (λ (p : ℕ). part b p n) e
+
+-- it stands for one record more where that is spelled from the next gate on, with a gate behind it that is not open
+pub stands_after : (s : Standing) (r : Record) (n : ℕ) (d c : List ℕ) → Stands d s → SameOutside (gate_of s) n d c → s.used + n ≤ half_length s.shape
+    → record_size r + 1 ≤ n → MayFollow s r → part c (gate_of s) (record_size r) ≡ spelling r → slice_index c (gate_of s + record_size r) ≢ 165
+    → Stands c (appended s r)
+stands_after s r n d c stands same within fits sound spelled closed =
+    let l = limits_in d s stands in
+    let some = l.0.some_half in
+    let low = half_low s.shape s.half in
+    let header = stands.header in
+    let size = stands.records.size in
+    let long : length c ≡ length d = same.same_length in
+    let area = area_length d s stands in
+    let ends = half_ends s.shape s.half in
+    let area_c : length (records_area c s.shape s.half) ≡ length (records_area d s.shape s.half) =
+    part_length c (records_start s.shape s.half) (half_length s.shape - 32) (let e = l.1 in omega arith) ∙ sym area in
+    let rs = stands.records.records in
+    let row = row_same s.shape.data_blocks (s.used - 32) (records_area d s.shape s.half) (records_area c s.shape s.half) nothing_yet rs
+    area_c (omega arith) (front_stays s n d c header (omega arith) same) stands.records.row in
+    let e : half_start s.shape s.half + 32 + (s.used - 32 + record_size r) ≡ gate_of s + record_size r = omega arith in
+    let total : sizes (rs ++ r ∷ []) ≡ s.used - 32 + record_size r = sizes_push rs r ∙ ap (λ (k : ℕ). k + record_size r) size in
+    let rest = length-drop (sizes rs) (records_area c s.shape s.half) in
+    record {
+      front = front_same d c (front_of s) stands.front long (part_before (gate_of s) n d c same 0 24 (omega arith))
+          (headers_stay s.shape s.half (gate_of s) n d c l.0 same (omega arith) (omega arith));
+      header = omega arith;
+      records = record {
+        records = rs ++ r ∷ [];
+        row = row_push s.shape.data_blocks (records_area c s.shape s.half) nothing_yet rs r row (record {
+          spelled = ap (λ (k : ℕ). take (record_size r) (drop k (records_area c s.shape s.half))) size ∙ area_rest c s (record_size r) header (omega arith) ∙ spelled;
+          room = omega arith;
+          sound = subst (λ (f : Folded). IsSound s.shape.data_blocks f r) (sym stands.records.folded) sound;
+        });
+        closed = λ opened. closed (sym (ap (slice_index c) e) ∙ sym (area_place c s (s.used - 32 + record_size r) (omega arith)) ∙ sym (ap (slice_index (records_area c s.shape s.half)) total) ∙ opened);
+        folded = replayed_push rs r nothing_yet ∙ ap (after r) stands.records.folded;
+        size = total ∙ omega arith;
+      };
+    }
+
+-- a change of the data blocks leaves what a disk stands for, and both headers
+pub data_apart : (s : Standing) (at n : ℕ) (d c : List ℕ) → Stands d s → SameOutside at n d c → data_start s.shape ≤ at → Stands c s × SameHeaders s.shape d c
+data_apart s at n d c stands same low =
+    let l = limits_in d s stands in
+    let some = l.0.some_half in
+    let ends = half_ends s.shape s.half in
+    let first = half_ends s.shape A in
+    let second = half_ends s.shape B in
+    let headers : SameHeaders s.shape d c = record {
+      first = part_before at n d c same (half_start s.shape A) 32 (omega arith);
+      second = part_before at n d c same (half_start s.shape B) 32 (omega arith);
+    } in
+    let area : records_area c s.shape s.half ≡ records_area d s.shape s.half =
+    part_before at n d c same (records_start s.shape s.half) (half_length s.shape - 32) (omega arith) in (
+      record {
+        front = front_same d c (front_of s) stands.front same.same_length (part_before at n d c same 0 24 (omega arith)) headers;
+        header = stands.header;
+        records = subst (λ (x : List ℕ). AreRead s.shape.data_blocks x nothing_yet (folded_of s) (s.used - 32)) (sym area) stands.records;
+      },
+      headers,
+    )
