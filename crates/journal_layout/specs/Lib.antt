@@ -1,3 +1,4 @@
+pub mod ByteLaws
 pub mod Case
 pub mod Checks
 pub mod FieldNames
