@@ -1,5 +1,6 @@
 pub mod ByteLaws
 pub mod Case
+pub mod CheckLaws
 pub mod Checks
 pub mod FieldNames
 pub mod Folding
