@@ -1,14 +1,13 @@
 -- Laws of the checks of a record: what it means that none of them fails.
-use Rattle.std.proofs.Common.{◌≡◌, ℕ, zero, suc, ◌+◌, ◌-◌, ◌*◌, ◌%◌, ◌<◌, ◌≤◌, Bool, true, false, not, ◌||◌, ◌&&◌, ◌==◌, nat_lt, nat_le, nat_eq, List, [], ◌∷◌, length, replicate, slice_index, refl, sym, ap, ◌∙◌, arith, Option, Some, None, cond}
+use Rattle.std.proofs.Common.{◌≡◌, ℕ, zero, suc, ◌+◌, ◌-◌, ◌%◌, ◌≤◌, Bool, true, false, ◌==◌, List, [], ◌∷◌, length, replicate, refl, ap, ◌∙◌, Option, Some, None, cond}
 use Rattle.std.specs.Option.{option_or, option_map}
-use Rattle.std.proofs.lemmas.Bool.{or_parts, or_from, not-false, not_from_true, and_parts, and_from, le-ltb, ltb-false, le-leb, leb-true, eq-eqb, eqb-true, eqb-false, ne_eqb}
+use Rattle.std.proofs.lemmas.Bool.{or_parts, or_from, not-false, not_from_true, and_parts, and_from, le-ltb, ltb-false, le-leb, leb-true, eq-eqb, eqb-true}
 use Rattle.disk_model.specs.Places.{part}
 use Rattle.journal_layout.specs.declared.faults.Field.{Field}
 use Rattle.journal_layout.specs.declared.faults.Field.TheVariants as named
-use Rattle.journal_layout.specs.declared.faults.OpenFault.{OpenFault}
 use Rattle.journal_layout.specs.Layout.{field}
 use Rattle.journal_layout.specs.Reading.{kind_at, length_at}
-use Rattle.journal_layout.specs.Checks.{Check, damaged, first_failing, first_set, padding_fault, is_bad_length, head_checks}
+use Rattle.journal_layout.specs.Checks.{Check, damaged, first_failing, first_set, padding_fault, head_checks}
 
 -- one answer or the other
 pub or_none : {X : Type 0} (o p : Option X) → option_or o p ≡ None → (o ≡ None) × (p ≡ None)

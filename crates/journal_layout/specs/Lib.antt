@@ -10,5 +10,6 @@ pub mod Reading
 pub mod Record
 pub mod RowLaws
 pub mod Soundness
+pub mod SpellLaws
 pub mod Standing
 pub mod Stands
