@@ -4,8 +4,10 @@ pub mod CheckLaws
 pub mod Checks
 pub mod FieldNames
 pub mod Folding
+pub mod FoundLaws
 pub mod Front
 pub mod Layout
+pub mod NextLaws
 pub mod Reading
 pub mod Record
 pub mod RowLaws
