@@ -2,12 +2,14 @@ pub mod ByteLaws
 pub mod Case
 pub mod CheckLaws
 pub mod Checks
+pub mod DropLaws
 pub mod FieldNames
 pub mod Folding
 pub mod FoundLaws
 pub mod Front
 pub mod Layout
 pub mod NextLaws
+pub mod PinLaws
 pub mod Reading
 pub mod Record
 pub mod RowLaws
