@@ -1,5 +1,6 @@
 pub mod ByteLaws
 pub mod Case
+pub mod ChainLaws
 pub mod CheckLaws
 pub mod Checks
 pub mod DropLaws
@@ -14,6 +15,7 @@ pub mod Reading
 pub mod Record
 pub mod RowLaws
 pub mod Soundness
+pub mod SpareLaws
 pub mod SpellLaws
 pub mod Standing
 pub mod Stands
