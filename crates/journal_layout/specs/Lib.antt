@@ -14,8 +14,10 @@ pub mod PinLaws
 pub mod Reading
 pub mod Record
 pub mod RowLaws
+pub mod RunBytesLaws
 pub mod Soundness
 pub mod SpareLaws
 pub mod SpellLaws
 pub mod Standing
 pub mod Stands
+pub mod StoreLaws

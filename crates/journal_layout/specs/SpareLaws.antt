@@ -97,7 +97,7 @@ run_within limit used r rest some spare =
     omega arith
 
 -- spare blocks stay spare behind the first run
-spare_rest : (limit : ℕ) (used : List ℕ) (r : Run) (rest : List Run) → AreSpare limit used (blocks_of (r ∷ rest)) → AreSpare limit (used ++ run_blocks r) (blocks_of rest)
+pub spare_rest : (limit : ℕ) (used : List ℕ) (r : Run) (rest : List Run) → AreSpare limit used (blocks_of (r ∷ rest)) → AreSpare limit (used ++ run_blocks r) (blocks_of rest)
 spare_rest limit used r rest spare k some =
     let whole = uses-append k (run_blocks r) (blocks_of rest) in
     let h = spare k (omega arith) in
