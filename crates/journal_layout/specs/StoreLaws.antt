@@ -1,8 +1,8 @@
 -- Laws of the record Store.
-use Rattle.std.proofs.Common.{◌≡◌, ◌≢◌, ◌⊎◌, inl, inr, ⊎_elim, ℕ, zero, suc, ◌+◌, ◌-◌, ◌*◌, ◌^◌, ◌<◌, ◌≤◌, Bool, true, false, not, nat_lt, nat_le, nat_eq, ◌==◌, ◌||◌, ◌&&◌, List, [], ◌∷◌, ◌++◌, length, replicate, take, drop, slice_index, refl, sym, ap, ◌∙◌, subst, arith, None, Some, Option, cond, append_assoc}
+use Rattle.std.proofs.Common.{◌≡◌, ◌≢◌, ◌⊎◌, inl, inr, ⊎_elim, ℕ, ◌+◌, ◌-◌, ◌*◌, ◌^◌, ◌<◌, ◌≤◌, Bool, true, false, not, nat_eq, ◌==◌, ◌&&◌, List, [], ◌∷◌, ◌++◌, length, replicate, take, drop, slice_index, refl, sym, ap, ◌∙◌, arith, None, cond, append_assoc}
 use Rattle.std.proofs.lemmas.List.{drop-drop, length-drop, take_at, drop_at}
-use Rattle.std.proofs.lemmas.Bool.{or_parts, or_from, not-false, not-true, not_from_true, not_from_false, and_cases, and_left, and_right, le-ltb, ltb-false, eq-eqb, eqb-true, ne_eqb, eqb-false}
-use Rattle.std.specs.Option.{option_or, option_map}
+use Rattle.std.proofs.lemmas.Bool.{or_parts, or_from, not-false, not_from_true, and_cases, and_left, and_right, le-ltb, ltb-false, eq-eqb, eqb-true, ne_eqb, eqb-false}
+use Rattle.std.specs.Option.{option_or}
 use Rattle.std.specs.List.{AllByRecursion, flat_map, list_any}
 use Rattle.disk_model.specs.Places.{AreBytes, part}
 use Rattle.disk_model.specs.PlaceLaws.{drop_bytes}
@@ -14,10 +14,10 @@ use Rattle.journal_layout.specs.declared.entry.Kind.TheVariants.{Core, Exec}
 use Rattle.journal_layout.specs.declared.faults.Field.TheVariants as named
 use Rattle.journal_layout.specs.Layout.{number_bytes, field}
 use Rattle.journal_layout.specs.Case.{Case}
-use Rattle.journal_layout.specs.Record.{Record, Store, Drop, Pin, Next, rounded, kind_byte, flag_byte, run_bytes, store_facts, plain_size, record_size, body, plain, behind_gate, spelling}
+use Rattle.journal_layout.specs.Record.{Store, Drop, Pin, Next, rounded, kind_byte, flag_byte, run_bytes, store_facts, plain_size, record_size, body, plain, behind_gate, spelling}
 use Rattle.journal_layout.specs.Reading.{kind_at, length_at, name_length_at, run_count_at, runs_at, store_runs, name_place, name_at, kind_of_byte, case_at, drop_seqs, record_at}
 use Rattle.journal_layout.specs.Folding.{Folded, is_among, is_name_of, used_blocks}
-use Rattle.journal_layout.specs.Soundness.{IsSound, IsStorable, IsName, AreSpare, blocks_for}
+use Rattle.journal_layout.specs.Soundness.{IsSound, AreSpare, blocks_for}
 use Rattle.journal_layout.specs.Checks.{damaged, first_failing, store_checks, name_checks, first_bad_run, runs_fault, block_count, next_checks, store_fault, drop_fault, pin_fault, padding_fault, body_fault, record_fault}
 use Rattle.journal_layout.specs.Stands.{StandsFirst}
 use Rattle.journal_layout.specs.ByteLaws.{number_read, field_spelled, field_small}
@@ -273,3 +273,133 @@ store_again limit at c tail f low small room sound =
       (same_case _ _ _ _ _ _ _ _ _ _ _ _ _ _ _ _ _ _ seq (ap kind_of_byte kind ∙ kind_back c.kind) name (tells_pid c tail fine.pid) (tells_signal c tail fine.signal) (tells_time c tail fine.time)
       (ap (λ (n : ℕ). n == 1) pinned ∙ flag_back c.pinned) len (ap blocks_of runs ∙ blocks_back c.blocks))
     )
+
+joined : (a b c x y z : List ℕ) → a ≡ x → b ≡ y → c ≡ z → (a ++ b) ++ c ≡ (x ++ y) ++ z
+joined a b c x y z e f g = cc
+
+-- What bytes tell that pass the checks of a Store.
+module _ (rest : List ℕ) (f : Folded) (are : AreBytes rest) (head : HasHead rest) (facts : HasFacts rest f) where
+  -- the places of the record up to its padding lie in the bytes
+  within : 48 + 8 * run_count_at rest + name_length_at rest ≤ length rest
+  within =
+      let room = head.room in
+      let long = facts.long in
+      omega (arith, rounded_up (48 + 8 * run_count_at rest + name_length_at rest))
+
+  runs_counted : length (store_runs rest) ≡ run_count_at rest
+  runs_counted = length-runs_at (drop 48 rest) (run_count_at rest)
+
+  name_counted : length (name_at rest) ≡ name_length_at rest
+  name_counted = part_length rest (name_place rest) (name_length_at rest) within
+
+  flags_spelled : part rest 12 2 ≡ kind_byte (kind_of_byte (slice_index rest 12)) ∷ flag_byte (slice_index rest 13 == 1) ∷ []
+  flags_spelled =
+      part_split rest 12 1 1
+      ∙ ap (λ (l : List ℕ). l ++ part rest 13 1) (byte_part rest 12 (omega (arith, within)) ∙ ap (λ (n : ℕ). n ∷ []) (sym (kind_found (slice_index rest 12) facts.kind)))
+      ∙ ap (λ (l : List ℕ). kind_byte (kind_of_byte (slice_index rest 12)) ∷ l) (byte_part rest 13 (omega (arith, within)) ∙ ap (λ (n : ℕ). n ∷ []) (sym (flag_found (slice_index rest 13) facts.pinned)))
+
+  zero_spelled : part rest 44 4 ≡ replicate 4 0
+  unfolding number_bytes
+  zero_spelled = sym (field_spelled 4 44 rest are (omega (arith, within))) ∙ ap (number_bytes 4) facts.reserved
+
+  facts_split : part rest 8 40
+      ≡ part rest 8 4 ++ part rest 12 2 ++ part rest 14 2 ++ part rest 16 4 ++ part rest 20 4 ++ part rest 24 8 ++ part rest 32 8 ++ part rest 40 4 ++ part rest 44 4
+  facts_split =
+      part_split rest 8 36 4
+      ∙ ap (λ (l : List ℕ). l ++ part rest 44 4) (part_split rest 8 32 4
+      ∙ ap (λ (l : List ℕ). l ++ part rest 40 4) (part_split rest 8 24 8
+      ∙ ap (λ (l : List ℕ). l ++ part rest 32 8) (part_split rest 8 16 8
+      ∙ ap (λ (l : List ℕ). l ++ part rest 24 8) (part_split rest 8 12 4
+      ∙ ap (λ (l : List ℕ). l ++ part rest 20 4) (part_split rest 8 8 4
+      ∙ ap (λ (l : List ℕ). l ++ part rest 16 4) (part_split rest 8 6 2
+      ∙ ap (λ (l : List ℕ). l ++ part rest 14 2) (part_split rest 8 4 2)))))))
+
+  facts_spelled : runs_of (blocks_of (store_runs rest)) ≡ store_runs rest → part rest 8 40 ≡ store_facts (case_at rest)
+  unfolding store_facts
+  facts_spelled same =
+      let a = field_spelled 4 8 rest are (omega (arith, within)) in
+      let b = flags_spelled in
+      let c = field_spelled 2 14 rest are (omega (arith, within)) in
+      let c2 : number_bytes 2 (length (name_at rest)) ≡ number_bytes 2 (name_length_at rest) = ap (number_bytes 2) name_counted in
+      let d = field_spelled 4 16 rest are (omega (arith, within)) in
+      let e = field_spelled 4 20 rest are (omega (arith, within)) in
+      let g = field_spelled 8 24 rest are (omega (arith, within)) in
+      let h = field_spelled 8 32 rest are (omega (arith, within)) in
+      let i = field_spelled 4 40 rest are (omega (arith, within)) in
+      let i2 : number_bytes 4 (length (runs_of (blocks_of (store_runs rest)))) ≡ number_bytes 4 (run_count_at rest) = ap (λ (l : List Run). number_bytes 4 (length l)) same ∙ ap (number_bytes 4) runs_counted in
+      facts_split
+      ∙ put_facts (part rest 8 4) (part rest 12 2) (part rest 14 2) (part rest 16 4) (part rest 20 4) (part rest 24 8) (part rest 32 8) (part rest 40 4) (part rest 44 4) _ _ _ _ _ _ _ _ _
+      (sym a) b (sym c ∙ sym c2) (sym d) (sym e) (sym g) (sym h) (sym i ∙ sym i2) zero_spelled
+    where
+      put_facts : (a b c d e g h i j a2 b2 c2 d2 e2 g2 h2 i2 j2 : List ℕ) → a ≡ a2 → b ≡ b2 → c ≡ c2 → d ≡ d2 → e ≡ e2 → g ≡ g2 → h ≡ h2 → i ≡ i2 → j ≡ j2
+          → a ++ b ++ c ++ d ++ e ++ g ++ h ++ i ++ j ≡ a2 ++ b2 ++ c2 ++ d2 ++ e2 ++ g2 ++ h2 ++ i2 ++ j2
+      put_facts a b c d e g h i j a2 b2 c2 d2 e2 g2 h2 i2 j2 p q r s t u v w x = cc
+
+  runs_found : part rest 48 (8 * run_count_at rest) ≡ flat_map run_bytes (store_runs rest)
+  unfolding part
+  runs_found = runs_spelled (run_count_at rest) (drop 48 rest) (drop_bytes 48 rest are) (omega (arith, within, length-drop 48 rest))
+
+  body_spelled : runs_of (blocks_of (store_runs rest)) ≡ store_runs rest → part rest 8 (40 + 8 * run_count_at rest + name_length_at rest) ≡ body (Store (case_at rest))
+  unfolding body
+  body_spelled same =
+      let n = 8 * run_count_at rest in
+      let m = name_length_at rest in
+      let e : 8 + (40 + n) ≡ 48 + n = omega arith in
+      part_split rest 8 (40 + n) m
+      ∙ ap (λ (l : List ℕ). l ++ part rest (8 + (40 + n)) m) (part_split rest 8 40 n)
+      ∙ joined (part rest 8 40) (part rest 48 n) (part rest (8 + (40 + n)) m) (store_facts (case_at rest)) (flat_map run_bytes (runs_of (blocks_of (store_runs rest)))) (name_at rest)
+      (facts_spelled same) (runs_found ∙ ap (flat_map run_bytes) (sym same)) (ap (λ (k : ℕ). part rest k m) e)
+
+-- what is read is in the grammar
+pub store_found : (limit at : ℕ) (rest : List ℕ) (f : Folded) → AreBytes rest → slice_index rest 0 ≡ 165 → HasHead rest → kind_at rest ≡ 1
+    → body_fault limit at rest f ≡ None → StandsFirst limit rest f (Store (case_at rest))
+store_found limit at rest f are open_gate head kind e =
+    let c = case_at rest in
+    let rs = store_runs rest in
+    let checks = first_failing at (store_checks rest f) in
+    let bad = runs_fault limit at rest f in
+    let named_so = first_failing at (name_checks rest f) in
+    let pad = padding_fault at rest (name_place rest + name_length_at rest) in
+    let one = or_none checks (option_or bad (option_or named_so pad)) (sym (store_body limit at rest f kind) ∙ e) in
+    let two = or_none bad (option_or named_so pad) one.1 in
+    let three = or_none named_so pad two.1 in
+    let facts = facts_passed at rest f one.0 in
+    let name = name_passed at rest f three.0 in
+    let good = runs_passed limit (used_blocks f.cases) None 48 rs (map_none (damaged at named.Run) (first_bad_run limit (used_blocks f.cases) None 48 rs) two.0) in
+    let same = shortest_back None rs good.0 in
+    let count = runs_counted rest f are head facts in
+    let name_length = name_counted rest f are head facts in
+    let size : plain_size (Store c) ≡ 48 + 8 * run_count_at rest + name_length_at rest =
+        ap (λ (l : List Run). 48 + 8 * length l + length (name_at rest)) same ∙ ap (λ (n : ℕ). 48 + 8 * n + length (name_at rest)) count ∙ ap (λ (n : ℕ). 48 + 8 * run_count_at rest + n) name_length in
+    let long : length_at rest ≡ record_size (Store c) = facts.long ∙ ap rounded (sym size) in
+    let n = 48 + 8 * run_count_at rest + name_length_at rest in
+    let room = head.room in
+    let exact = facts.long in
+    let up = rounded_up n in
+    record {
+      spelled =
+          put_together rest (Store c) (40 + 8 * run_count_at rest + name_length_at rest) are open_gate head kind long (omega (arith, size)) (body_spelled rest f are head facts same)
+          (ap (λ (k : ℕ). part rest k (rounded k - k)) size
+          ∙ zeros_found at rest n (rounded n) three.1 facts.long up (omega arith)
+          ∙ ap (λ (k : ℕ). replicate (rounded k - k) 0) (sym size));
+      room = omega (arith, long);
+      sound = (
+        facts.next,
+        field_small rest 8 4 are,
+        record {
+          name = record {
+            some = rw name_length facts.some_name;
+            short = rw name_length facts.short_name;
+            bytes = part_bytes rest (name_place rest) (name_length_at rest) are;
+            no_nul = nul_passed (name_at rest) name.no_nul;
+          };
+          new_name = name.new_name;
+          pid = field_small rest 16 4 are;
+          signal = field_small rest 20 4 are;
+          time = field_small rest 24 8 are;
+          bytes = field_small rest 32 8 are;
+          enough = blocks_counted rs ∙ name.enough;
+          spare = good.1;
+        }
+      );
+    }
