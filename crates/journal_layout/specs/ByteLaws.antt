@@ -58,8 +58,8 @@ same_number (suc w) (x ∷ xs) (y ∷ ys) a b l m e =
     let first : x ≡ y = omega arith in
     let behind : little_from 1 w (x ∷ xs) ≡ little_from 1 w (y ∷ ys) = omega arith in
     let rest : xs ≡ ys =
-        same_number w xs ys (λ k. a (suc k)) (λ k. b (suc k)) (omega (arith, l)) (omega (arith, m))
-        (sym (little_from-cons 0 w x xs) ∙ behind ∙ little_from-cons 0 w y ys) in
+    same_number w xs ys (λ k. a (suc k)) (λ k. b (suc k)) (omega (arith, l)) (omega (arith, m))
+    (sym (little_from-cons 0 w x xs) ∙ behind ∙ little_from-cons 0 w y ys) in
     ap (λ (z : ℕ). z ∷ xs) first ∙ ap (λ (zs : List ℕ). y ∷ zs) rest
 
 -- a number that is read was written so

@@ -13,6 +13,7 @@ pub mod NextLaws
 pub mod PinLaws
 pub mod Reading
 pub mod Record
+pub mod RecordLaws
 pub mod RowLaws
 pub mod RunBytesLaws
 pub mod Soundness

@@ -64,35 +64,36 @@ pin_again limit at seq flag tail f room sound =
     let b = spelling (Pin seq flag) ++ tail in
     let told = tells_seq seq flag tail sound.0 in
     let set = tells_flag seq flag tail in
-    let live : IsPinnable f.cases (field b 8 4) = rw told sound.1 in
-    (
+    let live : IsPinnable f.cases (field b 8 4) = rw told sound.1 in (
       record_passes limit at b f (tells_head (Pin seq flag) tail (omega arith) room)
-      (pin_body limit at b f (tells_kind (Pin seq flag) tail)
-      ∙ none_or (first_failing at (pin_checks b f)) (padding_fault at b 13)
-      (pin_passes at b f (tells_length (Pin seq flag) tail (omega arith)) live (rw set (flag_short flag)))
-      (tells_zeros (Pin seq flag) tail at (omega arith))),
+          (pin_body limit at b f (tells_kind (Pin seq flag) tail)
+          ∙ none_or (first_failing at (pin_checks b f)) (padding_fault at b 13)
+          (pin_passes at b f (tells_length (Pin seq flag) tail (omega arith)) live (rw set (flag_short flag)))
+          (tells_zeros (Pin seq flag) tail at (omega arith))),
       pin_is b (tells_kind (Pin seq flag) tail)
-      ∙ ap (λ (m : ℕ). Pin m (slice_index b 12 == 1)) told
-      ∙ ap (λ (t : Bool). Pin seq t) (ap (λ (m : ℕ). m == 1) set ∙ flag_back flag)
+          ∙ ap (λ (m : ℕ). Pin m (slice_index b 12 == 1)) told
+          ∙ ap (λ (t : Bool). Pin seq t) (ap (λ (m : ℕ). m == 1) set ∙ flag_back flag),
     )
 
 -- what is read is in the grammar
 pub pin_found : (limit at : ℕ) (rest : List ℕ) (f : Folded) → AreBytes rest → slice_index rest 0 ≡ 165 → HasHead rest → kind_at rest ≡ 3
-    → body_fault limit at rest f ≡ None → StandsFirst limit rest f (Pin (field rest 8 4) (slice_index rest 12 == 1))
+    → body_fault limit at rest f ≡ None → StandsFirst limit rest f (Pin (field rest 8 4) (slice_index rest 12 == 1)) × (record_size (Pin (field rest 8 4) (slice_index rest 12 == 1)) ≡ length_at rest)
 unfolding body
 pin_found limit at rest f are open_gate head kind e =
     let both = or_none (first_failing at (pin_checks rest f)) (padding_fault at rest 13) (sym (pin_body limit at rest f kind) ∙ e) in
     let h = pin_passed at rest f both.0 in
     let r = Pin (field rest 8 4) (slice_index rest 12 == 1) in
-    let enough = head.enough in
-    record {
-      spelled =
-          put_together rest r 5 are open_gate head kind h.0 refl
-          (part_split rest 8 4 1
-          ∙ ap (λ (l : List ℕ). l ++ part rest 12 1) (sym (field_spelled 4 8 rest are (omega arith)))
-          ∙ ap (λ (l : List ℕ). number_bytes 4 (field rest 8 4) ++ l)
-          (byte_part rest 12 (omega arith) ∙ ap (λ (m : ℕ). m ∷ []) (sym (flag_found (slice_index rest 12) h.2))))
-          (zeros_found at rest 13 16 both.1 h.0 (omega arith) (omega arith));
-      room = omega (arith, head.room);
-      sound = (field_small rest 8 4 are, h.1);
-    }
+    let enough = head.enough in (
+      record {
+        spelled =
+            put_together rest r 5 are open_gate head kind h.0 refl
+            (part_split rest 8 4 1
+            ∙ ap (λ (l : List ℕ). l ++ part rest 12 1) (sym (field_spelled 4 8 rest are (omega arith)))
+            ∙ ap (λ (l : List ℕ). number_bytes 4 (field rest 8 4) ++ l)
+            (byte_part rest 12 (omega arith) ∙ ap (λ (m : ℕ). m ∷ []) (sym (flag_found (slice_index rest 12) h.2))))
+            (zeros_found at rest 13 16 both.1 h.0 (omega arith) (omega arith));
+        room = omega (arith, head.room);
+        sound = (field_small rest 8 4 are, h.1);
+      },
+      sym h.0,
+    )

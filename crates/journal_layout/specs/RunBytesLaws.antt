@@ -40,9 +40,9 @@ runs_spelled zero b are within = refl
 runs_spelled (suc n) b are within =
     let e : 8 * suc n ≡ 8 + 8 * n = omega arith in
     let front : take 8 b ≡ number_bytes 4 (field b 0 4) ++ number_bytes 4 (field b 4 4) =
-        take-add 4 4 b
-        ∙ ap (λ (l : List ℕ). l ++ take 4 (drop 4 b)) (sym (field_spelled 4 0 b are (omega arith)))
-        ∙ ap (λ (l : List ℕ). number_bytes 4 (field b 0 4) ++ l) (sym (field_spelled 4 4 b are (omega arith))) in
+    take-add 4 4 b
+    ∙ ap (λ (l : List ℕ). l ++ take 4 (drop 4 b)) (sym (field_spelled 4 0 b are (omega arith)))
+    ∙ ap (λ (l : List ℕ). number_bytes 4 (field b 0 4) ++ l) (sym (field_spelled 4 4 b are (omega arith))) in
     ap (λ (m : ℕ). take m b) e
     ∙ take-add 8 (8 * n) b
     ∙ ap (λ (l : List ℕ). l ++ take (8 * n) (drop 8 b)) front

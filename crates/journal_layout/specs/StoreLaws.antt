@@ -261,17 +261,16 @@ store_again limit at c tail f low small room sound =
       new_name = ap (is_name_of f.cases) name ∙ fine.new_name;
     } in
     let good : first_bad_run limit (used_blocks f.cases) None 48 (store_runs b) ≡ None = ap (first_bad_run limit (used_blocks f.cases) None 48) runs ∙ runs_pass limit (used_blocks f.cases) None 48 rs chain spare in
-    let padded : padding_fault at b (name_place b + name_length_at b) ≡ None = ap (padding_fault at b) size ∙ tells_zeros (Store c) tail at small in
-    (
+    let padded : padding_fault at b (name_place b + name_length_at b) ≡ None = ap (padding_fault at b) size ∙ tells_zeros (Store c) tail at small in (
       record_passes limit at b f (tells_head (Store c) tail small room)
-      (store_body limit at b f (tells_kind (Store c) tail)
-      ∙ none_or (first_failing at (store_checks b f)) _ (facts_pass at b f facts)
-      (none_or (runs_fault limit at b f) _ (none_map (damaged at named.Run) (first_bad_run limit (used_blocks f.cases) None 48 (store_runs b)) good)
-      (none_or (first_failing at (name_checks b f)) (padding_fault at b (name_place b + name_length_at b)) (name_passes at b f behind) padded))),
+          (store_body limit at b f (tells_kind (Store c) tail)
+          ∙ none_or (first_failing at (store_checks b f)) _ (facts_pass at b f facts)
+          (none_or (runs_fault limit at b f) _ (none_map (damaged at named.Run) (first_bad_run limit (used_blocks f.cases) None 48 (store_runs b)) good)
+          (none_or (first_failing at (name_checks b f)) (padding_fault at b (name_place b + name_length_at b)) (name_passes at b f behind) padded))),
       store_is b (tells_kind (Store c) tail)
-      ∙ ap (λ (x : Case). Store x)
-      (same_case _ _ _ _ _ _ _ _ _ _ _ _ _ _ _ _ _ _ seq (ap kind_of_byte kind ∙ kind_back c.kind) name (tells_pid c tail fine.pid) (tells_signal c tail fine.signal) (tells_time c tail fine.time)
-      (ap (λ (n : ℕ). n == 1) pinned ∙ flag_back c.pinned) len (ap blocks_of runs ∙ blocks_back c.blocks))
+          ∙ ap (λ (x : Case). Store x)
+          (same_case _ _ _ _ _ _ _ _ _ _ _ _ _ _ _ _ _ _ seq (ap kind_of_byte kind ∙ kind_back c.kind) name (tells_pid c tail fine.pid) (tells_signal c tail fine.signal) (tells_time c tail fine.time)
+          (ap (λ (n : ℕ). n == 1) pinned ∙ flag_back c.pinned) len (ap blocks_of runs ∙ blocks_back c.blocks)),
     )
 
 joined : (a b c x y z : List ℕ) → a ≡ x → b ≡ y → c ≡ z → (a ++ b) ++ c ≡ (x ++ y) ++ z
@@ -352,7 +351,7 @@ module _ (rest : List ℕ) (f : Folded) (are : AreBytes rest) (head : HasHead re
 
 -- what is read is in the grammar
 pub store_found : (limit at : ℕ) (rest : List ℕ) (f : Folded) → AreBytes rest → slice_index rest 0 ≡ 165 → HasHead rest → kind_at rest ≡ 1
-    → body_fault limit at rest f ≡ None → StandsFirst limit rest f (Store (case_at rest))
+    → body_fault limit at rest f ≡ None → StandsFirst limit rest f (Store (case_at rest)) × (record_size (Store (case_at rest)) ≡ length_at rest)
 store_found limit at rest f are open_gate head kind e =
     let c = case_at rest in
     let rs = store_runs rest in
@@ -370,36 +369,38 @@ store_found limit at rest f are open_gate head kind e =
     let count = runs_counted rest f are head facts in
     let name_length = name_counted rest f are head facts in
     let size : plain_size (Store c) ≡ 48 + 8 * run_count_at rest + name_length_at rest =
-        ap (λ (l : List Run). 48 + 8 * length l + length (name_at rest)) same ∙ ap (λ (n : ℕ). 48 + 8 * n + length (name_at rest)) count ∙ ap (λ (n : ℕ). 48 + 8 * run_count_at rest + n) name_length in
+    ap (λ (l : List Run). 48 + 8 * length l + length (name_at rest)) same ∙ ap (λ (n : ℕ). 48 + 8 * n + length (name_at rest)) count ∙ ap (λ (n : ℕ). 48 + 8 * run_count_at rest + n) name_length in
     let long : length_at rest ≡ record_size (Store c) = facts.long ∙ ap rounded (sym size) in
     let n = 48 + 8 * run_count_at rest + name_length_at rest in
     let room = head.room in
     let exact = facts.long in
-    let up = rounded_up n in
-    record {
-      spelled =
-          put_together rest (Store c) (40 + 8 * run_count_at rest + name_length_at rest) are open_gate head kind long (omega (arith, size)) (body_spelled rest f are head facts same)
-          (ap (λ (k : ℕ). part rest k (rounded k - k)) size
-          ∙ zeros_found at rest n (rounded n) three.1 facts.long up (omega arith)
-          ∙ ap (λ (k : ℕ). replicate (rounded k - k) 0) (sym size));
-      room = omega (arith, long);
-      sound = (
-        facts.next,
-        field_small rest 8 4 are,
-        record {
-          name = record {
-            some = rw name_length facts.some_name;
-            short = rw name_length facts.short_name;
-            bytes = part_bytes rest (name_place rest) (name_length_at rest) are;
-            no_nul = nul_passed (name_at rest) name.no_nul;
-          };
-          new_name = name.new_name;
-          pid = field_small rest 16 4 are;
-          signal = field_small rest 20 4 are;
-          time = field_small rest 24 8 are;
-          bytes = field_small rest 32 8 are;
-          enough = blocks_counted rs ∙ name.enough;
-          spare = good.1;
-        }
-      );
-    }
+    let up = rounded_up n in (
+      record {
+        spelled =
+            put_together rest (Store c) (40 + 8 * run_count_at rest + name_length_at rest) are open_gate head kind long (omega (arith, size)) (body_spelled rest f are head facts same)
+            (ap (λ (k : ℕ). part rest k (rounded k - k)) size
+            ∙ zeros_found at rest n (rounded n) three.1 facts.long up (omega arith)
+            ∙ ap (λ (k : ℕ). replicate (rounded k - k) 0) (sym size));
+        room = omega (arith, long);
+        sound = (
+          facts.next,
+          field_small rest 8 4 are,
+          record {
+            name = record {
+              some = rw name_length facts.some_name;
+              short = rw name_length facts.short_name;
+              bytes = part_bytes rest (name_place rest) (name_length_at rest) are;
+              no_nul = nul_passed (name_at rest) name.no_nul;
+            };
+            new_name = name.new_name;
+            pid = field_small rest 16 4 are;
+            signal = field_small rest 20 4 are;
+            time = field_small rest 24 8 are;
+            bytes = field_small rest 32 8 are;
+            enough = blocks_counted rs ∙ name.enough;
+            spare = good.1;
+          },
+        );
+      },
+      sym long,
+    )
