@@ -12,6 +12,7 @@ pub mod Layout
 pub mod NextLaws
 pub mod PinLaws
 pub mod Reading
+pub mod ReadingLaws
 pub mod Record
 pub mod RecordLaws
 pub mod RowLaws
