@@ -8,6 +8,7 @@ pub mod FieldNames
 pub mod Folding
 pub mod FoundLaws
 pub mod Front
+pub mod Grammar
 pub mod Layout
 pub mod NextLaws
 pub mod PinLaws

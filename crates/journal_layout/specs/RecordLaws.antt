@@ -7,18 +7,13 @@ use Rattle.journal_layout.specs.Folding.{Folded}
 use Rattle.journal_layout.specs.Soundness.{IsSound}
 use Rattle.journal_layout.specs.Checks.{record_fault}
 use Rattle.journal_layout.specs.Stands.{StandsFirst}
+use Rattle.journal_layout.specs.Grammar.{IsToldBy}
 use Rattle.journal_layout.specs.SpellLaws.{as_spelled}
 use Rattle.journal_layout.specs.FoundLaws.{record_passed}
 use Rattle.journal_layout.specs.NextLaws.{next_again, next_found, next_is}
 use Rattle.journal_layout.specs.PinLaws.{pin_again, pin_found, pin_is}
 use Rattle.journal_layout.specs.DropLaws.{drop_again, drop_found, drop_is}
 use Rattle.journal_layout.specs.StoreLaws.{store_again, store_found, store_is}
-
--- the bytes tell this record: no check of it fails, and it is what they say
-pub record IsToldBy (limit at : ℕ) (rest : List ℕ) (f : Folded) (r : Record) : Type 0 where
-  pub opened : slice_index rest 0 ≡ 165
-  pub faultless : record_fault limit at rest f ≡ None
-  pub is : record_at rest ≡ r
 
 again_at : (limit at : ℕ) (r : Record) (tail : List ℕ) (f : Folded) → limit ≤ 16777216 → record_size r < 2 ^ 32 → record_size r + 1 ≤ length (spelling r ++ tail) → IsSound limit f r
     → (record_fault limit at (spelling r ++ tail) f ≡ None) × (record_at (spelling r ++ tail) ≡ r)
@@ -48,8 +43,8 @@ kinds (suc (suc (suc (suc (suc k))))) low high = absurd (omega arith)
 abbrev IsFoundAs : ℕ → List ℕ → Folded → Record → Type 0
 IsFoundAs limit rest f r = StandsFirst limit rest f r × (record_size r ≡ length_at rest)
 
-found_at : (limit at : ℕ) (rest : List ℕ) (f : Folded) → AreBytes rest → slice_index rest 0 ≡ 165 → record_fault limit at rest f ≡ None → IsFoundAs limit rest f (record_at rest)
-found_at limit at rest f are opened e =
+pub record_told : (limit at : ℕ) (rest : List ℕ) (f : Folded) → AreBytes rest → slice_index rest 0 ≡ 165 → record_fault limit at rest f ≡ None → IsFoundAs limit rest f (record_at rest)
+record_told limit at rest f are opened e =
     let parts = record_passed limit at rest f e in
     let head = parts.0 in
     let body = parts.1 in
@@ -62,11 +57,11 @@ found_at limit at rest f are opened e =
 
 -- what is read is in the grammar
 pub record_found : (limit at : ℕ) (rest : List ℕ) (f : Folded) → AreBytes rest → slice_index rest 0 ≡ 165 → record_fault limit at rest f ≡ None → StandsFirst limit rest f (record_at rest)
-record_found limit at rest f are opened e = (found_at limit at rest f are opened e).0
+record_found limit at rest f are opened e = (record_told limit at rest f are opened e).0
 
 -- and is as long as it says
 pub size_found : (limit at : ℕ) (rest : List ℕ) (f : Folded) → AreBytes rest → slice_index rest 0 ≡ 165 → record_fault limit at rest f ≡ None → record_size (record_at rest) ≡ length_at rest
-size_found limit at rest f are opened e = (found_at limit at rest f are opened e).1
+size_found limit at rest f are opened e = (record_told limit at rest f are opened e).1
 
 -- no record's spelling begins another's, and a record has one spelling
 pub one_record : (limit : ℕ) (bytes : List ℕ) (f g : Folded) (r s : Record) → limit ≤ 16777216 → length bytes ≤ 2 ^ 32 → StandsFirst limit bytes f r → StandsFirst limit bytes g s → r ≡ s
