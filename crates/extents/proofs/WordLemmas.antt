@@ -1,15 +1,15 @@
 -- Flags in words of 64 bits.
-use Rattle.std.proofs.Common.{◌≡◌, ◌≢◌, ◌⊎◌, inl, inr, ⊎_elim, ℕ, ◌+◌, ◌-◌, ◌*◌, ◌/◌, ◌%◌, ◌^◌, ◌<◌, ◌≤◌, Bool, true, false, not, cond, List, [], ◌∷◌, ◌++◌, length, get_or, set, replicate, refl, sym, ap, subst, ◌∙◌, arith, zero, suc}
-use Rattle.std.proofs.lemmas.List.{get_or-set_same, get_or-set_other, length-set, length-replicate, get_or-replicate}
-use Rattle.std.proofs.lemmas.Bool.{cases_lt, cases_eq, eq-eqb, ne_eqb}
-use Rattle.std.proofs.Math.Dec.{leb, ltb, eqb}
-use Rattle.std.specs.Int.{bit_at, bit_not, w64}
+use Rattle.std.proofs.Common.{◌≡◌, ◌≢◌, inl, inr, ℕ, ◌+◌, ◌-◌, ◌*◌, ◌/◌, ◌%◌, ◌^◌, ◌<◌, ◌≤◌, Bool, true, false, List, length, get_or, set, replicate, refl, sym, ap, subst, ◌∙◌, arith}
+use Rattle.std.proofs.lemmas.List.{get_or-set_same, get_or-set_other, length-set, length-replicate, get_or-replicate, get_or_read}
+use Rattle.std.proofs.lemmas.Bool.{cases_lt, cases_eq}
+use Rattle.std.proofs.Math.Dec.{eqb}
+use Rattle.std.specs.Int.{bit_at, bit_not, w64, trailing_zeros}
 use Rattle.std.proofs.Common.{bit_and, bit_or, min}
 use mir.Val.{bits}
-use Rattle.std.proofs.lemmas.Nat.Bits.{bit_at_clear_same, bit_at_clear_other, bit_at_set_same, bit_at_set_other}
-use Rattle.extents.specs.FreeSet.{is_free, free_count, flags_by, without, with_blocks, AllFree, AllUsed}
-use Rattle.extents.specs.FreeWords.{bit_of, flags_of, IsMap}
-use Rattle.extents.specs.FreeLaws.{length_flags_by, flag_below, same_flags, free_below, run_of, without_more, with_more, count_without, count_with_run, free_without, free_with_other, uses_outside, count_no_more, length_with}
+use Rattle.std.proofs.lemmas.Nat.Bits.{bit_at-zero, bit_at-trailing_zeros, bit_at_ones, bit_at_clear_same, bit_at_clear_other, bit_at_set_same, bit_at_set_other}
+use Rattle.extents.specs.FreeSet.{is_free, free_count, without, with_blocks, AllFree, AllUsed, NoneFree}
+use Rattle.extents.specs.FreeWords.{bit_of, flags_of, IsMap, IsFirstInUse}
+use Rattle.extents.specs.FreeLaws.{length_flags_by, flag_below, same_flags, run_of, without_more, with_more, count_without, count_with_run, free_without, free_with_other, uses_outside, count_no_more, length_with, flag_past, all_free, count_all}
 use Rattle.extents.specs.Runs.{run_blocks}
 use Rattle.extents.specs.declared.run_list.Run.{Run}
 
@@ -33,28 +33,28 @@ one_changed words n b word t fits enough here others =
     let longer : length (flags_of new n) ≡ n = length_flags_of new n in
     let place : b / 64 < length words = omega arith in
     same_flags (flags_of new n) (set old b t) (longer ∙ sym (length-set old b t ∙ long)) (λ k below.
-      let within : k < n = omega arith in
-      flag_of new n k within
-      ∙ elim (cases_eq (k / 64) (b / 64)) as (λ _. eqb (bit_of new k) 1 ≡ is_free (set old b t) k) [
-          | inl row ↦ (
-              let e : get_or new (k / 64) 0 ≡ word = ap (λ j. get_or new j 0) row ∙ get_or-set_same words (b / 64) word 0 place in
-              elim (cases_eq (k % 64) (b % 64)) as (λ _. eqb (bit_of new k) 1 ≡ is_free (set old b t) k) [
-                | inl column ↦ (
-                    let same : k ≡ b = omega arith in
-                    ap (λ w. eqb (bit_at w (k % 64)) 1) e ∙ ap (λ j. eqb (bit_at word j) 1) column ∙ here
-                    ∙ sym (ap (is_free (set old b t)) same ∙ get_or-set_same old b t false (omega arith)))
-                | inr column ↦ (
-                    let other : k ≢ b = λ same. column (ap (λ j. j % 64) same) in
-                    ap (λ w. eqb (bit_at w (k % 64)) 1) e
-                    ∙ ap (λ v. eqb v 1) (others (k % 64) (omega arith) column)
-                    ∙ ap (λ j. eqb (bit_at (get_or words j 0) (k % 64)) 1) (sym row)
-                    ∙ sym (get_or-set_other old b k t false other ∙ flag_of words n k within))
-              ])
-          | inr row ↦ (
-              let other : k ≢ b = λ same. row (ap (λ j. j / 64) same) in
-              ap (λ w. eqb (bit_at w (k % 64)) 1) (get_or-set_other words (b / 64) (k / 64) word 0 row)
-              ∙ sym (get_or-set_other old b k t false other ∙ flag_of words n k within))
-        ])
+    let within : k < n = omega arith in
+    flag_of new n k within
+    ∙ elim (cases_eq (k / 64) (b / 64)) as (λ _. eqb (bit_of new k) 1 ≡ is_free (set old b t) k) [
+      | inl row ↦ (
+          let e : get_or new (k / 64) 0 ≡ word = ap (λ j. get_or new j 0) row ∙ get_or-set_same words (b / 64) word 0 place in
+          elim (cases_eq (k % 64) (b % 64)) as (λ _. eqb (bit_of new k) 1 ≡ is_free (set old b t) k) [
+            | inl column ↦ (
+                let same : k ≡ b = omega arith in
+                ap (λ w. eqb (bit_at w (k % 64)) 1) e ∙ ap (λ j. eqb (bit_at word j) 1) column ∙ here
+                ∙ sym (ap (is_free (set old b t)) same ∙ get_or-set_same old b t false (omega arith)))
+            | inr column ↦ (
+                let other : k ≢ b = λ same. column (ap (λ j. j % 64) same) in
+                ap (λ w. eqb (bit_at w (k % 64)) 1) e
+                ∙ ap (λ v. eqb v 1) (others (k % 64) (omega arith) column)
+                ∙ ap (λ j. eqb (bit_at (get_or words j 0) (k % 64)) 1) (sym row)
+                ∙ sym (get_or-set_other old b k t false other ∙ flag_of words n k within))
+          ])
+      | inr row ↦ (
+          let other : k ≢ b = λ same. row (ap (λ j. j / 64) same) in
+          ap (λ w. eqb (bit_at w (k % 64)) 1) (get_or-set_other words (b / 64) (k / 64) word 0 row)
+          ∙ sym (get_or-set_other old b k t false other ∙ flag_of words n k within))
+    ])
 
 -- the place of a block's word
 pub place_of : (words : List ℕ) (n b : ℕ) → b < n → n ≤ 64 * length words → b / 64 < length words
@@ -158,8 +158,15 @@ module _ (words : List ℕ) (n free first : ℕ) (m : IsMap words n free first) 
 
   pub more_counted : AllUsed flags run → free + run.count ≤ 16777216
   more_counted none =
-      omega (arith, m.counted, m.limit, count_with_run (flags_of words n) run (omega (arith, run_below, length_flags_of words n)) (all_used_here none),
-        count_no_more (with_blocks (flags_of words n) (run_blocks run)), length_with (flags_of words n) (run_blocks run), length_flags_of words n)
+      omega (
+        arith,
+        m.counted,
+        m.limit,
+        count_with_run (flags_of words n) run (omega (arith, run_below, length_flags_of words n)) (all_used_here none),
+        count_no_more (with_blocks (flags_of words n) (run_blocks run)),
+        length_with (flags_of words n) (run_blocks run),
+        length_flags_of words n,
+      )
 
   -- The words are lent, changed and put back.
   module _ (lent new put : List ℕ) (same : lent ≡ words) (long : length new ≡ length lent) (is : put ≡ new) where
@@ -190,3 +197,98 @@ module _ (words : List ℕ) (n free first : ℕ) (m : IsMap words n free first) 
       is_map_with none lower e =
           let P : ℕ → Type 0 = λ k. IsMap put n (free + run.count) k in
           subst P (sym e) (map_with words put n free first run m put_long run_below put_with (all_used_here none))
+
+-- The search for the lowest free block.
+module _ (words : List ℕ) (n free first : ℕ) (m : IsMap words n free first) (place : ℕ) (found : IsFirstInUse words first place) where
+  -- none is free in the words that it passed
+  pub skipped : (k : ℕ) → k < 64 * place → is_free (flags_of words n) k ≡ false
+  skipped k before =
+      elim (cases_lt k n) as (λ _. is_free (flags_of words n) k ≡ false) [
+        | inr past ↦ flag_past (flags_of words n) k (omega (arith, length_flags_of words n))
+        | inl below ↦ elim (cases_lt k (64 * first)) as (λ _. is_free (flags_of words n) k ≡ false) [
+          | inl known ↦ m.none_before k known
+          | inr later ↦ (
+              let zero_word : get_or words (k / 64) 0 ≡ 0 = found.zeros (k / 64) (omega arith) (omega arith) in
+              let zero_bit : bit_of words k ≡ 0 = ap (λ w. bit_at w (k % 64)) zero_word ∙ bit_at-zero (k % 64) in
+              flag_of words n k below ∙ ap (λ v. eqb v 1) zero_bit)
+        ]
+      ]
+
+  pub moved_on : IsMap words n free place
+  moved_on = record {
+    limit = m.limit;
+    enough = m.enough;
+    no_more = m.no_more;
+    counted = m.counted;
+    within = found.within;
+    none_before = skipped;
+  }
+
+  pub none_at_all : place ≡ length words → NoneFree (flags_of words n)
+  none_at_all end k =
+      elim (cases_lt k n) as (λ _. is_free (flags_of words n) k ≡ false) [
+        | inl below ↦ skipped k (omega (arith, m.enough))
+        | inr past ↦ flag_past (flags_of words n) k (omega (arith, length_flags_of words n))
+      ]
+
+  -- The word at the place, and the place of its lowest bit.
+  module _ (word : ℕ) (within : place < length words) (is : word ≡ get_or words place word) (fits : word < 2 ^ 64) where
+    is_word : word ≡ get_or words place 0
+    is_word = get_or_read words place word within is 0
+
+    lowest_bit : (trailing_zeros w64 word < bits w64) × (bit_at word (trailing_zeros w64 word) ≡ 1) × ((i : ℕ) → i < trailing_zeros w64 word → bit_at word i ≡ 0)
+    lowest_bit = bit_at-trailing_zeros w64 word (omega (arith, is_word, found.in_use within)) fits
+
+    pub none_below : (k : ℕ) → k < place * 64 + trailing_zeros w64 word → is_free (flags_of words n) k ≡ false
+    none_below k lower =
+        let short = lowest_bit.0 in
+        elim (cases_lt k (64 * place)) as (λ _. is_free (flags_of words n) k ≡ false) [
+          | inl before ↦ skipped k before
+          | inr from ↦ elim (cases_lt k n) as (λ _. is_free (flags_of words n) k ≡ false) [
+            | inr past ↦ flag_past (flags_of words n) k (omega (arith, length_flags_of words n))
+            | inl below ↦ (
+                let row : k / 64 ≡ place = omega arith in
+                let column : k % 64 < trailing_zeros w64 word = omega arith in
+                flag_of words n k below ∙ ap (λ j. eqb (bit_at (get_or words j 0) (k % 64)) 1) row
+                ∙ ap (λ w. eqb (bit_at w (k % 64)) 1) (sym is_word) ∙ ap (λ v. eqb v 1) (lowest_bit.2 (k % 64) column))
+          ]
+        ]
+
+    pub lowest_is_free : place * 64 + trailing_zeros w64 word < n → is_free (flags_of words n) (place * 64 + trailing_zeros w64 word) ≡ true
+    lowest_is_free below =
+        let short = lowest_bit.0 in
+        let k : ℕ = place * 64 + trailing_zeros w64 word in
+        let row : k / 64 ≡ place = omega arith in
+        let column : k % 64 ≡ trailing_zeros w64 word = omega arith in
+        flag_of words n k below ∙ ap (λ j. eqb (bit_at (get_or words j 0) (k % 64)) 1) row
+        ∙ ap (λ w. eqb (bit_at w (k % 64)) 1) (sym is_word) ∙ ap (λ i. eqb (bit_at word i) 1) column ∙ ap (λ v. eqb v 1) lowest_bit.1
+
+    pub none_past : n ≤ place * 64 + trailing_zeros w64 word → NoneFree (flags_of words n)
+    none_past over k =
+        elim (cases_lt k n) as (λ _. is_free (flags_of words n) k ≡ false) [
+          | inl below ↦ none_below k (omega arith)
+          | inr past ↦ flag_past (flags_of words n) k (omega (arith, length_flags_of words n))
+        ]
+
+-- All blocks free at the start.
+pub all_ones : (n count : ℕ) → count ≤ 64 * n → flags_of (replicate n (2 ^ 64 - 1)) count ≡ replicate count true
+all_ones n count enough =
+    let words : List ℕ = replicate n (2 ^ 64 - 1) in
+    same_flags (flags_of words count) (replicate count true) (length_flags_of words count ∙ sym (length-replicate count true)) (λ k below.
+    let within : k < count = omega (arith, length_flags_of words count) in
+    flag_of words count k within
+    ∙ ap (λ w. eqb (bit_at w (k % 64)) 1) (get_or-replicate n (k / 64) (2 ^ 64 - 1) 0 (omega arith))
+    ∙ ap (λ v. eqb v 1) (bit_at_ones 64 (k % 64) (omega arith))
+    ∙ sym (all_free count k within))
+
+pub map_at_start : (words : List ℕ) (n count : ℕ) → words ≡ replicate n (2 ^ 64 - 1) → n ≡ (count + 63) / 64 → count ≤ 16777216 → IsMap words count count 0
+map_at_start words n count is size limit =
+    let long : length words ≡ n = ap length is ∙ length-replicate n (2 ^ 64 - 1) in
+    record {
+      limit = limit;
+      enough = omega arith;
+      no_more = omega arith;
+      counted = sym (ap free_count (ap (λ ws. flags_of ws count) is ∙ all_ones n count (omega arith)) ∙ count_all count);
+      within = omega arith;
+      none_before = λ k before. absurd (omega arith);
+    }

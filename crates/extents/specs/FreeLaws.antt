@@ -1,14 +1,15 @@
 -- Laws of sets of free blocks.
-use Rattle.std.proofs.Common.{◌≡◌, ◌≢◌, ◌⊎◌, inl, inr, ⊎_elim, ℕ, ◌+◌, ◌-◌, ◌<◌, ◌≤◌, Bool, true, false, not, ◌&&◌, ◌||◌, cond, List, [], ◌∷◌, ◌++◌, length, get_or, set, replicate, refl, sym, ap, ◌∙◌, arith, zero, suc}
-use Rattle.std.specs.List.{range_with_len, count_by, sum_by}
-use Rattle.std.proofs.lemmas.List.{ext_get_or, get_or_past, get_or-set_same, get_or-set_other, length-set, length-replicate, get_or-replicate, map-id}
+use Rattle.std.proofs.Common.{◌≡◌, ◌≢◌, ◌⊎◌, inl, inr, ⊎_elim, ℕ, ◌+◌, ◌<◌, ◌≤◌, Bool, true, false, not, ◌&&◌, ◌||◌, cond, List, [], ◌∷◌, ◌++◌, length, set, replicate, refl, sym, ap, ◌∙◌, arith, zero, suc}
+use Rattle.std.specs.List.{range_with_len}
+use Rattle.std.proofs.lemmas.List.{ext_get_or, get_or_past, get_or-set_same, get_or-set_other, length-set, get_or-replicate, map-id}
 use Rattle.std.proofs.lemmas.List.FromFn.{length-map-range_with_len, get_or-map-range_with_len, map-range_with_len_more, length-range_with_len}
 use Rattle.std.proofs.lemmas.List.Sums.{sum_by-cons, sum_by-append, sum_by-set, get_or-le-sum_by, count_by-le-length}
+use Rattle.std.proofs.lemmas.List.Folds.{sum_by-replicate}
 use Rattle.std.proofs.lemmas.Bool.{cases_lt, cases_eq, le-leb, lt-leb, lt-ltb, le-ltb, eq-eqb, ne_eqb}
 use Rattle.std.proofs.Math.Dec.{leb, ltb, eqb}
 use Rattle.extents.specs.declared.run_list.Run.{Run}
-use Rattle.extents.specs.Runs.{run_blocks, blocks_of, runs_of, with_first}
-use Rattle.extents.specs.FreeSet.{is_free, free_count, uses, one_if, is_within, flags_by, without, with_blocks, with_runs, AllFree, AllUsed, NoneFree, AreUsed}
+use Rattle.extents.specs.Runs.{run_blocks}
+use Rattle.extents.specs.FreeSet.{is_free, free_count, uses, one_if, is_within, flags_by, without, with_blocks, AllFree, AllUsed, NoneFree}
 
 -- Lists of flags by a test.
 
@@ -139,10 +140,10 @@ run_of start count = record { start = start; count = count }
 pub without_none : (flags : List Bool) (start : ℕ) → without flags (run_of start 0) ≡ flags
 without_none flags start =
     same_flags (without flags (run_of start 0)) flags (length_without flags (run_of start 0)) (λ k _.
-      elim (cases_lt k start) as (λ _. is_free (without flags (run_of start 0)) k ≡ is_free flags k) [
-        | inl below ↦ free_without_below flags (run_of start 0) k below
-        | inr past ↦ free_without_past flags (run_of start 0) k (omega arith)
-      ])
+    elim (cases_lt k start) as (λ _. is_free (without flags (run_of start 0)) k ≡ is_free flags k) [
+      | inl below ↦ free_without_below flags (run_of start 0) k below
+      | inr past ↦ free_without_past flags (run_of start 0) k (omega arith)
+    ])
 
 pub without_more : (flags : List Bool) (start n : ℕ) → start + n < length flags → without flags (run_of start (n + 1)) ≡ set (without flags (run_of start n)) (start + n) false
 without_more flags start n fits =
@@ -151,20 +152,20 @@ without_more flags start n fits =
     let long : length old ≡ length flags = length_without flags (run_of start n) in
     let longer : length new ≡ length flags = length_without flags (run_of start (n + 1)) in
     same_flags new (set old (start + n) false) (longer ∙ sym (length-set old (start + n) false ∙ long)) (λ k _.
-      elim (cases_eq k (start + n)) as (λ _. is_free new k ≡ is_free (set old (start + n) false) k) [
-        | inl same ↦ free_without_inside flags (run_of start (n + 1)) k (omega arith) (omega arith)
-            ∙ sym (ap (is_free (set old (start + n) false)) same ∙ get_or-set_same old (start + n) false false (omega arith))
-        | inr other ↦ elim (cases_lt k start) as (λ _. is_free new k ≡ is_free (set old (start + n) false) k) [
-            | inl below ↦ free_without_below flags (run_of start (n + 1)) k below
-                ∙ sym (get_or-set_other old (start + n) k false false other ∙ free_without_below flags (run_of start n) k below)
-            | inr from ↦ elim (cases_lt k (start + n)) as (λ _. is_free new k ≡ is_free (set old (start + n) false) k) [
-                | inl inside ↦ free_without_inside flags (run_of start (n + 1)) k from (omega arith)
-                    ∙ sym (get_or-set_other old (start + n) k false false other ∙ free_without_inside flags (run_of start n) k from inside)
-                | inr past ↦ free_without_past flags (run_of start (n + 1)) k (omega (arith, other))
-                    ∙ sym (get_or-set_other old (start + n) k false false other ∙ free_without_past flags (run_of start n) k past)
-              ]
-          ]
-      ])
+    elim (cases_eq k (start + n)) as (λ _. is_free new k ≡ is_free (set old (start + n) false) k) [
+      | inl same ↦ free_without_inside flags (run_of start (n + 1)) k (omega arith) (omega arith)
+          ∙ sym (ap (is_free (set old (start + n) false)) same ∙ get_or-set_same old (start + n) false false (omega arith))
+      | inr other ↦ elim (cases_lt k start) as (λ _. is_free new k ≡ is_free (set old (start + n) false) k) [
+        | inl below ↦ free_without_below flags (run_of start (n + 1)) k below
+            ∙ sym (get_or-set_other old (start + n) k false false other ∙ free_without_below flags (run_of start n) k below)
+        | inr from ↦ elim (cases_lt k (start + n)) as (λ _. is_free new k ≡ is_free (set old (start + n) false) k) [
+          | inl inside ↦ free_without_inside flags (run_of start (n + 1)) k from (omega arith)
+              ∙ sym (get_or-set_other old (start + n) k false false other ∙ free_without_inside flags (run_of start n) k from inside)
+          | inr past ↦ free_without_past flags (run_of start (n + 1)) k (omega (arith, other))
+              ∙ sym (get_or-set_other old (start + n) k false false other ∙ free_without_past flags (run_of start n) k past)
+        ]
+      ]
+    ])
 
 or_false : (t : Bool) → (t || false) ≡ t
 or_false true = refl
@@ -203,23 +204,23 @@ with_append flags first second =
     let e : length mid ≡ length flags = length_with flags first in
     let whole : length (with_blocks mid second) ≡ length flags = length_with mid second ∙ e in
     same_flags (with_blocks mid second) (with_blocks flags (first ++ second)) (whole ∙ sym (length_with flags (first ++ second))) (λ k below.
-      let within : k < length flags = omega arith in
-      free_with mid second k (omega arith)
-      ∙ ap (λ t. t || ltb 0 (uses second k)) (free_with flags first k within)
-      ∙ or_assoc (is_free flags k) (ltb 0 (uses first k)) (ltb 0 (uses second k))
-      ∙ ap (λ t. is_free flags k || t) (test_sum (uses first k) (uses second k) ∙ ap (ltb 0) (sym (uses_append first second k)))
-      ∙ sym (free_with flags (first ++ second) k within))
+    let within : k < length flags = omega arith in
+    free_with mid second k (omega arith)
+    ∙ ap (λ t. t || ltb 0 (uses second k)) (free_with flags first k within)
+    ∙ or_assoc (is_free flags k) (ltb 0 (uses first k)) (ltb 0 (uses second k))
+    ∙ ap (λ t. is_free flags k || t) (test_sum (uses first k) (uses second k) ∙ ap (ltb 0) (sym (uses_append first second k)))
+    ∙ sym (free_with flags (first ++ second) k within))
 
 pub with_one : (flags : List Bool) (b : ℕ) → b < length flags → with_blocks flags (b ∷ []) ≡ set flags b true
 with_one flags b fits =
     same_flags (with_blocks flags (b ∷ [])) (set flags b true) (length_with flags (b ∷ []) ∙ sym (length-set flags b true)) (λ k _.
-      elim (cases_eq b k) as (λ _. is_free (with_blocks flags (b ∷ [])) k ≡ is_free (set flags b true) k) [
-        | inl same ↦ (let one : uses (b ∷ []) k ≡ 1 = uses_cons b [] k ∙ rw (one_use b k same) refl in
-            free_with_these flags (b ∷ []) k (omega arith) (omega arith)
-            ∙ sym (ap (is_free (set flags b true)) (sym same) ∙ get_or-set_same flags b true false fits))
-        | inr other ↦ (let none : uses (b ∷ []) k ≡ 0 = uses_cons b [] k ∙ rw (no_use b k other) refl in
-            free_with_other flags (b ∷ []) k none ∙ sym (get_or-set_other flags b k true false (λ e. other (sym e))))
-      ])
+    elim (cases_eq b k) as (λ _. is_free (with_blocks flags (b ∷ [])) k ≡ is_free (set flags b true) k) [
+      | inl same ↦ (let one : uses (b ∷ []) k ≡ 1 = uses_cons b [] k ∙ rw (one_use b k same) refl in
+          free_with_these flags (b ∷ []) k (omega arith) (omega arith)
+          ∙ sym (ap (is_free (set flags b true)) (sym same) ∙ get_or-set_same flags b true false fits))
+      | inr other ↦ (let none : uses (b ∷ []) k ≡ 0 = uses_cons b [] k ∙ rw (no_use b k other) refl in
+          free_with_other flags (b ∷ []) k none ∙ sym (get_or-set_other flags b k true false (λ e. other (sym e))))
+    ])
 
 -- one more block freed
 pub with_push : (flags : List Bool) (blocks : List ℕ) (b : ℕ) → b < length flags → with_blocks flags (blocks ++ b ∷ []) ≡ set (with_blocks flags blocks) b true
@@ -231,10 +232,10 @@ with_first_last flags blocks b fits =
     let first : List Bool = with_blocks flags (b ∷ blocks) in
     let last : List Bool = with_blocks flags (blocks ++ b ∷ []) in
     same_flags first last (length_with flags (b ∷ blocks) ∙ sym (length_with flags (blocks ++ b ∷ []))) (λ k below.
-      let within : k < length flags = omega (arith, length_with flags (b ∷ blocks)) in
-      let same : uses (b ∷ blocks) k ≡ uses (blocks ++ b ∷ []) k =
-          omega (arith, uses_cons b blocks k, uses_append blocks (b ∷ []) k, uses_cons b [] k) in
-      free_with flags (b ∷ blocks) k within ∙ ap (λ n. is_free flags k || ltb 0 n) same ∙ sym (free_with flags (blocks ++ b ∷ []) k within))
+    let within : k < length flags = omega (arith, length_with flags (b ∷ blocks)) in
+    let same : uses (b ∷ blocks) k ≡ uses (blocks ++ b ∷ []) k =
+    omega (arith, uses_cons b blocks k, uses_append blocks (b ∷ []) k, uses_cons b [] k) in
+    free_with flags (b ∷ blocks) k within ∙ ap (λ n. is_free flags k || ltb 0 n) same ∙ sym (free_with flags (blocks ++ b ∷ []) k within))
     ∙ with_push flags blocks b fits
 
 -- a run freed, one block after another
@@ -264,6 +265,9 @@ count_freed flags b fits used =
 pub count_no_more : (flags : List Bool) → free_count flags ≤ length flags
 count_no_more flags = count_by-le-length (λ (t : Bool). t) flags
 
+pub count_all : (n : ℕ) → free_count (replicate n true) ≡ n
+count_all n = sum_by-replicate (λ (t : Bool). one_if t) n true ∙ omega arith
+
 -- a free block is counted
 pub count_some : (flags : List Bool) (k : ℕ) → is_free flags k ≡ true → 0 < free_count flags
 count_some flags k free =
@@ -285,7 +289,7 @@ count_without flags start zero fits free = rw (without_none flags start) (omega 
 count_without flags start (suc n) fits free =
     let e : suc n ≡ n + 1 = omega arith in
     let now : is_free (without flags (run_of start n)) (start + n) ≡ true =
-        free_without_past flags (run_of start n) (start + n) (omega arith) ∙ free (start + n) (omega arith) (omega arith) in
+    free_without_past flags (run_of start n) (start + n) (omega arith) ∙ free (start + n) (omega arith) (omega arith) in
     let so_far = count_without flags start n (omega arith) (λ k from below. free k from (omega arith)) in
     let step = count_used (without flags (run_of start n)) (start + n) now in
     let more = ap (λ m. free_count (without flags (run_of start m))) e ∙ ap free_count (without_more flags start n (omega arith)) in
@@ -312,9 +316,9 @@ uses_once run k =
     elim (cases_lt k run.start) as (λ _. uses (run_blocks run) k ≤ 1) [
       | inl below ↦ omega (arith, uses_outside run k (inl below))
       | inr from ↦ elim (cases_lt k (run.start + run.count)) as (λ _. uses (run_blocks run) k ≤ 1) [
-          | inl inside ↦ omega (arith, uses_inside run k from inside)
-          | inr past ↦ omega (arith, uses_outside run k (inr past))
-        ]
+        | inl inside ↦ omega (arith, uses_inside run k from inside)
+        | inr past ↦ omega (arith, uses_outside run k (inr past))
+      ]
     ]
 
 -- a block that a run has lies in it
@@ -323,9 +327,9 @@ used_within run k some =
     elim (cases_lt k run.start) as (λ _. (run.start ≤ k) × (k < run.start + run.count)) [
       | inl below ↦ absurd (omega (arith, uses_outside run k (inl below)))
       | inr from ↦ elim (cases_lt k (run.start + run.count)) as (λ _. (run.start ≤ k) × (k < run.start + run.count)) [
-          | inl inside ↦ (from, inside)
-          | inr past ↦ absurd (omega (arith, uses_outside run k (inr past)))
-        ]
+        | inl inside ↦ (from, inside)
+        | inr past ↦ absurd (omega (arith, uses_outside run k (inr past)))
+      ]
     ]
 
 -- all blocks of a used run freed: the count grows by as many
@@ -343,9 +347,9 @@ one_free_without flags run free k =
     elim (cases_lt k run.start) as (λ _. one_if (is_free (without flags run) k) + uses (run_blocks run) k ≡ one_if (is_free flags k)) [
       | inl below ↦ rw (free_without_below flags run k below, uses_outside run k (inl below)) (omega arith)
       | inr from ↦ elim (cases_lt k (run.start + run.count)) as (λ _. one_if (is_free (without flags run) k) + uses (run_blocks run) k ≡ one_if (is_free flags k)) [
-          | inl inside ↦ rw (free_without_inside flags run k from inside, uses_inside run k from inside, free k from inside) refl
-          | inr past ↦ rw (free_without_past flags run k past, uses_outside run k (inr past)) (omega arith)
-        ]
+        | inl inside ↦ rw (free_without_inside flags run k from inside, uses_inside run k from inside, free k from inside) refl
+        | inr past ↦ rw (free_without_past flags run k past, uses_outside run k (inr past)) (omega arith)
+      ]
     ]
 
 pub one_free_with : (flags : List Bool) (blocks : List ℕ) → ((k : ℕ) → 0 < uses blocks k → (k < length flags) × (is_free flags k ≡ false)) → ((k : ℕ) → uses blocks k ≤ 1) → (k : ℕ) → one_if (is_free (with_blocks flags blocks) k) ≡ one_if (is_free flags k) + uses blocks k

@@ -4,7 +4,7 @@ use Rattle.std.specs.List.{range_with_len, count_by, All}
 use Rattle.extents.specs.declared.run_list.Run.{Run}
 use Rattle.extents.specs.declared.free_map.UseFault.{UseFault}
 use Rattle.extents.specs.declared.free_map.UseFault.TheVariants.{OutOfRange, InUse}
-use Rattle.extents.specs.Runs.{run_blocks, blocks_of}
+use Rattle.extents.specs.Runs.{blocks_of}
 
 -- whether block k is free; past the last block none is
 abbrev pub is_free : List Bool → ℕ → Bool

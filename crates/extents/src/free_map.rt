@@ -63,7 +63,7 @@ impl FreeMap {
         requires { 1 ≤ run.count }
         ensures { Marks self.old run result self.new }
     {
-        if self.blocks < run.start || self.blocks - run.start < run.count {
+        if u64::from(run.start) + u64::from(run.count) > u64::from(self.blocks) {
             return Err(UseFault::OutOfRange);
         }
         if self.stretch(run.start, run.count) < run.count {
@@ -109,9 +109,12 @@ impl FreeMap {
         ensures same { self.new ≡ self.old }
         ensures lowest { IsLowest self.old result }
     {
-        self.first = first_in_use(&self.words, self.first);
-        let word = *self.words.get(self.first)?;
-        let block = self.first as u32 * 64 + word.trailing_zeros();
+        let first = first_in_use(&self.words, self.first);
+        self.first = first;
+        if first == self.words.len() {
+            return None;
+        }
+        let block = first as u32 * 64 + self.words[first].trailing_zeros();
         if block < self.blocks {
             Some(block)
         } else {

@@ -1,5 +1,5 @@
 use Rattle.std.proofs.Common.{◌≡◌, ◌-◌, ◌+◌, ◌*◌, ◌≤◌, ℕ, length}
-use Rattle.extents.specs.FreeSet.{without, with_blocks}
+use Rattle.extents.specs.FreeSet.{with_blocks}
 use Rattle.extents.specs.Runs.{run_blocks}
 use Rattle.extents.specs.FreeLaws.{run_of}
 use Rattle.extents.specs.FreeWords.{flags_of}

@@ -1,4 +1,4 @@
-use Rattle.std.proofs.Common.{◌≡◌, sym, ap, ◌∙◌, arith, ◌<◌, ◌%◌, ◌/◌, length}
+use Rattle.std.proofs.Common.{sym, ap, ◌∙◌, arith, ◌%◌, ◌/◌}
 use Rattle.std.proofs.lemmas.List.{get_or_read}
 use Rattle.std.proofs.lemmas.Nat.Bits.{shr_and_one}
 use Rattle.std.proofs.Math.Dec.{eqb}
