@@ -9,9 +9,12 @@ use Rattle.std.proofs.lemmas.List.Elements.{All-nil, All-cons}
 use Rattle.std.proofs.lemmas.Bool.{cases_lt, cases_eq, le-leb, lt-leb, lt-ltb, le-ltb, eq-eqb, ne_eqb}
 use Rattle.std.proofs.Math.Dec.{leb, ltb, eqb}
 use Rattle.extents.specs.declared.run_list.Run.{Run}
+use Rattle.extents.specs.declared.free_map.UseFault.{UseFault}
+use Rattle.extents.specs.declared.free_map.UseFault.TheVariants.{OutOfRange, InUse}
+use Rattle.std.proofs.Common.{subst, Result, Ok, Err}
 use Rattle.extents.specs.Runs.{run_blocks, blocks_of, runs_of}
 use Rattle.extents.specs.RunLaws.{blocks_of_runs, runs_have_blocks}
-use Rattle.extents.specs.FreeSet.{is_free, free_count, uses, one_if, is_within, flags_by, without, with_blocks, with_runs, AllFree, AllUsed, NoneFree, AreUsed}
+use Rattle.extents.specs.FreeSet.{is_free, free_count, uses, one_if, is_within, flags_by, without, with_blocks, with_runs, AllFree, AllUsed, NoneFree, AreUsed, Marks, Takes}
 
 -- Lists of flags by a test.
 
@@ -433,3 +436,16 @@ taken_used flags runs run are free more fits =
         | inr there ↦ omega (arith, sum k, are.different k)
       ];
     }
+
+pub same_used : (old new : List Bool) (runs : List Run) → new ≡ old → AreUsed old runs → AreUsed new runs
+same_used old new runs same are = let P : List Bool → Type 0 = λ f. AreUsed f runs in subst P (sym same) are
+
+-- runs in use stay so whatever marking another run answers
+pub used_marked : (old new : List Bool) (runs : List Run) (run : Run) (result : Result (Unit {0}) UseFault) → AreUsed old runs → Marks old run result new → AreUsed new runs
+used_marked old new runs run (Ok _) are m = same_used (without old run) new runs m.2 (used_without old runs run are)
+used_marked old new runs run (Err OutOfRange) are m = same_used old new runs m.1 are
+used_marked old new runs run (Err InUse) are m = same_used old new runs m.2 are
+
+-- and so they do, with the one that is taken
+pub used_taken : (old new : List Bool) (runs : List Run) (want : ℕ) (run : Run) → AreUsed old runs → Takes old want run new → AreUsed new (run ∷ runs)
+used_taken old new runs want run are t = same_used (without old run) new (run ∷ runs) t.taken (taken_used old runs run are t.free t.some t.within)

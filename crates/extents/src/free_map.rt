@@ -101,7 +101,8 @@ impl FreeMap {
     pub fn free(&self) -> u32
         ensures { result ≡ free_count self.now }
     {
-        self.free
+        let FreeMap { free, .. } = self;
+        *free
     }
 
     // The lowest free block. It moves the place where the next search begins.

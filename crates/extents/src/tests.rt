@@ -19,7 +19,10 @@ fn four_blocks(rt: HostRuntime) -> Result<(), Fail> {
     assert_eq!(rt; map.take(1), Some(run(0, 1)));
     assert_eq!(rt; map.free(), 3);
     assert_eq!(rt; map.mark_used(run(3, 2)), Err(UseFault::OutOfRange));
-    assert_eq!(rt; map.mark_used(run(u32::MAX, u32::MAX)), Err(UseFault::OutOfRange));
+    assert_eq!(rt;
+        map.mark_used(run(u32::MAX, u32::MAX)),
+        Err(UseFault::OutOfRange)
+    );
     assert_eq!(rt; map.mark_used(run(0, 4)), Err(UseFault::InUse));
     assert_eq!(rt; map.mark_used(run(0, 5)), Err(UseFault::OutOfRange));
     assert_eq!(rt; map.free(), 3);
