@@ -1,2 +1,5 @@
+pub mod FreeLaws
+pub mod FreeSet
+pub mod FreeWords
 pub mod RunLaws
 pub mod Runs

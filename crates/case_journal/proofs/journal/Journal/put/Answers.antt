@@ -4,9 +4,10 @@ use Rattle.disk_model.specs.Disk.{ChangedIn}
 use Rattle.disk_model.specs.MomentLaws.{changed_wider, weakened}
 use Rattle.journal_layout.specs.Layout.{half_start, half_length}
 use Rattle.case_journal.specs.Journaled.{Journaled}
+use Rattle.case_journal.proofs.journal.Journal.put.Given as given
 use Rattle.case_journal.proofs.journal.Journal.put.Goals as goal
 
-gate_is : (g : goal.Over) (c : goal.After-publish g) → c.half_start.result + c.self.inside.used ≡ half_start c.args.self.now.standing.shape c.args.self.now.standing.half + c.args.self.now.standing.used
+gate_is : (g : given.Over) (c : goal.After-publish g) → c.half_start.result + c.self.inside.used ≡ half_start c.args.self.now.standing.shape c.args.self.now.standing.half + c.args.self.now.standing.used
 gate_is g c =
     ap (λ (h : ℕ). h + c.self.inside.used) c.half_start.ensures ∙ ap (λ (j : Journaled). half_start j.standing.shape j.standing.half + j.standing.used) c.self.view_is
 
