@@ -1,5 +1,7 @@
 pub mod AppendLemmas
+pub mod EntryLemmas
 pub mod FrontLemmas
 pub mod PublishLemmas
 pub mod RecordLemmas
+pub mod SeqLemmas
 pub mod StandLemmas

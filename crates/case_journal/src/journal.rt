@@ -5,7 +5,7 @@ ghost use Rattle.disk_model.specs.Disk.{HasRisen, HasCause};
 ghost use Rattle.journal_layout.specs.Case.{case_of, numbered};
 ghost use Rattle.journal_layout.specs.Record.{Record, Store, Drop, Pin, record_size, behind_gate};
 ghost use Rattle.journal_layout.specs.Layout.{IsWithinLimits, disk_length, half_start, half_length};
-ghost use Rattle.journal_layout.specs.Folding.{with_pin};
+ghost use Rattle.journal_layout.specs.Folding.{with_pin, dropped, is_among};
 ghost use Rattle.journal_layout.specs.Soundness.{case_numbered, Rise};
 ghost use Rattle.journal_layout.specs.Standing.{store_of};
 ghost use Rattle.case_journal.specs.Journaled.{Journaled, halted, goes_on};
@@ -82,7 +82,8 @@ impl Journal {
 
     /// The number of the next case, at most 2^32.
     pub fn next_seq(&self) -> u64
-        ensures { result ≡ self.now.standing.next }
+        ensures value { result ≡ self.now.standing.next }
+        ensures numbers { result ≤ 2 ^ 32 }
     {
         self.next
     }
@@ -103,13 +104,13 @@ impl Journal {
 
     // Whether a record of so many bytes may be begun, but for memory and numbers.
     fn may_begin(&self, size: u64) -> Result<(), JournalFault>
-        requires { size < 2 ^ 63 }
-        ensures { MayBegin self.now size result }
+        ensures begun { MayBegin self.now size result }
+        ensures small { OnOk result (size < 16777216) }
     {
         if self.stopped {
             return Err(JournalFault::Stopped);
         }
-        if self.used + size + 1 > self.shape.half_length() {
+        if size >= self.shape.half_length() - self.used {
             return Err(JournalFault::JournalFull);
         }
         Ok(())
@@ -294,7 +295,7 @@ impl Journal {
         requires room { self.old.standing.used + size + 1 ≤ half_length self.old.standing.shape }
         ensures { self.new ≡ left self.old seqs.now size }
     {
-        self.entries.retain(|entry| seqs.binary_search(&entry.seq).is_err());
+        keep_others(&mut self.entries, seqs);
         self.used += size;
     }
 
@@ -308,13 +309,28 @@ impl Journal {
     }
 }
 
+// Whether the number is one of these, which rise.
+fn is_listed(seqs: &[u32], seq: u32) -> bool
+    ensures { Rise 0 seqs.now → result ≡ is_among seqs.now seq }
+{
+    seqs.binary_search(&seq).is_ok()
+}
+
+// Keeps the entries that have none of these numbers, which rise.
+fn keep_others(entries: &mut Vec<Entry>, seqs: &[u32])
+    requires { Rise 0 seqs.now }
+    ensures { map case_of entries.new.items ≡ dropped seqs.now (map case_of entries.old.items) }
+{
+    entries.retain(|entry| !is_listed(seqs, entry.seq));
+}
+
 // Sets the flag of the entries of this number.
 fn set_pin(entries: &mut [Entry], seq: u32, flag: bool)
     ensures { map case_of entries.new ≡ with_pin seq flag (map case_of entries.old) }
 {
-    for entry in entries.iter_mut() {
-        if entry.seq == seq {
-            entry.pinned = flag;
+    for place in 0..entries.len() {
+        if entries[place].seq == seq {
+            entries[place].pinned = flag;
         }
     }
 }

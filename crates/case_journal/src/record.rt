@@ -25,14 +25,14 @@ fn rounded(size: u64) -> u64
 /// The bytes of the entry's Store record.
 pub(crate) fn store_size(entry: &Entry) -> u64
     requires { length entry.now.runs ≤ 2 ^ 52 }
-    ensures value { (seq : ℕ) → result ≡ record_size (Store (numbered seq (case_of entry.now))) }
+    ensures { (seq : ℕ) → result ≡ record_size (Store (numbered seq (case_of entry.now))) }
 {
     rounded(48 + 8 * entry.runs.runs().len() as u64 + entry.name.len() as u64)
 }
 
 /// The bytes of the Drop record of so many cases.
 pub(crate) fn drop_size(seqs: &[u32]) -> u64
-    ensures value { result ≡ record_size (Drop seqs.now) }
+    ensures { result ≡ record_size (Drop seqs.now) }
 {
     rounded(12 + 4 * seqs.len() as u64)
 }
