@@ -8,6 +8,7 @@ pub mod FieldNames
 pub mod Folding
 pub mod FoundLaws
 pub mod Front
+pub mod FrontLaws
 pub mod Grammar
 pub mod Layout
 pub mod NextLaws
@@ -21,6 +22,7 @@ pub mod RunBytesLaws
 pub mod Soundness
 pub mod SpareLaws
 pub mod SpellLaws
+pub mod StandLaws
 pub mod Standing
 pub mod Stands
 pub mod StoreLaws
