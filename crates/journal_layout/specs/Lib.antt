@@ -13,6 +13,7 @@ pub mod Grammar
 pub mod Layout
 pub mod NextLaws
 pub mod PinLaws
+pub mod ReadSteps
 pub mod Reading
 pub mod ReadingLaws
 pub mod Record
