@@ -44,6 +44,7 @@ halves_shape b size (Err d) t told e = cc
 shape_limits : (s : Shape) (n : ℕ) → is_shape_of n s ≡ true → IsWithinLimits s
 shape_limits s n e = search rules
 
+-- an archive that is opened has a shape within its limits
 pub front_limits : (b : List ℕ) (t : Front) → front_opening b ≡ Ok t → IsWithinLimits t.shape
 front_limits b t e =
     shape_limits t.shape (length b)

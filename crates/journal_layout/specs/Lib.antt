@@ -20,6 +20,7 @@ pub mod Record
 pub mod RecordLaws
 pub mod RowLaws
 pub mod RunBytesLaws
+pub mod Samples
 pub mod Soundness
 pub mod SpareLaws
 pub mod SpellLaws

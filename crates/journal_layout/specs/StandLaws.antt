@@ -60,11 +60,13 @@ half_lies : (s : Shape) (half : Half) → IsWithinLimits s → half_start s half
 half_lies s A limits = let some = limits.some_data in omega arith
 half_lies s B limits = let some = limits.some_data in omega arith
 
+-- the bytes behind a half's header
 pub area_length : (b : List ℕ) (s : Shape) (half : Half) → IsWithinLimits s → disk_length s ≡ length b → length (records_area b s half) ≡ half_length s - 32
 area_length b s half limits size =
     let some = limits.some_half in
     part_length b (records_start s half) (half_length s - 32) (omega (arith, half_lies s half limits))
 
+-- its shape lies within its limits and is that of the disk
 pub stands_limits : (b : List ℕ) (s : Standing) → Stands b s → IsWithinLimits s.shape
 stands_limits b s stands = front_limits b (front_of s) stands.front
 
