@@ -1,5 +1,6 @@
 -- Laws of the front of an archive: its shape, and on which bytes it depends.
-use Rattle.std.proofs.Common.{◌≡◌, ℕ, Bool, true, false, cond, List, length, refl, sym, ap, ◌∙◌, subst, rules, Result, Ok, Err, nat_lt, ◌==◌}
+use Rattle.std.proofs.Common.{◌≡◌, ℕ, Bool, true, false, cond, List, length, refl, sym, ap, ◌∙◌, subst, Result, Ok, Err, nat_lt, nat_le, ◌==◌}
+use Rattle.std.proofs.lemmas.Bool.{and_parts, leb-true, eqb-true}
 use Rattle.disk_model.specs.Places.{part}
 use Rattle.journal_layout.specs.declared.shape.Shape.{Shape}
 use Rattle.journal_layout.specs.declared.shape.Half.{Half}
@@ -41,8 +42,23 @@ halves_shape b size (Ok s) t told e =
     ap (is_shape_of size) (headers_shape s (header_of_half s b A) (header_of_half s b B) (taken_half s (header_of_half s b A) (header_of_half s b B)) t e) ∙ told s refl
 halves_shape b size (Err d) t told e = cc
 
+shape_parts : (s : Shape) (n : ℕ) → is_shape_of n s ≡ true → IsWithinLimits s × (disk_length s ≡ n)
+shape_parts s n e =
+    let a = and_parts _ (disk_length s == n) e in
+    let b = and_parts _ (nat_le s.data_blocks 16777216) a.0 in
+    let c = and_parts _ (nat_le 1 s.data_blocks) b.0 in
+    let d = and_parts (nat_le 1 s.half_blocks) (nat_le s.half_blocks 4096) c.0 in (
+      record {
+        some_half = leb-true 1 s.half_blocks d.0;
+        half = leb-true s.half_blocks 4096 d.1;
+        some_data = leb-true 1 s.data_blocks c.1;
+        all_data = leb-true s.data_blocks 16777216 b.1;
+      },
+      eqb-true (disk_length s) n a.1,
+    )
+
 shape_limits : (s : Shape) (n : ℕ) → is_shape_of n s ≡ true → IsWithinLimits s
-shape_limits s n e = search rules
+shape_limits s n e = (shape_parts s n e).0
 
 -- an archive that is opened has a shape within its limits
 pub front_limits : (b : List ℕ) (t : Front) → front_opening b ≡ Ok t → IsWithinLimits t.shape
@@ -53,7 +69,7 @@ front_limits b t e =
 
 -- an archive that is opened has the length of its shape
 size_told : (s : Shape) (n : ℕ) → is_shape_of n s ≡ true → disk_length s ≡ n
-size_told s n e = search rules
+size_told s n e = (shape_parts s n e).1
 
 fits : (b : List ℕ) (t : Front) → front_opening b ≡ Ok t → is_shape_of (length b) t.shape ≡ true
 fits b t e =
