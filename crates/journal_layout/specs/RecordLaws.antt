@@ -40,7 +40,7 @@ kinds (suc (suc (suc (suc zero)))) low high = inr (inr (inr refl))
 kinds (suc (suc (suc (suc (suc k))))) low high = absurd (omega arith)
 
 -- this record stands at the front and is as long as the bytes say
-abbrev IsFoundAs : ℕ → List ℕ → Folded → Record → Type 0
+abbrev pub IsFoundAs : ℕ → List ℕ → Folded → Record → Type 0
 IsFoundAs limit rest f r = StandsFirst limit rest f r × (record_size r ≡ length_at rest)
 
 -- what is read is a record that stands there, as long as it says
