@@ -8,6 +8,7 @@ use Rattle.disk_model.specs.Places.{AreBytes, part}
 use Rattle.disk_model.specs.PartLaws.{part_length, part_bytes}
 use Rattle.journal_layout.specs.Layout.{number_bytes, field}
 
+-- how many bytes a number has, and that they are bytes
 pub length-number_bytes : (w n : ℕ) → length (number_bytes w n) ≡ w
 unfolding number_bytes
 length-number_bytes w n = length-bytes_low_first 0 w n

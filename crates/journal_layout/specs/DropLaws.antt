@@ -21,6 +21,7 @@ use Rattle.journal_layout.specs.CheckLaws.{HasHead, passes, passed, or_none, non
 use Rattle.journal_layout.specs.SpellLaws.{tells_kind, tells_length, tells_head, tells_zeros, rounded_up}
 use Rattle.journal_layout.specs.FoundLaws.{record_passes, put_together, zeros_found}
 
+-- what a record of this kind is checked for, and what it is
 pub drop_body : (limit at : ℕ) (rest : List ℕ) (f : Folded) → kind_at rest ≡ 2 → body_fault limit at rest f ≡ drop_fault at rest f
 drop_body limit at rest f kind =
     ap (λ (k : ℕ). cond (k == 1) (store_fault limit at rest f) (cond (k == 2) (drop_fault at rest f) (cond (k == 3) (pin_fault at rest f) (first_failing at (next_checks rest f))))) kind
@@ -67,6 +68,7 @@ droppable cases seq e = of (case_numbered seq cases) refl e
     of None same e = cc
     of (Some c) same e = (c, same, e)
 
+-- what the checks of the numbers tell, both ways
 seqs_pass : (cases : List Case) (last place : ℕ) (seqs : List ℕ) → Rise last seqs → AllByRecursion (IsDroppable cases) seqs → first_bad_seq cases last place seqs ≡ None
 seqs_pass cases last place [] rise each = refl
 seqs_pass cases last place (seq ∷ seqs) rise each =
@@ -85,6 +87,7 @@ seqs_passed cases last place (seq ∷ seqs) e =
     first true g = cc
     first false g = (refl, g)
 
+-- what the check of the count tells, both ways
 count_passes : (at : ℕ) (rest : List ℕ) → 0 < seq_count_at rest → length_at rest ≡ rounded (12 + 4 * seq_count_at rest) → first_failing at (count_checks rest) ≡ None
 count_passes at rest some long =
     passes at (count_checks rest) (

@@ -24,6 +24,7 @@ unfolding record_at
 next_is rest kind =
     ap (λ (k : ℕ). cond (k == 1) (Store (case_at rest)) (cond (k == 2) (Drop (drop_seqs rest)) (cond (k == 3) (Pin (field rest 8 4) (slice_index rest 12 == 1)) (Next (field rest 8 8))))) kind
 
+-- what the checks tell, both ways
 pub next_passes : (at : ℕ) (rest : List ℕ) (f : Folded) → length_at rest ≡ 16 → f.next ≤ field rest 8 8 → field rest 8 8 ≤ 2 ^ 32 → first_failing at (next_checks rest f) ≡ None
 next_passes at rest f long low high =
     passes at (next_checks rest f) (

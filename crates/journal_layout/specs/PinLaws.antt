@@ -1,5 +1,5 @@
 -- Laws of the record Pin.
-use Rattle.std.proofs.Common.{◌≡◌, ℕ, ◌+◌, ◌^◌, ◌<◌, ◌≤◌, Bool, true, false, ◌==◌, List, [], ◌∷◌, ◌++◌, length, slice_index, refl, sym, ap, ◌∙◌, arith, None, Some, Option, cond}
+use Rattle.std.proofs.Common.{◌≡◌, ℕ, ◌+◌, ◌^◌, ◌<◌, ◌≤◌, Bool, false, ◌==◌, List, [], ◌∷◌, ◌++◌, length, slice_index, refl, sym, ap, ◌∙◌, arith, None, Some, Option, cond}
 use Rattle.std.proofs.lemmas.Bool.{not-false, not_from_true, le-ltb, ltb-false, eq-eqb, eqb-true}
 use Rattle.std.specs.Option.{is_none}
 use Rattle.disk_model.specs.Places.{AreBytes, part}
@@ -14,8 +14,9 @@ use Rattle.journal_layout.specs.Stands.{StandsFirst}
 use Rattle.journal_layout.specs.ByteLaws.{number_read, field_spelled, field_small}
 use Rattle.journal_layout.specs.CheckLaws.{HasHead, passes, passed, or_none, none_or}
 use Rattle.journal_layout.specs.SpellLaws.{tells_kind, tells_length, tells_head, tells_zeros}
-use Rattle.journal_layout.specs.FoundLaws.{record_passes, put_together, byte_part, zeros_found, flag_found, some_found}
+use Rattle.journal_layout.specs.FoundLaws.{record_passes, put_together, byte_part, zeros_found, flag_short, flag_back, flag_found, some_found}
 
+-- what a record of this kind is checked for, and what it is
 pub pin_body : (limit at : ℕ) (rest : List ℕ) (f : Folded) → kind_at rest ≡ 3 → body_fault limit at rest f ≡ pin_fault at rest f
 pin_body limit at rest f kind =
     ap (λ (k : ℕ). cond (k == 1) (store_fault limit at rest f) (cond (k == 2) (drop_fault at rest f) (cond (k == 3) (pin_fault at rest f) (first_failing at (next_checks rest f))))) kind
@@ -29,6 +30,7 @@ none_of_some : {X : Type 0} (o : Option X) (x : X) → o ≡ Some x → is_none 
 none_of_some None x e = cc
 none_of_some (Some y) x e = refl
 
+-- what the checks tell, both ways
 pub pin_passes : (at : ℕ) (rest : List ℕ) (f : Folded) → length_at rest ≡ 16 → IsPinnable f.cases (field rest 8 4) → slice_index rest 12 ≤ 1 → first_failing at (pin_checks rest f) ≡ None
 pin_passes at rest f long live flag =
     passes at (pin_checks rest f) (
@@ -48,14 +50,6 @@ tells_seq seq flag tail small = number_read 4 seq [] small
 tells_flag : (seq : ℕ) (flag : Bool) (tail : List ℕ) → slice_index (spelling (Pin seq flag) ++ tail) 12 ≡ flag_byte flag
 unfolding behind_gate plain body number_bytes
 tells_flag seq flag tail = refl
-
-flag_short : (flag : Bool) → flag_byte flag ≤ 1
-flag_short true = omega arith
-flag_short false = omega arith
-
-flag_back : (flag : Bool) → (flag_byte flag == 1) ≡ flag
-flag_back true = refl
-flag_back false = refl
 
 -- what is written is read again
 pub pin_again : (limit at seq : ℕ) (flag : Bool) (tail : List ℕ) (f : Folded) → record_size (Pin seq flag) + 1 ≤ length (spelling (Pin seq flag) ++ tail) → IsSound limit f (Pin seq flag)

@@ -1,21 +1,19 @@
 -- Laws of what an opening reads: bytes hold one row of records, and an opening has one answer.
-use Rattle.std.proofs.Common.{◌≡◌, ◌≢◌, inl, inr, ℕ, ◌+◌, ◌-◌, ◌^◌, ◌≤◌, Bool, true, false, cond, List, [], ◌∷◌, length, drop, slice_index, refl, sym, ap, ◌∙◌, subst, arith, rules, Some, Result, Ok, Err, nat_lt, ◌==◌}
+use Rattle.std.proofs.Common.{◌≡◌, ◌≢◌, inl, inr, ℕ, ◌+◌, ◌-◌, ◌^◌, ◌≤◌, List, [], ◌∷◌, length, drop, slice_index, refl, sym, ap, ◌∙◌, subst, arith, Some, Result, Ok, Err}
 use Rattle.std.proofs.lemmas.List.{drop-drop, get_or-drop, length-drop, length-take}
 use Rattle.disk_model.specs.Places.{part}
 use Rattle.journal_layout.specs.declared.shape.Shape.{Shape}
 use Rattle.journal_layout.specs.declared.shape.Half.{Half}
-use Rattle.journal_layout.specs.declared.shape.Half.TheVariants.{A, B}
-use Rattle.journal_layout.specs.declared.faults.Field.TheVariants as named
 use Rattle.journal_layout.specs.declared.faults.OpenFault.{OpenFault}
-use Rattle.journal_layout.specs.declared.faults.OpenFault.TheVariants.{NotAnArchive, Damaged, UnknownVersion}
 use Rattle.journal_layout.specs.Layout.{IsWithinLimits, half_length}
 use Rattle.journal_layout.specs.Case.{Case}
 use Rattle.journal_layout.specs.Record.{Record, record_size}
 use Rattle.journal_layout.specs.Folding.{Folded, after, replayed, sizes, nothing_yet}
 use Rattle.journal_layout.specs.Checks.{record_fault}
-use Rattle.journal_layout.specs.Front.{Front, Header, front_opening, halves_opening, headers_opening, half_opening, header_of_half, taken_half, shape_opening, shape_at, is_archive, is_shape_of}
+use Rattle.journal_layout.specs.Front.{Front, front_opening}
 use Rattle.journal_layout.specs.Standing.{Standing, folded_of}
 use Rattle.journal_layout.specs.Stands.{StandsFirst, StandInRow, AreRead, AreFaulty, records_start, records_area, front_of, Stands, IsRefused, Opening}
+use Rattle.journal_layout.specs.FrontLaws.{front_limits}
 use Rattle.journal_layout.specs.RecordLaws.{record_again, one_record, opened_first}
 
 -- no record stands at the front of these bytes
@@ -83,48 +81,6 @@ module _ (limit : ℕ) (bytes : List ℕ) (f : Folded) (low : limit ≤ 16777216
       ∙ ap (λ (l : List Record). record_fault limit (at + sizes l) (drop (sizes l) bytes) (replayed l f)) same
       ∙ two.found in
       cc
-
--- the front of an archive that is opened has a shape within the limits
-
-ok_of : {X : Type 0} (t : Bool) (e : OpenFault) (y : Result X OpenFault) (x : X) → cond t (Err e) y ≡ Ok x → y ≡ Ok x
-ok_of true e y x h = cc
-ok_of false e y x h = h
-
-ok_in : {X : Type 0} (t : Bool) (e : OpenFault) (y : Result X OpenFault) (x : X) → cond t y (Err e) ≡ Ok x → (t ≡ true) × (y ≡ Ok x)
-ok_in true e y x h = (refl, h)
-ok_in false e y x h = cc
-
-shape_told : (size : ℕ) (b : List ℕ) (s : Shape) → shape_opening size b ≡ Ok s → is_shape_of size s ≡ true
-shape_told size b s e =
-    let fits = ok_in (is_shape_of size (shape_at b)) (Damaged 16 named.Shape) (Ok (shape_at b)) s
-    ((ok_in (is_archive b) NotAnArchive (cond (is_shape_of size (shape_at b)) (Ok (shape_at b)) (Err (Damaged 16 named.Shape))) s e).1) in
-    let same : shape_at b ≡ s = (let is = fits.1 in cc) in
-    ap (is_shape_of size) (sym same) ∙ fits.0
-
-half_shape : (s : Shape) (half : Half) (h : Header) (t : Front) → half_opening s half h ≡ Ok t → t.shape ≡ s
-half_shape s half h t e =
-    let of = (ok_in (h.version == 1) (UnknownVersion h.version) (Ok (record { shape = s; half = half; version = h.version; generation = h.generation })) t e).1 in
-    let same : record { shape = s; half = half; version = h.version; generation = h.generation } ≡ t = cc in
-    sym (ap (λ (x : Front). x.shape) same)
-
-headers_shape : (s : Shape) (a b : Header) (h : Result Half OpenFault) (t : Front) → headers_opening s a b h ≡ Ok t → t.shape ≡ s
-headers_shape s a b (Ok A) t e = half_shape s A a t e
-headers_shape s a b (Ok B) t e = half_shape s B b t e
-headers_shape s a b (Err d) t e = cc
-
-halves_shape : (b : List ℕ) (size : ℕ) (o : Result Shape OpenFault) (t : Front) → ((s : Shape) → o ≡ Ok s → is_shape_of size s ≡ true) → halves_opening b o ≡ Ok t → is_shape_of size t.shape ≡ true
-halves_shape b size (Ok s) t told e =
-    ap (is_shape_of size) (headers_shape s (header_of_half s b A) (header_of_half s b B) (taken_half s (header_of_half s b A) (header_of_half s b B)) t e) ∙ told s refl
-halves_shape b size (Err d) t told e = cc
-
-shape_limits : (s : Shape) (n : ℕ) → is_shape_of n s ≡ true → IsWithinLimits s
-shape_limits s n e = search rules
-
-pub front_limits : (b : List ℕ) (t : Front) → front_opening b ≡ Ok t → IsWithinLimits t.shape
-front_limits b t e =
-    shape_limits t.shape (length b)
-    (halves_shape b (length b) (shape_opening (length b) (part b 0 24)) t (λ s. shape_told (length b) (part b 0 24) s)
-    (ok_of (nat_lt (length b) 4096) NotAnArchive (halves_opening b (shape_opening (length b) (part b 0 24))) t e))
 
 area_short : (b : List ℕ) (s : Shape) (half : Half) → IsWithinLimits s → length (records_area b s half) ≤ 2 ^ 32
 unfolding part

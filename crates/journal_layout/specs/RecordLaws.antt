@@ -40,9 +40,10 @@ kinds (suc (suc (suc (suc zero)))) low high = inr (inr (inr refl))
 kinds (suc (suc (suc (suc (suc k))))) low high = absurd (omega arith)
 
 -- this record stands at the front and is as long as the bytes say
-abbrev IsFoundAs : ℕ → List ℕ → Folded → Record → Type 0
+abbrev pub IsFoundAs : ℕ → List ℕ → Folded → Record → Type 0
 IsFoundAs limit rest f r = StandsFirst limit rest f r × (record_size r ≡ length_at rest)
 
+-- what is read is a record that stands there, as long as it says
 pub record_told : (limit at : ℕ) (rest : List ℕ) (f : Folded) → AreBytes rest → slice_index rest 0 ≡ 165 → record_fault limit at rest f ≡ None → IsFoundAs limit rest f (record_at rest)
 record_told limit at rest f are opened e =
     let parts = record_passed limit at rest f e in

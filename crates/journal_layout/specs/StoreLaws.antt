@@ -1,5 +1,5 @@
 -- Laws of the record Store.
-use Rattle.std.proofs.Common.{◌≡◌, ◌≢◌, ◌⊎◌, inl, inr, ⊎_elim, ℕ, ◌+◌, ◌-◌, ◌*◌, ◌^◌, ◌<◌, ◌≤◌, Bool, true, false, not, nat_eq, ◌==◌, ◌&&◌, List, [], ◌∷◌, ◌++◌, length, replicate, take, drop, slice_index, refl, sym, ap, ◌∙◌, arith, None, cond, append_assoc}
+use Rattle.std.proofs.Common.{◌≡◌, ◌≢◌, ◌⊎◌, inl, inr, ⊎_elim, ℕ, ◌+◌, ◌-◌, ◌*◌, ◌^◌, ◌<◌, ◌≤◌, Bool, false, not, nat_eq, ◌==◌, ◌&&◌, List, [], ◌∷◌, ◌++◌, length, replicate, take, drop, slice_index, refl, sym, ap, ◌∙◌, arith, None, cond, append_assoc}
 use Rattle.std.proofs.lemmas.List.{drop-drop, length-drop, take_at, drop_at}
 use Rattle.std.proofs.lemmas.Bool.{or_parts, or_from, not-false, not_from_true, and_cases, and_left, and_right, le-ltb, ltb-false, eq-eqb, eqb-true, ne_eqb, eqb-false}
 use Rattle.std.specs.Option.{option_or}
@@ -23,11 +23,12 @@ use Rattle.journal_layout.specs.Stands.{StandsFirst}
 use Rattle.journal_layout.specs.ByteLaws.{number_read, field_spelled, field_small}
 use Rattle.journal_layout.specs.CheckLaws.{HasHead, passes, passed, or_none, none_or, map_none, none_map}
 use Rattle.journal_layout.specs.SpellLaws.{tells_kind, tells_length, tells_head, tells_zeros, rounded_up, length-runs}
-use Rattle.journal_layout.specs.FoundLaws.{record_passes, put_together, zeros_found, byte_part, flag_found}
+use Rattle.journal_layout.specs.FoundLaws.{record_passes, put_together, zeros_found, byte_part, flag_short, flag_back, flag_found, some_number, joined}
 use Rattle.journal_layout.specs.ChainLaws.{chain_of, blocks_back, shortest_back, blocks_counted}
 use Rattle.journal_layout.specs.SpareLaws.{runs_pass, runs_passed}
 use Rattle.journal_layout.specs.RunBytesLaws.{IsSmallRun, spare_runs_small, runs_read, runs_spelled, length-runs_at}
 
+-- what a record of this kind is checked for, and what it is
 pub store_body : (limit at : ℕ) (rest : List ℕ) (f : Folded) → kind_at rest ≡ 1 → body_fault limit at rest f ≡ store_fault limit at rest f
 store_body limit at rest f kind =
     ap (λ (k : ℕ). cond (k == 1) (store_fault limit at rest f) (cond (k == 2) (drop_fault at rest f) (cond (k == 3) (pin_fault at rest f) (first_failing at (next_checks rest f))))) kind
@@ -54,9 +55,6 @@ kind_passes n h =
 kind_passed : (n : ℕ) → (not (n == 1) && not (n == 2)) ≡ false → (n ≡ 1) ⊎ (n ≡ 2)
 kind_passed n e =
     ⊎_elim (λ h. inl (eqb-true n 1 (not-false (n == 1) h))) (λ h. inr (eqb-true n 2 (not-false (n == 2) h))) (and_cases (not (n == 1)) (not (n == 2)) e)
-
-some_number : (n : ℕ) → (n ≡ 0 → ⊥) → 0 < n
-some_number n h = omega (arith, h)
 
 facts_pass : (at : ℕ) (rest : List ℕ) (f : Folded) → HasFacts rest f → first_failing at (store_checks rest f) ≡ None
 facts_pass at rest f h =
@@ -135,14 +133,6 @@ kind_known Exec = inr refl
 
 kind_found : (n : ℕ) → (n ≡ 1) ⊎ (n ≡ 2) → kind_byte (kind_of_byte n) ≡ n
 kind_found n h = ⊎_elim (λ e. ap (λ (m : ℕ). kind_byte (kind_of_byte m)) e ∙ sym e) (λ e. ap (λ (m : ℕ). kind_byte (kind_of_byte m)) e ∙ sym e) h
-
-flag_short : (flag : Bool) → flag_byte flag ≤ 1
-flag_short true = omega arith
-flag_short false = omega arith
-
-flag_back : (flag : Bool) → (flag_byte flag == 1) ≡ flag
-flag_back true = refl
-flag_back false = refl
 
 -- What the spelling of a Store with anything behind it tells.
 module _ (c : Case) (tail : List ℕ) where
@@ -272,9 +262,6 @@ store_again limit at c tail f low small room sound =
           (same_case _ _ _ _ _ _ _ _ _ _ _ _ _ _ _ _ _ _ seq (ap kind_of_byte kind ∙ kind_back c.kind) name (tells_pid c tail fine.pid) (tells_signal c tail fine.signal) (tells_time c tail fine.time)
           (ap (λ (n : ℕ). n == 1) pinned ∙ flag_back c.pinned) len (ap blocks_of runs ∙ blocks_back c.blocks)),
     )
-
-joined : (a b c x y z : List ℕ) → a ≡ x → b ≡ y → c ≡ z → (a ++ b) ++ c ≡ (x ++ y) ++ z
-joined a b c x y z e f g = cc
 
 -- What bytes tell that pass the checks of a Store.
 module _ (rest : List ℕ) (f : Folded) (are : AreBytes rest) (head : HasHead rest) (facts : HasFacts rest f) where
