@@ -5,3 +5,4 @@ pub mod PublishLemmas
 pub mod RecordLemmas
 pub mod SeqLemmas
 pub mod StandLemmas
+pub mod ViewLemmas

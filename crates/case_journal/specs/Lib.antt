@@ -5,3 +5,4 @@ pub mod Keeping
 pub mod Kept
 pub mod Publishing
 pub mod Putting
+pub mod Viewing

@@ -1,11 +1,14 @@
 // An open journal, and its appends.
 ghost use Rattle.std.specs.Prelude.{◌≡◌, ◌+◌, ◌<◌, ◌≤◌, ◌^◌, false, Bool, ◌++◌, ◌∷◌, [], length, map, IsTrue, OnOk, IfOk, IfErr, Err, Ok, ℕ, vec_len, vec_capacity, option_map};
+ghost use Rattle.std.specs.Prelude.{◌==◌};
+ghost use Rattle.std.specs.List.{find};
+ghost use Rattle.journal_layout.specs.declared.entry.Entry.{Entry};
 ghost use Rattle.disk_model.specs.Places.{SameOutside};
 ghost use Rattle.disk_model.specs.Disk.{HasRisen, HasCause};
 ghost use Rattle.journal_layout.specs.Case.{case_of, numbered};
 ghost use Rattle.journal_layout.specs.Record.{Record, Store, Drop, Pin, record_size, behind_gate};
 ghost use Rattle.journal_layout.specs.Layout.{IsWithinLimits, disk_length, half_start, half_length};
-ghost use Rattle.journal_layout.specs.Folding.{with_pin, dropped, is_among};
+ghost use Rattle.journal_layout.specs.Folding.{with_pin, dropped, is_among, pinned_as};
 ghost use Rattle.journal_layout.specs.Soundness.{case_numbered, Rise};
 ghost use Rattle.journal_layout.specs.Standing.{store_of};
 ghost use Rattle.case_journal.specs.Journaled.{Journaled, halted, goes_on};
@@ -77,7 +80,7 @@ impl Journal {
     pub fn entry(&self, seq: u32) -> Option<&Entry>
         ensures { option_map (λ (e : _). case_of e.now) result ≡ case_numbered seq self.now.standing.cases }
     {
-        self.entries.iter().find(|entry| entry.seq == seq)
+        find_entry(&self.entries, seq)
     }
 
     /// The number of the next case, at most 2^32.
@@ -311,7 +314,8 @@ impl Journal {
 
 // Whether the number is one of these, which rise.
 fn is_listed(seqs: &[u32], seq: u32) -> bool
-    ensures { Rise 0 seqs.now → result ≡ is_among seqs.now seq }
+    requires { Rise 0 seqs.now }
+    ensures { result ≡ is_among seqs.now seq }
 {
     seqs.binary_search(&seq).is_ok()
 }
@@ -329,10 +333,24 @@ fn set_pin(entries: &mut [Entry], seq: u32, flag: bool)
     ensures { map case_of entries.new ≡ with_pin seq flag (map case_of entries.old) }
 {
     for place in 0..entries.len() {
-        if entries[place].seq == seq {
-            entries[place].pinned = flag;
-        }
+        set_flag(&mut entries[place], seq, flag);
     }
+}
+
+// Sets the flag of an entry where it has this number.
+fn set_flag(entry: &mut Entry, seq: u32, flag: bool)
+    ensures { case_of entry.new ≡ pinned_as seq flag (case_of entry.old) }
+{
+    if entry.seq == seq {
+        entry.pinned = flag;
+    }
+}
+
+// The entry of this number, if there is one.
+fn find_entry(entries: &[Entry], seq: u32) -> Option<&Entry>
+    ensures { option_map (λ (e : _). e.now) result ≡ find (λ (e : Entry). e.seq == seq) entries.now }
+{
+    entries.iter().find(|entry| entry.seq == seq)
 }
 
 // Makes room for one more entry, and spells its record behind the gate.

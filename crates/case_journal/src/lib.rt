@@ -1,6 +1,7 @@
 //! scratch
 #![tactic(auto)]
 mod faults;
+mod front;
 mod journal;
 mod publish;
 mod record;
