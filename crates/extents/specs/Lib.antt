@@ -1,2 +1,4 @@
+pub mod FreeSet
+pub mod FreeWords
 pub mod RunLaws
 pub mod Runs
