@@ -1,7 +1,7 @@
 -- The checks of a record, in their order, each with its place in the record and the field that is then at fault. The bytes
 -- are those of the half from the record's gate on, `at` is the gate's place on the disk, and the cases and the next number
 -- are those that the records before it say.
-use Rattle.std.specs.Prelude.{ℕ, ◌+◌, ◌-◌, ◌*◌, ◌%◌, ◌^◌, ◌==◌, ◌&&◌, ◌||◌, not, nat_lt, nat_le, nat_eq, Bool, true, false, if◌then◌else◌, List, [], ◌∷◌, ◌++◌, length, slice_index, drop, Option, None, Some}
+use Rattle.std.specs.Prelude.{ℕ, ◌+◌, ◌-◌, ◌*◌, ◌%◌, ◌^◌, ◌==◌, ◌&&◌, ◌||◌, not, nat_lt, nat_le, Bool, true, false, if◌then◌else◌, List, [], ◌∷◌, ◌++◌, length, slice_index, Option, None, Some}
 use Rattle.std.specs.Option.{option_or, option_map, is_none}
 use Rattle.std.specs.List.{list_any}
 use Rattle.disk_model.specs.Places.{part}
@@ -73,18 +73,18 @@ abbrev pub is_overlapping : List ℕ → Run → Bool
 is_overlapping used r = list_any (is_among used) (run_blocks r)
 
 abbrev pub is_bad_run : ℕ → List ℕ → Option ℕ → Run → Bool
-is_bad_run data used end r =
-    r.count == 0 || nat_lt data (r.start + r.count) || is_adjoining end r || is_overlapping used r
+is_bad_run limit used end r =
+    r.count == 0 || nat_lt limit (r.start + r.count) || is_adjoining end r || is_overlapping used r
 
 -- where the first faulty run stands, the first run standing at this place behind a run that ends there
 abbrev pub first_bad_run : ℕ → List ℕ → Option ℕ → ℕ → List Run → Option ℕ
-first_bad_run data used end place [] = None
-first_bad_run data used end place (r ∷ rest) =
-    if is_bad_run data used end r then Some place
-    else first_bad_run data (used ++ run_blocks r) (Some (r.start + r.count)) (place + 8) rest
+first_bad_run limit used end place [] = None
+first_bad_run limit used end place (r ∷ rest) =
+    if is_bad_run limit used end r then Some place
+    else first_bad_run limit (used ++ run_blocks r) (Some (r.start + r.count)) (place + 8) rest
 
 abbrev pub runs_fault : ℕ → ℕ → List ℕ → Folded → Option OpenFault
-runs_fault data at rest f = option_map (damaged at named.Run) (first_bad_run data (used_blocks f.cases) None 48 (store_runs rest))
+runs_fault limit at rest f = option_map (damaged at named.Run) (first_bad_run limit (used_blocks f.cases) None 48 (store_runs rest))
 
 -- the blocks of the runs, counted
 abbrev pub block_count : List Run → ℕ
@@ -99,9 +99,9 @@ name_checks rest f =
     ∷ []
 
 abbrev pub store_fault : ℕ → ℕ → List ℕ → Folded → Option OpenFault
-store_fault data at rest f =
+store_fault limit at rest f =
     option_or (first_failing at (store_checks rest f))
-    (option_or (runs_fault data at rest f)
+    (option_or (runs_fault limit at rest f)
     (option_or (first_failing at (name_checks rest f)) (padding_fault at rest (name_place rest + name_length_at rest))))
 
 -- Drop: some numbers, and as many as fit
@@ -146,12 +146,12 @@ next_checks rest f =
     ∷ []
 
 abbrev pub body_fault : ℕ → ℕ → List ℕ → Folded → Option OpenFault
-body_fault data at rest f =
-    if kind_at rest == 1 then store_fault data at rest f
+body_fault limit at rest f =
+    if kind_at rest == 1 then store_fault limit at rest f
     else if kind_at rest == 2 then drop_fault at rest f
     else if kind_at rest == 3 then pin_fault at rest f
     else first_failing at (next_checks rest f)
 
 -- the first fault of a record, if it has any
 unfoldable pub record_fault : ℕ → ℕ → List ℕ → Folded → Option OpenFault
-record_fault data at rest f = option_or (first_failing at (head_checks rest)) (body_fault data at rest f)
+record_fault limit at rest f = option_or (first_failing at (head_checks rest)) (body_fault limit at rest f)

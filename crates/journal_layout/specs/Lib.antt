@@ -6,6 +6,7 @@ pub mod Front
 pub mod Layout
 pub mod Reading
 pub mod Record
+pub mod RowLaws
 pub mod Soundness
 pub mod Standing
 pub mod Stands

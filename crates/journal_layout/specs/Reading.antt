@@ -1,5 +1,5 @@
 -- What the bytes of a record tell, field by field. The bytes are those of the half from the record's gate on.
-use Rattle.std.specs.Prelude.{ℕ, zero, suc, ◌+◌, ◌*◌, Bool, ◌==◌, List, [], ◌∷◌, slice_index, drop, if◌then◌else◌}
+use Rattle.std.specs.Prelude.{ℕ, zero, suc, ◌+◌, ◌*◌, ◌==◌, List, [], ◌∷◌, slice_index, drop, if◌then◌else◌}
 use Rattle.disk_model.specs.Places.{part}
 use Rattle.extents.specs.declared.run_list.Run.{Run}
 use Rattle.extents.specs.Runs.{blocks_of}

@@ -1,10 +1,10 @@
 -- When a record may follow others: what it says goes with what they say.
-use Rattle.std.specs.Prelude.{◌≡◌, ◌≢◌, ℕ, ◌+◌, ◌/◌, ◌^◌, ◌<◌, ◌≤◌, Bool, true, false, List, [], ◌∷◌, length, if◌then◌else◌, ◌==◌, Option, Some, None}
+use Rattle.std.specs.Prelude.{◌≡◌, ◌≢◌, ℕ, ◌+◌, ◌/◌, ◌^◌, ◌<◌, ◌≤◌, false, List, [], ◌∷◌, length, if◌then◌else◌, ◌==◌, Option, Some, None}
 use Rattle.std.specs.List.{AllByRecursion}
 use Rattle.disk_model.specs.Places.{AreBytes}
 use Rattle.journal_layout.specs.Case.{Case}
 use Rattle.journal_layout.specs.Record.{Record, Store, Drop, Pin, Next}
-use Rattle.journal_layout.specs.Folding.{Folded, used_blocks, is_name_of, after}
+use Rattle.journal_layout.specs.Folding.{Folded, used_blocks, is_name_of}
 
 -- how often a number stands in a list
 abbrev pub uses : ℕ → List ℕ → ℕ
@@ -13,7 +13,7 @@ uses k (b ∷ rest) = (if b == k then 1 else 0) + uses k rest
 
 -- the blocks are among the first data ones, each stands once, and none is among these
 abbrev pub AreSpare : ℕ → List ℕ → List ℕ → Type 0
-AreSpare data used blocks = (k : ℕ) → 0 < uses k blocks → (k < data) × (uses k blocks ≡ 1) × (uses k used ≡ 0)
+AreSpare limit used blocks = (k : ℕ) → 0 < uses k blocks → (k < limit) × (uses k blocks ≡ 1) × (uses k used ≡ 0)
 
 -- the blocks that hold so many bytes
 abbrev pub blocks_for : ℕ → ℕ
@@ -27,7 +27,7 @@ pub record IsName (name : List ℕ) : Type 0 where
   pub no_nul : AllByRecursion (λ (b : ℕ). b ≢ 0) name
 
 -- A case may be stored where these cases are live, on an archive of so many data blocks. Its number isn't looked at.
-pub record IsStorable (data : ℕ) (cases : List Case) (c : Case) : Type 0 where
+pub record IsStorable (limit : ℕ) (cases : List Case) (c : Case) : Type 0 where
   pub name : IsName c.name
   pub new_name : is_name_of cases c.name ≡ false
   pub pid : c.pid < 2 ^ 32
@@ -36,7 +36,7 @@ pub record IsStorable (data : ℕ) (cases : List Case) (c : Case) : Type 0 where
   pub bytes : c.len < 2 ^ 64
   -- as many blocks as its bytes need
   pub enough : length c.blocks ≡ blocks_for c.len
-  pub spare : AreSpare data (used_blocks cases) c.blocks
+  pub spare : AreSpare limit (used_blocks cases) c.blocks
 
 -- the case of this number, if there is one
 abbrev pub case_numbered : ℕ → List Case → Option Case
@@ -56,7 +56,7 @@ Rise last (seq ∷ rest) = (last < seq) × Rise seq rest
 
 -- the record may stand where the records before it say this
 abbrev pub IsSound : ℕ → Folded → Record → Type 0
-IsSound data f (Store c) = (f.next ≤ c.seq) × (c.seq < 2 ^ 32) × IsStorable data f.cases c
-IsSound data f (Drop seqs) = (0 < length seqs) × Rise 0 seqs × AllByRecursion (λ (seq : ℕ). seq < 2 ^ 32) seqs × AllByRecursion (IsDroppable f.cases) seqs
-IsSound data f (Pin seq flag) = (seq < 2 ^ 32) × IsPinnable f.cases seq
-IsSound data f (Next n) = (f.next ≤ n) × (n ≤ 2 ^ 32)
+IsSound limit f (Store c) = (f.next ≤ c.seq) × (c.seq < 2 ^ 32) × IsStorable limit f.cases c
+IsSound limit f (Drop seqs) = (0 < length seqs) × Rise 0 seqs × AllByRecursion (λ (seq : ℕ). seq < 2 ^ 32) seqs × AllByRecursion (IsDroppable f.cases) seqs
+IsSound limit f (Pin seq flag) = (seq < 2 ^ 32) × IsPinnable f.cases seq
+IsSound limit f (Next n) = (f.next ≤ n) × (n ≤ 2 ^ 32)

@@ -1,5 +1,5 @@
 -- What the journal of an archive stands for.
-use Rattle.std.specs.Prelude.{ℕ, ◌+◌, Bool, [], List}
+use Rattle.std.specs.Prelude.{ℕ, ◌+◌, [], List}
 use Rattle.journal_layout.specs.declared.shape.Shape.{Shape}
 use Rattle.journal_layout.specs.declared.shape.Half.{Half}
 use Rattle.journal_layout.specs.Case.{Case, numbered}
