@@ -1,7 +1,17 @@
 //! What the records of a journal half say: its cases and the number of the next one.
 #![tactic(auto)]
 
+mod dropped;
 mod fields;
 mod head;
+mod next;
+mod padding;
+mod pin;
 
-pub(crate) use fields::{damaged, u16_at, u32_at, u64_at};
+pub(crate) use fields::{damaged, rounded, u16_at, u32_at, u64_at};
+
+use journal_layout::Entry;
+use std::collections::BTreeMap;
+
+// The live cases by their numbers.
+pub(crate) type Live = BTreeMap<u32, Entry>;

@@ -1,0 +1,3 @@
+pub mod LiveLemmas
+pub mod ByteLemmas
+pub mod DropLemmas
