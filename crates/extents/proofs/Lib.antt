@@ -1,1 +1,3 @@
 pub mod BlockLemmas
+pub mod RunLemmas
+pub mod WordLemmas

@@ -4,7 +4,7 @@ use Rattle.std.specs.List.{range_with_len, count_by, All}
 use Rattle.extents.specs.declared.run_list.Run.{Run}
 use Rattle.extents.specs.declared.free_map.UseFault.{UseFault}
 use Rattle.extents.specs.declared.free_map.UseFault.TheVariants.{OutOfRange, InUse}
-use Rattle.extents.specs.Runs.{run_blocks, blocks_of}
+use Rattle.extents.specs.Runs.{blocks_of}
 
 -- whether block k is free; past the last block none is
 abbrev pub is_free : List Bool → ℕ → Bool
@@ -18,9 +18,9 @@ free_count flags = count_by (λ free. free) flags
 abbrev pub uses : List ℕ → ℕ → ℕ
 uses blocks k = count_by (λ b. nat_eq b k) blocks
 
--- 1 where block k is free, otherwise 0
-abbrev pub free_uses : List Bool → ℕ → ℕ
-free_uses flags k = cond (is_free flags k) 1 0
+-- 1 where it is so, otherwise 0
+abbrev pub one_if : Bool → ℕ
+one_if t = cond t 1 0
 
 -- whether block k is one of the run's
 abbrev pub is_within : Run → ℕ → Bool
@@ -34,9 +34,13 @@ flags_by n test = map test (range_with_len 0 n)
 unfoldable pub without : List Bool → Run → List Bool
 without flags run = flags_by (length flags) (λ k. is_free flags k && not (is_within run k))
 
+-- the same blocks, with these free as well
+unfoldable pub with_blocks : List Bool → List ℕ → List Bool
+with_blocks flags blocks = flags_by (length flags) (λ k. is_free flags k || nat_lt 0 (uses blocks k))
+
 -- the same blocks, with those of the runs free as well
-unfoldable pub with_runs : List Bool → List Run → List Bool
-with_runs flags runs = flags_by (length flags) (λ k. is_free flags k || nat_lt 0 (uses (blocks_of runs) k))
+abbrev pub with_runs : List Bool → List Run → List Bool
+with_runs flags runs = with_blocks flags (blocks_of runs)
 
 -- each block of the run is free
 abbrev pub AllFree : List Bool → Run → Type 0

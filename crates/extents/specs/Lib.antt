@@ -1,3 +1,4 @@
+pub mod FreeLaws
 pub mod FreeSet
 pub mod FreeWords
 pub mod RunLaws

@@ -1,7 +1,8 @@
 // Which blocks are free, one bit for each block.
-ghost use Rattle.std.specs.Prelude.{◌≡◌, ◌+◌, ◌<◌, ◌≤◌, [], ◌∷◌, true, false, IfOk, length, replicate, slice_set};
-ghost use Rattle.extents.specs.FreeSet.{is_free, free_count, AllFree, AllUsed, Marks, TakesOrNone, AreUsed, without, with_runs, IsLowest, IsStretch};
-ghost use Rattle.extents.specs.FreeWords.{IsFirstInUse};
+ghost use Rattle.std.specs.Prelude.{◌≡◌, ◌+◌, ◌*◌, ◌^◌, ◌<◌, ◌≤◌, ℕ, true, false, IfOk, length, replicate};
+ghost use Rattle.extents.specs.FreeSet.{is_free, free_count, AllFree, AllUsed, Marks, TakesOrNone, AreUsed, without, with_blocks, with_runs, IsLowest, IsStretch};
+ghost use Rattle.extents.specs.FreeWords.{flags_of, IsFirstInUse};
+ghost use Rattle.extents.specs.Runs.{run_blocks};
 
 use crate::Run;
 use std::alloc::{AllocError, Global};
@@ -62,7 +63,7 @@ impl FreeMap {
         requires { 1 ≤ run.count }
         ensures { Marks self.old run result self.new }
     {
-        if self.blocks < run.start || self.blocks - run.start < run.count {
+        if u64::from(run.start) + u64::from(run.count) > u64::from(self.blocks) {
             return Err(UseFault::OutOfRange);
         }
         if self.stretch(run.start, run.count) < run.count {
@@ -108,9 +109,12 @@ impl FreeMap {
         ensures same { self.new ≡ self.old }
         ensures lowest { IsLowest self.old result }
     {
-        self.first = first_in_use(&self.words, self.first);
-        let word = *self.words.get(self.first)?;
-        let block = self.first as u32 * 64 + word.trailing_zeros();
+        let first = first_in_use(&self.words, self.first);
+        self.first = first;
+        if first == self.words.len() {
+            return None;
+        }
+        let block = first as u32 * 64 + self.words[first].trailing_zeros();
         if block < self.blocks {
             Some(block)
         } else {
@@ -138,20 +142,19 @@ impl FreeMap {
         requires free { AllFree self.old run }
         ensures { self.new ≡ without self.old run }
     {
-        for block in run.start..run.start + run.count {
-            self.use_block(block);
-        }
+        clear_bits(&mut self.words, run);
+        self.free -= run.count;
     }
 
     // Frees the blocks of a run, none of which is free.
     fn free_run(&mut self, run: Run)
         requires within { run.start + run.count ≤ length self.old }
         requires used { AllUsed self.old run }
-        ensures { self.new ≡ with_runs self.old (run ∷ []) }
+        ensures { self.new ≡ with_blocks self.old (run_blocks run) }
     {
-        for block in run.start..run.start + run.count {
-            self.free_block(block);
-        }
+        set_bits(&mut self.words, run);
+        self.free += run.count;
+        self.first = self.first.min((run.start / 64) as usize);
     }
 
     fn is_free(&self, block: u32) -> bool
@@ -160,28 +163,6 @@ impl FreeMap {
     {
         let word = self.words[(block / 64) as usize];
         word >> (block % 64) & 1 == 1
-    }
-
-    // Marks a free block as used.
-    fn use_block(&mut self, block: u32)
-        requires { is_free self.old block ≡ true }
-        ensures { self.new ≡ slice_set self.old block false }
-    {
-        let index = (block / 64) as usize;
-        self.words[index] &= !(1 << (block % 64));
-        self.free -= 1;
-    }
-
-    // Frees a block that is used.
-    fn free_block(&mut self, block: u32)
-        requires within { block < length self.old }
-        requires used { is_free self.old block ≡ false }
-        ensures { self.new ≡ slice_set self.old block true }
-    {
-        let index = (block / 64) as usize;
-        self.words[index] |= 1 << (block % 64);
-        self.free += 1;
-        self.first = self.first.min(index);
     }
 }
 
@@ -196,4 +177,28 @@ fn first_in_use(words: &[u64], from: usize) -> usize
         }
     }
     words.len()
+}
+
+// Clears the bits of a run.
+fn clear_bits(words: &mut [u64], run: Run)
+    requires fits { run.start + run.count < 2 ^ 32 }
+    requires within { run.start + run.count ≤ 64 * length words.old }
+    ensures { (n : ℕ) → run.start + run.count ≤ n → n ≤ 64 * length words.old
+        → flags_of words.new n ≡ without (flags_of words.old n) run }
+{
+    for block in run.start..run.start + run.count {
+        words[(block / 64) as usize] &= !(1 << (block % 64));
+    }
+}
+
+// Sets the bits of a run.
+fn set_bits(words: &mut [u64], run: Run)
+    requires fits { run.start + run.count < 2 ^ 32 }
+    requires within { run.start + run.count ≤ 64 * length words.old }
+    ensures { (n : ℕ) → run.start + run.count ≤ n → n ≤ 64 * length words.old
+        → flags_of words.new n ≡ with_blocks (flags_of words.old n) (run_blocks run) }
+{
+    for block in run.start..run.start + run.count {
+        words[(block / 64) as usize] |= 1 << (block % 64);
+    }
 }
