@@ -1,6 +1,6 @@
 -- Laws of entries kept under their numbers.
 use Rattle.std.proofs.Common.{◌≡◌, inl, inr, ⊎_elim, ℕ, ◌+◌, ◌<◌, ◌≤◌, Bool, true, false, not, ◌||◌, cond, List, [], ◌∷◌, ◌++◌, Option, Some, None, refl, sym, ap, ◌∙◌, arith, nat_eq}
-use Rattle.std.specs.Option.{option_map}
+use Rattle.std.specs.Option.{option_map, is_some, is_none}
 use Rattle.std.specs.List.{filter, list_any, sum_by}
 use Rattle.std.proofs.lemmas.List.Sums.{sum_by-cons}
 use Rattle.std.specs.Ordering.{nat_cmp, is_eq, match_ordering}
@@ -161,7 +161,8 @@ pinned_missing s flag [] is = refl
 pinned_missing s flag (e ∷ es) is =
     elim (cases_eq e.0 s) as (λ _. pinned_in s flag (e ∷ es) ≡ e ∷ es) [
       | inl same ↦ (
-          let here : None {T = Entry} ≡ Some e.1 = is ∙ ap (λ t. cond t (Some e.1) (lookup (is_at (nat_cmp s)) es)) (test_same s e.0 same) in
+          let nothing : Option Entry = None in
+          let here : nothing ≡ Some e.1 = is ∙ ap (λ t. cond t (Some e.1) (lookup (is_at (nat_cmp s)) es)) (test_same s e.0 same) in
           absurd (cc))
       | inr other ↦ (
           let later : None ≡ lookup (is_at (nat_cmp s)) es = is ∙ ap (λ t. cond t (Some e.1) (lookup (is_at (nat_cmp s)) es)) (test_other s e.0 other) in
@@ -210,3 +211,7 @@ pinned_sum f s flag same (e ∷ es) =
       | true ↦ sum_by-cons f (with_flag flag e.1) (values_of es) ∙ ap (λ n. n + sum_by f (values_of es)) (same e.1) ∙ sym (sum_by-cons f e.1 (values_of es))
       | false ↦ sum_by-cons f e.1 (values_of (pinned_in s flag es)) ∙ ap (λ n. f e.1 + n) (pinned_sum f s flag same es) ∙ sym (sum_by-cons f e.1 (values_of es))
     ]
+
+pub missing_is : (found : Option Entry) → not (is_some found) ≡ is_none (option_map case_of found)
+missing_is None = refl
+missing_is (Some e) = refl
