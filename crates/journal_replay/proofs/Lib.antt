@@ -1,3 +1,5 @@
 pub mod LiveLemmas
 pub mod ByteLemmas
 pub mod DropLemmas
+pub mod NameLemmas
+pub mod RunLemmas

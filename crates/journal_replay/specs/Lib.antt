@@ -1,2 +1,4 @@
 pub mod Head
+pub mod Kept
 pub mod Live
+pub mod Taken

@@ -1,12 +1,16 @@
 //! What the records of a journal half say: its cases and the number of the next one.
 #![tactic(auto)]
 
+mod cases;
 mod dropped;
 mod fields;
 mod head;
+mod names;
 mod next;
 mod padding;
 mod pin;
+mod runs;
+mod store;
 
 pub(crate) use fields::{damaged, rounded, u16_at, u32_at, u64_at};
 
