@@ -3,3 +3,4 @@ pub mod ByteLemmas
 pub mod DropLemmas
 pub mod NameLemmas
 pub mod RunLemmas
+pub mod KeptLemmas

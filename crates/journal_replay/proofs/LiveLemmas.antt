@@ -203,14 +203,6 @@ pinned_cases low high s flag (e ∷ es) are =
           ∙ ap (λ t. cond t (case_of (with_flag flag e.1)) (case_of e.1) ∷ with_pin s flag (cases_of es)) (sym (ne_eqb e.1.seq s (λ f. other (sym number ∙ f))))
     ]
 
--- a sum over the entries in which the flag does not count
-pub pinned_sum : (f : Entry → ℕ) (s : ℕ) (flag : Bool) → ((e : Entry) → f (with_flag flag e) ≡ f e) → (es : List (ℕ × Entry)) → sum_by f (values_of (pinned_in s flag es)) ≡ sum_by f (values_of es)
-pinned_sum f s flag same [] = refl
-pinned_sum f s flag same (e ∷ es) =
-    elim (nat_eq e.0 s) as (λ t. sum_by f (values_of (cond t ((e.0, with_flag flag e.1) ∷ es) (e ∷ pinned_in s flag es))) ≡ sum_by f (values_of (e ∷ es))) [
-      | true ↦ sum_by-cons f (with_flag flag e.1) (values_of es) ∙ ap (λ n. n + sum_by f (values_of es)) (same e.1) ∙ sym (sum_by-cons f e.1 (values_of es))
-      | false ↦ sum_by-cons f e.1 (values_of (pinned_in s flag es)) ∙ ap (λ n. f e.1 + n) (pinned_sum f s flag same es) ∙ sym (sum_by-cons f e.1 (values_of es))
-    ]
 
 pub missing_is : (found : Option Entry) → not (is_some found) ≡ is_none (option_map case_of found)
 missing_is None = refl

@@ -6,7 +6,9 @@ use Rattle.extents.specs.FreeSet.{one_if}
 use Rattle.journal_layout.specs.declared.faults.OpenFault.{OpenFault}
 use Rattle.journal_layout.specs.declared.faults.OpenFault.TheVariants.{OutOfMemory}
 use Rattle.journal_layout.specs.Case.{Case}
-use Rattle.journal_layout.specs.Folding.{Folded, used_blocks}
+use Rattle.journal_layout.specs.Folding.{Folded, after, used_blocks}
+use Rattle.journal_layout.specs.Reading.{length_at, record_at}
+use Rattle.journal_layout.specs.Checks.{record_fault}
 use Rattle.journal_replay.specs.declared.cases.Cases.{Cases}
 use Rattle.journal_replay.specs.Head.{TellsFault}
 use Rattle.journal_replay.specs.Live.{cases_of, AreNumbered}
@@ -27,7 +29,7 @@ pub record AreKept (c : Cases) : Type 0 where
   pub some : 1 ≤ c.next
   pub bound : c.next ≤ 2 ^ 32
   pub names : (name : List ℕ) → bearers (cases_of c.live.entries) name ≡ one_if (has_name c.names name)
-  pub blocks : Accounts (used_blocks (cases_of c.live.entries)) c.free
+  pub accounts : Accounts (used_blocks (cases_of c.live.entries)) c.free
 
 -- The state says this, on so many data blocks.
 pub record Says (said : Folded) (limit : ℕ) (c : Cases) : Type 0 where
@@ -44,3 +46,9 @@ OnlyMemory (Err e) = e ≡ OutOfMemory
 abbrev pub Reads : Option OpenFault → Folded → ℕ → Result (Unit {0}) OpenFault → Cases → Type 0
 Reads fault said limit (Ok done) new = (fault ≡ None) × Says said limit new
 Reads fault said limit (Err e) new = TellsFault fault e
+
+-- the same of a whole record with its head: where it has no fault, it tells its length
+abbrev pub ReadsRecord : ℕ → List ℕ → Cases → Result ℕ OpenFault → Cases → Type 0
+ReadsRecord at rest old (Ok size) new =
+    (record_fault (length old.free) at rest (said_by old) ≡ None) × Says (after (record_at rest) (said_by old)) (length old.free) new × (size ≡ length_at rest)
+ReadsRecord at rest old (Err e) new = TellsFault (record_fault (length old.free) at rest (said_by old)) e

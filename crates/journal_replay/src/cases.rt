@@ -1,11 +1,23 @@
 // What the records so far say, kept so that each look-up is short.
-ghost use Rattle.std.specs.Prelude.{◌≡◌, ℕ, ◌+◌, ◌*◌, ◌^◌, ◌<◌, ◌≤◌, ◌∷◌, ◌++◌, [], List, IfOk, length};
+ghost use Rattle.std.specs.Prelude.{◌≡◌, ℕ, ◌+◌, ◌*◌, ◌^◌, ◌<◌, ◌≤◌, ◌==◌, ◌∷◌, ◌++◌, [], List, IfOk, OnOk, length, slice_index};
 ghost use Rattle.journal_layout.specs.Layout.{field};
 ghost use Rattle.journal_layout.specs.Case.{case_of};
-ghost use Rattle.journal_layout.specs.Reading.{drop_seqs};
-ghost use Rattle.journal_layout.specs.Folding.{nothing_yet, dropped, with_pin};
-ghost use Rattle.journal_replay.specs.Kept.{said_by, AreKept, Says, OnlyMemory};
+ghost use Rattle.journal_layout.specs.Record.{Store, Drop, Pin, Next};
+ghost use Rattle.journal_layout.specs.Reading.{drop_seqs, seq_count_at, case_at, record_at};
+ghost use Rattle.journal_layout.specs.Folding.{nothing_yet, dropped, after};
+ghost use Rattle.journal_layout.specs.Checks.{store_fault, drop_fault, pin_fault, first_failing, next_checks, body_fault};
+ghost use Rattle.journal_replay.specs.Head.{IsHeaded};
+ghost use Rattle.journal_replay.specs.Live.{cases_of, AreNumbered};
+ghost use Rattle.journal_replay.specs.Kept.{said_by, AreKept, Says, OnlyMemory, Reads, ReadsRecord};
 
+use crate::dropped::check_drop;
+use crate::head::check_head;
+use crate::names::{name_end, take_name};
+use crate::next::read_next;
+use crate::padding::check_padding;
+use crate::pin::{check_pin, set_pin};
+use crate::runs::read_runs;
+use crate::store::{check_facts, check_image, entry_at};
 use crate::{Live, u32_at};
 use extents::FreeMap;
 use journal_layout::{Entry, Name, OpenFault};
@@ -48,5 +60,115 @@ impl Cases {
             self.names.remove(&entry.name);
             self.free.give_back(entry.runs.runs());
         }
+    }
+
+    // Ends the cases whose numbers a Drop record tells.
+    fn drop_cases(&mut self, rest: &[u8])
+        requires kept { AreKept self.old }
+        requires room { 12 + 4 * seq_count_at rest.now ≤ length rest.now }
+        ensures { Says (after (Drop (drop_seqs rest.now)) (said_by self.old)) (length self.old.free) self.new }
+    {
+        for index in 0..u32_at(rest, 8) as usize {
+            self.drop_case(u32_at(rest, 12 + 4 * index));
+        }
+    }
+
+    // Keeps a case under its number, which is not below the next one.
+    fn push(&mut self, entry: Entry) -> Result<(), OpenFault>
+        requires numbered { AreNumbered 0 self.old.next self.old.live.entries }
+        requires number { self.old.next ≤ entry.seq }
+        ensures cases { OnOk result (cases_of self.new.live.entries ≡ cases_of self.old.live.entries ++ case_of entry ∷ []) }
+        ensures numbered { OnOk result (AreNumbered 0 (entry.seq + 1) self.new.live.entries) }
+        ensures next { OnOk result (self.new.next ≡ entry.seq + 1) }
+        ensures names { self.new.names ≡ self.old.names }
+        ensures free { self.new.free ≡ self.old.free }
+        ensures only { OnlyMemory result }
+    {
+        let seq = entry.seq;
+        let Ok(_) = self.live.insert(seq, entry) else {
+            return Err(OpenFault::OutOfMemory);
+        };
+        self.next = u64::from(seq) + 1;
+        Ok(())
+    }
+
+    // Reads a Store record.
+    fn read_store(&mut self, alloc: Global, rest: &[u8], at: u64) -> Result<(), OpenFault>
+        requires kept { AreKept self.old }
+        requires limit { length self.old.free ≤ 16777216 }
+        requires head { IsHeaded rest.now }
+        requires disk { at + length rest.now ≤ 2 ^ 63 }
+        ensures { Reads (store_fault (length self.old.free) at rest.now (said_by self.old)) (after (Store (case_at rest.now)) (said_by self.old)) (length self.old.free) result self.new }
+    {
+        check_facts(rest, at, self.next)?;
+        let (runs, blocks) = read_runs(alloc, &mut self.free, rest, at)?;
+        check_image(rest, at, blocks)?;
+        let name = take_name(&mut self.names, rest, at)?;
+        check_padding(rest, at, name_end(rest))?;
+        self.push(entry_at(rest, name, runs))?;
+        Ok(())
+    }
+
+    // Reads a Drop record.
+    fn read_drop(&mut self, rest: &[u8], at: u64) -> Result<(), OpenFault>
+        requires kept { AreKept self.old }
+        requires head { IsHeaded rest.now }
+        requires disk { at + length rest.now ≤ 2 ^ 63 }
+        ensures { Reads (drop_fault at rest.now (said_by self.old)) (after (Drop (drop_seqs rest.now)) (said_by self.old)) (length self.old.free) result self.new }
+    {
+        check_drop(&self.live, rest, at)?;
+        self.drop_cases(rest);
+        Ok(())
+    }
+
+    // Reads a Pin record.
+    fn read_pin(&mut self, rest: &[u8], at: u64) -> Result<(), OpenFault>
+        requires kept { AreKept self.old }
+        requires head { IsHeaded rest.now }
+        requires disk { at + length rest.now ≤ 2 ^ 63 }
+        ensures { Reads (pin_fault at rest.now (said_by self.old)) (after (Pin (field rest.now 8 4) (slice_index rest.now 12 == 1)) (said_by self.old)) (length self.old.free) result self.new }
+    {
+        check_pin(&self.live, rest, at)?;
+        set_pin(&mut self.live, u32_at(rest, 8), rest[12] == 1);
+        Ok(())
+    }
+
+    // Reads a Next record.
+    fn read_next(&mut self, rest: &[u8], at: u64) -> Result<(), OpenFault>
+        requires kept { AreKept self.old }
+        requires head { IsHeaded rest.now }
+        requires disk { at + length rest.now ≤ 2 ^ 63 }
+        ensures { Reads (first_failing at (next_checks rest.now (said_by self.old))) (after (Next (field rest.now 8 8)) (said_by self.old)) (length self.old.free) result self.new }
+    {
+        self.next = read_next(rest, at, self.next)?;
+        Ok(())
+    }
+
+    // Reads what stands behind a record's head.
+    fn read_body(&mut self, alloc: Global, rest: &[u8], at: u64) -> Result<(), OpenFault>
+        requires kept { AreKept self.old }
+        requires limit { length self.old.free ≤ 16777216 }
+        requires head { IsHeaded rest.now }
+        requires disk { at + length rest.now ≤ 2 ^ 63 }
+        ensures { Reads (body_fault (length self.old.free) at rest.now (said_by self.old)) (after (record_at rest.now) (said_by self.old)) (length self.old.free) result self.new }
+    {
+        match rest[1] {
+            1 => self.read_store(alloc, rest, at),
+            2 => self.read_drop(rest, at),
+            3 => self.read_pin(rest, at),
+            _ => self.read_next(rest, at),
+        }
+    }
+
+    /// Reads the record that these bytes begin with, whose gate is at byte `at` of the disk, and tells its length.
+    pub fn read_record(&mut self, alloc: Global, rest: &[u8], at: u64) -> Result<usize, OpenFault>
+        requires kept { AreKept self.old }
+        requires limit { length self.old.free ≤ 16777216 }
+        requires disk { at + length rest.now ≤ 2 ^ 63 }
+        ensures { ReadsRecord at rest.now self.old result self.new }
+    {
+        check_head(rest, at)?;
+        self.read_body(alloc, rest, at)?;
+        Ok(u32_at(rest, 4) as usize)
     }
 }

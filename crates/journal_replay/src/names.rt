@@ -11,6 +11,14 @@ use crate::{damaged, u16_at, u32_at};
 use journal_layout::{Field, Name, OpenFault};
 use std::collections::BTreeSet;
 
+/// Where the name of a Store record ends.
+pub(crate) fn name_end(rest: &[u8]) -> usize
+    requires { 48 ≤ length rest.now }
+    ensures { result ≡ name_place rest.now + name_length_at rest.now }
+{
+    48 + 8 * u32_at(rest, 40) as usize + u16_at(rest, 14) as usize
+}
+
 // The name that stands behind the runs.
 fn name_at(rest: &[u8]) -> Name
     requires room { name_place rest.now + name_length_at rest.now ≤ length rest.now }
