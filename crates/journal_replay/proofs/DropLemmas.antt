@@ -1,5 +1,5 @@
 -- Steps of a Drop record's numbers.
-use Rattle.std.proofs.Common.{◌≡◌, ℕ, ◌+◌, ◌-◌, ◌*◌, ◌<◌, ◌≤◌, Bool, true, false, ◌||◌, cond, List, ◌∷◌, length, drop, Option, Some, None, refl, sym, ap, ◌∙◌, arith}
+use Rattle.std.proofs.Common.{◌≡◌, ℕ, ◌+◌, ◌-◌, ◌*◌, ◌<◌, ◌≤◌, Bool, true, false, ◌||◌, cond, List, [], ◌∷◌, length, drop, Option, Some, None, refl, sym, ap, ◌∙◌, arith}
 use Rattle.std.specs.Prelude.{nat_le}
 use Rattle.journal_layout.specs.Case.{Case}
 use Rattle.journal_layout.specs.Layout.{field}
@@ -38,3 +38,17 @@ seqs_all cases last count rest = (let e : count - 0 ≡ count = omega arith in a
 
 pub seqs_end : (cases : List Case) (last p count index : ℕ) (rest : List ℕ) → count ≤ index → first_bad_seq cases last p (seqs_at (drop p rest) (count - index)) ≡ None
 seqs_end cases last p count index rest past = (let e : count - index ≡ 0 = omega arith in ap (λ n. first_bad_seq cases last p (seqs_at (drop p rest) n)) e)
+
+-- the number at an index, and those behind it
+pub seqs_here : (index count : ℕ) (rest : List ℕ) → index < count
+    → seqs_at (drop (12 + 4 * index) rest) (count - index) ≡ field rest (12 + 4 * index) 4 ∷ seqs_at (drop (12 + 4 * (index + 1)) rest) (count - (index + 1))
+seqs_here index count rest below =
+    let p = 12 + 4 * index in
+    let e : p + 4 ≡ 12 + 4 * (index + 1) = omega arith in
+    let f : count - index - 1 ≡ count - (index + 1) = omega arith in
+    seqs_step p (count - index) rest (omega arith)
+    ∙ ap (λ k. field rest p 4 ∷ seqs_at (drop k rest) (count - index - 1)) e
+    ∙ ap (λ k. field rest p 4 ∷ seqs_at (drop (12 + 4 * (index + 1)) rest) k) f
+
+pub seqs_none : (p count index : ℕ) (rest : List ℕ) → count ≤ index → seqs_at (drop p rest) (count - index) ≡ []
+seqs_none p count index rest past = (let e : count - index ≡ 0 = omega arith in ap (seqs_at (drop p rest)) e)

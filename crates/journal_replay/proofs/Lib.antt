@@ -4,3 +4,7 @@ pub mod DropLemmas
 pub mod NameLemmas
 pub mod RunLemmas
 pub mod KeptLemmas
+pub mod FaultLemmas
+pub mod SaysLemmas
+pub mod StoreLemmas
+pub mod KindLemmas

@@ -10,7 +10,7 @@ use Rattle.journal_layout.specs.Folding.{Folded, after, used_blocks}
 use Rattle.journal_layout.specs.Reading.{length_at, record_at}
 use Rattle.journal_layout.specs.Checks.{record_fault}
 use Rattle.journal_replay.specs.declared.cases.Cases.{Cases}
-use Rattle.journal_replay.specs.Head.{TellsFault}
+use Rattle.journal_replay.specs.Head.{IsHeaded, TellsFault}
 use Rattle.journal_replay.specs.Live.{cases_of, AreNumbered}
 use Rattle.journal_replay.specs.Taken.{Accounts, has_name}
 
@@ -50,5 +50,5 @@ Reads fault said limit (Err e) new = TellsFault fault e
 -- the same of a whole record with its head: where it has no fault, it tells its length
 abbrev pub ReadsRecord : ℕ → List ℕ → Cases → Result ℕ OpenFault → Cases → Type 0
 ReadsRecord at rest old (Ok size) new =
-    (record_fault (length old.free) at rest (said_by old) ≡ None) × Says (after (record_at rest) (said_by old)) (length old.free) new × (size ≡ length_at rest)
+    (record_fault (length old.free) at rest (said_by old) ≡ None) × Says (after (record_at rest) (said_by old)) (length old.free) new × (size ≡ length_at rest) × IsHeaded rest
 ReadsRecord at rest old (Err e) new = TellsFault (record_fault (length old.free) at rest (said_by old)) e

@@ -80,6 +80,7 @@ impl Cases {
         ensures cases { OnOk result (cases_of self.new.live.entries ≡ cases_of self.old.live.entries ++ case_of entry ∷ []) }
         ensures numbered { OnOk result (AreNumbered 0 (entry.seq + 1) self.new.live.entries) }
         ensures next { OnOk result (self.new.next ≡ entry.seq + 1) }
+        ensures bound { OnOk result (entry.seq < 2 ^ 32) }
         ensures names { self.new.names ≡ self.old.names }
         ensures free { self.new.free ≡ self.old.free }
         ensures only { OnlyMemory result }
