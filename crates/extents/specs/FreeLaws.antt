@@ -5,11 +5,16 @@ use Rattle.std.proofs.lemmas.List.{ext_get_or, get_or_past, get_or-set_same, get
 use Rattle.std.proofs.lemmas.List.FromFn.{length-map-range_with_len, get_or-map-range_with_len, map-range_with_len_more, length-range_with_len}
 use Rattle.std.proofs.lemmas.List.Sums.{sum_by-cons, sum_by-append, sum_by-set, get_or-le-sum_by, count_by-le-length}
 use Rattle.std.proofs.lemmas.List.Folds.{sum_by-replicate}
+use Rattle.std.proofs.lemmas.List.Elements.{All-nil, All-cons}
 use Rattle.std.proofs.lemmas.Bool.{cases_lt, cases_eq, le-leb, lt-leb, lt-ltb, le-ltb, eq-eqb, ne_eqb}
 use Rattle.std.proofs.Math.Dec.{leb, ltb, eqb}
 use Rattle.extents.specs.declared.run_list.Run.{Run}
-use Rattle.extents.specs.Runs.{run_blocks}
-use Rattle.extents.specs.FreeSet.{is_free, free_count, uses, one_if, is_within, flags_by, without, with_blocks, AllFree, AllUsed, NoneFree}
+use Rattle.extents.specs.declared.free_map.UseFault.{UseFault}
+use Rattle.extents.specs.declared.free_map.UseFault.TheVariants.{OutOfRange, InUse}
+use Rattle.std.proofs.Common.{subst, Result, Ok, Err}
+use Rattle.extents.specs.Runs.{run_blocks, blocks_of, runs_of}
+use Rattle.extents.specs.RunLaws.{blocks_of_runs, runs_have_blocks}
+use Rattle.extents.specs.FreeSet.{is_free, free_count, uses, one_if, is_within, flags_by, without, with_blocks, with_runs, AllFree, AllUsed, NoneFree, AreUsed, Marks, Takes}
 
 -- Lists of flags by a test.
 
@@ -361,3 +366,86 @@ one_free_with flags blocks used different k =
       | inr none ↦ (let never : uses blocks k ≡ 0 = omega arith in
           rw (free_with_other flags blocks k never, never) (omega arith))
     ]
+
+-- The shortest runs with some blocks, which a run list gives.
+
+-- different blocks of the set, none of them free, may be given back as their runs
+pub used_runs : (flags : List Bool) (blocks : List ℕ) → ((k : ℕ) → 0 < uses blocks k → (k < length flags) × (is_free flags k ≡ false)) → ((k : ℕ) → uses blocks k ≤ 1) → AreUsed flags (runs_of blocks)
+used_runs flags blocks used different = record {
+  some = runs_have_blocks blocks;
+  used = λ k some. used k (omega (arith, ap (λ bs. uses bs k) (blocks_of_runs blocks), some));
+  different = λ k. omega (arith, ap (λ bs. uses bs k) (blocks_of_runs blocks), different k);
+}
+
+-- and then these blocks are free as well
+pub with_their_runs : (flags : List Bool) (blocks : List ℕ) → with_runs flags (runs_of blocks) ≡ with_blocks flags blocks
+with_their_runs flags blocks = ap (with_blocks flags) (blocks_of_runs blocks)
+
+-- What a call does to the counts of a block and of all blocks.
+
+pub marked_one : (old new : List Bool) (run : Run) → AllFree old run → new ≡ without old run → (k : ℕ) → one_if (is_free new k) + uses (run_blocks run) k ≡ one_if (is_free old k)
+marked_one old new run free is k = ap (λ f. one_if (is_free f k) + uses (run_blocks run) k) is ∙ one_free_without old run free k
+
+pub marked_count : (old new : List Bool) (run : Run) → run.start + run.count ≤ length old → AllFree old run → new ≡ without old run → free_count new + run.count ≡ free_count old
+marked_count old new run fits free is = ap (λ f. free_count f + run.count) is ∙ count_without old run.start run.count fits free
+
+pub given_one : (flags : List Bool) (runs : List Run) → AreUsed flags runs → (k : ℕ) → one_if (is_free (with_runs flags runs) k) ≡ one_if (is_free flags k) + uses (blocks_of runs) k
+given_one flags runs are k = one_free_with flags (blocks_of runs) are.used are.different k
+
+pub given_count : (flags : List Bool) (runs : List Run) → AreUsed flags runs → free_count (with_runs flags runs) ≡ free_count flags + length (blocks_of runs)
+given_count flags runs are = count_with flags (blocks_of runs) are.used are.different
+
+-- Runs that are in use.
+
+pub no_runs : (flags : List Bool) → AreUsed flags []
+no_runs flags = record {
+  some = All-nil (λ (run : Run). 1 ≤ run.count);
+  used = λ k some. absurd (omega arith);
+  different = λ k. omega arith;
+}
+
+-- runs in use stay so while another one is taken
+pub used_without : (flags : List Bool) (runs : List Run) (run : Run) → AreUsed flags runs → AreUsed (without flags run) runs
+used_without flags runs run are = record {
+  some = are.some;
+  used = λ k some. (let u = are.used k some in
+      (rw (length_without flags run) u.0, free_without flags run k ∙ rw u.1 refl));
+  different = are.different;
+}
+
+never_both : (flags : List Bool) (runs : List Run) (k : ℕ) → AreUsed flags runs → is_free flags k ≡ true → uses (blocks_of runs) k ≡ 0
+never_both flags runs k are free =
+    elim (cases_lt 0 (uses (blocks_of runs) k)) as (λ _. uses (blocks_of runs) k ≡ 0) [
+      | inl some ↦ (let u = are.used k some in let e : true ≡ false = sym free ∙ u.1 in cc)
+      | inr none ↦ omega arith
+    ]
+
+-- and it is in use then as well
+pub taken_used : (flags : List Bool) (runs : List Run) (run : Run) → AreUsed flags runs → AllFree flags run → 1 ≤ run.count → run.start + run.count ≤ length flags → AreUsed (without flags run) (run ∷ runs)
+taken_used flags runs run are free more fits =
+    let long = length_without flags run in
+    let sum = uses_append (run_blocks run) (blocks_of runs) in
+    record {
+      some = All-cons (λ (r : Run). 1 ≤ r.count) run runs more are.some;
+      used = λ k some. elim (cases_lt 0 (uses (run_blocks run) k)) as (λ _. (k < length (without flags run)) × (is_free (without flags run) k ≡ false)) [
+        | inl here ↦ (let w = used_within run k here in (omega (arith, long, w.1), free_without_inside flags run k w.0 w.1))
+        | inr there ↦ (used_without flags runs run are).used k (omega (arith, sum k))
+      ];
+      different = λ k. elim (cases_lt 0 (uses (run_blocks run) k)) as (λ _. uses (blocks_of (run ∷ runs)) k ≤ 1) [
+        | inl here ↦ (let w = used_within run k here in omega (arith, sum k, uses_once run k, never_both flags runs k are (free k w.0 w.1)))
+        | inr there ↦ omega (arith, sum k, are.different k)
+      ];
+    }
+
+pub same_used : (old new : List Bool) (runs : List Run) → new ≡ old → AreUsed old runs → AreUsed new runs
+same_used old new runs same are = let P : List Bool → Type 0 = λ f. AreUsed f runs in subst P (sym same) are
+
+-- runs in use stay so whatever marking another run answers
+pub used_marked : (old new : List Bool) (runs : List Run) (run : Run) (result : Result (Unit {0}) UseFault) → AreUsed old runs → Marks old run result new → AreUsed new runs
+used_marked old new runs run (Ok _) are m = same_used (without old run) new runs m.2 (used_without old runs run are)
+used_marked old new runs run (Err OutOfRange) are m = same_used old new runs m.1 are
+used_marked old new runs run (Err InUse) are m = same_used old new runs m.2 are
+
+-- and so they do, with the one that is taken
+pub used_taken : (old new : List Bool) (runs : List Run) (want : ℕ) (run : Run) → AreUsed old runs → Takes old want run new → AreUsed new (run ∷ runs)
+used_taken old new runs want run are t = same_used (without old run) new (run ∷ runs) t.taken (taken_used old runs run are t.free t.some t.within)

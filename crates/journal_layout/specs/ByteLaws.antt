@@ -8,6 +8,7 @@ use Rattle.disk_model.specs.Places.{AreBytes, part}
 use Rattle.disk_model.specs.PartLaws.{part_length, part_bytes}
 use Rattle.journal_layout.specs.Layout.{number_bytes, field}
 
+-- how many bytes a number has, and that they are bytes
 pub length-number_bytes : (w n : ℕ) → length (number_bytes w n) ≡ w
 unfolding number_bytes
 length-number_bytes w n = length-bytes_low_first 0 w n
@@ -58,8 +59,8 @@ same_number (suc w) (x ∷ xs) (y ∷ ys) a b l m e =
     let first : x ≡ y = omega arith in
     let behind : little_from 1 w (x ∷ xs) ≡ little_from 1 w (y ∷ ys) = omega arith in
     let rest : xs ≡ ys =
-        same_number w xs ys (λ k. a (suc k)) (λ k. b (suc k)) (omega (arith, l)) (omega (arith, m))
-        (sym (little_from-cons 0 w x xs) ∙ behind ∙ little_from-cons 0 w y ys) in
+    same_number w xs ys (λ k. a (suc k)) (λ k. b (suc k)) (omega (arith, l)) (omega (arith, m))
+    (sym (little_from-cons 0 w x xs) ∙ behind ∙ little_from-cons 0 w y ys) in
     ap (λ (z : ℕ). z ∷ xs) first ∙ ap (λ (zs : List ℕ). y ∷ zs) rest
 
 -- a number that is read was written so

@@ -18,6 +18,7 @@ chain_first b (r ∷ rest) h = of (b + 1 == r.start) refl
   where
     P : List Run → Type 0
     P rs = AreInChain None rs
+
     of : (t : Bool) → (b + 1 == r.start) ≡ t → P (cond t (record { start = b; count = r.count + 1 } ∷ rest) (record { start = b; count = 1 } ∷ r ∷ rest))
     of true e =
         let met : b + 1 ≡ r.start = eqb-true (b + 1) r.start e in

@@ -84,7 +84,7 @@ head_passes at rest h =
           not_from_true _ (eq-eqb (field rest 2 2) 0 h.reserved),
           (
             or_from _ _ (or_from _ _ (le-ltb (length_at rest) 16 h.long) (not_from_true _ (eq-eqb (length_at rest % 16) 0 h.whole)))
-            (le-ltb (length rest) (length_at rest + 1) h.room),
+                (le-ltb (length rest) (length_at rest + 1) h.room),
             tt,
           ),
         ),

@@ -21,6 +21,7 @@ use Rattle.journal_layout.specs.CheckLaws.{HasHead, passes, passed, or_none, non
 use Rattle.journal_layout.specs.SpellLaws.{tells_kind, tells_length, tells_head, tells_zeros, rounded_up}
 use Rattle.journal_layout.specs.FoundLaws.{record_passes, put_together, zeros_found}
 
+-- what a record of this kind is checked for, and what it is
 pub drop_body : (limit at : ℕ) (rest : List ℕ) (f : Folded) → kind_at rest ≡ 2 → body_fault limit at rest f ≡ drop_fault at rest f
 drop_body limit at rest f kind =
     ap (λ (k : ℕ). cond (k == 1) (store_fault limit at rest f) (cond (k == 2) (drop_fault at rest f) (cond (k == 3) (pin_fault at rest f) (first_failing at (next_checks rest f))))) kind
@@ -67,6 +68,7 @@ droppable cases seq e = of (case_numbered seq cases) refl e
     of None same e = cc
     of (Some c) same e = (c, same, e)
 
+-- what the checks of the numbers tell, both ways
 seqs_pass : (cases : List Case) (last place : ℕ) (seqs : List ℕ) → Rise last seqs → AllByRecursion (IsDroppable cases) seqs → first_bad_seq cases last place seqs ≡ None
 seqs_pass cases last place [] rise each = refl
 seqs_pass cases last place (seq ∷ seqs) rise each =
@@ -85,6 +87,7 @@ seqs_passed cases last place (seq ∷ seqs) e =
     first true g = cc
     first false g = (refl, g)
 
+-- what the check of the count tells, both ways
 count_passes : (at : ℕ) (rest : List ℕ) → 0 < seq_count_at rest → length_at rest ≡ rounded (12 + 4 * seq_count_at rest) → first_failing at (count_checks rest) ≡ None
 count_passes at rest some long =
     passes at (count_checks rest) (
@@ -131,19 +134,18 @@ drop_again limit at seqs tail f small room sound =
     let long : length_at b ≡ rounded (12 + 4 * seq_count_at b) = tells_length (Drop seqs) tail small ∙ ap (λ (n : ℕ). rounded (12 + 4 * n)) (sym count) in
     let some : 0 < seq_count_at b = rw count sound.0 in
     let good : first_bad_seq f.cases 0 12 (drop_seqs b) ≡ None = ap (first_bad_seq f.cases 0 12) same ∙ seqs_pass f.cases 0 12 seqs sound.1 sound.3 in
-    let padded : padding_fault at b (12 + 4 * seq_count_at b) ≡ None = ap (λ (n : ℕ). padding_fault at b (12 + 4 * n)) count ∙ tells_zeros (Drop seqs) tail at small in
-    (
+    let padded : padding_fault at b (12 + 4 * seq_count_at b) ≡ None = ap (λ (n : ℕ). padding_fault at b (12 + 4 * n)) count ∙ tells_zeros (Drop seqs) tail at small in (
       record_passes limit at b f (tells_head (Drop seqs) tail small room)
-      (drop_body limit at b f (tells_kind (Drop seqs) tail)
-      ∙ none_or (first_failing at (count_checks b)) _ (count_passes at b some long)
-      (none_or (option_map (damaged at named.Seq) (first_bad_seq f.cases 0 12 (drop_seqs b))) (padding_fault at b (12 + 4 * seq_count_at b))
-      (none_map (damaged at named.Seq) (first_bad_seq f.cases 0 12 (drop_seqs b)) good) padded)),
-      drop_is b (tells_kind (Drop seqs) tail) ∙ ap (λ (l : List ℕ). Drop l) same
+          (drop_body limit at b f (tells_kind (Drop seqs) tail)
+          ∙ none_or (first_failing at (count_checks b)) _ (count_passes at b some long)
+          (none_or (option_map (damaged at named.Seq) (first_bad_seq f.cases 0 12 (drop_seqs b))) (padding_fault at b (12 + 4 * seq_count_at b))
+          (none_map (damaged at named.Seq) (first_bad_seq f.cases 0 12 (drop_seqs b)) good) padded)),
+      drop_is b (tells_kind (Drop seqs) tail) ∙ ap (λ (l : List ℕ). Drop l) same,
     )
 
 -- what is read is in the grammar
 pub drop_found : (limit at : ℕ) (rest : List ℕ) (f : Folded) → AreBytes rest → slice_index rest 0 ≡ 165 → HasHead rest → kind_at rest ≡ 2
-    → body_fault limit at rest f ≡ None → StandsFirst limit rest f (Drop (drop_seqs rest))
+    → body_fault limit at rest f ≡ None → StandsFirst limit rest f (Drop (drop_seqs rest)) × (record_size (Drop (drop_seqs rest)) ≡ length_at rest)
 unfolding body part
 drop_found limit at rest f are open_gate head kind e =
     let b = rest in
@@ -158,18 +160,20 @@ drop_found limit at rest f are open_gate head kind e =
     let long : length_at rest ≡ record_size (Drop (drop_seqs rest)) = counted.1 ∙ ap (λ (k : ℕ). rounded (12 + 4 * k)) (sym count) in
     let room = head.room in
     let up = rounded_up (12 + 4 * n) in
-    let exact = counted.1 in
-    record {
-      spelled =
-          put_together rest (Drop (drop_seqs rest)) (4 + 4 * n) are open_gate head kind long (omega arith)
-          (take-add 4 (4 * n) (drop 8 rest)
-          ∙ ap (λ (l : List ℕ). l ++ take (4 * n) (drop 4 (drop 8 rest))) (sym (field_spelled 4 8 rest are (omega arith)) ∙ ap (number_bytes 4) (sym count))
-          ∙ ap (λ (l : List ℕ). number_bytes 4 (length (drop_seqs rest)) ++ take (4 * n) l) (drop-drop 4 8 rest)
-          ∙ ap (λ (l : List ℕ). number_bytes 4 (length (drop_seqs rest)) ++ l)
-          (seqs_spelled n (drop 12 rest) (drop_bytes 12 rest are) (omega (arith, length-drop 12 rest))))
-          (ap (λ (k : ℕ). part rest (12 + 4 * k) (rounded (12 + 4 * k) - (12 + 4 * k))) count
-          ∙ zeros_found at rest (12 + 4 * n) (rounded (12 + 4 * n)) behind.1 counted.1 up (omega arith)
-          ∙ ap (λ (k : ℕ). replicate (rounded (12 + 4 * k) - (12 + 4 * k)) 0) (sym count));
-      room = omega (arith, long);
-      sound = (rw count counted.0, good.0, seqs_small (drop 12 rest) n (drop_bytes 12 rest are), good.1);
-    }
+    let exact = counted.1 in (
+      record {
+        spelled =
+            put_together rest (Drop (drop_seqs rest)) (4 + 4 * n) are open_gate head kind long (omega arith)
+            (take-add 4 (4 * n) (drop 8 rest)
+            ∙ ap (λ (l : List ℕ). l ++ take (4 * n) (drop 4 (drop 8 rest))) (sym (field_spelled 4 8 rest are (omega arith)) ∙ ap (number_bytes 4) (sym count))
+            ∙ ap (λ (l : List ℕ). number_bytes 4 (length (drop_seqs rest)) ++ take (4 * n) l) (drop-drop 4 8 rest)
+            ∙ ap (λ (l : List ℕ). number_bytes 4 (length (drop_seqs rest)) ++ l)
+            (seqs_spelled n (drop 12 rest) (drop_bytes 12 rest are) (omega (arith, length-drop 12 rest))))
+            (ap (λ (k : ℕ). part rest (12 + 4 * k) (rounded (12 + 4 * k) - (12 + 4 * k))) count
+            ∙ zeros_found at rest (12 + 4 * n) (rounded (12 + 4 * n)) behind.1 counted.1 up (omega arith)
+            ∙ ap (λ (k : ℕ). replicate (rounded (12 + 4 * k) - (12 + 4 * k)) 0) (sym count));
+        room = omega (arith, long);
+        sound = (rw count counted.0, good.0, seqs_small (drop 12 rest) n (drop_bytes 12 rest are), good.1);
+      },
+      sym long,
+    )

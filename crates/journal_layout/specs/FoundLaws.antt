@@ -1,5 +1,5 @@
 -- Laws of bytes that pass the checks: they are put together to a spelling.
-use Rattle.std.proofs.Common.{◌≡◌, ℕ, zero, suc, ◌+◌, ◌-◌, ◌*◌, ◌<◌, ◌≤◌, false, List, [], ◌∷◌, ◌++◌, length, replicate, take, drop, slice_index, refl, sym, ap, ◌∙◌, arith, None, Option, Some, ◌==◌}
+use Rattle.std.proofs.Common.{◌≡◌, ℕ, zero, suc, ◌+◌, ◌-◌, ◌*◌, ◌<◌, ◌≤◌, Bool, true, false, List, [], ◌∷◌, ◌++◌, length, replicate, take, drop, slice_index, refl, sym, ap, ◌∙◌, arith, None, Option, Some, ◌==◌}
 use Rattle.std.proofs.Math.Seq.{take-add}
 use Rattle.std.specs.Option.{is_none}
 use Rattle.disk_model.specs.Places.{AreBytes, part}
@@ -52,7 +52,7 @@ front_eight rest are open_gate head =
     ∙ ap (λ (l : List ℕ). l ++ take 4 (drop 4 rest)) four
     ∙ ap (λ (l : List ℕ). (165 ∷ kind_at rest ∷ 0 ∷ 0 ∷ []) ++ l) (sym (field_spelled 4 4 rest are (omega arith)))
 
-joined : (a b c x y z : List ℕ) → a ≡ x → b ≡ y → c ≡ z → (a ++ b) ++ c ≡ (x ++ y) ++ z
+pub joined : (a b c x y z : List ℕ) → a ≡ x → b ≡ y → c ≡ z → (a ++ b) ++ c ≡ (x ++ y) ++ z
 joined a b c x y z e f g = cc
 
 -- a head, a body and padding are a spelling
@@ -83,10 +83,21 @@ zeros_found at rest from size e long low high =
     ap (λ (m : ℕ). part rest from (m - from)) (sym long) ∙ padding_passed at rest from e ∙ ap (λ (m : ℕ). replicate m 0) len
 
 -- a byte that is a flag
+pub flag_short : (flag : Bool) → flag_byte flag ≤ 1
+flag_short true = omega arith
+flag_short false = omega arith
+
+pub flag_back : (flag : Bool) → (flag_byte flag == 1) ≡ flag
+flag_back true = refl
+flag_back false = refl
+
 pub flag_found : (n : ℕ) → n ≤ 1 → flag_byte (n == 1) ≡ n
 flag_found zero h = refl
 flag_found (suc zero) h = refl
 flag_found (suc (suc n)) h = absurd (omega arith)
+
+pub some_number : (n : ℕ) → (n ≡ 0 → ⊥) → 0 < n
+some_number n h = omega (arith, h)
 
 -- something is there
 pub some_found : {X : Type 0} (o : Option X) → is_none o ≡ false → (x : X) × (o ≡ Some x)

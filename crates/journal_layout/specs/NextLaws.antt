@@ -24,6 +24,7 @@ unfolding record_at
 next_is rest kind =
     ap (λ (k : ℕ). cond (k == 1) (Store (case_at rest)) (cond (k == 2) (Drop (drop_seqs rest)) (cond (k == 3) (Pin (field rest 8 4) (slice_index rest 12 == 1)) (Next (field rest 8 8))))) kind
 
+-- what the checks tell, both ways
 pub next_passes : (at : ℕ) (rest : List ℕ) (f : Folded) → length_at rest ≡ 16 → f.next ≤ field rest 8 8 → field rest 8 8 ≤ 2 ^ 32 → first_failing at (next_checks rest f) ≡ None
 next_passes at rest f long low high =
     passes at (next_checks rest f) (
@@ -46,25 +47,26 @@ pub next_again : (limit at n : ℕ) (tail : List ℕ) (f : Folded) → record_si
     → (record_fault limit at (spelling (Next n) ++ tail) f ≡ None) × (record_at (spelling (Next n) ++ tail) ≡ Next n)
 next_again limit at n tail f room sound =
     let b = spelling (Next n) ++ tail in
-    let told = tells_next n tail sound.1 in
-    (
+    let told = tells_next n tail sound.1 in (
       record_passes limit at b f (tells_head (Next n) tail (omega arith) room)
-      (next_body limit at b f (tells_kind (Next n) tail)
-      ∙ next_passes at b f (tells_length (Next n) tail (omega arith)) (rw told sound.0) (rw told sound.1)),
-      next_is b (tells_kind (Next n) tail) ∙ ap (λ (m : ℕ). Next m) told
+          (next_body limit at b f (tells_kind (Next n) tail)
+          ∙ next_passes at b f (tells_length (Next n) tail (omega arith)) (rw told sound.0) (rw told sound.1)),
+      next_is b (tells_kind (Next n) tail) ∙ ap (λ (m : ℕ). Next m) told,
     )
 
 -- what is read is in the grammar
 pub next_found : (limit at : ℕ) (rest : List ℕ) (f : Folded) → AreBytes rest → slice_index rest 0 ≡ 165 → HasHead rest → kind_at rest ≡ 4
-    → body_fault limit at rest f ≡ None → StandsFirst limit rest f (Next (field rest 8 8))
+    → body_fault limit at rest f ≡ None → StandsFirst limit rest f (Next (field rest 8 8)) × (record_size (Next (field rest 8 8)) ≡ length_at rest)
 unfolding body part
 next_found limit at rest f are open_gate head kind e =
     let h = next_passed at rest f (sym (next_body limit at rest f kind) ∙ e) in
     let r = Next (field rest 8 8) in
-    let enough = head.enough in
-    record {
-      spelled =
-          put_together rest r 8 are open_gate head kind h.0 refl (sym (field_spelled 8 8 rest are (let room = head.room in let long = h.0 in omega arith)) ) refl;
-      room = omega (arith, head.room);
-      sound = (h.1, h.2);
-    }
+    let enough = head.enough in (
+      record {
+        spelled =
+            put_together rest r 8 are open_gate head kind h.0 refl (sym (field_spelled 8 8 rest are (let room = head.room in let long = h.0 in omega arith))) refl;
+        room = omega (arith, head.room);
+        sound = (h.1, h.2);
+      },
+      sym h.0,
+    )

@@ -1,5 +1,5 @@
 -- Laws of the record Pin.
-use Rattle.std.proofs.Common.{◌≡◌, ℕ, ◌+◌, ◌^◌, ◌<◌, ◌≤◌, Bool, true, false, ◌==◌, List, [], ◌∷◌, ◌++◌, length, slice_index, refl, sym, ap, ◌∙◌, arith, None, Some, Option, cond}
+use Rattle.std.proofs.Common.{◌≡◌, ℕ, ◌+◌, ◌^◌, ◌<◌, ◌≤◌, Bool, false, ◌==◌, List, [], ◌∷◌, ◌++◌, length, slice_index, refl, sym, ap, ◌∙◌, arith, None, Some, Option, cond}
 use Rattle.std.proofs.lemmas.Bool.{not-false, not_from_true, le-ltb, ltb-false, eq-eqb, eqb-true}
 use Rattle.std.specs.Option.{is_none}
 use Rattle.disk_model.specs.Places.{AreBytes, part}
@@ -14,8 +14,9 @@ use Rattle.journal_layout.specs.Stands.{StandsFirst}
 use Rattle.journal_layout.specs.ByteLaws.{number_read, field_spelled, field_small}
 use Rattle.journal_layout.specs.CheckLaws.{HasHead, passes, passed, or_none, none_or}
 use Rattle.journal_layout.specs.SpellLaws.{tells_kind, tells_length, tells_head, tells_zeros}
-use Rattle.journal_layout.specs.FoundLaws.{record_passes, put_together, byte_part, zeros_found, flag_found, some_found}
+use Rattle.journal_layout.specs.FoundLaws.{record_passes, put_together, byte_part, zeros_found, flag_short, flag_back, flag_found, some_found}
 
+-- what a record of this kind is checked for, and what it is
 pub pin_body : (limit at : ℕ) (rest : List ℕ) (f : Folded) → kind_at rest ≡ 3 → body_fault limit at rest f ≡ pin_fault at rest f
 pin_body limit at rest f kind =
     ap (λ (k : ℕ). cond (k == 1) (store_fault limit at rest f) (cond (k == 2) (drop_fault at rest f) (cond (k == 3) (pin_fault at rest f) (first_failing at (next_checks rest f))))) kind
@@ -29,6 +30,7 @@ none_of_some : {X : Type 0} (o : Option X) (x : X) → o ≡ Some x → is_none 
 none_of_some None x e = cc
 none_of_some (Some y) x e = refl
 
+-- what the checks tell, both ways
 pub pin_passes : (at : ℕ) (rest : List ℕ) (f : Folded) → length_at rest ≡ 16 → IsPinnable f.cases (field rest 8 4) → slice_index rest 12 ≤ 1 → first_failing at (pin_checks rest f) ≡ None
 pin_passes at rest f long live flag =
     passes at (pin_checks rest f) (
@@ -49,14 +51,6 @@ tells_flag : (seq : ℕ) (flag : Bool) (tail : List ℕ) → slice_index (spelli
 unfolding behind_gate plain body number_bytes
 tells_flag seq flag tail = refl
 
-flag_short : (flag : Bool) → flag_byte flag ≤ 1
-flag_short true = omega arith
-flag_short false = omega arith
-
-flag_back : (flag : Bool) → (flag_byte flag == 1) ≡ flag
-flag_back true = refl
-flag_back false = refl
-
 -- what is written is read again
 pub pin_again : (limit at seq : ℕ) (flag : Bool) (tail : List ℕ) (f : Folded) → record_size (Pin seq flag) + 1 ≤ length (spelling (Pin seq flag) ++ tail) → IsSound limit f (Pin seq flag)
     → (record_fault limit at (spelling (Pin seq flag) ++ tail) f ≡ None) × (record_at (spelling (Pin seq flag) ++ tail) ≡ Pin seq flag)
@@ -64,35 +58,36 @@ pin_again limit at seq flag tail f room sound =
     let b = spelling (Pin seq flag) ++ tail in
     let told = tells_seq seq flag tail sound.0 in
     let set = tells_flag seq flag tail in
-    let live : IsPinnable f.cases (field b 8 4) = rw told sound.1 in
-    (
+    let live : IsPinnable f.cases (field b 8 4) = rw told sound.1 in (
       record_passes limit at b f (tells_head (Pin seq flag) tail (omega arith) room)
-      (pin_body limit at b f (tells_kind (Pin seq flag) tail)
-      ∙ none_or (first_failing at (pin_checks b f)) (padding_fault at b 13)
-      (pin_passes at b f (tells_length (Pin seq flag) tail (omega arith)) live (rw set (flag_short flag)))
-      (tells_zeros (Pin seq flag) tail at (omega arith))),
+          (pin_body limit at b f (tells_kind (Pin seq flag) tail)
+          ∙ none_or (first_failing at (pin_checks b f)) (padding_fault at b 13)
+          (pin_passes at b f (tells_length (Pin seq flag) tail (omega arith)) live (rw set (flag_short flag)))
+          (tells_zeros (Pin seq flag) tail at (omega arith))),
       pin_is b (tells_kind (Pin seq flag) tail)
-      ∙ ap (λ (m : ℕ). Pin m (slice_index b 12 == 1)) told
-      ∙ ap (λ (t : Bool). Pin seq t) (ap (λ (m : ℕ). m == 1) set ∙ flag_back flag)
+          ∙ ap (λ (m : ℕ). Pin m (slice_index b 12 == 1)) told
+          ∙ ap (λ (t : Bool). Pin seq t) (ap (λ (m : ℕ). m == 1) set ∙ flag_back flag),
     )
 
 -- what is read is in the grammar
 pub pin_found : (limit at : ℕ) (rest : List ℕ) (f : Folded) → AreBytes rest → slice_index rest 0 ≡ 165 → HasHead rest → kind_at rest ≡ 3
-    → body_fault limit at rest f ≡ None → StandsFirst limit rest f (Pin (field rest 8 4) (slice_index rest 12 == 1))
+    → body_fault limit at rest f ≡ None → StandsFirst limit rest f (Pin (field rest 8 4) (slice_index rest 12 == 1)) × (record_size (Pin (field rest 8 4) (slice_index rest 12 == 1)) ≡ length_at rest)
 unfolding body
 pin_found limit at rest f are open_gate head kind e =
     let both = or_none (first_failing at (pin_checks rest f)) (padding_fault at rest 13) (sym (pin_body limit at rest f kind) ∙ e) in
     let h = pin_passed at rest f both.0 in
     let r = Pin (field rest 8 4) (slice_index rest 12 == 1) in
-    let enough = head.enough in
-    record {
-      spelled =
-          put_together rest r 5 are open_gate head kind h.0 refl
-          (part_split rest 8 4 1
-          ∙ ap (λ (l : List ℕ). l ++ part rest 12 1) (sym (field_spelled 4 8 rest are (omega arith)))
-          ∙ ap (λ (l : List ℕ). number_bytes 4 (field rest 8 4) ++ l)
-          (byte_part rest 12 (omega arith) ∙ ap (λ (m : ℕ). m ∷ []) (sym (flag_found (slice_index rest 12) h.2))))
-          (zeros_found at rest 13 16 both.1 h.0 (omega arith) (omega arith));
-      room = omega (arith, head.room);
-      sound = (field_small rest 8 4 are, h.1);
-    }
+    let enough = head.enough in (
+      record {
+        spelled =
+            put_together rest r 5 are open_gate head kind h.0 refl
+            (part_split rest 8 4 1
+            ∙ ap (λ (l : List ℕ). l ++ part rest 12 1) (sym (field_spelled 4 8 rest are (omega arith)))
+            ∙ ap (λ (l : List ℕ). number_bytes 4 (field rest 8 4) ++ l)
+            (byte_part rest 12 (omega arith) ∙ ap (λ (m : ℕ). m ∷ []) (sym (flag_found (slice_index rest 12) h.2))))
+            (zeros_found at rest 13 16 both.1 h.0 (omega arith) (omega arith));
+        room = omega (arith, head.room);
+        sound = (field_small rest 8 4 are, h.1);
+      },
+      sym h.0,
+    )

@@ -62,6 +62,7 @@ not_among (x ∷ xs) k e =
   where
     clash : 1 + uses k xs ≡ 0 → ⊥
     clash h = omega arith
+
     rest : 0 + uses k xs ≡ 0 → uses k xs ≡ 0
     rest h = omega arith
 
@@ -97,7 +98,7 @@ run_within limit used r rest some spare =
     omega arith
 
 -- spare blocks stay spare behind the first run
-spare_rest : (limit : ℕ) (used : List ℕ) (r : Run) (rest : List Run) → AreSpare limit used (blocks_of (r ∷ rest)) → AreSpare limit (used ++ run_blocks r) (blocks_of rest)
+pub spare_rest : (limit : ℕ) (used : List ℕ) (r : Run) (rest : List Run) → AreSpare limit used (blocks_of (r ∷ rest)) → AreSpare limit (used ++ run_blocks r) (blocks_of rest)
 spare_rest limit used r rest spare k some =
     let whole = uses-append k (run_blocks r) (blocks_of rest) in
     let h = spare k (omega arith) in
@@ -110,9 +111,9 @@ runs_pass limit used end place [] chain spare = refl
 runs_pass limit used end place (r ∷ rest) chain spare =
     let within = run_within limit used r rest chain.0 spare in
     let apart : is_overlapping used r ≡ false =
-        apart_passes used (run_blocks r) (λ k some. (spare k (omega (arith, uses-append k (run_blocks r) (blocks_of rest)))).2) in
+    apart_passes used (run_blocks r) (λ k some. (spare k (omega (arith, uses-append k (run_blocks r) (blocks_of rest)))).2) in
     let fine : is_bad_run limit used end r ≡ false =
-        or_from _ _ (or_from _ _ (or_from _ _ (ne_eqb r.count 0 (λ e. absurd (omega (arith, e, chain.0)))) (le-ltb limit (r.start + r.count) within)) chain.1) apart in
+    or_from _ _ (or_from _ _ (or_from _ _ (ne_eqb r.count 0 (λ e. absurd (omega (arith, e, chain.0)))) (le-ltb limit (r.start + r.count) within)) chain.1) apart in
     rw fine (runs_pass limit (used ++ run_blocks r) (Some (r.start + r.count)) (place + 8) rest chain.2 (spare_rest limit used r rest spare))
 
 -- blocks of a run and spare ones behind it
@@ -123,15 +124,15 @@ spare_more limit used r rest within apart spare k some =
     let both = uses-append k used (run_blocks r) in
     elim (cases_lt 0 (uses k (blocks_of rest))) as (λ _. (k < limit) × (uses k (blocks_of (r ∷ rest)) ≡ 1) × (uses k used ≡ 0)) [
       | inl behind ↦
-        let h = spare k behind in
-        let once : uses k (blocks_of rest) ≡ 1 = h.1 in
-        let unused : uses k (used ++ run_blocks r) ≡ 0 = h.2 in
-        (h.0, omega arith, omega arith)
+          let h = spare k behind in
+          let once : uses k (blocks_of rest) ≡ 1 = h.1 in
+          let unused : uses k (used ++ run_blocks r) ≡ 0 = h.2 in
+          (h.0, omega arith, omega arith)
       | inr none ↦
-        let here : 0 < uses k (run_blocks r) = omega arith in
-        let lies = run_holds k r.start r.count here in
-        let once = uses_within k r.start r.count lies.0 lies.1 in
-        (omega (arith, lies.1), omega arith, apart_passed used (run_blocks r) apart k here)
+          let here : 0 < uses k (run_blocks r) = omega arith in
+          let lies = run_holds k r.start r.count here in
+          let once = uses_within k r.start r.count lies.0 lies.1 in
+          (omega (arith, lies.1), omega arith, apart_passed used (run_blocks r) apart k here)
     ]
 
 pub runs_passed : (limit : ℕ) (used : List ℕ) (end : Option ℕ) (place : ℕ) (rs : List Run) → first_bad_run limit used end place rs ≡ None → AreInChain end rs × AreSpare limit used (blocks_of rs)
@@ -148,5 +149,6 @@ runs_passed limit used end place (r ∷ rest) e =
         → (t ≡ false) × (first_bad_run limit (used ++ run_blocks r) (Some (r.start + r.count)) (place + 8) rest ≡ None)
     first true g = cc
     first false g = (refl, g)
+
     some : (n : ℕ) → (n ≡ 0 → ⊥) → 1 ≤ n
     some n h = omega (arith, h)

@@ -1,0 +1,74 @@
+-- Laws of records: the spelling of a record and the checks of an opening are one grammar.
+use Rattle.std.proofs.Common.{◌≡◌, ◌⊎◌, inl, inr, ⊎_elim, ℕ, zero, suc, ◌+◌, ◌^◌, ◌<◌, ◌≤◌, List, ◌++◌, length, drop, slice_index, refl, sym, ap, ◌∙◌, subst, arith, None}
+use Rattle.disk_model.specs.Places.{AreBytes}
+use Rattle.journal_layout.specs.Record.{Record, Store, Drop, Pin, Next, record_size, spelling}
+use Rattle.journal_layout.specs.Reading.{kind_at, length_at, record_at}
+use Rattle.journal_layout.specs.Folding.{Folded}
+use Rattle.journal_layout.specs.Soundness.{IsSound}
+use Rattle.journal_layout.specs.Checks.{record_fault}
+use Rattle.journal_layout.specs.Stands.{StandsFirst}
+use Rattle.journal_layout.specs.Grammar.{IsToldBy}
+use Rattle.journal_layout.specs.SpellLaws.{as_spelled}
+use Rattle.journal_layout.specs.FoundLaws.{record_passed}
+use Rattle.journal_layout.specs.NextLaws.{next_again, next_found, next_is}
+use Rattle.journal_layout.specs.PinLaws.{pin_again, pin_found, pin_is}
+use Rattle.journal_layout.specs.DropLaws.{drop_again, drop_found, drop_is}
+use Rattle.journal_layout.specs.StoreLaws.{store_again, store_found, store_is}
+
+again_at : (limit at : ℕ) (r : Record) (tail : List ℕ) (f : Folded) → limit ≤ 16777216 → record_size r < 2 ^ 32 → record_size r + 1 ≤ length (spelling r ++ tail) → IsSound limit f r
+    → (record_fault limit at (spelling r ++ tail) f ≡ None) × (record_at (spelling r ++ tail) ≡ r)
+again_at limit at (Store c) tail f low small room sound = store_again limit at c tail f low small room sound
+again_at limit at (Drop seqs) tail f low small room sound = drop_again limit at seqs tail f small room sound
+again_at limit at (Pin seq flag) tail f low small room sound = pin_again limit at seq flag tail f room sound
+again_at limit at (Next n) tail f low small room sound = next_again limit at n tail f room sound
+
+-- what is written is read again
+pub record_again : (limit at : ℕ) (rest : List ℕ) (f : Folded) (r : Record) → limit ≤ 16777216 → length rest ≤ 2 ^ 32 → StandsFirst limit rest f r → IsToldBy limit at rest f r
+record_again limit at rest f r low short first =
+    let same = as_spelled r rest first.spelled in
+    let room = first.room in
+    let told = again_at limit at r (drop (record_size r) rest) f low (omega arith) (omega (arith, ap length same)) first.sound in
+    subst (λ (l : List ℕ). IsToldBy limit at l f r) (sym same) (record { opened = refl; faultless = told.0; is = told.1 })
+
+-- the four kinds
+kinds : (k : ℕ) → 1 ≤ k → k ≤ 4 → (k ≡ 1) ⊎ ((k ≡ 2) ⊎ ((k ≡ 3) ⊎ (k ≡ 4)))
+kinds zero low high = absurd (omega arith)
+kinds (suc zero) low high = inl refl
+kinds (suc (suc zero)) low high = inr (inl refl)
+kinds (suc (suc (suc zero))) low high = inr (inr (inl refl))
+kinds (suc (suc (suc (suc zero)))) low high = inr (inr (inr refl))
+kinds (suc (suc (suc (suc (suc k))))) low high = absurd (omega arith)
+
+-- this record stands at the front and is as long as the bytes say
+abbrev pub IsFoundAs : ℕ → List ℕ → Folded → Record → Type 0
+IsFoundAs limit rest f r = StandsFirst limit rest f r × (record_size r ≡ length_at rest)
+
+-- what is read is a record that stands there, as long as it says
+pub record_told : (limit at : ℕ) (rest : List ℕ) (f : Folded) → AreBytes rest → slice_index rest 0 ≡ 165 → record_fault limit at rest f ≡ None → IsFoundAs limit rest f (record_at rest)
+record_told limit at rest f are opened e =
+    let parts = record_passed limit at rest f e in
+    let head = parts.0 in
+    let body = parts.1 in
+    let P : Record → Type 0 = λ r. IsFoundAs limit rest f r in
+    ⊎_elim (λ k. subst P (sym (store_is rest k)) (store_found limit at rest f are opened head k body))
+    (λ h. ⊎_elim (λ k. subst P (sym (drop_is rest k)) (drop_found limit at rest f are opened head k body))
+    (λ i. ⊎_elim (λ k. subst P (sym (pin_is rest k)) (pin_found limit at rest f are opened head k body))
+    (λ k. subst P (sym (next_is rest k)) (next_found limit at rest f are opened head k body)) i) h)
+    (kinds (kind_at rest) head.some_kind head.known_kind)
+
+-- what is read is in the grammar
+pub record_found : (limit at : ℕ) (rest : List ℕ) (f : Folded) → AreBytes rest → slice_index rest 0 ≡ 165 → record_fault limit at rest f ≡ None → StandsFirst limit rest f (record_at rest)
+record_found limit at rest f are opened e = (record_told limit at rest f are opened e).0
+
+-- and is as long as it says
+pub size_found : (limit at : ℕ) (rest : List ℕ) (f : Folded) → AreBytes rest → slice_index rest 0 ≡ 165 → record_fault limit at rest f ≡ None → record_size (record_at rest) ≡ length_at rest
+size_found limit at rest f are opened e = (record_told limit at rest f are opened e).1
+
+-- no record's spelling begins another's, and a record has one spelling
+pub one_record : (limit : ℕ) (bytes : List ℕ) (f g : Folded) (r s : Record) → limit ≤ 16777216 → length bytes ≤ 2 ^ 32 → StandsFirst limit bytes f r → StandsFirst limit bytes g s → r ≡ s
+one_record limit bytes f g r s low short first second =
+    sym (record_again limit 0 bytes f r low short first).is ∙ (record_again limit 0 bytes g s low short second).is
+
+-- where a record stands its gate is open
+pub opened_first : (limit : ℕ) (bytes : List ℕ) (f : Folded) (r : Record) → StandsFirst limit bytes f r → slice_index bytes 0 ≡ 165
+opened_first limit bytes f r first = ap (λ (l : List ℕ). slice_index l 0) (as_spelled r bytes first.spelled)

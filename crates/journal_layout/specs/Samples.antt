@@ -1,0 +1,48 @@
+-- Two records byte by byte, as they stand on a disk: their spelling, and that they are read as what they are.
+use Rattle.std.proofs.Common.{◌≡◌, ℕ, List, [], ◌∷◌, ◌++◌, refl, false, None}
+use Rattle.disk_model.specs.Places.{part}
+use Rattle.journal_layout.specs.declared.entry.Kind.TheVariants.{Exec}
+use Rattle.journal_layout.specs.Layout.{number_bytes}
+use Rattle.journal_layout.specs.Case.{Case}
+use Rattle.journal_layout.specs.Record.{Store, Next, spelling, behind_gate, plain, body, store_facts, run_bytes}
+use Rattle.journal_layout.specs.Reading.{record_at}
+use Rattle.journal_layout.specs.Folding.{nothing_yet}
+use Rattle.journal_layout.specs.Checks.{record_fault}
+
+-- case 1, the executable `/bin/cat` of 5 bytes, in block 0
+abbrev sample : Case
+sample = record {
+  seq = 1;
+  kind = Exec;
+  name = 0x2f ∷ 0x62 ∷ 0x69 ∷ 0x6e ∷ 0x2f ∷ 0x63 ∷ 0x61 ∷ 0x74 ∷ [];
+  pid = 0;
+  signal = 0;
+  time = 0;
+  pinned = false;
+  len = 5;
+  blocks = 0 ∷ [];
+}
+
+abbrev sample_bytes : List ℕ
+sample_bytes =
+    (0xa5 ∷ 1 ∷ 0 ∷ 0 ∷ 0x40 ∷ 0 ∷ 0 ∷ 0 ∷ 1 ∷ 0 ∷ 0 ∷ 0 ∷ 2 ∷ 0 ∷ 8 ∷ 0 ∷ [])
+    ++ (0 ∷ 0 ∷ 0 ∷ 0 ∷ 0 ∷ 0 ∷ 0 ∷ 0 ∷ 0 ∷ 0 ∷ 0 ∷ 0 ∷ 0 ∷ 0 ∷ 0 ∷ 0 ∷ [])
+    ++ (5 ∷ 0 ∷ 0 ∷ 0 ∷ 0 ∷ 0 ∷ 0 ∷ 0 ∷ 1 ∷ 0 ∷ 0 ∷ 0 ∷ 0 ∷ 0 ∷ 0 ∷ 0 ∷ [])
+    ++ (0 ∷ 0 ∷ 0 ∷ 0 ∷ 1 ∷ 0 ∷ 0 ∷ 0 ∷ 0x2f ∷ 0x62 ∷ 0x69 ∷ 0x6e ∷ 0x2f ∷ 0x63 ∷ 0x61 ∷ 0x74 ∷ [])
+
+sample_spelled : spelling (Store sample) ≡ sample_bytes
+unfolding behind_gate plain body store_facts run_bytes number_bytes
+sample_spelled = refl
+
+sample_faultless : record_fault 4 4128 (sample_bytes ++ 0 ∷ []) nothing_yet ≡ None
+unfolding record_fault part
+sample_faultless = refl
+
+sample_told : record_at (sample_bytes ++ 0 ∷ []) ≡ Store sample
+unfolding record_at part
+sample_told = refl
+
+-- the next case gets number 1
+next_spelled : spelling (Next 1) ≡ 0xa5 ∷ 4 ∷ 0 ∷ 0 ∷ 0x10 ∷ 0 ∷ 0 ∷ 0 ∷ 1 ∷ 0 ∷ 0 ∷ 0 ∷ 0 ∷ 0 ∷ 0 ∷ 0 ∷ []
+unfolding behind_gate plain body number_bytes
+next_spelled = refl

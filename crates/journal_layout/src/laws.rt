@@ -1,0 +1,25 @@
+// What the definitions that the contracts cite say together. These functions do nothing.
+ghost use Rattle.journal_layout.specs.Grammar.{RecordsAreReadAgain, WhatIsReadStands, RecordsAreApart, OpeningsHaveOneAnswer, WhatStandsOpens};
+
+/// What is written is read again: where the spelling of a sound record stands, with room for a gate behind it, no check
+/// of an opening fails, at any place of any archive, and the fields that an opening reads are those of the record.
+pub fn records_are_read_again()
+    ensures { RecordsAreReadAgain }
+{}
+
+/// What is read was written so: where no check of an opening fails, the bytes are the spelling of the record that the
+/// fields tell, the record is sound, and it is as long as its length field says.
+pub fn what_is_read_is_a_record()
+    ensures { WhatIsReadStands }
+{}
+
+/// The same bytes begin with one record at most: no record's spelling begins another's.
+pub fn no_record_begins_another()
+    ensures { RecordsAreApart }
+{}
+
+/// An opening has one answer: bytes stand for one archive at most, are refused for one fault at most, and never both.
+pub fn an_opening_has_one_answer()
+    ensures one { OpeningsHaveOneAnswer }
+    ensures stands { WhatStandsOpens }
+{}
