@@ -1,9 +1,7 @@
 -- Laws of the fields and the zeros in a record's bytes.
-use Rattle.std.proofs.Common.{◌≡◌, inl, inr, ℕ, zero, suc, ◌+◌, ◌-◌, ◌*◌, ◌/◌, ◌%◌, ◌<◌, ◌≤◌, Bool, true, false, not, cond, List, [], ◌∷◌, ◌++◌, length, take, drop, get_or, Option, Some, None, refl, sym, ap, ◌∙◌, arith, nat_eq, min, add-zero, drop-cons}
+use Rattle.std.proofs.Common.{◌≡◌, ℕ, zero, suc, ◌+◌, ◌-◌, ◌*◌, ◌<◌, ◌≤◌, cond, List, ◌∷◌, length, take, drop, get_or, Some, None, refl, sym, ap, ◌∙◌, arith, drop-cons}
 use Rattle.std.proofs.lemmas.Bool.{eq-eqb, ne_eqb}
-use Rattle.std.specs.Option.{option_map}
-use Rattle.std.specs.List.{position, position_or_len}
-use Rattle.std.proofs.lemmas.List.{get_or-drop, drop-drop, length-drop}
+use Rattle.std.proofs.lemmas.List.{get_or-drop, drop-drop}
 use Rattle.byteorder.specs.Endian.{little_from}
 use Rattle.disk_model.specs.Places.{part}
 use Rattle.extents.specs.declared.run_list.Run.{Run}
@@ -43,8 +41,8 @@ runs_step p (suc n) bytes some =
     let e : suc n - 1 ≡ n = omega arith in
     let f : p + 0 ≡ p = omega arith in
     let first : record { start = field (drop p bytes) 0 4; count = field (drop p bytes) 4 4 } ≡ run_at bytes p =
-        ap (λ k. let r : Run = record { start = k; count = field (drop p bytes) 4 4 } in r) (from_dropped 0 p 4 bytes ∙ ap (λ k. field bytes k 4) f)
-        ∙ ap (λ k. let r : Run = record { start = field bytes p 4; count = k } in r) (from_dropped 4 p 4 bytes) in
+    ap (λ k. let r : Run = record { start = k; count = field (drop p bytes) 4 4 } in r) (from_dropped 0 p 4 bytes ∙ ap (λ k. field bytes k 4) f)
+    ∙ ap (λ k. let r : Run = record { start = field bytes p 4; count = k } in r) (from_dropped 4 p 4 bytes) in
     ap (λ (r : Run). r ∷ runs_at (drop 8 (drop p bytes)) n) first
     ∙ ap (λ (bs : List ℕ). run_at bytes p ∷ runs_at bs n) (drop-drop 8 p bytes)
     ∙ ap (λ k. run_at bytes p ∷ runs_at (drop (p + 8) bytes) k) (sym e)

@@ -1,5 +1,5 @@
 -- What an error of a part tells of the whole.
-use Rattle.std.proofs.Common.{◌≡◌, ℕ, ◌+◌, ◌-◌, ◌*◌, Bool, true, false, List, [], ◌∷◌, length, cond, Option, Some, None, Result, Ok, Err, refl, sym, ap, ◌∙◌, subst}
+use Rattle.std.proofs.Common.{◌≡◌, ℕ, ◌+◌, ◌-◌, ◌*◌, Bool, true, false, List, [], ◌∷◌, length, cond, Option, Some, None, Result, Ok, Err, sym, ap, subst}
 use Rattle.std.specs.Option.{option_or, option_map}
 use Rattle.std.specs.Result.{IsErrAnd}
 use Rattle.journal_layout.specs.declared.faults.Field.{Field}
@@ -42,7 +42,7 @@ pub drop_only : (at : ℕ) (rest : List ℕ) (f : Folded) → OnlyDamaged (drop_
 drop_only at rest f =
     let rise = option_map (damaged at named.Seq) (first_bad_seq f.cases 0 12 (drop_seqs rest)) in
     or_only (first_failing at (count_checks rest)) (option_or rise (padding_fault at rest (12 + 4 * seq_count_at rest))) (checks_only at (count_checks rest))
-        (or_only rise (padding_fault at rest (12 + 4 * seq_count_at rest)) (map_only at named.Seq (first_bad_seq f.cases 0 12 (drop_seqs rest))) (padding_only at rest (12 + 4 * seq_count_at rest)))
+    (or_only rise (padding_fault at rest (12 + 4 * seq_count_at rest)) (map_only at named.Seq (first_bad_seq f.cases 0 12 (drop_seqs rest))) (padding_only at rest (12 + 4 * seq_count_at rest)))
 
 pub pin_only : (at : ℕ) (rest : List ℕ) (f : Folded) → OnlyDamaged (pin_fault at rest f)
 pin_only at rest f = or_only (first_failing at (pin_checks rest f)) (padding_fault at rest 13) (checks_only at (pin_checks rest f)) (padding_only at rest 13)

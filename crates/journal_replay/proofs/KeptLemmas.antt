@@ -1,16 +1,14 @@
 -- What holds of the working state stays as records are applied.
-use Rattle.std.proofs.Common.{◌≡◌, inl, inr, ℕ, zero, suc, ◌+◌, ◌-◌, ◌<◌, ◌≤◌, Bool, true, false, ◌||◌, cond, nat_eq, nat_lt, List, [], ◌∷◌, ◌++◌, length, get_or, Option, Some, None, refl, sym, ap, ◌∙◌, subst, arith}
-use Rattle.std.proofs.lemmas.Bool.{cases_lt, lt-ltb, le-ltb}
+use Rattle.std.proofs.Common.{◌≡◌, inl, inr, ℕ, zero, suc, ◌+◌, ◌<◌, ◌≤◌, Bool, true, false, ◌||◌, cond, nat_eq, nat_lt, List, [], ◌∷◌, ◌++◌, length, get_or, Option, Some, None, refl, sym, ap, ◌∙◌, arith}
+use Rattle.std.proofs.lemmas.Bool.{cases_lt, le-ltb}
 use Rattle.std.proofs.lemmas.List.{append-nil}
 use Rattle.std.proofs.lemmas.Grind.{flat_map-append}
 use Rattle.std.proofs.lemmas.List.Sums.{sum_by-cons, sum_by-append}
-use Rattle.std.specs.List.{sum_by, All, flat_map}
+use Rattle.std.specs.List.{sum_by, All}
 use Rattle.std.specs.Str.{bytes_eq}
 use Rattle.std.specs.Map.{lookup, remove_entry}
-use Rattle.std.specs.BTreeMap.{BTreeMap, is_at, insert_entry}
-use Rattle.std.specs.BTreeSet.{BTreeSet}
+use Rattle.std.specs.BTreeMap.{insert_entry}
 use Rattle.std.specs.Ordering.{nat_cmp}
-use Rattle.arrayvec.specs.ArrayVec.{ArrayVec}
 use Rattle.extents.specs.declared.run_list.Run.{Run}
 use Rattle.extents.specs.Runs.{runs_of, blocks_of}
 use Rattle.extents.specs.FreeSet.{is_free, one_if, with_runs, with_blocks, AreUsed}
@@ -18,12 +16,12 @@ use Rattle.extents.specs.FreeSet as flags
 use Rattle.extents.specs.FreeLaws.{one_free_with, length_with}
 use Rattle.journal_layout.specs.declared.entry.Entry.{Entry}
 use Rattle.journal_layout.specs.Case.{Case, case_of}
-use Rattle.journal_layout.specs.Folding.{used_blocks, is_name_of, dropped, with_pin}
+use Rattle.journal_layout.specs.Folding.{used_blocks, is_name_of}
 use Rattle.journal_layout.specs.Soundness.{uses}
 use Rattle.journal_layout.specs.SpareLaws.{uses-append}
 use Rattle.journal_layout.specs.ChainLaws.{AreInChain, chain_of, blocks_back}
 use Rattle.journal_replay.specs.Live.{cases_of, AreNumbered, with_flag, pinned_in}
-use Rattle.journal_replay.specs.Taken.{Accounts, has_name}
+use Rattle.journal_replay.specs.Taken.{Accounts}
 use Rattle.journal_replay.specs.Kept.{bearers}
 use Rattle.journal_replay.proofs.LiveLemmas.{cases_append, insert_last}
 use Rattle.journal_replay.proofs.RunLemmas.{uses_same}

@@ -1,9 +1,8 @@
 -- What the byte of a record's kind decides.
-use Rattle.std.proofs.Common.{◌≡◌, ℕ, Bool, cond, nat_eq, List, Option, slice_index, refl, ap, ◌∙◌}
+use Rattle.std.proofs.Common.{◌≡◌, ℕ, cond, nat_eq, List, slice_index, ap, ◌∙◌}
 use Rattle.std.proofs.lemmas.Bool.{ne_eqb}
-use Rattle.journal_layout.specs.declared.faults.OpenFault.{OpenFault}
 use Rattle.journal_layout.specs.Layout.{field}
-use Rattle.journal_layout.specs.Record.{Record, Store, Drop, Pin, Next}
+use Rattle.journal_layout.specs.Record.{Store, Drop, Pin, Next}
 use Rattle.journal_layout.specs.Reading.{kind_at, case_at, drop_seqs, record_at}
 use Rattle.journal_layout.specs.Folding.{Folded}
 use Rattle.journal_layout.specs.Checks.{store_fault, drop_fault, pin_fault, first_failing, next_checks, body_fault}

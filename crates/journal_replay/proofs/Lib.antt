@@ -8,3 +8,4 @@ pub mod FaultLemmas
 pub mod SaysLemmas
 pub mod StoreLemmas
 pub mod KindLemmas
+pub mod AlongLemmas

@@ -1,18 +1,16 @@
 -- Laws of entries kept under their numbers.
-use Rattle.std.proofs.Common.{◌≡◌, inl, inr, ⊎_elim, ℕ, ◌+◌, ◌<◌, ◌≤◌, Bool, true, false, not, ◌||◌, cond, List, [], ◌∷◌, ◌++◌, Option, Some, None, refl, sym, ap, ◌∙◌, arith, nat_eq}
+use Rattle.std.proofs.Common.{◌≡◌, inl, inr, ℕ, ◌+◌, ◌<◌, ◌≤◌, Bool, true, false, not, ◌||◌, cond, List, [], ◌∷◌, ◌++◌, map, Option, Some, None, refl, sym, ap, ◌∙◌, arith, nat_eq}
 use Rattle.std.specs.Option.{option_map, is_some, is_none}
-use Rattle.std.specs.List.{filter, list_any, sum_by}
-use Rattle.std.proofs.lemmas.List.Sums.{sum_by-cons}
 use Rattle.std.specs.Ordering.{nat_cmp, is_eq, match_ordering}
 use Rattle.std.specs.declared.cmp.Ordering.{Ordering}
 use Rattle.std.specs.declared.cmp.Ordering.TheVariants.{Less, Equal, Greater}
 use Rattle.std.specs.Cmp.{nat_cmp_is}
 use Rattle.std.specs.BTreeMap.{is_at, insert_entry}
 use Rattle.std.specs.Map.{lookup, remove_entry, set_value, values_of}
-use Rattle.std.proofs.lemmas.Bool.{cases_lt, cases_eq, eq-eqb, ne_eqb, lt-ltb, le-ltb}
+use Rattle.std.proofs.lemmas.Bool.{cases_lt, cases_eq, eq-eqb, ne_eqb}
 use Rattle.journal_layout.specs.declared.entry.Entry.{Entry}
 use Rattle.journal_layout.specs.Case.{Case, case_of}
-use Rattle.journal_layout.specs.Folding.{is_among, dropped, with_pin, pinned_as}
+use Rattle.journal_layout.specs.Folding.{is_among, dropped, with_pin}
 use Rattle.journal_layout.specs.Soundness.{case_numbered}
 use Rattle.journal_replay.specs.Live.{cases_of, AreNumbered, with_flag, pinned_in}
 
@@ -133,7 +131,7 @@ pub dropped_more : (s : ℕ) (more : List ℕ) (cs : List Case) → dropped (s �
 dropped_more s more [] = refl
 dropped_more s more (c ∷ cs) =
     elim (nat_eq c.seq s) as (λ t. cond (not (t || is_among more c.seq)) (c ∷ dropped (s ∷ more) cs) (dropped (s ∷ more) cs)
-        ≡ dropped more (cond (not (t || false)) (c ∷ dropped (s ∷ []) cs) (dropped (s ∷ []) cs))) [
+    ≡ dropped more (cond (not (t || false)) (c ∷ dropped (s ∷ []) cs) (dropped (s ∷ []) cs))) [
       | true ↦ dropped_more s more cs
       | false ↦ ap (λ (ds : List Case). cond (not (is_among more c.seq)) (c ∷ ds) ds) (dropped_more s more cs)
     ]
@@ -203,7 +201,11 @@ pinned_cases low high s flag (e ∷ es) are =
           ∙ ap (λ t. cond t (case_of (with_flag flag e.1)) (case_of e.1) ∷ with_pin s flag (cases_of es)) (sym (ne_eqb e.1.seq s (λ f. other (sym number ∙ f))))
     ]
 
-
 pub missing_is : (found : Option Entry) → not (is_some found) ≡ is_none (option_map case_of found)
 missing_is None = refl
 missing_is (Some e) = refl
+
+-- what the entries say is what their values say
+pub cases_values : (es : List (ℕ × Entry)) → cases_of es ≡ map case_of (values_of es)
+cases_values [] = refl
+cases_values (e ∷ es) = ap (λ (cs : List Case). case_of e.1 ∷ cs) (cases_values es)

@@ -1,11 +1,10 @@
 -- Laws of names.
-use Rattle.std.proofs.Common.{◌≡◌, inl, inr, ℕ, Bool, true, false, ◌||◌, not, cond, List, [], ◌∷◌, Option, Some, None, refl, sym, ap, ◌∙◌, nat_eq}
+use Rattle.std.proofs.Common.{◌≡◌, inl, inr, ℕ, Bool, true, false, ◌||◌, not, cond, List, [], ◌∷◌, Some, None, refl, sym, ap, ◌∙◌, nat_eq}
 use Rattle.std.proofs.lemmas.Bool.{cases_eq, eq-eqb, ne_eqb}
 use Rattle.std.specs.List.{list_any}
 use Rattle.std.specs.BTreeSet.{BTreeSet}
 use Rattle.arrayvec.specs.ArrayVec.{ArrayVec}
 use Rattle.journal_layout.specs.declared.faults.Field.TheVariants as named
-use Rattle.journal_layout.specs.declared.faults.OpenFault.{OpenFault}
 use Rattle.journal_layout.specs.Folding.{is_among}
 use Rattle.journal_layout.specs.Reading.{name_at, name_place}
 use Rattle.journal_layout.specs.Checks.{damaged}

@@ -1,6 +1,6 @@
 -- The runs of a Store record, as they are read.
-use Rattle.std.proofs.Common.{◌≡◌, inl, inr, ℕ, zero, suc, ◌+◌, ◌-◌, ◌*◌, ◌<◌, ◌≤◌, Bool, true, false, ◌||◌, cond, nat_eq, nat_lt, List, [], ◌∷◌, ◌++◌, length, drop, Option, Some, None, Result, Err, refl, sym, ap, ◌∙◌, subst, arith, append_assoc}
-use Rattle.std.proofs.lemmas.Bool.{eq-eqb, ne_eqb, le-ltb, lt-ltb}
+use Rattle.std.proofs.Common.{◌≡◌, ℕ, ◌+◌, ◌-◌, ◌*◌, ◌<◌, ◌≤◌, Bool, true, false, ◌||◌, cond, nat_eq, nat_lt, List, [], ◌∷◌, ◌++◌, length, drop, Option, Some, None, Err, refl, sym, ap, ◌∙◌, subst, arith, append_assoc}
+use Rattle.std.proofs.lemmas.Bool.{ne_eqb, le-ltb, lt-ltb}
 use Rattle.extents.specs.declared.run_list.Run.{Run}
 use Rattle.extents.specs.Runs.{run_blocks, blocks_of}
 use Rattle.extents.specs.FreeSet.{is_free, one_if, AllFree, HasUsed, Marks, without}
@@ -164,10 +164,10 @@ pub so_far_step : (limit : ℕ) (used rest : List ℕ) (n index : ℕ) (end : Op
 so_far_step limit used rest n index end blocks count old now r more sum are below is joined added fine accounts =
     let s = run_at rest (48 + 8 * index) in
     let next = so_far_next limit used rest n index end blocks count old now are below
-        (ap (is_bad_run limit (used ++ blocks) end) (sym is) ∙ fine)
-        (subst (λ (x : Run). Accounts ((used ++ blocks) ++ run_blocks x) now) is accounts) in
+    (ap (is_bad_run limit (used ++ blocks) end) (sym is) ∙ fine)
+    (subst (λ (x : Run). Accounts ((used ++ blocks) ++ run_blocks x) now) is accounts) in
     let back : AreSoFar limit used rest n (index + 1) (Some (r.start + r.count)) (blocks ++ run_blocks r) (count + r.count) now =
-        subst (λ (x : Run). AreSoFar limit used rest n (index + 1) (Some (x.start + x.count)) (blocks ++ run_blocks x) (count + x.count) now) (sym is) next in
+    subst (λ (x : Run). AreSoFar limit used rest n (index + 1) (Some (x.start + x.count)) (blocks ++ run_blocks x) (count + x.count) now) (sym is) next in
     let with_sum : AreSoFar limit used rest n (index + 1) (Some (r.start + r.count)) (blocks ++ run_blocks r) sum now =
-        subst (λ (k : ℕ). AreSoFar limit used rest n (index + 1) (Some (r.start + r.count)) (blocks ++ run_blocks r) k now) (sym added) back in
+    subst (λ (k : ℕ). AreSoFar limit used rest n (index + 1) (Some (r.start + r.count)) (blocks ++ run_blocks r) k now) (sym added) back in
     subst (λ (l : List ℕ). AreSoFar limit used rest n (index + 1) (Some (r.start + r.count)) l sum now) (sym joined) with_sum

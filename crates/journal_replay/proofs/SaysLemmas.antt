@@ -1,12 +1,12 @@
 -- What the working state says once a record is applied.
-use Rattle.std.proofs.Common.{◌≡◌, ℕ, ◌+◌, ◌^◌, ◌<◌, ◌≤◌, Bool, true, false, cond, nat_eq, List, [], ◌∷◌, ◌++◌, length, refl, sym, ap, ◌∙◌, subst, arith}
+use Rattle.std.proofs.Common.{◌≡◌, ℕ, ◌+◌, ◌^◌, ◌<◌, ◌≤◌, Bool, true, false, cond, List, [], ◌∷◌, ◌++◌, length, refl, sym, ap, ◌∙◌, subst, arith}
 use Rattle.std.specs.BTreeMap.{BTreeMap}
 use Rattle.std.specs.Str.{bytes_eq}
 use Rattle.std.proofs.lemmas.Slice.Eq.{bytes_eq-Decides}
 use Rattle.extents.specs.FreeSet.{one_if}
 use Rattle.journal_layout.specs.declared.entry.Entry.{Entry}
-use Rattle.journal_layout.specs.Case.{Case, case_of}
-use Rattle.journal_layout.specs.Record.{Record, Store, Drop, Pin, Next}
+use Rattle.journal_layout.specs.Case.{Case}
+use Rattle.journal_layout.specs.Record.{Store, Pin, Next}
 use Rattle.journal_layout.specs.Folding.{Folded, after, used_blocks, with_pin}
 use Rattle.journal_layout.specs.Soundness.{uses}
 use Rattle.journal_replay.specs.declared.cases.Cases.{Cases}
@@ -83,7 +83,7 @@ store_says old new c kept cases numbered next bound names fresh accounts size = 
     names = λ name.
         ap (λ (cs : List Case). bearers cs name) cases
         ∙ names_more (bytes_eq c.name name) (has_name old.names name) (bearers (cases_of old.live.entries) name) (bearers (cases_of old.live.entries ++ c ∷ []) name)
-            (bearers_push name (cases_of old.live.entries) c) (kept.names name) (λ is. ap (has_name old.names) (sym (same_name c.name name is)) ∙ fresh)
+        (bearers_push name (cases_of old.live.entries) c) (kept.names name) (λ is. ap (has_name old.names) (sym (same_name c.name name is)) ∙ fresh)
         ∙ ap one_if (sym (names name));
     accounts = subst (λ (l : List ℕ). Accounts l new.free) (sym (ap used_blocks cases ∙ used_push (cases_of old.live.entries) c)) accounts;
   };

@@ -9,7 +9,7 @@ use Rattle.journal_layout.specs.Layout.{field}
 use Rattle.journal_layout.specs.Reading.{store_runs, name_at, name_place, name_length_at}
 use Rattle.journal_layout.specs.Folding.{Folded, is_among, is_name_of}
 use Rattle.journal_layout.specs.Soundness.{blocks_for}
-use Rattle.journal_layout.specs.Checks.{damaged, first_failing, store_checks, runs_fault, block_count, name_checks, padding_fault, store_fault}
+use Rattle.journal_layout.specs.Checks.{damaged, first_failing, store_checks, runs_fault, block_count, padding_fault, store_fault}
 use Rattle.journal_replay.specs.Head.{TellsFault}
 use Rattle.journal_replay.specs.Taken.{has_name, fault_of_name}
 use Rattle.journal_replay.proofs.FaultLemmas.{tells_first, tells_second}
@@ -36,8 +36,8 @@ store_chain : (limit at : ℕ) (rest : List ℕ) (f : Folded) → store_fault li
     ≡ option_or (facts_part at rest f) (option_or (runs_fault limit at rest f) (option_or (image_part at rest (block_count (store_runs rest))) (option_or (name_part at rest f) (end_part at rest))))
 store_chain limit at rest f =
     ap (λ (x : Option OpenFault). option_or (facts_part at rest f) (option_or (runs_fault limit at rest f) x))
-        (two_checks (not (nat_eq (block_count (store_runs rest)) (blocks_for (field rest 32 8)))) (is_among (name_at rest) 0 || is_name_of f.cases (name_at rest))
-            (damaged at named.ImageLength 32) (damaged at named.Name (name_place rest)) (end_part at rest))
+    (two_checks (not (nat_eq (block_count (store_runs rest)) (blocks_for (field rest 32 8)))) (is_among (name_at rest) 0 || is_name_of f.cases (name_at rest))
+    (damaged at named.ImageLength 32) (damaged at named.Name (name_place rest)) (end_part at rest))
 
 module _ (limit at : ℕ) (rest : List ℕ) (f : Folded) (e : OpenFault) where
   told : TellsFault (option_or (facts_part at rest f) (option_or (runs_fault limit at rest f) (option_or (image_part at rest (block_count (store_runs rest))) (option_or (name_part at rest f) (end_part at rest))))) e
@@ -91,9 +91,9 @@ pub store_passes : (limit at : ℕ) (rest : List ℕ) (f : Folded) → facts_par
 store_passes limit at rest f facts runs image name end =
     store_chain limit at rest f
     ∙ or_none (facts_part at rest f) (option_or (runs_fault limit at rest f) (option_or (image_part at rest (block_count (store_runs rest))) (option_or (name_part at rest f) (end_part at rest)))) facts
-        (or_none (runs_fault limit at rest f) (option_or (image_part at rest (block_count (store_runs rest))) (option_or (name_part at rest f) (end_part at rest))) runs
-            (or_none (image_part at rest (block_count (store_runs rest))) (option_or (name_part at rest f) (end_part at rest)) image
-                (or_none (name_part at rest f) (end_part at rest) name end)))
+    (or_none (runs_fault limit at rest f) (option_or (image_part at rest (block_count (store_runs rest))) (option_or (name_part at rest f) (end_part at rest))) runs
+    (or_none (image_part at rest (block_count (store_runs rest))) (option_or (name_part at rest f) (end_part at rest)) image
+    (or_none (name_part at rest f) (end_part at rest) name end)))
 
 -- the name's part, where the set of names tells which are taken
 pub name_part_is : (at : ℕ) (rest : List ℕ) (f : Folded) (names : BTreeSet (ArrayVec ℕ)) → is_name_of f.cases (name_at rest) ≡ has_name names (name_at rest) → name_part at rest f ≡ fault_of_name at rest names

@@ -31,11 +31,7 @@ fn name_at(rest: &[u8]) -> Name
 }
 
 /// The name of a Store record, which has no NUL and is none of these. It is one of them from here on.
-pub(crate) fn take_name(
-    names: &mut BTreeSet<Name>,
-    rest: &[u8],
-    at: u64,
-) -> Result<Name, OpenFault>
+pub(crate) fn take_name(names: &mut BTreeSet<Name>, rest: &[u8], at: u64) -> Result<Name, OpenFault>
     requires room { name_place rest.now + name_length_at rest.now ≤ length rest.now }
     requires short { name_length_at rest.now ≤ 128 }
     requires disk { at + length rest.now ≤ 2 ^ 63 }

@@ -75,7 +75,11 @@ pub(crate) fn entry_at(rest: &[u8], name: Name, runs: RunList) -> Entry
 {
     Entry {
         seq: u32_at(rest, 8),
-        kind: if rest[12] == 1 { Kind::Core } else { Kind::Exec },
+        kind: if rest[12] == 1 {
+            Kind::Core
+        } else {
+            Kind::Exec
+        },
         name,
         pid: u32_at(rest, 16),
         signal: u32_at(rest, 20),

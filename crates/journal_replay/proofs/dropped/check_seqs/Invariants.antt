@@ -1,4 +1,4 @@
-use Rattle.std.proofs.Common.{◌≡◌, ◌+◌, ◌-◌, ◌*◌, ◌≤◌, drop}
+use Rattle.std.proofs.Common.{◌≡◌, ◌+◌, ◌-◌, ◌*◌, drop}
 use Rattle.journal_layout.specs.Reading.{seqs_at, drop_seqs}
 use Rattle.journal_layout.specs.Checks.{first_bad_seq}
 use Rattle.journal_replay.specs.Live.{cases_of}

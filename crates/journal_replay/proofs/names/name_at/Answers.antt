@@ -1,4 +1,4 @@
-use Rattle.std.proofs.Common.{◌≡◌, ◌+◌, ◌-◌, ◌*◌, sym, ap, ◌∙◌, take, drop, arith}
+use Rattle.std.proofs.Common.{◌≡◌, ◌+◌, ◌-◌, ◌*◌, ap, ◌∙◌, take, drop, arith}
 use Rattle.disk_model.specs.Places.{part}
 use Rattle.journal_layout.specs.Reading.{name_place}
 use Rattle.journal_replay.proofs.names.name_at.Goals as goal

@@ -16,11 +16,10 @@ returns-in-Ok-true c =
     let old = c.args.names.now in
     let name = name_at rest in
     let clean : is_among name 0 ≡ false =
-        ap (λ (n : List ℕ). is_among n 0) (sym c.name_at-name.ensures) ∙ sym (among_zero c.name_at-name.result.items)
-        ∙ ap (list_any (λ (b : ℕ). nat_eq b 0)) (sym c.as_slice.ensures.value) ∙ sym c.contains.ensures.value ∙ c.if-contains.false in
+    ap (λ (n : List ℕ). is_among n 0) (sym c.name_at-name.ensures) ∙ sym (among_zero c.name_at-name.result.items)
+    ∙ ap (list_any (λ (b : ℕ). nat_eq b 0)) (sym c.as_slice.ensures.value) ∙ sym c.contains.ensures.value ∙ c.if-contains.false in
     let fresh : has_name old name ≡ false =
-        ap (has_name old) (sym c.name_at.ensures) ∙ not_back (has_name old c.name_at.result.items) c.in-Ok-true.field-0 c.in-Ok-true.ensures.added ∙ ap not c.in-Ok-true.field-0-test in
-    (
+    ap (has_name old) (sym c.name_at.ensures) ∙ not_back (has_name old c.name_at.result.items) c.in-Ok-true.field-0 c.in-Ok-true.ensures.added ∙ ap not c.in-Ok-true.field-0-test in (
       name_fault c.args.at rest old clean ∙ ap (λ t. cond t (Some (damaged c.args.at named.Name (name_place rest))) None) fresh,
       c.name_at-name.ensures,
       λ q. c.in-Ok-true.ensures.updates.0 (record { items = q })

@@ -1,4 +1,4 @@
-use Rattle.std.proofs.Common.{◌≡◌, ℕ, sym, ap, ◌∙◌, subst, length, List, Bool, ◌++◌}
+use Rattle.std.proofs.Common.{sym, ap, ◌∙◌, subst, length, List, Bool, ◌++◌}
 use Rattle.extents.specs.Runs.{run_blocks}
 use Rattle.extents.specs.FreeLaws.{length_without}
 use Rattle.journal_replay.specs.Taken.{Accounts}
@@ -8,8 +8,7 @@ use Rattle.journal_replay.proofs.runs.take_run.Goals as goal
 pub returns-in-Ok-clause-taken : goal.returns-in-Ok-clause-taken
 returns-in-Ok-clause-taken c = λ used accounts.
     let marks = c.in-Ok.ensures in
-    let old = c.args.free.now in
-    (
+    let old = c.args.free.now in (
       good used old c.args.end c.args.run accounts c.if-run-eq0.false marks.0 (sym c.is_adjoining.ensures ∙ c.if-is_adjoining.false) marks.1,
       subst (λ (flags : List Bool). Accounts (used ++ run_blocks c.args.run) flags) (sym marks.2) (accounts_more used old c.args.run accounts marks.1),
     )

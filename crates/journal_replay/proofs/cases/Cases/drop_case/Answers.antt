@@ -1,4 +1,4 @@
-use Rattle.std.proofs.Common.{◌≡◌, ℕ, ◌+◌, ◌≤◌, List, [], ◌∷◌, Bool, Option, Some, length, sym, ap, ◌∙◌, subst, refl, arith, cond, true, false}
+use Rattle.std.proofs.Common.{◌≡◌, ℕ, List, Bool, Some, length, sym, ap, ◌∙◌, subst, refl, arith, cond, false}
 use Rattle.std.proofs.lemmas.Map.Text.{is_eq-slice_cmp}
 use Rattle.std.specs.BTreeMap.{is_at}
 use Rattle.std.specs.Ordering.{nat_cmp}
@@ -7,10 +7,8 @@ use Rattle.std.specs.Str.{bytes_eq}
 use Rattle.extents.specs.Runs.{runs_of, blocks_of}
 use Rattle.extents.specs.FreeSet.{AreUsed, one_if, with_runs}
 use Rattle.extents.specs.FreeLaws.{length_with}
-use Rattle.extents.specs.declared.run_list.Run.{Run}
 use Rattle.journal_layout.specs.declared.entry.Entry.{Entry}
-use Rattle.journal_layout.specs.Soundness.{uses}
-use Rattle.journal_layout.specs.Folding.{Folded, used_blocks, dropped}
+use Rattle.journal_layout.specs.Folding.{Folded, used_blocks}
 use Rattle.journal_layout.specs.Case.{Case}
 use Rattle.journal_replay.specs.Live.{cases_of, AreNumbered}
 use Rattle.journal_replay.specs.Taken.{Accounts, has_name}
@@ -24,8 +22,8 @@ give_back-requires c =
     let es = c.args.self.now.live.entries in
     let v = c.in-Some.entry in
     subst (AreUsed c.args.self.now.free) (sym c.runs.ensures.shortest)
-        (runs_used (used_blocks (cases_of es)) v.runs c.args.self.now.free c.requires.accounts
-            (λ k. (let s = used_removed k (is_at (nat_cmp c.args.seq)) v es c.in-Some.ensures.value in omega (arith, s))))
+    (runs_used (used_blocks (cases_of es)) v.runs c.args.self.now.free c.requires.accounts
+    (λ k. (let s = used_removed k (is_at (nat_cmp c.args.seq)) v es c.in-Some.ensures.value in omega (arith, s))))
 
 pub returns-in-Some : goal.returns-in-Some
 returns-in-Some c =
@@ -44,13 +42,13 @@ returns-in-Some c =
         names = λ name.
             ap (λ (l : List (ℕ × Entry)). bearers (cases_of l) name) less
             ∙ names_removed (bytes_eq v.name.items name) (has_name old.names name) (bearers (cases_of (remove_entry test es)) name) (bearers (cases_of es) name)
-                (bearers_removed name test v es found) (c.requires.names name)
+            (bearers_removed name test v es found) (c.requires.names name)
             ∙ ap (λ t. one_if (cond t false (has_name old.names name))) (sym (is_eq-slice_cmp v.name.items name))
             ∙ ap one_if (sym (c.remove-in-Some.ensures.updates.0 (record { items = name })));
         accounts = subst (λ (flags : List Bool). Accounts (used_blocks (cases_of c.remove.new.self.entries)) flags) (sym freed)
             (subst (λ (l : List (ℕ × Entry)). Accounts (used_blocks (cases_of l)) (with_runs old.free (runs_of v.runs))) (sym less)
-                (accounts_less (used_blocks (cases_of es)) (used_blocks (cases_of (remove_entry test es))) v.runs old.free c.requires.accounts
-                    (λ k. used_removed k test v es found)));
+            (accounts_less (used_blocks (cases_of es)) (used_blocks (cases_of (remove_entry test es))) v.runs old.free c.requires.accounts
+            (λ k. used_removed k test v es found)));
       };
       says = ap (λ (l : List (ℕ × Entry)). let f : Folded = record { cases = cases_of l; next = old.next } in f) less
           ∙ ap (λ (cs : List Case). let f : Folded = record { cases = cs; next = old.next } in f) (dropped_removed 0 old.next c.args.seq es c.requires.numbered);

@@ -1,6 +1,4 @@
-use Rattle.std.proofs.Common.{◌≡◌, ℕ, ◌+◌, ◌-◌, ◌*◌, List, [], ◌∷◌, drop, length, sym, ap, ◌∙◌}
-use Rattle.journal_layout.specs.Case.{Case}
-use Rattle.journal_layout.specs.Layout.{field}
+use Rattle.std.proofs.Common.{◌≡◌, ℕ, ◌+◌, ◌-◌, ◌*◌, List, ◌∷◌, drop, sym, ap, ◌∙◌}
 use Rattle.journal_layout.specs.Reading.{seqs_at, drop_seqs}
 use Rattle.journal_layout.specs.Folding.{Folded, dropped}
 use Rattle.journal_replay.specs.Live.{cases_of}
@@ -35,9 +33,9 @@ returns c =
     let rest = c.args.rest.now in
     let cs = cases_of l.self.live.entries in
     let all : cs ≡ dropped (drop_seqs rest) (cases_of c.args.self.now.live.entries) =
-        sym (dropped_empty cs)
-        ∙ ap (λ (seqs : List ℕ). dropped seqs cs) (sym (seqs_none (12 + 4 * l.index) c.u32_at-index-end.result l.index rest c.loop-index-test.false))
-        ∙ l.invariant.left in
+    sym (dropped_empty cs)
+    ∙ ap (λ (seqs : List ℕ). dropped seqs cs) (sym (seqs_none (12 + 4 * l.index) c.u32_at-index-end.result l.index rest c.loop-index-test.false))
+    ∙ l.invariant.left in
     record {
       kept = l.invariant.kept;
       says = folded_same cs (dropped (drop_seqs rest) (cases_of c.args.self.now.live.entries)) l.self.next c.args.self.now.next all l.invariant.next;

@@ -1,4 +1,4 @@
-use Rattle.std.proofs.Common.{◌+◌, ℕ, refl, sym, ◌∙◌, subst}
+use Rattle.std.proofs.Common.{◌+◌, refl, sym, ◌∙◌, subst}
 use Rattle.journal_replay.specs.Live.{AreNumbered}
 use Rattle.journal_replay.proofs.LiveLemmas.{insert_last, numbered_push}
 use Rattle.journal_replay.proofs.KeptLemmas.{cases_push}
@@ -14,4 +14,4 @@ returns-clause-numbered c =
     let old = c.args.self.now in
     let e = c.args.entry in
     subst (AreNumbered 0 (e.seq + 1)) (sym (c.in-Ok.ensures.entries ∙ insert_last 0 old.next e.seq e old.live.entries c.requires.numbered c.requires.number))
-        (numbered_push 0 old.next e.seq e old.live.entries c.requires.numbered c.requires.number refl)
+    (numbered_push 0 old.next e.seq e old.live.entries c.requires.numbered c.requires.number refl)

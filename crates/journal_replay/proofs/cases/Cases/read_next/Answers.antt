@@ -1,4 +1,4 @@
-use Rattle.std.proofs.Common.{◌≡◌, ◌≤◌, ◌^◌, ℕ, refl, sym, ap, ◌∙◌, length, subst}
+use Rattle.std.proofs.Common.{◌≤◌, ◌^◌, refl, sym, length, subst}
 use Rattle.journal_layout.specs.Layout.{field}
 use Rattle.journal_layout.specs.Checks.{first_failing, next_checks}
 use Rattle.journal_layout.specs.Record.{Next}
@@ -16,7 +16,7 @@ returns-in_err-self c =
     let rest = c.args.rest.now in
     let fault = first_failing c.args.at (next_checks rest (said_by old)) in
     handed_on fault (after (Next (field rest 8 8)) (said_by old)) (length old.free) c.from_residual.result old c.in_err-self.field-0.0 c.from_residual.ensures.1
-        (tells fault c.in_err-self.field-0.0 (checks_only c.args.at (next_checks rest (said_by old))) (c.in_err-self.ensures.fault (cases_of old.live.entries)))
+    (tells fault c.in_err-self.field-0.0 (checks_only c.args.at (next_checks rest (said_by old))) (c.in_err-self.ensures.fault (cases_of old.live.entries)))
 
 pub returns : goal.returns
 returns c =
@@ -24,8 +24,7 @@ returns c =
     let rest = c.args.rest.now in
     let ok = c.in_ok-self in
     let new : Cases = record old { next = ok.field-0 } in
-    let n = field rest 8 8 in
-    (
+    let n = field rest 8 8 in (
       sym (ok.ensures.fault (cases_of old.live.entries)),
       next_says old new n c.requires.kept refl refl refl ok.ensures.value
           (subst (λ k. old.next ≤ k) ok.ensures.value ok.ensures.bounds.0) (subst (λ k. k ≤ 2 ^ 32) ok.ensures.value ok.ensures.bounds.1),

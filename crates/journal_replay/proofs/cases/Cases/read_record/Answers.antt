@@ -1,4 +1,4 @@
-use Rattle.std.proofs.Common.{◌≡◌, ℕ, Option, None, length, refl, sym, ap, ◌∙◌, subst}
+use Rattle.std.proofs.Common.{Option, length, sym, ap, ◌∙◌}
 use Rattle.std.specs.Option.{option_or}
 use Rattle.journal_layout.specs.declared.faults.OpenFault.{OpenFault}
 use Rattle.journal_layout.specs.Checks.{first_failing, head_checks, body_fault, record_fault}
@@ -14,7 +14,7 @@ returns-in_err-check_head c =
     let e = c.in_err-check_head.field-0.0 in
     let head = first_failing c.args.at (head_checks rest) in
     handed_record c.args.at rest old c.from_residual.result old e c.from_residual.ensures.1
-        (tells_first head (body_fault (length old.free) c.args.at rest (said_by old)) e (tells head e (checks_only c.args.at (head_checks rest)) c.in_err-check_head.ensures.fault))
+    (tells_first head (body_fault (length old.free) c.args.at rest (said_by old)) e (tells head e (checks_only c.args.at (head_checks rest)) c.in_err-check_head.ensures.fault))
 
 pub returns-in_err-read_body : goal.returns-in_err-read_body
 unfolding record_fault
@@ -24,15 +24,14 @@ returns-in_err-read_body c =
     let e = c.in_err-read_body.field-0.0 in
     let head = first_failing c.args.at (head_checks rest) in
     handed_record c.args.at rest old c.from_residual-in_err-read_body.result c.read_body.new.self e c.from_residual-in_err-read_body.ensures.1
-        (tells_second head (body_fault (length old.free) c.args.at rest (said_by old)) e (sym c.in_ok-check_head.ensures.fault) c.in_err-read_body.ensures)
+    (tells_second head (body_fault (length old.free) c.args.at rest (said_by old)) e (sym c.in_ok-check_head.ensures.fault) c.in_err-read_body.ensures)
 
 pub returns : goal.returns
 unfolding record_fault
 returns c =
     let old = c.args.self.now in
     let rest = c.args.rest.now in
-    let body = body_fault (length old.free) c.args.at rest (said_by old) in
-    (
+    let body = body_fault (length old.free) c.args.at rest (said_by old) in (
       ap (λ (o : Option OpenFault). option_or o body) (sym c.in_ok-check_head.ensures.fault) ∙ c.in_ok-read_body.ensures.0,
       c.in_ok-read_body.ensures.1,
       c.u32_at.ensures,
