@@ -20,11 +20,6 @@ TellsFaulty limit at bytes (Damaged place which) = AreFaulty limit at bytes noth
 TellsFaulty limit at bytes OutOfMemory = Unit {0}
 TellsFaulty limit at bytes other = ⊥
 
--- what a reading answers: what the bytes say, or why they say nothing
-abbrev pub Replays : ℕ → ℕ → List ℕ → Result Replayed OpenFault → Type 0
-Replays limit at bytes (Ok r) = AreRead limit bytes nothing_yet (said_of r) r.size
-Replays limit at bytes (Err e) = TellsFaulty limit at bytes e
-
 -- These bytes begin with records in a row, which say this in so many bytes.
 pub record IsAlong (limit : ℕ) (bytes : List ℕ) (said : Folded) (used : ℕ) : Type 0 where
   pub records : List Record

@@ -27,9 +27,13 @@ use std::collections::{BTreeMap, BTreeSet};
 /// The live cases, their names, the blocks that none of them holds, and the number of the next case.
 #[derive(Drop)]
 pub(crate) struct Cases {
+    /// The live cases by their numbers.
     pub live: Live,
+    /// The names of the live cases.
     pub names: BTreeSet<Name>,
+    /// The data blocks that no live case holds.
     pub free: FreeMap,
+    /// The number of the next case.
     pub next: u64,
 }
 
@@ -51,10 +55,10 @@ impl Cases {
         })
     }
 
-    /// Ends the case of this number, if there is one: its name and its blocks are free again.
-    pub fn drop_case(&mut self, seq: u32)
+    // Ends the case of this number, if there is one: its name and its blocks are free again.
+    fn drop_case(&mut self, seq: u32)
         requires { AreKept self.old }
-        ensures { Says (record (said_by self.old) { cases = dropped (seq ∷ []) (said_by self.old).cases }) (length self.old.free) self.new }
+        ensures { Says (after (Drop (seq ∷ [])) (said_by self.old)) (length self.old.free) self.new }
     {
         if let Some(entry) = self.live.remove(&seq) {
             self.names.remove(&entry.name);
@@ -66,7 +70,8 @@ impl Cases {
     fn drop_cases(&mut self, rest: &[u8])
         requires kept { AreKept self.old }
         requires room { 12 + 4 * seq_count_at rest.now ≤ length rest.now }
-        ensures { Says (after (Drop (drop_seqs rest.now)) (said_by self.old)) (length self.old.free) self.new }
+        ensures { Says (after (Drop (drop_seqs rest.now)) (said_by self.old))
+            (length self.old.free) self.new }
     {
         for index in 0..u32_at(rest, 8) as usize {
             self.drop_case(u32_at(rest, 12 + 4 * index));
@@ -77,7 +82,8 @@ impl Cases {
     fn push(&mut self, entry: Entry) -> Result<(), OpenFault>
         requires numbered { AreNumbered 0 self.old.next self.old.live.entries }
         requires number { self.old.next ≤ entry.seq }
-        ensures cases { OnOk result (cases_of self.new.live.entries ≡ cases_of self.old.live.entries ++ case_of entry ∷ []) }
+        ensures cases { OnOk result (cases_of self.new.live.entries
+            ≡ cases_of self.old.live.entries ++ case_of entry ∷ []) }
         ensures numbered { OnOk result (AreNumbered 0 (entry.seq + 1) self.new.live.entries) }
         ensures next { OnOk result (self.new.next ≡ entry.seq + 1) }
         ensures bound { OnOk result (entry.seq < 2 ^ 32) }
@@ -99,7 +105,8 @@ impl Cases {
         requires limit { length self.old.free ≤ 16777216 }
         requires head { IsHeaded rest.now }
         requires disk { at + length rest.now ≤ 2 ^ 63 }
-        ensures { Reads (store_fault (length self.old.free) at rest.now (said_by self.old)) (after (Store (case_at rest.now)) (said_by self.old)) (length self.old.free) result self.new }
+        ensures { Reads (store_fault (length self.old.free) at rest.now (said_by self.old))
+            (after (Store (case_at rest.now)) (said_by self.old)) (length self.old.free) result self.new }
     {
         check_facts(rest, at, self.next)?;
         let (runs, blocks) = read_runs(alloc, &mut self.free, rest, at)?;
@@ -115,7 +122,8 @@ impl Cases {
         requires kept { AreKept self.old }
         requires head { IsHeaded rest.now }
         requires disk { at + length rest.now ≤ 2 ^ 63 }
-        ensures { Reads (drop_fault at rest.now (said_by self.old)) (after (Drop (drop_seqs rest.now)) (said_by self.old)) (length self.old.free) result self.new }
+        ensures { Reads (drop_fault at rest.now (said_by self.old))
+            (after (Drop (drop_seqs rest.now)) (said_by self.old)) (length self.old.free) result self.new }
     {
         check_drop(&self.live, rest, at)?;
         self.drop_cases(rest);
@@ -127,7 +135,9 @@ impl Cases {
         requires kept { AreKept self.old }
         requires head { IsHeaded rest.now }
         requires disk { at + length rest.now ≤ 2 ^ 63 }
-        ensures { Reads (pin_fault at rest.now (said_by self.old)) (after (Pin (field rest.now 8 4) (slice_index rest.now 12 == 1)) (said_by self.old)) (length self.old.free) result self.new }
+        ensures { Reads (pin_fault at rest.now (said_by self.old))
+            (after (Pin (field rest.now 8 4) (slice_index rest.now 12 == 1)) (said_by self.old))
+            (length self.old.free) result self.new }
     {
         check_pin(&self.live, rest, at)?;
         set_pin(&mut self.live, u32_at(rest, 8), rest[12] == 1);
@@ -139,7 +149,8 @@ impl Cases {
         requires kept { AreKept self.old }
         requires head { IsHeaded rest.now }
         requires disk { at + length rest.now ≤ 2 ^ 63 }
-        ensures { Reads (first_failing at (next_checks rest.now (said_by self.old))) (after (Next (field rest.now 8 8)) (said_by self.old)) (length self.old.free) result self.new }
+        ensures { Reads (first_failing at (next_checks rest.now (said_by self.old)))
+            (after (Next (field rest.now 8 8)) (said_by self.old)) (length self.old.free) result self.new }
     {
         self.next = read_next(rest, at, self.next)?;
         Ok(())
@@ -151,7 +162,8 @@ impl Cases {
         requires limit { length self.old.free ≤ 16777216 }
         requires head { IsHeaded rest.now }
         requires disk { at + length rest.now ≤ 2 ^ 63 }
-        ensures { Reads (body_fault (length self.old.free) at rest.now (said_by self.old)) (after (record_at rest.now) (said_by self.old)) (length self.old.free) result self.new }
+        ensures { Reads (body_fault (length self.old.free) at rest.now (said_by self.old))
+            (after (record_at rest.now) (said_by self.old)) (length self.old.free) result self.new }
     {
         match rest[1] {
             1 => self.read_store(alloc, rest, at),
@@ -162,6 +174,7 @@ impl Cases {
     }
 
     /// Reads the record that these bytes begin with, whose gate is at byte `at` of the disk, and tells its length.
+    /// `Damaged`: this field of it is the first that is wrong. `OutOfMemory`: there was no memory.
     pub fn read_record(&mut self, alloc: Global, rest: &[u8], at: u64) -> Result<usize, OpenFault>
         requires kept { AreKept self.old }
         requires limit { length self.old.free ≤ 16777216 }

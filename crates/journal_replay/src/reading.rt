@@ -1,9 +1,10 @@
 // The records of a half, one after another.
-ghost use Rattle.std.specs.Prelude.{◌≡◌, ◌+◌, ◌^◌, ◌<◌, ◌≤◌, length, IfOk};
+ghost use Rattle.std.specs.Prelude.{◌≡◌, ◌+◌, ◌^◌, ◌<◌, ◌≤◌, length, IfOk, IfErr};
 ghost use Rattle.std.specs.Map.{values_of};
 ghost use Rattle.journal_layout.specs.Folding.{nothing_yet};
 ghost use Rattle.journal_replay.specs.Kept.{Says};
-ghost use Rattle.journal_replay.specs.Said.{Replays, ReadsAll};
+ghost use Rattle.journal_replay.specs.Said.{said_of, TellsFaulty, ReadsAll};
+ghost use Rattle.journal_layout.specs.Stands.{AreRead};
 
 use crate::Live;
 use crate::cases::Cases;
@@ -54,7 +55,8 @@ pub fn replay(alloc: Global, bytes: &[u8], at: u64, data_blocks: u32) -> Result<
     requires some { 1 ≤ length bytes.now }
     requires places { at + length bytes.now ≤ 2 ^ 63 }
     requires blocks { data_blocks ≤ 16777216 }
-    ensures read { Replays data_blocks at bytes.now result }
+    ensures read { IfOk result (λ r. AreRead data_blocks bytes.now nothing_yet (said_of r) r.size) }
+    ensures fault { IfErr result (TellsFaulty data_blocks at bytes.now) }
     ensures bounds { IfOk result (λ r. (1 ≤ r.next) × (r.next ≤ 2 ^ 32) × (r.size + 1 ≤ length bytes.now)) }
 {
     let mut cases = Cases::new(alloc, data_blocks)?;
