@@ -10,6 +10,8 @@ mod next;
 mod padding;
 mod pin;
 mod reading;
+#[cfg(test)]
+mod readings;
 mod runs;
 mod store;
 
