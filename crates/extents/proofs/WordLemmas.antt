@@ -8,7 +8,7 @@ use Rattle.std.proofs.Common.{bit_and, bit_or, min}
 use mir.Val.{bits}
 use Rattle.std.proofs.lemmas.Nat.Bits.{bit_at-zero, bit_at-trailing_zeros, bit_at_ones, bit_at_clear_same, bit_at_clear_other, bit_at_set_same, bit_at_set_other}
 use Rattle.extents.specs.FreeSet.{is_free, free_count, without, with_blocks, AllFree, AllUsed, NoneFree}
-use Rattle.extents.specs.FreeWords.{bit_of, flags_of, IsMap, IsFirstInUse}
+use Rattle.extents.specs.FreeWords.{bit_of, flags_of, IsMap, IsFirstNotZero}
 use Rattle.extents.specs.FreeLaws.{length_flags_by, flag_below, same_flags, run_of, without_more, with_more, count_without, count_with_run, free_without, free_with_other, uses_outside, count_no_more, length_with, flag_past, all_free, count_all}
 use Rattle.extents.specs.Runs.{run_blocks}
 use Rattle.extents.specs.declared.run_list.Run.{Run}
@@ -199,7 +199,7 @@ module _ (words : List ℕ) (n free first : ℕ) (m : IsMap words n free first) 
           subst P (sym e) (map_with words put n free first run m put_long run_below put_with (all_used_here none))
 
 -- The search for the lowest free block.
-module _ (words : List ℕ) (n free first : ℕ) (m : IsMap words n free first) (place : ℕ) (found : IsFirstInUse words first place) where
+module _ (words : List ℕ) (n free first : ℕ) (m : IsMap words n free first) (place : ℕ) (found : IsFirstNotZero words first place) where
   -- none is free in the words that it passed
   pub skipped : (k : ℕ) → k < 64 * place → is_free (flags_of words n) k ≡ false
   skipped k before =
@@ -237,7 +237,7 @@ module _ (words : List ℕ) (n free first : ℕ) (m : IsMap words n free first) 
     is_word = get_or_read words place word within is 0
 
     lowest_bit : (trailing_zeros w64 word < bits w64) × (bit_at word (trailing_zeros w64 word) ≡ 1) × ((i : ℕ) → i < trailing_zeros w64 word → bit_at word i ≡ 0)
-    lowest_bit = bit_at-trailing_zeros w64 word (omega (arith, is_word, found.in_use within)) fits
+    lowest_bit = bit_at-trailing_zeros w64 word (omega (arith, is_word, found.not_zero within)) fits
 
     pub none_below : (k : ℕ) → k < place * 64 + trailing_zeros w64 word → is_free (flags_of words n) k ≡ false
     none_below k lower =

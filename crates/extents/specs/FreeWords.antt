@@ -22,8 +22,8 @@ pub record IsMap (words : List ℕ) (n free first : ℕ) : Type 0 where
   pub none_before : (k : ℕ) → k < 64 * first → is_free (flags_of words n) k ≡ false
 
 -- The place of the first word from place `from` on that is not 0, or the number of words.
-pub record IsFirstInUse (words : List ℕ) (from place : ℕ) : Type 0 where
+pub record IsFirstNotZero (words : List ℕ) (from place : ℕ) : Type 0 where
   pub later : from ≤ place
   pub within : place ≤ length words
   pub zeros : (k : ℕ) → from ≤ k → k < place → slice_index words k ≡ 0
-  pub in_use : place < length words → 0 < slice_index words place
+  pub not_zero : place < length words → 0 < slice_index words place

@@ -1,7 +1,7 @@
 // Which blocks are free, one bit for each block.
 ghost use Rattle.std.specs.Prelude.{◌≡◌, ◌+◌, ◌*◌, ◌^◌, ◌<◌, ◌≤◌, ℕ, true, false, IfOk, length, replicate};
 ghost use Rattle.extents.specs.FreeSet.{is_free, free_count, AllFree, AllUsed, Marks, TakesOrNone, AreUsed, without, with_blocks, with_runs, IsLowest, IsStretch};
-ghost use Rattle.extents.specs.FreeWords.{flags_of, IsFirstInUse};
+ghost use Rattle.extents.specs.FreeWords.{flags_of, IsFirstNotZero};
 ghost use Rattle.extents.specs.Runs.{run_blocks};
 
 use crate::Run;
@@ -23,9 +23,14 @@ pub enum UseFault {
 /// Which of so many blocks are free. Contracts see it as a list of flags, one for each block, true where it is free.
 #[derive(Drop)]
 pub struct FreeMap {
+    // A bit for each block, the lowest bit of the first word first, set where the block is free. The last word's bits past
+    // the last block stay set and mean nothing.
     words: Vec<u64>,
+    // The number of blocks.
     blocks: u32,
+    // The number of free ones.
     free: u32,
+    // No block of the words before this one is free.
     first: usize,
 }
 
@@ -105,12 +110,12 @@ impl FreeMap {
         *free
     }
 
-    // The lowest free block. It moves the place where the next search begins.
+    // The lowest free block. The next search begins where this one ended.
     fn lowest(&mut self) -> Option<u32>
         ensures same { self.new ≡ self.old }
         ensures lowest { IsLowest self.old result }
     {
-        let first = first_in_use(&self.words, self.first);
+        let first = first_not_zero(&self.words, self.first);
         self.first = first;
         if first == self.words.len() {
             return None;
@@ -158,6 +163,7 @@ impl FreeMap {
         self.first = self.first.min((run.start / 64) as usize);
     }
 
+    // Whether a block is free.
     fn is_free(&self, block: u32) -> bool
         requires { block < length self.now }
         ensures { result ≡ is_free self.now block }
@@ -168,9 +174,9 @@ impl FreeMap {
 }
 
 // The place of the first word from place `from` on that is not 0, or the number of words where there is none.
-fn first_in_use(words: &[u64], from: usize) -> usize
+fn first_not_zero(words: &[u64], from: usize) -> usize
     requires { from ≤ length words.now }
-    ensures { IsFirstInUse words.now from result }
+    ensures { IsFirstNotZero words.now from result }
 {
     for index in from..words.len() {
         if words[index] != 0 {

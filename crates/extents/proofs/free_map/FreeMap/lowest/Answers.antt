@@ -1,36 +1,36 @@
 use Rattle.std.proofs.Common.{◌≡◌, ap, sym, subst, ◌∙◌, ◌<◌, ◌+◌, ◌*◌, ◌^◌, ℕ, List, Option, length, arith}
 use Rattle.std.specs.Int.{trailing_zeros, w64}
 use Rattle.extents.specs.FreeSet.{is_free, IsLowest}
-use Rattle.extents.specs.FreeWords.{IsFirstInUse}
+use Rattle.extents.specs.FreeWords.{IsFirstNotZero}
 use Rattle.extents.proofs.WordLemmas.{moved_on, none_at_all, none_below, lowest_is_free, none_past}
 use Rattle.extents.proofs.free_map.FreeMap.lowest.Goals as goal
 use Rattle.extents.proofs.free_map.FreeMap.lowest.Goals.{then-block-self, else-block-self}
 
 -- what was found in the words as they were lent, of the words themselves
-same_found : (lent words : List ℕ) (from place : ℕ) → lent ≡ words → IsFirstInUse lent from place → IsFirstInUse words from place
+same_found : (lent words : List ℕ) (from place : ℕ) → lent ≡ words → IsFirstNotZero lent from place → IsFirstNotZero words from place
 same_found lent words from place same found =
-    let P : List ℕ → Type 0 = λ ws. IsFirstInUse ws from place in
+    let P : List ℕ → Type 0 = λ ws. IsFirstNotZero ws from place in
     subst P same found
 
 pub invariant_of-self : goal.invariant_of-self
 invariant_of-self c =
     let s = c.self.inside in
-    let place = c.first_in_use-first.result in
+    let place = c.first_not_zero-first.result in
     moved_on s.words.items s.blocks s.free s.first c.self.invariant place
-    (same_found c.deref.result.now s.words.items s.first place c.deref.ensures.value c.first_in_use-first.ensures)
+    (same_found c.deref.result.now s.words.items s.first place c.deref.ensures.value c.first_not_zero-first.ensures)
 
 pub invariant_of-self-2 : goal.invariant_of-self-2
 invariant_of-self-2 c =
     let s = c.self.inside in
-    let place = c.first_in_use-first.result in
+    let place = c.first_not_zero-first.result in
     moved_on s.words.items s.blocks s.free s.first c.self.invariant place
-    (same_found c.deref.result.now s.words.items s.first place c.deref.ensures.value c.first_in_use-first.ensures)
+    (same_found c.deref.result.now s.words.items s.first place c.deref.ensures.value c.first_not_zero-first.ensures)
 
 pub returns-then-first-len-clause-lowest : goal.returns-then-first-len-clause-lowest
 returns-then-first-len-clause-lowest c k =
     let s = c.self.inside in
-    let place = c.first_in_use-first.result in
-    let found = same_found c.deref.result.now s.words.items s.first place c.deref.ensures.value c.first_in_use-first.ensures in
+    let place = c.first_not_zero-first.result in
+    let found = same_found c.deref.result.now s.words.items s.first place c.deref.ensures.value c.first_not_zero-first.ensures in
     let v = s.words.ok.0 in
     let l = c.len.ensures in
     sym (ap (λ f. is_free f k) c.self.view_is)
@@ -39,9 +39,9 @@ returns-then-first-len-clause-lowest c k =
 pub returns-clause-lowest : goal.returns-clause-lowest
 returns-clause-lowest c =
     let s = c.self.inside in
-    let place = c.first_in_use-first.result in
+    let place = c.first_not_zero-first.result in
     let word = c.index.result.now in
-    let found = same_found c.deref.result.now s.words.items s.first place c.deref.ensures.value c.first_in_use-first.ensures in
+    let found = same_found c.deref.result.now s.words.items s.first place c.deref.ensures.value c.first_not_zero-first.ensures in
     let v = s.words.ok.0 in
     let l = c.len.ensures in
     let other = c.if-first-len.false in

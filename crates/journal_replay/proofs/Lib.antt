@@ -1,0 +1,11 @@
+pub mod LiveLemmas
+pub mod ByteLemmas
+pub mod DropLemmas
+pub mod NameLemmas
+pub mod RunLemmas
+pub mod KeptLemmas
+pub mod FaultLemmas
+pub mod SaysLemmas
+pub mod StoreLemmas
+pub mod KindLemmas
+pub mod AlongLemmas

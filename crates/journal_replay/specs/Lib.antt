@@ -1,0 +1,5 @@
+pub mod Head
+pub mod Kept
+pub mod Live
+pub mod Said
+pub mod Taken
