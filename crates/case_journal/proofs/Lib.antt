@@ -1,6 +1,8 @@
 pub mod AppendLemmas
 pub mod EntryLemmas
+pub mod FormatLemmas
 pub mod FrontLemmas
+pub mod OpenLemmas
 pub mod PublishLemmas
 pub mod RecordLemmas
 pub mod SeqLemmas

@@ -39,7 +39,7 @@ one_place b k below =
     one_of (part b k 1) (part_length b k 1 below)
     ∙ ap (λ (x : ℕ). x ∷ []) (part_place b k 1 0 0 (omega arith) ∙ ap (slice_index b) (let e : k + 0 ≡ k = omega arith in e))
 
-zero_is_closed : ◌≡◌ {A = ℕ} 0 165 → ⊥
+pub zero_is_closed : ◌≡◌ {A = ℕ} 0 165 → ⊥
 zero_is_closed e = omega (arith, e)
 
 module _ (s : Standing) (r : Record) (gate : ℕ) (behind : List ℕ) (p : Publishes s r gate behind) (d : List ℕ) (stands : Stands d s) where

@@ -64,7 +64,7 @@ gate_within b s stands =
     let header = stands.header in
     omega arith
 
-front_part : (b : List ℕ) (p n q : ℕ) → q ≤ n → take q (part b p n) ≡ part b p q
+pub front_part : (b : List ℕ) (p n q : ℕ) → q ≤ n → take q (part b p n) ≡ part b p q
 front_part b p n q low =
     ap (take q) (part_is b p n) ∙ take-take q n (drop p b) low ∙ sym (part_is b p q)
 

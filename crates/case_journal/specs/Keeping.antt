@@ -1,12 +1,12 @@
 -- What a disk and the journal that was opened on it have in common.
-use Rattle.std.specs.Prelude.{◌≡◌, ◌⊎◌, ℕ, false, List, IsTrue}
+use Rattle.std.specs.Prelude.{◌≡◌, ◌⊎◌, ℕ, ◌≤◌, false, List, IsTrue}
 use Rattle.disk_model.specs.Disk.{ChangedIn}
 use Rattle.disk_model.specs.Moments.{LeavesOnly}
-use Rattle.disk_model.specs.Places.{part}
+use Rattle.disk_model.specs.Places.{part, SameOutside}
 use Rattle.disk_model.specs.declared.disk.Disk as disk
 use Rattle.journal_layout.specs.declared.shape.Half.TheVariants.{A, B}
 use Rattle.journal_layout.specs.declared.shape.Shape.{Shape}
-use Rattle.journal_layout.specs.Layout.{disk_length, half_start, half_length}
+use Rattle.journal_layout.specs.Layout.{disk_length, half_start, half_length, data_start}
 use Rattle.journal_layout.specs.Record.{Record}
 use Rattle.journal_layout.specs.Standing.{Standing, appended}
 use Rattle.journal_layout.specs.Stands.{Stands}
@@ -34,3 +34,9 @@ LeavesEither g old new s r = LeavesOnly g old new (λ c. Stands c s ⊎ Stands c
 -- what a crash at any moment leaves is what one before could have left, but for bytes of the taken half
 abbrev pub LeavesOutside : {D : Type 0} → disk.Ghosts D → D → D → Standing → Type 0
 LeavesOutside g old new s = LeavesOnly g old new (ChangedIn (half_start s.shape s.half) (half_length s.shape) (g.may_leave old))
+
+-- what is changed behind the halves leaves what the bytes stand for, and both headers
+abbrev pub DataIsApart : Type 0
+DataIsApart =
+    (s : Standing) (at n : ℕ) (b c : List ℕ) → Stands b s → SameOutside at n b c → data_start s.shape ≤ at
+    → Stands c s × SameHeaders s.shape b c

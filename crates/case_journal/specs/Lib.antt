@@ -1,5 +1,6 @@
 pub mod Append
 pub mod Entering
+pub mod Formatted
 pub mod Journaled
 pub mod Keeping
 pub mod Kept

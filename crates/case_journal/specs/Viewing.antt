@@ -11,6 +11,7 @@ use Rattle.journal_layout.specs.declared.faults.OpenFault.TheVariants.{Disk, Out
 use Rattle.journal_layout.specs.Layout.{half_start}
 use Rattle.journal_layout.specs.Front.{Front, Header, header_of_half, front_opening, headers_opening, taken_half, shape_opening}
 use Rattle.journal_layout.specs.Stands.{Stands, IsRefused}
+use Rattle.journal_layout.specs.Standing.{Standing}
 use Rattle.case_journal.specs.Journaled.{Journaled}
 use Rattle.case_journal.specs.declared.front.HalfHeader.{HalfHeader}
 use Rattle.case_journal.specs.declared.front.ArchiveFront.{ArchiveFront}
@@ -102,3 +103,23 @@ pub record ShowsFront {D : Type 0} (g : disk.Ghosts D) (d : D) (r : Result Archi
   pub shown : List ℕ
   pub view : IsView g d shown
   pub gives : FrontGives r shown
+
+-- a view of which the answer is that of the opening
+pub record ShowsOpening {D : Type 0} (g : disk.Ghosts D) (d : D) (r : Result Journaled OpenFault) : Type 0 where
+  pub shown : List ℕ
+  pub view : IsView g d shown
+  pub gives : Gives r shown
+
+-- only the disk and the memory refuse what is found
+abbrev pub Finds : Result Journaled OpenFault → Standing → Type 0
+Finds (Ok j) s = j.standing ≡ s
+Finds (Err Disk) s = Unit {0}
+Finds (Err OutOfMemory) s = Unit {0}
+Finds (Err fault) s = ⊥
+
+-- a fault of the disk or of the memory
+abbrev pub IsOpenRefusal : {T : Type 0} → Result T OpenFault → Type 0
+IsOpenRefusal (Ok x) = Unit {0}
+IsOpenRefusal (Err Disk) = Unit {0}
+IsOpenRefusal (Err OutOfMemory) = Unit {0}
+IsOpenRefusal (Err fault) = ⊥

@@ -1,9 +1,17 @@
-//! scratch
+//! The journal of an archive: gated records of cases in two halves of a disk. It is made by `format`, opened by
+//! `Journal::open`, and grows by appends, each of which a crash leaves undone or done.
 #![tactic(auto)]
+
 mod faults;
+mod formatting;
 mod front;
 mod journal;
+mod laws;
+mod open;
 mod publish;
 mod record;
+
 pub use faults::{FormatFault, JournalFault};
+pub use formatting::format;
 pub use journal::Journal;
+pub use laws::data_blocks_keep;

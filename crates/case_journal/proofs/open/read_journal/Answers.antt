@@ -1,0 +1,39 @@
+use Rattle.std.proofs.Common.{◌≡◌, ◌∙◌, ◌+◌, ℕ, List, ap, refl, subst}
+use Rattle.std.proofs.lemmas.Result.{err_from_is_err_and}
+use Rattle.journal_layout.specs.Folding.{nothing_yet}
+use Rattle.journal_layout.specs.Stands.{AreRead}
+use Rattle.journal_replay.specs.Said.{said_of, TellsFaulty}
+use Rattle.case_journal.proofs.OpenLemmas.{both_shown, faulty_gives, read_gives}
+use Rattle.case_journal.proofs.open.read_journal.Goals as goal
+
+pub returns-in_err-read-clause-shows : goal.returns-in_err-read-clause-shows
+returns-in_err-read-clause-shows g c b view =
+    let one = c.in_ok-front.ensures.shows b view in
+    let two = c.in_ok-bytes.ensures.shows one.shown one.view in
+    let front = c.in_ok-front.front in
+    let shown = both_shown g.D.Disk c.read_front.new.disk c.read_records.new.disk front c.in_ok-bytes.bytes.items b one two c.in_ok-bytes.ensures.long in
+    let tells = c.in_err-read.ensures.fault in
+    let made = err_from_is_err_and c.from_residual-in_err-read.result c.from_residual-in_err-read.ensures.1 in
+    rw (made.1, made.2)
+    (record {
+      shown = two.shown;
+      view = two.view;
+      gives = faulty_gives g.D.Disk front c.in_ok-bytes.bytes.items two.shown (c.half_start-at.result + 32) c.in_err-read.field-0.0 shown
+          (ap (λ (p : ℕ). p + 32) c.half_start-at.ensures)
+          (subst (λ (x : List ℕ). TellsFaulty front.shape.data_blocks (c.half_start-at.result + 32) x c.in_err-read.field-0.0) c.deref.ensures.value tells);
+    })
+
+pub returns-clause-shows : goal.returns-clause-shows
+returns-clause-shows g c b view =
+    let one = c.in_ok-front.ensures.shows b view in
+    let two = c.in_ok-bytes.ensures.shows one.shown one.view in
+    let front = c.in_ok-front.front in
+    let shown = both_shown g.D.Disk c.read_front.new.disk c.read_records.new.disk front c.in_ok-bytes.bytes.items b one two c.in_ok-bytes.ensures.long in
+    let read = c.in_ok-read.ensures.read in
+    let bytes = c.deref.ensures.value in
+    record {
+      shown = two.shown;
+      view = two.view;
+      gives = read_gives g.D.Disk front c.in_ok-bytes.bytes.items two.shown (said_of c.in_ok-read.read) c.in_ok-read.read.size (32 + c.in_ok-read.read.size) shown
+          (subst (λ (x : List ℕ). AreRead front.shape.data_blocks x nothing_yet (said_of c.in_ok-read.read) c.in_ok-read.read.size) bytes read) refl;
+    }

@@ -1,0 +1,107 @@
+// Opening a journal: the front of the archive, and then the records of the half that is taken.
+ghost use Rattle.std.specs.Prelude.{◌≡◌, ℕ, List, ◌+◌, ◌-◌, ◌≤◌, false, length, IsTrue, IfOk, OnOk, IsOkUnless, Ok, Err};
+ghost use Rattle.disk_model.specs.Disk.{HasCause, HasRisen, Only};
+ghost use Rattle.disk_model.specs.Moments.{LeavesOnly};
+ghost use Rattle.journal_layout.specs.Layout.{disk_length, half_length, IsWithinLimits};
+ghost use Rattle.journal_layout.specs.Stands.{Stands, records_start};
+ghost use Rattle.journal_layout.specs.Standing.{Standing};
+ghost use Rattle.case_journal.specs.Keeping.{Keeps};
+ghost use Rattle.case_journal.specs.Viewing.{IsView, Shows, ShowsOpening, IsQuiet, IsOpenRefusal, Finds};
+
+use crate::Journal;
+use crate::front::{ArchiveFront, read_front, read_part};
+use disk_model::Disk;
+use journal_layout::OpenFault;
+use journal_replay::replay;
+use std::alloc::Global;
+
+// The bytes of a half's header.
+const HEADER: u64 = 32;
+
+// Makes stable what was written, so that what reads give is what a crash leaves.
+fn settle<D: Disk>(disk: &mut D) -> Result<(), OpenFault>
+    ensures quiet { IsQuiet D.Disk disk.old disk.new }
+    ensures settled { IsTrue (D.is_honest disk.old) → OnOk result (Only (D.seen disk.old) (D.may_leave disk.new)) }
+    ensures only { IsOkUnless result OpenFault.Disk }
+    ensures cause { HasCause (D.failures disk.old) (D.failures disk.new) result }
+{
+    let Ok(()) = disk.sync() else {
+        return Err(OpenFault::Disk);
+    };
+    Ok(())
+}
+
+// Reads the bytes of the taken half behind its header.
+fn read_records<D: Disk>(alloc: Global, disk: &mut D, front: ArchiveFront) -> Result<Vec<u8>, OpenFault>
+    requires limits { IsWithinLimits front.shape }
+    requires size { D.size disk.old ≡ disk_length front.shape }
+    ensures shows { (b : List ℕ) → IsView D.Disk disk.old b
+        → IfOk result (λ v. Shows D.Disk disk.new (records_start front.shape front.half) v.items b) }
+    ensures long { IfOk result (λ v. length v.items ≡ half_length front.shape - 32) }
+    ensures quiet { IsQuiet D.Disk disk.old disk.new }
+    ensures only { IsOpenRefusal result }
+    ensures cause { result ≡ Err OpenFault.Disk
+        → HasRisen (D.failures disk.old) (D.failures disk.new) }
+    ensures later { D.failures disk.old ≤ D.failures disk.new }
+{
+    let size = front.shape.half_length() - HEADER;
+    let Ok(mut bytes) = vec![in alloc; 0; size as usize] else {
+        return Err(OpenFault::OutOfMemory);
+    };
+    read_part(disk, front.shape.half_start(front.half) + HEADER, &mut bytes)?;
+    Ok(bytes)
+}
+
+// Reads the journal of a disk, whose front was read.
+fn read_journal<D: Disk>(alloc: Global, disk: &mut D) -> Result<Journal, OpenFault>
+    ensures shows { (b : List ℕ) → IsView D.Disk disk.old b → ShowsOpening D.Disk disk.new result }
+    ensures size { IfOk result (λ j. D.size disk.new ≡ disk_length j.standing.shape) }
+    ensures runs { IfOk result (λ j. j.stopped ≡ false) }
+    ensures quiet { IsQuiet D.Disk disk.old disk.new }
+    ensures cause { result ≡ Err OpenFault.Disk
+        → HasRisen (D.failures disk.old) (D.failures disk.new) }
+    ensures later { D.failures disk.old ≤ D.failures disk.new }
+{
+    let front = read_front(disk)?;
+    let bytes = read_records(alloc, disk, front)?;
+    let at = front.shape.half_start(front.half) + HEADER;
+    let read = replay(alloc, &bytes, at, front.shape.data_blocks)?;
+    Ok(Journal {
+        shape: front.shape,
+        half: front.half,
+        version: front.version,
+        generation: front.generation,
+        entries: read.entries,
+        next: read.next,
+        used: HEADER + read.size,
+        stopped: false,
+    })
+}
+
+impl Journal {
+    /// Opens the journal on a disk, beginning with a sync, and answers the first check of the layout that fails: where a
+    /// crash left what stands for some cases, none does. It reads each half's header, and the rest of the half that is
+    /// taken in one read. `Disk`: the disk failed. `OutOfMemory`: there was no memory. Both may be met before a check.
+    pub fn open<D: Disk>(alloc: Global, disk: &mut D) -> Result<Journal, OpenFault>
+        // The answer is the opening of some bytes that reads gave, on an honest disk of its bytes.
+        ensures gives { ShowsOpening D.Disk disk.old result }
+        // What the disk stands for is found, and nothing but the disk and the memory refuses it.
+        ensures found { (s : Standing) → IsTrue (D.is_honest disk.old) → Stands (D.seen disk.old) s → Finds result s }
+        ensures keeps { IfOk result (Keeps D.Disk disk.new) }
+        ensures runs { IfOk result (λ j. j.stopped ≡ false) }
+        // A crash meanwhile leaves what one before could have left.
+        ensures any_moment { IsTrue (D.is_honest disk.old)
+            → LeavesOnly D.Disk disk.old disk.new (D.may_leave disk.old) }
+        ensures seen { IsTrue (D.is_honest disk.old) → D.seen disk.new ≡ D.seen disk.old }
+        ensures cause { result ≡ Err OpenFault.Disk
+            → HasRisen (D.failures disk.old) (D.failures disk.new) }
+        ensures later { D.failures disk.old ≤ D.failures disk.new }
+        ensures honesty { D.is_honest disk.new ≡ D.is_honest disk.old }
+        ensures size { D.size disk.new ≡ D.size disk.old }
+    {
+        let Ok(()) = settle(disk) else {
+            return Err(OpenFault::Disk);
+        };
+        read_journal(alloc, disk)
+    }
+}
