@@ -13,7 +13,7 @@ pub others_are : (seqs : List ℕ) (es : List Entry) → map case_of (filter (λ
 others_are seqs [] = refl
 others_are seqs (e ∷ rest) =
     elim (not (is_among seqs e.seq)) as (λ (b : Bool). map case_of (cond b (e ∷ filter (λ (x : Entry). not (is_among seqs x.seq)) rest) (filter (λ (x : Entry). not (is_among seqs x.seq)) rest))
-        ≡ cond b (case_of e ∷ dropped seqs (map case_of rest)) (dropped seqs (map case_of rest))) [
+    ≡ cond b (case_of e ∷ dropped seqs (map case_of rest)) (dropped seqs (map case_of rest))) [
       | true ↦ ap (λ (l : List Case). case_of e ∷ l) (others_are seqs rest)
       | false ↦ others_are seqs rest
     ]
@@ -28,7 +28,7 @@ found_is seq (e ∷ rest) =
     ]
 
 module _ (seq : ℕ) (flag : Bool) (cases : List Case) (es : List Entry) (i : ℕ) (e : Entry) (below : i < length es) (is : e ≡ get_or es i e)
-  (so_far : map case_of es ≡ with_pin seq flag (take i cases) ++ drop i cases) (long : length cases ≡ length es) where
+    (so_far : map case_of es ≡ with_pin seq flag (take i cases) ++ drop i cases) (long : length cases ≡ length es) where
   front : List Case
   front = with_pin seq flag (take i cases)
 

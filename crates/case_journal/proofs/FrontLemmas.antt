@@ -1,5 +1,5 @@
 -- What a front that opens tells of the bytes, and that it depends on a few parts of them.
-use Rattle.std.proofs.Common.{◌≡◌, ℕ, ◌+◌, ◌≤◌, List, length, refl, sym, ap, ◌∙◌, Result, Ok, Err, Bool, true, false, cond, nat_lt, rules, ◌==◌}
+use Rattle.std.proofs.Common.{◌≡◌, ℕ, List, length, refl, sym, ap, ◌∙◌, Result, Ok, Err, Bool, true, false, cond, nat_lt, rules, ◌==◌}
 use Rattle.disk_model.specs.Places.{part}
 use Rattle.journal_layout.specs.declared.shape.Shape.{Shape}
 use Rattle.journal_layout.specs.declared.shape.Half.{Half}
@@ -7,7 +7,7 @@ use Rattle.journal_layout.specs.declared.shape.Half.TheVariants.{A, B}
 use Rattle.journal_layout.specs.declared.faults.OpenFault.{OpenFault}
 use Rattle.journal_layout.specs.declared.faults.OpenFault.TheVariants.{NotAnArchive, UnknownVersion, Damaged}
 use Rattle.journal_layout.specs.declared.faults.Field.TheVariants as named
-use Rattle.journal_layout.specs.Layout.{IsWithinLimits, disk_length, half_start}
+use Rattle.journal_layout.specs.Layout.{IsWithinLimits, disk_length}
 use Rattle.journal_layout.specs.Front.{Front, Header, front_opening, halves_opening, headers_opening, half_opening, shape_opening, header_of_half, header_at, taken_half, is_archive, is_shape_of, shape_at}
 use Rattle.case_journal.specs.Keeping.{SameHeaders}
 
@@ -20,6 +20,7 @@ half_tells s half h t =
   where
     same : (f t : Front) → ◌≡◌ {A = Result Front OpenFault} (Ok f) (Ok t) → f ≡ t
     same f t e = cc
+
     apart : (f : OpenFault) (t : Front) → ◌≡◌ {A = Result Front OpenFault} (Err f) (Ok t) → ⊥
     apart f t e = cc
 

@@ -1,24 +1,24 @@
 -- How the reads of an opening give the opening of a disk's bytes.
-use Rattle.std.proofs.Common.{◌≡◌, ◌⊎◌, inl, inr, ℕ, ◌+◌, ◌-◌, ◌≤◌, Bool, true, false, cond, List, length, replicate, refl, sym, ap, ◌∙◌, subst, arith, IsTrue, Result, Ok, Err, OnOk, IfOk}
+use Rattle.std.proofs.Common.{◌≡◌, inr, ℕ, ◌+◌, ◌-◌, Bool, true, false, List, length, replicate, refl, sym, ap, ◌∙◌, subst, arith, IsTrue, Result, Ok, Err, IfOk}
 use Rattle.std.proofs.lemmas.List.{length-replicate}
-use Rattle.disk_model.specs.Places.{part, SameOutside}
+use Rattle.disk_model.specs.Places.{part}
 use Rattle.disk_model.specs.Disk.{Only}
 use Rattle.disk_model.specs.PartLaws.{part_before}
 use Rattle.disk_model.specs.declared.disk.Disk as disk
 use Rattle.journal_layout.specs.declared.shape.Half.TheVariants.{A, B}
 use Rattle.journal_layout.specs.declared.faults.OpenFault.{OpenFault}
 use Rattle.journal_layout.specs.declared.faults.OpenFault.TheVariants.{Disk, OutOfMemory, NotAnArchive, UnknownVersion, Damaged}
-use Rattle.journal_layout.specs.Layout.{IsWithinLimits, disk_length, half_start, half_length}
+use Rattle.journal_layout.specs.Layout.{disk_length, half_start, half_length}
 use Rattle.journal_layout.specs.Folding.{Folded, nothing_yet}
 use Rattle.journal_layout.specs.Front.{front_opening}
 use Rattle.journal_layout.specs.FrontLaws.{front_limits, front_same}
 use Rattle.journal_layout.specs.ReadingLaws.{stands_once, stands_or_refused}
 use Rattle.journal_layout.specs.Standing.{Standing}
-use Rattle.journal_layout.specs.Stands.{AreRead, AreFaulty, Stands, IsRefused, records_start, records_area}
+use Rattle.journal_layout.specs.Stands.{AreRead, AreFaulty, Stands, records_start, records_area}
 use Rattle.journal_replay.specs.Said.{TellsFaulty}
 use Rattle.case_journal.specs.declared.front.ArchiveFront.{ArchiveFront}
 use Rattle.case_journal.specs.Journaled.{Journaled}
-use Rattle.case_journal.specs.Keeping.{Keeps, Holds, SameHeaders}
+use Rattle.case_journal.specs.Keeping.{Keeps}
 use Rattle.case_journal.specs.Viewing.{IsView, IsQuiet, Shows, ShowsFront, ShowsOpening, Gives, Finds, front_view}
 use Rattle.case_journal.proofs.StandLemmas.{headers_stay, half_low}
 
@@ -48,9 +48,12 @@ module _ {D : Type 0} (g : disk.Ghosts D) where
   faulty_gives f bytes b at NotAnArchive shown place tells = absurd tells
   faulty_gives f bytes b at (UnknownVersion v) shown place tells = absurd tells
   faulty_gives f bytes b at (Damaged k which) shown place tells =
-      inr (front_view f, shown.front,
+      inr (
+        front_view f,
+        shown.front,
         subst (λ (x : List ℕ). AreFaulty f.shape.data_blocks (records_start f.shape f.half) x nothing_yet (Damaged k which)) (sym shown.area)
-        (subst (λ (p : ℕ). AreFaulty f.shape.data_blocks p bytes nothing_yet (Damaged k which)) place tells))
+            (subst (λ (p : ℕ). AreFaulty f.shape.data_blocks p bytes nothing_yet (Damaged k which)) place tells),
+      )
 
   -- records that say this
   pub read_gives : (f : ArchiveFront) (bytes b : List ℕ) (said : Folded) (n used : ℕ) → IsShown f bytes b → AreRead f.shape.data_blocks bytes nothing_yet said n → used ≡ 32 + n
@@ -93,6 +96,7 @@ module _ {D : Type 0} (g : disk.Ghosts D) where
     where
       there : Stands shows.shown s
       there = subst (λ (b : List ℕ). Stands b s) (sym (shows.view.is honest)) stands
+
       found : (r : Result Journaled OpenFault) → Gives r shows.shown → Finds r s
       found (Ok j) gives = stands_once shows.shown j.standing s gives there
       found (Err Disk) gives = tt

@@ -1,18 +1,16 @@
 -- What a disk stands for while a record is published.
-use Rattle.std.proofs.Common.{◌≡◌, ◌≢◌, ◌⊎◌, inl, inr, ⊎_elim, ℕ, ◌+◌, ◌-◌, ◌<◌, ◌≤◌, List, [], ◌∷◌, ◌++◌, length, take, get_or, slice_index, refl, sym, ap, ◌∙◌, arith, Result, Ok, Err, OnOk}
+use Rattle.std.proofs.Common.{◌≡◌, ◌≢◌, ◌⊎◌, inl, inr, ⊎_elim, ℕ, ◌+◌, ◌-◌, ◌≤◌, List, [], ◌∷◌, ◌++◌, length, take, get_or, slice_index, refl, sym, ap, ◌∙◌, arith, Result, Ok, Err, OnOk}
 use Rattle.std.proofs.lemmas.List.{length-append, take_at, get_or_at}
 use Rattle.std.proofs.lemmas.Bool.{cases_eq}
 use Rattle.disk_model.specs.Places.{part, overwritten, SameOutside}
-use Rattle.disk_model.specs.Disk.{ChangedIn}
 use Rattle.disk_model.specs.PlaceLaws.{overwritten_outside, overwritten_length}
 use Rattle.disk_model.specs.PartLaws.{part_is, part_split, part_overwritten, part_within, part_place, part_after, part_length, place_before, place_after, same_twice, widened}
-use Rattle.journal_layout.specs.declared.shape.Half.TheVariants.{A, B}
-use Rattle.journal_layout.specs.Layout.{half_start, half_length, disk_length, data_start}
+use Rattle.journal_layout.specs.Layout.{half_start}
 use Rattle.journal_layout.specs.Record.{Record, record_size, behind_gate, spelling}
 use Rattle.journal_layout.specs.Standing.{Standing, appended}
 use Rattle.journal_layout.specs.Stands.{Stands, records_area}
 use Rattle.case_journal.specs.Publishing.{Publishes}
-use Rattle.case_journal.proofs.StandLemmas.{gate_of, half_ends, half_low, limits_in, gate_within, area_place, still_stands, stands_after}
+use Rattle.case_journal.proofs.StandLemmas.{gate_of, half_ends, limits_in, gate_within, area_place, still_stands, stands_after}
 
 -- the gate of the next record is closed
 pub closed_gate : (b : List ℕ) (s : Standing) → Stands b s → slice_index b (gate_of s) ≢ 165

@@ -1,10 +1,9 @@
 -- Numbers that rise, and what a binary search finds among them.
-use Rattle.std.proofs.Common.{◌≡◌, ℕ, zero, suc, ◌+◌, ◌<◌, ◌≤◌, Bool, true, false, ◌||◌, List, [], ◌∷◌, length, get_or, refl, sym, ap, ◌∙◌, inl, inr, arith, Result, Ok, Err, is_ok, nat_eq, ◌==◌}
+use Rattle.std.proofs.Common.{◌≡◌, ℕ, zero, suc, ◌<◌, ◌≤◌, Bool, true, false, ◌||◌, List, [], ◌∷◌, length, get_or, refl, sym, ap, ◌∙◌, inl, inr, arith, Result, Ok, Err, is_ok, nat_eq}
 use Rattle.std.proofs.lemmas.Bool.{eq-eqb, ne_eqb, cases_lt}
 use Rattle.std.proofs.lemmas.List.Sorted.{searched}
 use Rattle.std.specs.List.Sorted.{IsBinarySearchResult}
 use Rattle.std.specs.Ordering.{nat_cmp}
-use Rattle.std.specs.Result.{MatchResult}
 use Rattle.journal_layout.specs.Folding.{is_among}
 use Rattle.journal_layout.specs.Soundness.{Rise}
 
@@ -42,7 +41,7 @@ listed seqs x (Ok i) found rise =
 listed seqs x (Err i) found rise =
     let h = searched seqs x (Err i) found (rise_sorted 0 seqs rise) in
     sym (not_among seqs x (λ k below e.
-      elim (cases_lt k i) [
-        | inl low ↦ (let g = h.1 k low in omega (arith, e))
-        | inr high ↦ (let g = h.2 k high below in omega (arith, e))
-      ]))
+    elim (cases_lt k i) [
+      | inl low ↦ (let g = h.1 k low in omega (arith, e))
+      | inr high ↦ (let g = h.2 k high below in omega (arith, e))
+    ]))

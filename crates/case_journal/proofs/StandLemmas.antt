@@ -1,20 +1,19 @@
 -- What a list of bytes stands for depends on a few parts of it: how it stays the same, and how it grows by a record.
-use Rattle.std.proofs.Common.{◌≡◌, ◌≢◌, ◌⊎◌, inl, inr, ℕ, ◌+◌, ◌-◌, ◌<◌, ◌≤◌, List, [], ◌∷◌, ◌++◌, length, take, drop, get_or, slice_index, refl, sym, ap, ◌∙◌, subst, arith, Ok}
+use Rattle.std.proofs.Common.{◌≡◌, ◌≢◌, ℕ, ◌+◌, ◌-◌, ◌<◌, ◌≤◌, List, [], ◌∷◌, ◌++◌, length, take, drop, slice_index, sym, ap, ◌∙◌, subst, arith}
 use Rattle.std.proofs.lemmas.List.{take-take, length-drop}
 use Rattle.disk_model.specs.Places.{part, SameOutside}
-use Rattle.disk_model.specs.PartLaws.{part_is, part_part, part_length, part_place, part_before, part_after, place_before, place_after}
+use Rattle.disk_model.specs.PartLaws.{part_is, part_part, part_length, part_place, part_before, part_after}
 use Rattle.journal_layout.specs.declared.shape.Shape.{Shape}
 use Rattle.journal_layout.specs.declared.shape.Half.{Half}
 use Rattle.journal_layout.specs.declared.shape.Half.TheVariants.{A, B}
 use Rattle.journal_layout.specs.Layout.{IsWithinLimits, disk_length, half_start, half_length, data_start}
 use Rattle.journal_layout.specs.Record.{Record, record_size, spelling}
-use Rattle.journal_layout.specs.Folding.{Folded, nothing_yet, after, replayed, sizes}
+use Rattle.journal_layout.specs.Folding.{Folded, nothing_yet, after, sizes}
 use Rattle.journal_layout.specs.Standing.{Standing, folded_of, appended}
 use Rattle.journal_layout.specs.Soundness.{IsSound}
-use Rattle.journal_layout.specs.Front.{Front, front_opening}
-use Rattle.journal_layout.specs.Stands.{AreRead, Stands, StandInRow, records_start, records_area, front_of}
+use Rattle.journal_layout.specs.Stands.{AreRead, Stands, records_start, records_area, front_of}
 use Rattle.journal_layout.specs.RowLaws.{row_same, row_push, row_room, sizes_push, replayed_push}
-use Rattle.case_journal.specs.Append.{HasRoom, MayFollow}
+use Rattle.case_journal.specs.Append.{MayFollow}
 use Rattle.case_journal.specs.Keeping.{SameHeaders}
 use Rattle.case_journal.proofs.FrontLemmas.{limits_of, front_same}
 

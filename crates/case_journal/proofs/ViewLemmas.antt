@@ -1,9 +1,9 @@
 -- How reads show the bytes of a disk, part by part.
-use Rattle.std.proofs.Common.{◌≡◌, ℕ, ◌+◌, ◌≤◌, Bool, false, cond, List, length, refl, sym, ap, ◌∙◌, subst, arith, IsTrue, Result, Ok, Err, nat_lt}
+use Rattle.std.proofs.Common.{◌≡◌, ℕ, ◌+◌, ◌≤◌, Bool, false, cond, List, length, sym, ap, ◌∙◌, subst, arith, IsTrue, Result, Ok, Err, nat_lt}
 use Rattle.std.proofs.lemmas.Bool.{le-ltb}
-use Rattle.disk_model.specs.Places.{part, overwritten, SameOutside}
+use Rattle.disk_model.specs.Places.{part, overwritten}
 use Rattle.disk_model.specs.PlaceLaws.{overwritten_outside, overwritten_length}
-use Rattle.disk_model.specs.PartLaws.{part_overwritten, part_length, part_before, part_after, same_all}
+use Rattle.disk_model.specs.PartLaws.{part_overwritten, part_before, same_all}
 use Rattle.disk_model.specs.declared.disk.Disk as disk
 use Rattle.journal_layout.specs.declared.shape.Shape.{Shape}
 use Rattle.journal_layout.specs.declared.shape.Half.{Half}
@@ -11,9 +11,9 @@ use Rattle.journal_layout.specs.declared.shape.Half.TheVariants.{A, B}
 use Rattle.journal_layout.specs.declared.faults.OpenFault.{OpenFault}
 use Rattle.journal_layout.specs.declared.faults.OpenFault.TheVariants.{Disk, OutOfMemory, NotAnArchive, UnknownVersion, Damaged}
 use Rattle.journal_layout.specs.Layout.{IsWithinLimits, half_start}
-use Rattle.journal_layout.specs.Front.{Front, Header, header_at, header_of_half, front_opening, halves_opening, headers_opening, taken_half, shape_opening}
+use Rattle.journal_layout.specs.Front.{Header, header_at, header_of_half, front_opening, halves_opening, headers_opening, taken_half, shape_opening}
 use Rattle.case_journal.specs.declared.front.ArchiveFront.{ArchiveFront}
-use Rattle.case_journal.specs.Viewing.{IsView, Shows, ShowsHeader, ShowsHeaders, ShowsShape, ShowsFront, ShapeGives, FrontIs, FrontGives, front_view}
+use Rattle.case_journal.specs.Viewing.{IsView, Shows, ShowsHeader, ShowsHeaders, ShowsShape, ShowsFront, ShapeGives, FrontIs, FrontGives}
 
 -- a list with its own part written over it
 own_part : (b into s : List ℕ) (at : ℕ) → at + length into ≤ length b → b ≡ s → into ≡ part s at (length into) → overwritten b at into ≡ s
@@ -64,16 +64,17 @@ module _ {D : Type 0} (g : disk.Ghosts D) where
 
   shape_given : (b : List ℕ) (r : Result Shape OpenFault) → nat_lt (length b) 4096 ≡ false → r ≡ shape_opening (length b) (part b 0 24) → ShapeGives r b
   shape_given b r long is = by_cases r is
-      where
-        whole : (r : Result Shape OpenFault) → r ≡ shape_opening (length b) (part b 0 24) → front_opening b ≡ halves_opening b r
-        whole r is = ap (λ (t : Bool). cond t (Err NotAnArchive) (halves_opening b (shape_opening (length b) (part b 0 24)))) long ∙ ap (halves_opening b) (sym is)
-        by_cases : (r : Result Shape OpenFault) → r ≡ shape_opening (length b) (part b 0 24) → ShapeGives r b
-        by_cases (Ok s) is = (long, sym is)
-        by_cases (Err Disk) is = tt
-        by_cases (Err OutOfMemory) is = whole (Err OutOfMemory) is
-        by_cases (Err NotAnArchive) is = whole (Err NotAnArchive) is
-        by_cases (Err (UnknownVersion v)) is = whole (Err (UnknownVersion v)) is
-        by_cases (Err (Damaged at which)) is = whole (Err (Damaged at which)) is
+    where
+      whole : (r : Result Shape OpenFault) → r ≡ shape_opening (length b) (part b 0 24) → front_opening b ≡ halves_opening b r
+      whole r is = ap (λ (t : Bool). cond t (Err NotAnArchive) (halves_opening b (shape_opening (length b) (part b 0 24)))) long ∙ ap (halves_opening b) (sym is)
+
+      by_cases : (r : Result Shape OpenFault) → r ≡ shape_opening (length b) (part b 0 24) → ShapeGives r b
+      by_cases (Ok s) is = (long, sym is)
+      by_cases (Err Disk) is = tt
+      by_cases (Err OutOfMemory) is = whole (Err OutOfMemory) is
+      by_cases (Err NotAnArchive) is = whole (Err NotAnArchive) is
+      by_cases (Err (UnknownVersion v)) is = whole (Err (UnknownVersion v)) is
+      by_cases (Err (Damaged at which)) is = whole (Err (Damaged at which)) is
 
   -- the superblock
   pub shape_shown : (d : D) (bytes b : List ℕ) (size : ℕ) (r : Result Shape OpenFault) → size ≡ g.size d → 4096 ≤ size → length bytes ≡ 24

@@ -1,13 +1,12 @@
 -- What an append does to a journal, and when it is refused.
-use Rattle.std.specs.Prelude.{◌≡◌, ℕ, Bool, ◌+◌, ◌^◌, ◌<◌, ◌≤◌, List, ◌∷◌, true, false, Result, Ok, Err}
-use Rattle.disk_model.specs.Places.{part}
-use Rattle.journal_layout.specs.Layout.{half_start, half_length}
-use Rattle.journal_layout.specs.Case.{Case, numbered}
-use Rattle.journal_layout.specs.Record.{Record, Store, Drop, Pin, record_size, spelling}
+use Rattle.std.specs.Prelude.{◌≡◌, ℕ, ◌+◌, ◌^◌, ◌<◌, ◌≤◌, true, false, Result, Ok, Err}
+use Rattle.journal_layout.specs.Layout.{half_length}
+use Rattle.journal_layout.specs.Case.{Case}
+use Rattle.journal_layout.specs.Record.{Record, record_size}
 use Rattle.journal_layout.specs.Standing.{Standing, folded_of, store_of}
 use Rattle.journal_layout.specs.Soundness.{IsSound, IsStorable}
 use Rattle.journal_layout.specs.declared.entry.Entry.{Entry}
-use Rattle.case_journal.specs.Journaled.{Journaled, running, halted, goes_on}
+use Rattle.case_journal.specs.Journaled.{Journaled, halted, goes_on}
 use Rattle.case_journal.specs.declared.faults.JournalFault.{JournalFault}
 use Rattle.case_journal.specs.declared.faults.JournalFault.TheVariants.{Stopped, JournalFull, NumbersSpent, OutOfMemory, Disk}
 

@@ -60,7 +60,7 @@ impl Model for Journal {
         generation = j.generation;
         cases = map case_of j.entries.items;
         next = j.next;
-        used = j.used
+        used = j.used;
       };
       stopped = j.stopped;
     } };
@@ -218,7 +218,12 @@ impl Journal {
     /// Appends the Pin record of a live case, which is then pinned or not. All faults but `Disk` leave the journal and the
     /// disk as they are. Answers, in this order: `Stopped`; `JournalFull` where the record with the gate behind it does not
     /// fit into the half; `Disk`, after which the journal is stopped. It takes no memory.
-    pub fn append_pin<D: Disk>(&mut self, disk: &mut D, seq: u32, flag: bool) -> Result<(), JournalFault>
+    pub fn append_pin<D: Disk>(
+        &mut self,
+        disk: &mut D,
+        seq: u32,
+        flag: bool,
+    ) -> Result<(), JournalFault>
         requires keeps { Keeps D.Disk disk.old self.old }
         requires pinnable { MayFollow self.old.standing (Pin seq flag) }
         ensures step { AppendStep self.old (Pin seq flag) result self.new }
@@ -244,7 +249,13 @@ impl Journal {
     }
 
     // Puts the record of an entry under this number, and keeps the entry.
-    fn store<D: Disk>(&mut self, disk: &mut D, seq: u32, entry: Entry, size: u64) -> Result<(), (JournalFault, Entry)>
+    fn store<D: Disk>(
+        &mut self,
+        disk: &mut D,
+        seq: u32,
+        entry: Entry,
+        size: u64,
+    ) -> Result<(), (JournalFault, Entry)>
         requires keeps { Keeps D.Disk disk.old self.old }
         requires runs { self.old.stopped ≡ false }
         requires number { seq ≡ self.old.standing.next }
@@ -354,7 +365,12 @@ fn find_entry(entries: &[Entry], seq: u32) -> Option<&Entry>
 }
 
 // Makes room for one more entry, and spells its record behind the gate.
-fn prepare_store(entries: &mut Vec<Entry>, seq: u32, entry: &Entry, size: u64) -> Result<Vec<u8>, AllocError>
+fn prepare_store(
+    entries: &mut Vec<Entry>,
+    seq: u32,
+    entry: &Entry,
+    size: u64,
+) -> Result<Vec<u8>, AllocError>
     requires size { size ≡ record_size (Store (numbered seq (case_of entry.now))) }
     requires small { size ≤ 16777216 }
     ensures entries { entries.new.items ≡ entries.old.items }

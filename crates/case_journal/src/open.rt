@@ -32,7 +32,11 @@ fn settle<D: Disk>(disk: &mut D) -> Result<(), OpenFault>
 }
 
 // Reads the bytes of the taken half behind its header.
-fn read_records<D: Disk>(alloc: Global, disk: &mut D, front: ArchiveFront) -> Result<Vec<u8>, OpenFault>
+fn read_records<D: Disk>(
+    alloc: Global,
+    disk: &mut D,
+    front: ArchiveFront,
+) -> Result<Vec<u8>, OpenFault>
     requires limits { IsWithinLimits front.shape }
     requires size { D.size disk.old ≡ disk_length front.shape }
     ensures shows { (b : List ℕ) → IsView D.Disk disk.old b
@@ -48,7 +52,11 @@ fn read_records<D: Disk>(alloc: Global, disk: &mut D, front: ArchiveFront) -> Re
     let Ok(mut bytes) = vec![in alloc; 0; size as usize] else {
         return Err(OpenFault::OutOfMemory);
     };
-    read_part(disk, front.shape.half_start(front.half) + HEADER, &mut bytes)?;
+    read_part(
+        disk,
+        front.shape.half_start(front.half) + HEADER,
+        &mut bytes,
+    )?;
     Ok(bytes)
 }
 

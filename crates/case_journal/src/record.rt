@@ -149,7 +149,12 @@ fn plain_store(alloc: Global, seq: u32, entry: &Entry, size: u64) -> Result<Vec<
 }
 
 /// A Store record behind its gate, and the closed gate after it: as many bytes as the record has.
-pub(crate) fn store_record(alloc: Global, seq: u32, entry: &Entry, size: u64) -> Result<Vec<u8>, AllocError>
+pub(crate) fn store_record(
+    alloc: Global,
+    seq: u32,
+    entry: &Entry,
+    size: u64,
+) -> Result<Vec<u8>, AllocError>
     requires size { size ≡ record_size (Store (numbered seq (case_of entry.now))) }
     requires small { size ≤ 16777216 }
     ensures record { IfOk result (λ v. v.items

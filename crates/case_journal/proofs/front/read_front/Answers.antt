@@ -1,4 +1,3 @@
-use Rattle.std.proofs.Common.{◌≡◌, ◌∙◌}
 use Rattle.case_journal.specs.Viewing.{header_of}
 use Rattle.case_journal.proofs.ViewLemmas.{front_shown}
 use Rattle.case_journal.proofs.front.read_front.Goals as goal

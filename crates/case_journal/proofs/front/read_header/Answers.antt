@@ -1,4 +1,3 @@
-use Rattle.std.proofs.Common.{◌≡◌, ◌∙◌}
 use Rattle.case_journal.specs.Viewing.{header_of}
 use Rattle.case_journal.proofs.ViewLemmas.{header_shown}
 use Rattle.case_journal.proofs.front.read_header.Goals as goal

@@ -1,4 +1,4 @@
-use Rattle.std.proofs.Common.{◌≡◌, ◌∙◌, ◌+◌, ◌≤◌, ℕ, ap, sym, arith, length, subst}
+use Rattle.std.proofs.Common.{◌∙◌, ap, sym, arith}
 use Rattle.disk_model.specs.Places.{part}
 use Rattle.case_journal.proofs.ViewLemmas.{shown_by}
 use Rattle.case_journal.proofs.front.read_part.Goals as goal

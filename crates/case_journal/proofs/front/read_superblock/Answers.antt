@@ -1,4 +1,4 @@
-use Rattle.std.proofs.Common.{◌≡◌, ◌∙◌, sym}
+use Rattle.std.proofs.Common.{◌∙◌, sym}
 use Rattle.case_journal.proofs.ViewLemmas.{shape_shown}
 use Rattle.case_journal.proofs.front.read_superblock.Goals as goal
 

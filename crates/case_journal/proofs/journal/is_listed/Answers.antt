@@ -1,4 +1,4 @@
-use Rattle.std.proofs.Common.{◌≡◌, ◌∙◌}
+use Rattle.std.proofs.Common.{◌∙◌}
 use Rattle.case_journal.proofs.SeqLemmas.{listed}
 use Rattle.case_journal.proofs.journal.is_listed.Goals as goal
 

@@ -1,4 +1,4 @@
-use Rattle.std.proofs.Common.{◌≡◌, ◌∙◌, ap, not, map, List, rules}
+use Rattle.std.proofs.Common.{◌∙◌, ap, not, map, rules}
 use Rattle.std.proofs.lemmas.Fn.{filter_same}
 use Rattle.journal_layout.specs.Case.{case_of}
 use Rattle.journal_layout.specs.Folding.{is_among}

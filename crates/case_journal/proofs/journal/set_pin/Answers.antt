@@ -1,4 +1,4 @@
-use Rattle.std.proofs.Common.{◌≡◌, ◌∙◌, map, arith, length, ap, sym}
+use Rattle.std.proofs.Common.{◌∙◌, map, arith, ap, sym}
 use Rattle.std.proofs.lemmas.List.{length-map}
 use Rattle.journal_layout.specs.Case.{case_of}
 use Rattle.journal_layout.specs.Folding.{pinned_as}

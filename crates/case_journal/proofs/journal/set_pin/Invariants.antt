@@ -1,5 +1,5 @@
-use Rattle.std.proofs.Common.{◌≡◌, ℕ, ◌++◌, take, drop, map, length}
-use Rattle.journal_layout.specs.Case.{Case, case_of}
+use Rattle.std.proofs.Common.{◌≡◌, ◌++◌, take, drop, map}
+use Rattle.journal_layout.specs.Case.{case_of}
 use Rattle.journal_layout.specs.Folding.{with_pin}
 use Rattle.case_journal.proofs.journal.set_pin.Given as goal
 

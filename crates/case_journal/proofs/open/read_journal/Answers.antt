@@ -1,4 +1,4 @@
-use Rattle.std.proofs.Common.{◌≡◌, ◌∙◌, ◌+◌, ℕ, List, ap, refl, subst}
+use Rattle.std.proofs.Common.{◌+◌, ℕ, List, ap, refl, subst}
 use Rattle.std.proofs.lemmas.Result.{err_from_is_err_and}
 use Rattle.journal_layout.specs.Folding.{nothing_yet}
 use Rattle.journal_layout.specs.Stands.{AreRead}

@@ -1,13 +1,11 @@
-use Rattle.std.proofs.Common.{◌≡◌, ◌⊎◌, inl, inr, ⊎_elim, ℕ, ◌+◌, List, [], ◌∷◌, arith, ◌∙◌, length, sym, subst, IsTrue, ap}
+use Rattle.std.proofs.Common.{◌⊎◌, inl, ℕ, ◌+◌, List, [], ◌∷◌, arith, ◌∙◌, length, sym, subst, ap}
 use Rattle.disk_model.specs.Disk.{ChangedIn}
 use Rattle.disk_model.specs.Places.{overwritten, SameOutside}
 use Rattle.disk_model.specs.Moments.{LeavesOnly}
 use Rattle.disk_model.specs.MomentLaws.{changed_wider, changed_twice, weakened, then_again, now_too}
 use Rattle.disk_model.specs.PartLaws.{same_twice, widened}
-use Rattle.journal_layout.specs.Record.{Record}
-use Rattle.journal_layout.specs.Standing.{Standing, appended}
+use Rattle.journal_layout.specs.Standing.{appended}
 use Rattle.journal_layout.specs.Stands.{Stands}
-use Rattle.case_journal.specs.Publishing.{Publishes}
 use Rattle.case_journal.proofs.PublishLemmas.{before_gate, at_gate, made, on_ok}
 use Rattle.case_journal.proofs.publish.publish.Goals as goal
 
@@ -67,8 +65,8 @@ returns-clause-made g c s r p honest all =
     let seen_stands = all (d.seen old) (g.met.D.Disk.seen_may_stay old honest) in
     on_ok c.write_stable-2.result _ ((b : List ℕ) → d.may_leave new b → Stands b (appended s r))
     (λ after. λ b left. subst (λ (x : List ℕ). Stands x (appended s r))
-      (sym (after.0 b left ∙ after.1 ∙ ap (λ (x : List ℕ). overwritten x c.args.gate (165 ∷ [])) seen_is))
-      (made s r c.args.gate c.args.behind.now p (d.seen old) seen_stands))
+    (sym (after.0 b left ∙ after.1 ∙ ap (λ (x : List ℕ). overwritten x c.args.gate (165 ∷ [])) seen_is))
+    (made s r c.args.gate c.args.behind.now p (d.seen old) seen_stands))
     (c.write_stable-2.ensures.stable still)
 
 pub returns-clause-outside : goal.returns-clause-outside
@@ -85,6 +83,6 @@ returns-clause-outside g c honest =
     let so_far = now_too d old mid P first (g.met.D.Disk.counts_now mid) in
     let second : LeavesOnly d mid new P = weakened d mid new (ChangedIn c.args.gate 1 (d.may_leave mid)) P
     (λ b changed. changed_twice c.args.gate (1 + length c.args.behind.now) (d.may_leave old) b
-      (changed.0, so_far changed.0 changed.1, widened c.args.gate 1 changed.0 b changed.2 c.args.gate (1 + length c.args.behind.now) (omega arith) (omega arith)))
+    (changed.0, so_far changed.0 changed.1, widened c.args.gate 1 changed.0 b changed.2 c.args.gate (1 + length c.args.behind.now) (omega arith) (omega arith)))
     (c.write_stable-2.ensures.any_moment still) in
     then_again d old mid new P first second

@@ -1,4 +1,3 @@
-use Rattle.std.proofs.Common.{◌∙◌, ◌+◌, ◌≡◌, ℕ, arith}
 use Rattle.journal_layout.specs.Record.{Drop}
 use Rattle.case_journal.proofs.AppendLemmas.{unmoved}
 use Rattle.case_journal.proofs.journal.Journal.append_drop.Goals as goal

@@ -1,4 +1,4 @@
-use Rattle.std.proofs.Common.{◌∙◌, ◌+◌, ◌≡◌, ℕ, arith, subst, sym, ap}
+use Rattle.std.proofs.Common.{◌∙◌, ℕ, arith, subst, sym, ap}
 use Rattle.journal_layout.specs.Case.{case_of, numbered}
 use Rattle.journal_layout.specs.Record.{Store}
 use Rattle.journal_layout.specs.Standing.{store_of}

@@ -1,4 +1,4 @@
-use Rattle.std.proofs.Common.{◌≡◌, ◌∙◌, ap, map, List, option_map}
+use Rattle.std.proofs.Common.{◌∙◌, ap, map, List, option_map}
 use Rattle.journal_layout.specs.Case.{case_of}
 use Rattle.journal_layout.specs.Soundness.{case_numbered}
 use Rattle.journal_layout.specs.declared.entry.Entry.{Entry}

@@ -1,4 +1,3 @@
-use Rattle.std.proofs.Common.{◌≡◌, ◌∙◌}
 use Rattle.case_journal.specs.Viewing.{ShowsOpening}
 use Rattle.case_journal.proofs.OpenLemmas.{some_view, view_after, view_before, finds_by, keeps_by}
 use Rattle.case_journal.proofs.journal.Journal.open.Goals as goal

@@ -1,4 +1,4 @@
-use Rattle.std.proofs.Common.{◌∙◌, ◌+◌, ◌≡◌, ℕ, ap, arith, length, sym, List}
+use Rattle.std.proofs.Common.{◌∙◌, ◌+◌, ◌≡◌, ℕ, ap, arith, length}
 use Rattle.disk_model.specs.PartLaws.{widened}
 use Rattle.disk_model.specs.Disk.{ChangedIn}
 use Rattle.disk_model.specs.MomentLaws.{changed_wider, weakened}
