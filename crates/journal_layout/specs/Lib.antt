@@ -11,6 +11,8 @@ pub mod Front
 pub mod FrontLaws
 pub mod Grammar
 pub mod Layout
+pub mod Live
+pub mod LiveLaws
 pub mod NextLaws
 pub mod PinLaws
 pub mod ReadSteps
