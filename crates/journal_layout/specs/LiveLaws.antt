@@ -1,16 +1,15 @@
 -- Laws of the cases that a journal's records say: what always holds of them, and what that gives.
-use Rattle.std.proofs.Common.{◌≡◌, inl, inr, ℕ, zero, suc, ◌+◌, ◌-◌, ◌^◌, ◌<◌, ◌≤◌, Bool, true, false, not, ◌||◌, ◌==◌, nat_eq, List, [], ◌∷◌, ◌++◌, length, map, drop, refl, sym, ap, ◌∙◌, subst, arith, None, Some, cond}
-use Rattle.std.proofs.lemmas.Bool.{eq-eqb, ne_eqb, cases_eq, cases_Bool, cond_both, cond-true, cond-false, or_parts, or_from, both_ways, false_from_ne_true}
-use Rattle.std.proofs.lemmas.List.{length-append}
+use Rattle.std.proofs.Common.{◌≡◌, inl, inr, ℕ, ◌+◌, ◌-◌, ◌^◌, ◌<◌, ◌≤◌, Bool, true, false, not, ◌||◌, ◌==◌, List, [], ◌∷◌, ◌++◌, map, drop, refl, sym, ap, ◌∙◌, subst, arith, cond}
+use Rattle.std.proofs.lemmas.Bool.{cases_eq, cond_both, or_parts, or_from, both_ways, false_from_ne_true}
 use Rattle.std.proofs.lemmas.List.Concat.{flat_map-append}
 use Rattle.std.proofs.lemmas.List.Elements.{All-nil, All-push, All-filter, All-weaker, All-from_recursion, recursion_from_All}
 use Rattle.std.proofs.lemmas.Slice.Eq.{bytes_eq-Decides}
-use Rattle.std.specs.List.{All, AllByRecursion, Contains, filter, flat_map, list_any}
+use Rattle.std.specs.List.{AllByRecursion, filter}
 use Rattle.std.specs.Str.{bytes_eq}
 use Rattle.journal_layout.specs.Case.{Case}
 use Rattle.journal_layout.specs.Record.{Record, Store, Drop, Pin, Next, record_size}
 use Rattle.journal_layout.specs.Folding.{Folded, nothing_yet, is_among, dropped, pinned_as, with_pin, after, replayed, used_blocks, is_name_of}
-use Rattle.journal_layout.specs.Soundness.{IsSound, IsStorable, IsPinnable, IsDroppable, AreSpare, Rise, uses, blocks_for, case_numbered}
+use Rattle.journal_layout.specs.Soundness.{IsSound, IsStorable, Rise, uses}
 use Rattle.journal_layout.specs.SpareLaws.{uses-append}
 use Rattle.journal_layout.specs.Standing.{Standing, folded_of}
 use Rattle.journal_layout.specs.Stands.{StandInRow, AreRead, Stands, records_area}
@@ -18,7 +17,7 @@ use Rattle.journal_layout.specs.Live.{seq_of_case, IsWhole, AreNamedApart, AreLi
 
 -- numbers that rise
 
-rise_lower : (low last : ℕ) (seqs : List ℕ) → low ≤ last → Rise last seqs → Rise low seqs
+pub rise_lower : (low last : ℕ) (seqs : List ℕ) → low ≤ last → Rise last seqs → Rise low seqs
 rise_lower low last [] under rise = tt
 rise_lower low last (seq ∷ rest) under rise = (omega (arith, rise.0), rise.1)
 
@@ -29,7 +28,7 @@ rise_push last [] c rise above each = (above, tt)
 rise_push last (d ∷ rest) c rise above each = (rise.0, rise_push d.seq rest c rise.1 each.0 each.1)
 
 -- some of them
-rise_kept : (test : Case → Bool) (last : ℕ) (cases : List Case) → Rise last (map seq_of_case cases) → Rise last (map seq_of_case (filter test cases))
+pub rise_kept : (test : Case → Bool) (last : ℕ) (cases : List Case) → Rise last (map seq_of_case cases) → Rise last (map seq_of_case (filter test cases))
 rise_kept test last [] rise = tt
 rise_kept test last (c ∷ rest) rise =
     cond_both (test c) (c ∷ filter test rest) (filter test rest) (λ (l : List Case). Rise last (map seq_of_case l))
