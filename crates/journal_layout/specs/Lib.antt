@@ -12,6 +12,7 @@ pub mod FrontLaws
 pub mod Grammar
 pub mod Layout
 pub mod Live
+pub mod LiveCounts
 pub mod LiveFinds
 pub mod LiveLaws
 pub mod NextLaws
