@@ -4,18 +4,18 @@ use Rattle.std.proofs.lemmas.Bool.{ne_eqb, eq-eqb, cases_eq, cases_lt, cases_Boo
 use Rattle.std.proofs.lemmas.List.{length-append}
 use Rattle.std.proofs.lemmas.List.Concat.{length-flat_map}
 use Rattle.std.proofs.lemmas.List.Elements.{recursion_from_All}
-use Rattle.std.proofs.lemmas.List.Sums.{sum_by-cons}
+use Rattle.std.proofs.lemmas.List.Sums.{sum_by-cons, sum_by_push}
+use Rattle.std.proofs.lemmas.List.Filters.{sum_by-filter_both}
 use Rattle.std.proofs.lemmas.Map.Steps.{length-le_from_distinct_below}
 use Rattle.std.proofs.lemmas.Slice.Eq.{bytes_eq-Decides}
-use Rattle.std.specs.List.{IsDistinct}
-use Rattle.std.specs.List.{All, AllByRecursion, count_by, sum_by, filter}
+use Rattle.std.specs.List.{All, AllByRecursion, IsDistinct, count_by, sum_by, filter}
 use Rattle.std.specs.Str.{bytes_eq}
 use Rattle.journal_layout.specs.Case.{Case}
-use Rattle.journal_layout.specs.Folding.{is_among, dropped, used_blocks, is_name_of}
+use Rattle.journal_layout.specs.Folding.{is_among, dropped, pinned_as, with_pin, used_blocks, is_name_of}
 use Rattle.journal_layout.specs.Soundness.{Rise, uses, blocks_for}
 use Rattle.journal_layout.specs.SpareLaws.{uses-append, not_among}
 use Rattle.journal_layout.specs.Live.{seq_of_case, IsWhole, AreNamedApart, AreLive, gone}
-use Rattle.journal_layout.specs.LiveLaws.{used-append}
+use Rattle.journal_layout.specs.LiveLaws.{used-append, name_pinned}
 
 -- how often a block is used
 
@@ -86,6 +86,27 @@ named_apart (c ∷ rest) once = (
     fewer : (name : List ℕ) → count_by (λ (d : Case). bytes_eq d.name name) (c ∷ rest) ≡ cond (bytes_eq c.name name) 1 0 + count_by (λ (d : Case). bytes_eq d.name name) rest
         → count_by (λ (d : Case). bytes_eq d.name name) (c ∷ rest) ≤ 1 → count_by (λ (d : Case). bytes_eq d.name name) rest ≤ 1
     fewer name whole most = omega arith
+
+-- once a case more is stored
+pub named_stored : (cases : List Case) (c : Case) (name : List ℕ)
+    → count_by (λ (d : Case). bytes_eq d.name name) (cases ++ c ∷ []) ≡ count_by (λ (d : Case). bytes_eq d.name name) cases + cond (bytes_eq c.name name) 1 0
+named_stored cases c name = sum_by_push (λ (d : Case). cond (bytes_eq d.name name) 1 0) cases c
+
+-- among the cases that are left and those that are dropped
+pub named_dropped : (seqs : List ℕ) (cases : List Case) (name : List ℕ)
+    → count_by (λ (c : Case). bytes_eq c.name name) (dropped seqs cases) + count_by (λ (c : Case). bytes_eq c.name name) (gone seqs cases)
+    ≡ count_by (λ (c : Case). bytes_eq c.name name) cases
+named_dropped seqs cases name =
+    omega (arith, sum_by-filter_both (λ (c : Case). is_among seqs c.seq) (λ (c : Case). not (is_among seqs c.seq)) (λ _. refl) (λ (c : Case). cond (bytes_eq c.name name) 1 0) cases)
+
+-- once a flag has changed
+pub named_pinned : (seq : ℕ) (flag : Bool) (cases : List Case) (name : List ℕ)
+    → count_by (λ (c : Case). bytes_eq c.name name) (with_pin seq flag cases) ≡ count_by (λ (c : Case). bytes_eq c.name name) cases
+named_pinned seq flag [] name = refl
+named_pinned seq flag (c ∷ rest) name =
+    count_here (pinned_as seq flag c) (with_pin seq flag rest) name (bytes_eq c.name name) (ap (λ (l : List ℕ). bytes_eq l name) (name_pinned seq flag c))
+    ∙ ap (λ (n : ℕ). cond (bytes_eq c.name name) 1 0 + n) (named_pinned seq flag rest name)
+    ∙ sym (count_here c rest name (bytes_eq c.name name) refl)
 
 -- live cases
 

@@ -100,13 +100,13 @@ uses_dropped k seqs cases = uses_parted k (λ (c : Case). is_among seqs c.seq) c
 -- a flag that changes
 
 -- it changes nothing else
-seq_pinned : (seq : ℕ) (flag : Bool) (c : Case) → (pinned_as seq flag c).seq ≡ c.seq
+pub seq_pinned : (seq : ℕ) (flag : Bool) (c : Case) → (pinned_as seq flag c).seq ≡ c.seq
 seq_pinned seq flag c = elim (c.seq == seq) as (λ t. (cond t (record c { pinned = flag }) c).seq ≡ c.seq) [ true ↦ refl | false ↦ refl ]
 
-blocks_pinned : (seq : ℕ) (flag : Bool) (c : Case) → (pinned_as seq flag c).blocks ≡ c.blocks
+pub blocks_pinned : (seq : ℕ) (flag : Bool) (c : Case) → (pinned_as seq flag c).blocks ≡ c.blocks
 blocks_pinned seq flag c = elim (c.seq == seq) as (λ t. (cond t (record c { pinned = flag }) c).blocks ≡ c.blocks) [ true ↦ refl | false ↦ refl ]
 
-name_pinned : (seq : ℕ) (flag : Bool) (c : Case) → (pinned_as seq flag c).name ≡ c.name
+pub name_pinned : (seq : ℕ) (flag : Bool) (c : Case) → (pinned_as seq flag c).name ≡ c.name
 name_pinned seq flag c = elim (c.seq == seq) as (λ t. (cond t (record c { pinned = flag }) c).name ≡ c.name) [ true ↦ refl | false ↦ refl ]
 
 whole_pinned : (seq : ℕ) (flag : Bool) (next : ℕ) (c : Case) → IsWhole next c → IsWhole next (pinned_as seq flag c)
