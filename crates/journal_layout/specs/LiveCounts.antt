@@ -12,14 +12,14 @@ use Rattle.std.specs.List.{All, AllByRecursion, IsDistinct, count_by, sum_by, fi
 use Rattle.std.specs.Str.{bytes_eq}
 use Rattle.journal_layout.specs.Case.{Case}
 use Rattle.journal_layout.specs.Folding.{is_among, dropped, pinned_as, with_pin, used_blocks, is_name_of}
-use Rattle.journal_layout.specs.Soundness.{Rise, uses, blocks_for}
+use Rattle.journal_layout.specs.Soundness.{AreSpare, Rise, uses, blocks_for}
 use Rattle.journal_layout.specs.SpareLaws.{uses-append, not_among}
 use Rattle.journal_layout.specs.Live.{seq_of_case, IsWhole, AreNamedApart, AreLive, gone}
 use Rattle.journal_layout.specs.LiveLaws.{used-append, name_pinned}
 
 -- how often a block is used
 
--- the word of the crate extents, and this crate's
+-- the word of the crate extents and this crate's say the same
 pub uses_same : (k : ℕ) (blocks : List ℕ) → count_by (λ (b : ℕ). nat_eq b k) blocks ≡ uses k blocks
 uses_same k [] = refl
 uses_same k (b ∷ rest) = sum_by-cons (λ (x : ℕ). cond (nat_eq x k) 1 0) b rest ∙ ap (λ (n : ℕ). cond (nat_eq b k) 1 0 + n) (uses_same k rest)
@@ -40,7 +40,7 @@ count_here : (c : Case) (rest : List Case) (name : List ℕ) (t : Bool) → byte
 count_here c rest name t e =
     sum_by-cons (λ (d : Case). cond (bytes_eq d.name name) 1 0) c rest ∙ ap (λ (s : Bool). cond s 1 0 + count_by (λ (d : Case). bytes_eq d.name name) rest) e
 
--- none has it
+-- none has it just where the test says so
 pub none_named : (cases : List Case) (name : List ℕ) → is_name_of cases name ≡ false → count_by (λ (c : Case). bytes_eq c.name name) cases ≡ 0
 none_named [] name none = refl
 none_named (c ∷ rest) name none =
@@ -57,7 +57,7 @@ not_named (c ∷ rest) name none =
     by true e low = absurd (omega arith)
     by false e low = low (omega arith)
 
--- no two have one name where no name is that of two
+-- no two cases have one name just where at most one case has each name
 pub named_once : (cases : List Case) (name : List ℕ) → AreNamedApart cases → count_by (λ (c : Case). bytes_eq c.name name) cases ≤ 1
 named_once [] name apart = omega arith
 named_once (c ∷ rest) name apart =
@@ -123,7 +123,7 @@ live_apart limit cases next live k =
       ])
     ]
 
--- no name is that of two cases
+-- no two cases have this name
 pub live_named : (limit : ℕ) (cases : List Case) (next : ℕ) → AreLive limit cases next → (name : List ℕ) → count_by (λ (c : Case). bytes_eq c.name name) cases ≤ 1
 live_named limit cases next live name = named_once cases name live.different
 
@@ -153,6 +153,43 @@ live_from_counts limit cases next some numbers each rise apart named = record {
           | inl low ↦ low
           | inr high ↦ absurd (omega (arith, rw (le-ltb k limit high) at h))
         ]
+
+-- blocks are spare where they are data blocks, each once, and no case's
+pub spare_from_counts : (limit : ℕ) (cases : List Case) (blocks : List ℕ)
+    → ((k : ℕ) → sum_by (λ (c : Case). count_by (λ (b : ℕ). nat_eq b k) c.blocks) cases + count_by (λ (b : ℕ). nat_eq b k) blocks ≤ cond (nat_lt k limit) 1 0)
+    → AreSpare limit (used_blocks cases) blocks
+spare_from_counts limit cases blocks apart k some = by (case_uses_same k cases) (uses_same k blocks) (apart k)
+  where
+    by : sum_by (λ (c : Case). count_by (λ (b : ℕ). nat_eq b k) c.blocks) cases ≡ uses k (used_blocks cases)
+        → count_by (λ (b : ℕ). nat_eq b k) blocks ≡ uses k blocks
+        → sum_by (λ (c : Case). count_by (λ (b : ℕ). nat_eq b k) c.blocks) cases + count_by (λ (b : ℕ). nat_eq b k) blocks ≤ cond (nat_lt k limit) 1 0
+        → (k < limit) × (uses k blocks ≡ 1) × (uses k (used_blocks cases) ≡ 0)
+    by all new h =
+        elim (cases_lt k limit) as (λ _. (k < limit) × (uses k blocks ≡ 1) × (uses k (used_blocks cases) ≡ 0)) [
+          | inl low ↦
+              let most : sum_by (λ (c : Case). count_by (λ (b : ℕ). nat_eq b k) c.blocks) cases + count_by (λ (b : ℕ). nat_eq b k) blocks ≤ 1 = rw (lt-ltb k limit low) at h in
+              (low, omega arith, omega arith)
+          | inr high ↦ absurd (omega (arith, rw (le-ltb k limit high) at h))
+        ]
+
+-- and spare blocks beside live cases use each data block once at most
+pub spare_counts : (limit : ℕ) (cases : List Case) (next : ℕ) (blocks : List ℕ) → AreLive limit cases next → AreSpare limit (used_blocks cases) blocks
+    → (k : ℕ) → sum_by (λ (c : Case). count_by (λ (b : ℕ). nat_eq b k) c.blocks) cases + count_by (λ (b : ℕ). nat_eq b k) blocks ≤ cond (nat_lt k limit) 1 0
+spare_counts limit cases next blocks live spare k =
+    elim (cases_eq (uses k blocks) 0) as (λ _. sum_by (λ (c : Case). count_by (λ (b : ℕ). nat_eq b k) c.blocks) cases + count_by (λ (b : ℕ). nat_eq b k) blocks ≤ cond (nat_lt k limit) 1 0) [
+      | inl none ↦ omega (arith, live_apart limit cases next live k, uses_same k blocks, none)
+      | inr some ↦
+          let h = spare k (omega (arith, some)) in
+          rw (lt-ltb k limit h.0) (omega (arith, case_uses_same k cases, uses_same k blocks, h.1, h.2))
+    ]
+
+-- there are fewer live cases than numbers so far
+rise_long : (last next : ℕ) (cases : List Case) → last < next → Rise last (map seq_of_case cases) → AllByRecursion (IsWhole next) cases → last + length cases < next
+rise_long last next [] low rise each = omega arith
+rise_long last next (c ∷ rest) low rise each = omega (arith, rise.0, rise_long c.seq next rest each.0.below rise.1 each.1)
+
+pub live_few : (limit : ℕ) (cases : List Case) (next : ℕ) → AreLive limit cases next → length cases < next
+live_few limit cases next live = omega (arith, rise_long 0 next cases live.some_next live.rise (recursion_from_All (IsWhole next) cases live.each))
 
 -- how many blocks are used
 

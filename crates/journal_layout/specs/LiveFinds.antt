@@ -3,10 +3,10 @@ use Rattle.std.proofs.Common.{◌≡◌, inl, inr, ℕ, zero, suc, ◌+◌, ◌^
 use Rattle.std.proofs.lemmas.Bool.{eq-eqb, ne_eqb, cases_eq, or_from}
 use Rattle.std.proofs.lemmas.List.Elements.{All-contains, All-contains_itself, All-filter, filter_passes, recursion_from_All}
 use Rattle.std.specs.List.{AllByRecursion, Contains, filter, list_any}
-use Rattle.journal_layout.specs.Case.{Case}
-use Rattle.journal_layout.specs.Record.{Drop, Pin}
+use Rattle.journal_layout.specs.Case.{Case, numbered}
+use Rattle.journal_layout.specs.Record.{Store, Drop, Pin}
 use Rattle.journal_layout.specs.Folding.{Folded, is_among, dropped, used_blocks}
-use Rattle.journal_layout.specs.Soundness.{IsSound, IsPinnable, IsDroppable, Rise, uses, case_numbered}
+use Rattle.journal_layout.specs.Soundness.{IsSound, IsStorable, IsPinnable, IsDroppable, Rise, uses, case_numbered}
 use Rattle.journal_layout.specs.SpareLaws.{uses-append}
 use Rattle.journal_layout.specs.Live.{seq_of_case, IsWhole, AreLive}
 use Rattle.journal_layout.specs.LiveLaws.{rise_kept}
@@ -100,6 +100,23 @@ live_pinnable limit cases next c live among = (c, live_found limit cases next c 
 
 pub live_droppable : (limit : ℕ) (cases : List Case) (next : ℕ) (c : Case) → AreLive limit cases next → Contains cases c → c.pinned ≡ false → IsDroppable cases c.seq
 live_droppable limit cases next c live among free = (c, live_found limit cases next c live among, free)
+
+-- a case that may be stored may be so under any number
+pub storable_numbered : (limit : ℕ) (cases : List Case) (seq : ℕ) (c : Case) → IsStorable limit cases c → IsStorable limit cases (numbered seq c)
+storable_numbered limit cases seq c storable = record {
+  name = storable.name;
+  new_name = storable.new_name;
+  pid = storable.pid;
+  signal = storable.signal;
+  time = storable.time;
+  bytes = storable.bytes;
+  enough = storable.enough;
+  spare = storable.spare;
+}
+
+-- and gets the next number, as long as there is one
+pub store_sound : (limit : ℕ) (f : Folded) (c : Case) → f.next < 2 ^ 32 → IsStorable limit f.cases c → IsSound limit f (Store (numbered f.next c))
+store_sound limit f c low storable = (omega arith, low, storable_numbered limit f.cases f.next c storable)
 
 -- a flag of a live case may change
 pub pin_sound : (limit : ℕ) (f : Folded) (seq : ℕ) (flag : Bool) → AreLive limit f.cases f.next → IsPinnable f.cases seq → IsSound limit f (Pin seq flag)

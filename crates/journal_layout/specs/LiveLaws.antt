@@ -41,14 +41,14 @@ rise_kept test last (c ∷ rest) rise =
 name_sym : (x y : List ℕ) → bytes_eq x y ≡ false → bytes_eq y x ≡ false
 name_sym x y e = false_from_ne_true (bytes_eq y x) (λ t. both_ways (bytes_eq x y) e ((bytes_eq-Decides x y).1 (sym ((bytes_eq-Decides y x).0 t))))
 
--- a name of cases and of one more
+-- what is no case's name is none of these and one more case of another name
 pub name_push : (cases : List Case) (c : Case) (name : List ℕ) → is_name_of cases name ≡ false → bytes_eq c.name name ≡ false → is_name_of (cases ++ c ∷ []) name ≡ false
 name_push [] c name none other = or_from (bytes_eq c.name name) false other refl
 name_push (d ∷ rest) c name none other =
     let h = or_parts (bytes_eq d.name name) (is_name_of rest name) none in
     or_from (bytes_eq d.name name) (is_name_of (rest ++ c ∷ []) name) h.0 (name_push rest c name h.1 other)
 
--- a name of none is a name of none of some
+-- what is no case's name is no name of some of them
 pub name_kept : (test : Case → Bool) (cases : List Case) (name : List ℕ) → is_name_of cases name ≡ false → is_name_of (filter test cases) name ≡ false
 name_kept test [] name none = refl
 name_kept test (d ∷ rest) name none =
