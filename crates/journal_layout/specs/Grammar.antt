@@ -8,6 +8,7 @@ use Rattle.journal_layout.specs.Reading.{record_at, length_at}
 use Rattle.journal_layout.specs.Checks.{record_fault}
 use Rattle.journal_layout.specs.Standing.{Standing}
 use Rattle.journal_layout.specs.Stands.{StandsFirst, Stands, Opening}
+use Rattle.journal_layout.specs.Live.{AreLive}
 
 -- the bytes tell this record: its gate is open, no check of it fails, and it is what they say
 pub record IsToldBy (limit at : ℕ) (rest : List ℕ) (f : Folded) (r : Record) : Type 0 where
@@ -40,3 +41,7 @@ OpeningsHaveOneAnswer = (b : List ℕ) (x y : Result Standing OpenFault) → Ope
 -- and what stands opens as that and nothing else
 abbrev pub WhatStandsOpens : Type 0
 WhatStandsOpens = (b : List ℕ) (s : Standing) (x : Result Standing OpenFault) → Stands b s → Opening b x → x ≡ Ok s
+
+-- what stands has live cases of which all holds that always does
+abbrev pub WhatStandsIsLive : Type 0
+WhatStandsIsLive = (b : List ℕ) (s : Standing) → Stands b s → AreLive s.shape.data_blocks s.cases s.next

@@ -11,6 +11,10 @@ pub mod Front
 pub mod FrontLaws
 pub mod Grammar
 pub mod Layout
+pub mod Live
+pub mod LiveCounts
+pub mod LiveFinds
+pub mod LiveLaws
 pub mod NextLaws
 pub mod PinLaws
 pub mod ReadSteps

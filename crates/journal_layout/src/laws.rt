@@ -1,5 +1,5 @@
 // What the definitions that the contracts cite say together. These functions do nothing.
-ghost use Rattle.journal_layout.specs.Grammar.{RecordsAreReadAgain, WhatIsReadStands, RecordsAreApart, OpeningsHaveOneAnswer, WhatStandsOpens};
+ghost use Rattle.journal_layout.specs.Grammar.{RecordsAreReadAgain, WhatIsReadStands, RecordsAreApart, OpeningsHaveOneAnswer, WhatStandsOpens, WhatStandsIsLive};
 
 /// What is written is read again: where the spelling of a sound record stands, with room for a gate behind it, no check
 /// of an opening fails, at any place of any archive, and the fields that an opening reads are those of the record.
@@ -22,4 +22,10 @@ pub fn no_record_begins_another()
 pub fn an_opening_has_one_answer()
     ensures one { OpeningsHaveOneAnswer }
     ensures stands { WhatStandsOpens }
+{}
+
+/// The cases of what stands go together: their numbers rise, from 1 at least, and are below the next one, no block is in
+/// two of them or twice in one, all blocks are data blocks and as many as the bytes need, and no two have one name.
+pub fn live_cases_are_sound()
+    ensures { WhatStandsIsLive }
 {}

@@ -10,7 +10,7 @@ mod shape;
 pub use entry::{Entry, Kind, Name};
 pub use faults::{Field, OpenFault};
 pub use laws::{
-    an_opening_has_one_answer, no_record_begins_another, records_are_read_again,
-    what_is_read_is_a_record,
+    an_opening_has_one_answer, live_cases_are_sound, no_record_begins_another,
+    records_are_read_again, what_is_read_is_a_record,
 };
 pub use shape::{BLOCK, BadShape, Half, Shape};

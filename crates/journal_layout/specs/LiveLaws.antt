@@ -1,0 +1,282 @@
+-- Laws of the cases that a journal's records say: what always holds of them, and what that gives.
+use Rattle.std.proofs.Common.{◌≡◌, inl, inr, ℕ, ◌+◌, ◌-◌, ◌^◌, ◌<◌, ◌≤◌, Bool, true, false, not, ◌||◌, ◌==◌, List, [], ◌∷◌, ◌++◌, map, drop, refl, sym, ap, ◌∙◌, subst, arith, cond}
+use Rattle.std.proofs.lemmas.Bool.{cases_eq, cond_both, or_parts, or_from, both_ways, false_from_ne_true}
+use Rattle.std.proofs.lemmas.List.Concat.{flat_map-append}
+use Rattle.std.proofs.lemmas.List.Elements.{All-nil, All-push, All-filter, All-weaker, All-from_recursion, recursion_from_All}
+use Rattle.std.proofs.lemmas.Slice.Eq.{bytes_eq-Decides}
+use Rattle.std.specs.List.{AllByRecursion, filter}
+use Rattle.std.specs.Str.{bytes_eq}
+use Rattle.journal_layout.specs.Case.{Case}
+use Rattle.journal_layout.specs.Record.{Record, Store, Drop, Pin, Next, record_size}
+use Rattle.journal_layout.specs.Folding.{Folded, nothing_yet, is_among, dropped, pinned_as, with_pin, after, replayed, used_blocks, is_name_of}
+use Rattle.journal_layout.specs.Soundness.{IsSound, IsStorable, Rise, uses}
+use Rattle.journal_layout.specs.SpareLaws.{uses-append}
+use Rattle.journal_layout.specs.Standing.{Standing, folded_of}
+use Rattle.journal_layout.specs.Stands.{StandInRow, AreRead, Stands, records_area}
+use Rattle.journal_layout.specs.Live.{seq_of_case, IsWhole, AreNamedApart, AreLive, gone}
+
+-- numbers that rise
+
+pub rise_lower : (low last : ℕ) (seqs : List ℕ) → low ≤ last → Rise last seqs → Rise low seqs
+rise_lower low last [] under rise = tt
+rise_lower low last (seq ∷ rest) under rise = (omega (arith, rise.0), rise.1)
+
+-- a case behind them
+rise_push : (last : ℕ) (cases : List Case) (c : Case) → Rise last (map seq_of_case cases) → last < c.seq
+    → AllByRecursion (λ (d : Case). d.seq < c.seq) cases → Rise last (map seq_of_case (cases ++ c ∷ []))
+rise_push last [] c rise above each = (above, tt)
+rise_push last (d ∷ rest) c rise above each = (rise.0, rise_push d.seq rest c rise.1 each.0 each.1)
+
+-- some of them
+pub rise_kept : (test : Case → Bool) (last : ℕ) (cases : List Case) → Rise last (map seq_of_case cases) → Rise last (map seq_of_case (filter test cases))
+rise_kept test last [] rise = tt
+rise_kept test last (c ∷ rest) rise =
+    cond_both (test c) (c ∷ filter test rest) (filter test rest) (λ (l : List Case). Rise last (map seq_of_case l))
+    (λ _. (rise.0, rise_kept test c.seq rest rise.1))
+    (λ _. rise_kept test last rest (rise_lower last c.seq (map seq_of_case rest) (omega (arith, rise.0)) rise.1))
+
+-- names
+
+-- names are the same in both orders
+name_sym : (x y : List ℕ) → bytes_eq x y ≡ false → bytes_eq y x ≡ false
+name_sym x y e = false_from_ne_true (bytes_eq y x) (λ t. both_ways (bytes_eq x y) e ((bytes_eq-Decides x y).1 (sym ((bytes_eq-Decides y x).0 t))))
+
+-- what is no case's name is none of these and one more case of another name
+pub name_push : (cases : List Case) (c : Case) (name : List ℕ) → is_name_of cases name ≡ false → bytes_eq c.name name ≡ false → is_name_of (cases ++ c ∷ []) name ≡ false
+name_push [] c name none other = or_from (bytes_eq c.name name) false other refl
+name_push (d ∷ rest) c name none other =
+    let h = or_parts (bytes_eq d.name name) (is_name_of rest name) none in
+    or_from (bytes_eq d.name name) (is_name_of (rest ++ c ∷ []) name) h.0 (name_push rest c name h.1 other)
+
+-- what is no case's name is no name of some of them
+pub name_kept : (test : Case → Bool) (cases : List Case) (name : List ℕ) → is_name_of cases name ≡ false → is_name_of (filter test cases) name ≡ false
+name_kept test [] name none = refl
+name_kept test (d ∷ rest) name none =
+    let h = or_parts (bytes_eq d.name name) (is_name_of rest name) none in
+    let low : is_name_of (filter test rest) name ≡ false = name_kept test rest name h.1 in
+    cond_both (test d) (d ∷ filter test rest) (filter test rest) (λ (l : List Case). is_name_of l name ≡ false)
+    (λ _. or_from (bytes_eq d.name name) (is_name_of (filter test rest) name) h.0 low) (λ _. low)
+
+apart_push : (cases : List Case) (c : Case) → AreNamedApart cases → is_name_of cases c.name ≡ false → AreNamedApart (cases ++ c ∷ [])
+apart_push [] c apart new = (refl, tt)
+apart_push (d ∷ rest) c apart new =
+    let h = or_parts (bytes_eq d.name c.name) (is_name_of rest c.name) new in
+    (name_push rest c d.name apart.0 (name_sym d.name c.name h.0), apart_push rest c apart.1 h.1)
+
+apart_kept : (test : Case → Bool) (cases : List Case) → AreNamedApart cases → AreNamedApart (filter test cases)
+apart_kept test [] apart = tt
+apart_kept test (d ∷ rest) apart =
+    let low = apart_kept test rest apart.1 in
+    cond_both (test d) (d ∷ filter test rest) (filter test rest) AreNamedApart (λ _. (name_kept test rest d.name apart.0, low)) (λ _. low)
+
+-- blocks
+
+-- the blocks of two lists of cases
+pub used-append : (xs ys : List Case) → used_blocks (xs ++ ys) ≡ used_blocks xs ++ used_blocks ys
+used-append xs ys = flat_map-append (λ (c : Case). c.blocks) xs ys
+
+-- how often a block is used once a case more is there
+pub uses_stored : (k : ℕ) (cases : List Case) (c : Case) → uses k (used_blocks (cases ++ c ∷ [])) ≡ uses k (used_blocks cases) + uses k c.blocks
+uses_stored k [] c = omega (arith, uses-append k c.blocks [])
+uses_stored k (d ∷ rest) c =
+    omega (arith, uses-append k d.blocks (used_blocks (rest ++ c ∷ [])), uses-append k d.blocks (used_blocks rest), uses_stored k rest c)
+
+-- a block is used by the cases that pass a test and by those that don't
+pub uses_parted : (k : ℕ) (test : Case → Bool) (cases : List Case)
+    → uses k (used_blocks (filter (λ (c : Case). not (test c)) cases)) + uses k (used_blocks (filter test cases)) ≡ uses k (used_blocks cases)
+uses_parted k test [] = refl
+uses_parted k test (c ∷ rest) = by (test c) (uses_parted k test rest)
+  where
+    by : (t : Bool) → uses k (used_blocks (filter (λ (d : Case). not (test d)) rest)) + uses k (used_blocks (filter test rest)) ≡ uses k (used_blocks rest)
+        → uses k (used_blocks (cond (not t) (c ∷ filter (λ (d : Case). not (test d)) rest) (filter (λ (d : Case). not (test d)) rest)))
+        + uses k (used_blocks (cond t (c ∷ filter test rest) (filter test rest))) ≡ uses k (used_blocks (c ∷ rest))
+    by true low = omega (arith, uses-append k c.blocks (used_blocks (filter test rest)), uses-append k c.blocks (used_blocks rest))
+    by false low = omega (arith, uses-append k c.blocks (used_blocks (filter (λ (d : Case). not (test d)) rest)), uses-append k c.blocks (used_blocks rest))
+
+-- a block is used by the cases that are left and by those that are dropped
+pub uses_dropped : (k : ℕ) (seqs : List ℕ) (cases : List Case) → uses k (used_blocks (dropped seqs cases)) + uses k (used_blocks (gone seqs cases)) ≡ uses k (used_blocks cases)
+uses_dropped k seqs cases = uses_parted k (λ (c : Case). is_among seqs c.seq) cases
+
+-- a flag that changes
+
+-- it changes nothing else
+pub seq_pinned : (seq : ℕ) (flag : Bool) (c : Case) → (pinned_as seq flag c).seq ≡ c.seq
+seq_pinned seq flag c = elim (c.seq == seq) as (λ t. (cond t (record c { pinned = flag }) c).seq ≡ c.seq) [ true ↦ refl | false ↦ refl ]
+
+pub blocks_pinned : (seq : ℕ) (flag : Bool) (c : Case) → (pinned_as seq flag c).blocks ≡ c.blocks
+blocks_pinned seq flag c = elim (c.seq == seq) as (λ t. (cond t (record c { pinned = flag }) c).blocks ≡ c.blocks) [ true ↦ refl | false ↦ refl ]
+
+pub name_pinned : (seq : ℕ) (flag : Bool) (c : Case) → (pinned_as seq flag c).name ≡ c.name
+name_pinned seq flag c = elim (c.seq == seq) as (λ t. (cond t (record c { pinned = flag }) c).name ≡ c.name) [ true ↦ refl | false ↦ refl ]
+
+whole_pinned : (seq : ℕ) (flag : Bool) (next : ℕ) (c : Case) → IsWhole next c → IsWhole next (pinned_as seq flag c)
+whole_pinned seq flag next c whole =
+    cond_both (c.seq == seq) (record c { pinned = flag }) c (IsWhole next)
+    (λ _. record {
+      below = whole.below;
+      name = whole.name;
+      pid = whole.pid;
+      signal = whole.signal;
+      time = whole.time;
+      bytes = whole.bytes;
+      enough = whole.enough;
+    })
+    (λ _. whole)
+
+-- the numbers, the blocks and the names of the cases stay
+pub numbers_pinned : (seq : ℕ) (flag : Bool) (cases : List Case) → map seq_of_case (with_pin seq flag cases) ≡ map seq_of_case cases
+numbers_pinned seq flag [] = refl
+numbers_pinned seq flag (c ∷ rest) =
+    ap (λ (n : ℕ). n ∷ map seq_of_case (with_pin seq flag rest)) (seq_pinned seq flag c) ∙ ap (λ (l : List ℕ). c.seq ∷ l) (numbers_pinned seq flag rest)
+
+pub used_pinned : (seq : ℕ) (flag : Bool) (cases : List Case) → used_blocks (with_pin seq flag cases) ≡ used_blocks cases
+used_pinned seq flag [] = refl
+used_pinned seq flag (c ∷ rest) =
+    ap (λ (l : List ℕ). l ++ used_blocks (with_pin seq flag rest)) (blocks_pinned seq flag c) ∙ ap (λ (l : List ℕ). c.blocks ++ l) (used_pinned seq flag rest)
+
+pub names_pinned : (seq : ℕ) (flag : Bool) (cases : List Case) (name : List ℕ) → is_name_of (with_pin seq flag cases) name ≡ is_name_of cases name
+names_pinned seq flag [] name = refl
+names_pinned seq flag (c ∷ rest) name =
+    ap (λ (l : List ℕ). bytes_eq l name || is_name_of (with_pin seq flag rest) name) (name_pinned seq flag c)
+    ∙ ap (λ (t : Bool). bytes_eq c.name name || t) (names_pinned seq flag rest name)
+
+apart_pinned : (seq : ℕ) (flag : Bool) (cases : List Case) → AreNamedApart cases → AreNamedApart (with_pin seq flag cases)
+apart_pinned seq flag [] apart = tt
+apart_pinned seq flag (c ∷ rest) apart = (
+  ap (is_name_of (with_pin seq flag rest)) (name_pinned seq flag c) ∙ names_pinned seq flag rest c.name ∙ apart.0,
+  apart_pinned seq flag rest apart.1,
+)
+
+each_pinned : (seq : ℕ) (flag : Bool) (next : ℕ) (cases : List Case) → AllByRecursion (IsWhole next) cases → AllByRecursion (IsWhole next) (with_pin seq flag cases)
+each_pinned seq flag next [] each = tt
+each_pinned seq flag next (c ∷ rest) each = (whole_pinned seq flag next c each.0, each_pinned seq flag next rest each.1)
+
+-- what always holds
+
+whole_later : (next later : ℕ) (c : Case) → next ≤ later → IsWhole next c → IsWhole later c
+whole_later next later c high whole = record {
+  below = (let below = whole.below in omega arith);
+  name = whole.name;
+  pid = whole.pid;
+  signal = whole.signal;
+  time = whole.time;
+  bytes = whole.bytes;
+  enough = whole.enough;
+}
+
+-- it holds of no case
+pub live_none : (limit : ℕ) → AreLive limit [] 1
+live_none limit = record {
+  some_next = omega arith;
+  numbers = omega arith;
+  each = All-nil (IsWhole 1);
+  rise = tt;
+  once = λ k. omega arith;
+  within = λ k some. absurd (omega arith);
+  different = tt;
+}
+
+-- it holds once a case more is stored
+pub live_stored : (limit : ℕ) (cases : List Case) (next : ℕ) (c : Case) → AreLive limit cases next → next ≤ c.seq → c.seq < 2 ^ 32 → IsStorable limit cases c
+    → AreLive limit (cases ++ c ∷ []) (c.seq + 1)
+live_stored limit cases next c live from high storable =
+    let some = live.some_next in
+    let each = recursion_from_All (IsWhole next) cases live.each in
+    record {
+      some_next = omega arith;
+      numbers = omega arith;
+      each =
+          All-push (IsWhole (c.seq + 1)) cases c (All-weaker (IsWhole next) (IsWhole (c.seq + 1)) (λ d. whole_later next (c.seq + 1) d (omega arith)) cases live.each) (record {
+            below = omega arith;
+            name = storable.name;
+            pid = storable.pid;
+            signal = storable.signal;
+            time = storable.time;
+            bytes = storable.bytes;
+            enough = storable.enough;
+          });
+      rise = rise_push 0 cases c live.rise (omega arith) (lower cases each);
+      once = λ k. at_most k (uses_stored k cases c);
+      within = λ k some. lies k (uses_stored k cases c) some;
+      different = apart_push cases c live.different storable.new_name;
+    }
+  where
+    lower : (l : List Case) → AllByRecursion (IsWhole next) l → AllByRecursion (λ (d : Case). d.seq < c.seq) l
+    lower [] each = tt
+    lower (d ∷ rest) each = (let below = each.0.below in omega arith, lower rest each.1)
+
+    at_most : (k : ℕ) → uses k (used_blocks (cases ++ c ∷ [])) ≡ uses k (used_blocks cases) + uses k c.blocks → uses k (used_blocks (cases ++ c ∷ [])) ≤ 1
+    at_most k both =
+        elim (cases_eq (uses k c.blocks) 0) as (λ _. uses k (used_blocks (cases ++ c ∷ [])) ≤ 1) [
+          | inl none ↦ omega (arith, live.once k, none)
+          | inr some ↦ let h = storable.spare k (omega (arith, some)) in omega (arith, h.1, h.2)
+        ]
+
+    lies : (k : ℕ) → uses k (used_blocks (cases ++ c ∷ [])) ≡ uses k (used_blocks cases) + uses k c.blocks → 0 < uses k (used_blocks (cases ++ c ∷ [])) → k < limit
+    lies k both some =
+        elim (cases_eq (uses k c.blocks) 0) as (λ _. k < limit) [
+          | inl none ↦ live.within k (omega (arith, none))
+          | inr new ↦ (storable.spare k (omega (arith, new))).0
+        ]
+
+-- it holds of some of the cases, in the same order
+pub live_kept : (limit : ℕ) (cases : List Case) (next : ℕ) (test : Case → Bool) → AreLive limit cases next → AreLive limit (filter test cases) next
+live_kept limit cases next test live = record {
+  some_next = live.some_next;
+  numbers = live.numbers;
+  each = All-filter test (IsWhole next) cases live.each;
+  rise = rise_kept test 0 cases live.rise;
+  once = λ k. omega (arith, uses_parted k test cases, live.once k);
+  within = λ k some. live.within k (omega (arith, uses_parted k test cases));
+  different = apart_kept test cases live.different;
+}
+
+-- it holds once cases are dropped
+pub live_dropped : (limit : ℕ) (cases : List Case) (next : ℕ) (seqs : List ℕ) → AreLive limit cases next → AreLive limit (dropped seqs cases) next
+live_dropped limit cases next seqs live = live_kept limit cases next (λ (c : Case). not (is_among seqs c.seq)) live
+
+-- it holds once a flag has changed
+pub live_pinned : (limit : ℕ) (cases : List Case) (next seq : ℕ) (flag : Bool) → AreLive limit cases next → AreLive limit (with_pin seq flag cases) next
+live_pinned limit cases next seq flag live = record {
+  some_next = live.some_next;
+  numbers = live.numbers;
+  each = All-from_recursion (IsWhole next) (with_pin seq flag cases) (each_pinned seq flag next cases (recursion_from_All (IsWhole next) cases live.each));
+  rise = subst (Rise 0) (sym (numbers_pinned seq flag cases)) live.rise;
+  once = λ k. omega (arith, live.once k, ap (uses k) (used_pinned seq flag cases));
+  within = λ k some. live.within k (omega (arith, ap (uses k) (used_pinned seq flag cases)));
+  different = apart_pinned seq flag cases live.different;
+}
+
+-- it holds of a later next number
+pub live_later : (limit : ℕ) (cases : List Case) (next later : ℕ) → AreLive limit cases next → next ≤ later → later ≤ 2 ^ 32 → AreLive limit cases later
+live_later limit cases next later live from high = record {
+  some_next = (let some = live.some_next in omega arith);
+  numbers = high;
+  each = All-weaker (IsWhole next) (IsWhole later) (λ d. whole_later next later d from) cases live.each;
+  rise = live.rise;
+  once = live.once;
+  within = live.within;
+  different = live.different;
+}
+
+-- it holds behind a sound record, if it held before it
+pub live_after : (limit : ℕ) (f : Folded) (r : Record) → AreLive limit f.cases f.next → IsSound limit f r → AreLive limit (after r f).cases (after r f).next
+live_after limit f (Store c) live sound = live_stored limit f.cases f.next c live sound.0 sound.1 sound.2
+live_after limit f (Drop seqs) live sound = live_dropped limit f.cases f.next seqs live
+live_after limit f (Pin seq flag) live sound = live_pinned limit f.cases f.next seq flag live
+live_after limit f (Next n) live sound = live_later limit f.cases f.next n live sound.0 sound.1
+
+-- it holds behind a row of records
+pub live_row : (limit : ℕ) (bytes : List ℕ) (f : Folded) (rs : List Record) → AreLive limit f.cases f.next → StandInRow limit bytes f rs
+    → AreLive limit (replayed rs f).cases (replayed rs f).next
+live_row limit bytes f [] live row = live
+live_row limit bytes f (r ∷ rest) live row = live_row limit (drop (record_size r) bytes) (after r f) rest (live_after limit f r live row.0.sound) row.1
+
+-- it holds of what bytes say
+pub live_read : (limit : ℕ) (bytes : List ℕ) (said : Folded) (n : ℕ) → AreRead limit bytes nothing_yet said n → AreLive limit said.cases said.next
+live_read limit bytes said n read =
+    subst (λ (g : Folded). AreLive limit g.cases g.next) read.folded (live_row limit bytes nothing_yet read.records (live_none limit) read.row)
+
+-- it holds of what a disk stands for
+pub stands_live : (b : List ℕ) (s : Standing) → Stands b s → AreLive s.shape.data_blocks s.cases s.next
+stands_live b s stands = live_read s.shape.data_blocks (records_area b s.shape s.half) (folded_of s) (s.used - 32) stands.records
