@@ -58,7 +58,6 @@ insert_last low high k v [] are above = refl
 insert_last low high k v (e ∷ es) are above =
     let rest = numbered_ends (e.0 + 1) high es are.2 in
     let past : e.0 < k = omega arith in
-    let Row = ℕ × Entry in
     ap (λ (o : Ordering). match_ordering o ((k, v) ∷ e ∷ es) ((e.0, v) ∷ es) (e ∷ insert_entry nat_cmp es k v)) (sym (nat_cmp_is k e.0 Greater past))
     ∙ ap (λ (xs : List (ℕ × Entry)). e ∷ xs) (insert_last (e.0 + 1) high k v es are.2 above)
 
@@ -73,10 +72,6 @@ numbered_up low high more (e ∷ es) up are = (are.0, are.1, numbered_up (e.0 + 
 numbered_down : (less low high : ℕ) (es : List (ℕ × Entry)) → less ≤ low → AreNumbered low high es → AreNumbered less high es
 numbered_down less low high [] down are = (let a : low ≤ high = are in omega arith)
 numbered_down less low high (e ∷ es) down are = (let a : low ≤ e.0 = are.0 in omega arith, are.1, are.2)
-
--- The test's answer at the first entry, and what follows from it.
-abbrev Test : ℕ → ℕ → Bool
-Test s k = is_at (nat_cmp s) k
 
 -- without an entry the rest is numbered
 pub numbered_removed : (low high s : ℕ) (es : List (ℕ × Entry)) → AreNumbered low high es → AreNumbered low high (remove_entry (is_at (nat_cmp s)) es)

@@ -5,7 +5,7 @@ use Rattle.journal_layout.specs.declared.faults.OpenFault.TheVariants.{Damaged, 
 use Rattle.journal_layout.specs.Case.{case_of}
 use Rattle.journal_layout.specs.Record.{Record}
 use Rattle.journal_layout.specs.Folding.{Folded, nothing_yet, replayed, sizes}
-use Rattle.journal_layout.specs.Stands.{StandInRow, AreRead, AreFaulty}
+use Rattle.journal_layout.specs.Stands.{StandInRow, AreFaulty}
 use Rattle.journal_replay.specs.declared.reading.Replayed.{Replayed}
 use Rattle.journal_replay.specs.declared.cases.Cases.{Cases}
 use Rattle.journal_replay.specs.Kept.{said_by, AreKept}
