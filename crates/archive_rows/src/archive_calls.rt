@@ -1,4 +1,4 @@
-use case_journal::{Kind, Name, Shape, format};
+use store_journal::{Kind, Name, Shape, format};
 use disk_model::{Disk, Fuse, MemDisk};
 use intake::{Archive, ArchiveFault, Settings};
 use std::test::Fail;

@@ -1,6 +1,6 @@
 ghost use Rattle.std.specs.Prelude.{◌≤◌, length, IfOk};
 
-use case_journal::{
+use store_journal::{
     BadShape, Entry, Field, FormatFault, Half, Journal, Kind, Name, OpenFault, Shape, format,
 };
 use disk_model::{Disk, MemDisk};

@@ -2,7 +2,7 @@
 
 use crate::session::SessionFault;
 use crate::telling::tell_no;
-use case_journal::{BadShape, FormatFault, OpenFault};
+use store_journal::{BadShape, FormatFault, OpenFault};
 use script_streams::{Output, Reply};
 use std::alloc::AllocError;
 

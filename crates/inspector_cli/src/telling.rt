@@ -1,12 +1,12 @@
 // The texts of replies.
 ghost use Rattle.std.specs.Prelude.{◌≡◌, ◌++◌, map};
 ghost use Rattle.std.specs.List.{flat_map};
-ghost use Rattle.case_journal.specs.Case.{case_of};
+ghost use Rattle.store_journal.specs.Case.{case_of};
 ghost use Rattle.intake.specs.Parts.{bare_case};
 ghost use Rattle.inspector_cli.specs.Reply.{ok_reply, no_reply, reason_of, plain_reply, begin_reply, end_reply, number_word, case_line, kind_name, pin_name};
 ghost use Rattle.inspector_cli.specs.Answering.{TellsText};
 
-use case_journal::{Entry, Kind};
+use store_journal::{Entry, Kind};
 use intake::ArchiveFault;
 use script_streams::{Output, Reply};
 

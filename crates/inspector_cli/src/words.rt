@@ -1,7 +1,7 @@
 // The words of the program.
 use crate::faults::{Refusal, tell_fault, tell_refusal};
 use crate::run::run_session;
-use case_journal::{Shape, format};
+use store_journal::{Shape, format};
 use clap::error::ErrorKind;
 use clap::{Arg, ArgAction, Command, Error, value_parser};
 use disk_model::MemDisk;

@@ -2,8 +2,8 @@
 use Rattle.std.proofs.Common.{◌≡◌, ⊎_elim, ℕ, ◌+◌, ◌%◌, ◌≤◌, List, [], ◌∷◌, map, sym, ap, ◌∙◌, subst, arith, Bool, Option, Some, None, Ok, Err}
 use Rattle.std.specs.Prelude.{option_map, slice_set}
 use Rattle.disk_model.specs.Places.{SameOutside}
-use Rattle.case_journal.specs.Case.{Case}
-use Rattle.case_journal.specs.Standing.{Journaled}
+use Rattle.store_journal.specs.Case.{Case}
+use Rattle.store_journal.specs.Standing.{Journaled}
 use Rattle.intake.specs.declared.faults.ArchiveFault.{ArchiveFault}
 use Rattle.intake.specs.declared.faults.ArchiveFault.TheVariants as fault
 use Rattle.intake.specs.Blocks.{block_start, block_bytes, image_in}

@@ -5,9 +5,9 @@ use Rattle.std.proofs.lemmas.List.Concat.{flat_map-append}
 use Rattle.std.specs.List.{range_with_len}
 use Rattle.disk_model.specs.Places.{SameOutside}
 use Rattle.disk_model.specs.PartLaws.{part_spared}
-use Rattle.case_journal.specs.declared.shape.Shape.{Shape}
-use Rattle.case_journal.specs.Case.{Case}
-use Rattle.case_journal.specs.Standing.{Journaled}
+use Rattle.store_journal.specs.declared.shape.Shape.{Shape}
+use Rattle.store_journal.specs.Case.{Case}
+use Rattle.store_journal.specs.Standing.{Journaled}
 use Rattle.intake.specs.Blocks.{block_start, block_bytes, joined, image_in}
 use Rattle.intake.specs.State.{blocks_for}
 use Rattle.intake.specs.Sound.{AreFilled, IsFilling}

@@ -8,11 +8,11 @@ use Rattle.disk_model.specs.Places.{SameOutside}
 use Rattle.disk_model.specs.PartLaws.{part_after, part_length}
 use Rattle.extents.specs.Runs.{runs_of}
 use Rattle.extents.specs.RunLaws.{runs_no_more, runs_some}
-use Rattle.case_journal.specs.declared.shape.Shape.{Shape}
-use Rattle.case_journal.specs.declared.shape.Half.{Half}
-use Rattle.case_journal.specs.declared.shape.Half.TheVariants.{A, B}
-use Rattle.case_journal.specs.Layout.{half_start, half_length, data_start, disk_length}
-use Rattle.case_journal.specs.Case.{Case}
+use Rattle.store_journal.specs.declared.shape.Shape.{Shape}
+use Rattle.store_journal.specs.declared.shape.Half.{Half}
+use Rattle.store_journal.specs.declared.shape.Half.TheVariants.{A, B}
+use Rattle.store_journal.specs.Layout.{half_start, half_length, data_start, disk_length}
+use Rattle.store_journal.specs.Case.{Case}
 use Rattle.std.proofs.lemmas.Bool.{cases_eq}
 use Rattle.intake.specs.declared.stream.Stream.{Stream}
 use Rattle.intake.specs.Blocks.{block_start, block_bytes, joined, image_in}

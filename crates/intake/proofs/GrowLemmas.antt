@@ -6,7 +6,7 @@ use Rattle.std.proofs.Math.ListN.{length-replicate}
 use Rattle.std.specs.List.{range_with_len}
 use Rattle.disk_model.specs.Places.{overwritten, part}
 use Rattle.disk_model.specs.PartLaws.{part_overwritten}
-use Rattle.case_journal.specs.declared.shape.Shape.{Shape}
+use Rattle.store_journal.specs.declared.shape.Shape.{Shape}
 use Rattle.intake.specs.Blocks.{block_start, block_bytes}
 use Rattle.intake.specs.Contents.{zero_block}
 use Rattle.intake.specs.Parts.{StreamParts}

@@ -3,8 +3,8 @@ use Rattle.std.proofs.Common.{◌≡◌, Bool, true, false, List, [], ◌∷◌,
 use Rattle.std.specs.Prelude.{◌||◌, option_map}
 use Rattle.std.specs.List.{list_any}
 use Rattle.std.specs.Str.{bytes_eq}
-use Rattle.case_journal.specs.declared.entry.Entry.{Entry}
-use Rattle.case_journal.specs.Case.{Case, case_of}
+use Rattle.store_journal.specs.declared.entry.Entry.{Entry}
+use Rattle.store_journal.specs.Case.{Case, case_of}
 use Rattle.intake.specs.declared.stream.Stream.{Stream}
 use Rattle.intake.specs.StreamView.{parts_of}
 use Rattle.intake.specs.State.{BareCase}

@@ -2,7 +2,7 @@
 use Rattle.std.proofs.Common.{◌≡◌, ℕ, ◌/◌, ◌≤◌, [], length, ap, ◌∙◌, arith, false, Bool, Some, Option, subst, sym}
 use Rattle.std.proofs.Math.ListN.{length-replicate}
 use Rattle.std.specs.List.{range_with_len}
-use Rattle.case_journal.specs.Standing.{Journaled}
+use Rattle.store_journal.specs.Standing.{Journaled}
 use Rattle.intake.specs.Parts.{StreamParts}
 use Rattle.intake.specs.Sound.{IsSound, IsFilling, IsClosedIf}
 use Rattle.intake.specs.Contents.{zero_block}

@@ -2,8 +2,8 @@
 use Rattle.std.proofs.Common.{◌≡◌, ◌≢◌, ⊎_elim, ℕ, ◌+◌, ◌/◌, ◌%◌, ◌<◌, ◌≤◌, List, [], ◌∷◌, map, sym, ap, ◌∙◌, arith, false, Bool, Option, Some, None, Ok, Err}
 use Rattle.std.proofs.lemmas.List.Sums.{sum_by-cons}
 use Rattle.std.specs.Prelude.{sum_by, option_map, slice_set}
-use Rattle.case_journal.specs.Case.{Case}
-use Rattle.case_journal.specs.Standing.{Journaled}
+use Rattle.store_journal.specs.Case.{Case}
+use Rattle.store_journal.specs.Standing.{Journaled}
 use Rattle.intake.specs.declared.faults.ArchiveFault.{ArchiveFault}
 use Rattle.intake.specs.declared.faults.ArchiveFault.TheVariants as fault
 use Rattle.intake.specs.State.{BareCase, BareStream, blocks_for, blocks_in, filled_by}

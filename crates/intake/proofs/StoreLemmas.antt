@@ -4,13 +4,13 @@ use Rattle.std.specs.List.{range_with_len}
 use Rattle.std.proofs.lemmas.List.{map-append}
 use Rattle.disk_model.specs.Places.{SameOutside}
 use Rattle.extents.specs.Runs.{runs_of}
-use Rattle.case_journal.specs.declared.faults.JournalFault.{JournalFault}
-use Rattle.case_journal.specs.declared.faults.JournalFault.TheVariants as journal_fault
-use Rattle.case_journal.specs.Layout.{half_start, half_length, disk_length}
-use Rattle.case_journal.specs.Case.{Case, numbered}
-use Rattle.case_journal.specs.Standing.{Journaled, stored}
-use Rattle.case_journal.specs.Append.{StoreRefused, HasRoom, running}
-use Rattle.case_journal.specs.Record.{store_size}
+use Rattle.store_journal.specs.declared.faults.JournalFault.{JournalFault}
+use Rattle.store_journal.specs.declared.faults.JournalFault.TheVariants as journal_fault
+use Rattle.store_journal.specs.Layout.{half_start, half_length, disk_length}
+use Rattle.store_journal.specs.Case.{Case, numbered}
+use Rattle.store_journal.specs.Standing.{Journaled, stored}
+use Rattle.store_journal.specs.Append.{StoreRefused, HasRoom, running}
+use Rattle.store_journal.specs.Record.{store_size}
 use Rattle.intake.specs.declared.faults.ArchiveFault.{ArchiveFault}
 use Rattle.intake.specs.declared.faults.ArchiveFault.TheVariants as fault
 use Rattle.intake.specs.declared.stream.Stream.{Stream}

@@ -1,11 +1,11 @@
 -- How a stream is closed: a block for the bytes that fill none.
 use Rattle.std.specs.Prelude.{◌≡◌, ◌≢◌, ◌⊎◌, false, ℕ, ◌%◌, ◌^◌, ◌<◌, List, [], ◌∷◌, ◌++◌, take, Result, Ok, Err}
-use Rattle.case_journal.specs.declared.shape.Shape.{Shape}
-use Rattle.case_journal.specs.declared.faults.JournalFault.{JournalFault}
-use Rattle.case_journal.specs.Append.{HasRoom, StoreRefused, running}
-use Rattle.case_journal.specs.Case.{Case}
-use Rattle.case_journal.specs.Record.{store_size}
-use Rattle.case_journal.specs.Standing.{Journaled, stored}
+use Rattle.store_journal.specs.declared.shape.Shape.{Shape}
+use Rattle.store_journal.specs.declared.faults.JournalFault.{JournalFault}
+use Rattle.store_journal.specs.Append.{HasRoom, StoreRefused, running}
+use Rattle.store_journal.specs.Case.{Case}
+use Rattle.store_journal.specs.Record.{store_size}
+use Rattle.store_journal.specs.Standing.{Journaled, stored}
 use Rattle.intake.specs.Faults.{fault_of}
 use Rattle.intake.specs.declared.faults.ArchiveFault.{ArchiveFault}
 use Rattle.intake.specs.declared.faults.ArchiveFault.TheVariants.{SpaceFull, OutOfMemory, Disk}

@@ -1,6 +1,6 @@
 -- How an image grows by a block.
 use Rattle.std.specs.Prelude.{◌≡◌, ◌≢◌, Bool, true, false, ◌⊎◌, ℕ, ◌+◌, ◌%◌, ◌/◌, ◌<◌, ◌≤◌, [], ◌∷◌, ◌++◌, Result, Ok, Err}
-use Rattle.case_journal.specs.declared.shape.Shape.{Shape}
+use Rattle.store_journal.specs.declared.shape.Shape.{Shape}
 use Rattle.intake.specs.Contents.{zero_block}
 use Rattle.intake.specs.Parts.{StreamParts}
 use Rattle.intake.specs.declared.faults.ArchiveFault.{ArchiveFault}

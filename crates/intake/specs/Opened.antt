@@ -1,11 +1,11 @@
 -- What opening an archive answers, and the cases that it shows.
 use Rattle.std.specs.Prelude.{◌≡◌, ℕ, false, true, List, [], ◌∷◌, None, Result, Ok, Err, map}
 use Rattle.std.specs.Borrow.{Bor}
-use Rattle.case_journal.specs.declared.faults.OpenFault.{OpenFault}
-use Rattle.case_journal.specs.declared.faults.OpenFault.TheVariants.{NotAnArchive, UnknownVersion, Damaged, Disk, OutOfMemory}
-use Rattle.case_journal.specs.declared.entry.Entry.{Entry}
-use Rattle.case_journal.specs.Case.{case_of}
-use Rattle.case_journal.specs.Standing.{Standing}
+use Rattle.store_journal.specs.declared.faults.OpenFault.{OpenFault}
+use Rattle.store_journal.specs.declared.faults.OpenFault.TheVariants.{NotAnArchive, UnknownVersion, Damaged, Disk, OutOfMemory}
+use Rattle.store_journal.specs.declared.entry.Entry.{Entry}
+use Rattle.store_journal.specs.Case.{case_of}
+use Rattle.store_journal.specs.Standing.{Standing}
 use Rattle.intake.specs.declared.faults.ArchiveFault.{ArchiveFault}
 use Rattle.intake.specs.declared.faults.ArchiveFault.TheVariants as fault
 use Rattle.intake.specs.Parts.{Parts}

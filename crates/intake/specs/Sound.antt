@@ -1,9 +1,9 @@
 -- What holds of every archive: its cases fill the first data blocks, one behind the other, and a stream those behind them.
 use Rattle.std.specs.Prelude.{◌≡◌, ℕ, ◌+◌, ◌/◌, ◌≤◌, Bool, true, false, List, [], ◌∷◌, Option, None, Some, length}
 use Rattle.std.specs.List.{range_with_len}
-use Rattle.case_journal.specs.Layout.{IsWithinLimits, disk_length}
-use Rattle.case_journal.specs.Case.{Case}
-use Rattle.case_journal.specs.Standing.{Journaled}
+use Rattle.store_journal.specs.Layout.{IsWithinLimits, disk_length}
+use Rattle.store_journal.specs.Case.{Case}
+use Rattle.store_journal.specs.Standing.{Journaled}
 use Rattle.intake.specs.State.{blocks_for}
 use Rattle.intake.specs.Parts.{StreamParts}
 

@@ -3,8 +3,8 @@
 use Rattle.std.specs.Prelude.{◌≡◌, ◌≢◌, ℕ, ◌+◌, ◌*◌, ◌%◌, ◌^◌, ◌<◌, ◌≤◌, Bool, true, false, List, [], ◌∷◌, ◌++◌, length, Option, None, Some, Result, Ok, Err, slice_set, ◌||◌}
 use Rattle.std.specs.List.{list_any}
 use Rattle.std.specs.Str.{bytes_eq}
-use Rattle.case_journal.specs.Layout.{half_length}
-use Rattle.case_journal.specs.Record.{rounded}
+use Rattle.store_journal.specs.Layout.{half_length}
+use Rattle.store_journal.specs.Record.{rounded}
 use Rattle.intake.specs.declared.faults.ArchiveFault.{ArchiveFault}
 use Rattle.intake.specs.declared.faults.ArchiveFault.TheVariants.{Stopped, BadSlot, SlotBusy, NameTaken, NoStream, TooLong, SpaceFull, JournalFull, NumbersSpent, OutOfMemory, Disk}
 use Rattle.intake.specs.Slots.{stream_at, closed}

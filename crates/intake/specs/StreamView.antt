@@ -1,6 +1,6 @@
 -- What contracts see of a stream.
 use Rattle.std.specs.Prelude.{ℕ, false, List, []}
-use Rattle.case_journal.specs.Case.{Case}
+use Rattle.store_journal.specs.Case.{Case}
 use Rattle.intake.specs.declared.stream.Stream.{Stream}
 use Rattle.intake.specs.Parts.{StreamParts}
 

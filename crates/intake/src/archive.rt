@@ -1,7 +1,7 @@
 // The archive: its cases, and the stream on its way into it.
 ghost use Rattle.std.specs.Prelude.{◌≡◌, ◌<◌, ◌≤◌, [], length, OnOk, option_map, IsTrue, IfOk, IfErr, Err};
 ghost use Rattle.disk_model.specs.Disk.{HasRisen};
-ghost use Rattle.case_journal.specs.Opening.{opening};
+ghost use Rattle.store_journal.specs.Opening.{opening};
 ghost use Rattle.intake.specs.Step.{is_taken, has_name};
 ghost use Rattle.intake.specs.Parts.{bare_stream};
 ghost use Rattle.intake.specs.StreamView.{parts_of};
@@ -9,13 +9,13 @@ ghost use Rattle.intake.specs.Room.{IsFreeFrom};
 ghost use Rattle.intake.specs.declared.stream.Stream.{Stream};
 ghost use Rattle.std.specs.List.{list_any};
 ghost use Rattle.std.specs.Str.{bytes_eq};
-ghost use Rattle.case_journal.specs.declared.entry.Entry.{Entry};
+ghost use Rattle.store_journal.specs.declared.entry.Entry.{Entry};
 
 use crate::ArchiveFault;
 use crate::blocks::{Space, append_case, blocks_for, grow, seal, stops};
 use crate::buffer::Buffer;
 use crate::stream::Stream;
-use case_journal::{Entry, Journal, Kind, Name, OpenFault};
+use store_journal::{Entry, Journal, Kind, Name, OpenFault};
 use disk_model::Disk;
 use extents::RunList;
 use std::alloc::Global;

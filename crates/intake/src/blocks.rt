@@ -2,11 +2,11 @@
 ghost use Rattle.std.specs.Prelude.{◌≡◌, ◌+◌, ◌%◌, ◌<◌, ◌≤◌, ◌++◌, ◌∷◌, [], length, IsTrue, OnOk, OnErr};
 ghost use Rattle.disk_model.specs.Places.{overwritten, SameOutside};
 ghost use Rattle.disk_model.specs.Disk.{HasRisen};
-ghost use Rattle.case_journal.specs.Layout.{IsWithinLimits, disk_length, half_start, half_length};
+ghost use Rattle.store_journal.specs.Layout.{IsWithinLimits, disk_length, half_start, half_length};
 ghost use Rattle.intake.specs.Blocks.{block_start, block_bytes};
 ghost use Rattle.intake.specs.Growth.{BlockReply, IsDiskFault, Grows, NeedsBlock, next_block, stops_at};
 ghost use Rattle.intake.specs.Closing.{Closes, HoldsRest, Appends};
-ghost use Rattle.case_journal.specs.Case.{case_of};
+ghost use Rattle.store_journal.specs.Case.{case_of};
 ghost use Rattle.intake.specs.State.{blocks_for};
 ghost use Rattle.intake.specs.Sound.{IsFilling};
 ghost use Rattle.intake.specs.StreamView.{parts_of};
@@ -14,7 +14,7 @@ ghost use Rattle.intake.specs.StreamView.{parts_of};
 use crate::ArchiveFault;
 use crate::buffer::Buffer;
 use crate::stream::Stream;
-use case_journal::{BLOCK, Entry, Journal, Shape};
+use store_journal::{BLOCK, Entry, Journal, Shape};
 use disk_model::Disk;
 use extents::{Run, RunList};
 

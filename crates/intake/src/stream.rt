@@ -1,9 +1,9 @@
 // A stream: an image on its way into the archive.
 ghost use Rattle.std.specs.Prelude.{◌≡◌};
-ghost use Rattle.case_journal.specs.Case.{case_of};
+ghost use Rattle.store_journal.specs.Case.{case_of};
 ghost use Rattle.intake.specs.StreamView.{case_from_stream};
 
-use case_journal::{Entry, Kind, Name};
+use store_journal::{Entry, Kind, Name};
 use extents::RunList;
 
 /// The facts of an image that is streamed, and what it has taken so far.

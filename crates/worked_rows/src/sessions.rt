@@ -1,5 +1,5 @@
 // Scripts over a fresh archive in memory, and the replies to them.
-use case_journal::{Shape, format};
+use store_journal::{Shape, format};
 use disk_model::{Disk, MemDisk};
 use inspector_cli::{ReadInput, SessionFault, WriteOutput, run_session};
 use intake::{Archive, Settings};

@@ -1,6 +1,6 @@
 use Rattle.std.proofs.Common.{◌≡◌, ◌∙◌, ap, sym, arith, [], ◌∷◌, Option, Ok, Err, subst}
 use Rattle.std.specs.Prelude.{option_map}
-use Rattle.case_journal.specs.declared.shape.Shape.{Shape}
+use Rattle.store_journal.specs.declared.shape.Shape.{Shape}
 use Rattle.intake.specs.Blocks.{block_start, block_bytes}
 use Rattle.intake.specs.Contents.{RefusedBytes}
 use Rattle.intake.specs.Growth.{Grows, next_block}

@@ -1,7 +1,7 @@
 use Rattle.std.proofs.Common.{◌≡◌, ◌∙◌, ap, sym, arith, ℕ, ◌+◌, [], ◌∷◌, Option, None, Ok, Err, subst, length}
 use Rattle.std.specs.Prelude.{option_map}
 use Rattle.disk_model.specs.Places.{SameOutside}
-use Rattle.case_journal.specs.declared.shape.Shape.{Shape}
+use Rattle.store_journal.specs.declared.shape.Shape.{Shape}
 use Rattle.intake.specs.Blocks.{block_start}
 use Rattle.intake.specs.Contents.{RefusedBytes, FinishBytes}
 use Rattle.intake.specs.Growth.{next_block}
@@ -13,7 +13,7 @@ use Rattle.intake.specs.Step.{FinishStep}
 use Rattle.intake.specs.Sound.{IsSound}
 use Rattle.std.proofs.lemmas.List.FromFn.{length-range_with_len}
 use Rattle.disk_model.specs.PlaceLaws.{same_as_it_was}
-use Rattle.case_journal.specs.Case.{Case, case_of}
+use Rattle.store_journal.specs.Case.{Case, case_of}
 use Rattle.intake.specs.State.{blocks_for}
 use Rattle.intake.proofs.AdvanceLemmas.{filling_is}
 use Rattle.intake.proofs.FinishLemmas.{closed_as}

@@ -1,0 +1,4 @@
+pub mod FormatLemmas
+pub mod OpenLemmas
+pub mod PublishLemmas
+pub mod RecordLemmas

@@ -1,0 +1,12 @@
+use Rattle.std.proofs.Common.{◌∙◌, ap, sym, ℕ}
+use Rattle.store_journal.specs.Opening.{is_shape_of}
+use Rattle.store_journal.proofs.FormatLemmas.{formatted_opens, shape_tells}
+use Rattle.store_journal.proofs.formatting.format.Goals as goal
+
+pub returns-clause-made : goal.returns-clause-made
+returns-clause-made g c honest =
+    let told = shape_tells c.args.shape (g.D.Disk.size c.args.disk.now) (ap (λ (n : ℕ). is_shape_of n c.args.shape) (sym c.length.ensures) ∙ sym c.is_shape_of.ensures ∙ c.if-not-is_shape_of.false) in
+    let still = c.write_headers.ensures.honesty ∙ honest in
+    formatted_opens c.args.shape _ _ told.0
+    (g.met.D.Disk.whole c.write_headers.new.disk still ∙ c.write_headers.ensures.size ∙ sym told.1)
+    (c.in-Ok.ensures.headers honest) (c.in-Ok-write_stable.ensures.stable still).1

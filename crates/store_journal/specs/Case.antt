@@ -1,0 +1,35 @@
+-- A case as the journal keeps it: the facts of an image and the blocks that hold it.
+use Rattle.std.specs.Prelude.{ℕ, Bool, List}
+use Rattle.store_journal.specs.declared.entry.Kind.{Kind}
+use Rattle.store_journal.specs.declared.entry.Entry.{Entry}
+
+pub record Case : Type 0 where
+  pub seq : ℕ
+  pub kind : Kind
+  pub name : List ℕ
+  pub pid : ℕ
+  pub signal : ℕ
+  pub time : ℕ
+  pub pinned : Bool
+  -- the image's bytes
+  pub len : ℕ
+  -- the blocks that hold them, in order
+  pub blocks : List ℕ
+
+-- what an entry says
+abbrev pub case_of : Entry → Case
+case_of e = record {
+  seq = e.seq;
+  kind = e.kind;
+  name = e.name.items;
+  pid = e.pid;
+  signal = e.signal;
+  time = e.time;
+  pinned = e.pinned;
+  len = e.length;
+  blocks = e.runs;
+}
+
+-- the same case under another number
+abbrev pub numbered : ℕ → Case → Case
+numbered seq c = record c { seq = seq }

@@ -1,0 +1,10 @@
+pub mod Append
+pub mod Case
+pub mod FieldNames
+pub mod Formatted
+pub mod Kept
+pub mod Layout
+pub mod OpenHeader
+pub mod Opening
+pub mod Record
+pub mod Standing

@@ -1,0 +1,103 @@
+// Making an archive with no case.
+ghost use Rattle.std.specs.Prelude.{◌≡◌, ◌↔◌, ◌≤◌, false, ◌∷◌, ◌++◌, [], replicate, length, IsTrue, OnOk, Ok, Err};
+ghost use Rattle.disk_model.specs.Places.{part};
+ghost use Rattle.disk_model.specs.Disk.{HasCause, HasRisen};
+ghost use Rattle.disk_model.specs.Moments.{IsSettled};
+ghost use Rattle.store_journal.specs.Layout.{superblock, half_header, disk_length, IsWithinLimits};
+ghost use Rattle.store_journal.specs.Opening.{opening, is_shape_of};
+ghost use Rattle.store_journal.specs.Formatted.{HasHeaders};
+ghost use Rattle.store_journal.specs.Standing.{fresh};
+
+use crate::open::{MAGIC, is_shape_of};
+use crate::record::GATE_OPEN;
+use crate::{BLOCK, FormatFault, Half, Shape};
+use byteorder::{ByteOrder, LittleEndian};
+use disk_model::{Disk, DiskFault, write_stable};
+
+// The superblock's bytes that are looked at, its gate closed.
+#[tactic(auto, unfolding(crate::specs::Layout::superblock, crate::specs::Layout::number_bytes))]
+fn superblock_bytes(shape: Shape) -> [u8; 24]
+    ensures { result ≡ 0 ∷ superblock shape }
+{
+    let mut bytes = [0; 24];
+    bytes[8..16].copy_from_slice(MAGIC);
+    LittleEndian::write_u32(&mut bytes[16..], shape.half_blocks);
+    LittleEndian::write_u32(&mut bytes[20..], shape.data_blocks);
+    bytes
+}
+
+// Puts the bytes of head at the front of a block.
+fn put_front(block: &mut [u8], head: &[u8])
+    requires { length head.now ≤ length block.old }
+    ensures { part block.new 0 (length head.now) ≡ head.now }
+{
+    block[..head.len()].copy_from_slice(head);
+}
+
+// The superblock, its gate closed.
+fn superblock_block(shape: Shape) -> [u8; 4096]
+    ensures front { part result 0 24 ≡ 0 ∷ superblock shape }
+    ensures size { length result ≡ 4096 }
+{
+    let mut block = [0; 4096];
+    put_front(&mut block, &superblock_bytes(shape));
+    block
+}
+
+// The first half's header of version 1 and generation 1, its gate open, and the closed gate of its first record.
+#[tactic(auto, unfolding(crate::specs::Layout::half_header, crate::specs::Layout::number_bytes))]
+fn first_header() -> [u8; 33]
+    ensures bytes { result ≡ 165 ∷ half_header 1 1 ++ 0 ∷ [] }
+    ensures size { length result ≡ 33 }
+{
+    let mut bytes = [0; 33];
+    bytes[0] = GATE_OPEN;
+    LittleEndian::write_u32(&mut bytes[4..], 1);
+    LittleEndian::write_u64(&mut bytes[8..], 1);
+    bytes
+}
+
+// Writes the superblock, its gate closed, and both halves' headers, and makes them stable.
+fn write_headers<D: Disk>(disk: &mut D, shape: Shape) -> Result<(), DiskFault>
+    requires limits { IsWithinLimits shape }
+    requires size { D.size disk.old ≡ disk_length shape }
+    ensures headers { IsTrue (D.is_honest disk.old)
+        → OnOk result (HasHeaders shape (D.seen disk.new)) }
+    ensures cause { HasCause (D.failures disk.old) (D.failures disk.new) result }
+    ensures honesty { D.is_honest disk.new ≡ D.is_honest disk.old }
+    ensures size { D.size disk.new ≡ D.size disk.old }
+{
+    disk.write_at(0, &superblock_block(shape))?;
+    disk.write_at(BLOCK, &first_header())?;
+    write_stable(disk, shape.half_start(Half::B), &[0])?;
+    Ok(())
+}
+
+/// Makes an archive of this shape with no case on the disk. Answers `BadShape` where the shape is outside its limits or
+/// is not the disk's, and then nothing was written, and else `Disk` where the disk failed. Until it answers `Ok`,
+/// nothing is promised of the disk: it is done again. It takes no memory.
+pub fn format<D: Disk>(disk: &mut D, shape: Shape) -> Result<(), FormatFault>
+    ensures shape { (result ≡ Err FormatFault.BadShape) ↔ (is_shape_of (D.size disk.old) shape
+        ≡ false) }
+    ensures untouched { result ≡ Err FormatFault.BadShape → disk.new ≡ disk.old }
+    // On an honest disk, what stands there then opens as an archive with no case, and a crash leaves it so.
+    ensures made { IsTrue (D.is_honest disk.old) → OnOk result (opening (D.seen disk.new)
+        ≡ Ok (fresh shape Half.A)) }
+    ensures stable { IsTrue (D.is_honest disk.old) → OnOk result (IsSettled D.Disk disk.new) }
+    ensures cause { result ≡ Err FormatFault.Disk
+        → HasRisen (D.failures disk.old) (D.failures disk.new) }
+    ensures later { D.failures disk.old ≤ D.failures disk.new }
+    ensures honesty { D.is_honest disk.new ≡ D.is_honest disk.old }
+    ensures size { D.size disk.new ≡ D.size disk.old }
+{
+    if !is_shape_of(disk.length(), shape) {
+        return Err(FormatFault::BadShape);
+    }
+    let Ok(()) = write_headers(disk, shape) else {
+        return Err(FormatFault::Disk);
+    };
+    let Ok(()) = write_stable(disk, 0, &[GATE_OPEN]) else {
+        return Err(FormatFault::Disk);
+    };
+    Ok(())
+}
