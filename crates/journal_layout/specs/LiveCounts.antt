@@ -1,5 +1,5 @@
 -- Laws of live cases in counts: how often a block is used, how many cases have a name, and how many blocks are used.
-use Rattle.std.proofs.Common.{◌≡◌, inl, inr, ℕ, ◌+◌, ◌^◌, ◌<◌, ◌≤◌, Bool, true, false, not, ◌||◌, nat_eq, nat_lt, List, [], ◌∷◌, ◌++◌, length, map, refl, sym, ap, ◌∙◌, subst, arith, cond}
+use Rattle.std.proofs.Common.{◌≡◌, inl, inr, ℕ, ◌+◌, ◌^◌, ◌<◌, ◌≤◌, Bool, true, false, not, ◌||◌, nat_eq, nat_lt, List, [], ◌∷◌, ◌++◌, length, map, refl, sym, ap, append_assoc, ◌∙◌, subst, arith, cond}
 use Rattle.std.proofs.lemmas.Bool.{ne_eqb, eq-eqb, cases_eq, cases_lt, cases_Bool, lt-ltb, le-ltb, or_parts, both_ways}
 use Rattle.std.proofs.lemmas.List.{length-append}
 use Rattle.std.proofs.lemmas.List.Concat.{length-flat_map}
@@ -8,13 +8,17 @@ use Rattle.std.proofs.lemmas.List.Sums.{sum_by-cons, sum_by_push}
 use Rattle.std.proofs.lemmas.List.Filters.{sum_by-filter_both}
 use Rattle.std.proofs.lemmas.Map.Steps.{length-le_from_distinct_below}
 use Rattle.std.proofs.lemmas.Slice.Eq.{bytes_eq-Decides}
-use Rattle.std.specs.List.{All, AllByRecursion, IsDistinct, count_by, sum_by, filter}
+use Rattle.std.specs.List.{All, AllByRecursion, Contains, IsDistinct, count_by, sum_by, filter, flat_map}
 use Rattle.std.specs.Str.{bytes_eq}
+use Rattle.extents.specs.declared.run_list.Run.{Run}
+use Rattle.extents.specs.Runs.{run_blocks, blocks_of, runs_of}
 use Rattle.journal_layout.specs.Case.{Case}
 use Rattle.journal_layout.specs.Folding.{is_among, dropped, pinned_as, with_pin, used_blocks, is_name_of}
 use Rattle.journal_layout.specs.Soundness.{AreSpare, Rise, uses, blocks_for}
 use Rattle.journal_layout.specs.SpareLaws.{uses-append, not_among}
+use Rattle.journal_layout.specs.ChainLaws.{blocks_back}
 use Rattle.journal_layout.specs.Live.{seq_of_case, IsWhole, AreNamedApart, AreLive, gone}
+use Rattle.journal_layout.specs.LiveFinds.{uses_among}
 use Rattle.journal_layout.specs.LiveLaws.{used-append, name_pinned}
 
 -- how often a block is used
@@ -32,6 +36,23 @@ case_uses_same k (c ∷ rest) =
     ∙ ap (λ (n : ℕ). n + sum_by (λ (d : Case). count_by (λ (b : ℕ). nat_eq b k) d.blocks) rest) (uses_same k c.blocks)
     ∙ ap (λ (n : ℕ). uses k c.blocks + n) (case_uses_same k rest)
     ∙ sym (uses-append k c.blocks (used_blocks rest))
+
+-- the runs of blocks hold the same blocks
+pub runs_uses : (k : ℕ) (blocks : List ℕ) → count_by (λ (b : ℕ). nat_eq b k) (blocks_of (runs_of blocks)) ≡ uses k blocks
+runs_uses k blocks = ap (λ (l : List ℕ). count_by (λ (b : ℕ). nat_eq b k) l) (blocks_back blocks) ∙ uses_same k blocks
+
+pub blocks_of-append : (rs ss : List Run) → blocks_of (rs ++ ss) ≡ blocks_of rs ++ blocks_of ss
+blocks_of-append [] ss = refl
+blocks_of-append (r ∷ rest) ss =
+    ap (λ (l : List ℕ). run_blocks r ++ l) (blocks_of-append rest ss) ∙ sym (append_assoc (run_blocks r) (blocks_of rest) (blocks_of ss))
+
+-- the runs of all cases, one case after another, hold the blocks of the cases
+pub used_runs : (cases : List Case) → blocks_of (flat_map (λ (c : Case). runs_of c.blocks) cases) ≡ used_blocks cases
+used_runs [] = refl
+used_runs (c ∷ rest) =
+    blocks_of-append (runs_of c.blocks) (flat_map (λ (d : Case). runs_of d.blocks) rest)
+    ∙ ap (λ (l : List ℕ). l ++ blocks_of (flat_map (λ (d : Case). runs_of d.blocks) rest)) (blocks_back c.blocks)
+    ∙ ap (λ (l : List ℕ). c.blocks ++ l) (used_runs rest)
 
 -- how many cases have a name
 
@@ -122,6 +143,12 @@ live_apart limit cases next live k =
         | inr some ↦ absurd (omega (arith, live.within k (omega (arith, some))))
       ])
     ]
+
+-- the runs of a live case hold data blocks, each of them once
+pub live_runs : (limit : ℕ) (cases : List Case) (next : ℕ) (c : Case) → AreLive limit cases next → Contains cases c
+    → (k : ℕ) → count_by (λ (b : ℕ). nat_eq b k) (blocks_of (runs_of c.blocks)) ≤ cond (nat_lt k limit) 1 0
+live_runs limit cases next c live among k =
+    omega (arith, live_apart limit cases next live k, case_uses_same k cases, runs_uses k c.blocks, uses_among k cases c among)
 
 -- no two cases have this name
 pub live_named : (limit : ℕ) (cases : List Case) (next : ℕ) → AreLive limit cases next → (name : List ℕ) → count_by (λ (c : Case). bytes_eq c.name name) cases ≤ 1
