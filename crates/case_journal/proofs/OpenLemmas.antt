@@ -13,6 +13,8 @@ use Rattle.journal_layout.specs.Folding.{Folded, nothing_yet}
 use Rattle.journal_layout.specs.Front.{front_opening}
 use Rattle.journal_layout.specs.FrontLaws.{front_limits, front_same}
 use Rattle.journal_layout.specs.ReadingLaws.{stands_once, stands_or_refused}
+use Rattle.journal_layout.specs.Live.{AreLive}
+use Rattle.journal_layout.specs.LiveLaws.{stands_live}
 use Rattle.journal_layout.specs.Standing.{Standing}
 use Rattle.journal_layout.specs.Stands.{AreRead, AreFaulty, Stands, records_start, records_area}
 use Rattle.journal_replay.specs.Said.{TellsFaulty}
@@ -104,6 +106,11 @@ module _ {D : Type 0} (g : disk.Ghosts D) where
       found (Err NotAnArchive) gives = stands_or_refused shows.shown s NotAnArchive there gives
       found (Err (UnknownVersion v)) gives = stands_or_refused shows.shown s (UnknownVersion v) there gives
       found (Err (Damaged at which)) gives = stands_or_refused shows.shown s (Damaged at which) there gives
+
+  -- the cases that are found are live
+  pub live_by : (d : D) (r : Result Journaled OpenFault) → ShowsOpening g d r → IfOk r (λ (j : Journaled). AreLive j.standing.shape.data_blocks j.standing.cases j.standing.next)
+  live_by d (Ok j) shows = stands_live shows.shown j.standing shows.gives
+  live_by d (Err fault) shows = tt
 
   -- and is what every crash leaves, once it was settled
   pub keeps_by : (old mid new : D) (r : Result Journaled OpenFault) → IsQuiet g old mid → IsQuiet g mid new → (IsTrue (g.is_honest old) → Only (g.seen old) (g.may_leave mid))

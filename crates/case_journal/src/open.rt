@@ -5,6 +5,7 @@ ghost use Rattle.disk_model.specs.Moments.{LeavesOnly};
 ghost use Rattle.journal_layout.specs.Layout.{disk_length, half_length, IsWithinLimits};
 ghost use Rattle.journal_layout.specs.Stands.{Stands, records_start};
 ghost use Rattle.journal_layout.specs.Standing.{Standing};
+ghost use Rattle.journal_layout.specs.Live.{AreLive};
 ghost use Rattle.case_journal.specs.Keeping.{Keeps};
 ghost use Rattle.case_journal.specs.Viewing.{IsView, Shows, ShowsOpening, IsQuiet, IsOpenRefusal, Finds};
 
@@ -96,6 +97,8 @@ impl Journal {
         // What the disk stands for is found, and nothing but the disk and the memory refuses it.
         ensures found { (s : Standing) → IsTrue (D.is_honest disk.old) → Stands (D.seen disk.old) s → Finds result s }
         ensures keeps { IfOk result (Keeps D.Disk disk.new) }
+        // What the cases of any archive are like: their numbers rise, no block is used twice, and so on.
+        ensures live { IfOk result (λ j. AreLive j.standing.shape.data_blocks j.standing.cases j.standing.next) }
         ensures runs { IfOk result (λ j. j.stopped ≡ false) }
         // A crash meanwhile leaves what one before could have left.
         ensures any_moment { IsTrue (D.is_honest disk.old)

@@ -1,5 +1,5 @@
 use Rattle.case_journal.specs.Viewing.{ShowsOpening}
-use Rattle.case_journal.proofs.OpenLemmas.{some_view, view_after, view_before, finds_by, keeps_by}
+use Rattle.case_journal.proofs.OpenLemmas.{some_view, view_after, view_before, finds_by, keeps_by, live_by}
 use Rattle.case_journal.proofs.journal.Journal.open.Goals as goal
 use Rattle.case_journal.proofs.journal.Journal.open.Given as given
 
@@ -25,3 +25,6 @@ pub returns-clause-keeps : goal.returns-clause-keeps
 returns-clause-keeps g c =
     keeps_by g.D.Disk c.args.disk.now c.settle.new.disk c.read_journal.new.disk c.read_journal.result c.settle.ensures.quiet c.read_journal.ensures.quiet
     c.in-Ok.ensures.settled (shows g c) c.read_journal.ensures.size
+
+pub returns-clause-live : goal.returns-clause-live
+returns-clause-live g c = live_by g.D.Disk c.args.disk.now c.read_journal.result (shows g c)
