@@ -1,7 +1,7 @@
-use store_journal::{Kind, Name, Shape, format};
 use disk_model::{Disk, Fuse, MemDisk};
 use intake::{Archive, ArchiveFault, Settings};
 use std::test::Fail;
+use store_journal::{Kind, Name, Shape, format};
 
 #[test]
 fn an_empty_image_is_stored(rt: HostRuntime) -> Result<(), Fail> {

@@ -1,12 +1,12 @@
 ghost use Rattle.std.specs.Prelude.{◌≤◌, length, IfOk};
 
-use store_journal::{
-    BadShape, Entry, Field, FormatFault, Half, Journal, Kind, Name, OpenFault, Shape, format,
-};
 use disk_model::{Disk, MemDisk};
 use extents::{Run, RunList};
 use std::alloc::Global;
 use std::test::Fail;
+use store_journal::{
+    BadShape, Entry, Field, FormatFault, Half, Journal, Kind, Name, OpenFault, Shape, format,
+};
 
 const SHAPE: Shape = Shape {
     half_blocks: 1,

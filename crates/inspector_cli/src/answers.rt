@@ -9,10 +9,10 @@ ghost use Rattle.inspector_cli.specs.Answering.{AnswersTo};
 
 use crate::command::Request;
 use crate::telling::{tell_begun, tell_cases, tell_no, tell_outcome, tell_stored};
-use store_journal::{Kind, Name};
 use disk_model::Disk;
 use intake::Archive;
 use script_streams::{Output, Reply};
+use store_journal::{Kind, Name};
 
 // Answers a line.
 pub(crate) fn answer_plain<O: Output, D: Disk>(

@@ -2,9 +2,9 @@
 
 use crate::session::SessionFault;
 use crate::telling::tell_no;
-use store_journal::{BadShape, FormatFault, OpenFault};
 use script_streams::{Output, Reply};
 use std::alloc::AllocError;
+use store_journal::{BadShape, FormatFault, OpenFault};
 
 // Why there is no archive.
 #[derive(Clone, Copy, Debug, PartialEq, Eq)]

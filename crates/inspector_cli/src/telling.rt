@@ -6,9 +6,9 @@ ghost use Rattle.intake.specs.Parts.{bare_case};
 ghost use Rattle.inspector_cli.specs.Reply.{ok_reply, no_reply, reason_of, plain_reply, begin_reply, end_reply, number_word, case_line, kind_name, pin_name};
 ghost use Rattle.inspector_cli.specs.Answering.{TellsText};
 
-use store_journal::{Entry, Kind};
 use intake::ArchiveFault;
 use script_streams::{Output, Reply};
+use store_journal::{Entry, Kind};
 
 // The name that a refusal is told by.
 pub(crate) fn reason(fault: ArchiveFault) -> &'static [u8]

@@ -1,13 +1,13 @@
 // The words of the program.
 use crate::faults::{Refusal, tell_fault, tell_refusal};
 use crate::run::run_session;
-use store_journal::{Shape, format};
 use clap::error::ErrorKind;
 use clap::{Arg, ArgAction, Command, Error, value_parser};
 use disk_model::MemDisk;
 use intake::{Archive, Settings};
 use script_streams::{Input, Output, Reply};
 use std::alloc::Global;
+use store_journal::{Shape, format};
 
 // What the words ask for: a session over a fresh archive in memory.
 #[derive(Clone, Copy)]

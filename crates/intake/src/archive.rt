@@ -15,11 +15,11 @@ use crate::ArchiveFault;
 use crate::blocks::{Space, append_case, blocks_for, grow, seal, stops};
 use crate::buffer::Buffer;
 use crate::stream::Stream;
-use store_journal::{Entry, Journal, Kind, Name, OpenFault};
 use disk_model::Disk;
 use extents::RunList;
 use std::alloc::Global;
 use std::marker::Model;
+use store_journal::{Entry, Journal, Kind, Name, OpenFault};
 
 /// How an archive is opened.
 #[derive(Clone, Copy, Debug, PartialEq, Eq)]

@@ -14,9 +14,9 @@ ghost use Rattle.intake.specs.StreamView.{parts_of};
 use crate::ArchiveFault;
 use crate::buffer::Buffer;
 use crate::stream::Stream;
-use store_journal::{BLOCK, Entry, Journal, Shape};
 use disk_model::Disk;
 use extents::{Run, RunList};
+use store_journal::{BLOCK, Entry, Journal, Shape};
 
 /// Where a data block begins on the disk, in bytes.
 fn block_start(shape: Shape, block: u32) -> u64

@@ -3,8 +3,8 @@ ghost use Rattle.std.specs.Prelude.{◌≡◌};
 ghost use Rattle.store_journal.specs.Case.{case_of};
 ghost use Rattle.intake.specs.StreamView.{case_from_stream};
 
-use store_journal::{Entry, Kind, Name};
 use extents::RunList;
+use store_journal::{Entry, Kind, Name};
 
 /// The facts of an image that is streamed, and what it has taken so far.
 #[derive(Drop)]

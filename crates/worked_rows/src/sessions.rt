@@ -1,10 +1,10 @@
 // Scripts over a fresh archive in memory, and the replies to them.
-use store_journal::{Shape, format};
 use disk_model::{Disk, MemDisk};
 use inspector_cli::{ReadInput, SessionFault, WriteOutput, run_session};
 use intake::{Archive, Settings};
 use std::alloc::{AllocError, Global};
 use std::test::Fail;
+use store_journal::{Shape, format};
 
 // A fresh archive of one block in each journal half and four data blocks.
 pub(crate) fn fresh(alloc: Global, limit: u64) -> Result<Archive<MemDisk>, Fail> {
