@@ -19,6 +19,7 @@ const STORE: [u8; 64] = [
 
 // Two that follow it: case 1 is dropped, and case 1 is pinned.
 const DROP: [u8; 16] = [0xa5, 2, 0, 0, 16, 0, 0, 0, 1, 0, 0, 0, 1, 0, 0, 0];
+
 const PIN: [u8; 16] = [0xa5, 3, 0, 0, 16, 0, 0, 0, 1, 0, 0, 0, 1, 0, 0, 0];
 
 // The next case gets number 1.
@@ -50,17 +51,47 @@ fn the_front_is_checked(rt: HostRuntime) -> Result<(), Fail> {
     let alloc = rt.alloc();
     let zeros = [0; 8];
     assert_eq!(rt; opening_of(alloc, &[])?, None);
-    assert_eq!(rt; opening_of(alloc, &[(0, &[0])])?, Some(OpenFault::NotAnArchive));
-    assert_eq!(rt; opening_of(alloc, &[(15, b"Q")])?, Some(OpenFault::NotAnArchive));
-    assert_eq!(rt; opening_of(alloc, &[(16, &[0])])?, damaged(16, Field::Shape));
-    assert_eq!(rt; opening_of(alloc, &[(20, &[5])])?, damaged(16, Field::Shape));
-    assert_eq!(rt; opening_of(alloc, &[(4096, &[0])])?, damaged(4096, Field::Gate));
-    assert_eq!(rt; opening_of(alloc, &[(4104, &zeros)])?, damaged(4104, Field::Generation));
-    assert_eq!(rt; opening_of(alloc, &[(8192, &[0xa5])])?, damaged(8200, Field::Generation));
-    assert_eq!(rt; opening_of(alloc, &[(8192, &[0xa5]), (8200, &[1])])?, damaged(8200, Field::Generation));
-    assert_eq!(rt; opening_of(alloc, &[(4100, &[7])])?, Some(OpenFault::UnknownVersion(7)));
+    assert_eq!(rt;
+        opening_of(alloc, &[(0, &[0])])?,
+        Some(OpenFault::NotAnArchive)
+    );
+    assert_eq!(rt;
+        opening_of(alloc, &[(15, b"Q")])?,
+        Some(OpenFault::NotAnArchive)
+    );
+    assert_eq!(rt;
+        opening_of(alloc, &[(16, &[0])])?,
+        damaged(16, Field::Shape)
+    );
+    assert_eq!(rt;
+        opening_of(alloc, &[(20, &[5])])?,
+        damaged(16, Field::Shape)
+    );
+    assert_eq!(rt;
+        opening_of(alloc, &[(4096, &[0])])?,
+        damaged(4096, Field::Gate)
+    );
+    assert_eq!(rt;
+        opening_of(alloc, &[(4104, &zeros)])?,
+        damaged(4104, Field::Generation)
+    );
+    assert_eq!(rt;
+        opening_of(alloc, &[(8192, &[0xa5])])?,
+        damaged(8200, Field::Generation)
+    );
+    assert_eq!(rt;
+        opening_of(alloc, &[(8192, &[0xa5]), (8200, &[1])])?,
+        damaged(8200, Field::Generation)
+    );
+    assert_eq!(rt;
+        opening_of(alloc, &[(4100, &[7])])?,
+        Some(OpenFault::UnknownVersion(7))
+    );
     // The half with the greater generation is taken, and its version is looked at.
-    assert_eq!(rt; opening_of(alloc, &[(8192, &[0xa5]), (8196, &[9]), (8200, &[2])])?, Some(OpenFault::UnknownVersion(9)));
+    assert_eq!(rt;
+        opening_of(alloc, &[(8192, &[0xa5]), (8196, &[9]), (8200, &[2])])?,
+        Some(OpenFault::UnknownVersion(9))
+    );
     Ok(())
 }
 
@@ -68,12 +99,26 @@ fn the_front_is_checked(rt: HostRuntime) -> Result<(), Fail> {
 fn what_each_record_begins_with_is_checked(rt: HostRuntime) -> Result<(), Fail> {
     let alloc = rt.alloc();
     for kind in [0, 5, 9] {
-        assert_eq!(rt; opening_of(alloc, &[(4128, &STORE), (4129, &[kind])])?, damaged(4129, Field::Kind), "kind {kind}");
+        assert_eq!(rt;
+            opening_of(alloc, &[(4128, &STORE), (4129, &[kind])])?,
+            damaged(4129, Field::Kind),
+            "kind {kind}"
+        );
     }
-    assert_eq!(rt; opening_of(alloc, &[(4128, &STORE), (4130, &[1])])?, damaged(4130, Field::Reserved));
-    assert_eq!(rt; opening_of(alloc, &[(4128, &STORE), (4131, &[1])])?, damaged(4130, Field::Reserved));
+    assert_eq!(rt;
+        opening_of(alloc, &[(4128, &STORE), (4130, &[1])])?,
+        damaged(4130, Field::Reserved)
+    );
+    assert_eq!(rt;
+        opening_of(alloc, &[(4128, &STORE), (4131, &[1])])?,
+        damaged(4130, Field::Reserved)
+    );
     for length in [[0, 0], [8, 0], [65, 0], [0xe0, 15], [0xf0, 15]] {
-        assert_eq!(rt; opening_of(alloc, &[(4128, &STORE), (4132, &length)])?, damaged(4132, Field::Length), "length {length:?}");
+        assert_eq!(rt;
+            opening_of(alloc, &[(4128, &STORE), (4132, &length)])?,
+            damaged(4132, Field::Length),
+            "length {length:?}"
+        );
     }
     Ok(())
 }
@@ -88,7 +133,10 @@ fn a_record_at_the_very_end_has_no_room(rt: HostRuntime) -> Result<(), Fail> {
     }
     assert_eq!(rt; opening_of(alloc, &[(4128, &half)])?, None);
     half[4048] = 0xa5;
-    assert_eq!(rt; opening_of(alloc, &[(4128, &half)])?, damaged(8180, Field::Length));
+    assert_eq!(rt;
+        opening_of(alloc, &[(4128, &half)])?,
+        damaged(8180, Field::Length)
+    );
     Ok(())
 }
 
@@ -111,10 +159,17 @@ fn the_facts_of_a_store_record_are_checked(rt: HostRuntime) -> Result<(), Fail> 
         (4184, 0, 4184, Field::Name),
     ];
     for (at, byte, place, field) in table {
-        assert_eq!(rt; opening_of(alloc, &[(4128, &STORE), (at, &[byte])])?, damaged(place, field), "at {at}");
+        assert_eq!(rt;
+            opening_of(alloc, &[(4128, &STORE), (at, &[byte])])?,
+            damaged(place, field),
+            "at {at}"
+        );
     }
     // A name of seven bytes leaves a byte that fills the record up.
-    assert_eq!(rt; opening_of(alloc, &[(4128, &STORE), (4142, &[7])])?, damaged(4191, Field::Padding));
+    assert_eq!(rt;
+        opening_of(alloc, &[(4128, &STORE), (4142, &[7])])?,
+        damaged(4191, Field::Padding)
+    );
     Ok(())
 }
 
@@ -125,9 +180,20 @@ fn a_store_record_goes_with_those_before_it(rt: HostRuntime) -> Result<(), Fail>
     assert_eq!(rt; opening_of(alloc, &both)?, damaged(4200, Field::Seq));
     let second = [(4128, STORE.as_slice()), (4192, &STORE), (4200, &[2])];
     assert_eq!(rt; opening_of(alloc, &second)?, damaged(4240, Field::Run));
-    let third = [(4128, STORE.as_slice()), (4192, &STORE), (4200, &[2]), (4240, &[1])];
+    let third = [
+        (4128, STORE.as_slice()),
+        (4192, &STORE),
+        (4200, &[2]),
+        (4240, &[1]),
+    ];
     assert_eq!(rt; opening_of(alloc, &third)?, damaged(4248, Field::Name));
-    let fourth = [(4128, STORE.as_slice()), (4192, &STORE), (4200, &[2]), (4240, &[1]), (4255, b"p")];
+    let fourth = [
+        (4128, STORE.as_slice()),
+        (4192, &STORE),
+        (4200, &[2]),
+        (4240, &[1]),
+        (4255, b"p"),
+    ];
     assert_eq!(rt; opening_of(alloc, &fourth)?, None);
     Ok(())
 }
@@ -152,11 +218,18 @@ fn the_runs_of_a_store_record_are_checked(rt: HostRuntime) -> Result<(), Fail> {
     ] {
         record[56] = start;
         record[60] = 1;
-        assert_eq!(rt; opening_of(alloc, &[(4128, &record)])?, fault, "from {start}");
+        assert_eq!(rt;
+            opening_of(alloc, &[(4128, &record)])?,
+            fault,
+            "from {start}"
+        );
     }
     record[56] = 2;
     record[60] = 0;
-    assert_eq!(rt; opening_of(alloc, &[(4128, &record)])?, damaged(4184, Field::Run));
+    assert_eq!(rt;
+        opening_of(alloc, &[(4128, &record)])?,
+        damaged(4184, Field::Run)
+    );
     Ok(())
 }
 
@@ -164,25 +237,46 @@ fn the_runs_of_a_store_record_are_checked(rt: HostRuntime) -> Result<(), Fail> {
 fn drop_records_are_checked(rt: HostRuntime) -> Result<(), Fail> {
     let alloc = rt.alloc();
     assert_eq!(rt; opening_of(alloc, &[(4128, &STORE), (4192, &DROP)])?, None);
-    assert_eq!(rt; opening_of(alloc, &[(4128, &STORE), (4192, &DROP), (4200, &[0])])?, damaged(4200, Field::Count));
-    assert_eq!(rt; opening_of(alloc, &[(4128, &STORE), (4192, &DROP), (4200, &[2])])?, damaged(4200, Field::Count));
-    assert_eq!(rt; opening_of(alloc, &[(4128, &STORE), (4192, &DROP), (4204, &[2])])?, damaged(4204, Field::Seq));
-    assert_eq!(rt; opening_of(alloc, &[(4128, &STORE), (4141, &[1]), (4192, &DROP)])?, damaged(4204, Field::Seq));
+    assert_eq!(rt;
+        opening_of(alloc, &[(4128, &STORE), (4192, &DROP), (4200, &[0])])?,
+        damaged(4200, Field::Count)
+    );
+    assert_eq!(rt;
+        opening_of(alloc, &[(4128, &STORE), (4192, &DROP), (4200, &[2])])?,
+        damaged(4200, Field::Count)
+    );
+    assert_eq!(rt;
+        opening_of(alloc, &[(4128, &STORE), (4192, &DROP), (4204, &[2])])?,
+        damaged(4204, Field::Seq)
+    );
+    assert_eq!(rt;
+        opening_of(alloc, &[(4128, &STORE), (4141, &[1]), (4192, &DROP)])?,
+        damaged(4204, Field::Seq)
+    );
     // Two numbers, of which the second does not rise, and zeros that fill the record up.
     let mut two = [0; 32];
     two[..16].copy_from_slice(&DROP);
     two[4] = 32;
     two[8] = 2;
     two[16] = 1;
-    assert_eq!(rt; opening_of(alloc, &[(4128, &STORE), (4192, &two)])?, damaged(4208, Field::Seq));
+    assert_eq!(rt;
+        opening_of(alloc, &[(4128, &STORE), (4192, &two)])?,
+        damaged(4208, Field::Seq)
+    );
     let mut other = STORE;
     other[8] = 2;
     other[48] = 1;
     other[63] = b'p';
     two[16] = 2;
-    assert_eq!(rt; opening_of(alloc, &[(4128, &STORE), (4192, &other), (4256, &two)])?, None);
+    assert_eq!(rt;
+        opening_of(alloc, &[(4128, &STORE), (4192, &other), (4256, &two)])?,
+        None
+    );
     two[31] = 1;
-    assert_eq!(rt; opening_of(alloc, &[(4128, &STORE), (4192, &other), (4256, &two)])?, damaged(4287, Field::Padding));
+    assert_eq!(rt;
+        opening_of(alloc, &[(4128, &STORE), (4192, &other), (4256, &two)])?,
+        damaged(4287, Field::Padding)
+    );
     Ok(())
 }
 
@@ -196,7 +290,11 @@ fn pin_and_next_records_are_checked(rt: HostRuntime) -> Result<(), Fail> {
         (4204, 2, 4204, Field::Flag),
         (4206, 1, 4206, Field::Padding),
     ] {
-        assert_eq!(rt; opening_of(alloc, &[(4128, &STORE), (4192, &PIN), (at, &[byte])])?, damaged(place, field), "at {at}");
+        assert_eq!(rt;
+            opening_of(alloc, &[(4128, &STORE), (4192, &PIN), (at, &[byte])])?,
+            damaged(place, field),
+            "at {at}"
+        );
     }
     assert_eq!(rt; opening_of(alloc, &[(4128, &NEXT)])?, None);
     for (at, byte, place, field) in [
@@ -204,9 +302,16 @@ fn pin_and_next_records_are_checked(rt: HostRuntime) -> Result<(), Fail> {
         (4136, 0, 4136, Field::Next),
         (4140, 1, 4136, Field::Next),
     ] {
-        assert_eq!(rt; opening_of(alloc, &[(4128, &NEXT), (at, &[byte])])?, damaged(place, field), "at {at}");
+        assert_eq!(rt;
+            opening_of(alloc, &[(4128, &NEXT), (at, &[byte])])?,
+            damaged(place, field),
+            "at {at}"
+        );
     }
     // The greatest next number.
-    assert_eq!(rt; opening_of(alloc, &[(4128, &NEXT), (4136, &[0, 0, 0, 0, 1])])?, None);
+    assert_eq!(rt;
+        opening_of(alloc, &[(4128, &NEXT), (4136, &[0, 0, 0, 0, 1])])?,
+        None
+    );
     Ok(())
 }
