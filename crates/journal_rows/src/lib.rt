@@ -3,4 +3,12 @@
 #![tactic(auto)]
 
 #[cfg(test)]
+mod appends;
+#[cfg(test)]
+mod bench;
+#[cfg(test)]
 mod openings;
+#[cfg(test)]
+mod states;
+#[cfg(test)]
+mod stops;

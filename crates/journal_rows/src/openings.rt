@@ -47,9 +47,8 @@ fn damaged(at: u64, field: Field) -> Option<OpenFault> {
 }
 
 #[test]
-fn the_front_is_checked(rt: HostRuntime) -> Result<(), Fail> {
+fn the_superblock_is_checked(rt: HostRuntime) -> Result<(), Fail> {
     let alloc = rt.alloc();
-    let zeros = [0; 8];
     assert_eq!(rt; opening_of(alloc, &[])?, None);
     assert_eq!(rt;
         opening_of(alloc, &[(0, &[0])])?,
@@ -67,6 +66,13 @@ fn the_front_is_checked(rt: HostRuntime) -> Result<(), Fail> {
         opening_of(alloc, &[(20, &[5])])?,
         damaged(16, Field::Shape)
     );
+    Ok(())
+}
+
+#[test]
+fn the_headers_of_the_halves_are_checked(rt: HostRuntime) -> Result<(), Fail> {
+    let alloc = rt.alloc();
+    let zeros = [0; 8];
     assert_eq!(rt;
         opening_of(alloc, &[(4096, &[0])])?,
         damaged(4096, Field::Gate)
@@ -253,7 +259,13 @@ fn drop_records_are_checked(rt: HostRuntime) -> Result<(), Fail> {
         opening_of(alloc, &[(4128, &STORE), (4141, &[1]), (4192, &DROP)])?,
         damaged(4204, Field::Seq)
     );
-    // Two numbers, of which the second does not rise, and zeros that fill the record up.
+    Ok(())
+}
+
+// Two numbers, of which the second does not rise, and zeros that fill the record up.
+#[test]
+fn drop_records_of_two_cases_are_checked(rt: HostRuntime) -> Result<(), Fail> {
+    let alloc = rt.alloc();
     let mut two = [0; 32];
     two[..16].copy_from_slice(&DROP);
     two[4] = 32;

@@ -1,0 +1,69 @@
+-- What may be stored, from what is looked at when a test runs.
+use Rattle.std.proofs.Common.{◌≡◌, ◌≢◌, ℕ, zero, suc, ◌+◌, ◌/◌, ◌<◌, ◌≤◌, ◌||◌, Bool, false, List, [], ◌∷◌, nat_eq, map, length, refl, sym, ap, ◌∙◌, subst, arith}
+use Rattle.std.proofs.lemmas.Bool.{or_parts, ne_eqb, eqb-false}
+use Rattle.std.specs.List.{AllByRecursion, list_any}
+use Rattle.std.specs.Str.{bytes_eq}
+use Rattle.disk_model.specs.Places.{AreBytes}
+use Rattle.journal_layout.specs.declared.entry.Entry.{Entry}
+use Rattle.journal_layout.specs.Case.{Case, case_of}
+use Rattle.journal_layout.specs.Folding.{is_name_of, is_among}
+use Rattle.journal_layout.specs.Soundness.{IsName, IsStorable, uses}
+
+-- the names of the cases are those of the entries
+pub named_entries : (entries : List Entry) (name : List ℕ) → list_any (λ (e : Entry). bytes_eq e.name.items name) entries ≡ is_name_of (map case_of entries) name
+named_entries [] name = refl
+named_entries (e ∷ rest) name = ap (λ (t : Bool). bytes_eq e.name.items name || t) (named_entries rest name)
+
+-- a name without NUL
+pub no_nul : (name : List ℕ) → is_among name 0 ≡ false → AllByRecursion (λ (b : ℕ). b ≢ 0) name
+no_nul [] e = tt
+no_nul (b ∷ rest) e =
+    let h = or_parts (nat_eq 0 b) (list_any (nat_eq 0) rest) e in
+    ((λ s. eqb-false 0 b h.0 (sym s)), no_nul rest h.1)
+
+pub is_name : (name : List ℕ) → 1 ≤ length name → length name ≤ 128 → AreBytes name → is_among name 0 ≡ false → IsName name
+is_name name some short bytes none = record { some = some; short = short; bytes = bytes; no_nul = no_nul name none }
+
+-- an image with no byte
+pub empty_storable : (limit : ℕ) (cases : List Case) (c : Case) → IsName c.name → is_name_of cases c.name ≡ false
+    → c.pid ≡ 0 → c.signal ≡ 0 → c.time ≡ 0 → c.len ≡ 0 → c.blocks ≡ [] → IsStorable limit cases c
+empty_storable limit cases c name new pid signal time bytes none = record {
+  name = name;
+  new_name = new;
+  pid = omega (arith, pid);
+  signal = omega (arith, signal);
+  time = omega (arith, time);
+  bytes = omega (arith, bytes);
+  enough = ap (λ (l : List ℕ). length l) none ∙ sym (ap (λ (n : ℕ). (n + 4095) / 4096) bytes);
+  spare = λ k some. absurd (omega (arith, some, ap (uses k) none));
+}
+
+-- an image of 5 bytes in block 0, where there is no case
+pub first_storable : (limit : ℕ) (c : Case) → 0 < limit → IsName c.name
+    → c.pid ≡ 0 → c.signal ≡ 0 → c.time ≡ 0 → c.len ≡ 5 → c.blocks ≡ 0 ∷ [] → IsStorable limit [] c
+first_storable limit c blocks name pid signal time bytes one = record {
+  name = name;
+  new_name = refl;
+  pid = omega (arith, pid);
+  signal = omega (arith, signal);
+  time = omega (arith, time);
+  bytes = omega (arith, bytes);
+  enough = ap (λ (l : List ℕ). length l) one ∙ sym (ap (λ (n : ℕ). (n + 4095) / 4096) bytes);
+  spare = λ k some. only k (subst (λ (l : List ℕ). 0 < uses k l) one some) (ap (uses k) one);
+}
+  where
+    clash : 0 < 0 + 0 → ⊥
+    clash h = omega arith
+
+    only : (k : ℕ) → 0 < uses k (0 ∷ []) → uses k c.blocks ≡ uses k (0 ∷ []) → (k < limit) × (uses k c.blocks ≡ 1) × (uses k [] ≡ 0)
+    only zero some e = (blocks, e, refl)
+    only (suc k) some e = absurd (clash (rw (ne_eqb 0 (suc k) (λ s. omega (arith, s))) at some))
+
+-- where there is no entry, there is no case
+pub no_case : (entries : List Entry) (cases : List Case) → map case_of entries ≡ cases → length entries ≡ 0 → cases ≡ []
+no_case [] cases same none = sym same
+no_case (e ∷ rest) cases same none = absurd (omega (arith, none))
+
+-- a name of no entry is no name of a case
+pub not_named : (entries : List Entry) (cases : List Case) (name : List ℕ) → map case_of entries ≡ cases → is_name_of (map case_of entries) name ≡ false → is_name_of cases name ≡ false
+not_named entries cases name same new = subst (λ (l : List Case). is_name_of l name ≡ false) same new
