@@ -1,7 +1,6 @@
 pub mod AppendLemmas
 pub mod EntryLemmas
 pub mod FormatLemmas
-pub mod FrontLemmas
 pub mod OpenLemmas
 pub mod PublishLemmas
 pub mod RecordLemmas

@@ -15,7 +15,8 @@ use Rattle.journal_layout.specs.Stands.{AreRead, Stands, records_start, records_
 use Rattle.journal_layout.specs.RowLaws.{row_same, row_push, row_room, sizes_push, replayed_push}
 use Rattle.case_journal.specs.Append.{MayFollow}
 use Rattle.case_journal.specs.Keeping.{SameHeaders}
-use Rattle.case_journal.proofs.FrontLemmas.{limits_of, front_same}
+use Rattle.journal_layout.specs.FrontLaws.{front_same}
+use Rattle.journal_layout.specs.StandLaws.{stands_limits, stands_size}
 
 -- where the next record's gate stands
 abbrev pub gate_of : Standing → ℕ
@@ -42,7 +43,7 @@ headers_stay shape B at n d c limits same low high = let some = limits.some_half
 }
 
 pub limits_in : (b : List ℕ) (s : Standing) → Stands b s → IsWithinLimits s.shape × (length b ≡ disk_length s.shape)
-limits_in b s stands = limits_of b (front_of s) stands.front
+limits_in b s stands = (stands_limits b s stands, sym (stands_size b s stands))
 
 area_length : (b : List ℕ) (s : Standing) → Stands b s → length (records_area b s.shape s.half) ≡ half_length s.shape - 32
 area_length b s stands =
@@ -92,12 +93,13 @@ still_stands s n d c stands same within closed =
     let long : length c ≡ length d = same.same_length in
     let area = area_length d s stands in
     let ends = half_ends s.shape s.half in
+    let headers : SameHeaders s.shape d c = headers_stay s.shape s.half (gate_of s) n d c l.0 same (omega arith) (omega arith) in
     let area_c : length (records_area c s.shape s.half) ≡ length (records_area d s.shape s.half) =
     part_length c (records_start s.shape s.half) (half_length s.shape - 32) (let e = l.1 in omega arith) ∙ sym area in
     let e : half_start s.shape s.half + 32 + (s.used - 32) ≡ gate_of s = omega arith in
     record {
       front = front_same d c (front_of s) stands.front long (part_before (gate_of s) n d c same 0 24 (omega arith))
-          (headers_stay s.shape s.half (gate_of s) n d c l.0 same (omega arith) (omega arith));
+          headers.first headers.second;
       header = header;
       records = record {
         records = stands.records.records;
@@ -131,6 +133,7 @@ stands_after s r n d c stands same within fits sound spelled closed =
     let long : length c ≡ length d = same.same_length in
     let area = area_length d s stands in
     let ends = half_ends s.shape s.half in
+    let headers : SameHeaders s.shape d c = headers_stay s.shape s.half (gate_of s) n d c l.0 same (omega arith) (omega arith) in
     let area_c : length (records_area c s.shape s.half) ≡ length (records_area d s.shape s.half) =
     part_length c (records_start s.shape s.half) (half_length s.shape - 32) (let e = l.1 in omega arith) ∙ sym area in
     let rs = stands.records.records in
@@ -141,7 +144,7 @@ stands_after s r n d c stands same within fits sound spelled closed =
     let rest = length-drop (sizes rs) (records_area c s.shape s.half) in
     record {
       front = front_same d c (front_of s) stands.front long (part_before (gate_of s) n d c same 0 24 (omega arith))
-          (headers_stay s.shape s.half (gate_of s) n d c l.0 same (omega arith) (omega arith));
+          headers.first headers.second;
       header = omega arith;
       records = record {
         records = rs ++ r ∷ [];
@@ -171,7 +174,7 @@ data_apart s at n d c stands same low =
     let area : records_area c s.shape s.half ≡ records_area d s.shape s.half =
     part_before at n d c same (records_start s.shape s.half) (half_length s.shape - 32) (omega arith) in (
       record {
-        front = front_same d c (front_of s) stands.front same.same_length (part_before at n d c same 0 24 (omega arith)) headers;
+        front = front_same d c (front_of s) stands.front same.same_length (part_before at n d c same 0 24 (omega arith)) headers.first headers.second;
         header = stands.header;
         records = subst (λ (x : List ℕ). AreRead s.shape.data_blocks x nothing_yet (folded_of s) (s.used - 32)) (sym area) stands.records;
       },
