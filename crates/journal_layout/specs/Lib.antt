@@ -17,7 +17,6 @@ pub mod LiveFinds
 pub mod LiveLaws
 pub mod NextLaws
 pub mod PinLaws
-pub mod ReadSteps
 pub mod Reading
 pub mod ReadingLaws
 pub mod Record
