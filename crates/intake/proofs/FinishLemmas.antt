@@ -1,127 +1,258 @@
 -- How a stream becomes a case.
-use Rattle.std.proofs.Common.{◌≡◌, ◌≢◌, inl, inr, ⊎_elim, ℕ, ◌+◌, ◌*◌, ◌/◌, ◌%◌, ◌<◌, ◌≤◌, List, [], ◌∷◌, ◌++◌, length, take, map, zero, suc, refl, sym, ap, ◌∙◌, arith, Ok}
-use Rattle.std.specs.List.{range_with_len}
-use Rattle.std.proofs.lemmas.List.{append-nil, take_all, length-append}
-use Rattle.std.proofs.lemmas.List.Concat.{flat_map-append}
-use Rattle.std.proofs.lemmas.List.FromFn.{length-range_with_len}
-use Rattle.disk_model.specs.Places.{SameOutside}
-use Rattle.disk_model.specs.PartLaws.{part_after, part_length}
+use Rattle.std.proofs.Common.{◌≡◌, ◌≢◌, ⊎_elim, ℕ, ◌+◌, ◌%◌, ◌<◌, Bool, true, false, cond, List, [], ◌∷◌, ◌++◌, length, map, refl, sym, ap, ◌∙◌, subst, arith, Option, None, Some, Ok, Err}
+use Rattle.std.specs.Prelude.{option_map, slice_set, nat_lt}
+use Rattle.std.specs.List.{list_any, count_by}
+use Rattle.std.specs.Str.{bytes_eq}
+use Rattle.std.proofs.lemmas.Bool.{or_from}
+use Rattle.std.proofs.lemmas.Slice.Eq.{bytes_eq-Decides}
+use Rattle.std.proofs.lemmas.List.Sums.{sum_by-cons}
+use Rattle.disk_model.specs.declared.disk.Disk as disk
+use Rattle.extents.specs.FreeSet.{free_count, uses, one_if}
+use Rattle.extents.specs.FreeLaws.{uses_append}
+use Rattle.journal_layout.specs.Case.{Case, numbered}
+use Rattle.journal_layout.specs.Folding.{used_blocks}
+use Rattle.journal_layout.specs.Soundness.{IsStorable, blocks_for}
+use Rattle.case_journal.specs.Journaled.{Journaled}
+use Rattle.intake.specs.declared.faults.ArchiveFault.{ArchiveFault}
+use Rattle.intake.specs.declared.faults.ArchiveFault.TheVariants as fault
+use Rattle.intake.specs.Balance.{Balances}
 use Rattle.extents.specs.Runs.{runs_of}
 use Rattle.extents.specs.RunLaws.{runs_no_more, runs_some}
-use Rattle.store_journal.specs.declared.shape.Shape.{Shape}
-use Rattle.store_journal.specs.declared.shape.Half.{Half}
-use Rattle.store_journal.specs.declared.shape.Half.TheVariants.{A, B}
-use Rattle.store_journal.specs.Layout.{half_start, half_length, data_start, disk_length}
-use Rattle.store_journal.specs.Case.{Case}
-use Rattle.std.proofs.lemmas.Bool.{cases_eq}
-use Rattle.intake.specs.declared.stream.Stream.{Stream}
-use Rattle.intake.specs.Blocks.{block_start, block_bytes, joined, image_in}
-use Rattle.intake.specs.State.{blocks_for}
-use Rattle.intake.specs.Parts.{StreamParts}
-use Rattle.intake.specs.Sound.{AreFilled, IsFilling}
-use Rattle.intake.specs.Growth.{next_block}
-use Rattle.intake.specs.Closing.{Closes, HoldsRest, with_blocks}
-use Rattle.intake.specs.StreamView.{case_from_stream, case_from_parts}
-use Rattle.intake.proofs.GrowLemmas.{one_more}
-use Rattle.intake.proofs.ByteLemmas.{joined_below}
+use Rattle.std.proofs.lemmas.List.{length-set, map-set, map-append}
+use Rattle.journal_layout.specs.Record.{record_size}
+use Rattle.journal_layout.specs.Standing.{store_of}
+use Rattle.intake.specs.State.{BareCase, BareStream}
+use Rattle.case_journal.specs.Append.{StoreRefused}
+use Rattle.case_journal.specs.Keeping.{Keeps}
+use Rattle.case_journal.specs.declared.faults.JournalFault.{JournalFault}
+use Rattle.case_journal.specs.declared.faults.JournalFault.TheVariants as journal_fault
+use Rattle.intake.specs.Faults.{fault_of}
+use Rattle.intake.specs.Closing.{Closes, Appends, with_blocks}
+use Rattle.intake.specs.Ending.{EndsStreams}
+use Rattle.intake.specs.Live.{case_uses}
+use Rattle.intake.specs.Parts.{Parts, StreamParts, bare_of, bare_case, bare_stream}
+use Rattle.intake.specs.Slots.{stream_at}
+use Rattle.intake.specs.Sound.{IsSound, IsRunning, IsFine, IsFineIfOpen, held_by, is_called}
+use Rattle.intake.specs.Step.{FinishStep, MayFinish, MayHaveRuns, with_stream}
+use Rattle.intake.specs.StreamView.{case_from_parts}
+use Rattle.intake.proofs.AdvanceLemmas.{gone_state, halted_state, free_is, sound_refused}
+use Rattle.intake.proofs.CountLemmas.{uses_same, one_if_le, in_range}
+use Rattle.intake.proofs.SoundLemmas.{slot_below, sound_halted, fine_at, part_of_sum, named_in}
+use Rattle.intake.proofs.LiveLemmas.{sound_stored}
+use Rattle.intake.proofs.StepLemmas.{some_there}
 
--- the blocks of so many bytes, by what is left over
-pub none_over : (len : ℕ) → len % 4096 ≡ 0 → blocks_for len ≡ len / 4096
-none_over len over = omega (arith, over)
+none_named : (P : Case → Bool) (cases : List Case) → count_by P cases ≡ 0 → list_any P cases ≡ false
+none_named P [] e = refl
+none_named P (c ∷ rest) e =
+    let s = sum_by-cons (λ (x : Case). cond (P x) 1 0) c rest in
+    or_from (P c) (list_any P rest) (not_so (P c) (omega (arith, s, e))) (none_named P rest (omega (arith, s, e)))
+  where
+    not_so : (t : Bool) → one_if t ≡ 0 → t ≡ false
+    not_so true h = absurd (omega (arith, h))
+    not_so false h = refl
 
-pub some_over : (len : ℕ) → len % 4096 ≢ 0 → blocks_for len ≡ len / 4096 + 1
-some_over len over = omega (arith, over)
+used_are : (k : ℕ) (cases : List Case) → uses (used_blocks cases) k ≡ case_uses cases k
+used_are k [] = refl
+used_are k (c ∷ rest) =
+    let s = sum_by-cons (λ (x : Case). uses x.blocks k) c rest in
+    omega (arith, s, uses_append c.blocks (used_blocks rest) k, used_are k rest)
 
--- the case that a closed stream becomes
-abbrev pub closed_case : ℕ → StreamParts → Case
-closed_case filled s = case_from_parts (with_blocks s (range_with_len filled (blocks_for s.len)))
+module _ {D : Type 0} (g : disk.Ghosts D) (d d' : D) (j : Journaled) (most : ℕ) (flags : List Bool) (streams : List (Option StreamParts)) (slot : ℕ) (s : StreamParts) (b : Bool)
+    (running : IsRunning g d j most flags streams) (on : b ≡ false) (is : stream_at streams slot ≡ Some s) where
+  abbrev before : Parts D
+  before = record { disk = d; journal = j; limit = most; streams = streams; stopped = b }
 
-pub closed_as : (blocks filled most : ℕ) (s : StreamParts) (stream : Stream) (u : Unit {0}) → IsFilling filled blocks most s → Closes blocks filled s (Ok u) stream
-    → (case_from_stream stream ≡ closed_case filled s) × (filled + blocks_for s.len ≤ blocks)
-closed_as blocks filled most s stream u filling closes =
-    ⊎_elim
-    (λ h. (
-      h.1 ∙ ap (λ (x : List ℕ). case_from_parts (with_blocks s x)) (filling.filled ∙ ap (range_with_len filled) (sym (none_over s.len h.0))),
-      (let e = none_over s.len h.0 in let w = filling.within in omega arith),
-    ))
-    (λ h. (
-      h.2 ∙ ap (λ (x : List ℕ). case_from_parts (with_blocks s x))
-          (ap (λ (x : List ℕ). x ++ next_block filled s.len ∷ []) filling.filled ∙ one_more filled (s.len / 4096) ∙ ap (range_with_len filled) (sym (some_over s.len h.0))),
-      (let e = some_over s.len h.0 in let w = h.1 in omega arith),
-    ))
-    closes
+  may : ((s.len % 4096 ≢ 0) → 0 < free_count flags) → MayFinish (bare_of before) slot (bare_stream s)
+  may there = (on, some_there streams slot s is, (λ over full. (let lt = there over in let f = free_is g d d' j most flags streams slot 0 s b running on is in omega (arith, lt, full, f))))
 
--- one case more behind the others
-pub filled_more : (start end : ℕ) (cases : List Case) (c : Case) → AreFilled start cases end → c.blocks ≡ range_with_len end (blocks_for c.len) → AreFilled start (cases ++ c ∷ []) (end + blocks_for c.len)
-filled_more start end [] c h is = (is ∙ ap (λ (k : ℕ). range_with_len k (blocks_for c.len)) (sym h), ap (λ (k : ℕ). k + blocks_for c.len) h)
-filled_more start end (d ∷ rest) c h is = (h.0, filled_more (start + blocks_for d.len) end rest c h.1 is)
+  -- the seal was refused
+  pub seal_err : (b' : Bool) (dropped streams' : List (Option StreamParts)) (s' : StreamParts) (f : ArchiveFault) → dropped ≡ slice_set streams slot None → EndsStreams f dropped b' streams' → Closes (free_count flags) s (Err f) s'
+      → FinishStep (bare_of before) slot (Err f) (bare_of (record { disk = d'; journal = j; limit = most; streams = streams'; stopped = b' }))
+  seal_err b' dropped streams' s' fault.SpaceFull gone ends closes = (
+    bare_stream s,
+    on,
+    some_there streams slot s is,
+    closes.0,
+    (let e = closes.1 in let f = free_is g d d' j most flags streams slot 0 s b running on is in omega (arith, e, f)),
+    gone_state g d d' j most flags streams slot 0 s b running on is b' dropped streams' gone ends.0 ends.1,
+  )
+  seal_err b' dropped streams' s' fault.OutOfMemory gone ends closes = (bare_stream s, may (λ over. closes.1), gone_state g d d' j most flags streams slot 0 s b running on is b' dropped streams' gone ends.0 ends.1)
+  seal_err b' dropped streams' s' fault.Disk gone ends closes = (bare_stream s, may closes, halted_state g d d' j most flags streams slot 0 s b running on is b' dropped streams' gone ends.0 ends.1)
+  seal_err b' dropped streams' s' _ gone ends closes = absurd closes
 
--- the runs of consecutive blocks
-pub runs_fit : (filled n : ℕ) → length (runs_of (range_with_len filled n)) ≤ n
-runs_fit filled n = omega (arith, runs_no_more (range_with_len filled n), length-range_with_len filled n)
+  pub seal_not_stopped : (s' : StreamParts) (f : ArchiveFault) → Closes (free_count flags) s (Err f) s' → f ≡ fault.Stopped → ⊥
+  seal_not_stopped s' f closes e = let x = subst (λ (h : ArchiveFault). Closes (free_count flags) s (Err h) s') e closes in absurd x
 
-pub runs_there : (filled len : ℕ) → 0 < len → 0 < length (runs_of (range_with_len filled (blocks_for len)))
-runs_there filled len some = runs_some (range_with_len filled (blocks_for len)) (omega (arith, length-range_with_len filled (blocks_for len)))
+  pub seal_not_missing : (s' : StreamParts) (f : ArchiveFault) → Closes (free_count flags) s (Err f) s' → f ≡ fault.NoStream → ⊥
+  seal_not_missing s' f closes e = let x = subst (λ (h : ArchiveFault). Closes (free_count flags) s (Err h) s') e closes in absurd x
 
--- a change in a journal half spares the data blocks
-half_before : (shape : Shape) (half : Half) → half_start shape half + half_length shape ≤ data_start shape
-half_before shape A = omega arith
-half_before shape B = omega arith
+  fine_is : IsFine most s
+  fine_is = subst (IsFineIfOpen most) is (fine_at most streams slot running.streams_fine)
 
-module _ (shape : Shape) (half : Half) (a b : List ℕ) (same : SameOutside (half_start shape half) (half_length shape) a b) where
-  block_spared : (k : ℕ) → block_bytes shape b k ≡ block_bytes shape a k
-  block_spared k = let h = half_before shape half in part_after (half_start shape half) (half_length shape) a b same (block_start shape k) 4096 (omega arith)
+  -- the case that the stream becomes: its facts, and the blocks that it has now
+  pub closed_case : (s' : StreamParts) (u : Unit {0}) → Closes (free_count flags) s (Ok u) s' → case_from_parts s' ≡ case_from_parts (with_blocks s s'.blocks)
+  closed_case s' u closes = ⊎_elim
+      (λ h. h.1 ∙ ap (λ (x : List ℕ). case_from_parts (with_blocks s x)) (sym (ap (λ (c : Case). c.blocks) h.1)))
+      (λ h. h.3) closes
 
-  pub joined_spared : (blocks : List ℕ) → joined shape b blocks ≡ joined shape a blocks
-  joined_spared [] = refl
-  joined_spared (k ∷ rest) = ap (λ (x : List ℕ). x ++ joined shape b rest) (block_spared k) ∙ ap (λ (x : List ℕ). block_bytes shape a k ++ x) (joined_spared rest)
+  closed_enough : (s' : StreamParts) (u : Unit {0}) → Closes (free_count flags) s (Ok u) s' → length s'.blocks ≡ blocks_for s.len
+  closed_enough s' u closes = let fill = fine_is.filled in ⊎_elim
+      (λ h. (let e = ap (λ (c : Case). length c.blocks) h.1 in let z = h.0 in omega (arith, e, fill, z)))
+      (λ h. (let e = h.2 in let z = h.0 in omega (arith, e, fill, z))) closes
 
-  pub images_spared : (cases : List Case) → map (λ (c : Case). image_in shape b c.blocks c.len) cases ≡ map (λ (c : Case). image_in shape a c.blocks c.len) cases
-  images_spared [] = refl
-  images_spared (c ∷ rest) =
-      ap (λ (x : List ℕ). x ∷ map (λ (c : Case). image_in shape b c.blocks c.len) rest) (ap (take c.len) (joined_spared c.blocks))
-      ∙ ap (λ (xs : List (List ℕ)). image_in shape a c.blocks c.len ∷ xs) (images_spared rest)
+  -- it may be stored
+  pub storable : (flags' : List Bool) (s' : StreamParts) (u : Unit {0}) → Closes (free_count flags) s (Ok u) s' → Balances flags s.blocks flags' s'.blocks
+      → IsStorable j.standing.shape.data_blocks j.standing.cases (case_from_parts s')
+  storable flags' s' u closes bal =
+      let fine = fine_is in
+      subst (IsStorable j.standing.shape.data_blocks j.standing.cases) (sym (closed_case s' u closes)) (record {
+        name = fine.name;
+        new_name = none_named (λ (c : Case). bytes_eq c.name s.name) j.standing.cases
+            (let n = running.named s.name in let m = named_in s.name streams slot in
+            let e = ap (λ (o : Option StreamParts). one_if (is_called s.name o)) is in
+            let same : one_if (bytes_eq s.name s.name) ≡ 1 = ap one_if ((bytes_eq-Decides s.name s.name).1 refl) in
+            omega (arith, n, m, e, same));
+        pid = fine.pid;
+        signal = fine.signal;
+        time = fine.time;
+        bytes = fine.small;
+        enough = closed_enough s' u closes;
+        spare = λ k some. (
+            let h = running.once k in
+            let p = part_of_sum k streams slot in
+            let e = ap (λ (o : Option StreamParts). uses (held_by o) k) is in
+            let q = bal.each k in
+            let here = uses_same k s'.blocks in
+            let there = uses_same k (used_blocks j.standing.cases) in
+            let are = used_are k j.standing.cases in
+            let most_one = one_if_le (nat_lt k j.standing.shape.data_blocks) in
+            (in_range k j.standing.shape.data_blocks (omega (arith, h, p, e, q, here, some)), omega (arith, h, p, e, q, here, some, most_one), omega (arith, h, p, e, q, here, there, are, some, most_one)));
+      })
 
--- blocks within a disk are whole
-pub length-joined : (shape : Shape) (bytes : List ℕ) (start n : ℕ) → length bytes ≡ disk_length shape → start + n ≤ shape.data_blocks → length (joined shape bytes (range_with_len start n)) ≡ 4096 * n
-length-joined shape bytes start zero long fits = refl
-length-joined shape bytes start (suc n) long fits =
-    length-append (block_bytes shape bytes start) (joined shape bytes (range_with_len (start + 1) n))
-    ∙ omega (arith, part_length bytes (block_start shape start) 4096 (omega (arith, long)), length-joined shape bytes (start + 1) n long (omega arith))
+  -- how many runs it may lie in
+  runs_may : (s' : StreamParts) (u : Unit {0}) → Closes (free_count flags) s (Ok u) s' → MayHaveRuns s.len (length (runs_of s'.blocks))
+  runs_may s' u closes =
+      let e = closed_enough s' u closes in (
+        omega (arith, e, runs_no_more s'.blocks),
+        (λ some. runs_some s'.blocks (omega (arith, e, some))),
+      )
 
-take_past : (x y : List ℕ) (n m : ℕ) → length x ≡ n → take (n + m) (x ++ y) ≡ x ++ take m y
-take_past [] y n m len = let e : n + m ≡ m = omega (arith, len) in ap (λ (k : ℕ). take k y) e
-take_past (z ∷ x) y zero m len = absurd (omega (arith, len))
-take_past (z ∷ x) y (suc n) m len =
-    let e : suc n + m ≡ suc (n + m) = omega arith in
-    ap (λ (k : ℕ). take k (z ∷ (x ++ y))) e ∙ ap (λ (w : List ℕ). z ∷ w) (take_past x y n m (omega (arith, len)))
+  there_is : (s' : StreamParts) (u : Unit {0}) → Closes (free_count flags) s (Ok u) s' → (s.len % 4096 ≢ 0) → 0 < free_count flags
+  there_is s' u closes over = ⊎_elim (λ h. absurd (over h.0)) (λ h. h.1) closes
 
--- the image of a closed stream is what it has taken
-pub closed_image : (shape : Shape) (filled most : ℕ) (s : StreamParts) (a b : List ℕ) → IsFilling filled shape.data_blocks most s → length a ≡ disk_length shape → length b ≡ disk_length shape
-    → filled + blocks_for s.len ≤ shape.data_blocks
-    → SameOutside (block_start shape (next_block filled s.len)) 4096 a b → HoldsRest shape filled s b
-    → image_in shape b (range_with_len filled (blocks_for s.len)) s.len ≡ joined shape a s.blocks ++ take (s.len % 4096) s.block
-closed_image shape filled most s a b filling long long' fits same rest =
-    elim (cases_eq (s.len % 4096) 0) as (λ _. image_in shape b (range_with_len filled (blocks_for s.len)) s.len ≡ joined shape a s.blocks ++ take (s.len % 4096) s.block) [
-      | inl over ↦
-          let n = none_over s.len over in
-          let size = length-joined shape b filled (s.len / 4096) long' (omega arith) in
-          ap (λ (k : ℕ). image_in shape b (range_with_len filled k) s.len) n
-          ∙ take_all s.len (joined shape b (range_with_len filled (s.len / 4096))) (omega (arith, size, over))
-          ∙ joined_below shape (next_block filled s.len) a b same filled (s.len / 4096) (omega arith)
-          ∙ ap (joined shape a) (sym filling.filled)
-          ∙ sym (append-nil (joined shape a s.blocks))
-          ∙ ap (λ (k : ℕ). joined shape a s.blocks ++ take k s.block) (sym over)
-      | inr over ↦
-          let n = some_over s.len over in
-          let size = length-joined shape b filled (s.len / 4096) long' (omega arith) in
-          let e : s.len ≡ 4096 * (s.len / 4096) + s.len % 4096 = omega arith in
-          ap (λ (k : ℕ). image_in shape b (range_with_len filled k) s.len) n
-          ∙ ap (λ (x : List ℕ). image_in shape b x s.len) (sym (one_more filled (s.len / 4096)))
-          ∙ ap (take s.len) (flat_map-append (block_bytes shape b) (range_with_len filled (s.len / 4096)) (next_block filled s.len ∷ []))
-          ∙ ap (λ (x : List ℕ). take s.len (joined shape b (range_with_len filled (s.len / 4096)) ++ x)) (append-nil (block_bytes shape b (next_block filled s.len)))
-          ∙ ap (λ (k : ℕ). take k (joined shape b (range_with_len filled (s.len / 4096)) ++ block_bytes shape b (next_block filled s.len))) e
-          ∙ take_past (joined shape b (range_with_len filled (s.len / 4096))) (block_bytes shape b (next_block filled s.len)) (4096 * (s.len / 4096)) (s.len % 4096) size
-          ∙ ap (λ (x : List ℕ). x ++ take (s.len % 4096) (block_bytes shape b (next_block filled s.len))) (joined_below shape (next_block filled s.len) a b same filled (s.len / 4096) (omega arith) ∙ ap (joined shape a) (sym filling.filled))
-          ∙ ap (λ (x : List ℕ). joined shape a s.blocks ++ x) (rest over)
-    ]
+  gone_with : (j' : Journaled) (b' : Bool) (dropped streams' : List (Option StreamParts)) → dropped ≡ slice_set streams slot None → b' ≡ false → streams' ≡ dropped → j' ≡ j
+      → bare_of (record { disk = d'; journal = j'; limit = most; streams = streams'; stopped = b' }) ≡ with_stream (bare_of before) slot None
+  gone_with j' b' dropped streams' gone still same now =
+      ap (λ (k : Journaled). bare_of (record { disk = d'; journal = k; limit = most; streams = streams'; stopped = b' })) now
+      ∙ gone_state g d d' j most flags streams slot 0 s b running on is b' dropped streams' gone still same
+
+  -- the record was refused
+  store_err : (j' : Journaled) (b' : Bool) (dropped streams' : List (Option StreamParts)) (s' : StreamParts) (u : Unit {0}) (jf : JournalFault) → dropped ≡ slice_set streams slot None → EndsStreams (fault_of jf) dropped b' streams'
+      → Closes (free_count flags) s (Ok u) s' → StoreRefused j (case_from_parts (with_blocks s s'.blocks)) jf j'
+      → FinishStep (bare_of before) slot (Err (fault_of jf)) (bare_of (record { disk = d'; journal = j'; limit = most; streams = streams'; stopped = b' }))
+  store_err j' b' dropped streams' s' u journal_fault.Stopped gone ends closes refused = absurd (let e : true ≡ false = sym refused.0 ∙ running.journal in cc)
+  store_err j' b' dropped streams' s' u journal_fault.JournalFull gone ends closes refused = (
+    bare_stream s,
+    length (runs_of s'.blocks),
+    may (there_is s' u closes),
+    runs_may s' u closes,
+    refused.1,
+    gone_with j' b' dropped streams' gone ends.0 ends.1 refused.2,
+  )
+  store_err j' b' dropped streams' s' u journal_fault.NumbersSpent gone ends closes refused = (
+    bare_stream s,
+    length (runs_of s'.blocks),
+    may (there_is s' u closes),
+    runs_may s' u closes,
+    refused.1,
+    refused.2,
+    gone_with j' b' dropped streams' gone ends.0 ends.1 refused.3,
+  )
+  store_err j' b' dropped streams' s' u journal_fault.OutOfMemory gone ends closes refused = (bare_stream s, may (there_is s' u closes), gone_with j' b' dropped streams' gone ends.0 ends.1 refused.3)
+  store_err j' b' dropped streams' s' u journal_fault.Disk gone ends closes refused = (
+    bare_stream s,
+    may (there_is s' u closes),
+    ap (λ (k : Journaled). bare_of (record { disk = d'; journal = k; limit = most; streams = streams'; stopped = b' })) refused.3
+        ∙ halted_state g d d' j most flags streams slot 0 s b running on is b' dropped streams' gone ends.0 ends.1,
+  )
+
+  pub refused_step : (j' : Journaled) (b' : Bool) (dropped streams' : List (Option StreamParts)) (s' : StreamParts) (u : Unit {0}) (f : ArchiveFault) (c : Case) → dropped ≡ slice_set streams slot None → EndsStreams f dropped b' streams'
+      → Closes (free_count flags) s (Ok u) s' → c ≡ case_from_parts s' → Appends j c (Err f) j'
+      → FinishStep (bare_of before) slot (Err f) (bare_of (record { disk = d'; journal = j'; limit = most; streams = streams'; stopped = b' }))
+  refused_step j' b' dropped streams' s' u f c gone ends closes same appends =
+      subst (λ (x : ArchiveFault). FinishStep (bare_of before) slot (Err x) (bare_of (record { disk = d'; journal = j'; limit = most; streams = streams'; stopped = b' }))) (sym appends.1)
+      (store_err j' b' dropped streams' s' u appends.0 gone (subst (λ (x : ArchiveFault). EndsStreams x dropped b' streams') appends.1 ends) closes
+      (subst (λ (x : Case). StoreRefused j x appends.0 j') (same ∙ closed_case s' u closes) appends.2))
+
+  unmoved : (j' : Journaled) (b' : Bool) (flags' : List Bool) (dropped streams' : List (Option StreamParts)) (f : ArchiveFault) → IsSound g d j most flags streams b → dropped ≡ slice_set streams slot None → EndsStreams f dropped b' streams'
+      → j' ≡ j → Keeps g d' j' → Balances flags s.blocks flags' [] → IsSound g d' j' most flags' streams' b'
+  unmoved j' b' flags' dropped streams' f sound gone ends now keeps bal =
+      subst (λ (k : Journaled). IsSound g d' k most flags' streams' b') (sym now)
+      (sound_refused g d d' j most flags flags' streams dropped streams' slot s b b' f sound on is gone (subst (Keeps g d') now keeps) bal ends)
+
+  -- the archive stays sound
+  sound_unstored : (j' : Journaled) (b' : Bool) (flags' : List Bool) (dropped streams' : List (Option StreamParts)) (jf : JournalFault) (c : Case) → IsSound g d j most flags streams b → dropped ≡ slice_set streams slot None → EndsStreams (fault_of jf) dropped b' streams'
+      → StoreRefused j c jf j' → Keeps g d' j' → Balances flags s.blocks flags' [] → IsSound g d' j' most flags' streams' b'
+  sound_unstored j' b' flags' dropped streams' journal_fault.Disk c sound gone ends refused keeps bal =
+      subst (λ (t : Bool). IsSound g d' j' most flags' streams' t) (sym ends.0)
+      (subst (λ (x : List (Option StreamParts)). IsSound g d' j' most flags' x true) (sym ends.1)
+      (sound_halted g d d' j j' most flags flags' streams dropped b sound (ap (λ (k : Journaled). k.standing.shape) refused.3) (ap length gone ∙ length-set streams slot None)))
+  sound_unstored j' b' flags' dropped streams' journal_fault.Stopped c sound gone ends refused keeps bal = absurd (let e : true ≡ false = sym refused.0 ∙ running.journal in cc)
+  sound_unstored j' b' flags' dropped streams' journal_fault.JournalFull c sound gone ends refused keeps bal = unmoved j' b' flags' dropped streams' fault.JournalFull sound gone ends refused.2 keeps bal
+  sound_unstored j' b' flags' dropped streams' journal_fault.NumbersSpent c sound gone ends refused keeps bal = unmoved j' b' flags' dropped streams' fault.NumbersSpent sound gone ends refused.3 keeps bal
+  sound_unstored j' b' flags' dropped streams' journal_fault.OutOfMemory c sound gone ends refused keeps bal = unmoved j' b' flags' dropped streams' fault.OutOfMemory sound gone ends refused.3 keeps bal
+
+  pub sound_not_stored : (j' : Journaled) (b' : Bool) (flags' : List Bool) (dropped streams' : List (Option StreamParts)) (f : ArchiveFault) (c : Case) → IsSound g d j most flags streams b → dropped ≡ slice_set streams slot None → EndsStreams f dropped b' streams'
+      → Appends j c (Err f) j' → Keeps g d' j' → Balances flags s.blocks flags' [] → IsSound g d' j' most flags' streams' b'
+  sound_not_stored j' b' flags' dropped streams' f c sound gone ends appends keeps bal =
+      sound_unstored j' b' flags' dropped streams' appends.0 c sound gone (subst (λ (x : ArchiveFault). EndsStreams x dropped b' streams') appends.1 ends) appends.2 keeps bal
+
+  -- the stream became the last case
+  store_ok : (j' : Journaled) (streams' : List (Option StreamParts)) (s' : StreamParts) (u : Unit {0}) (seq : ℕ) → streams' ≡ slice_set streams slot None → Closes (free_count flags) s (Ok u) s'
+      → Appends j (case_from_parts (with_blocks s s'.blocks)) (Ok seq) j'
+      → FinishStep (bare_of before) slot (Ok seq) (bare_of (record { disk = d'; journal = j'; limit = most; streams = streams'; stopped = b }))
+  store_ok j' streams' s' u seq gone closes a = (
+    bare_stream s,
+    length (runs_of s'.blocks),
+    may (there_is s' u closes),
+    runs_may s' u closes,
+    a.1,
+    a.2,
+    a.3,
+    ap (λ (k : Journaled). bare_of (record { disk = d'; journal = k; limit = most; streams = streams'; stopped = b })) a.4
+        ∙ ap (λ (x : List BareCase). record {
+          shape = j.standing.shape;
+          limit = most;
+          cases = x;
+          next = j.standing.next + 1;
+          used = j.standing.used + record_size (store_of j.standing (case_from_parts (with_blocks s s'.blocks)));
+          streams = map (option_map bare_stream) streams';
+          stopped = b;
+        })
+        (map-append bare_case j.standing.cases (numbered j.standing.next (case_from_parts (with_blocks s s'.blocks)) ∷ []))
+        ∙ ap (λ (x : List (Option BareStream)). record {
+          shape = j.standing.shape;
+          limit = most;
+          cases = map bare_case j.standing.cases ++ bare_case (numbered j.standing.next (case_from_parts (with_blocks s s'.blocks))) ∷ [];
+          next = j.standing.next + 1;
+          used = j.standing.used + record_size (store_of j.standing (case_from_parts (with_blocks s s'.blocks)));
+          streams = x;
+          stopped = b;
+        })
+        (ap (map (option_map bare_stream)) gone ∙ map-set (option_map bare_stream) streams slot None),
+  )
+
+  pub stored_step : (j' : Journaled) (streams' : List (Option StreamParts)) (s' : StreamParts) (u : Unit {0}) (seq : ℕ) (c : Case) → streams' ≡ slice_set streams slot None → Closes (free_count flags) s (Ok u) s' → c ≡ case_from_parts s'
+      → Appends j c (Ok seq) j' → FinishStep (bare_of before) slot (Ok seq) (bare_of (record { disk = d'; journal = j'; limit = most; streams = streams'; stopped = b }))
+  stored_step j' streams' s' u seq c gone closes same appends =
+      store_ok j' streams' s' u seq gone closes (subst (λ (x : Case). Appends j x (Ok seq) j') (same ∙ closed_case s' u closes) appends)
+
+  -- the archive stays sound with the new case, where a number is positive
+  pub sound_with_case : (j' : Journaled) (flags1 flags' : List Bool) (streams' : List (Option StreamParts)) (s' : StreamParts) (u : Unit {0}) (seq : ℕ) (c : Case) → IsSound g d j most flags streams b → streams' ≡ slice_set streams slot None
+      → Closes (free_count flags) s (Ok u) s' → Balances flags s.blocks flags1 s'.blocks → flags' ≡ flags1 → c ≡ case_from_parts s' → Appends j c (Ok seq) j' → Keeps g d' j' → IsSound g d' j' most flags' streams' b
+  sound_with_case j' flags1 flags' streams' s' u seq c sound gone closes bal same is_case appends keeps =
+      let e = is_case ∙ closed_case s' u closes in
+      let a = subst (λ (x : Case). Appends j x (Ok seq) j') e appends in
+      sound_stored g d d' j j' most flags flags' streams streams' slot s b (case_from_parts (with_blocks s s'.blocks)) sound on (slot_below g d j most flags streams slot s b sound is) is gone keeps a.4 a.2
+      (subst (λ (f : List Bool). Balances flags s.blocks f s'.blocks) (sym same) bal)
+      (subst (IsStorable j.standing.shape.data_blocks j.standing.cases) (closed_case s' u closes) (storable flags1 s' u closes bal)) refl

@@ -1,77 +1,160 @@
--- How a stream's growth is a step of the archive.
-use Rattle.std.proofs.Common.{◌≡◌, ◌≢◌, ⊎_elim, ℕ, ◌+◌, ◌/◌, ◌%◌, ◌<◌, ◌≤◌, List, [], ◌∷◌, map, sym, ap, ◌∙◌, arith, false, Bool, Option, Some, None, Ok, Err}
+-- How calls are steps of the archive.
+use Rattle.std.proofs.Common.{◌≡◌, ℕ, ◌+◌, ◌<◌, ◌≤◌, Bool, true, false, cond, List, [], ◌∷◌, length, map, set, refl, sym, ap, ◌∙◌, subst, arith, Option, None, Some, Ok, ◌||◌}
+use Rattle.std.specs.Prelude.{option_map, slice_set, IsSome, IsTrue, ◌↔◌}
+use Rattle.std.specs.List.{list_any, count_by}
+use Rattle.std.specs.Str.{bytes_eq}
+use Rattle.std.proofs.lemmas.List.{map-set, length-map}
 use Rattle.std.proofs.lemmas.List.Sums.{sum_by-cons}
-use Rattle.std.specs.Prelude.{sum_by, option_map, slice_set}
-use Rattle.store_journal.specs.Case.{Case}
-use Rattle.store_journal.specs.Standing.{Journaled}
-use Rattle.intake.specs.declared.faults.ArchiveFault.{ArchiveFault}
-use Rattle.intake.specs.declared.faults.ArchiveFault.TheVariants as fault
-use Rattle.intake.specs.State.{BareCase, BareStream, blocks_for, blocks_in, filled_by}
+use Rattle.std.proofs.lemmas.Bool.{or_parts}
+use Rattle.std.proofs.lemmas.Slice.Eq.{bytes_eq-Decides}
+use Rattle.journal_layout.specs.Case.{Case, case_of}
+use Rattle.journal_layout.specs.declared.entry.Entry.{Entry}
+use Rattle.case_journal.specs.Journaled.{Journaled}
+use Rattle.extents.specs.FreeSet.{one_if}
+use Rattle.intake.specs.Contents.{Taken, zero_block, empty_taken, with_taken}
+use Rattle.intake.specs.Live.{cases_named}
+use Rattle.intake.specs.Parts.{Parts, StreamParts, bare_of, bare_case, bare_stream, taken_in, contents_of}
 use Rattle.intake.specs.Slots.{stream_at}
-use Rattle.intake.specs.Parts.{Parts, StreamParts, bare_of, bare_case, bare_stream}
-use Rattle.intake.specs.Sound.{AreFilled}
-use Rattle.intake.specs.Growth.{Grows, NeedsBlock, next_block, stops_at}
-use Rattle.intake.specs.Step.{AdvanceStep, FindsNoBlock, longer, with_stream}
+use Rattle.intake.specs.Sound.{streams_named, is_called}
+use Rattle.intake.specs.State.{Bare, BareCase, BareStream}
+use Rattle.intake.specs.Step.{has_name, is_taken, with_stream}
+use Rattle.disk_model.specs.declared.disk.Disk as disk
+use Rattle.intake.specs.Balance.{Balances}
+use Rattle.intake.specs.Contents.{BeginBytes, AbandonBytes}
+use Rattle.intake.specs.Sound.{IsSound, IsFine}
+use Rattle.intake.specs.Step.{BeginStep, AbandonStep}
+use Rattle.intake.proofs.SoundLemmas.{bare_at, sound_with, nothing_moves}
 
--- the blocks that the cases fill
-pub filled_is : (start end : ℕ) (cases : List Case) → AreFilled start cases end → start + sum_by (λ (c : BareCase). blocks_for c.len) (map bare_case cases) ≡ end
-filled_is start end [] h = omega (arith, h)
-filled_is start end (c ∷ rest) h =
-    let more = filled_is (start + blocks_for c.len) end rest h.1 in
-    let e = sum_by-cons (λ (x : BareCase). blocks_for x.len) (bare_case c) (map bare_case rest) in
-    omega (arith, more, e)
-
--- the bytes that fill a block
-fills : (len n : ℕ) → n ≢ 0 → (len + n) % 4096 ≡ 0 → len % 4096 + n ≤ 4096 → len % 4096 + n ≡ 4096
-fills len n some whole fits = omega arith
-
-module _ {D : Type 0} (d : D) (j : Journaled) (most filled : ℕ) (o : Option StreamParts) (s : StreamParts) (b : Bool) (slot n : ℕ)
-    (is : o ≡ Some s) (runs : b ≡ false) (first : slot ≡ 0) (cases : AreFilled 0 j.standing.cases filled) where
+-- the same archive with something else in a slot
+module _ {D : Type 0} (d d' : D) (j : Journaled) (most : ℕ) (streams : List (Option StreamParts)) (slot : ℕ) (o : Option StreamParts) (b : Bool) where
   abbrev pub before : Parts D
-  before = record { disk = d; journal = j; limit = most; streams = o ∷ []; stopped = b }
+  before = record { disk = d; journal = j; limit = most; streams = streams; stopped = b }
 
-  pub stands : stream_at (map (option_map bare_stream) (o ∷ [])) slot ≡ Some (bare_stream s)
-  stands = ap (λ (k : ℕ). stream_at (map (option_map bare_stream) (o ∷ [])) k) first ∙ ap (option_map bare_stream) is
+  pub bare_with : bare_of (record { disk = d'; journal = j; limit = most; streams = set streams slot o; stopped = b }) ≡ with_stream (bare_of before) slot (option_map bare_stream o)
+  bare_with = ap (λ (x : List (Option BareStream)). record (bare_of before) { streams = x }) (map-set (option_map bare_stream) streams slot o)
 
-  pub in_use : blocks_in (bare_of before) ≡ filled + s.len / 4096
-  in_use =
-      let f = filled_is 0 filled j.standing.cases cases in
-      let g = ap (λ (x : Option StreamParts). filled_by (option_map bare_stream x)) is in
-      omega (arith, f, g)
+-- and its bytes, on a disk that reads as before
+module _ {D : Type 0} (seen : D → List ℕ) (d : D) (j : Journaled) (most : ℕ) (streams : List (Option StreamParts)) (slot : ℕ) (o : Option StreamParts) (b : Bool) where
+  pub contents_with : contents_of seen (record { disk = d; journal = j; limit = most; streams = set streams slot o; stopped = b })
+      ≡ with_taken (contents_of seen (record { disk = d; journal = j; limit = most; streams = streams; stopped = b })) slot (option_map (taken_in j (seen d)) o)
+  contents_with = ap (λ (x : List (Option Taken)). record (contents_of seen (record { disk = d; journal = j; limit = most; streams = streams; stopped = b })) { taken = x }) (map-set (option_map (taken_in j (seen d))) streams slot o)
 
-  pub set_in : (p : Option BareStream) → slice_set (map (option_map bare_stream) (o ∷ [])) slot p ≡ p ∷ []
-  set_in p = ap (λ (k : ℕ). slice_set (map (option_map bare_stream) (o ∷ [])) k p) first
+-- a new stream has no bytes
+pub taken_new : (j : Journaled) (bytes : List ℕ) (s : StreamParts) → s.len ≡ 0 → s.blocks ≡ [] → s.block ≡ zero_block → taken_in j bytes s ≡ empty_taken
+taken_new j bytes s none no_blocks zeros = rw (none, no_blocks, zeros) refl
 
-  pub advance_ok : (d' : D) (s' : StreamParts) (u : Unit {0}) → s.len % 4096 + n ≤ 4096 → Grows j.standing.shape.data_blocks filled most s n (Ok u) s'
-      → AdvanceStep (bare_of before) slot n (Ok u) (bare_of (record { disk = d'; journal = j; limit = most; streams = Some s' ∷ []; stopped = b }))
-  advance_ok d' s' u fits grows = (bare_stream s, (runs, stands, grows.0), no_block, state)
-    where
-      no_block : FindsNoBlock (bare_of before) (bare_stream s) n → ⊥
-      no_block none = ⊎_elim (λ a. a.0 (none.0, fills s.len n none.0 none.1 fits)) (λ a. (let lt = a.1 in let e = none.2 in omega (arith, in_use))) grows.1
+-- whether something stands in a slot, in the words of the state without bytes
+pub none_there : (streams : List (Option StreamParts)) (slot : ℕ) → stream_at streams slot ≡ None → stream_at (map (option_map bare_stream) streams) slot ≡ None
+none_there streams slot e = bare_at streams slot ∙ ap (option_map bare_stream) e
 
-      same : bare_stream s' ≡ longer (bare_stream s) n
-      same = ⊎_elim (λ a. ap bare_stream a.1) (λ a. ap bare_stream a.2) grows.1
+pub some_there : (streams : List (Option StreamParts)) (slot : ℕ) (s : StreamParts) → stream_at streams slot ≡ Some s → stream_at (map (option_map bare_stream) streams) slot ≡ Some (bare_stream s)
+some_there streams slot s e = bare_at streams slot ∙ ap (option_map bare_stream) e
 
-      state : bare_of (record { disk = d'; journal = j; limit = most; streams = Some s' ∷ []; stopped = b }) ≡ with_stream (bare_of before) slot (Some (longer (bare_stream s) n))
-      state = ap (λ (x : List (Option BareStream)). record (bare_of before) { streams = x }) (ap (λ (p : BareStream). Some p ∷ []) same ∙ sym (set_in (Some (longer (bare_stream s) n))))
+pub not_open : (t : Bool) (o : Option StreamParts) → IsTrue t ↔ IsSome o → t ≡ false → o ≡ None
+not_open t None both off = refl
+not_open t (Some s) both off = absurd (let h : t ≡ true = both.1 refl in let e : true ≡ false = sym h ∙ off in cc)
 
-  gone : (d' : D) → bare_of (record { disk = d'; journal = j; limit = most; streams = None ∷ []; stopped = b }) ≡ with_stream (bare_of before) slot None
-  gone d' = ap (λ (x : List (Option BareStream)). record (bare_of before) { streams = x }) (sym (set_in None))
+pub free_by : (state : Bare) (x name : List ℕ) (r : Bool) → r ≡ is_taken state x → r ≡ false → x ≡ name → is_taken state name ≡ false
+free_by state x name r e off same = ap (is_taken state) (sym same) ∙ sym e ∙ off
 
-  pub stays_gone : (d' : D) (b' : Bool) → b' ≡ false → bare_of (record { disk = d'; journal = j; limit = most; streams = None ∷ []; stopped = b' }) ≡ with_stream (bare_of before) slot None
-  stays_gone d' b' still = ap (λ (t : Bool). bare_of (record { disk = d'; journal = j; limit = most; streams = None ∷ []; stopped = t })) (still ∙ sym runs) ∙ gone d'
+-- a name that is not taken is that of no case and no stream
+none_of : {X Y : Type 0} (P : Y → Bool) (f : X → Y) (xs : List X) → list_any P (map f xs) ≡ false → count_by (λ x. P (f x)) xs ≡ 0
+none_of P f [] e = refl
+none_of P f (x ∷ xs) e =
+    let h = or_parts (P (f x)) (list_any P (map f xs)) e in
+    let s = sum_by-cons (λ y. cond (P (f y)) 1 0) x xs in
+    let g : one_if (P (f x)) ≡ 0 = ap one_if h.0 in
+    omega (arith, s, g, none_of P f xs h.1)
 
-  block_there : NeedsBlock s.len n → next_block filled s.len < j.standing.shape.data_blocks → FindsNoBlock (bare_of before) (bare_stream s) n → ⊥
-  block_there needs lt none = let e = none.2 in omega (arith, in_use)
+called_same : (name : List ℕ) (streams : List (Option StreamParts)) → count_by (λ o. has_name name (option_map bare_stream o)) streams ≡ streams_named streams name
+called_same name [] = refl
+called_same name (o ∷ rest) =
+    let s = sum_by-cons (λ y. cond (has_name name (option_map bare_stream y)) 1 0) o rest in
+    let t = sum_by-cons (λ y. cond (is_called name y) 1 0) o rest in
+    let e = ap one_if (one o) in
+    omega (arith, s, t, e, called_same name rest)
+  where
+    one : (x : Option StreamParts) → has_name name (option_map bare_stream x) ≡ is_called name x
+    one None = refl
+    one (Some x) = refl
 
-  no_block : NeedsBlock s.len n → next_block filled s.len ≡ j.standing.shape.data_blocks → FindsNoBlock (bare_of before) (bare_stream s) n
-  no_block needs is = (needs.0, (let e = needs.1 in omega arith), (let e = in_use in omega arith))
+pub new_name : {D : Type 0} (a : Parts D) (name : List ℕ) → is_taken (bare_of a) name ≡ false → (cases_named a.journal.standing.cases name ≡ 0) × (streams_named a.streams name ≡ 0)
+new_name a name e =
+    let h = or_parts (list_any (λ (c : BareCase). bytes_eq c.name name) (map bare_case a.journal.standing.cases)) (list_any (has_name name) (map (option_map bare_stream) a.streams)) e in (
+      none_of (λ (c : BareCase). bytes_eq c.name name) bare_case a.journal.standing.cases h.0,
+      sym (called_same name a.streams) ∙ none_of (has_name name) (option_map bare_stream) a.streams h.1,
+    )
 
-  -- a refused growth drops the stream, and a disk fault stops the archive
-  pub advance_err : (d' : D) (b' : Bool) (s' : StreamParts) (f : ArchiveFault) → b' ≡ stops_at f → Grows j.standing.shape.data_blocks filled most s n (Err f) s'
-      → AdvanceStep (bare_of before) slot n (Err f) (bare_of (record { disk = d'; journal = j; limit = most; streams = None ∷ []; stopped = b' }))
-  advance_err d' b' s' fault.TooLong stops grows = (bare_stream s, runs, stands, grows, stays_gone d' b' stops)
-  advance_err d' b' s' fault.SpaceFull stops grows = (bare_stream s, (runs, stands, grows.0), no_block grows.1 grows.2, stays_gone d' b' stops)
-  advance_err d' b' s' fault.OutOfMemory stops grows = (bare_stream s, (runs, stands, grows.0), block_there grows.1 grows.2, stays_gone d' b' stops)
-  advance_err d' b' s' fault.Disk stops grows = (bare_stream s, (runs, stands, grows.0), block_there grows.1 grows.2, ap (λ (t : Bool). record (bare_of before) { streams = None ∷ []; stopped = t }) stops)
-  advance_err d' b' s' _ stops grows = absurd grows
+of_true : (x y : List ℕ) → bytes_eq x y ≡ true → x ≡ y
+of_true x y e = (let d = bytes_eq-Decides x y in d.0 e)
+
+pub names_with : {D : Type 0} (a : Parts D) (s : StreamParts) → is_taken (bare_of a) s.name ≡ false → ((name : List ℕ) → cases_named a.journal.standing.cases name + streams_named a.streams name ≤ 1)
+    → (name : List ℕ) → cases_named a.journal.standing.cases name + streams_named a.streams name + one_if (bytes_eq s.name name) ≤ 1 + 0
+names_with a s free once name = both (bytes_eq s.name name) refl
+  where
+    both : (t : Bool) → bytes_eq s.name name ≡ t → cases_named a.journal.standing.cases name + streams_named a.streams name + one_if t ≤ 1 + 0
+    both false e = (let o = once name in omega (arith, o))
+    both true e = (let n = new_name a s.name free in
+        let same : s.name ≡ name = of_true s.name name e in
+        let f = ap (cases_named a.journal.standing.cases) same in
+        let g = ap (streams_named a.streams) same in
+        let c = n.0 in let t = n.1 in omega (arith, f, g, c, t))
+
+-- the test of the cases, in the words of the entries
+list_any-map : {X Y : Type 0} (P : Y → Bool) (f : X → Y) (xs : List X) → list_any P (map f xs) ≡ list_any (λ x. P (f x)) xs
+list_any-map P f [] = refl
+list_any-map P f (x ∷ xs) = ap (λ b. P (f x) || b) (list_any-map P f xs)
+
+pub among_cases : (entries : List Entry) (cases : List Case) (name : List ℕ) → map case_of entries ≡ cases
+    → list_any (λ (e : Entry). bytes_eq e.name.items name) entries ≡ list_any (λ (c : BareCase). bytes_eq c.name name) (map bare_case cases)
+among_cases entries cases name is =
+    sym (list_any-map (λ (c : Case). bytes_eq c.name name) case_of entries) ∙ ap (list_any (λ (c : Case). bytes_eq c.name name)) is
+    ∙ sym (list_any-map (λ (c : BareCase). bytes_eq c.name name) bare_case cases)
+
+pub first_true : (a b x y : Bool) → x ≡ true → x ≡ a → x ≡ (a || b)
+first_true true b x y on e = on
+first_true false b x y on e = absurd (let f : true ≡ false = sym on ∙ e in cc)
+
+pub second_of : (a b x y : Bool) → x ≡ false → x ≡ a → y ≡ b → y ≡ (a || b)
+second_of true b x y off e f = absurd (let g : false ≡ true = sym off ∙ e in cc)
+second_of false b x y off e f = f
+
+-- a stream is begun
+module _ {D : Type 0} (g : disk.Ghosts D) (d : D) (j : Journaled) (most : ℕ) (flags : List Bool) (streams streams' : List (Option StreamParts)) (slot : ℕ) (s : StreamParts) (b : Bool)
+    (sound : IsSound g d j most flags streams b) (on : b ≡ false) (low : slot < 8) (none : stream_at streams slot ≡ None)
+    (free : is_taken (bare_of (record { disk = d; journal = j; limit = most; streams = streams; stopped = b })) s.name ≡ false) (now : streams' ≡ slice_set streams slot (Some s)) where
+  pub sound_begun : IsFine most s → s.blocks ≡ [] → IsSound g d j most flags streams' b
+  sound_begun fine no_blocks =
+      subst (λ (x : List (Option StreamParts)). IsSound g d j most flags x b) (sym now)
+      (sound_with g d d j most flags flags streams slot None (Some s) b sound on low none (sound.runs on).keeps
+      (let f = ap length no_blocks in subst (λ (x : List ℕ). Balances flags [] flags x) (sym no_blocks) (nothing_moves flags []))
+      fine
+      (names_with (record { disk = d; journal = j; limit = most; streams = streams; stopped = b }) s free (sound.runs on).named))
+
+  pub begin_step : (u : Unit {0}) → BeginStep (bare_of (record { disk = d; journal = j; limit = most; streams = streams; stopped = b })) slot (bare_stream s) (Ok u) (bare_of (record { disk = d; journal = j; limit = most; streams = streams'; stopped = b }))
+  begin_step u = (
+    (on, (let e : length (map (option_map bare_stream) streams) ≡ length streams = simp length-map in let f = sound.slots in omega arith), none_there streams slot none, free),
+    ap (λ (x : List (Option StreamParts)). bare_of (record { disk = d; journal = j; limit = most; streams = x; stopped = b })) now ∙ bare_with d d j most streams slot (Some s) b,
+  )
+
+  pub begin_bytes : (u : Unit {0}) → s.len ≡ 0 → s.blocks ≡ [] → s.block ≡ zero_block
+      → BeginBytes (contents_of g.seen (record { disk = d; journal = j; limit = most; streams = streams; stopped = b })) slot (Ok u) (contents_of g.seen (record { disk = d; journal = j; limit = most; streams = streams'; stopped = b }))
+  begin_bytes u no_bytes no_blocks zeros =
+      ap (λ (x : List (Option StreamParts)). contents_of g.seen (record { disk = d; journal = j; limit = most; streams = x; stopped = b })) now
+      ∙ contents_with g.seen d j most streams slot (Some s) b
+      ∙ ap (λ (t : Taken). with_taken (contents_of g.seen (record { disk = d; journal = j; limit = most; streams = streams; stopped = b })) slot (Some t)) (taken_new j (g.seen d) s no_bytes no_blocks zeros)
+
+-- a stream is dropped
+module _ {D : Type 0} (g : disk.Ghosts D) (d : D) (j : Journaled) (most : ℕ) (streams streams' : List (Option StreamParts)) (slot : ℕ) (s : StreamParts) (b : Bool)
+    (on : b ≡ false) (is : stream_at streams slot ≡ Some s) (now : streams' ≡ slice_set streams slot None) where
+  pub abandon_step : (u : Unit {0}) → AbandonStep (bare_of (record { disk = d; journal = j; limit = most; streams = streams; stopped = b })) slot (Ok u) (bare_of (record { disk = d; journal = j; limit = most; streams = streams'; stopped = b }))
+  abandon_step u = (
+    on,
+    (λ none. let e : Some (bare_stream s) ≡ None = sym (some_there streams slot s is) ∙ none in cc),
+    ap (λ (x : List (Option StreamParts)). bare_of (record { disk = d; journal = j; limit = most; streams = x; stopped = b })) now ∙ bare_with d d j most streams slot None b,
+  )
+
+  pub abandon_bytes : (u : Unit {0}) → AbandonBytes (contents_of g.seen (record { disk = d; journal = j; limit = most; streams = streams; stopped = b })) slot (Ok u) (contents_of g.seen (record { disk = d; journal = j; limit = most; streams = streams'; stopped = b }))
+  abandon_bytes u =
+      ap (λ (x : List (Option StreamParts)). contents_of g.seen (record { disk = d; journal = j; limit = most; streams = x; stopped = b })) now
+      ∙ contents_with g.seen d j most streams slot None b

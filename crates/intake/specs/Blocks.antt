@@ -2,8 +2,8 @@
 use Rattle.std.specs.Prelude.{ℕ, ◌+◌, ◌*◌, List, take}
 use Rattle.std.specs.List.{flat_map}
 use Rattle.disk_model.specs.Places.{part}
-use Rattle.store_journal.specs.declared.shape.Shape.{Shape}
-use Rattle.store_journal.specs.Layout.{data_start}
+use Rattle.journal_layout.specs.declared.shape.Shape.{Shape}
+use Rattle.journal_layout.specs.Layout.{data_start}
 
 -- where a data block begins on the disk
 abbrev pub block_start : Shape → ℕ → ℕ

@@ -1,43 +1,46 @@
--- How a stream is closed: a block for the bytes that fill none.
-use Rattle.std.specs.Prelude.{◌≡◌, ◌≢◌, ◌⊎◌, false, ℕ, ◌%◌, ◌^◌, ◌<◌, List, [], ◌∷◌, ◌++◌, take, Result, Ok, Err}
-use Rattle.store_journal.specs.declared.shape.Shape.{Shape}
-use Rattle.store_journal.specs.declared.faults.JournalFault.{JournalFault}
-use Rattle.store_journal.specs.Append.{HasRoom, StoreRefused, running}
-use Rattle.store_journal.specs.Case.{Case}
-use Rattle.store_journal.specs.Record.{store_size}
-use Rattle.store_journal.specs.Standing.{Journaled, stored}
+-- How a stream is closed: a block for the bytes that fill none, and the record of its case.
+use Rattle.std.specs.Prelude.{◌≡◌, ◌≢◌, ◌⊎◌, false, Bool, ℕ, ◌+◌, ◌%◌, ◌^◌, ◌<◌, List, [], ◌++◌, length, take, Result, Ok, Err}
+use Rattle.journal_layout.specs.declared.shape.Shape.{Shape}
+use Rattle.journal_layout.specs.Case.{Case}
+use Rattle.journal_layout.specs.Standing.{store_of}
+use Rattle.case_journal.specs.declared.faults.JournalFault.{JournalFault}
+use Rattle.case_journal.specs.Append.{HasRoom, StoreRefused}
+use Rattle.case_journal.specs.Journaled.{Journaled, goes_on}
 use Rattle.intake.specs.Faults.{fault_of}
 use Rattle.intake.specs.declared.faults.ArchiveFault.{ArchiveFault}
 use Rattle.intake.specs.declared.faults.ArchiveFault.TheVariants.{SpaceFull, OutOfMemory, Disk}
-use Rattle.intake.specs.declared.stream.Stream.{Stream}
-use Rattle.intake.specs.Blocks.{block_bytes}
+use Rattle.intake.specs.Balance.{Balances}
+use Rattle.intake.specs.Blocks.{joined, image_in}
 use Rattle.intake.specs.Parts.{StreamParts}
-use Rattle.intake.specs.Growth.{next_block}
-use Rattle.intake.specs.StreamView.{case_from_stream, case_from_parts}
+use Rattle.intake.specs.StreamView.{case_from_parts}
 
 -- the same stream, with these blocks
 abbrev pub with_blocks : StreamParts → List ℕ → StreamParts
 with_blocks s blocks = record s { blocks = blocks }
 
--- a stream is closed: refused in the order of the faults, each under its condition
-abbrev pub Closes : ℕ → ℕ → StreamParts → Result (Unit {0}) ArchiveFault → Stream → Type 0
-Closes blocks filled old (Ok u) new =
-    ((old.len % 4096 ≡ 0) × (case_from_stream new ≡ case_from_parts old))
-    ⊎ ((old.len % 4096 ≢ 0) × (next_block filled old.len < blocks)
-    × (case_from_stream new ≡ case_from_parts (with_blocks old (old.blocks ++ next_block filled old.len ∷ []))))
-Closes blocks filled old (Err SpaceFull) new = (old.len % 4096 ≢ 0) × (next_block filled old.len ≡ blocks)
-Closes blocks filled old (Err OutOfMemory) new = (old.len % 4096 ≢ 0) × (next_block filled old.len < blocks)
-Closes blocks filled old (Err Disk) new = (old.len % 4096 ≢ 0) → next_block filled old.len < blocks
-Closes blocks filled old (Err _) new = ⊥
+-- a stream is closed where so many blocks are free: refused in the order of the faults, each under its condition
+abbrev pub Closes : ℕ → StreamParts → Result (Unit {0}) ArchiveFault → StreamParts → Type 0
+Closes free old (Ok u) new =
+    ((old.len % 4096 ≡ 0) × (case_from_parts new ≡ case_from_parts old))
+    ⊎ ((old.len % 4096 ≢ 0) × (0 < free) × (length new.blocks ≡ length old.blocks + 1)
+    × (case_from_parts new ≡ case_from_parts (with_blocks old new.blocks)))
+Closes free old (Err SpaceFull) new = (old.len % 4096 ≢ 0) × (free ≡ 0)
+Closes free old (Err OutOfMemory) new = (old.len % 4096 ≢ 0) × (0 < free)
+Closes free old (Err Disk) new = (old.len % 4096 ≢ 0) → 0 < free
+Closes free old (Err _) new = ⊥
 
--- the bytes that fill no block stand in one of their own
-abbrev pub HoldsRest : Shape → ℕ → StreamParts → List ℕ → Type 0
-HoldsRest shape filled s bytes =
-    (s.len % 4096 ≢ 0) → take (s.len % 4096) (block_bytes shape bytes (next_block filled s.len)) ≡ take (s.len % 4096) s.block
+-- its blocks hold its bytes
+abbrev pub ClosesBytes : Shape → StreamParts → List ℕ → List ℕ → List ℕ → Type 0
+ClosesBytes shape old blocks a b = image_in shape b blocks old.len ≡ joined shape a old.blocks ++ take (old.len % 4096) old.block
 
 -- the record of a case is appended, or refused as the journal refuses it
 abbrev pub Appends : Journaled → Case → Result ℕ ArchiveFault → Journaled → Type 0
 Appends old c (Ok seq) new =
-    (old.stopped ≡ false) × HasRoom old.standing (store_size c) × (old.standing.next < 2 ^ 32)
-    × (seq ≡ old.standing.next) × (new ≡ running (stored old.standing c))
+    (old.stopped ≡ false) × HasRoom old.standing (store_of old.standing c) × (old.standing.next < 2 ^ 32)
+    × (seq ≡ old.standing.next) × (new ≡ goes_on old (store_of old.standing c))
 Appends old c (Err f) new = (j : JournalFault) × (f ≡ fault_of j) × StoreRefused old c j new
+
+-- the blocks of a case that was refused are free again
+abbrev pub GivesBack : Result ℕ ArchiveFault → List Bool → List ℕ → List Bool → Type 0
+GivesBack (Ok seq) old blocks new = new ≡ old
+GivesBack (Err f) old blocks new = Balances old blocks new []

@@ -1,5 +1,8 @@
 -- The bytes that an archive holds: an image for each case, and for each stream what it has taken and what is lent next.
-use Rattle.std.specs.Prelude.{◌≡◌, ℕ, List, [], ◌∷◌, ◌++◌, Option, None, Some, Result, Ok, Err, take, drop, replicate, slice_set}
+use Rattle.std.specs.Prelude.{◌≡◌, ℕ, List, [], ◌∷◌, ◌++◌, Option, None, Some, Result, Ok, Err, take, drop, replicate, slice_set, if◌then◌else◌}
+use Rattle.journal_layout.specs.Folding.{is_among}
+use Rattle.retention.specs.declared.Decision.{Decision}
+use Rattle.intake.specs.State.{Bare, BareCase}
 use Rattle.intake.specs.Slots.{stream_at, closed}
 use Rattle.intake.specs.declared.faults.ArchiveFault.{ArchiveFault}
 use Rattle.intake.specs.declared.faults.ArchiveFault.TheVariants.{Stopped, NoStream, Disk}
@@ -68,3 +71,31 @@ FinishBytes old slot (Err f) new = RefusedBytes old slot f new
 abbrev pub AbandonBytes : Contents → ℕ → Result (Unit {0}) ArchiveFault → Contents → Type 0
 AbandonBytes old slot (Ok u) new = new ≡ with_taken old slot None
 AbandonBytes old slot (Err f) new = new ≡ old
+
+-- what a refusal leaves that is no stream's: only a disk fault drops the streams
+abbrev pub UnmovedBytes : Contents → ArchiveFault → Contents → Type 0
+UnmovedBytes old Disk new = new ≡ without_streams old
+UnmovedBytes old _ new = new ≡ old
+
+abbrev pub PinBytes : Contents → Result (Unit {0}) ArchiveFault → Contents → Type 0
+PinBytes old (Ok u) new = new ≡ old
+PinBytes old (Err f) new = UnmovedBytes old f new
+
+-- the images of the cases that have none of these numbers
+abbrev pub images_without : List ℕ → List BareCase → List (List ℕ) → List (List ℕ)
+images_without seqs [] images = []
+images_without seqs (c ∷ cases) [] = []
+images_without seqs (c ∷ cases) (image ∷ images) =
+    if is_among seqs c.seq then images_without seqs cases images else image ∷ images_without seqs cases images
+
+-- the cases of these numbers go with their images
+abbrev pub DropBytes : Bare → Contents → List ℕ → Result (Unit {0}) ArchiveFault → Contents → Type 0
+DropBytes s old seqs (Ok u) new = new ≡ record old { images = images_without seqs s.cases old.images }
+DropBytes s old seqs (Err f) new = UnmovedBytes old f new
+
+abbrev pub DeleteBytes : Bare → Contents → ℕ → Result (Unit {0}) ArchiveFault → Contents → Type 0
+DeleteBytes s old seq r new = DropBytes s old (seq ∷ []) r new
+
+abbrev pub RetireBytes : Bare → Contents → Result Decision ArchiveFault → Contents → Type 0
+RetireBytes s old (Ok d) new = DropBytes s old d.dropped.items (Ok tt) new
+RetireBytes s old (Err f) new = UnmovedBytes old f new

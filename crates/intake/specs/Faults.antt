@@ -1,6 +1,6 @@
 -- How a fault of the journal is answered by the archive.
-use Rattle.store_journal.specs.declared.faults.JournalFault.{JournalFault}
-use Rattle.store_journal.specs.declared.faults.JournalFault.TheVariants as journal
+use Rattle.case_journal.specs.declared.faults.JournalFault.{JournalFault}
+use Rattle.case_journal.specs.declared.faults.JournalFault.TheVariants as journal
 use Rattle.intake.specs.declared.faults.ArchiveFault.{ArchiveFault}
 use Rattle.intake.specs.declared.faults.ArchiveFault.TheVariants.{Stopped, JournalFull, NumbersSpent, OutOfMemory, Disk}
 

@@ -1,11 +1,15 @@
+pub mod Balance
 pub mod Blocks
 pub mod Closing
 pub mod Contents
+pub mod Ending
 pub mod Faults
 pub mod Growth
 pub mod Lending
+pub mod Live
 pub mod Opened
 pub mod Parts
+pub mod Retiring
 pub mod Room
 pub mod Slots
 pub mod Sound

@@ -1,33 +1,34 @@
--- What opening an archive answers, and the cases that it shows.
-use Rattle.std.specs.Prelude.{◌≡◌, ℕ, false, true, List, [], ◌∷◌, None, Result, Ok, Err, map}
+-- What an opening answers, and the cases that an archive shows.
+use Rattle.std.specs.Prelude.{◌≡◌, ℕ, Bool, false, true, List, Option, None, Result, Ok, Err, map, replicate}
 use Rattle.std.specs.Borrow.{Bor}
-use Rattle.store_journal.specs.declared.faults.OpenFault.{OpenFault}
-use Rattle.store_journal.specs.declared.faults.OpenFault.TheVariants.{NotAnArchive, UnknownVersion, Damaged, Disk, OutOfMemory}
-use Rattle.store_journal.specs.declared.entry.Entry.{Entry}
-use Rattle.store_journal.specs.Case.{case_of}
-use Rattle.store_journal.specs.Standing.{Standing}
+use Rattle.journal_layout.specs.declared.entry.Entry.{Entry}
+use Rattle.journal_layout.specs.declared.faults.OpenFault.{OpenFault}
+use Rattle.journal_layout.specs.Case.{case_of}
+use Rattle.case_journal.specs.Journaled.{Journaled}
 use Rattle.intake.specs.declared.faults.ArchiveFault.{ArchiveFault}
 use Rattle.intake.specs.declared.faults.ArchiveFault.TheVariants as fault
-use Rattle.intake.specs.Parts.{Parts}
+use Rattle.intake.specs.Parts.{Parts, StreamParts}
 
-abbrev pub IsRefusedAs : OpenFault → Result Standing OpenFault → Type 0
-IsRefusedAs Disk expected = Unit {0}
-IsRefusedAs OutOfMemory expected = Unit {0}
-IsRefusedAs NotAnArchive expected = expected ≡ Err NotAnArchive
-IsRefusedAs (UnknownVersion v) expected = expected ≡ Err (UnknownVersion v)
-IsRefusedAs (Damaged at which) expected = expected ≡ Err (Damaged at which)
+-- the disk, whatever an opening answers
+abbrev pub disk_in : {D : Type 0} → Result (Parts D) (OpenFault × D) → D
+disk_in (Ok a) = a.disk
+disk_in (Err e) = e.1
 
--- an answer is that of the layout's opening, unless the disk or the memory failed
-abbrev pub Opens : {D : Type 0} → Result (Parts D) (OpenFault × D) → Result Standing OpenFault → Type 0
-Opens (Ok a) expected = expected ≡ Ok a.journal.standing
-Opens (Err e) expected = IsRefusedAs e.0 expected
+-- what it answers of the journal
+abbrev pub journal_in : {D : Type 0} → Result (Parts D) (OpenFault × D) → Result Journaled OpenFault
+journal_in (Ok a) = Ok a.journal
+journal_in (Err e) = Err e.0
 
--- nothing is on its way, and the journal runs
+-- the same before the archive is put together of its journal, the flags of the free blocks and the slots
+abbrev pub journal_of : Result (Journaled × List Bool × List (Option StreamParts)) OpenFault → Result Journaled OpenFault
+journal_of (Ok parts) = Ok parts.0
+journal_of (Err fault) = Err fault
+
+-- an archive that was just opened with this limit
 pub record IsOpened {D : Type 0} (most : ℕ) (a : Parts D) : Type 0 where
   pub limit : a.limit ≡ most
-  pub streams : a.streams ≡ None ∷ []
+  pub streams : a.streams ≡ replicate 8 None
   pub runs : a.stopped ≡ false
-  pub journal : a.journal.stopped ≡ false
 
 abbrev pub CasesReply : {D : Type 0} → Parts D → Result (Bor (List Entry)) ArchiveFault → Type 0
 CasesReply a (Ok cases) = (a.stopped ≡ false) × (map case_of cases.now ≡ a.journal.standing.cases)

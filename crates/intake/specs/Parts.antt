@@ -1,9 +1,9 @@
 -- What an archive is made of, as its contracts see it.
 use Rattle.std.specs.Prelude.{ℕ, ◌%◌, Bool, List, Option, ◌++◌, map, option_map, take, drop, length}
 use Rattle.extents.specs.Runs.{runs_of}
-use Rattle.store_journal.specs.declared.entry.Kind.{Kind}
-use Rattle.store_journal.specs.Case.{Case}
-use Rattle.store_journal.specs.Standing.{Journaled}
+use Rattle.journal_layout.specs.declared.entry.Kind.{Kind}
+use Rattle.journal_layout.specs.Case.{Case}
+use Rattle.case_journal.specs.Journaled.{Journaled}
 use Rattle.intake.specs.Blocks.{joined, image_in}
 use Rattle.intake.specs.State.{BareCase, BareStream, Bare}
 use Rattle.intake.specs.Contents.{Taken, Contents}

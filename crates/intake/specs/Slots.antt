@@ -1,13 +1,10 @@
 -- What stands in the slots for streams.
-use Rattle.std.specs.Prelude.{ℕ, zero, suc, List, [], ◌∷◌, Option, None}
+use Rattle.std.specs.Prelude.{ℕ, List, Option, None, map, slice_index_or}
 
 -- what stands in a slot, if anything
 abbrev pub stream_at : {X : Type 0} → List (Option X) → ℕ → Option X
-stream_at [] slot = None
-stream_at (o ∷ rest) zero = o
-stream_at (o ∷ rest) (suc slot) = stream_at rest slot
+stream_at slots slot = slice_index_or slots slot None
 
 -- the same slots with nothing in them
 abbrev pub closed : {X : Type 0} → List (Option X) → List (Option X)
-closed [] = []
-closed (o ∷ rest) = None ∷ closed rest
+closed {X} slots = map (λ (o : Option X). None) slots

@@ -1,39 +1,81 @@
--- What holds of every archive: its cases fill the first data blocks, one behind the other, and a stream those behind them.
-use Rattle.std.specs.Prelude.{◌≡◌, ℕ, ◌+◌, ◌/◌, ◌≤◌, Bool, true, false, List, [], ◌∷◌, Option, None, Some, length}
-use Rattle.std.specs.List.{range_with_len}
-use Rattle.store_journal.specs.Layout.{IsWithinLimits, disk_length}
-use Rattle.store_journal.specs.Case.{Case}
-use Rattle.store_journal.specs.Standing.{Journaled}
-use Rattle.intake.specs.State.{blocks_for}
+-- What holds of every archive: each data block is free or used once, by a case or by a stream, and no two of these have
+-- one name.
+use Rattle.std.specs.Prelude.{◌≡◌, ℕ, ◌+◌, ◌/◌, ◌^◌, ◌<◌, ◌≤◌, Bool, true, false, List, [], Option, None, Some, length, sum_by, nat_lt}
+use Rattle.std.specs.List.{All, count_by}
+use Rattle.std.specs.Str.{bytes_eq}
+use Rattle.disk_model.specs.declared.disk.Disk as disk
+use Rattle.extents.specs.FreeSet.{is_free, free_count, uses, one_if}
+use Rattle.journal_layout.specs.Case.{Case}
+use Rattle.journal_layout.specs.Layout.{IsWithinLimits}
+use Rattle.journal_layout.specs.Soundness.{IsName}
+use Rattle.case_journal.specs.Journaled.{Journaled}
+use Rattle.case_journal.specs.Keeping.{Keeps}
+use Rattle.journal_layout.specs.Live.{AreLive}
+use Rattle.intake.specs.Live.{case_uses, cases_named}
+use Rattle.intake.specs.Slots.{closed}
 use Rattle.intake.specs.Parts.{StreamParts}
 
--- these cases fill the blocks from start up to end
-abbrev pub AreFilled : ℕ → List Case → ℕ → Type 0
-AreFilled start [] end = start ≡ end
-AreFilled start (c ∷ rest) end =
-    (c.blocks ≡ range_with_len start (blocks_for c.len)) × AreFilled (start + blocks_for c.len) rest end
+-- the blocks of the stream in a slot
+abbrev pub held_by : Option StreamParts → List ℕ
+held_by None = []
+held_by (Some s) = s.blocks
 
--- the stream fills the blocks from start on, all of them below so many
-pub record IsFilling (start blocks most : ℕ) (s : StreamParts) : Type 0 where
-  pub filled : s.blocks ≡ range_with_len start (s.len / 4096)
-  pub within : start + s.len / 4096 ≤ blocks
-  pub block : length s.block ≡ 4096
+-- how often the streams use block k
+abbrev pub stream_uses : List (Option StreamParts) → ℕ → ℕ
+stream_uses streams k = sum_by (λ (o : Option StreamParts). uses (held_by o) k) streams
+
+-- how many blocks they have
+abbrev pub stream_blocks : List (Option StreamParts) → ℕ
+stream_blocks streams = sum_by (λ (o : Option StreamParts). length (held_by o)) streams
+
+abbrev pub case_blocks : List Case → ℕ
+case_blocks cases = sum_by (λ (c : Case). length c.blocks) cases
+
+-- These are the flags of so many blocks, of which the cases leave free those that none of them uses.
+pub record LeaveFree (blocks : ℕ) (cases : List Case) (flags : List Bool) : Type 0 where
+  pub long : length flags ≡ blocks
+  pub once : (k : ℕ) → one_if (is_free flags k) + case_uses cases k ≡ one_if (nat_lt k blocks)
+  pub total : free_count flags + case_blocks cases ≡ blocks
+
+-- the stream in this slot has this name
+abbrev pub is_called : List ℕ → Option StreamParts → Bool
+is_called name None = false
+is_called name (Some s) = bytes_eq s.name name
+
+-- how many of the streams have this name
+abbrev pub streams_named : List (Option StreamParts) → List ℕ → ℕ
+streams_named streams name = count_by (is_called name) streams
+
+-- a stream by itself
+pub record IsFine (most : ℕ) (s : StreamParts) : Type 0 where
+  pub name : IsName s.name
+  pub pid : s.pid < 2 ^ 32
+  pub signal : s.signal < 2 ^ 32
+  pub time : s.time < 2 ^ 64
+  pub small : s.len < 2 ^ 64
   pub limit : s.len ≤ most
+  -- the blocks that its bytes have filled, and the one that they fill
+  pub filled : length s.blocks ≡ s.len / 4096
+  pub block : length s.block ≡ 4096
 
-abbrev pub IsFillingIfOpen : ℕ → ℕ → ℕ → Option StreamParts → Type 0
-IsFillingIfOpen start blocks limit None = Unit {0}
-IsFillingIfOpen start blocks limit (Some s) = IsFilling start blocks limit s
+abbrev pub IsFineIfOpen : ℕ → Option StreamParts → Type 0
+IsFineIfOpen most None = Unit {0}
+IsFineIfOpen most (Some s) = IsFine most s
 
-abbrev pub IsClosedIf : Bool → Option StreamParts → Type 0
-IsClosedIf true o = o ≡ None
-IsClosedIf false o = Unit {0}
+-- an archive that no disk fault has stopped
+pub record IsRunning {D : Type 0} (g : disk.Ghosts D) (d : D) (j : Journaled) (most : ℕ) (flags : List Bool) (streams : List (Option StreamParts)) : Type 0 where
+  pub journal : j.stopped ≡ false
+  pub keeps : Keeps g d j
+  pub cases : AreLive j.standing.shape.data_blocks j.standing.cases j.standing.next
+  pub streams_fine : All (IsFineIfOpen most) streams
+  -- a flag for each data block
+  pub blocks : length flags ≡ j.standing.shape.data_blocks
+  pub once : (k : ℕ) → one_if (is_free flags k) + case_uses j.standing.cases k + stream_uses streams k ≡ one_if (nat_lt k j.standing.shape.data_blocks)
+  pub total : free_count flags + case_blocks j.standing.cases + stream_blocks streams ≡ j.standing.shape.data_blocks
+  pub named : (name : List ℕ) → cases_named j.standing.cases name + streams_named streams name ≤ 1
 
--- filled is the number of blocks that the cases fill
-pub record IsSound {D : Type 0} (size_of : D → ℕ) (d : D) (j : Journaled) (most filled : ℕ) (stream : Option StreamParts) (stopped : Bool) : Type 0 where
+pub record IsSound {D : Type 0} (g : disk.Ghosts D) (d : D) (j : Journaled) (most : ℕ) (flags : List Bool) (streams : List (Option StreamParts)) (stopped : Bool) : Type 0 where
   pub shape : IsWithinLimits j.standing.shape
-  pub size : size_of d ≡ disk_length j.standing.shape
-  pub cases : AreFilled 0 j.standing.cases filled
-  pub top : filled ≤ j.standing.shape.data_blocks
-  pub filling : IsFillingIfOpen filled j.standing.shape.data_blocks most stream
-  pub runs : stopped ≡ false → j.stopped ≡ false
-  pub none : IsClosedIf stopped stream
+  pub slots : length streams ≡ 8
+  pub runs : stopped ≡ false → IsRunning g d j most flags streams
+  pub none : stopped ≡ true → streams ≡ closed streams

@@ -1,7 +1,7 @@
 -- The state of an archive without the images' bytes: its cases, its streams, and what decides how a call is answered.
 use Rattle.std.specs.Prelude.{ℕ, ◌+◌, ◌/◌, Bool, List, Option, None, Some, sum_by}
-use Rattle.store_journal.specs.declared.shape.Shape.{Shape}
-use Rattle.store_journal.specs.declared.entry.Kind.{Kind}
+use Rattle.journal_layout.specs.declared.shape.Shape.{Shape}
+use Rattle.journal_layout.specs.declared.entry.Kind.{Kind}
 
 -- a case, with the number of its runs of blocks
 pub record BareCase : Type 0 where

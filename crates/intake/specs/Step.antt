@@ -1,12 +1,17 @@
 -- What each call does to the state without bytes, and when it is refused: relations by cases, the refusals in the order
 -- in which they are tried.
-use Rattle.std.specs.Prelude.{◌≡◌, ◌≢◌, ℕ, ◌+◌, ◌*◌, ◌%◌, ◌^◌, ◌<◌, ◌≤◌, Bool, true, false, List, [], ◌∷◌, ◌++◌, length, Option, None, Some, Result, Ok, Err, slice_set, ◌||◌}
-use Rattle.std.specs.List.{list_any}
+use Rattle.std.specs.Prelude.{◌≡◌, ◌≢◌, ℕ, ◌+◌, ◌*◌, ◌%◌, ◌^◌, ◌<◌, ◌≤◌, Bool, true, false, List, [], ◌∷◌, ◌++◌, length, Option, None, Some, Result, Ok, Err, slice_set, ◌||◌, ◌⊎◌, ◌==◌, not, map, if◌then◌else◌}
+use Rattle.std.specs.List.{list_any, filter}
 use Rattle.std.specs.Str.{bytes_eq}
-use Rattle.store_journal.specs.Layout.{half_length}
-use Rattle.store_journal.specs.Record.{rounded}
+use Rattle.journal_layout.specs.Layout.{half_length}
+use Rattle.journal_layout.specs.Record.{rounded}
+use Rattle.journal_layout.specs.Folding.{is_among}
+use Rattle.retention.specs.Rule.{IsDecision}
+use Rattle.retention.specs.declared.Brief.{Brief}
+use Rattle.retention.specs.declared.Policy.{Policy}
+use Rattle.retention.specs.declared.Decision.{Decision}
 use Rattle.intake.specs.declared.faults.ArchiveFault.{ArchiveFault}
-use Rattle.intake.specs.declared.faults.ArchiveFault.TheVariants.{Stopped, BadSlot, SlotBusy, NameTaken, NoStream, TooLong, SpaceFull, JournalFull, NumbersSpent, OutOfMemory, Disk}
+use Rattle.intake.specs.declared.faults.ArchiveFault.TheVariants.{Stopped, BadSlot, SlotBusy, NameTaken, NoStream, TooLong, SpaceFull, NoCase, Pinned, JournalFull, NumbersSpent, OutOfMemory, Disk}
 use Rattle.intake.specs.Slots.{stream_at, closed}
 use Rattle.intake.specs.State.{Bare, BareCase, BareStream, blocks_for, blocks_in}
 
@@ -144,3 +149,106 @@ AbandonStep old slot (Ok u) new =
 AbandonStep old slot (Err Stopped) new = (old.stopped ≡ true) × (new ≡ old)
 AbandonStep old slot (Err NoStream) new = (old.stopped ≡ false) × (stream_at old.streams slot ≡ None) × (new ≡ old)
 AbandonStep old slot (Err _) new = ⊥
+
+-- free_blocks: the free data blocks, and all of them
+abbrev pub FreeReply : Bare → Result (ℕ × ℕ) ArchiveFault → Type 0
+FreeReply old (Ok n) = (old.stopped ≡ false) × (n.0 + blocks_in old ≡ old.shape.data_blocks) × (n.1 ≡ old.shape.data_blocks)
+FreeReply old (Err Stopped) = old.stopped ≡ true
+FreeReply old (Err _) = ⊥
+
+-- the case of this number, if there is one
+abbrev pub case_at : ℕ → List BareCase → Option BareCase
+case_at seq [] = None
+case_at seq (c ∷ rest) = if c.seq == seq then Some c else case_at seq rest
+
+-- the case of this number is live
+abbrev pub HasCase : Bare → ℕ → BareCase → Type 0
+HasCase old seq c = (old.stopped ≡ false) × (case_at seq old.cases ≡ Some c)
+
+-- the bytes of the record that drops so many cases
+abbrev pub drop_size : ℕ → ℕ
+drop_size n = rounded (12 + 4 * n)
+
+-- the same state without these cases
+abbrev pub without_cases : Bare → List ℕ → Bare
+without_cases old seqs = record old {
+  cases = filter (λ (c : BareCase). not (is_among seqs c.seq)) old.cases;
+  used = old.used + drop_size (length seqs);
+}
+
+-- cases are dropped that may be, in an archive that runs
+abbrev pub DropStep : Bare → List ℕ → Result (Unit {0}) ArchiveFault → Bare → Type 0
+DropStep old seqs (Ok u) new = HasRecordRoom old (drop_size (length seqs)) × (new ≡ without_cases old seqs)
+DropStep old seqs (Err JournalFull) new = (half_length old.shape < old.used + drop_size (length seqs) + 1) × (new ≡ old)
+DropStep old seqs (Err OutOfMemory) new = HasRecordRoom old (drop_size (length seqs)) × (new ≡ old)
+DropStep old seqs (Err Disk) new = HasRecordRoom old (drop_size (length seqs)) × (new ≡ halted old)
+DropStep old seqs (Err _) new = ⊥
+
+-- delete: the case is gone
+abbrev pub DeleteStep : Bare → ℕ → Result (Unit {0}) ArchiveFault → Bare → Type 0
+DeleteStep old seq (Ok u) new =
+    (c : BareCase) × HasCase old seq c × (c.pinned ≡ false) × HasRecordRoom old (drop_size 1) × (new ≡ without_cases old (seq ∷ []))
+DeleteStep old seq (Err Stopped) new = (old.stopped ≡ true) × (new ≡ old)
+DeleteStep old seq (Err NoCase) new = (old.stopped ≡ false) × (case_at seq old.cases ≡ None) × (new ≡ old)
+DeleteStep old seq (Err Pinned) new = (c : BareCase) × HasCase old seq c × (c.pinned ≡ true) × (new ≡ old)
+DeleteStep old seq (Err JournalFull) new =
+    (c : BareCase) × HasCase old seq c × (c.pinned ≡ false) × (half_length old.shape < old.used + drop_size 1 + 1) × (new ≡ old)
+DeleteStep old seq (Err OutOfMemory) new = (c : BareCase) × HasCase old seq c × (c.pinned ≡ false) × HasRecordRoom old (drop_size 1) × (new ≡ old)
+DeleteStep old seq (Err Disk) new = (c : BareCase) × HasCase old seq c × (c.pinned ≡ false) × HasRecordRoom old (drop_size 1) × (new ≡ halted old)
+DeleteStep old seq (Err _) new = ⊥
+
+-- the bytes of the record that pins a case
+abbrev pub pin_size : ℕ
+pin_size = 16
+
+-- the same state with the flag of a case set
+abbrev pub with_flag : Bare → ℕ → Bool → Bare
+with_flag old seq flag = record old {
+  cases = map (λ (c : BareCase). if c.seq == seq then record c { pinned = flag } else c) old.cases;
+  used = old.used + pin_size;
+}
+
+-- pin: the flag is set; where it stands already, nothing changes
+abbrev pub PinStep : Bare → ℕ → Bool → Result (Unit {0}) ArchiveFault → Bare → Type 0
+PinStep old seq flag (Ok u) new =
+    (c : BareCase) × HasCase old seq c
+    × (((c.pinned ≡ flag) × (new ≡ old)) ⊎ ((c.pinned ≢ flag) × HasRecordRoom old pin_size × (new ≡ with_flag old seq flag)))
+PinStep old seq flag (Err Stopped) new = (old.stopped ≡ true) × (new ≡ old)
+PinStep old seq flag (Err NoCase) new = (old.stopped ≡ false) × (case_at seq old.cases ≡ None) × (new ≡ old)
+PinStep old seq flag (Err JournalFull) new =
+    (c : BareCase) × HasCase old seq c × (c.pinned ≢ flag) × (half_length old.shape < old.used + pin_size + 1) × (new ≡ old)
+PinStep old seq flag (Err OutOfMemory) new = (c : BareCase) × HasCase old seq c × (c.pinned ≢ flag) × HasRecordRoom old pin_size × (new ≡ old)
+PinStep old seq flag (Err Disk) new = (c : BareCase) × HasCase old seq c × (c.pinned ≢ flag) × HasRecordRoom old pin_size × (new ≡ halted old)
+PinStep old seq flag (Err _) new = ⊥
+
+-- what the rule looks at of a case
+abbrev pub brief_of : BareCase → Brief
+brief_of c = record { seq = c.seq; time = c.time; length = c.len; pinned = c.pinned }
+
+-- by the rule these cases go, and some do
+abbrev pub Retires : Bare → Policy → List ℕ → Bool → Type 0
+Retires old policy dropped unmet = (old.stopped ≡ false) × IsDecision policy (map brief_of old.cases) dropped unmet × (dropped ≢ [])
+
+-- retire: the cases that the rule drops are gone; where it drops none, nothing changes
+abbrev pub RetireStep : Bare → Policy → Result Decision ArchiveFault → Bare → Type 0
+RetireStep old policy (Ok d) new =
+    (old.stopped ≡ false) × IsDecision policy (map brief_of old.cases) d.dropped.items d.unmet
+    × (((d.dropped.items ≡ []) × (new ≡ old))
+    ⊎ ((d.dropped.items ≢ []) × HasRecordRoom old (drop_size (length d.dropped.items)) × (new ≡ without_cases old d.dropped.items)))
+RetireStep old policy (Err Stopped) new = (old.stopped ≡ true) × (new ≡ old)
+RetireStep old policy (Err JournalFull) new =
+    (dropped : List ℕ) × (unmet : Bool) × Retires old policy dropped unmet
+    × (half_length old.shape < old.used + drop_size (length dropped) + 1) × (new ≡ old)
+RetireStep old policy (Err OutOfMemory) new = (old.stopped ≡ false) × (new ≡ old)
+RetireStep old policy (Err Disk) new =
+    (dropped : List ℕ) × (unmet : Bool) × Retires old policy dropped unmet × HasRecordRoom old (drop_size (length dropped)) × (new ≡ halted old)
+RetireStep old policy (Err _) new = ⊥
+
+-- image: the bytes of a case are read; only a disk fault changes the state
+abbrev pub ImageStep : {T : Type 0} → Bare → ℕ → Result T ArchiveFault → Bare → Type 0
+ImageStep old seq (Ok image) new = (c : BareCase) × HasCase old seq c × (new ≡ old)
+ImageStep old seq (Err Stopped) new = (old.stopped ≡ true) × (new ≡ old)
+ImageStep old seq (Err NoCase) new = (old.stopped ≡ false) × (case_at seq old.cases ≡ None) × (new ≡ old)
+ImageStep old seq (Err OutOfMemory) new = (c : BareCase) × HasCase old seq c × (new ≡ old)
+ImageStep old seq (Err Disk) new = (c : BareCase) × HasCase old seq c × (new ≡ halted old)
+ImageStep old seq (Err _) new = ⊥

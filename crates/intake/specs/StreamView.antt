@@ -1,7 +1,8 @@
 -- What contracts see of a stream.
-use Rattle.std.specs.Prelude.{ℕ, false, List, []}
-use Rattle.store_journal.specs.Case.{Case}
+use Rattle.std.specs.Prelude.{ℕ, false, List, Option, option_map}
+use Rattle.journal_layout.specs.Case.{Case}
 use Rattle.intake.specs.declared.stream.Stream.{Stream}
+use Rattle.intake.specs.declared.slots.Slot.{Slot}
 use Rattle.intake.specs.Parts.{StreamParts}
 
 -- a stream whose block holds this
@@ -17,6 +18,10 @@ parts_of block s = record {
   block = block;
 }
 
+-- the stream in a slot, if there is one
+abbrev pub parts_in : Slot → Option StreamParts
+parts_in slot = option_map (parts_of slot.block) slot.stream
+
 -- the case that a stream becomes, not numbered yet
 abbrev pub case_from_parts : StreamParts → Case
 case_from_parts s = record {
@@ -31,5 +36,6 @@ case_from_parts s = record {
   blocks = s.blocks;
 }
 
-abbrev pub case_from_stream : Stream → Case
-case_from_stream s = case_from_parts (parts_of [] s)
+-- a stream that was taken out of its slot, with its block
+abbrev pub taken_parts : Stream × List ℕ → StreamParts
+taken_parts t = parts_of t.1 t.0

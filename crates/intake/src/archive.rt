@@ -1,25 +1,35 @@
-// The archive: its cases, and the stream on its way into it.
-ghost use Rattle.std.specs.Prelude.{◌≡◌, ◌<◌, ◌≤◌, [], length, OnOk, option_map, IsTrue, IfOk, IfErr, Err};
+// The archive: its cases, and the streams on their way into it.
+ghost use Rattle.std.specs.Prelude.{◌≡◌, ◌<◌, ◌≤◌, [], length, OnOk, IfOk, Err, map, IsTrue, false};
+ghost use Rattle.disk_model.specs.Moments.{LeavesOnly};
+ghost use Rattle.journal_layout.specs.Standing.{Standing};
+ghost use Rattle.journal_layout.specs.Stands.{Stands};
+ghost use Rattle.case_journal.specs.Append.{MayFollow};
+ghost use Rattle.journal_layout.specs.Record.{Drop};
+ghost use Rattle.case_journal.specs.Viewing.{ShowsOpening, Finds};
+ghost use Rattle.intake.specs.Step.{is_taken};
 ghost use Rattle.disk_model.specs.Disk.{HasRisen};
-ghost use Rattle.store_journal.specs.Opening.{opening};
-ghost use Rattle.intake.specs.Step.{is_taken, has_name};
-ghost use Rattle.intake.specs.Parts.{bare_stream};
-ghost use Rattle.intake.specs.StreamView.{parts_of};
-ghost use Rattle.intake.specs.Room.{IsFreeFrom};
-ghost use Rattle.intake.specs.declared.stream.Stream.{Stream};
+ghost use Rattle.intake.specs.Growth.{IsDiskFault};
+ghost use Rattle.intake.specs.Ending.{EndsStreams};
 ghost use Rattle.std.specs.List.{list_any};
 ghost use Rattle.std.specs.Str.{bytes_eq};
-ghost use Rattle.store_journal.specs.declared.entry.Entry.{Entry};
+ghost use Rattle.journal_layout.specs.Soundness.{IsName};
+ghost use Rattle.journal_layout.specs.declared.entry.Entry.{Entry};
 
 use crate::ArchiveFault;
-use crate::blocks::{Space, append_case, blocks_for, grow, seal, stops};
+use crate::blocks::{append_case, grow, release, seal, stops};
 use crate::buffer::Buffer;
+use crate::dropping::{hold_listed, release_listed};
+use crate::opening::open_parts;
+use crate::retiring::decide_for;
+use crate::slots::Slots;
 use crate::stream::Stream;
+use case_journal::Journal;
 use disk_model::Disk;
-use extents::RunList;
+use extents::{FreeMap, RunList};
+use journal_layout::{Entry, Kind, Name, OpenFault};
+use retention::{Decision, Policy};
 use std::alloc::Global;
 use std::marker::Model;
-use store_journal::{Entry, Journal, Kind, Name, OpenFault};
 
 /// How an archive is opened.
 #[derive(Clone, Copy, Debug, PartialEq, Eq)]
@@ -36,68 +46,69 @@ pub struct Archive<D: Disk> {
     journal: Journal,
     alloc: Global,
     settings: Settings,
-    // How many data blocks the cases fill: the first ones.
-    filled: u32,
-    // The stream in slot 0.
-    stream: Option<Stream>,
-    // The 4,096 bytes of the block that it fills now; any bytes where there is none.
-    block: Buffer,
+    // The data blocks that no case and no stream has.
+    free: FreeMap,
+    slots: Slots,
     // Whether a disk fault has stopped it.
     stopped: bool,
 }
 
 impl<D: Disk> Model for Archive<D> {
-    ghost use Rattle.std.specs.Prelude.{◌∷◌, [], option_map};
     ghost use Rattle.intake.specs.Parts.{Parts};
 
     ghost Value = { Parts D };
 
-    ghost use Rattle.intake.specs.StreamView.{parts_of};
     ghost use Rattle.intake.specs.Sound.{IsSound};
 
     ghost view = { λ a. record {
       disk = a.disk;
       journal = a.journal;
       limit = a.settings.limit;
-      streams = option_map (parts_of a.block) a.stream ∷ [];
+      streams = a.slots;
       stopped = a.stopped;
     } };
 
-    ghost invariant = { λ a. IsSound D.size a.disk a.journal a.settings.limit a.filled (option_map (parts_of a.block) a.stream) a.stopped };
+    ghost invariant = { λ a. IsSound D.Disk a.disk a.journal a.settings.limit a.free a.slots a.stopped };
 }
 
 impl<D: Disk> Archive<D> {
     ghost use Rattle.intake.specs.Parts.{Parts, StreamParts, bare_of, contents_of};
     ghost use Rattle.intake.specs.State.{Bare, BareStream};
-    ghost use Rattle.intake.specs.Step.{BeginStep, RoomReply, AdvanceStep, FinishStep, AbandonStep};
-    ghost use Rattle.intake.specs.Contents.{BeginBytes, AdvanceBytes, FinishBytes, AbandonBytes};
-    ghost use Rattle.intake.specs.Opened.{Opens, IsOpened, CasesReply};
+    ghost use Rattle.intake.specs.Step.{AdvanceStep, FinishStep, BeginStep, RoomReply, AbandonStep, FreeReply, PinStep, DropStep, DeleteStep, RetireStep};
+    ghost use Rattle.intake.specs.Contents.{AdvanceBytes, FinishBytes, BeginBytes, AbandonBytes, PinBytes, DropBytes, DeleteBytes, RetireBytes};
+    ghost use Rattle.intake.specs.Opened.{CasesReply, IsOpened, disk_in, journal_in};
     ghost use Rattle.intake.specs.Room.{LendsRoom, room_of, FitsFree};
     ghost use Rattle.intake.specs.Slots.{stream_at};
-    ghost use Rattle.intake.specs.Growth.{IsDiskFault};
     ghost use Rattle.std.specs.Borrow.{sem};
 
     /// Opens the archive on a disk; no stream is open. A refusal hands the disk back: the first check of the layout that
     /// fails, or `Disk`, or `OutOfMemory`.
     pub fn open(alloc: Global, disk: D, settings: Settings) -> Result<Archive<D>, (OpenFault, D)>
-        ensures gives { IsTrue (D.is_honest disk) → Opens result (opening (D.seen disk)) }
-        ensures state { IfOk result (λ a. IsOpened settings.limit a × (D.size a.disk
-            ≡ D.size disk)) }
-        ensures honesty { IfOk result (λ a. D.is_honest a.disk ≡ D.is_honest disk) }
-        ensures seen { IsTrue (D.is_honest disk) → IfOk result (λ a. D.seen a.disk ≡ D.seen disk) }
-        ensures cause { IfErr result (λ e. e.0 ≡ OpenFault.Disk
-            → HasRisen (D.failures disk) (D.failures e.1)) }
+        // The answer is the opening of some bytes that reads gave, on an honest disk of its bytes.
+        ensures gives { ShowsOpening D.Disk disk (journal_in result) }
+        // What the disk stands for is found, and nothing but the disk and the memory refuses it.
+        ensures found { (s : Standing) → IsTrue (D.is_honest disk) → Stands (D.seen disk) s
+            → Finds (journal_in result) s }
+        ensures state { IfOk result (λ a. IsOpened settings.limit a) }
+        // A crash meanwhile leaves what one before could have left.
+        ensures any_moment { IsTrue (D.is_honest disk)
+            → LeavesOnly D.Disk disk (disk_in result) (D.may_leave disk) }
+        ensures seen { IsTrue (D.is_honest disk) → D.seen (disk_in result) ≡ D.seen disk }
+        ensures cause { journal_in result ≡ Err OpenFault.Disk
+            → HasRisen (D.failures disk) (D.failures (disk_in result)) }
+        ensures later { D.failures disk ≤ D.failures (disk_in result) }
+        ensures honesty { D.is_honest (disk_in result) ≡ D.is_honest disk }
+        ensures size { D.size (disk_in result) ≡ D.size disk }
     {
         let mut disk = disk;
-        match Journal::open(alloc, &mut disk) {
-            Ok(journal) => Ok(Archive {
+        match open_parts(alloc, &mut disk) {
+            Ok((journal, free, slots)) => Ok(Archive {
                 disk,
                 journal,
                 alloc,
                 settings,
-                filled: 0,
-                stream: None,
-                block: Buffer::empty(alloc),
+                free,
+                slots,
                 stopped: false,
             }),
             Err(fault) => Err((fault, disk)),
@@ -114,11 +125,21 @@ impl<D: Disk> Archive<D> {
         Ok(self.journal.entries())
     }
 
-    // Whether a live case or the open stream has the name.
+    /// How many data blocks are free, and how many there are. Answers `Stopped` alone.
+    pub fn free_blocks(&self) -> Result<(u32, u32), ArchiveFault>
+        ensures { FreeReply (bare_of self.now) result }
+    {
+        if self.stopped {
+            return Err(ArchiveFault::Stopped);
+        }
+        Ok((self.free.free(), self.journal.shape().data_blocks))
+    }
+
+    // Whether a live case or an open stream has the name.
     fn is_taken(&self, name: &[u8]) -> bool
         ensures { result ≡ is_taken (bare_of self.now) name.now }
     {
-        has_entry(self.journal.entries(), name) || has_stream(&self.stream, name)
+        has_entry(self.journal.entries(), name) || self.slots.has_name(name)
     }
 
     /// Begins a stream with no bytes in a slot. Answers, in this order: `Stopped`; `BadSlot`; `SlotBusy`; `NameTaken`;
@@ -132,6 +153,7 @@ impl<D: Disk> Archive<D> {
         signal: u32,
         time: u64,
     ) -> Result<(), ArchiveFault>
+        requires name { IsName name.items }
         ensures step { BeginStep (bare_of self.old) slot
             (record {
               kind = kind;
@@ -148,10 +170,10 @@ impl<D: Disk> Archive<D> {
         if self.stopped {
             return Err(ArchiveFault::Stopped);
         }
-        if slot > 0 {
+        if slot > 7 {
             return Err(ArchiveFault::BadSlot);
         }
-        if self.stream.is_some() {
+        if self.slots.is_open(slot) {
             return Err(ArchiveFault::SlotBusy);
         }
         if self.is_taken(name.as_slice()) {
@@ -160,16 +182,19 @@ impl<D: Disk> Archive<D> {
         let Ok(block) = Buffer::zeros(self.alloc) else {
             return Err(ArchiveFault::OutOfMemory);
         };
-        self.stream = Some(Stream {
-            kind,
-            name,
-            pid,
-            signal,
-            time,
-            length: 0,
-            runs: RunList::new(self.alloc),
-        });
-        self.block = block;
+        self.slots.put(
+            slot,
+            Stream {
+                kind,
+                name,
+                pid,
+                signal,
+                time,
+                length: 0,
+                runs: RunList::new(self.alloc),
+            },
+            block,
+        );
         Ok(())
     }
 
@@ -183,8 +208,7 @@ impl<D: Disk> Archive<D> {
         ensures fits { OnOk result.0 (FitsFree (stream_at self.old.streams slot)
             (length result.1.now)) }
     {
-        let (reply, from) = free_from(self.stopped, &self.stream, slot, self.block.len());
-        self.block.lend(reply, from)
+        self.slots.lend(self.stopped, slot)
     }
 
     /// Takes the first `n` bytes of the free part as they stand. A block that is full is written, and the free part is
@@ -204,27 +228,27 @@ impl<D: Disk> Archive<D> {
         if self.stopped {
             return Err(ArchiveFault::Stopped);
         }
-        if slot > 0 {
-            return Err(ArchiveFault::NoStream);
-        }
-        let Some(mut stream) = self.stream.take() else {
+        let Some((mut stream, mut block)) = self.slots.take(self.alloc, slot) else {
             return Err(ArchiveFault::NoStream);
         };
-        let space = Space {
-            shape: self.journal.shape(),
-            filled: self.filled,
-            limit: self.settings.limit,
-        };
-        match grow(&mut self.disk, space, &mut stream, &mut self.block, n) {
-            Ok(()) => {
-                self.stream = Some(stream);
-                Ok(())
-            }
-            Err(fault) => {
-                self.stopped = stops(fault);
-                Err(fault)
-            }
+        let shape = self.journal.shape();
+        let limit = self.settings.limit;
+        let grown = grow(
+            &mut self.disk,
+            shape,
+            limit,
+            &mut self.free,
+            &mut stream,
+            &mut block,
+            n,
+        );
+        if let Err(fault) = grown {
+            release(&mut self.free, stream.runs);
+            self.stopped = end_streams(fault, &mut self.slots);
+            return Err(fault);
         }
+        self.slots.put(slot, stream, block);
+        Ok(())
     }
 
     /// Makes the stream in a slot the last case, and answers its number. What of its bytes fills no block is written to
@@ -243,32 +267,30 @@ impl<D: Disk> Archive<D> {
         if self.stopped {
             return Err(ArchiveFault::Stopped);
         }
-        if slot > 0 {
-            return Err(ArchiveFault::NoStream);
-        }
-        let Some(mut stream) = self.stream.take() else {
+        let Some((mut stream, mut block)) = self.slots.take(self.alloc, slot) else {
             return Err(ArchiveFault::NoStream);
         };
-        let space = Space {
-            shape: self.journal.shape(),
-            filled: self.filled,
-            limit: self.settings.limit,
-        };
-        if let Err(fault) = seal(&mut self.disk, space, &mut stream, &mut self.block) {
-            self.stopped = stops(fault);
+        let shape = self.journal.shape();
+        let sealed = seal(
+            &mut self.disk,
+            shape,
+            &mut self.free,
+            &mut stream,
+            &mut block,
+        );
+        if let Err(fault) = sealed {
+            release(&mut self.free, stream.runs);
+            self.stopped = end_streams(fault, &mut self.slots);
             return Err(fault);
         }
         let entry = stream.into_entry();
-        let blocks = blocks_for(entry.length);
-        let seq = match append_case(&mut self.journal, &mut self.disk, entry) {
-            Ok(seq) => seq,
+        match append_case(&mut self.journal, &mut self.disk, &mut self.free, entry) {
+            Ok(seq) => Ok(seq),
             Err(fault) => {
-                self.stopped = stops(fault);
-                return Err(fault);
+                self.stopped = end_streams(fault, &mut self.slots);
+                Err(fault)
             }
-        };
-        self.filled += blocks;
-        Ok(seq)
+        }
     }
 
     /// Drops the stream in a slot. Answers, in this order: `Stopped`; `NoStream`.
@@ -282,11 +304,114 @@ impl<D: Disk> Archive<D> {
         if self.stopped {
             return Err(ArchiveFault::Stopped);
         }
-        if slot > 0 || self.stream.is_none() {
+        let Some((stream, _)) = self.slots.take(self.alloc, slot) else {
             return Err(ArchiveFault::NoStream);
-        }
-        self.stream = None;
+        };
+        release(&mut self.free, stream.runs);
         Ok(())
+    }
+
+    /// Keeps a case from deletion, or no longer; where that stands already, nothing is written. Answers, in this order:
+    /// `Stopped`; `NoCase`; `JournalFull`; `Disk`. All but the last change nothing.
+    pub fn pin(&mut self, seq: u32, flag: bool) -> Result<(), ArchiveFault>
+        ensures step { PinStep (bare_of self.old) seq flag result (bare_of self.new) }
+        ensures bytes { IsTrue (D.is_honest self.old.disk)
+            → PinBytes (contents_of D.seen self.old) result (contents_of D.seen self.new) }
+        ensures cause { IsDiskFault result
+            → HasRisen (D.failures self.old.disk) (D.failures self.new.disk) }
+        ensures later { D.failures self.old.disk ≤ D.failures self.new.disk }
+        ensures honesty { D.is_honest self.new.disk ≡ D.is_honest self.old.disk }
+    {
+        if self.stopped {
+            return Err(ArchiveFault::Stopped);
+        }
+        let Some(entry) = self.journal.entry(seq) else {
+            return Err(ArchiveFault::NoCase);
+        };
+        if entry.pinned == flag {
+            return Ok(());
+        }
+        let Err(fault) = self.journal.append_pin(&mut self.disk, seq, flag) else {
+            return Ok(());
+        };
+        let fault = ArchiveFault::from(fault);
+        self.stopped = end_streams(fault, &mut self.slots);
+        Err(fault)
+    }
+
+    // Drops the cases of these numbers, which may be dropped. Answers, in this order: `JournalFull`; `OutOfMemory`; `Disk`.
+    fn drop_cases(&mut self, seqs: &[u32]) -> Result<(), ArchiveFault>
+        requires runs { self.old.stopped ≡ false }
+        requires may { MayFollow self.old.journal.standing (Drop seqs.now) }
+        ensures step { DropStep (bare_of self.old) seqs.now result (bare_of self.new) }
+        ensures bytes { IsTrue (D.is_honest self.old.disk)
+            → DropBytes (bare_of self.old) (contents_of D.seen self.old) seqs.now result
+            (contents_of D.seen self.new) }
+        ensures cause { IsDiskFault result
+            → HasRisen (D.failures self.old.disk) (D.failures self.new.disk) }
+        ensures later { D.failures self.old.disk ≤ D.failures self.new.disk }
+        ensures honesty { D.is_honest self.new.disk ≡ D.is_honest self.old.disk }
+    {
+        release_listed(&mut self.free, self.journal.entries(), seqs);
+        let Err(fault) = self.journal.append_drop(&mut self.disk, seqs) else {
+            return Ok(());
+        };
+        hold_listed(&mut self.free, self.journal.entries(), seqs);
+        let fault = ArchiveFault::from(fault);
+        self.stopped = end_streams(fault, &mut self.slots);
+        Err(fault)
+    }
+
+    /// Drops a case that is not pinned; its blocks are free then. Answers, in this order: `Stopped`; `NoCase`; `Pinned`;
+    /// `JournalFull`; `OutOfMemory`; `Disk`. All but the last change nothing.
+    pub fn delete(&mut self, seq: u32) -> Result<(), ArchiveFault>
+        ensures step { DeleteStep (bare_of self.old) seq result (bare_of self.new) }
+        ensures bytes { IsTrue (D.is_honest self.old.disk)
+            → DeleteBytes (bare_of self.old) (contents_of D.seen self.old) seq result
+            (contents_of D.seen self.new) }
+        ensures cause { IsDiskFault result
+            → HasRisen (D.failures self.old.disk) (D.failures self.new.disk) }
+        ensures later { D.failures self.old.disk ≤ D.failures self.new.disk }
+        ensures honesty { D.is_honest self.new.disk ≡ D.is_honest self.old.disk }
+    {
+        if self.stopped {
+            return Err(ArchiveFault::Stopped);
+        }
+        let Some(entry) = self.journal.entry(seq) else {
+            return Err(ArchiveFault::NoCase);
+        };
+        if entry.pinned {
+            return Err(ArchiveFault::Pinned);
+        }
+        self.drop_cases(&[seq])
+    }
+
+    /// Drops the cases that the rule drops under this policy, and answers what it says; where it drops none, nothing is
+    /// written. Answers, in this order: `Stopped`; `OutOfMemory`; `JournalFull`; `OutOfMemory`; `Disk`. All but the last
+    /// change nothing.
+    pub fn retire(&mut self, policy: &Policy) -> Result<Decision, ArchiveFault>
+        ensures step { RetireStep (bare_of self.old) policy.now result (bare_of self.new) }
+        ensures bytes { IsTrue (D.is_honest self.old.disk)
+            → RetireBytes (bare_of self.old) (contents_of D.seen self.old) result
+            (contents_of D.seen self.new) }
+        ensures cause { IsDiskFault result
+            → HasRisen (D.failures self.old.disk) (D.failures self.new.disk) }
+        ensures later { D.failures self.old.disk ≤ D.failures self.new.disk }
+        ensures honesty { D.is_honest self.new.disk ≡ D.is_honest self.old.disk }
+    {
+        if self.stopped {
+            return Err(ArchiveFault::Stopped);
+        }
+        let Ok(decision) = decide_for(self.alloc, self.journal.entries(), policy) else {
+            return Err(ArchiveFault::OutOfMemory);
+        };
+        if decision.dropped.is_empty() {
+            return Ok(decision);
+        }
+        if let Err(fault) = self.drop_cases(decision.dropped.as_slice()) {
+            return Err(fault);
+        }
+        Ok(decision)
     }
 
     /// Lets the disk go.
@@ -298,22 +423,15 @@ impl<D: Disk> Archive<D> {
     }
 }
 
-// Where the free part of the block begins: at its end where nothing is lent.
-fn free_from(
-    stopped: bool,
-    stream: &Option<Stream>,
-    slot: u8,
-    end: usize,
-) -> (Result<(), ArchiveFault>, usize)
-    ensures { IsFreeFrom stopped (option_map (parts_of []) stream.now) slot end result.0 result.1 }
+// After a refusal: a disk fault closes all streams and stops the archive.
+fn end_streams(fault: ArchiveFault, slots: &mut Slots) -> bool
+    ensures { EndsStreams fault slots.old result slots.new }
 {
+    let stopped = stops(fault);
     if stopped {
-        return (Err(ArchiveFault::Stopped), end);
+        slots.close_all();
     }
-    match stream {
-        Some(stream) if slot == 0 => (Ok(()), (stream.length % 4096) as usize),
-        _ => (Err(ArchiveFault::NoStream), end),
-    }
+    stopped
 }
 
 // Whether an entry has the name.
@@ -321,15 +439,4 @@ fn has_entry(entries: &[Entry], name: &[u8]) -> bool
     ensures { result ≡ list_any (λ (e : Entry). bytes_eq e.name.items name.now) entries.now }
 {
     entries.iter().any(|entry| entry.name.as_slice() == name)
-}
-
-// Whether the stream, if one is open, has the name.
-fn has_stream(stream: &Option<Stream>, name: &[u8]) -> bool
-    ensures { result ≡ has_name name.now (option_map (λ (s : Stream). bare_stream
-        (parts_of [] s)) stream.now) }
-{
-    match stream {
-        Some(stream) => stream.name.as_slice() == name,
-        None => false,
-    }
 }

@@ -1,22 +1,27 @@
 // Blocks of an image, as they are written.
-ghost use Rattle.std.specs.Prelude.{◌≡◌, ◌+◌, ◌%◌, ◌<◌, ◌≤◌, ◌++◌, ◌∷◌, [], length, IsTrue, OnOk, OnErr};
+ghost use Rattle.std.specs.Prelude.{◌≡◌, ◌+◌, ◌%◌, ◌/◌, ◌<◌, ◌≤◌, ◌++◌, ◌∷◌, ◌^◌, [], length, IsTrue, OnOk, OnErr, ℕ};
 ghost use Rattle.disk_model.specs.Places.{overwritten, SameOutside};
 ghost use Rattle.disk_model.specs.Disk.{HasRisen};
-ghost use Rattle.store_journal.specs.Layout.{IsWithinLimits, disk_length, half_start, half_length};
+ghost use Rattle.extents.specs.FreeSet.{free_count};
+ghost use Rattle.journal_layout.specs.Layout.{IsWithinLimits, disk_length, half_start, half_length};
+ghost use Rattle.case_journal.specs.Journaled.{Journaled};
+ghost use Rattle.case_journal.specs.Keeping.{Keeps};
+ghost use Rattle.intake.specs.Balance.{AreFree, AreHeld, Balances};
 ghost use Rattle.intake.specs.Blocks.{block_start, block_bytes};
-ghost use Rattle.intake.specs.Growth.{BlockReply, IsDiskFault, Grows, NeedsBlock, next_block, stops_at};
-ghost use Rattle.intake.specs.Closing.{Closes, HoldsRest, Appends};
-ghost use Rattle.store_journal.specs.Case.{case_of};
-ghost use Rattle.intake.specs.State.{blocks_for};
-ghost use Rattle.intake.specs.Sound.{IsFilling};
+ghost use Rattle.intake.specs.Growth.{DiskReply, BlockReply, IsDiskFault, ChangesFree, Adds, Grows, GrowsBytes, stops_at};
+ghost use Rattle.case_journal.specs.Append.{MayStore};
+ghost use Rattle.journal_layout.specs.Case.{case_of};
+ghost use Rattle.intake.specs.Closing.{Closes, ClosesBytes, Appends, GivesBack};
+ghost use Rattle.intake.specs.Sound.{IsFine};
 ghost use Rattle.intake.specs.StreamView.{parts_of};
 
 use crate::ArchiveFault;
 use crate::buffer::Buffer;
 use crate::stream::Stream;
+use case_journal::{Journal, data_blocks_keep};
 use disk_model::Disk;
-use extents::{Run, RunList};
-use store_journal::{BLOCK, Entry, Journal, Shape};
+use extents::{FreeMap, RunList};
+use journal_layout::{BLOCK, Entry, Shape};
 
 /// Where a data block begins on the disk, in bytes.
 fn block_start(shape: Shape, block: u32) -> u64
@@ -27,51 +32,71 @@ fn block_start(shape: Shape, block: u32) -> u64
     shape.data_start() + BLOCK * u64::from(block)
 }
 
-/// Gives one more block to an image and writes it: the block of this number, the next one. Answers `SpaceFull` where
-/// there is none, then `OutOfMemory`, then `Disk`.
-pub(crate) fn add_block<D: Disk>(
+// Writes a data block. Answers `Disk` alone.
+fn write_data<D: Disk>(
     disk: &mut D,
     shape: Shape,
     block: u32,
-    runs: &mut RunList,
     bytes: &[u8],
 ) -> Result<(), ArchiveFault>
     requires limits { IsWithinLimits shape }
-    requires within { block ≤ shape.data_blocks }
+    requires within { block < shape.data_blocks }
     requires disk { D.size disk.old ≡ disk_length shape }
     requires bytes { length bytes.now ≡ 4096 }
-    ensures reply { BlockReply shape block result }
-    ensures runs { OnOk result (runs.new ≡ runs.old ++ block ∷ []) }
+    ensures reply { DiskReply result }
     ensures written { IsTrue (D.is_honest disk.old) → OnOk result (D.seen disk.new
         ≡ overwritten (D.seen disk.old) (block_start shape block) bytes.now) }
     ensures others { IsTrue (D.is_honest disk.old)
         → SameOutside (block_start shape block) 4096 (D.seen disk.old) (D.seen disk.new) }
+    ensures keeps { (j : Journaled) → j.standing.shape ≡ shape → Keeps D.Disk disk.old j
+        → Keeps D.Disk disk.new j }
     ensures cause { IsDiskFault result → HasRisen (D.failures disk.old) (D.failures disk.new) }
     ensures later { D.failures disk.old ≤ D.failures disk.new }
     ensures honesty { D.is_honest disk.new ≡ D.is_honest disk.old }
     ensures size { D.size disk.new ≡ D.size disk.old }
 {
-    if block == shape.data_blocks {
-        return Err(ArchiveFault::SpaceFull);
-    }
-    let Ok(()) = runs.append(Run {
-        start: block,
-        count: 1,
-    }) else {
-        return Err(ArchiveFault::OutOfMemory);
-    };
+    data_blocks_keep();
     let Ok(()) = disk.write_at(block_start(shape, block), bytes) else {
         return Err(ArchiveFault::Disk);
     };
     Ok(())
 }
 
-/// The blocks that hold so many bytes.
-pub(crate) fn blocks_for(length: u64) -> u32
-    requires { blocks_for length ≤ 16777216 }
-    ensures { result ≡ blocks_for length }
+/// Gives the lowest free block to an image and writes it. Answers `SpaceFull` where none is free, then `OutOfMemory`,
+/// then `Disk`. What is free and what the image has are together what they were, whatever is answered.
+pub(crate) fn add_block<D: Disk>(
+    disk: &mut D,
+    shape: Shape,
+    free: &mut FreeMap,
+    runs: &mut RunList,
+    bytes: &[u8],
+) -> Result<(), ArchiveFault>
+    requires limits { IsWithinLimits shape }
+    requires disk { D.size disk.old ≡ disk_length shape }
+    requires map { length free.old ≡ shape.data_blocks }
+    requires bytes { length bytes.now ≡ 4096 }
+    ensures reply { BlockReply (free_count free.old) result }
+    ensures balance { Balances free.old runs.old free.new runs.new }
+    ensures more { OnOk result (length runs.new ≡ length runs.old + 1) }
+    ensures added { IsTrue (D.is_honest disk.old)
+        → OnOk result (Adds shape free.old runs.old runs.new bytes.now (D.seen disk.old) (D.seen disk.new)) }
+    ensures others { IsTrue (D.is_honest disk.old)
+        → ChangesFree shape free.old (D.seen disk.old) (D.seen disk.new) }
+    ensures keeps { (j : Journaled) → j.standing.shape ≡ shape → Keeps D.Disk disk.old j
+        → Keeps D.Disk disk.new j }
+    ensures cause { IsDiskFault result → HasRisen (D.failures disk.old) (D.failures disk.new) }
+    ensures later { D.failures disk.old ≤ D.failures disk.new }
+    ensures honesty { D.is_honest disk.new ≡ D.is_honest disk.old }
+    ensures size { D.size disk.new ≡ D.size disk.old }
 {
-    (length / 4096) as u32 + u32::from(length % 4096 != 0)
+    let Some(run) = free.take(1) else {
+        return Err(ArchiveFault::SpaceFull);
+    };
+    let Ok(()) = runs.append(run) else {
+        free.give_back(&[run]);
+        return Err(ArchiveFault::OutOfMemory);
+    };
+    write_data(disk, shape, run.start, bytes)
 }
 
 /// Whether a fault stops the archive: a disk fault does.
@@ -81,49 +106,45 @@ pub(crate) fn stops(fault: ArchiveFault) -> bool
     matches!(fault, ArchiveFault::Disk)
 }
 
-/// What a stream may fill.
-#[derive(Clone, Copy)]
-pub(crate) struct Space {
-    pub(crate) shape: Shape,
-    // How many blocks the cases fill: the first ones.
-    pub(crate) filled: u32,
-    // The most bytes that an image may have.
-    pub(crate) limit: u64,
-}
-
 /// Takes the first `n` bytes of the free part of a stream's block, and writes the block where it is full.
 pub(crate) fn grow<D: Disk>(
     disk: &mut D,
-    space: Space,
+    shape: Shape,
+    limit: u64,
+    free: &mut FreeMap,
     stream: &mut Stream,
     block: &mut Buffer,
     n: usize,
 ) -> Result<(), ArchiveFault>
-    requires limits { IsWithinLimits space.shape }
-    requires disk { D.size disk.old ≡ disk_length space.shape }
-    requires filling { IsFilling space.filled space.shape.data_blocks space.limit
-        (parts_of block.old stream.old) }
-    requires free { stream.old.length % 4096 + n ≤ 4096 }
-    ensures step { Grows space.shape.data_blocks space.filled space.limit
-        (parts_of block.old stream.old) n result (parts_of block.new stream.new) }
+    requires limits { IsWithinLimits shape }
+    requires disk { D.size disk.old ≡ disk_length shape }
+    requires map { length free.old ≡ shape.data_blocks }
+    requires fine { IsFine limit (parts_of block.old stream.old) }
+    requires held { AreHeld free.old stream.old.runs }
+    requires room { stream.old.length % 4096 + n ≤ 4096 }
+    ensures step { Grows (free_count free.old) limit (parts_of block.old stream.old) n result
+        (parts_of block.new stream.new) }
+    ensures small { OnOk result (stream.old.length + n < 2 ^ 64) }
+    ensures balance { Balances free.old stream.old.runs free.new stream.new.runs }
+    ensures bytes { IsTrue (D.is_honest disk.old) → OnOk result (GrowsBytes shape (parts_of block.old stream.old) n
+        (parts_of block.new stream.new) (D.seen disk.old) (D.seen disk.new)) }
     ensures others { IsTrue (D.is_honest disk.old)
-        → SameOutside (block_start space.shape (next_block space.filled stream.old.length)) 4096 (D.seen disk.old) (D.seen disk.new) }
-    ensures written { IsTrue (D.is_honest disk.old) → OnOk result (NeedsBlock stream.old.length n
-        → block_bytes space.shape (D.seen disk.new) (next_block space.filled stream.old.length) ≡ block.old) }
+        → ChangesFree shape free.old (D.seen disk.old) (D.seen disk.new) }
+    ensures keeps { (j : Journaled) → j.standing.shape ≡ shape → Keeps D.Disk disk.old j
+        → Keeps D.Disk disk.new j }
     ensures cause { IsDiskFault result → HasRisen (D.failures disk.old) (D.failures disk.new) }
     ensures later { D.failures disk.old ≤ D.failures disk.new }
     ensures honesty { D.is_honest disk.new ≡ D.is_honest disk.old }
     ensures size { D.size disk.new ≡ D.size disk.old }
 {
-    if n as u64 > space.limit - stream.length {
+    if n as u64 > limit - stream.length {
         return Err(ArchiveFault::TooLong);
     }
     if n == 0 || (stream.length % 4096) as usize + n < 4096 {
         stream.length += n as u64;
         return Ok(());
     }
-    let next = space.filled + (stream.length / 4096) as u32;
-    add_block(disk, space.shape, next, &mut stream.runs, block.bytes())?;
+    add_block(disk, shape, free, &mut stream.runs, block.bytes())?;
     block.clear_from(0);
     stream.length += n as u64;
     Ok(())
@@ -132,21 +153,26 @@ pub(crate) fn grow<D: Disk>(
 // Writes the last block of a stream where it is part-filled, with zeros behind its bytes.
 fn last_block<D: Disk>(
     disk: &mut D,
-    space: Space,
+    shape: Shape,
+    free: &mut FreeMap,
     stream: &mut Stream,
     block: &mut Buffer,
 ) -> Result<(), ArchiveFault>
-    requires limits { IsWithinLimits space.shape }
-    requires disk { D.size disk.old ≡ disk_length space.shape }
-    requires filling { IsFilling space.filled space.shape.data_blocks space.limit
-        (parts_of block.old stream.old) }
-    ensures step { Closes space.shape.data_blocks space.filled
-        (parts_of block.old stream.old) result stream.new }
+    requires limits { IsWithinLimits shape }
+    requires disk { D.size disk.old ≡ disk_length shape }
+    requires map { length free.old ≡ shape.data_blocks }
+    requires block { length block.old ≡ 4096 }
+    requires filled { length stream.old.runs ≡ stream.old.length / 4096 }
+    requires held { AreHeld free.old stream.old.runs }
+    ensures step { Closes (free_count free.old) (parts_of block.old stream.old) result
+        (parts_of block.new stream.new) }
+    ensures balance { Balances free.old stream.old.runs free.new stream.new.runs }
+    ensures bytes { IsTrue (D.is_honest disk.old) → OnOk result (ClosesBytes shape (parts_of block.old stream.old)
+        stream.new.runs (D.seen disk.old) (D.seen disk.new)) }
     ensures others { IsTrue (D.is_honest disk.old)
-        → SameOutside (block_start space.shape (next_block space.filled stream.old.length)) 4096 (D.seen disk.old) (D.seen disk.new) }
-    ensures written { IsTrue (D.is_honest disk.old)
-        → OnOk result (HoldsRest space.shape space.filled (parts_of block.old stream.old)
-        (D.seen disk.new)) }
+        → ChangesFree shape free.old (D.seen disk.old) (D.seen disk.new) }
+    ensures keeps { (j : Journaled) → j.standing.shape ≡ shape → Keeps D.Disk disk.old j
+        → Keeps D.Disk disk.new j }
     ensures cause { IsDiskFault result → HasRisen (D.failures disk.old) (D.failures disk.new) }
     ensures later { D.failures disk.old ≤ D.failures disk.new }
     ensures honesty { D.is_honest disk.new ≡ D.is_honest disk.old }
@@ -157,8 +183,7 @@ fn last_block<D: Disk>(
         return Ok(());
     }
     block.clear_from(used);
-    let next = space.filled + (stream.length / 4096) as u32;
-    add_block(disk, space.shape, next, &mut stream.runs, block.bytes())?;
+    add_block(disk, shape, free, &mut stream.runs, block.bytes())?;
     Ok(())
 }
 
@@ -166,42 +191,64 @@ fn last_block<D: Disk>(
 /// written stable.
 pub(crate) fn seal<D: Disk>(
     disk: &mut D,
-    space: Space,
+    shape: Shape,
+    free: &mut FreeMap,
     stream: &mut Stream,
     block: &mut Buffer,
 ) -> Result<(), ArchiveFault>
-    requires limits { IsWithinLimits space.shape }
-    requires disk { D.size disk.old ≡ disk_length space.shape }
-    requires filling { IsFilling space.filled space.shape.data_blocks space.limit
-        (parts_of block.old stream.old) }
-    ensures step { Closes space.shape.data_blocks space.filled
-        (parts_of block.old stream.old) result stream.new }
+    requires limits { IsWithinLimits shape }
+    requires disk { D.size disk.old ≡ disk_length shape }
+    requires map { length free.old ≡ shape.data_blocks }
+    requires block { length block.old ≡ 4096 }
+    requires filled { length stream.old.runs ≡ stream.old.length / 4096 }
+    requires held { AreHeld free.old stream.old.runs }
+    ensures step { Closes (free_count free.old) (parts_of block.old stream.old) result
+        (parts_of block.new stream.new) }
+    ensures balance { Balances free.old stream.old.runs free.new stream.new.runs }
+    ensures bytes { IsTrue (D.is_honest disk.old) → OnOk result (ClosesBytes shape (parts_of block.old stream.old)
+        stream.new.runs (D.seen disk.old) (D.seen disk.new)) }
     ensures others { IsTrue (D.is_honest disk.old)
-        → SameOutside (block_start space.shape (next_block space.filled stream.old.length)) 4096 (D.seen disk.old) (D.seen disk.new) }
-    ensures written { IsTrue (D.is_honest disk.old)
-        → OnOk result (HoldsRest space.shape space.filled (parts_of block.old stream.old)
-        (D.seen disk.new)) }
+        → ChangesFree shape free.old (D.seen disk.old) (D.seen disk.new) }
+    ensures keeps { (j : Journaled) → j.standing.shape ≡ shape → Keeps D.Disk disk.old j
+        → Keeps D.Disk disk.new j }
     ensures cause { IsDiskFault result → HasRisen (D.failures disk.old) (D.failures disk.new) }
     ensures later { D.failures disk.old ≤ D.failures disk.new }
     ensures honesty { D.is_honest disk.new ≡ D.is_honest disk.old }
     ensures size { D.size disk.new ≡ D.size disk.old }
 {
-    last_block(disk, space, stream, block)?;
+    last_block(disk, shape, free, stream, block)?;
+    make_stable(disk)
+}
+
+// Makes all that was written stable. Answers `Disk` alone.
+fn make_stable<D: Disk>(disk: &mut D) -> Result<(), ArchiveFault>
+    ensures reply { DiskReply result }
+    ensures seen { IsTrue (D.is_honest disk.old) → D.seen disk.new ≡ D.seen disk.old }
+    ensures keeps { (j : Journaled) → Keeps D.Disk disk.old j → Keeps D.Disk disk.new j }
+    ensures cause { IsDiskFault result → HasRisen (D.failures disk.old) (D.failures disk.new) }
+    ensures later { D.failures disk.old ≤ D.failures disk.new }
+    ensures honesty { D.is_honest disk.new ≡ D.is_honest disk.old }
+    ensures size { D.size disk.new ≡ D.size disk.old }
+{
     let Ok(()) = disk.sync() else {
         return Err(ArchiveFault::Disk);
     };
     Ok(())
 }
 
-/// Appends the record of a case, which gets the next number. A refusal drops the entry.
+/// Appends the record of a case, which gets the next number. A refusal gives its blocks back.
 pub(crate) fn append_case<D: Disk>(
     journal: &mut Journal,
     disk: &mut D,
+    free: &mut FreeMap,
     entry: Entry,
 ) -> Result<u32, ArchiveFault>
-    requires disk { D.size disk.old ≡ disk_length journal.old.standing.shape }
-    requires blocks { length entry.runs ≤ 16777216 }
+    requires keeps { Keeps D.Disk disk.old journal.old }
+    requires storable { MayStore journal.old.standing (case_of entry) }
+    requires held { AreHeld free.old entry.runs }
     ensures step { Appends journal.old (case_of entry) result journal.new }
+    ensures free { GivesBack result free.old entry.runs free.new }
+    ensures keeps { Keeps D.Disk disk.new journal.new }
     ensures cause { IsDiskFault result → HasRisen (D.failures disk.old) (D.failures disk.new) }
     ensures later { D.failures disk.old ≤ D.failures disk.new }
     ensures outside { IsTrue (D.is_honest disk.old)
@@ -211,6 +258,27 @@ pub(crate) fn append_case<D: Disk>(
 {
     match journal.append_store(disk, entry) {
         Ok(seq) => Ok(seq),
-        Err((fault, _)) => Err(ArchiveFault::from(fault)),
+        Err((fault, entry)) => {
+            release(free, entry.runs);
+            Err(ArchiveFault::from(fault))
+        }
+    }
+}
+
+/// Gives the blocks of an image that is dropped back.
+pub(crate) fn release(free: &mut FreeMap, runs: RunList)
+    requires { AreHeld free.old runs }
+    ensures { Balances free.old runs free.new [] }
+{
+    free.give_back(runs.runs());
+}
+
+/// Marks the blocks of an image as used.
+pub(crate) fn hold(free: &mut FreeMap, runs: &RunList)
+    requires { AreFree free.old runs.now }
+    ensures { Balances free.old [] free.new runs.now }
+{
+    for run in runs.runs() {
+        free.mark_used(*run).unwrap();
     }
 }

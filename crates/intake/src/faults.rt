@@ -2,7 +2,7 @@
 ghost use Rattle.std.specs.Prelude.{◌≡◌};
 ghost use Rattle.intake.specs.Faults.{fault_of};
 
-use store_journal::JournalFault;
+use case_journal::JournalFault;
 use thiserror::Error;
 
 /// Why a call of the archive is refused. A call checks those that it can give in this order, where it says no other.

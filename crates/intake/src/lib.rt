@@ -4,7 +4,11 @@
 mod archive;
 mod blocks;
 mod buffer;
+mod dropping;
 mod faults;
+mod opening;
+mod retiring;
+mod slots;
 mod stream;
 
 pub use archive::{Archive, Settings};

@@ -1,10 +1,10 @@
 // A stream: an image on its way into the archive.
 ghost use Rattle.std.specs.Prelude.{◌≡◌};
-ghost use Rattle.store_journal.specs.Case.{case_of};
-ghost use Rattle.intake.specs.StreamView.{case_from_stream};
+ghost use Rattle.journal_layout.specs.Case.{case_of};
+ghost use Rattle.intake.specs.StreamView.{case_from_parts, parts_of};
 
 use extents::RunList;
-use store_journal::{Entry, Kind, Name};
+use journal_layout::{Entry, Kind, Name};
 
 /// The facts of an image that is streamed, and what it has taken so far.
 #[derive(Drop)]
@@ -21,9 +21,11 @@ pub(crate) struct Stream {
 }
 
 impl Stream {
+    ghost use Rattle.std.specs.Prelude.{[]};
+
     /// The case that the stream becomes. Its number is given later.
     pub(crate) fn into_entry(self) -> Entry
-        ensures { case_of result ≡ case_from_stream self }
+        ensures { case_of result ≡ case_from_parts (parts_of [] self) }
     {
         let Stream {
             kind,

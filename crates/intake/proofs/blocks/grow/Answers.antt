@@ -1,35 +1,46 @@
-use Rattle.std.proofs.Common.{◌≡◌, ◌∙◌, ap, arith, ℕ, ◌+◌, List, [], ◌∷◌, ◌++◌, inr}
-use Rattle.disk_model.specs.Places.{overwritten}
-use Rattle.intake.specs.Blocks.{block_start}
+use Rattle.std.proofs.Common.{◌≡◌, ◌∙◌, ap, sym, arith, ℕ, ◌+◌, ◌%◌, ◌<◌, List, inr, subst}
+use Rattle.journal_layout.specs.declared.shape.Shape.{Shape}
 use Rattle.intake.specs.Contents.{zero_block}
-use Rattle.intake.specs.Growth.{next_block}
+use Rattle.intake.specs.Growth.{Adds}
+use Rattle.intake.specs.Parts.{taken_in}
 use Rattle.intake.specs.StreamView.{parts_of}
-use Rattle.intake.proofs.GrowLemmas.{cleared, block_written, needed}
+use Rattle.intake.proofs.BlockLemmas.{cleared, needed, taken_lengthened, taken_refreshed}
+use Rattle.intake.proofs.blocks.grow.Goals.{then-n-eq0-via-then-n-eq0, then-n-eq0-via-else-n-eq0+then-stream-n-lt4096}
 use Rattle.intake.proofs.blocks.grow.Goals as goal
+
+pub returns-then-n-eq0-clause-bytes : goal.returns-then-n-eq0-clause-bytes
+returns-then-n-eq0-clause-bytes g c honest j same =
+    taken_lengthened j (g.D.Disk.seen c.args.disk.now) (parts_of c.args.block.now c.args.stream.now) c.args.n c.requires.fine.block
+    (elim c.then-n-eq0.branch as (λ _. c.args.stream.now.length % 4096 + c.args.n < 4096) [ then-n-eq0-via-then-n-eq0 w ↦ omega (arith, w.if-n-eq0.true) | then-n-eq0-via-else-n-eq0+then-stream-n-lt4096 w ↦ omega (arith, w.if-stream-n-lt4096.true) ])
 
 pub returns-clause-step : goal.returns-clause-step
 returns-clause-step g c =
-    let runs = c.in_ok-add_block.ensures.runs in
-    let zeros : c.clear_from.new.self ≡ zero_block = c.clear_from.ensures ∙ cleared c.args.block.now c.requires.filling.block in
-    let short = c.if-n-space.false in
-    let limit = c.requires.filling.limit in (
+    let zeros : c.clear_from.new.self ≡ zero_block = c.clear_from.ensures ∙ cleared c.args.block.now c.requires.fine.block in
+    let short = c.if-n-limit.false in
+    let limit = c.requires.fine.limit in (
       omega arith,
       inr (
-        needed c.args.stream.now.length c.args.n c.if-n-eq0.false c.if-stream-n-lt4096.false c.requires.free,
+        needed c.args.stream.now.length c.args.n c.if-n-eq0.false c.if-stream-n-lt4096.false c.requires.room,
         c.in_ok-add_block.ensures.reply,
-        ap (λ (x : List ℕ). record (parts_of c.clear_from.new.self c.args.stream.now) { len = c.args.stream.now.length + c.args.n; blocks = x }) runs
-            ∙ ap (λ (x : List ℕ). record (parts_of c.args.block.now c.args.stream.now) {
-              len = c.args.stream.now.length + c.args.n;
-              blocks = c.args.stream.now.runs ++ next_block c.args.space.filled c.args.stream.now.length ∷ [];
-              block = x;
-            }) zeros,
+        c.in_ok-add_block.ensures.more,
+        ap (λ (x : List ℕ). record (parts_of c.args.block.now c.args.stream.now) {
+          len = c.args.stream.now.length + c.args.n;
+          blocks = c.add_block.new.runs;
+          block = x;
+        }) zeros,
       ),
     )
 
-pub returns-clause-written : goal.returns-clause-written
-returns-clause-written g c honest needs =
-    let lt = c.in_ok-add_block.ensures.reply in
-    let long = g.met.D.Disk.whole c.args.disk.now honest ∙ c.requires.disk in
-    block_written c.args.space.shape (next_block c.args.space.filled c.args.stream.now.length) (g.D.Disk.seen c.args.disk.now) (g.D.Disk.seen c.add_block.new.disk) c.args.block.now
-    (omega (arith, long)) c.requires.filling.block
-    (c.in_ok-add_block.ensures.written honest ∙ ap (overwritten (g.D.Disk.seen c.args.disk.now) (block_start c.args.space.shape (next_block c.args.space.filled c.args.stream.now.length))) c.bytes.ensures)
+pub returns-clause-bytes : goal.returns-clause-bytes
+returns-clause-bytes g c honest j same =
+    let zeros : c.clear_from.new.self ≡ zero_block = c.clear_from.ensures ∙ cleared c.args.block.now c.requires.fine.block in
+    let adds : Adds j.standing.shape c.args.free.now c.args.stream.now.runs c.add_block.new.runs c.args.block.now (g.D.Disk.seen c.args.disk.now) (g.D.Disk.seen c.add_block.new.disk) =
+    subst (λ (x : Shape). Adds x c.args.free.now c.args.stream.now.runs c.add_block.new.runs c.args.block.now (g.D.Disk.seen c.args.disk.now) (g.D.Disk.seen c.add_block.new.disk)) (sym same)
+    (subst (λ (x : List ℕ). Adds c.args.shape c.args.free.now c.args.stream.now.runs c.add_block.new.runs x (g.D.Disk.seen c.args.disk.now) (g.D.Disk.seen c.add_block.new.disk)) c.bytes.ensures (c.in_ok-add_block.ensures.added honest)) in
+    ap (λ (x : List ℕ). taken_in j (g.D.Disk.seen c.add_block.new.disk) (record (parts_of c.args.block.now c.args.stream.now) {
+      len = c.args.stream.now.length + c.args.n;
+      blocks = c.add_block.new.runs;
+      block = x;
+    })) zeros
+    ∙ taken_refreshed j c.args.free.now (g.D.Disk.seen c.args.disk.now) (g.D.Disk.seen c.add_block.new.disk) (parts_of c.args.block.now c.args.stream.now) c.args.n c.add_block.new.runs c.requires.fine.block c.requires.held
+    (needed c.args.stream.now.length c.args.n c.if-n-eq0.false c.if-stream-n-lt4096.false c.requires.room) adds

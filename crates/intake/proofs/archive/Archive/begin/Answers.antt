@@ -1,8 +1,27 @@
-use Rattle.std.proofs.Common.{refl}
-use Rattle.intake.proofs.SoundLemmas.{sound_with, new_fills}
+use Rattle.std.proofs.Common.{arith, refl}
+use Rattle.intake.specs.Parts.{bare_of}
+use Rattle.intake.proofs.SoundLemmas.{fine_new}
+use Rattle.intake.proofs.StepLemmas.{free_by, not_open, sound_begun, begin_step, begin_bytes}
 use Rattle.intake.proofs.archive.Archive.begin.Goals as goal
 
 pub invariant_of-self : goal.invariant_of-self
 invariant_of-self g c =
-    sound_with g.D.Disk.size _ _ _ _ _ _ _ c.self.invariant c.if-self.false
-    (new_fills _ _ _ _ c.self.invariant.top refl c.new.ensures c.in-Ok.ensures)
+    sound_begun g.D.Disk c.self.inside.disk c.self.inside.journal c.self.inside.settings.limit c.self.inside.free c.self.inside.slots c.put.new.self c.args.slot _ c.self.inside.stopped
+    c.self.invariant c.if-self.false (omega arith) (not_open _ _ c.is_open.ensures c.if-is_open.false)
+    (rw (← c.self.view_is) at (free_by (bare_of c.args.self.now) _ c.args.name.items _ c.is_taken.ensures c.if-is_taken.false c.as_slice.ensures.value)) c.put.ensures
+    (fine_new c.self.inside.settings.limit _ c.requires.name c.ranges.pid.fits c.ranges.signal.fits c.ranges.time.fits refl c.new.ensures c.in-Ok.ensures)
+    c.new.ensures
+
+pub returns-clause-step : goal.returns-clause-step
+returns-clause-step g c =
+    rw (← c.self.view_is)
+    (begin_step g.D.Disk c.self.inside.disk c.self.inside.journal c.self.inside.settings.limit c.self.inside.free c.self.inside.slots c.put.new.self c.args.slot _ c.self.inside.stopped
+    c.self.invariant c.if-self.false (omega arith) (not_open _ _ c.is_open.ensures c.if-is_open.false)
+    (rw (← c.self.view_is) at (free_by (bare_of c.args.self.now) _ c.args.name.items _ c.is_taken.ensures c.if-is_taken.false c.as_slice.ensures.value)) c.put.ensures tt)
+
+pub returns-clause-bytes : goal.returns-clause-bytes
+returns-clause-bytes g c =
+    rw (← c.self.view_is)
+    (begin_bytes g.D.Disk c.self.inside.disk c.self.inside.journal c.self.inside.settings.limit c.self.inside.free c.self.inside.slots c.put.new.self c.args.slot _ c.self.inside.stopped
+    c.self.invariant c.if-self.false (omega arith) (not_open _ _ c.is_open.ensures c.if-is_open.false)
+    (rw (← c.self.view_is) at (free_by (bare_of c.args.self.now) _ c.args.name.items _ c.is_taken.ensures c.if-is_taken.false c.as_slice.ensures.value)) c.put.ensures tt refl c.new.ensures c.in-Ok.ensures)

@@ -1,158 +1,136 @@
-use Rattle.std.proofs.Common.{◌≡◌, ◌∙◌, ap, sym, arith, ℕ, ◌+◌, [], ◌∷◌, Option, None, Ok, Err, subst, length}
-use Rattle.std.specs.Prelude.{option_map}
-use Rattle.disk_model.specs.Places.{SameOutside}
-use Rattle.store_journal.specs.declared.shape.Shape.{Shape}
-use Rattle.intake.specs.Blocks.{block_start}
-use Rattle.intake.specs.Contents.{RefusedBytes, FinishBytes}
-use Rattle.intake.specs.Growth.{next_block}
-use Rattle.intake.specs.Closing.{Closes, HoldsRest, Appends}
+use Rattle.std.proofs.Common.{◌∙◌, ap, sym, subst, Option, Err, List, ℕ, []}
+use Rattle.intake.specs.Parts.{Parts, StreamParts, bare_of, contents_of}
 use Rattle.intake.specs.StreamView.{parts_of}
-use Rattle.intake.specs.declared.stream.Stream.{Stream}
-use Rattle.intake.specs.Parts.{Parts, bare_of, contents_of}
+use Rattle.intake.specs.Balance.{AreHeld, Balances}
+use Rattle.intake.specs.Growth.{ChangesFree}
 use Rattle.intake.specs.Step.{FinishStep}
-use Rattle.intake.specs.Sound.{IsSound}
-use Rattle.std.proofs.lemmas.List.FromFn.{length-range_with_len}
-use Rattle.disk_model.specs.PlaceLaws.{same_as_it_was}
-use Rattle.store_journal.specs.Case.{Case, case_of}
-use Rattle.intake.specs.State.{blocks_for}
-use Rattle.intake.proofs.AdvanceLemmas.{filling_is}
-use Rattle.intake.proofs.FinishLemmas.{closed_as}
-use Rattle.intake.proofs.StoreLemmas.{seal_err, seal_err_bytes, refused_step, refused_bytes, stored_step, store_ok_bytes, sound_more}
+use Rattle.journal_layout.specs.Case.{Case, case_of}
+use Rattle.journal_layout.specs.Soundness.{IsStorable}
+use Rattle.journal_layout.specs.declared.shape.Shape.{Shape}
+use Rattle.intake.proofs.FinishLemmas.{seal_err, seal_not_stopped, seal_not_missing, storable, sound_not_stored, refused_step, stored_step, sound_with_case, closed_case}
+use Rattle.intake.specs.Closing.{ClosesBytes}
+use Rattle.intake.proofs.StoreLemmas.{unstored_bytes, stored_bytes}
+use Rattle.intake.proofs.CountLemmas.{still_held, balance_then}
+use Rattle.intake.proofs.SoundLemmas.{stream_held}
+use Rattle.intake.proofs.AdvanceLemmas.{none_set, sound_refused, refused_bytes}
 use Rattle.intake.proofs.archive.Archive.finish.Goals as goal
 
--- no stream was there
 pub returns-in_default-clause-bytes : goal.returns-in_default-clause-bytes
 returns-in_default-clause-bytes g c honest =
     rw (← c.self.view_is)
-    (ap (λ (x : Option Stream). contents_of g.D.Disk.seen (record {
+    (ap (λ (x : List (Option StreamParts)). contents_of g.D.Disk.seen (record {
       disk = c.self.inside.disk;
       journal = c.self.inside.journal;
       limit = c.self.inside.settings.limit;
-      streams = option_map (parts_of c.self.inside.block) x ∷ [];
+      streams = x;
       stopped = c.self.inside.stopped;
     }))
-    (c.take.ensures.after ∙ sym c.in_default.is ∙ c.take.ensures.value))
+    (c.in_default.ensures.slots ∙ none_set c.self.inside.slots c.args.slot (sym c.in_default.ensures.stream)))
+
+pub release-requires : goal.release-requires
+release-requires g c =
+    still_held c.self.inside.free c.seal-sealed.new.free c.in-Some.stream.runs c.seal-sealed.new.stream.runs
+    (stream_held g.D.Disk c.self.inside.disk c.self.inside.journal c.self.inside.settings.limit c.self.inside.free c.self.inside.slots c.args.slot _ (c.self.invariant.runs c.if-self.false) (sym c.in-Some.ensures.stream))
+    c.in-Err.ensures.balance
+
+pub invariant_of-self-in-Err : goal.invariant_of-self-in-Err
+invariant_of-self-in-Err g c =
+    sound_refused g.D.Disk c.self.inside.disk c.seal-sealed.new.disk c.self.inside.journal c.self.inside.settings.limit c.self.inside.free c.release.new.free c.self.inside.slots c.take.new.self c.end_streams-self-inside.new.slots c.args.slot _ c.self.inside.stopped c.end_streams-self-inside.result c.in-Err.fault
+    c.self.invariant c.if-self.false (sym c.in-Some.ensures.stream) c.in-Some.ensures.slots
+    (c.in-Err.ensures.keeps c.self.inside.journal (sym c.shape-shape.ensures) (c.self.invariant.runs c.if-self.false).keeps)
+    (balance_then c.self.inside.free c.seal-sealed.new.free c.release.new.free c.in-Some.stream.runs c.seal-sealed.new.stream.runs _ c.in-Err.ensures.balance c.release.ensures)
+    c.end_streams-self-inside.ensures
 
 pub returns-in-Err-clause-step : goal.returns-in-Err-clause-step
 returns-in-Err-clause-step g c =
-    let is = ap (option_map (parts_of c.self.inside.block)) (sym c.take.ensures.value ∙ c.in-Some.is) in
-    let first : c.args.slot ≡ 0 = omega arith in
     subst (λ (a : Parts g.row.D.Denot). FinishStep (bare_of a) c.args.slot (Err c.in-Err.fault)
-    (bare_of (record { disk = c.seal.new.disk; journal = c.self.inside.journal; limit = c.self.inside.settings.limit; streams = option_map (parts_of c.seal.new.block) c.take.new.self ∷ []; stopped = c.stops-self-inside.result })))
+    (bare_of (record { disk = c.seal-sealed.new.disk; journal = c.self.inside.journal; limit = c.self.inside.settings.limit; streams = c.end_streams-self-inside.new.slots; stopped = c.end_streams-self-inside.result })))
     c.self.view_is
-    (subst (λ (x : Option Stream). FinishStep (bare_of (record { disk = c.self.inside.disk; journal = c.self.inside.journal; limit = c.self.inside.settings.limit; streams = option_map (parts_of c.self.inside.block) c.self.inside.stream ∷ []; stopped = c.self.inside.stopped })) c.args.slot (Err c.in-Err.fault)
-    (bare_of (record { disk = c.seal.new.disk; journal = c.self.inside.journal; limit = c.self.inside.settings.limit; streams = option_map (parts_of c.seal.new.block) x ∷ []; stopped = c.stops-self-inside.result })))
-    (sym c.take.ensures.after)
-    (seal_err c.self.inside.disk c.self.inside.journal c.self.inside.settings.limit c.self.inside.filled _ _ c.self.inside.stopped c.args.slot
-    is c.if-self.false first c.self.invariant.cases c.seal.new.disk c.stops-self-inside.result c.in-Err.fault c.seal.new.stream c.stops-self-inside.ensures
-    (subst (λ (x : Shape). Closes x.data_blocks c.self.inside.filled (parts_of c.self.inside.block c.in-Some.stream) (Err c.in-Err.fault) c.seal.new.stream) c.shape.ensures c.in-Err.ensures.step)))
+    (seal_err g.D.Disk c.self.inside.disk c.seal-sealed.new.disk c.self.inside.journal c.self.inside.settings.limit c.self.inside.free c.self.inside.slots c.args.slot (parts_of c.in-Some.block c.in-Some.stream) c.self.inside.stopped
+    (c.self.invariant.runs c.if-self.false) c.if-self.false (sym c.in-Some.ensures.stream)
+    c.end_streams-self-inside.result c.take.new.self c.end_streams-self-inside.new.slots (parts_of c.seal-sealed.new.block c.seal-sealed.new.stream) c.in-Err.fault
+    c.in-Some.ensures.slots c.end_streams-self-inside.ensures c.in-Err.ensures.step)
 
 pub returns-in-Err-clause-bytes : goal.returns-in-Err-clause-bytes
 returns-in-Err-clause-bytes g c honest =
-    let is = ap (option_map (parts_of c.self.inside.block)) (sym c.take.ensures.value ∙ c.in-Some.is) in
-    let first : c.args.slot ≡ 0 = omega arith in
     let real = rw (← c.self.view_is) at honest in
+    let running = c.self.invariant.runs c.if-self.false in
     rw (← c.self.view_is)
-    (subst (λ (x : Option Stream). RefusedBytes (contents_of g.D.Disk.seen (record { disk = c.self.inside.disk; journal = c.self.inside.journal; limit = c.self.inside.settings.limit; streams = option_map (parts_of c.self.inside.block) c.self.inside.stream ∷ []; stopped = c.self.inside.stopped })) c.args.slot c.in-Err.fault
-    (contents_of g.D.Disk.seen (record { disk = c.seal.new.disk; journal = c.self.inside.journal; limit = c.self.inside.settings.limit; streams = option_map (parts_of c.seal.new.block) x ∷ []; stopped = c.stops-self-inside.result })))
-    (sym c.take.ensures.after)
-    (seal_err_bytes g.D.Disk.seen c.self.inside.disk c.seal.new.disk c.seal.new.disk c.self.inside.journal c.self.inside.settings.limit c.self.inside.filled _ _ c.self.inside.stopped c.args.slot
-    is first c.self.invariant.cases
-    (subst (λ (x : Shape). SameOutside (block_start x (next_block c.self.inside.filled c.in-Some.stream.length)) 4096 (g.D.Disk.seen c.self.inside.disk) (g.D.Disk.seen c.seal.new.disk)) c.shape.ensures (c.seal.ensures.others real))
-    (same_as_it_was _ _ _)
-    c.stops-self-inside.result c.in-Err.fault c.seal.new.stream
-    (subst (λ (x : Shape). Closes x.data_blocks c.self.inside.filled (parts_of c.self.inside.block c.in-Some.stream) (Err c.in-Err.fault) c.seal.new.stream) c.shape.ensures c.in-Err.ensures.step)))
+    (refused_bytes g.D.Disk c.self.inside.disk c.seal-sealed.new.disk c.self.inside.journal c.self.inside.settings.limit c.self.inside.free c.self.inside.slots c.args.slot c.self.inside.stopped c.end_streams-self-inside.result
+    running
+    (subst (λ (x : Shape). ChangesFree x c.self.inside.free (g.D.Disk.seen c.self.inside.disk) (g.D.Disk.seen c.seal-sealed.new.disk)) c.shape-shape.ensures (c.in-Err.ensures.others real))
+    c.in-Err.fault c.take.new.self c.end_streams-self-inside.new.slots c.in-Some.ensures.slots c.end_streams-self-inside.ensures
+    (seal_not_stopped g.D.Disk c.self.inside.disk c.seal-sealed.new.disk c.self.inside.journal c.self.inside.settings.limit c.self.inside.free c.self.inside.slots c.args.slot (parts_of c.in-Some.block c.in-Some.stream) c.self.inside.stopped
+    (c.self.invariant.runs c.if-self.false) c.if-self.false (sym c.in-Some.ensures.stream) (parts_of c.seal-sealed.new.block c.seal-sealed.new.stream) c.in-Err.fault c.in-Err.ensures.step)
+    (seal_not_missing g.D.Disk c.self.inside.disk c.seal-sealed.new.disk c.self.inside.journal c.self.inside.settings.limit c.self.inside.free c.self.inside.slots c.args.slot (parts_of c.in-Some.block c.in-Some.stream) c.self.inside.stopped
+    (c.self.invariant.runs c.if-self.false) c.if-self.false (sym c.in-Some.ensures.stream) (parts_of c.seal-sealed.new.block c.seal-sealed.new.stream) c.in-Err.fault c.in-Err.ensures.step))
 
-pub append_case-requires-clause-blocks : goal.append_case-requires-clause-blocks
-append_case-requires-clause-blocks g c =
-    let is = ap (option_map (parts_of c.self.inside.block)) (sym c.take.ensures.value ∙ c.in-Some.is) in
-    let first : c.args.slot ≡ 0 = omega arith in
-    let filling = filling_is _ _ _ _ _ is c.self.invariant.filling in
-    let closed = closed_as _ _ _ _ c.seal.new.stream c.in_default-seal.field-0 filling (subst (λ (x : Shape). Closes x.data_blocks c.self.inside.filled (parts_of c.self.inside.block c.in-Some.stream) (Ok c.in_default-seal.field-0) c.seal.new.stream) c.shape.ensures c.in_default-seal.ensures.step) in
-    let runs = ap (λ (k : Case). length k.blocks) (c.into_entry-entry.ensures ∙ closed.0) in
-    let most = c.self.invariant.shape.all_data in
-    let fits = closed.1 in
-    omega (arith, runs, length-range_with_len c.self.inside.filled (blocks_for c.in-Some.stream.length))
+pub append_case-requires-clause-storable : goal.append_case-requires-clause-storable
+append_case-requires-clause-storable g c =
+    subst (IsStorable c.self.inside.journal.standing.shape.data_blocks c.self.inside.journal.standing.cases) (sym c.into_entry-entry.ensures)
+    (storable g.D.Disk c.self.inside.disk c.seal-sealed.new.disk c.self.inside.journal c.self.inside.settings.limit c.self.inside.free c.self.inside.slots c.args.slot (parts_of c.in-Some.block c.in-Some.stream) c.self.inside.stopped
+    (c.self.invariant.runs c.if-self.false) c.if-self.false (sym c.in-Some.ensures.stream)
+    c.seal-sealed.new.free (parts_of c.seal-sealed.new.block c.seal-sealed.new.stream) c.in_default-sealed.field-0 c.in_default-sealed.ensures.step c.in_default-sealed.ensures.balance)
 
-pub returns-in-Err-append_case-clause-step : goal.returns-in-Err-append_case-clause-step
-returns-in-Err-append_case-clause-step g c =
-    let is = ap (option_map (parts_of c.self.inside.block)) (sym c.take.ensures.value ∙ c.in-Some.is) in
-    let first : c.args.slot ≡ 0 = omega arith in
-    let filling = filling_is _ _ _ _ _ is c.self.invariant.filling in
-    let closed = closed_as _ _ _ _ c.seal.new.stream c.in_default-seal.field-0 filling (subst (λ (x : Shape). Closes x.data_blocks c.self.inside.filled (parts_of c.self.inside.block c.in-Some.stream) (Ok c.in_default-seal.field-0) c.seal.new.stream) c.shape.ensures c.in_default-seal.ensures.step) in
-    let refused = c.in-Err-append_case.ensures.step in
-    subst (λ (a : Parts g.row.D.Denot). FinishStep (bare_of a) c.args.slot (Err c.in-Err-append_case.fault) (bare_of (record { disk = c.append_case.new.disk; journal = c.append_case.new.journal; limit = c.self.inside.settings.limit; streams = option_map (parts_of c.seal.new.block) c.take.new.self ∷ []; stopped = c.stops-self-inside-in-Err-append_case.result })))
-    c.self.view_is
-    (subst (λ (x : Option Stream). FinishStep (bare_of (record { disk = c.self.inside.disk; journal = c.self.inside.journal; limit = c.self.inside.settings.limit; streams = option_map (parts_of c.self.inside.block) c.self.inside.stream ∷ []; stopped = c.self.inside.stopped })) c.args.slot (Err c.in-Err-append_case.fault) (bare_of (record { disk = c.append_case.new.disk; journal = c.append_case.new.journal; limit = c.self.inside.settings.limit; streams = option_map (parts_of c.seal.new.block) x ∷ []; stopped = c.stops-self-inside-in-Err-append_case.result })))
-    (sym c.take.ensures.after)
-    (refused_step c.self.inside.disk c.self.inside.journal c.self.inside.settings.limit c.self.inside.filled _ _ c.self.inside.stopped c.args.slot
-    is c.if-self.false first c.self.invariant.cases c.append_case.new.disk c.append_case.new.journal c.stops-self-inside-in-Err-append_case.result c.in-Err-append_case.fault _ refused.0
-    (c.self.invariant.runs c.if-self.false) c.stops-self-inside-in-Err-append_case.ensures closed.1 (c.into_entry-entry.ensures ∙ closed.0) refused.1 refused.2))
+pub append_case-requires-clause-held : goal.append_case-requires-clause-held
+append_case-requires-clause-held g c =
+    subst (AreHeld c.seal-sealed.new.free) (sym (ap (λ (x : Case). x.blocks) c.into_entry-entry.ensures))
+    (still_held c.self.inside.free c.seal-sealed.new.free c.in-Some.stream.runs c.seal-sealed.new.stream.runs
+    (stream_held g.D.Disk c.self.inside.disk c.self.inside.journal c.self.inside.settings.limit c.self.inside.free c.self.inside.slots c.args.slot _ (c.self.invariant.runs c.if-self.false) (sym c.in-Some.ensures.stream))
+    c.in_default-sealed.ensures.balance)
 
-pub returns-in-Err-append_case-clause-bytes : goal.returns-in-Err-append_case-clause-bytes
-returns-in-Err-append_case-clause-bytes g c honest =
-    let is = ap (option_map (parts_of c.self.inside.block)) (sym c.take.ensures.value ∙ c.in-Some.is) in
-    let first : c.args.slot ≡ 0 = omega arith in
-    let filling = filling_is _ _ _ _ _ is c.self.invariant.filling in
-    let closed = closed_as _ _ _ _ c.seal.new.stream c.in_default-seal.field-0 filling (subst (λ (x : Shape). Closes x.data_blocks c.self.inside.filled (parts_of c.self.inside.block c.in-Some.stream) (Ok c.in_default-seal.field-0) c.seal.new.stream) c.shape.ensures c.in_default-seal.ensures.step) in
-    let refused = c.in-Err-append_case.ensures.step in
-    let real = rw (← c.self.view_is) at honest in
-    let still = c.seal.ensures.honesty ∙ real in
-    rw (← c.self.view_is)
-    (subst (λ (x : Option Stream). RefusedBytes (contents_of g.D.Disk.seen (record { disk = c.self.inside.disk; journal = c.self.inside.journal; limit = c.self.inside.settings.limit; streams = option_map (parts_of c.self.inside.block) c.self.inside.stream ∷ []; stopped = c.self.inside.stopped })) c.args.slot c.in-Err-append_case.fault (contents_of g.D.Disk.seen (record { disk = c.append_case.new.disk; journal = c.append_case.new.journal; limit = c.self.inside.settings.limit; streams = option_map (parts_of c.seal.new.block) x ∷ []; stopped = c.stops-self-inside-in-Err-append_case.result })))
-    (sym c.take.ensures.after)
-    (refused_bytes g.D.Disk.seen c.self.inside.disk c.seal.new.disk c.append_case.new.disk c.self.inside.journal c.self.inside.settings.limit c.self.inside.filled _ _ c.self.inside.stopped c.args.slot
-    is first c.self.invariant.cases
-    (subst (λ (x : Shape). SameOutside (block_start x (next_block c.self.inside.filled c.in-Some.stream.length)) 4096 (g.D.Disk.seen c.self.inside.disk) (g.D.Disk.seen c.seal.new.disk)) c.shape.ensures (c.seal.ensures.others real))
-    (c.in-Err-append_case.ensures.outside still)
-    c.append_case.new.journal c.stops-self-inside-in-Err-append_case.result c.in-Err-append_case.fault (case_of c.into_entry-entry.result) refused.0 (c.self.invariant.runs c.if-self.false) refused.1 refused.2))
-
-pub invariant_of-self-2 : goal.invariant_of-self-2
-invariant_of-self-2 g c =
-    let is = ap (option_map (parts_of c.self.inside.block)) (sym c.take.ensures.value ∙ c.in-Some.is) in
-    let first : c.args.slot ≡ 0 = omega arith in
-    let filling = filling_is _ _ _ _ _ is c.self.invariant.filling in
-    let closed = closed_as _ _ _ _ c.seal.new.stream c.in_default-seal.field-0 filling (subst (λ (x : Shape). Closes x.data_blocks c.self.inside.filled (parts_of c.self.inside.block c.in-Some.stream) (Ok c.in_default-seal.field-0) c.seal.new.stream) c.shape.ensures c.in_default-seal.ensures.step) in
-    subst (λ (x : Option Stream). IsSound g.D.Disk.size c.append_case.new.disk c.append_case.new.journal c.self.inside.settings.limit (c.self.inside.filled + c.blocks_for-blocks.result) (option_map (parts_of c.seal.new.block) x) c.self.inside.stopped)
-    (sym c.take.ensures.after)
-    (subst (λ (k : ℕ). IsSound g.D.Disk.size c.append_case.new.disk c.append_case.new.journal c.self.inside.settings.limit (c.self.inside.filled + k) None c.self.inside.stopped)
-    (sym (c.blocks_for-blocks.ensures ∙ ap (λ (k : Case). blocks_for k.len) (c.into_entry-entry.ensures ∙ closed.0)))
-    (sound_more g.D.Disk.size c.self.inside.disk c.append_case.new.disk c.self.inside.journal c.append_case.new.journal _ _ _ (parts_of c.self.inside.block c.in-Some.stream) _ c.in-Ok.seq _
-    c.self.invariant c.if-self.false (c.append_case.ensures.size ∙ c.seal.ensures.size) closed.1 (c.into_entry-entry.ensures ∙ closed.0) c.in-Ok.ensures.step))
+pub invariant_of-self-in-Err-append_case : goal.invariant_of-self-in-Err-append_case
+invariant_of-self-in-Err-append_case g c =
+    sound_not_stored g.D.Disk c.self.inside.disk c.append_case.new.disk c.self.inside.journal c.self.inside.settings.limit c.self.inside.free c.self.inside.slots c.args.slot (parts_of c.in-Some.block c.in-Some.stream) c.self.inside.stopped
+    (c.self.invariant.runs c.if-self.false) c.if-self.false (sym c.in-Some.ensures.stream)
+    c.append_case.new.journal c.end_streams-self-inside-in-Err-append_case.result c.append_case.new.free c.take.new.self c.end_streams-self-inside-in-Err-append_case.new.slots c.in-Err-append_case.fault (case_of c.into_entry-entry.result) c.self.invariant
+    c.in-Some.ensures.slots c.end_streams-self-inside-in-Err-append_case.ensures c.in-Err-append_case.ensures.step c.in-Err-append_case.ensures.keeps
+    (balance_then c.self.inside.free c.seal-sealed.new.free c.append_case.new.free c.in-Some.stream.runs c.seal-sealed.new.stream.runs _ c.in_default-sealed.ensures.balance
+    (subst (λ (x : List ℕ). Balances c.seal-sealed.new.free x c.append_case.new.free []) (ap (λ (x : Case). x.blocks) c.into_entry-entry.ensures) c.in-Err-append_case.ensures.free))
 
 pub returns-clause-step : goal.returns-clause-step
 returns-clause-step g c =
-    let is = ap (option_map (parts_of c.self.inside.block)) (sym c.take.ensures.value ∙ c.in-Some.is) in
-    let first : c.args.slot ≡ 0 = omega arith in
-    let filling = filling_is _ _ _ _ _ is c.self.invariant.filling in
-    let closed = closed_as _ _ _ _ c.seal.new.stream c.in_default-seal.field-0 filling (subst (λ (x : Shape). Closes x.data_blocks c.self.inside.filled (parts_of c.self.inside.block c.in-Some.stream) (Ok c.in_default-seal.field-0) c.seal.new.stream) c.shape.ensures c.in_default-seal.ensures.step) in
-    subst (λ (a : Parts g.row.D.Denot). FinishStep (bare_of a) c.args.slot (Ok c.in-Ok.seq) (bare_of (record { disk = c.append_case.new.disk; journal = c.append_case.new.journal; limit = c.self.inside.settings.limit; streams = option_map (parts_of c.seal.new.block) c.take.new.self ∷ []; stopped = c.self.inside.stopped })))
+    subst (λ (a : Parts g.row.D.Denot). FinishStep (bare_of a) c.args.slot (Err c.in-Err-append_case.fault)
+    (bare_of (record { disk = c.append_case.new.disk; journal = c.append_case.new.journal; limit = c.self.inside.settings.limit; streams = c.end_streams-self-inside-in-Err-append_case.new.slots; stopped = c.end_streams-self-inside-in-Err-append_case.result })))
     c.self.view_is
-    (subst (λ (x : Option Stream). FinishStep (bare_of (record { disk = c.self.inside.disk; journal = c.self.inside.journal; limit = c.self.inside.settings.limit; streams = option_map (parts_of c.self.inside.block) c.self.inside.stream ∷ []; stopped = c.self.inside.stopped })) c.args.slot (Ok c.in-Ok.seq) (bare_of (record { disk = c.append_case.new.disk; journal = c.append_case.new.journal; limit = c.self.inside.settings.limit; streams = option_map (parts_of c.seal.new.block) x ∷ []; stopped = c.self.inside.stopped })))
-    (sym c.take.ensures.after)
-    (stored_step c.self.inside.disk c.self.inside.journal c.self.inside.settings.limit c.self.inside.filled _ _ c.self.inside.stopped c.args.slot
-    is c.if-self.false first c.self.invariant.cases c.append_case.new.disk c.append_case.new.journal c.in-Ok.seq _ closed.1 (c.into_entry-entry.ensures ∙ closed.0) c.in-Ok.ensures.step))
+    (refused_step g.D.Disk c.self.inside.disk c.append_case.new.disk c.self.inside.journal c.self.inside.settings.limit c.self.inside.free c.self.inside.slots c.args.slot (parts_of c.in-Some.block c.in-Some.stream) c.self.inside.stopped
+    (c.self.invariant.runs c.if-self.false) c.if-self.false (sym c.in-Some.ensures.stream)
+    c.append_case.new.journal c.end_streams-self-inside-in-Err-append_case.result c.take.new.self c.end_streams-self-inside-in-Err-append_case.new.slots (parts_of c.seal-sealed.new.block c.seal-sealed.new.stream) c.in_default-sealed.field-0 c.in-Err-append_case.fault _
+    c.in-Some.ensures.slots c.end_streams-self-inside-in-Err-append_case.ensures c.in_default-sealed.ensures.step c.into_entry-entry.ensures c.in-Err-append_case.ensures.step)
+
+pub returns-in-Ok-clause-step : goal.returns-in-Ok-clause-step
+returns-in-Ok-clause-step g c =
+    rw (← c.self.view_is)
+    (stored_step g.D.Disk c.self.inside.disk c.append_case.new.disk c.self.inside.journal c.self.inside.settings.limit c.self.inside.free c.self.inside.slots c.args.slot (parts_of c.in-Some.block c.in-Some.stream) c.self.inside.stopped
+    (c.self.invariant.runs c.if-self.false) c.if-self.false (sym c.in-Some.ensures.stream)
+    c.append_case.new.journal c.take.new.self (parts_of c.seal-sealed.new.block c.seal-sealed.new.stream) c.in_default-sealed.field-0 c.in-Ok.seq (case_of c.into_entry-entry.result)
+    c.in-Some.ensures.slots c.in_default-sealed.ensures.step c.into_entry-entry.ensures c.in-Ok.ensures.step)
+
+pub invariant_of-self-in-Ok : goal.invariant_of-self-in-Ok
+invariant_of-self-in-Ok g c =
+    sound_with_case g.D.Disk c.self.inside.disk c.append_case.new.disk c.self.inside.journal c.self.inside.settings.limit c.self.inside.free c.self.inside.slots c.args.slot (parts_of c.in-Some.block c.in-Some.stream) c.self.inside.stopped
+    (c.self.invariant.runs c.if-self.false) c.if-self.false (sym c.in-Some.ensures.stream)
+    c.append_case.new.journal c.seal-sealed.new.free c.append_case.new.free c.take.new.self (parts_of c.seal-sealed.new.block c.seal-sealed.new.stream) c.in_default-sealed.field-0 c.in-Ok.seq (case_of c.into_entry-entry.result)
+    c.self.invariant c.in-Some.ensures.slots c.in_default-sealed.ensures.step c.in_default-sealed.ensures.balance c.in-Ok.ensures.free c.into_entry-entry.ensures c.in-Ok.ensures.step c.in-Ok.ensures.keeps
 
 pub returns-clause-bytes : goal.returns-clause-bytes
 returns-clause-bytes g c honest =
-    let is = ap (option_map (parts_of c.self.inside.block)) (sym c.take.ensures.value ∙ c.in-Some.is) in
-    let first : c.args.slot ≡ 0 = omega arith in
-    let filling = filling_is _ _ _ _ _ is c.self.invariant.filling in
-    let closed = closed_as _ _ _ _ c.seal.new.stream c.in_default-seal.field-0 filling (subst (λ (x : Shape). Closes x.data_blocks c.self.inside.filled (parts_of c.self.inside.block c.in-Some.stream) (Ok c.in_default-seal.field-0) c.seal.new.stream) c.shape.ensures c.in_default-seal.ensures.step) in
     let real = rw (← c.self.view_is) at honest in
-    let still = c.seal.ensures.honesty ∙ real in
-    let a = subst (λ (x : Case). Appends c.self.inside.journal x (Ok c.in-Ok.seq) c.append_case.new.journal) (c.into_entry-entry.ensures ∙ closed.0) c.in-Ok.ensures.step in
-    subst (λ (k : Parts g.row.D.Denot). FinishBytes (contents_of g.D.Disk.seen k) c.args.slot (Ok c.in-Ok.seq) (contents_of g.D.Disk.seen (record { disk = c.append_case.new.disk; journal = c.append_case.new.journal; limit = c.self.inside.settings.limit; streams = option_map (parts_of c.seal.new.block) c.take.new.self ∷ []; stopped = c.self.inside.stopped })))
-    c.self.view_is
-    (subst (λ (x : Option Stream). FinishBytes (contents_of g.D.Disk.seen (record { disk = c.self.inside.disk; journal = c.self.inside.journal; limit = c.self.inside.settings.limit; streams = option_map (parts_of c.self.inside.block) c.self.inside.stream ∷ []; stopped = c.self.inside.stopped })) c.args.slot (Ok c.in-Ok.seq) (contents_of g.D.Disk.seen (record { disk = c.append_case.new.disk; journal = c.append_case.new.journal; limit = c.self.inside.settings.limit; streams = option_map (parts_of c.seal.new.block) x ∷ []; stopped = c.self.inside.stopped })))
-    (sym c.take.ensures.after)
-    (store_ok_bytes g.D.Disk.seen c.self.inside.disk c.seal.new.disk c.append_case.new.disk c.self.inside.journal c.self.inside.settings.limit c.self.inside.filled _ _ c.self.inside.stopped c.args.slot
-    is first c.self.invariant.cases
-    (subst (λ (x : Shape). SameOutside (block_start x (next_block c.self.inside.filled c.in-Some.stream.length)) 4096 (g.D.Disk.seen c.self.inside.disk) (g.D.Disk.seen c.seal.new.disk)) c.shape.ensures (c.seal.ensures.others real))
-    (c.in-Ok.ensures.outside still)
-    c.append_case.new.journal c.in-Ok.seq filling
-    (g.met.D.Disk.whole c.self.inside.disk real ∙ c.self.invariant.size)
-    (g.met.D.Disk.whole c.seal.new.disk still ∙ c.seal.ensures.size ∙ c.self.invariant.size)
-    closed.1
-    (subst (λ (x : Shape). HoldsRest x c.self.inside.filled (parts_of c.self.inside.block c.in-Some.stream) (g.D.Disk.seen c.seal.new.disk)) c.shape.ensures (c.in_default-seal.ensures.written real))
-    a.4))
+    let still = c.in_default-sealed.ensures.honesty ∙ real in
+    rw (← c.self.view_is)
+    (unstored_bytes g.D.Disk c.self.inside.disk c.seal-sealed.new.disk c.append_case.new.disk c.self.inside.journal c.append_case.new.journal c.self.inside.settings.limit c.self.inside.free c.self.inside.slots c.args.slot c.self.inside.stopped c.end_streams-self-inside-in-Err-append_case.result
+    (c.self.invariant.runs c.if-self.false) (subst (λ (x : Shape). ChangesFree x c.self.inside.free (g.D.Disk.seen c.self.inside.disk) (g.D.Disk.seen c.seal-sealed.new.disk)) c.shape-shape.ensures (c.in_default-sealed.ensures.others real)) (c.in-Err-append_case.ensures.outside still)
+    c.in-Err-append_case.fault (case_of c.into_entry-entry.result) c.take.new.self c.end_streams-self-inside-in-Err-append_case.new.slots c.in-Some.ensures.slots c.end_streams-self-inside-in-Err-append_case.ensures c.in-Err-append_case.ensures.step)
+
+pub returns-in-Ok-clause-bytes : goal.returns-in-Ok-clause-bytes
+returns-in-Ok-clause-bytes g c honest =
+    let real = rw (← c.self.view_is) at honest in
+    let still = c.in_default-sealed.ensures.honesty ∙ real in
+    let is_case = c.into_entry-entry.ensures in
+    rw (← c.self.view_is)
+    (stored_bytes g.D.Disk c.self.inside.disk c.seal-sealed.new.disk c.append_case.new.disk c.self.inside.journal c.append_case.new.journal c.self.inside.settings.limit c.self.inside.free c.self.inside.slots c.args.slot c.self.inside.stopped c.self.inside.stopped
+    (c.self.invariant.runs c.if-self.false) (subst (λ (x : Shape). ChangesFree x c.self.inside.free (g.D.Disk.seen c.self.inside.disk) (g.D.Disk.seen c.seal-sealed.new.disk)) c.shape-shape.ensures (c.in_default-sealed.ensures.others real)) (c.in-Ok.ensures.outside still)
+    (parts_of c.in-Some.block c.in-Some.stream) (case_of c.into_entry-entry.result) c.in-Ok.seq c.take.new.self (sym c.in-Some.ensures.stream) c.in-Some.ensures.slots c.in-Ok.ensures.step.4
+    (ap (λ (x : Case). x.len) (is_case ∙ closed_case g.D.Disk c.self.inside.disk c.append_case.new.disk c.self.inside.journal c.self.inside.settings.limit c.self.inside.free c.self.inside.slots c.args.slot (parts_of c.in-Some.block c.in-Some.stream) c.self.inside.stopped (c.self.invariant.runs c.if-self.false) c.if-self.false (sym c.in-Some.ensures.stream) (parts_of c.seal-sealed.new.block c.seal-sealed.new.stream) c.in_default-sealed.field-0 c.in_default-sealed.ensures.step))
+    (subst (λ (x : Shape). ClosesBytes x (parts_of c.in-Some.block c.in-Some.stream) (case_of c.into_entry-entry.result).blocks (g.D.Disk.seen c.self.inside.disk) (g.D.Disk.seen c.seal-sealed.new.disk)) c.shape-shape.ensures
+    (subst (λ (x : List ℕ). ClosesBytes c.shape-shape.result (parts_of c.in-Some.block c.in-Some.stream) x (g.D.Disk.seen c.self.inside.disk) (g.D.Disk.seen c.seal-sealed.new.disk)) (sym (ap (λ (x : Case). x.blocks) is_case)) (c.in_default-sealed.ensures.bytes real))))

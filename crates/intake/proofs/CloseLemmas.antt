@@ -1,0 +1,66 @@
+-- The bytes of a stream that is closed.
+use Rattle.std.proofs.Common.{◌≡◌, ℕ, suc, ◌+◌, ◌-◌, ◌*◌, ◌/◌, ◌%◌, ◌<◌, Bool, List, [], ◌∷◌, ◌++◌, length, take, replicate, refl, sym, ap, ◌∙◌, arith}
+use Rattle.std.proofs.lemmas.List.{take_at, take_all, length-take-le, length-append, append-nil}
+use Rattle.std.proofs.lemmas.List.Concat.{flat_map-append}
+use Rattle.disk_model.specs.PartLaws.{part_length}
+use Rattle.extents.specs.FreeSet.{uses, one_if}
+use Rattle.extents.specs.FreeLaws.{uses_cons}
+use Rattle.std.proofs.lemmas.Bool.{eq-eqb}
+use Rattle.std.specs.Prelude.{◌==◌}
+use Rattle.journal_layout.specs.declared.shape.Shape.{Shape}
+use Rattle.journal_layout.specs.Layout.{disk_length}
+use Rattle.intake.specs.Balance.{AreHeld}
+use Rattle.intake.specs.Blocks.{block_bytes, block_start, joined}
+use Rattle.intake.specs.Closing.{ClosesBytes}
+use Rattle.intake.specs.Growth.{Adds}
+use Rattle.intake.specs.Parts.{StreamParts}
+use Rattle.intake.proofs.BlockLemmas.{joined_other}
+use Rattle.intake.proofs.CountLemmas.{not_held, in_range}
+
+-- a block that is held lies in the map
+held_low : (flags : List Bool) (held : List ℕ) (k : ℕ) → AreHeld flags held → 0 < uses held k → k < length flags
+held_low flags held k are some = (let h = are k in in_range k (length flags) (omega (arith, h, some)))
+
+pub length_joined : (shape : Shape) (flags : List Bool) (a : List ℕ) (held : List ℕ) → length flags ≡ shape.data_blocks → length a ≡ disk_length shape → AreHeld flags held → length (joined shape a held) ≡ 4096 * length held
+length_joined shape flags a [] map long are = omega arith
+length_joined shape flags a (b ∷ rest) map long are =
+    let here : uses (b ∷ rest) b ≡ 1 + uses rest b = uses_cons b rest b ∙ (let e : one_if (b == b) ≡ 1 = rw (eq-eqb b b refl) refl in ap (λ (n : ℕ). n + uses rest b) e) in
+    let low = held_low flags (b ∷ rest) b are (omega (arith, here)) in
+    let one : length (block_bytes shape a b) ≡ 4096 = part_length a (block_start shape b) 4096 (omega (arith, long, map, low)) in
+    let more = length_joined shape flags a rest map long (λ k. (let h = are k in let s = uses_cons b rest k in omega (arith, h, s))) in
+    omega (arith, length-append (block_bytes shape a b) (joined shape a rest), one, more)
+
+take_past : (x y : List ℕ) (u : ℕ) → take (length x + u) (x ++ y) ≡ x ++ take u y
+take_past [] y u = let e : 0 + u ≡ u = omega arith in ap (λ (k : ℕ). take k y) e
+take_past (a ∷ x) y u =
+    let e : length (a ∷ x) + u ≡ suc (length x + u) = omega arith in
+    ap (λ (k : ℕ). take k (a ∷ (x ++ y))) e ∙ ap (λ (z : List ℕ). a ∷ z) (take_past x y u)
+
+-- no bytes are left over
+pub closed_whole : (shape : Shape) (flags : List Bool) (a : List ℕ) (s : StreamParts) → length flags ≡ shape.data_blocks → length a ≡ disk_length shape → AreHeld flags s.blocks
+    → length s.blocks ≡ s.len / 4096 → s.len % 4096 ≡ 0 → ClosesBytes shape s s.blocks a a
+closed_whole shape flags a s map long are filled none =
+    let l = length_joined shape flags a s.blocks map long are in
+    take_all s.len (joined shape a s.blocks) (omega (arith, l, filled, none))
+    ∙ sym (append-nil (joined shape a s.blocks))
+    ∙ ap (λ (k : ℕ). joined shape a s.blocks ++ take k s.block) (sym none)
+
+-- the last block holds what was left over, and zeros
+pub closed_part : (shape : Shape) (flags : List Bool) (a b bytes : List ℕ) (s : StreamParts) (blocks : List ℕ) → length flags ≡ shape.data_blocks → length a ≡ disk_length shape → AreHeld flags s.blocks
+    → length s.blocks ≡ s.len / 4096 → length s.block ≡ 4096 → Adds shape flags s.blocks blocks bytes a b → bytes ≡ take (s.len % 4096) s.block ++ replicate (length s.block - s.len % 4096) 0 → ClosesBytes shape s blocks a b
+closed_part shape flags a b bytes s blocks map long are filled size adds padded =
+    let u = s.len % 4096 in
+    let x = joined shape a s.blocks in
+    let l = length_joined shape flags a s.blocks map long are in
+    let still : joined shape b s.blocks ≡ x = joined_other shape adds.block a b adds.others s.blocks (not_held flags s.blocks adds.block are adds.free) in
+    let all : joined shape b blocks ≡ x ++ bytes =
+    ap (joined shape b) adds.blocks
+    ∙ flat_map-append (block_bytes shape b) s.blocks (adds.block ∷ [])
+    ∙ ap (λ (y : List ℕ). y ++ (block_bytes shape b adds.block ++ [])) still
+    ∙ ap (λ (y : List ℕ). x ++ y) (append-nil (block_bytes shape b adds.block) ∙ adds.written) in
+    let e : s.len ≡ length x + u = omega (arith, l, filled) in
+    ap (take s.len) all
+    ∙ ap (λ (k : ℕ). take k (x ++ bytes)) e
+    ∙ take_past x bytes u
+    ∙ ap (λ (y : List ℕ). x ++ take u y) padded
+    ∙ ap (λ (y : List ℕ). x ++ y) (take_at (take u s.block) (replicate (length s.block - u) 0) u (length-take-le u s.block (omega (arith, size))))

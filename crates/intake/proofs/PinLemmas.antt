@@ -1,0 +1,95 @@
+-- How the flag of a case is set.
+use Rattle.std.proofs.Common.{◌≡◌, ◌≢◌, inl, inr, ℕ, ◌+◌, ◌==◌, Bool, true, false, cond, List, [], ◌∷◌, length, map, refl, sym, ap, ◌∙◌, subst, arith, Option, Some, Ok, Err}
+use Rattle.std.specs.Prelude.{option_map}
+use Rattle.disk_model.specs.Places.{SameOutside}
+use Rattle.disk_model.specs.declared.disk.Disk as disk
+use Rattle.journal_layout.specs.Case.{Case}
+use Rattle.journal_layout.specs.Folding.{used_blocks, with_pin}
+use Rattle.journal_layout.specs.Layout.{half_start, half_length}
+use Rattle.journal_layout.specs.LiveCounts.{case_uses_same, used_length, named_pinned}
+use Rattle.journal_layout.specs.LiveLaws.{used_pinned}
+use Rattle.journal_layout.specs.LiveFinds.{pin_sound}
+use Rattle.journal_layout.specs.Record.{Pin}
+use Rattle.journal_layout.specs.Soundness.{case_numbered, uses as uses_in}
+use Rattle.journal_layout.specs.Standing.{folded_of}
+use Rattle.case_journal.specs.Append.{AppendStep, MayFollow}
+use Rattle.case_journal.specs.Journaled.{Journaled}
+use Rattle.case_journal.specs.Keeping.{Keeps}
+use Rattle.case_journal.specs.declared.faults.JournalFault.{JournalFault}
+use Rattle.case_journal.specs.declared.faults.JournalFault.TheVariants as journal_fault
+use Rattle.intake.specs.Blocks.{image_in}
+use Rattle.intake.specs.Ending.{EndsStreams}
+use Rattle.intake.specs.Faults.{fault_of}
+use Rattle.intake.specs.Live.{case_uses, cases_named}
+use Rattle.intake.specs.Parts.{Parts, StreamParts, bare_of, bare_case, contents_of, taken_in}
+use Rattle.intake.specs.Sound.{IsSound, case_blocks}
+use Rattle.intake.specs.State.{BareCase}
+use Rattle.intake.specs.Step.{PinStep, HasCase}
+use Rattle.intake.proofs.AfterLemmas.{bare_case_at, flag_cases, sound_after, same_state, halted_now, same_bytes}
+
+module _ {D : Type 0} (g : disk.Ghosts D) (d d' : D) (j j' : Journaled) (most : ℕ) (flags : List Bool) (streams streams' : List (Option StreamParts)) (b b' : Bool) (seq : ℕ) (flag : Bool) (c : Case)
+    (sound : IsSound g d j most flags streams b) (on : b ≡ false) (found : Some c ≡ case_numbered seq j.standing.cases) where
+  abbrev old : Parts D
+  old = record { disk = d; journal = j; limit = most; streams = streams; stopped = b }
+
+  abbrev new : Parts D
+  new = record { disk = d'; journal = j'; limit = most; streams = streams'; stopped = b' }
+
+  has : HasCase (bare_of old) seq (bare_case c)
+  has = (on, bare_case_at seq j.standing.cases ∙ ap (option_map bare_case) (sym found))
+
+  pub pin_may : MayFollow j.standing (Pin seq flag)
+  pin_may = pin_sound j.standing.shape.data_blocks (folded_of j.standing) seq flag (sound.runs on).cases (c, sym found)
+
+  -- it stands already
+  pub pin_same : (u : Unit {0}) → c.pinned ≡ flag → PinStep (bare_of old) seq flag (Ok u) (bare_of old)
+  pin_same u same = (bare_case c, has, inl (same, refl))
+
+  -- it is set
+  pub pin_ok : (u : Unit {0}) → c.pinned ≢ flag → AppendStep j (Pin seq flag) (Ok u) j' → PinStep (bare_of old) seq flag (Ok u) (bare_of (record { disk = d'; journal = j'; limit = most; streams = streams; stopped = b }))
+  pin_ok u other step = (
+    bare_case c,
+    has,
+    inr (
+      other,
+      step.1,
+      ap (λ (k : Journaled). bare_of (record { disk = d'; journal = k; limit = most; streams = streams; stopped = b })) step.2
+          ∙ ap (λ (x : List BareCase). record (bare_of old) { cases = x; used = j.standing.used + 16 }) (flag_cases seq flag j.standing.cases),
+    ),
+  )
+
+  pub pin_err : (jf : JournalFault) → c.pinned ≢ flag → AppendStep j (Pin seq flag) (Err jf) j' → EndsStreams (fault_of jf) streams b' streams' → PinStep (bare_of old) seq flag (Err (fault_of jf)) (bare_of new)
+  pin_err journal_fault.Stopped other step ends = absurd (let e : true ≡ false = sym step.0 ∙ (sound.runs on).journal in cc)
+  pin_err journal_fault.JournalFull other step ends = (bare_case c, has, other, step.1, same_state g d d' j j' (Pin seq flag) most flags streams streams' b b' on ends.0 ends.1 step.2)
+  pin_err journal_fault.NumbersSpent other step ends = absurd step
+  pin_err journal_fault.OutOfMemory other step ends = (bare_case c, has, other, step.1, same_state g d d' j j' (Pin seq flag) most flags streams streams' b b' on ends.0 ends.1 step.2)
+  pin_err journal_fault.Disk other step ends = (bare_case c, has, other, step.1, halted_now g d d' j j' (Pin seq flag) most flags streams streams' b b' on ends.0 ends.1 step.2)
+
+  pub pin_sound_after : (u : Unit {0}) → AppendStep j (Pin seq flag) (Ok u) j' → Keeps g d' j' → IsSound g d' j' most flags streams b
+  pin_sound_after u step keeps =
+      subst (λ (k : Journaled). IsSound g d' k most flags streams b) (sym step.2)
+      (sound_after g d d' j (Pin seq flag) most flags flags streams b sound on (subst (Keeps g d') step.2 keeps) pin_may refl
+      (λ k. (let x : case_uses (with_pin seq flag j.standing.cases) k ≡ uses_in k (used_blocks (with_pin seq flag j.standing.cases)) = case_uses_same k (with_pin seq flag j.standing.cases) in
+      let y : case_uses j.standing.cases k ≡ uses_in k (used_blocks j.standing.cases) = case_uses_same k j.standing.cases in
+      let e = ap (uses_in k) (used_pinned seq flag j.standing.cases) in
+      omega (arith, x, y, e)))
+      (let x : length (used_blocks (with_pin seq flag j.standing.cases)) ≡ case_blocks (with_pin seq flag j.standing.cases) = used_length (with_pin seq flag j.standing.cases) in
+      let y : length (used_blocks j.standing.cases) ≡ case_blocks j.standing.cases = used_length j.standing.cases in
+      let e = ap length (used_pinned seq flag j.standing.cases) in omega (arith, x, y, e))
+      (λ name. (let n : cases_named (with_pin seq flag j.standing.cases) name ≡ cases_named j.standing.cases name = named_pinned seq flag j.standing.cases name in omega (arith, n))))
+
+  images_pinned : (bytes : List ℕ) (cases : List Case) → map (λ (x : Case). image_in j.standing.shape bytes x.blocks x.len) (with_pin seq flag cases) ≡ map (λ (x : Case). image_in j.standing.shape bytes x.blocks x.len) cases
+  images_pinned bytes [] = refl
+  images_pinned bytes (x ∷ rest) =
+      elim (x.seq == seq) as (λ t. image_in j.standing.shape bytes (cond t (record x { pinned = flag }) x).blocks (cond t (record x { pinned = flag }) x).len ∷ map (λ (y : Case). image_in j.standing.shape bytes y.blocks y.len) (with_pin seq flag rest)
+      ≡ image_in j.standing.shape bytes x.blocks x.len ∷ map (λ (y : Case). image_in j.standing.shape bytes y.blocks y.len) rest) [
+        | true ↦ ap (λ (l : List (List ℕ)). image_in j.standing.shape bytes x.blocks x.len ∷ l) (images_pinned bytes rest)
+        | false ↦ ap (λ (l : List (List ℕ)). image_in j.standing.shape bytes x.blocks x.len ∷ l) (images_pinned bytes rest)
+      ]
+
+  pub pin_bytes : (u : Unit {0}) → AppendStep j (Pin seq flag) (Ok u) j' → SameOutside (half_start j.standing.shape j.standing.half) (half_length j.standing.shape) (g.seen d) (g.seen d')
+      → contents_of g.seen (record { disk = d'; journal = j'; limit = most; streams = streams; stopped = b }) ≡ contents_of g.seen old
+  pin_bytes u step outside =
+      ap (λ (k : Journaled). contents_of g.seen (record { disk = d'; journal = k; limit = most; streams = streams; stopped = b })) step.2
+      ∙ ap (λ (x : List (List ℕ)). record { images = x; taken = map (option_map (taken_in j (g.seen d'))) streams }) (images_pinned (g.seen d') j.standing.cases)
+      ∙ same_bytes g.seen d d' j most streams b outside b

@@ -1,0 +1,25 @@
+use Rattle.std.proofs.Common.{sym}
+use Rattle.intake.proofs.SoundLemmas.{sound_dropped, stream_held}
+use Rattle.intake.proofs.StepLemmas.{abandon_step, abandon_bytes}
+use Rattle.intake.proofs.archive.Archive.abandon.Goals as goal
+
+pub release-requires : goal.release-requires
+release-requires g c =
+    stream_held g.D.Disk c.self.inside.disk c.self.inside.journal c.self.inside.settings.limit c.self.inside.free c.self.inside.slots c.args.slot _ (c.self.invariant.runs c.if-self.false) (sym c.in-Some.ensures.stream)
+
+pub invariant_of-self-2 : goal.invariant_of-self-2
+invariant_of-self-2 g c =
+    sound_dropped g.D.Disk c.self.inside.disk c.self.inside.disk c.self.inside.journal c.self.inside.settings.limit c.self.inside.free c.release.new.free c.self.inside.slots c.take.new.self c.args.slot _ c.self.inside.stopped
+    c.self.invariant c.if-self.false (sym c.in-Some.ensures.stream) c.in-Some.ensures.slots (c.self.invariant.runs c.if-self.false).keeps c.release.ensures
+
+pub returns-clause-step : goal.returns-clause-step
+returns-clause-step g c =
+    rw (← c.self.view_is)
+    (abandon_step g.D.Disk c.self.inside.disk c.self.inside.journal c.self.inside.settings.limit c.self.inside.slots c.take.new.self c.args.slot _ c.self.inside.stopped
+    c.if-self.false (sym c.in-Some.ensures.stream) c.in-Some.ensures.slots tt)
+
+pub returns-clause-bytes : goal.returns-clause-bytes
+returns-clause-bytes g c =
+    rw (← c.self.view_is)
+    (abandon_bytes g.D.Disk c.self.inside.disk c.self.inside.journal c.self.inside.settings.limit c.self.inside.slots c.take.new.self c.args.slot _ c.self.inside.stopped
+    c.if-self.false (sym c.in-Some.ensures.stream) c.in-Some.ensures.slots tt)

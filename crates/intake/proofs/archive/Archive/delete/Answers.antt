@@ -1,0 +1,27 @@
+use Rattle.std.proofs.Common.{◌∙◌, ap, sym, refl}
+use Rattle.std.specs.Prelude.{option_map}
+use Rattle.intake.specs.Parts.{bare_of, bare_case}
+use Rattle.journal_layout.specs.Case.{case_of}
+use Rattle.intake.proofs.AfterLemmas.{bare_case_at}
+use Rattle.intake.proofs.DropLemmas.{delete_may, delete_step}
+use Rattle.intake.proofs.archive.Archive.delete.Goals as goal
+
+pub returns-in_default-clause-step : goal.returns-in_default-clause-step
+returns-in_default-clause-step g c =
+    rw (← c.self.view_is) (c.if-self.false, bare_case_at c.args.seq c.self.inside.journal.standing.cases ∙ ap (option_map bare_case) (sym c.in_default.ensures), refl)
+
+pub returns-then-entry-clause-step : goal.returns-then-entry-clause-step
+returns-then-entry-clause-step g c =
+    rw (← c.self.view_is)
+    (bare_case (case_of c.in-Some.entry.now), (c.if-self.false, bare_case_at c.args.seq c.self.inside.journal.standing.cases ∙ ap (option_map bare_case) (sym c.in-Some.ensures)), c.if-entry.true, refl)
+
+pub drop_cases-requires-clause-may : goal.drop_cases-requires-clause-may
+drop_cases-requires-clause-may g c =
+    rw (← c.self.view_is)
+    (delete_may g.D.Disk c.self.inside.disk c.self.inside.journal c.self.inside.settings.limit c.self.inside.free c.self.inside.slots c.args.seq (case_of c.in-Some.entry.now) (c.self.invariant.runs c.if-self.false) c.in-Some.ensures c.if-entry.false)
+
+pub returns-clause-step : goal.returns-clause-step
+returns-clause-step g c =
+    delete_step (bare_of c.args.self.now) c.args.seq (bare_case (case_of c.in-Some.entry.now)) c.drop_cases.result (bare_of c.drop_cases.new.self)
+    (rw (← c.self.view_is) (c.if-self.false, bare_case_at c.args.seq c.self.inside.journal.standing.cases ∙ ap (option_map bare_case) (sym c.in-Some.ensures)))
+    c.if-entry.false c.drop_cases.ensures.step

@@ -1,0 +1,68 @@
+use Rattle.std.proofs.Common.{◌∙◌, sym, subst, List, [], Err}
+use Rattle.intake.specs.Balance.{AreHeld, Balances}
+use Rattle.intake.specs.Contents.{UnmovedBytes}
+use Rattle.intake.specs.Ending.{EndsStreams}
+use Rattle.intake.specs.Faults.{fault_of}
+use Rattle.intake.specs.Parts.{Parts, bare_of, contents_of}
+use Rattle.intake.specs.Step.{DropStep}
+use Rattle.intake.specs.declared.faults.ArchiveFault.{ArchiveFault}
+use Rattle.journal_layout.specs.Case.{Case}
+use Rattle.journal_layout.specs.Folding.{used_blocks}
+use Rattle.journal_layout.specs.Live.{gone}
+use Rattle.journal_layout.specs.Record.{Drop}
+use Rattle.intake.proofs.AfterLemmas.{sound_refusal, refusal_bytes}
+use Rattle.intake.proofs.DropLemmas.{drop_held, drop_ok, drop_err, drop_sound_after, drop_bytes, still_cases}
+use Rattle.intake.proofs.ListedLemmas.{flags_back}
+use Rattle.intake.proofs.archive.Archive.drop_cases.Goals as goal
+
+pub release_listed-requires-clause-held : goal.release_listed-requires-clause-held
+release_listed-requires-clause-held g c =
+    let on = rw (← c.self.view_is) at c.requires.runs in
+    subst (λ (cs : List Case). AreHeld c.self.inside.free (used_blocks (gone c.args.seqs.now cs))) (sym c.entries.ensures)
+    (drop_held g.D.Disk c.self.inside.disk c.self.inside.disk c.self.inside.journal c.self.inside.journal c.self.inside.settings.limit c.self.inside.free c.self.inside.slots c.self.inside.slots c.self.inside.stopped c.self.inside.stopped c.args.seqs.now c.self.invariant on)
+
+pub invariant_of-self : goal.invariant_of-self
+invariant_of-self g c =
+    let on = rw (← c.self.view_is) at c.requires.runs in
+    let may = rw (← c.self.view_is) at c.requires.may in
+    drop_sound_after g.D.Disk c.self.inside.disk c.append_drop.new.disk c.self.inside.journal c.append_drop.new.self c.self.inside.settings.limit c.self.inside.free c.self.inside.slots c.self.inside.slots c.self.inside.stopped c.self.inside.stopped c.args.seqs.now c.self.invariant on c.release_listed.new.free c.in_default.field-0 may c.in_default.ensures.step c.append_drop.ensures.keeps
+    (subst (λ (cs : List Case). Balances c.self.inside.free (used_blocks (gone c.args.seqs.now cs)) c.release_listed.new.free []) c.entries.ensures c.release_listed.ensures)
+
+pub returns-in_default-clause-step : goal.returns-in_default-clause-step
+returns-in_default-clause-step g c =
+    let on = rw (← c.self.view_is) at c.requires.runs in
+    rw (← c.self.view_is) (drop_ok g.D.Disk c.self.inside.disk c.append_drop.new.disk c.self.inside.journal c.append_drop.new.self c.self.inside.settings.limit c.self.inside.free c.self.inside.slots c.self.inside.slots c.self.inside.stopped c.self.inside.stopped c.args.seqs.now c.self.invariant on tt c.in_default.ensures.step)
+
+pub returns-in_default-clause-bytes : goal.returns-in_default-clause-bytes
+returns-in_default-clause-bytes g c honest =
+    let on = rw (← c.self.view_is) at c.requires.runs in
+    let real = rw (← c.self.view_is) at honest in
+    rw (← c.self.view_is) (drop_bytes g.D.Disk c.self.inside.disk c.append_drop.new.disk c.self.inside.journal c.append_drop.new.self c.self.inside.settings.limit c.self.inside.free c.self.inside.slots c.self.inside.slots c.self.inside.stopped c.self.inside.stopped c.args.seqs.now c.self.invariant on tt c.in_default.ensures.step (c.append_drop.ensures.others real))
+
+pub invariant_of-self-2 : goal.invariant_of-self-2
+invariant_of-self-2 g c =
+    let on = rw (← c.self.view_is) at c.requires.runs in
+    sound_refusal g.D.Disk c.self.inside.disk c.append_drop.new.disk c.self.inside.journal c.append_drop.new.self (Drop c.args.seqs.now) c.self.inside.settings.limit c.self.inside.free c.self.inside.slots c.end_streams-self-inside.new.slots c.self.inside.stopped c.end_streams-self-inside.result on
+    c.hold_listed.new.free c.in-Err.fault c.self.invariant c.in-Err.ensures.step c.append_drop.ensures.keeps
+    (subst (λ (f : ArchiveFault). EndsStreams f c.self.inside.slots c.end_streams-self-inside.result c.end_streams-self-inside.new.slots) c.from-fault.ensures c.end_streams-self-inside.ensures)
+    (λ _. flags_back c.self.inside.free c.release_listed.new.free c.hold_listed.new.free (used_blocks (gone c.args.seqs.now c.self.inside.journal.standing.cases))
+    (subst (λ (cs : List Case). Balances c.self.inside.free (used_blocks (gone c.args.seqs.now cs)) c.release_listed.new.free []) c.entries.ensures c.release_listed.ensures)
+    (subst (λ (cs : List Case). Balances c.release_listed.new.free [] c.hold_listed.new.free (used_blocks (gone c.args.seqs.now cs)))
+    (c.entries-2.ensures ∙ still_cases c.self.inside.journal c.append_drop.new.self (Drop c.args.seqs.now) c.in-Err.fault c.in-Err.ensures.step) c.hold_listed.ensures))
+
+pub returns-clause-step : goal.returns-clause-step
+returns-clause-step g c =
+    let on = rw (← c.self.view_is) at c.requires.runs in
+    subst (λ (f : ArchiveFault). DropStep (bare_of c.args.self.now) c.args.seqs.now (Err f) (bare_of (record { disk = c.append_drop.new.disk; journal = c.append_drop.new.self; limit = c.self.inside.settings.limit; streams = c.end_streams-self-inside.new.slots; stopped = c.end_streams-self-inside.result }))) (sym c.from-fault.ensures)
+    (subst (λ (a : Parts g.row.D.Denot). DropStep (bare_of a) c.args.seqs.now (Err (fault_of c.in-Err.fault)) (bare_of (record { disk = c.append_drop.new.disk; journal = c.append_drop.new.self; limit = c.self.inside.settings.limit; streams = c.end_streams-self-inside.new.slots; stopped = c.end_streams-self-inside.result }))) c.self.view_is
+    (drop_err g.D.Disk c.self.inside.disk c.append_drop.new.disk c.self.inside.journal c.append_drop.new.self c.self.inside.settings.limit c.self.inside.free c.self.inside.slots c.end_streams-self-inside.new.slots c.self.inside.stopped c.end_streams-self-inside.result c.args.seqs.now c.self.invariant on c.in-Err.fault c.in-Err.ensures.step (subst (λ (f : ArchiveFault). EndsStreams f c.self.inside.slots c.end_streams-self-inside.result c.end_streams-self-inside.new.slots) c.from-fault.ensures c.end_streams-self-inside.ensures)))
+
+pub returns-clause-bytes : goal.returns-clause-bytes
+returns-clause-bytes g c honest =
+    let on = rw (← c.self.view_is) at c.requires.runs in
+    let real = rw (← c.self.view_is) at honest in
+    subst (λ (f : ArchiveFault). UnmovedBytes (contents_of g.D.Disk.seen c.args.self.now) f (contents_of g.D.Disk.seen (record { disk = c.append_drop.new.disk; journal = c.append_drop.new.self; limit = c.self.inside.settings.limit; streams = c.end_streams-self-inside.new.slots; stopped = c.end_streams-self-inside.result }))) (sym c.from-fault.ensures)
+    (subst (λ (a : Parts g.row.D.Denot). UnmovedBytes (contents_of g.D.Disk.seen a) (fault_of c.in-Err.fault) (contents_of g.D.Disk.seen (record { disk = c.append_drop.new.disk; journal = c.append_drop.new.self; limit = c.self.inside.settings.limit; streams = c.end_streams-self-inside.new.slots; stopped = c.end_streams-self-inside.result }))) c.self.view_is
+    (refusal_bytes g.D.Disk.seen c.self.inside.disk c.append_drop.new.disk c.self.inside.journal c.self.inside.settings.limit c.self.inside.slots c.self.inside.stopped (c.append_drop.ensures.others real)
+    (Drop c.args.seqs.now) c.append_drop.new.self c.in-Err.fault c.end_streams-self-inside.result c.end_streams-self-inside.new.slots (c.self.invariant.runs on).journal c.in-Err.ensures.step
+    (subst (λ (f : ArchiveFault). EndsStreams f c.self.inside.slots c.end_streams-self-inside.result c.end_streams-self-inside.new.slots) c.from-fault.ensures c.end_streams-self-inside.ensures)))

@@ -1,0 +1,65 @@
+use Rattle.std.proofs.Common.{◌∙◌, refl, ap, sym, subst, Err}
+use Rattle.std.specs.Prelude.{option_map}
+use Rattle.intake.specs.Contents.{UnmovedBytes}
+use Rattle.intake.specs.Ending.{EndsStreams}
+use Rattle.intake.specs.Faults.{fault_of}
+use Rattle.intake.specs.Parts.{Parts, bare_of, bare_case, contents_of}
+use Rattle.intake.specs.Step.{PinStep}
+use Rattle.intake.specs.declared.faults.ArchiveFault.{ArchiveFault}
+use Rattle.journal_layout.specs.Case.{case_of}
+use Rattle.journal_layout.specs.Record.{Pin}
+use Rattle.intake.proofs.AfterLemmas.{bare_case_at, flags_differ, flags_same, sound_refusal, refusal_bytes}
+use Rattle.intake.proofs.PinLemmas.{pin_same, pin_ok, pin_err, pin_sound_after, pin_bytes}
+use Rattle.intake.proofs.archive.Archive.pin.Goals as goal
+
+pub returns-in_default-clause-step : goal.returns-in_default-clause-step
+returns-in_default-clause-step g c =
+    rw (← c.self.view_is) (c.if-self.false, bare_case_at c.args.seq c.self.inside.journal.standing.cases ∙ ap (option_map bare_case) (sym c.in_default.ensures), refl)
+
+pub returns-then-entry-flag-clause-step : goal.returns-then-entry-flag-clause-step
+returns-then-entry-flag-clause-step g c =
+    rw (← c.self.view_is)
+    (pin_same g.D.Disk c.self.inside.disk c.self.inside.disk c.self.inside.journal c.self.inside.journal c.self.inside.settings.limit c.self.inside.free c.self.inside.slots c.self.inside.slots c.self.inside.stopped c.self.inside.stopped
+    c.args.seq c.args.flag (case_of c.in-Some.entry.now) c.self.invariant c.if-self.false c.in-Some.ensures tt (flags_same c.in-Some.entry.now.pinned c.args.flag c.if-entry-flag.true))
+
+pub invariant_of-self : goal.invariant_of-self
+invariant_of-self g c =
+    pin_sound_after g.D.Disk c.self.inside.disk c.append_pin.new.disk c.self.inside.journal c.append_pin.new.self c.self.inside.settings.limit c.self.inside.free c.self.inside.slots c.self.inside.slots c.self.inside.stopped c.self.inside.stopped
+    c.args.seq c.args.flag (case_of c.in-Some.entry.now) c.self.invariant c.if-self.false c.in-Some.ensures c.in_default-append_pin.field-0 c.in_default-append_pin.ensures.step c.append_pin.ensures.keeps
+
+pub returns-in_default-append_pin-clause-step : goal.returns-in_default-append_pin-clause-step
+returns-in_default-append_pin-clause-step g c =
+    rw (← c.self.view_is)
+    (pin_ok g.D.Disk c.self.inside.disk c.append_pin.new.disk c.self.inside.journal c.append_pin.new.self c.self.inside.settings.limit c.self.inside.free c.self.inside.slots c.self.inside.slots c.self.inside.stopped c.self.inside.stopped
+    c.args.seq c.args.flag (case_of c.in-Some.entry.now) c.self.invariant c.if-self.false c.in-Some.ensures tt (flags_differ c.in-Some.entry.now.pinned c.args.flag c.if-entry-flag.false) c.in_default-append_pin.ensures.step)
+
+pub returns-in_default-append_pin-clause-bytes : goal.returns-in_default-append_pin-clause-bytes
+returns-in_default-append_pin-clause-bytes g c honest =
+    let real = rw (← c.self.view_is) at honest in
+    rw (← c.self.view_is)
+    (pin_bytes g.D.Disk c.self.inside.disk c.append_pin.new.disk c.self.inside.journal c.append_pin.new.self c.self.inside.settings.limit c.self.inside.free c.self.inside.slots c.self.inside.slots c.self.inside.stopped c.self.inside.stopped
+    c.args.seq c.args.flag (case_of c.in-Some.entry.now) c.self.invariant c.if-self.false c.in-Some.ensures tt c.in_default-append_pin.ensures.step (c.append_pin.ensures.others real))
+
+pub invariant_of-self-2 : goal.invariant_of-self-2
+invariant_of-self-2 g c =
+    sound_refusal g.D.Disk c.self.inside.disk c.append_pin.new.disk c.self.inside.journal c.append_pin.new.self (Pin c.args.seq c.args.flag) c.self.inside.settings.limit c.self.inside.free c.self.inside.slots c.end_streams-self-inside.new.slots c.self.inside.stopped c.end_streams-self-inside.result c.if-self.false
+    c.self.inside.free c.in-Err.fault c.self.invariant c.in-Err.ensures.step c.append_pin.ensures.keeps
+    (subst (λ (f : ArchiveFault). EndsStreams f c.self.inside.slots c.end_streams-self-inside.result c.end_streams-self-inside.new.slots) c.from-fault.ensures c.end_streams-self-inside.ensures)
+    (λ _. refl)
+
+pub returns-clause-step : goal.returns-clause-step
+returns-clause-step g c =
+    subst (λ (f : ArchiveFault). PinStep (bare_of c.args.self.now) c.args.seq c.args.flag (Err f) (bare_of (record { disk = c.append_pin.new.disk; journal = c.append_pin.new.self; limit = c.self.inside.settings.limit; streams = c.end_streams-self-inside.new.slots; stopped = c.end_streams-self-inside.result }))) (sym c.from-fault.ensures)
+    (subst (λ (a : Parts g.row.D.Denot). PinStep (bare_of a) c.args.seq c.args.flag (Err (fault_of c.in-Err.fault)) (bare_of (record { disk = c.append_pin.new.disk; journal = c.append_pin.new.self; limit = c.self.inside.settings.limit; streams = c.end_streams-self-inside.new.slots; stopped = c.end_streams-self-inside.result }))) c.self.view_is
+    (pin_err g.D.Disk c.self.inside.disk c.append_pin.new.disk c.self.inside.journal c.append_pin.new.self c.self.inside.settings.limit c.self.inside.free c.self.inside.slots c.end_streams-self-inside.new.slots c.self.inside.stopped c.end_streams-self-inside.result
+    c.args.seq c.args.flag (case_of c.in-Some.entry.now) c.self.invariant c.if-self.false c.in-Some.ensures c.in-Err.fault (flags_differ c.in-Some.entry.now.pinned c.args.flag c.if-entry-flag.false) c.in-Err.ensures.step
+    (subst (λ (f : ArchiveFault). EndsStreams f c.self.inside.slots c.end_streams-self-inside.result c.end_streams-self-inside.new.slots) c.from-fault.ensures c.end_streams-self-inside.ensures)))
+
+pub returns-clause-bytes : goal.returns-clause-bytes
+returns-clause-bytes g c honest =
+    let real = rw (← c.self.view_is) at honest in
+    subst (λ (f : ArchiveFault). UnmovedBytes (contents_of g.D.Disk.seen c.args.self.now) f (contents_of g.D.Disk.seen (record { disk = c.append_pin.new.disk; journal = c.append_pin.new.self; limit = c.self.inside.settings.limit; streams = c.end_streams-self-inside.new.slots; stopped = c.end_streams-self-inside.result }))) (sym c.from-fault.ensures)
+    (subst (λ (a : Parts g.row.D.Denot). UnmovedBytes (contents_of g.D.Disk.seen a) (fault_of c.in-Err.fault) (contents_of g.D.Disk.seen (record { disk = c.append_pin.new.disk; journal = c.append_pin.new.self; limit = c.self.inside.settings.limit; streams = c.end_streams-self-inside.new.slots; stopped = c.end_streams-self-inside.result }))) c.self.view_is
+    (refusal_bytes g.D.Disk.seen c.self.inside.disk c.append_pin.new.disk c.self.inside.journal c.self.inside.settings.limit c.self.inside.slots c.self.inside.stopped (c.append_pin.ensures.others real)
+    (Pin c.args.seq c.args.flag) c.append_pin.new.self c.in-Err.fault c.end_streams-self-inside.result c.end_streams-self-inside.new.slots (c.self.invariant.runs c.if-self.false).journal c.in-Err.ensures.step
+    (subst (λ (f : ArchiveFault). EndsStreams f c.self.inside.slots c.end_streams-self-inside.result c.end_streams-self-inside.new.slots) c.from-fault.ensures c.end_streams-self-inside.ensures)))

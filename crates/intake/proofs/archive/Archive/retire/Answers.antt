@@ -1,0 +1,48 @@
+use Rattle.std.proofs.Common.{◌≢◌, inl, inr, ap, sym, subst, refl, List, [], ℕ, Ok, Err, rules}
+use Rattle.journal_layout.specs.Case.{Case}
+use Rattle.journal_layout.specs.Record.{Drop}
+use Rattle.case_journal.specs.Append.{MayFollow}
+use Rattle.intake.specs.Blocks.{image_in}
+use Rattle.intake.specs.Parts.{bare_of, contents_of}
+use Rattle.intake.specs.Step.{DropStep}
+use Rattle.intake.proofs.RetireLemmas.{all_stay, decision_of, entries_rise, none_dropped, retire_err, retire_may, some_dropped}
+use Rattle.intake.proofs.archive.Archive.retire.Goals as goal
+
+pub decide_for-requires : goal.decide_for-requires
+decide_for-requires g c =
+    entries_rise c.self.inside.journal.standing.shape.data_blocks c.entries.result.now c.self.inside.journal.standing.cases c.self.inside.journal.standing.next c.entries.ensures (c.self.invariant.runs c.if-self.false).cases
+
+pub returns-then-is_empty-clause-step : goal.returns-then-is_empty-clause-step
+returns-then-is_empty-clause-step g c =
+    let none = none_dropped c.in-Ok.decision.dropped.items (search rules) in
+    rw (← c.self.view_is) (c.if-self.false, (decision_of c.args.policy.now c.entries.result.now c.self.inside.journal.standing.cases c.in-Ok.decision.dropped.items c.in-Ok.decision.unmet c.entries.ensures c.in-Ok.ensures.decision), inl (none, refl))
+
+pub returns-then-is_empty-clause-bytes : goal.returns-then-is_empty-clause-bytes
+returns-then-is_empty-clause-bytes g c honest =
+    let none = none_dropped c.in-Ok.decision.dropped.items (search rules) in
+    rw none (ap (λ (x : List (List ℕ)). record (contents_of g.D.Disk.seen c.args.self.now) { images = x })
+    (sym (all_stay (λ (x : Case). image_in c.args.self.now.journal.standing.shape (g.D.Disk.seen c.args.self.now.disk) x.blocks x.len) c.args.self.now.journal.standing.cases)))
+
+pub drop_cases-requires-clause-may : goal.drop_cases-requires-clause-may
+drop_cases-requires-clause-may g c =
+    let some : c.in-Ok.decision.dropped.items ≢ [] = search rules in
+    rw (← c.self.view_is)
+    (subst (λ (xs : List ℕ). MayFollow c.self.inside.journal.standing (Drop xs)) (sym c.as_slice.ensures.value)
+    (retire_may c.self.inside.journal c.args.policy.now c.in-Ok.decision.dropped.items c.in-Ok.decision.unmet (c.self.invariant.runs c.if-self.false).cases
+    (decision_of c.args.policy.now c.entries.result.now c.self.inside.journal.standing.cases c.in-Ok.decision.dropped.items c.in-Ok.decision.unmet c.entries.ensures c.in-Ok.ensures.decision) c.in-Ok.ensures.rising (some_dropped c.in-Ok.decision.dropped.items some)))
+
+pub returns-in-Err-clause-step : goal.returns-in-Err-clause-step
+returns-in-Err-clause-step g c =
+    let some : c.in-Ok.decision.dropped.items ≢ [] = search rules in
+    retire_err (bare_of c.args.self.now) c.args.policy.now c.in-Ok.decision.dropped.items c.in-Ok.decision.unmet c.in-Err.fault (bare_of c.drop_cases.new.self)
+    (rw (← c.self.view_is) (c.if-self.false, (decision_of c.args.policy.now c.entries.result.now c.self.inside.journal.standing.cases c.in-Ok.decision.dropped.items c.in-Ok.decision.unmet c.entries.ensures c.in-Ok.ensures.decision), some))
+    (subst (λ (xs : List ℕ). DropStep (bare_of c.args.self.now) xs (Err c.in-Err.fault) (bare_of c.drop_cases.new.self)) c.as_slice.ensures.value c.in-Err.ensures.step)
+
+pub returns-clause-step : goal.returns-clause-step
+returns-clause-step g c =
+    let some : c.in-Ok.decision.dropped.items ≢ [] = search rules in
+    let step = subst (λ (xs : List ℕ). DropStep (bare_of c.args.self.now) xs (Ok c.in_default-drop_cases.field-0) (bare_of c.drop_cases.new.self)) c.as_slice.ensures.value c.in_default-drop_cases.ensures.step in (
+      rw (← c.self.view_is) c.if-self.false,
+      rw (← c.self.view_is) (decision_of c.args.policy.now c.entries.result.now c.self.inside.journal.standing.cases c.in-Ok.decision.dropped.items c.in-Ok.decision.unmet c.entries.ensures c.in-Ok.ensures.decision),
+      inr (some, step.0, step.1),
+    )

@@ -1,0 +1,10 @@
+use Rattle.intake.proofs.SoundLemmas.{sound_lent, block_at}
+use Rattle.intake.proofs.archive.Archive.room.Goals as goal
+
+pub lend-requires : goal.lend-requires
+lend-requires g c on =
+    block_at g.D.Disk c.self.inside.disk c.self.inside.journal c.self.inside.settings.limit c.self.inside.free c.self.inside.slots c.args.slot c.self.inside.stopped c.self.invariant on
+
+pub invariant_of-self-lent : goal.invariant_of-self-lent
+invariant_of-self-lent g c w =
+    sound_lent g.D.Disk c.self.inside.disk c.self.inside.journal c.self.inside.settings.limit c.self.inside.free c.self.inside.slots c.args.slot c.self.inside.stopped c.lend.result.0 w c.self.invariant c.lend.ensures.reply

@@ -1,8 +1,0 @@
-use Rattle.std.proofs.Common.{refl, ap, []}
-use Rattle.std.specs.Prelude.{option_map}
-use Rattle.intake.specs.StreamView.{parts_of}
-use Rattle.intake.proofs.archive.free_from.Goals as goal
-
-pub returns-in-Some : goal.returns-in-Some
-returns-in-Some c =
-    (c.if-stopped.false, c.if-slot-eq0.true, parts_of [] c.in-Some.stream, ap (option_map (parts_of [])) c.in-Some.is, refl)

@@ -1,0 +1,192 @@
+// The eight slots for streams.
+ghost use Rattle.std.specs.Prelude.{◌≡◌, ◌<◌, ◌≤◌, ◌≢◌, false, ◌↔◌, None, Some, IfOk, IsTrue, IsSome, replicate, length, map, drop, option_map, option_copied, slice_set};
+ghost use Rattle.std.specs.List.{list_any, All};
+ghost use Rattle.intake.specs.declared.slots.Slot.{Slot};
+ghost use Rattle.std.specs.Borrow.{sem};
+ghost use Rattle.intake.specs.Step.{has_name};
+ghost use Rattle.intake.specs.Parts.{bare_stream};
+ghost use Rattle.intake.specs.Slots.{stream_at, closed};
+ghost use Rattle.intake.specs.Room.{IsFreeFrom};
+ghost use Rattle.intake.specs.StreamView.{parts_of, parts_in, taken_parts};
+
+use crate::ArchiveFault;
+use crate::buffer::Buffer;
+use crate::stream::Stream;
+use std::alloc::{AllocError, Global};
+use std::marker::Model;
+use std::mem;
+
+/// How many slots there are.
+pub(crate) const SLOTS: usize = 8;
+
+/// A slot: the stream in it, if one is open, and the 4,096 bytes of the block that it fills now; any bytes where there is
+/// none.
+#[derive(Drop)]
+pub(crate) struct Slot {
+    pub(crate) stream: Option<Stream>,
+    pub(crate) block: Buffer,
+}
+
+/// The slots for streams. Contracts see what stands in each.
+#[derive(Drop)]
+pub(crate) struct Slots {
+    slots: Vec<Slot>,
+}
+
+impl Model for Slots {
+    ghost use Rattle.std.specs.Prelude.{◌≡◌, List, Option, map, length};
+    ghost use Rattle.intake.specs.Parts.{StreamParts};
+
+    ghost Value = { List (Option StreamParts) };
+
+    ghost use Rattle.intake.specs.StreamView.{parts_in};
+
+    ghost view = { λ s. map parts_in s.slots.items };
+
+    ghost invariant = { λ s. length s.slots.items ≡ 8 };
+}
+
+impl Slots {
+    ghost use Rattle.intake.specs.Lending.{LendsSlot};
+    ghost use Rattle.intake.specs.Room.{SlotReply, HasBlock, room_in};
+
+    /// Eight slots with nothing in them.
+    pub(crate) fn new(alloc: Global) -> Result<Slots, AllocError>
+        ensures { IfOk result (λ s. s ≡ replicate 8 None) }
+    {
+        let mut slots = Vec::with_capacity(alloc, SLOTS)?;
+        while slots.len() < SLOTS {
+            slots.push(Slot {
+                stream: None,
+                block: Buffer::empty(alloc),
+            })?;
+        }
+        Ok(Slots { slots })
+    }
+
+    /// Whether a stream is open in a slot.
+    pub(crate) fn is_open(&self, slot: u8) -> bool
+        requires { slot < 8 }
+        ensures { IsTrue result ↔ IsSome (stream_at self.now slot) }
+    {
+        let slot = &self.slots[usize::from(slot)];
+        slot.stream.is_some()
+    }
+
+    /// Whether a stream that is open has the name.
+    pub(crate) fn has_name(&self, name: &[u8]) -> bool
+        ensures { result ≡ list_any (has_name name.now) (map (option_map bare_stream) self.now) }
+    {
+        any_named(&self.slots, name)
+    }
+
+    /// Takes the stream out of a slot, with its block, if there is one.
+    pub(crate) fn take(&mut self, alloc: Global, slot: u8) -> Option<(Stream, Buffer)>
+        ensures stream { option_map taken_parts result ≡ stream_at self.old slot }
+        ensures slots { self.new ≡ slice_set self.old slot None }
+    {
+        if usize::from(slot) >= self.slots.len() {
+            return None;
+        }
+        let slot = &mut self.slots[usize::from(slot)];
+        take_from(alloc, slot)
+    }
+
+    /// Puts a stream with its block into a slot.
+    pub(crate) fn put(&mut self, slot: u8, stream: Stream, block: Buffer)
+        requires { slot < 8 }
+        ensures { self.new ≡ slice_set self.old slot (Some (parts_of block stream)) }
+    {
+        self.slots[usize::from(slot)] = Slot {
+            stream: Some(stream),
+            block,
+        };
+    }
+
+    /// Takes all streams out.
+    pub(crate) fn close_all(&mut self)
+        ensures { self.new ≡ closed self.old }
+    {
+        close_each(&mut self.slots);
+    }
+
+    /// Lends the free part of the block of the stream in a slot; where there is none to lend it lends nothing.
+    pub(crate) fn lend(&mut self, stopped: bool, slot: u8) -> (Result<(), ArchiveFault>, &mut [u8])
+        requires { stopped ≡ false → HasBlock (stream_at self.old slot) }
+        ensures* writes_back { sem 𝓛 (LendsSlot self.entry slot result) }
+        ensures reply { SlotReply stopped self.old slot result.0 }
+        ensures lent { result.1.now ≡ room_in self.old slot result.0 }
+    {
+        let there = slot < 8;
+        let slot = &mut self.slots[usize::from(slot % 8)];
+        let (reply, from) = free_from(stopped, there, slot);
+        slot.lend(reply, from)
+    }
+}
+
+impl Slot {
+    ghost use Rattle.intake.specs.Lending.{LendsBlock};
+
+    // Lends the bytes of the block from a place on, beside a reply.
+    fn lend(
+        &mut self,
+        reply: Result<(), ArchiveFault>,
+        from: usize,
+    ) -> (Result<(), ArchiveFault>, &mut [u8])
+        requires { from ≤ length self.old.block }
+        ensures* writes_back { sem 𝓛 (LendsBlock self.entry from result) }
+        ensures reply { result.0 ≡ reply }
+        ensures lent { result.1.now ≡ drop from self.old.block }
+    {
+        self.block.lend(reply, from)
+    }
+}
+
+// Where the free part of a slot's block begins: at its end where nothing is lent.
+fn free_from(stopped: bool, there: bool, slot: &Slot) -> (Result<(), ArchiveFault>, usize)
+    ensures { IsFreeFrom stopped there (parts_in slot.now) (length slot.now.block) result.0 result.1 }
+{
+    let end = slot.block.len();
+    if stopped {
+        return (Err(ArchiveFault::Stopped), end);
+    }
+    match &slot.stream {
+        Some(stream) if there => (Ok(()), (stream.length % 4096) as usize),
+        _ => (Err(ArchiveFault::NoStream), end),
+    }
+}
+
+// Takes the stream out of a slot.
+fn take_from(alloc: Global, slot: &mut Slot) -> Option<(Stream, Buffer)>
+    ensures stream { option_map taken_parts result ≡ parts_in slot.old }
+    ensures slot { parts_in slot.new ≡ None }
+{
+    let stream = slot.stream.take()?;
+    let block = mem::replace(&mut slot.block, Buffer::empty(alloc));
+    Some((stream, block))
+}
+
+// Takes the streams out of all slots.
+fn close_each(slots: &mut [Slot])
+    ensures { All (λ (s : Slot). parts_in s ≡ None) slots.new }
+{
+    for place in 0..slots.len() {
+        slots[place].stream = None;
+    }
+}
+
+// Whether a stream that is open has the name.
+fn any_named(slots: &[Slot], name: &[u8]) -> bool
+    ensures { result ≡ list_any (λ s. has_name name.now (option_map bare_stream (parts_in s))) slots.now }
+{
+    slots.iter().any(|slot| is_named(slot, name))
+}
+
+fn is_named(slot: &Slot, name: &[u8]) -> bool
+    ensures { result ≡ has_name name.now (option_map bare_stream (parts_in slot.now)) }
+{
+    match &slot.stream {
+        Some(stream) => stream.name.as_slice() == name,
+        None => false,
+    }
+}
