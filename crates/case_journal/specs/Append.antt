@@ -52,6 +52,20 @@ StoreStep old c (Ok seq) new =
 StoreStep old c (Err e) new = StoreRefused old c e.0 new
 
 -- the answer is that the disk failed
+-- the answer that the disk failed
 abbrev pub IsStoreDiskFault : Result ℕ (JournalFault × Entry) → Type 0
 IsStoreDiskFault (Ok seq) = ⊥
 IsStoreDiskFault (Err e) = e.0 ≡ Disk
+
+-- all refusals but that of the disk leave it as it is
+abbrev pub LeavesDisk : {D : Type 0} → JournalFault → D → D → Type 0
+LeavesDisk Disk old new = Unit {0}
+LeavesDisk _ old new = new ≡ old
+
+abbrev pub RefusalLeaves : {D : Type 0} → Result (Unit {0}) JournalFault → D → D → Type 0
+RefusalLeaves (Ok u) old new = Unit {0}
+RefusalLeaves (Err f) old new = LeavesDisk f old new
+
+abbrev pub StoreRefusalLeaves : {D : Type 0} → Result ℕ (JournalFault × Entry) → D → D → Type 0
+StoreRefusalLeaves (Ok seq) old new = Unit {0}
+StoreRefusalLeaves (Err e) old new = LeavesDisk e.0 old new

@@ -13,7 +13,7 @@ ghost use Rattle.journal_layout.specs.Soundness.{case_numbered, Rise};
 ghost use Rattle.journal_layout.specs.Standing.{store_of};
 ghost use Rattle.case_journal.specs.Journaled.{Journaled, halted, goes_on};
 ghost use Rattle.case_journal.specs.Keeping.{Keeps, LeavesEither, LeavesOutside};
-ghost use Rattle.case_journal.specs.Append.{MayStore, MayFollow, StoreStep, AppendStep, IsStoreDiskFault};
+ghost use Rattle.case_journal.specs.Append.{MayStore, MayFollow, StoreStep, AppendStep, IsStoreDiskFault, RefusalLeaves, StoreRefusalLeaves};
 ghost use Rattle.case_journal.specs.Entering.{entered, left, repinned, EntersCase};
 ghost use Rattle.case_journal.specs.Putting.{IsPut, MayBegin};
 
@@ -153,6 +153,8 @@ impl Journal {
         requires storable { MayStore self.old.standing (case_of entry) }
         ensures step { StoreStep self.old (case_of entry) result self.new }
         ensures handed_back { IfErr result (λ e. e.1 ≡ entry) }
+        // A refusal leaves the disk as it is, unless the disk failed.
+        ensures untouched { StoreRefusalLeaves result disk.old disk.new }
         // What a crash at any moment since the start leaves stands for the cases before or after.
         ensures any_moment { IsTrue (D.is_honest disk.old) → self.old.stopped ≡ false
             → LeavesEither D.Disk disk.old disk.new self.old.standing (store_of self.old.standing (case_of entry)) }
@@ -190,6 +192,7 @@ impl Journal {
         requires keeps { Keeps D.Disk disk.old self.old }
         requires droppable { MayFollow self.old.standing (Drop seqs.now) }
         ensures step { AppendStep self.old (Drop seqs.now) result self.new }
+        ensures untouched { RefusalLeaves result disk.old disk.new }
         ensures any_moment { IsTrue (D.is_honest disk.old) → self.old.stopped ≡ false
             → LeavesEither D.Disk disk.old disk.new self.old.standing (Drop seqs.now) }
         ensures keeps { Keeps D.Disk disk.new self.new }
@@ -227,6 +230,7 @@ impl Journal {
         requires keeps { Keeps D.Disk disk.old self.old }
         requires pinnable { MayFollow self.old.standing (Pin seq flag) }
         ensures step { AppendStep self.old (Pin seq flag) result self.new }
+        ensures untouched { RefusalLeaves result disk.old disk.new }
         ensures any_moment { IsTrue (D.is_honest disk.old) → self.old.stopped ≡ false
             → LeavesEither D.Disk disk.old disk.new self.old.standing (Pin seq flag) }
         ensures keeps { Keeps D.Disk disk.new self.new }

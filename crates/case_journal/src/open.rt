@@ -1,7 +1,7 @@
 // Opening a journal: the front of the archive, and then the records of the half that is taken.
 ghost use Rattle.std.specs.Prelude.{◌≡◌, ℕ, List, ◌+◌, ◌-◌, ◌≤◌, false, length, IsTrue, IfOk, OnOk, IsOkUnless, Ok, Err};
 ghost use Rattle.disk_model.specs.Disk.{HasCause, HasRisen, Only};
-ghost use Rattle.disk_model.specs.Moments.{LeavesOnly};
+ghost use Rattle.disk_model.specs.Moments.{LeavesOnly, IsSettled};
 ghost use Rattle.journal_layout.specs.Layout.{disk_length, half_length, IsWithinLimits};
 ghost use Rattle.journal_layout.specs.Stands.{Stands, records_start};
 ghost use Rattle.journal_layout.specs.Standing.{Standing};
@@ -104,6 +104,8 @@ impl Journal {
         ensures any_moment { IsTrue (D.is_honest disk.old)
             → LeavesOnly D.Disk disk.old disk.new (D.may_leave disk.old) }
         ensures seen { IsTrue (D.is_honest disk.old) → D.seen disk.new ≡ D.seen disk.old }
+        // From then on one leaves what reads give.
+        ensures settled { IsTrue (D.is_honest disk.old) → OnOk result (IsSettled D.Disk disk.new) }
         ensures cause { result ≡ Err OpenFault.Disk
             → HasRisen (D.failures disk.old) (D.failures disk.new) }
         ensures later { D.failures disk.old ≤ D.failures disk.new }
