@@ -10,7 +10,7 @@ use Rattle.extents.specs.FreeSet.{is_free, free_count, uses, one_if}
 use Rattle.journal_layout.specs.Case.{Case}
 use Rattle.journal_layout.specs.declared.shape.Shape.{Shape}
 use Rattle.case_journal.specs.Journaled.{Journaled}
-use Rattle.case_journal.specs.Keeping.{Keeps}
+use Rattle.intake.specs.Guarding.{Guards}
 use Rattle.intake.specs.declared.faults.ArchiveFault.{ArchiveFault}
 use Rattle.intake.specs.declared.faults.ArchiveFault.TheVariants as fault
 use Rattle.intake.specs.Balance.{Balances}
@@ -123,7 +123,7 @@ module _ {D : Type 0} (g : disk.Ghosts D) (d d' : D) (j : Journaled) (most : ℕ
 
 -- a refused stream is gone, and a disk fault stops the archive
 pub sound_refused : {D : Type 0} (g : disk.Ghosts D) (d d' : D) (j : Journaled) (most : ℕ) (flags flags' : List Bool) (streams dropped streams' : List (Option StreamParts)) (slot : ℕ) (s : StreamParts) (b b' : Bool) (f : ArchiveFault)
-    → IsSound g d j most flags streams b → b ≡ false → stream_at streams slot ≡ Some s → dropped ≡ slice_set streams slot None → Keeps g d' j → Balances flags s.blocks flags' [] → EndsStreams f dropped b' streams'
+    → IsSound g d j most flags streams b → b ≡ false → stream_at streams slot ≡ Some s → dropped ≡ slice_set streams slot None → Guards g d' j → Balances flags s.blocks flags' [] → EndsStreams f dropped b' streams'
     → IsSound g d' j most flags' streams' b'
 sound_refused g d d' j most flags flags' streams dropped streams' slot s b b' fault.Disk sound on is gone keeps bal ends =
     subst (λ (t : Bool). IsSound g d' j most flags' streams' t) (sym ends.0)
@@ -237,7 +237,7 @@ module _ {D : Type 0} (g : disk.Ghosts D) (d d' : D) (j : Journaled) (most : ℕ
   fine_of = subst (IsFineIfOpen most) is (fine_at most streams slot running.streams_fine)
 
   pub sound_grown : (flags' : List Bool) (dropped streams' : List (Option StreamParts)) (s' : StreamParts) (u : Unit {0}) → IsSound g d j most flags streams b → dropped ≡ slice_set streams slot None → streams' ≡ slice_set dropped slot (Some s')
-      → s.len % 4096 + n ≤ 4096 → Grows (free_count flags) most s n (Ok u) s' → s.len + n < 2 ^ 64 → Keeps g d' j → Balances flags s.blocks flags' s'.blocks → IsSound g d' j most flags' streams' b
+      → s.len % 4096 + n ≤ 4096 → Grows (free_count flags) most s n (Ok u) s' → s.len + n < 2 ^ 64 → Guards g d' j → Balances flags s.blocks flags' s'.blocks → IsSound g d' j most flags' streams' b
   sound_grown flags' dropped streams' s' u sound gone put fits grows small keeps bal =
       subst (λ (x : List (Option StreamParts)). IsSound g d' j most flags' x b) (sym (put_back dropped streams' s' gone put))
       (sound_with g d d' j most flags flags' streams slot (Some s) (Some s') b sound on (slot_below g d j most flags streams slot s b sound is) is keeps bal

@@ -14,7 +14,7 @@ use Rattle.journal_layout.specs.Soundness.{case_numbered}
 use Rattle.journal_layout.specs.Standing.{folded_of}
 use Rattle.case_journal.specs.Append.{AppendStep, MayFollow}
 use Rattle.case_journal.specs.Journaled.{Journaled, goes_on, halted}
-use Rattle.case_journal.specs.Keeping.{Keeps}
+use Rattle.intake.specs.Guarding.{Guards}
 use Rattle.case_journal.specs.declared.faults.JournalFault.{JournalFault}
 use Rattle.case_journal.specs.declared.faults.JournalFault.TheVariants as journal_fault
 use Rattle.intake.specs.declared.faults.ArchiveFault.TheVariants as fault
@@ -51,7 +51,7 @@ flag_cases seq flag (c ∷ rest) =
 
 -- a record was appended: blocks of dropped cases are free, and nothing else changes hands
 pub sound_after : {D : Type 0} (g : disk.Ghosts D) (d d' : D) (j : Journaled) (r : Record) (most : ℕ) (flags flags' : List Bool) (streams : List (Option StreamParts)) (b : Bool)
-    → IsSound g d j most flags streams b → b ≡ false → Keeps g d' (goes_on j r) → MayFollow j.standing r → length flags' ≡ length flags
+    → IsSound g d j most flags streams b → b ≡ false → Guards g d' (goes_on j r) → MayFollow j.standing r → length flags' ≡ length flags
     → ((k : ℕ) → one_if (is_free flags' k) + case_uses (after r (folded_of j.standing)).cases k ≡ one_if (is_free flags k) + case_uses j.standing.cases k)
     → free_count flags' + case_blocks (after r (folded_of j.standing)).cases ≡ free_count flags + case_blocks j.standing.cases
     → ((name : List ℕ) → cases_named (after r (folded_of j.standing)).cases name ≤ cases_named j.standing.cases name)
@@ -95,7 +95,7 @@ module _ {D : Type 0} (g : disk.Ghosts D) (d d' : D) (j j' : Journaled) (r : Rec
       ∙ ap (λ (x : List (Option BareStream)). record (bare_of before) { streams = x; stopped = true })
       (ap (map (option_map bare_stream)) same ∙ closed_map bare_stream streams)
 
-  moved : (flags' : List Bool) → IsSound g d j most flags streams b → j' ≡ j → Keeps g d' j' → b' ≡ false → streams' ≡ streams → flags' ≡ flags → IsSound g d' j' most flags' streams' b'
+  moved : (flags' : List Bool) → IsSound g d j most flags streams b → j' ≡ j → Guards g d' j' → b' ≡ false → streams' ≡ streams → flags' ≡ flags → IsSound g d' j' most flags' streams' b'
   moved flags' sound is keeps off same back =
       subst (λ (k : Journaled). IsSound g d' k most flags' streams' b') (sym is)
       (subst (λ (x : List (Option StreamParts)). IsSound g d' j most flags' x b') (sym same)
@@ -105,7 +105,7 @@ module _ {D : Type 0} (g : disk.Ghosts D) (d d' : D) (j j' : Journaled) (r : Rec
         slots = sound.slots;
         runs = λ _. (let was = sound.runs on in record {
           journal = was.journal;
-          keeps = subst (Keeps g d') is keeps;
+          keeps = subst (Guards g d') is keeps;
           cases = was.cases;
           streams_fine = was.streams_fine;
           blocks = was.blocks;
@@ -117,7 +117,7 @@ module _ {D : Type 0} (g : disk.Ghosts D) (d d' : D) (j j' : Journaled) (r : Rec
       }))))
 
   -- the archive stays sound
-  pub sound_refusal : (flags' : List Bool) (jf : JournalFault) → IsSound g d j most flags streams b → AppendStep j r (Err jf) j' → Keeps g d' j' → EndsStreams (fault_of jf) streams b' streams'
+  pub sound_refusal : (flags' : List Bool) (jf : JournalFault) → IsSound g d j most flags streams b → AppendStep j r (Err jf) j' → Guards g d' j' → EndsStreams (fault_of jf) streams b' streams'
       → (b' ≡ false → flags' ≡ flags) → IsSound g d' j' most flags' streams' b'
   sound_refusal flags' journal_fault.Stopped sound step keeps ends back = absurd (let e : true ≡ false = sym step.0 ∙ (sound.runs on).journal in cc)
   sound_refusal flags' journal_fault.JournalFull sound step keeps ends back = moved flags' sound step.2 keeps ends.0 ends.1 (back ends.0)

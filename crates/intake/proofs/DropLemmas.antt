@@ -17,7 +17,7 @@ use Rattle.journal_layout.specs.Soundness.{case_numbered, uses as uses_in}
 use Rattle.journal_layout.specs.Standing.{folded_of}
 use Rattle.case_journal.specs.Append.{AppendStep, MayFollow}
 use Rattle.case_journal.specs.Journaled.{Journaled}
-use Rattle.case_journal.specs.Keeping.{Keeps}
+use Rattle.intake.specs.Guarding.{Guards}
 use Rattle.case_journal.specs.declared.faults.JournalFault.{JournalFault}
 use Rattle.case_journal.specs.declared.faults.JournalFault.TheVariants as journal_fault
 use Rattle.intake.specs.Balance.{AreHeld, Balances}
@@ -88,11 +88,11 @@ module _ {D : Type 0} (g : disk.Ghosts D) (d d' : D) (j j' : Journaled) (most : 
   drop_err journal_fault.OutOfMemory step ends = (step.1, same_state g d d' j j' (Drop seqs) most flags streams streams' b b' on ends.0 ends.1 step.2)
   drop_err journal_fault.Disk step ends = (step.1, halted_now g d d' j j' (Drop seqs) most flags streams streams' b b' on ends.0 ends.1 step.2)
 
-  pub drop_sound_after : (flags' : List Bool) (u : Unit {0}) → MayFollow j.standing (Drop seqs) → AppendStep j (Drop seqs) (Ok u) j' → Keeps g d' j' → Balances flags (used_blocks (gone seqs j.standing.cases)) flags' []
+  pub drop_sound_after : (flags' : List Bool) (u : Unit {0}) → MayFollow j.standing (Drop seqs) → AppendStep j (Drop seqs) (Ok u) j' → Guards g d' j' → Balances flags (used_blocks (gone seqs j.standing.cases)) flags' []
       → IsSound g d' j' most flags' streams b
   drop_sound_after flags' u may step keeps bal =
       subst (λ (k : Journaled). IsSound g d' k most flags' streams b) (sym step.2)
-      (sound_after g d d' j (Drop seqs) most flags flags' streams b sound on (subst (Keeps g d') step.2 keeps) may bal.long
+      (sound_after g d d' j (Drop seqs) most flags flags' streams b sound on (subst (Guards g d') step.2 keeps) may bal.long
       (λ k. (let x : case_uses (dropped seqs j.standing.cases) k ≡ uses_in k (used_blocks (dropped seqs j.standing.cases)) = case_uses_same k (dropped seqs j.standing.cases) in
       let y : case_uses j.standing.cases k ≡ uses_in k (used_blocks j.standing.cases) = case_uses_same k j.standing.cases in
       let p = uses_dropped k seqs j.standing.cases in

@@ -23,7 +23,7 @@ use Rattle.journal_layout.specs.Record.{record_size}
 use Rattle.journal_layout.specs.Standing.{store_of}
 use Rattle.intake.specs.State.{BareCase, BareStream}
 use Rattle.case_journal.specs.Append.{StoreRefused}
-use Rattle.case_journal.specs.Keeping.{Keeps}
+use Rattle.intake.specs.Guarding.{Guards}
 use Rattle.case_journal.specs.declared.faults.JournalFault.{JournalFault}
 use Rattle.case_journal.specs.declared.faults.JournalFault.TheVariants as journal_fault
 use Rattle.intake.specs.Faults.{fault_of}
@@ -185,14 +185,14 @@ module _ {D : Type 0} (g : disk.Ghosts D) (d d' : D) (j : Journaled) (most : ℕ
       (subst (λ (x : Case). StoreRefused j x appends.0 j') (same ∙ closed_case s' u closes) appends.2))
 
   unmoved : (j' : Journaled) (b' : Bool) (flags' : List Bool) (dropped streams' : List (Option StreamParts)) (f : ArchiveFault) → IsSound g d j most flags streams b → dropped ≡ slice_set streams slot None → EndsStreams f dropped b' streams'
-      → j' ≡ j → Keeps g d' j' → Balances flags s.blocks flags' [] → IsSound g d' j' most flags' streams' b'
+      → j' ≡ j → Guards g d' j' → Balances flags s.blocks flags' [] → IsSound g d' j' most flags' streams' b'
   unmoved j' b' flags' dropped streams' f sound gone ends now keeps bal =
       subst (λ (k : Journaled). IsSound g d' k most flags' streams' b') (sym now)
-      (sound_refused g d d' j most flags flags' streams dropped streams' slot s b b' f sound on is gone (subst (Keeps g d') now keeps) bal ends)
+      (sound_refused g d d' j most flags flags' streams dropped streams' slot s b b' f sound on is gone (subst (Guards g d') now keeps) bal ends)
 
   -- the archive stays sound
   sound_unstored : (j' : Journaled) (b' : Bool) (flags' : List Bool) (dropped streams' : List (Option StreamParts)) (jf : JournalFault) (c : Case) → IsSound g d j most flags streams b → dropped ≡ slice_set streams slot None → EndsStreams (fault_of jf) dropped b' streams'
-      → StoreRefused j c jf j' → Keeps g d' j' → Balances flags s.blocks flags' [] → IsSound g d' j' most flags' streams' b'
+      → StoreRefused j c jf j' → Guards g d' j' → Balances flags s.blocks flags' [] → IsSound g d' j' most flags' streams' b'
   sound_unstored j' b' flags' dropped streams' journal_fault.Disk c sound gone ends refused keeps bal =
       subst (λ (t : Bool). IsSound g d' j' most flags' streams' t) (sym ends.0)
       (subst (λ (x : List (Option StreamParts)). IsSound g d' j' most flags' x true) (sym ends.1)
@@ -203,7 +203,7 @@ module _ {D : Type 0} (g : disk.Ghosts D) (d d' : D) (j : Journaled) (most : ℕ
   sound_unstored j' b' flags' dropped streams' journal_fault.OutOfMemory c sound gone ends refused keeps bal = unmoved j' b' flags' dropped streams' fault.OutOfMemory sound gone ends refused.3 keeps bal
 
   pub sound_not_stored : (j' : Journaled) (b' : Bool) (flags' : List Bool) (dropped streams' : List (Option StreamParts)) (f : ArchiveFault) (c : Case) → IsSound g d j most flags streams b → dropped ≡ slice_set streams slot None → EndsStreams f dropped b' streams'
-      → Appends j c (Err f) j' → Keeps g d' j' → Balances flags s.blocks flags' [] → IsSound g d' j' most flags' streams' b'
+      → Appends j c (Err f) j' → Guards g d' j' → Balances flags s.blocks flags' [] → IsSound g d' j' most flags' streams' b'
   sound_not_stored j' b' flags' dropped streams' f c sound gone ends appends keeps bal =
       sound_unstored j' b' flags' dropped streams' appends.0 c sound gone (subst (λ (x : ArchiveFault). EndsStreams x dropped b' streams') appends.1 ends) appends.2 keeps bal
 
@@ -249,7 +249,7 @@ module _ {D : Type 0} (g : disk.Ghosts D) (d d' : D) (j : Journaled) (most : ℕ
 
   -- the archive stays sound with the new case, where a number is positive
   pub sound_with_case : (j' : Journaled) (flags1 flags' : List Bool) (streams' : List (Option StreamParts)) (s' : StreamParts) (u : Unit {0}) (seq : ℕ) (c : Case) → IsSound g d j most flags streams b → streams' ≡ slice_set streams slot None
-      → Closes (free_count flags) s (Ok u) s' → Balances flags s.blocks flags1 s'.blocks → flags' ≡ flags1 → c ≡ case_from_parts s' → Appends j c (Ok seq) j' → Keeps g d' j' → IsSound g d' j' most flags' streams' b
+      → Closes (free_count flags) s (Ok u) s' → Balances flags s.blocks flags1 s'.blocks → flags' ≡ flags1 → c ≡ case_from_parts s' → Appends j c (Ok seq) j' → Guards g d' j' → IsSound g d' j' most flags' streams' b
   sound_with_case j' flags1 flags' streams' s' u seq c sound gone closes bal same is_case appends keeps =
       let e = is_case ∙ closed_case s' u closes in
       let a = subst (λ (x : Case). Appends j x (Ok seq) j') e appends in

@@ -27,7 +27,7 @@ use Rattle.journal_layout.specs.Live.{AreLive}
 use Rattle.journal_layout.specs.LiveCounts.{live_named}
 use Rattle.journal_layout.specs.StandLaws.{stands_limits}
 use Rattle.case_journal.specs.Journaled.{Journaled}
-use Rattle.case_journal.specs.Keeping.{Keeps}
+use Rattle.intake.specs.Guarding.{Guards}
 use Rattle.case_journal.specs.Viewing.{ShowsOpening}
 
 one_true : (t : Bool) → 1 ≤ one_if t → t ≡ true
@@ -140,7 +140,7 @@ none_fine most (suc n) = All-cons (IsFineIfOpen most) None (replicate n None) tt
 
 -- an archive that was just opened
 pub opened_sound : {D : Type 0} (g : disk.Ghosts D) (d d' : D) (j : Journaled) (most : ℕ) (shape : Shape) (flags : List Bool) (cases : List Case) (streams : List (Option StreamParts))
-    → ShowsOpening g d (Ok j) → Keeps g d' j → AreLive j.standing.shape.data_blocks j.standing.cases j.standing.next → j.stopped ≡ false
+    → ShowsOpening g d (Ok j) → Guards g d' j → AreLive j.standing.shape.data_blocks j.standing.cases j.standing.next → j.stopped ≡ false
     → shape ≡ j.standing.shape → cases ≡ j.standing.cases → LeaveFree shape.data_blocks cases flags → streams ≡ replicate 8 None → IsSound g d' j most flags streams false
 opened_sound g d d' j most shape flags cases streams shows keeps live on same are leave none =
     subst (λ (x : List (Option StreamParts)). IsSound g d' j most flags x false) (sym none) (record {

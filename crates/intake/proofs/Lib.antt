@@ -16,3 +16,7 @@ pub mod SeqLemmas
 pub mod ListedLemmas
 pub mod DropLemmas
 pub mod RetireLemmas
+pub mod DurableLemmas
+pub mod RestLemmas
+pub mod LeaveLemmas
+pub mod CrashLemmas

@@ -13,7 +13,7 @@ use Rattle.journal_layout.specs.LiveLaws.{live_after}
 use Rattle.journal_layout.specs.Soundness.{IsStorable}
 use Rattle.journal_layout.specs.Standing.{folded_of, store_of}
 use Rattle.case_journal.specs.Journaled.{Journaled, goes_on}
-use Rattle.case_journal.specs.Keeping.{Keeps}
+use Rattle.intake.specs.Guarding.{Guards}
 use Rattle.intake.specs.Balance.{Balances}
 use Rattle.intake.specs.Live.{case_uses, cases_named}
 use Rattle.intake.specs.Parts.{StreamParts}
@@ -22,7 +22,7 @@ use Rattle.intake.specs.Sound.{IsSound, IsRunning, IsFineIfOpen, held_by, stream
 
 -- a stream became the last case: what it held is the case's
 pub sound_stored : {D : Type 0} (g : disk.Ghosts D) (d d' : D) (j j' : Journaled) (most : ℕ) (flags flags' : List Bool) (streams streams' : List (Option StreamParts)) (slot : ℕ) (s : StreamParts) (b : Bool) (c : Case)
-    → IsSound g d j most flags streams b → b ≡ false → slot < 8 → stream_at streams slot ≡ Some s → streams' ≡ slice_set streams slot None → Keeps g d' j' → j' ≡ goes_on j (store_of j.standing c)
+    → IsSound g d j most flags streams b → b ≡ false → slot < 8 → stream_at streams slot ≡ Some s → streams' ≡ slice_set streams slot None → Guards g d' j' → j' ≡ goes_on j (store_of j.standing c)
     → j.standing.next < 2 ^ 32 → Balances flags s.blocks flags' c.blocks → IsStorable j.standing.shape.data_blocks j.standing.cases c → c.name ≡ s.name
     → IsSound g d' j' most flags' streams' b
 sound_stored g d d' j j' most flags flags' streams streams' slot s b c sound on low is gone keeps now more bal storable called =
@@ -32,7 +32,7 @@ sound_stored g d d' j j' most flags flags' streams streams' slot s b c sound on 
       slots = length-set streams slot None ∙ sound.slots;
       runs = λ _. record {
         journal = refl;
-        keeps = subst (Keeps g d') now keeps;
+        keeps = subst (Guards g d') now keeps;
         cases = live_after j.standing.shape.data_blocks (folded_of j.standing) (store_of j.standing c) r.cases (store_sound j.standing.shape.data_blocks (folded_of j.standing) c more storable);
         streams_fine = All-set (IsFineIfOpen most) streams slot None tt r.streams_fine;
         blocks = bal.long ∙ r.blocks;

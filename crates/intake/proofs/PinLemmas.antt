@@ -14,7 +14,7 @@ use Rattle.journal_layout.specs.Soundness.{case_numbered, uses as uses_in}
 use Rattle.journal_layout.specs.Standing.{folded_of}
 use Rattle.case_journal.specs.Append.{AppendStep, MayFollow}
 use Rattle.case_journal.specs.Journaled.{Journaled}
-use Rattle.case_journal.specs.Keeping.{Keeps}
+use Rattle.intake.specs.Guarding.{Guards}
 use Rattle.case_journal.specs.declared.faults.JournalFault.{JournalFault}
 use Rattle.case_journal.specs.declared.faults.JournalFault.TheVariants as journal_fault
 use Rattle.intake.specs.Blocks.{image_in}
@@ -65,10 +65,10 @@ module _ {D : Type 0} (g : disk.Ghosts D) (d d' : D) (j j' : Journaled) (most : 
   pin_err journal_fault.OutOfMemory other step ends = (bare_case c, has, other, step.1, same_state g d d' j j' (Pin seq flag) most flags streams streams' b b' on ends.0 ends.1 step.2)
   pin_err journal_fault.Disk other step ends = (bare_case c, has, other, step.1, halted_now g d d' j j' (Pin seq flag) most flags streams streams' b b' on ends.0 ends.1 step.2)
 
-  pub pin_sound_after : (u : Unit {0}) → AppendStep j (Pin seq flag) (Ok u) j' → Keeps g d' j' → IsSound g d' j' most flags streams b
+  pub pin_sound_after : (u : Unit {0}) → AppendStep j (Pin seq flag) (Ok u) j' → Guards g d' j' → IsSound g d' j' most flags streams b
   pin_sound_after u step keeps =
       subst (λ (k : Journaled). IsSound g d' k most flags streams b) (sym step.2)
-      (sound_after g d d' j (Pin seq flag) most flags flags streams b sound on (subst (Keeps g d') step.2 keeps) pin_may refl
+      (sound_after g d d' j (Pin seq flag) most flags flags streams b sound on (subst (Guards g d') step.2 keeps) pin_may refl
       (λ k. (let x : case_uses (with_pin seq flag j.standing.cases) k ≡ uses_in k (used_blocks (with_pin seq flag j.standing.cases)) = case_uses_same k (with_pin seq flag j.standing.cases) in
       let y : case_uses j.standing.cases k ≡ uses_in k (used_blocks j.standing.cases) = case_uses_same k j.standing.cases in
       let e = ap (uses_in k) (used_pinned seq flag j.standing.cases) in

@@ -11,7 +11,7 @@ use Rattle.std.proofs.lemmas.List.Elements.{All-set, All-head, All-tail}
 use Rattle.disk_model.specs.declared.disk.Disk as disk
 use Rattle.extents.specs.FreeSet.{free_count, uses, one_if}
 use Rattle.case_journal.specs.Journaled.{Journaled}
-use Rattle.case_journal.specs.Keeping.{Keeps}
+use Rattle.intake.specs.Guarding.{Guards}
 use Rattle.std.proofs.Common.{lit<, ◌^◌}
 use Rattle.journal_layout.specs.Soundness.{IsName}
 use Rattle.intake.specs.Balance.{AreHeld, Balances}
@@ -34,7 +34,7 @@ length-zero_block = length-replicate {A = ℕ} 4096 0
 
 -- something else stands in a slot, and what it holds comes from the free blocks or goes to them
 pub running_with : {D : Type 0} (g : disk.Ghosts D) (d d' : D) (j : Journaled) (most : ℕ) (flags flags' : List Bool) (streams : List (Option StreamParts)) (slot : ℕ) (o o' : Option StreamParts)
-    → IsRunning g d j most flags streams → slot < length streams → stream_at streams slot ≡ o → Keeps g d' j → Balances flags (held_by o) flags' (held_by o') → IsFineIfOpen most o'
+    → IsRunning g d j most flags streams → slot < length streams → stream_at streams slot ≡ o → Guards g d' j → Balances flags (held_by o) flags' (held_by o') → IsFineIfOpen most o'
     → ((name : List ℕ) → cases_named j.standing.cases name + streams_named streams name + one_if (is_called name o') ≤ 1 + one_if (is_called name o))
     → IsRunning g d' j most flags' (slice_set streams slot o')
 running_with g d d' j most flags flags' streams slot o o' r below there keeps bal fine names = record {
@@ -82,7 +82,7 @@ no_more a x le = omega arith
 
 -- the same of the whole archive
 pub sound_with : {D : Type 0} (g : disk.Ghosts D) (d d' : D) (j : Journaled) (most : ℕ) (flags flags' : List Bool) (streams : List (Option StreamParts)) (slot : ℕ) (o o' : Option StreamParts) (b : Bool)
-    → IsSound g d j most flags streams b → b ≡ false → slot < 8 → stream_at streams slot ≡ o → Keeps g d' j → Balances flags (held_by o) flags' (held_by o') → IsFineIfOpen most o'
+    → IsSound g d j most flags streams b → b ≡ false → slot < 8 → stream_at streams slot ≡ o → Guards g d' j → Balances flags (held_by o) flags' (held_by o') → IsFineIfOpen most o'
     → ((name : List ℕ) → cases_named j.standing.cases name + streams_named streams name + one_if (is_called name o') ≤ 1 + one_if (is_called name o))
     → IsSound g d' j most flags' (slice_set streams slot o') b
 sound_with g d d' j most flags flags' streams slot o o' b sound on below there keeps bal fine names = record {
@@ -94,7 +94,7 @@ sound_with g d d' j most flags flags' streams slot o o' b sound on below there k
 
 -- a stream is dropped
 pub sound_without : {D : Type 0} (g : disk.Ghosts D) (d d' : D) (j : Journaled) (most : ℕ) (flags flags' : List Bool) (streams : List (Option StreamParts)) (slot : ℕ) (o : Option StreamParts) (b : Bool)
-    → IsSound g d j most flags streams b → b ≡ false → slot < 8 → stream_at streams slot ≡ o → Keeps g d' j → Balances flags (held_by o) flags' []
+    → IsSound g d j most flags streams b → b ≡ false → slot < 8 → stream_at streams slot ≡ o → Guards g d' j → Balances flags (held_by o) flags' []
     → IsSound g d' j most flags' (slice_set streams slot None) b
 sound_without g d d' j most flags flags' streams slot o b sound on below there keeps bal =
     sound_with g d d' j most flags flags' streams slot o None b sound on below there keeps bal tt
@@ -211,7 +211,7 @@ slot_below g d j most flags streams slot s b sound is =
     elim (cases_lt slot 8) as (λ _. slot < 8) [ inl lt ↦ lt | inr high ↦ absurd (let e : None ≡ Some s = sym (get_or_past streams slot None (let e = sound.slots in omega arith)) ∙ is in cc) ]
 
 pub sound_dropped : {D : Type 0} (g : disk.Ghosts D) (d d' : D) (j : Journaled) (most : ℕ) (flags flags' : List Bool) (streams streams' : List (Option StreamParts)) (slot : ℕ) (s : StreamParts) (b : Bool)
-    → IsSound g d j most flags streams b → b ≡ false → stream_at streams slot ≡ Some s → streams' ≡ slice_set streams slot None → Keeps g d' j → Balances flags s.blocks flags' []
+    → IsSound g d j most flags streams b → b ≡ false → stream_at streams slot ≡ Some s → streams' ≡ slice_set streams slot None → Guards g d' j → Balances flags s.blocks flags' []
     → IsSound g d' j most flags' streams' b
 sound_dropped g d d' j most flags flags' streams streams' slot s b sound on is now keeps bal =
     subst (λ (x : List (Option StreamParts)). IsSound g d' j most flags' x b) (sym now)

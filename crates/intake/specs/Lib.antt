@@ -2,9 +2,11 @@ pub mod Balance
 pub mod Blocks
 pub mod Closing
 pub mod Contents
+pub mod Durable
 pub mod Ending
 pub mod Faults
 pub mod Growth
+pub mod Guarding
 pub mod Lending
 pub mod Live
 pub mod Opened

@@ -9,7 +9,7 @@ use Rattle.journal_layout.specs.Case.{Case}
 use Rattle.journal_layout.specs.Layout.{IsWithinLimits}
 use Rattle.journal_layout.specs.Soundness.{IsName}
 use Rattle.case_journal.specs.Journaled.{Journaled}
-use Rattle.case_journal.specs.Keeping.{Keeps}
+use Rattle.intake.specs.Guarding.{Guards}
 use Rattle.journal_layout.specs.Live.{AreLive}
 use Rattle.intake.specs.Live.{case_uses, cases_named}
 use Rattle.intake.specs.Slots.{closed}
@@ -65,7 +65,7 @@ IsFineIfOpen most (Some s) = IsFine most s
 -- an archive that no disk fault has stopped
 pub record IsRunning {D : Type 0} (g : disk.Ghosts D) (d : D) (j : Journaled) (most : ℕ) (flags : List Bool) (streams : List (Option StreamParts)) : Type 0 where
   pub journal : j.stopped ≡ false
-  pub keeps : Keeps g d j
+  pub keeps : Guards g d j
   pub cases : AreLive j.standing.shape.data_blocks j.standing.cases j.standing.next
   pub streams_fine : All (IsFineIfOpen most) streams
   -- a flag for each data block

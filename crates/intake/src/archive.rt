@@ -1,6 +1,8 @@
 // The archive: its cases, and the streams on their way into it.
-ghost use Rattle.std.specs.Prelude.{◌≡◌, ◌<◌, ◌≤◌, [], length, OnOk, IfOk, Err, map, IsTrue, false};
-ghost use Rattle.disk_model.specs.Moments.{LeavesOnly};
+ghost use Rattle.std.specs.Prelude.{◌≡◌, ◌<◌, ◌≤◌, [], ◌∷◌, ℕ, List, length, OnOk, IfOk, Err, map, IsTrue, false};
+ghost use Rattle.disk_model.specs.Moments.{LeavesOnly, AddsOnly};
+ghost use Rattle.intake.specs.Durable.{Durable, StandsFor, FindsAgain, durable_of, durable_part, without, flagged};
+ghost use Rattle.intake.specs.Guarding.{Leaves, MayBeStored, MayBeRetired};
 ghost use Rattle.journal_layout.specs.Standing.{Standing};
 ghost use Rattle.journal_layout.specs.Stands.{Stands};
 ghost use Rattle.case_journal.specs.Append.{MayFollow};
@@ -89,6 +91,9 @@ impl<D: Disk> Archive<D> {
         // What the disk stands for is found, and nothing but the disk and the memory refuses it.
         ensures found { (s : Standing) → IsTrue (D.is_honest disk) → Stands (D.seen disk) s
             → Finds (journal_in result) s }
+        // So is what its bytes hold of the cases: after a crash the cases that it left.
+        ensures found_again { (x : Durable) → IsTrue (D.is_honest disk) → StandsFor (D.seen disk) x
+            → FindsAgain D.seen result x }
         ensures state { IfOk result (λ a. IsOpened settings.limit a) }
         // A crash meanwhile leaves what one before could have left.
         ensures any_moment { IsTrue (D.is_honest disk)
@@ -165,6 +170,7 @@ impl<D: Disk> Archive<D> {
             }) result (bare_of self.new) }
         ensures bytes { BeginBytes (contents_of D.seen self.old) slot result
             (contents_of D.seen self.new) }
+        ensures durable { durable_of D.seen self.new ≡ durable_of D.seen self.old }
         ensures disk { self.new.disk ≡ self.old.disk }
     {
         if self.stopped {
@@ -220,6 +226,11 @@ impl<D: Disk> Archive<D> {
         ensures bytes { IsTrue (D.is_honest self.old.disk)
             → AdvanceBytes (contents_of D.seen self.old) slot n result
             (contents_of D.seen self.new) }
+        ensures durable { IsTrue (D.is_honest self.old.disk)
+            → durable_of D.seen self.new ≡ durable_of D.seen self.old }
+        // A crash at any moment leaves what one before could have left, or these cases.
+        ensures any_moment { IsTrue (D.is_honest self.old.disk)
+            → AddsOnly D.Disk self.old.disk self.new.disk (λ c. StandsFor c (durable_of D.seen self.old)) }
         ensures cause { IsDiskFault result
             → HasRisen (D.failures self.old.disk) (D.failures self.new.disk) }
         ensures later { D.failures self.old.disk ≤ D.failures self.new.disk }
@@ -259,6 +270,9 @@ impl<D: Disk> Archive<D> {
         ensures step { FinishStep (bare_of self.old) slot result (bare_of self.new) }
         ensures bytes { IsTrue (D.is_honest self.old.disk)
             → FinishBytes (contents_of D.seen self.old) slot result (contents_of D.seen self.new) }
+        // A crash at any moment leaves what one before could have left, or the cases before the call or after it.
+        ensures any_moment { IsTrue (D.is_honest self.old.disk)
+            → AddsOnly D.Disk self.old.disk self.new.disk (Leaves (durable_of D.seen self.old) result (durable_of D.seen self.new) (MayBeStored (bare_of self.old) (contents_of D.seen self.old) (durable_of D.seen self.old) slot)) }
         ensures cause { IsDiskFault result
             → HasRisen (D.failures self.old.disk) (D.failures self.new.disk) }
         ensures later { D.failures self.old.disk ≤ D.failures self.new.disk }
@@ -299,6 +313,7 @@ impl<D: Disk> Archive<D> {
         ensures bytes { AbandonBytes (contents_of D.seen self.old) slot result
             (contents_of D.seen self.new) }
         ensures slots { length self.new.streams ≤ 8 }
+        ensures durable { durable_of D.seen self.new ≡ durable_of D.seen self.old }
         ensures disk { self.new.disk ≡ self.old.disk }
     {
         if self.stopped {
@@ -317,6 +332,9 @@ impl<D: Disk> Archive<D> {
         ensures step { PinStep (bare_of self.old) seq flag result (bare_of self.new) }
         ensures bytes { IsTrue (D.is_honest self.old.disk)
             → PinBytes (contents_of D.seen self.old) result (contents_of D.seen self.new) }
+        // A crash at any moment leaves what one before could have left, or the cases before the call or after it.
+        ensures any_moment { IsTrue (D.is_honest self.old.disk)
+            → AddsOnly D.Disk self.old.disk self.new.disk (Leaves (durable_of D.seen self.old) result (durable_of D.seen self.new) (λ x. x ≡ flagged (durable_of D.seen self.old) seq flag)) }
         ensures cause { IsDiskFault result
             → HasRisen (D.failures self.old.disk) (D.failures self.new.disk) }
         ensures later { D.failures self.old.disk ≤ D.failures self.new.disk }
@@ -347,6 +365,9 @@ impl<D: Disk> Archive<D> {
         ensures bytes { IsTrue (D.is_honest self.old.disk)
             → DropBytes (bare_of self.old) (contents_of D.seen self.old) seqs.now result
             (contents_of D.seen self.new) }
+        // A crash at any moment leaves what one before could have left, or the cases before the call or after it.
+        ensures any_moment { IsTrue (D.is_honest self.old.disk)
+            → AddsOnly D.Disk self.old.disk self.new.disk (Leaves (durable_of D.seen self.old) result (durable_of D.seen self.new) (λ x. x ≡ without (durable_of D.seen self.old) seqs.now)) }
         ensures cause { IsDiskFault result
             → HasRisen (D.failures self.old.disk) (D.failures self.new.disk) }
         ensures later { D.failures self.old.disk ≤ D.failures self.new.disk }
@@ -369,6 +390,9 @@ impl<D: Disk> Archive<D> {
         ensures bytes { IsTrue (D.is_honest self.old.disk)
             → DeleteBytes (bare_of self.old) (contents_of D.seen self.old) seq result
             (contents_of D.seen self.new) }
+        // A crash at any moment leaves what one before could have left, or the cases before the call or after it.
+        ensures any_moment { IsTrue (D.is_honest self.old.disk)
+            → AddsOnly D.Disk self.old.disk self.new.disk (Leaves (durable_of D.seen self.old) result (durable_of D.seen self.new) (λ x. x ≡ without (durable_of D.seen self.old) (seq ∷ []))) }
         ensures cause { IsDiskFault result
             → HasRisen (D.failures self.old.disk) (D.failures self.new.disk) }
         ensures later { D.failures self.old.disk ≤ D.failures self.new.disk }
@@ -394,6 +418,9 @@ impl<D: Disk> Archive<D> {
         ensures bytes { IsTrue (D.is_honest self.old.disk)
             → RetireBytes (bare_of self.old) (contents_of D.seen self.old) result
             (contents_of D.seen self.new) }
+        // A crash at any moment leaves what one before could have left, or the cases before the call or after it.
+        ensures any_moment { IsTrue (D.is_honest self.old.disk)
+            → AddsOnly D.Disk self.old.disk self.new.disk (Leaves (durable_of D.seen self.old) result (durable_of D.seen self.new) (λ x. MayBeRetired (bare_of self.old) policy.now (durable_of D.seen self.old) x)) }
         ensures cause { IsDiskFault result
             → HasRisen (D.failures self.old.disk) (D.failures self.new.disk) }
         ensures later { D.failures self.old.disk ≤ D.failures self.new.disk }
@@ -412,6 +439,15 @@ impl<D: Disk> Archive<D> {
             return Err(fault);
         }
         Ok(decision)
+    }
+
+    /// Whether a disk fault has stopped it. Unless one has, what a crash now leaves stands for the cases that it shows.
+    pub fn is_stopped(&self) -> bool
+        ensures value { result ≡ self.now.stopped }
+        ensures stands { result ≡ false → IsTrue (D.is_honest self.now.disk) → (c : List ℕ) → D.may_leave self.now.disk c
+            → StandsFor c (durable_of D.seen self.now) }
+    {
+        self.stopped
     }
 
     /// Lets the disk go.

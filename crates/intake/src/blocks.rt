@@ -5,7 +5,12 @@ ghost use Rattle.disk_model.specs.Disk.{HasRisen};
 ghost use Rattle.extents.specs.FreeSet.{free_count};
 ghost use Rattle.journal_layout.specs.Layout.{IsWithinLimits, disk_length, half_start, half_length};
 ghost use Rattle.case_journal.specs.Journaled.{Journaled};
-ghost use Rattle.case_journal.specs.Keeping.{Keeps};
+ghost use Rattle.disk_model.specs.Moments.{LeavesOnly, IsSettled};
+ghost use Rattle.intake.specs.Durable.{durable_in};
+ghost use Rattle.intake.specs.Guarding.{Guards, Rests, Spares, LeavesStored};
+ghost use Rattle.intake.specs.Live.{case_uses};
+ghost use Rattle.journal_layout.specs.Standing.{appended, store_of};
+ghost use Rattle.std.specs.Prelude.{false};
 ghost use Rattle.intake.specs.Balance.{AreFree, AreHeld, Balances};
 ghost use Rattle.intake.specs.Blocks.{block_start, block_bytes};
 ghost use Rattle.intake.specs.Growth.{DiskReply, BlockReply, IsDiskFault, ChangesFree, Adds, Grows, GrowsBytes, stops_at};
@@ -48,8 +53,8 @@ fn write_data<D: Disk>(
         ≡ overwritten (D.seen disk.old) (block_start shape block) bytes.now) }
     ensures others { IsTrue (D.is_honest disk.old)
         → SameOutside (block_start shape block) 4096 (D.seen disk.old) (D.seen disk.new) }
-    ensures keeps { (j : Journaled) → j.standing.shape ≡ shape → Keeps D.Disk disk.old j
-        → Keeps D.Disk disk.new j }
+    ensures rests { (j : Journaled) → j.standing.shape ≡ shape → case_uses j.standing.cases block ≡ 0
+        → Guards D.Disk disk.old j → Rests D.Disk disk.old disk.new j }
     ensures cause { IsDiskFault result → HasRisen (D.failures disk.old) (D.failures disk.new) }
     ensures later { D.failures disk.old ≤ D.failures disk.new }
     ensures honesty { D.is_honest disk.new ≡ D.is_honest disk.old }
@@ -82,8 +87,8 @@ pub(crate) fn add_block<D: Disk>(
         → OnOk result (Adds shape free.old runs.old runs.new bytes.now (D.seen disk.old) (D.seen disk.new)) }
     ensures others { IsTrue (D.is_honest disk.old)
         → ChangesFree shape free.old (D.seen disk.old) (D.seen disk.new) }
-    ensures keeps { (j : Journaled) → j.standing.shape ≡ shape → Keeps D.Disk disk.old j
-        → Keeps D.Disk disk.new j }
+    ensures rests { (j : Journaled) → j.standing.shape ≡ shape → Spares free.old j
+        → Guards D.Disk disk.old j → Rests D.Disk disk.old disk.new j }
     ensures cause { IsDiskFault result → HasRisen (D.failures disk.old) (D.failures disk.new) }
     ensures later { D.failures disk.old ≤ D.failures disk.new }
     ensures honesty { D.is_honest disk.new ≡ D.is_honest disk.old }
@@ -130,8 +135,8 @@ pub(crate) fn grow<D: Disk>(
         (parts_of block.new stream.new) (D.seen disk.old) (D.seen disk.new)) }
     ensures others { IsTrue (D.is_honest disk.old)
         → ChangesFree shape free.old (D.seen disk.old) (D.seen disk.new) }
-    ensures keeps { (j : Journaled) → j.standing.shape ≡ shape → Keeps D.Disk disk.old j
-        → Keeps D.Disk disk.new j }
+    ensures rests { (j : Journaled) → j.standing.shape ≡ shape → Spares free.old j
+        → Guards D.Disk disk.old j → Rests D.Disk disk.old disk.new j }
     ensures cause { IsDiskFault result → HasRisen (D.failures disk.old) (D.failures disk.new) }
     ensures later { D.failures disk.old ≤ D.failures disk.new }
     ensures honesty { D.is_honest disk.new ≡ D.is_honest disk.old }
@@ -171,8 +176,8 @@ fn last_block<D: Disk>(
         stream.new.runs (D.seen disk.old) (D.seen disk.new)) }
     ensures others { IsTrue (D.is_honest disk.old)
         → ChangesFree shape free.old (D.seen disk.old) (D.seen disk.new) }
-    ensures keeps { (j : Journaled) → j.standing.shape ≡ shape → Keeps D.Disk disk.old j
-        → Keeps D.Disk disk.new j }
+    ensures rests { (j : Journaled) → j.standing.shape ≡ shape → Spares free.old j
+        → Guards D.Disk disk.old j → Rests D.Disk disk.old disk.new j }
     ensures cause { IsDiskFault result → HasRisen (D.failures disk.old) (D.failures disk.new) }
     ensures later { D.failures disk.old ≤ D.failures disk.new }
     ensures honesty { D.is_honest disk.new ≡ D.is_honest disk.old }
@@ -209,8 +214,9 @@ pub(crate) fn seal<D: Disk>(
         stream.new.runs (D.seen disk.old) (D.seen disk.new)) }
     ensures others { IsTrue (D.is_honest disk.old)
         → ChangesFree shape free.old (D.seen disk.old) (D.seen disk.new) }
-    ensures keeps { (j : Journaled) → j.standing.shape ≡ shape → Keeps D.Disk disk.old j
-        → Keeps D.Disk disk.new j }
+    ensures rests { (j : Journaled) → j.standing.shape ≡ shape → Spares free.old j
+        → Guards D.Disk disk.old j → Rests D.Disk disk.old disk.new j }
+    ensures settled { IsTrue (D.is_honest disk.old) → OnOk result (IsSettled D.Disk disk.new) }
     ensures cause { IsDiskFault result → HasRisen (D.failures disk.old) (D.failures disk.new) }
     ensures later { D.failures disk.old ≤ D.failures disk.new }
     ensures honesty { D.is_honest disk.new ≡ D.is_honest disk.old }
@@ -224,7 +230,9 @@ pub(crate) fn seal<D: Disk>(
 fn make_stable<D: Disk>(disk: &mut D) -> Result<(), ArchiveFault>
     ensures reply { DiskReply result }
     ensures seen { IsTrue (D.is_honest disk.old) → D.seen disk.new ≡ D.seen disk.old }
-    ensures keeps { (j : Journaled) → Keeps D.Disk disk.old j → Keeps D.Disk disk.new j }
+    ensures rests { (j : Journaled) → Guards D.Disk disk.old j → Rests D.Disk disk.old disk.new j }
+    // What reads give is what a crash leaves from then on.
+    ensures settled { IsTrue (D.is_honest disk.old) → OnOk result (IsSettled D.Disk disk.new) }
     ensures cause { IsDiskFault result → HasRisen (D.failures disk.old) (D.failures disk.new) }
     ensures later { D.failures disk.old ≤ D.failures disk.new }
     ensures honesty { D.is_honest disk.new ≡ D.is_honest disk.old }
@@ -243,12 +251,17 @@ pub(crate) fn append_case<D: Disk>(
     free: &mut FreeMap,
     entry: Entry,
 ) -> Result<u32, ArchiveFault>
-    requires keeps { Keeps D.Disk disk.old journal.old }
+    requires guards { Guards D.Disk disk.old journal.old }
+    requires runs { journal.old.stopped ≡ false }
+    requires settled { IsTrue (D.is_honest disk.old) → IsSettled D.Disk disk.old }
     requires storable { MayStore journal.old.standing (case_of entry) }
     requires held { AreHeld free.old entry.runs }
     ensures step { Appends journal.old (case_of entry) result journal.new }
     ensures free { GivesBack result free.old entry.runs free.new }
-    ensures keeps { Keeps D.Disk disk.new journal.new }
+    ensures guards { Guards D.Disk disk.new journal.new }
+    // What a crash at any moment leaves stands for the cases before or after, if the disk was met.
+    ensures any_moment { IsTrue (D.is_honest disk.old) → LeavesOnly D.Disk disk.old disk.new
+        (LeavesStored result (durable_in (D.seen disk.old) journal.old.standing) (durable_in (D.seen disk.old) (appended journal.old.standing (store_of journal.old.standing (case_of entry))))) }
     ensures cause { IsDiskFault result → HasRisen (D.failures disk.old) (D.failures disk.new) }
     ensures later { D.failures disk.old ≤ D.failures disk.new }
     ensures outside { IsTrue (D.is_honest disk.old)

@@ -1,8 +1,9 @@
-use Rattle.std.proofs.Common.{◌≤◌, ap, arith, map, List, nat_lt}
+use Rattle.std.proofs.Common.{◌≤◌, ◌∙◌, ap, sym, ℕ, arith, map, List, nat_lt}
 use Rattle.extents.specs.FreeSet.{one_if}
 use Rattle.journal_layout.specs.declared.shape.Shape.{Shape}
 use Rattle.journal_layout.specs.Case.{Case, case_of}
 use Rattle.journal_layout.specs.LiveCounts.{live_apart}
+use Rattle.intake.specs.Durable.{durable_in}
 use Rattle.intake.specs.Live.{case_uses}
 use Rattle.intake.proofs.HoldLemmas.{opened_sound}
 use Rattle.intake.proofs.opening.open_parts.Goals as goal
@@ -18,5 +19,10 @@ spare_blocks-requires-clause-apart g c k =
 pub returns-clause-sound : goal.returns-clause-sound
 returns-clause-sound g c most =
     opened_sound g.D.Disk c.args.disk.now c.open.new.disk c.in_ok-journal.journal most c.shape-shape.result c.in-Ok.free (map case_of c.entries.result.now) c.in-Ok-new.slots
-    c.in_ok-journal.ensures.gives c.in_ok-journal.ensures.keeps c.in_ok-journal.ensures.live c.in_ok-journal.ensures.runs
+    c.in_ok-journal.ensures.gives
+    (record {
+      keeps = c.in_ok-journal.ensures.keeps;
+      whole = λ runs real b may. ap (λ (x : List ℕ). durable_in x c.in_ok-journal.journal.standing) (c.in_ok-journal.ensures.settled (sym c.open.ensures.honesty ∙ real) b may);
+    })
+    c.in_ok-journal.ensures.live c.in_ok-journal.ensures.runs
     c.shape-shape.ensures c.entries.ensures c.in-Ok.ensures c.in-Ok-new.ensures

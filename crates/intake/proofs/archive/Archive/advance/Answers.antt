@@ -7,6 +7,7 @@ use Rattle.intake.specs.StreamView.{parts_of}
 use Rattle.intake.proofs.CountLemmas.{still_held, balance_then}
 use Rattle.intake.proofs.SoundLemmas.{stream_held}
 use Rattle.intake.proofs.AdvanceLemmas.{none_set, sound_refused, refused_bytes, sound_grown, advance_ok, advance_ok_bytes, advance_err, not_stopped, not_missing, fits_in}
+use Rattle.intake.proofs.CrashLemmas.{grow_rests}
 use Rattle.intake.proofs.archive.Archive.advance.Goals as goal
 
 pub returns-in_default-clause-bytes : goal.returns-in_default-clause-bytes
@@ -31,7 +32,7 @@ pub invariant_of-self-in-Err : goal.invariant_of-self-in-Err
 invariant_of-self-in-Err g c =
     sound_refused g.D.Disk c.self.inside.disk c.grow-grown.new.disk c.self.inside.journal c.self.inside.settings.limit c.self.inside.free c.release.new.free c.self.inside.slots c.take.new.self c.end_streams-self-inside.new.slots c.args.slot _ c.self.inside.stopped c.end_streams-self-inside.result c.in-Err.fault
     c.self.invariant c.if-self.false (sym c.in-Some.ensures.stream) c.in-Some.ensures.slots
-    (c.in-Err.ensures.keeps c.self.inside.journal (sym c.shape-shape.ensures) (c.self.invariant.runs c.if-self.false).keeps)
+    (grow_rests g.D.Disk c.self.inside.disk c.grow-grown.new.disk c.self.inside.journal c.self.inside.settings.limit c.self.inside.free c.self.inside.slots (c.self.invariant.runs c.if-self.false) (c.in-Err.ensures.rests c.self.inside.journal (sym c.shape-shape.ensures))).guards
     (balance_then c.self.inside.free c.grow-grown.new.free c.release.new.free c.in-Some.stream.runs c.grow-grown.new.stream.runs _ c.in-Err.ensures.balance c.release.ensures)
     c.end_streams-self-inside.ensures
 
@@ -64,7 +65,7 @@ invariant_of-self-2 g c =
     c.grow-grown.new.free c.take.new.self c.put.new.self (parts_of c.grow-grown.new.block c.grow-grown.new.stream) c.in_default-grown.field-0 c.self.invariant c.in-Some.ensures.slots c.put.ensures
     (fits_in g.D.Disk c.self.inside.disk c.grow-grown.new.disk c.self.inside.journal c.self.inside.settings.limit c.self.inside.free c.self.inside.slots c.args.slot c.args.n (parts_of c.in-Some.block c.in-Some.stream) c.self.inside.stopped (c.self.invariant.runs c.if-self.false) c.if-self.false (sym c.in-Some.ensures.stream) (rw (← c.self.view_is) at c.requires))
     c.in_default-grown.ensures.step c.in_default-grown.ensures.small
-    (c.in_default-grown.ensures.keeps c.self.inside.journal (sym c.shape-shape.ensures) (c.self.invariant.runs c.if-self.false).keeps)
+    (grow_rests g.D.Disk c.self.inside.disk c.grow-grown.new.disk c.self.inside.journal c.self.inside.settings.limit c.self.inside.free c.self.inside.slots (c.self.invariant.runs c.if-self.false) (c.in_default-grown.ensures.rests c.self.inside.journal (sym c.shape-shape.ensures))).guards
     c.in_default-grown.ensures.balance
 
 pub returns-clause-step : goal.returns-clause-step

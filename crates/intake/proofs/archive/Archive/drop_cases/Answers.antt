@@ -1,4 +1,4 @@
-use Rattle.std.proofs.Common.{◌∙◌, sym, subst, List, [], Err}
+use Rattle.std.proofs.Common.{◌≡◌, ◌∙◌, sym, subst, List, [], Err}
 use Rattle.intake.specs.Balance.{AreHeld, Balances}
 use Rattle.intake.specs.Contents.{UnmovedBytes}
 use Rattle.intake.specs.Ending.{EndsStreams}
@@ -13,6 +13,10 @@ use Rattle.journal_layout.specs.Record.{Drop}
 use Rattle.intake.proofs.AfterLemmas.{sound_refusal, refusal_bytes}
 use Rattle.intake.proofs.DropLemmas.{drop_held, drop_ok, drop_err, drop_sound_after, drop_bytes, still_cases}
 use Rattle.intake.proofs.ListedLemmas.{flags_back}
+use Rattle.intake.proofs.CrashLemmas.{record_ok, record_err}
+use Rattle.intake.proofs.DurableLemmas.{durable_dropped}
+use Rattle.intake.proofs.LeaveLemmas.{done_guards, refusal_guards, whole_dropped}
+use Rattle.intake.specs.Durable.{durable_in, without}
 use Rattle.intake.proofs.archive.Archive.drop_cases.Goals as goal
 
 pub release_listed-requires-clause-held : goal.release_listed-requires-clause-held
@@ -25,7 +29,10 @@ pub invariant_of-self : goal.invariant_of-self
 invariant_of-self g c =
     let on = rw (← c.self.view_is) at c.requires.runs in
     let may = rw (← c.self.view_is) at c.requires.may in
-    drop_sound_after g.D.Disk c.self.inside.disk c.append_drop.new.disk c.self.inside.journal c.append_drop.new.self c.self.inside.settings.limit c.self.inside.free c.self.inside.slots c.self.inside.slots c.self.inside.stopped c.self.inside.stopped c.args.seqs.now c.self.invariant on c.release_listed.new.free c.in_default.field-0 may c.in_default.ensures.step c.append_drop.ensures.keeps
+    drop_sound_after g.D.Disk c.self.inside.disk c.append_drop.new.disk c.self.inside.journal c.append_drop.new.self c.self.inside.settings.limit c.self.inside.free c.self.inside.slots c.self.inside.slots c.self.inside.stopped c.self.inside.stopped c.args.seqs.now c.self.invariant on c.release_listed.new.free c.in_default.field-0 may c.in_default.ensures.step
+    (done_guards g.D.Disk c.self.inside.disk c.append_drop.new.disk c.self.inside.journal c.append_drop.new.self (Drop c.args.seqs.now) c.in_default.ensures.step.2 c.append_drop.ensures.honesty (g.met.D.Disk.counts_now c.append_drop.new.disk) c.append_drop.ensures.keeps
+    (λ honest. whole_dropped g.D.Disk c.self.inside.disk c.self.inside.journal c.args.seqs.now (λ b may. (c.self.invariant.runs on).keeps.whole (c.self.invariant.runs on).journal honest b may))
+    c.append_drop.ensures.outside c.append_drop.ensures.others)
     (subst (λ (cs : List Case). Balances c.self.inside.free (used_blocks (gone c.args.seqs.now cs)) c.release_listed.new.free []) c.entries.ensures c.release_listed.ensures)
 
 pub returns-in_default-clause-step : goal.returns-in_default-clause-step
@@ -43,7 +50,8 @@ pub invariant_of-self-2 : goal.invariant_of-self-2
 invariant_of-self-2 g c =
     let on = rw (← c.self.view_is) at c.requires.runs in
     sound_refusal g.D.Disk c.self.inside.disk c.append_drop.new.disk c.self.inside.journal c.append_drop.new.self (Drop c.args.seqs.now) c.self.inside.settings.limit c.self.inside.free c.self.inside.slots c.end_streams-self-inside.new.slots c.self.inside.stopped c.end_streams-self-inside.result on
-    c.hold_listed.new.free c.in-Err.fault c.self.invariant c.in-Err.ensures.step c.append_drop.ensures.keeps
+    c.hold_listed.new.free c.in-Err.fault c.self.invariant c.in-Err.ensures.step
+    (refusal_guards g.D.Disk c.self.inside.disk c.append_drop.new.disk c.self.inside.journal c.append_drop.new.self (Drop c.args.seqs.now) c.in-Err.fault c.in-Err.ensures.step c.in-Err.ensures.untouched c.append_drop.ensures.keeps (c.self.invariant.runs on).keeps)
     (subst (λ (f : ArchiveFault). EndsStreams f c.self.inside.slots c.end_streams-self-inside.result c.end_streams-self-inside.new.slots) c.from-fault.ensures c.end_streams-self-inside.ensures)
     (λ _. flags_back c.self.inside.free c.release_listed.new.free c.hold_listed.new.free (used_blocks (gone c.args.seqs.now c.self.inside.journal.standing.cases))
     (subst (λ (cs : List Case). Balances c.self.inside.free (used_blocks (gone c.args.seqs.now cs)) c.release_listed.new.free []) c.entries.ensures c.release_listed.ensures)
@@ -66,3 +74,25 @@ returns-clause-bytes g c honest =
     (refusal_bytes g.D.Disk.seen c.self.inside.disk c.append_drop.new.disk c.self.inside.journal c.self.inside.settings.limit c.self.inside.slots c.self.inside.stopped (c.append_drop.ensures.others real)
     (Drop c.args.seqs.now) c.append_drop.new.self c.in-Err.fault c.end_streams-self-inside.result c.end_streams-self-inside.new.slots (c.self.invariant.runs on).journal c.in-Err.ensures.step
     (subst (λ (f : ArchiveFault). EndsStreams f c.self.inside.slots c.end_streams-self-inside.result c.end_streams-self-inside.new.slots) c.from-fault.ensures c.end_streams-self-inside.ensures)))
+
+pub returns-in_default-clause-any_moment : goal.returns-in_default-clause-any_moment
+returns-in_default-clause-any_moment g c honest =
+    let on = rw (← c.self.view_is) at c.requires.runs in
+    let real = rw (← c.self.view_is) at honest in
+    let running = c.self.invariant.runs on in
+    rw (← c.self.view_is)
+    (record_ok g.D.Disk c.self.inside.disk c.append_drop.new.disk c.self.inside.journal c.append_drop.new.self (Drop c.args.seqs.now) running.keeps running.journal real
+    (whole_dropped g.D.Disk c.self.inside.disk c.self.inside.journal c.args.seqs.now (λ b may. running.keeps.whole running.journal real b may))
+    (c.append_drop.ensures.any_moment real running.journal) (c.append_drop.ensures.outside real)
+    (λ z. z ≡ without (durable_in (g.D.Disk.seen c.self.inside.disk) c.self.inside.journal.standing) c.args.seqs.now) tt (c.append_drop.ensures.others real) c.in_default.ensures.step.2)
+
+pub returns-clause-any_moment : goal.returns-clause-any_moment
+returns-clause-any_moment g c honest =
+    let on = rw (← c.self.view_is) at c.requires.runs in
+    let real = rw (← c.self.view_is) at honest in
+    let running = c.self.invariant.runs on in
+    rw (← c.self.view_is)
+    (record_err g.D.Disk c.self.inside.disk c.append_drop.new.disk c.self.inside.journal c.append_drop.new.self (Drop c.args.seqs.now) running.keeps running.journal real
+    (whole_dropped g.D.Disk c.self.inside.disk c.self.inside.journal c.args.seqs.now (λ b may. running.keeps.whole running.journal real b may))
+    (c.append_drop.ensures.any_moment real running.journal) (c.append_drop.ensures.outside real)
+    (λ z. z ≡ without (durable_in (g.D.Disk.seen c.self.inside.disk) c.self.inside.journal.standing) c.args.seqs.now) c.in-Err.fault _ _ c.from-fault.ensures c.in-Err.ensures.untouched (durable_dropped c.self.inside.journal.standing c.args.seqs.now (g.D.Disk.seen c.self.inside.disk)) (g.met.D.Disk.only_now c.self.inside.disk))

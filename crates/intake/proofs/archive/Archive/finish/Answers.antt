@@ -13,6 +13,11 @@ use Rattle.intake.proofs.StoreLemmas.{unstored_bytes, stored_bytes}
 use Rattle.intake.proofs.CountLemmas.{still_held, balance_then}
 use Rattle.intake.proofs.SoundLemmas.{stream_held}
 use Rattle.intake.proofs.AdvanceLemmas.{none_set, sound_refused, refused_bytes}
+use Rattle.journal_layout.specs.Standing.{appended, store_of}
+use Rattle.case_journal.specs.Journaled.{Journaled}
+use Rattle.intake.specs.Durable.{Durable, durable_in}
+use Rattle.intake.proofs.LeaveLemmas.{new_behind}
+use Rattle.intake.proofs.CrashLemmas.{grow_rests, rests_leaves, stored_adds, unstored_adds, stored_doubt, stored_is}
 use Rattle.intake.proofs.archive.Archive.finish.Goals as goal
 
 pub returns-in_default-clause-bytes : goal.returns-in_default-clause-bytes
@@ -37,7 +42,7 @@ pub invariant_of-self-in-Err : goal.invariant_of-self-in-Err
 invariant_of-self-in-Err g c =
     sound_refused g.D.Disk c.self.inside.disk c.seal-sealed.new.disk c.self.inside.journal c.self.inside.settings.limit c.self.inside.free c.release.new.free c.self.inside.slots c.take.new.self c.end_streams-self-inside.new.slots c.args.slot _ c.self.inside.stopped c.end_streams-self-inside.result c.in-Err.fault
     c.self.invariant c.if-self.false (sym c.in-Some.ensures.stream) c.in-Some.ensures.slots
-    (c.in-Err.ensures.keeps c.self.inside.journal (sym c.shape-shape.ensures) (c.self.invariant.runs c.if-self.false).keeps)
+    (grow_rests g.D.Disk c.self.inside.disk c.seal-sealed.new.disk c.self.inside.journal c.self.inside.settings.limit c.self.inside.free c.self.inside.slots (c.self.invariant.runs c.if-self.false) (c.in-Err.ensures.rests c.self.inside.journal (sym c.shape-shape.ensures))).guards
     (balance_then c.self.inside.free c.seal-sealed.new.free c.release.new.free c.in-Some.stream.runs c.seal-sealed.new.stream.runs _ c.in-Err.ensures.balance c.release.ensures)
     c.end_streams-self-inside.ensures
 
@@ -84,7 +89,7 @@ invariant_of-self-in-Err-append_case g c =
     sound_not_stored g.D.Disk c.self.inside.disk c.append_case.new.disk c.self.inside.journal c.self.inside.settings.limit c.self.inside.free c.self.inside.slots c.args.slot (parts_of c.in-Some.block c.in-Some.stream) c.self.inside.stopped
     (c.self.invariant.runs c.if-self.false) c.if-self.false (sym c.in-Some.ensures.stream)
     c.append_case.new.journal c.end_streams-self-inside-in-Err-append_case.result c.append_case.new.free c.take.new.self c.end_streams-self-inside-in-Err-append_case.new.slots c.in-Err-append_case.fault (case_of c.into_entry-entry.result) c.self.invariant
-    c.in-Some.ensures.slots c.end_streams-self-inside-in-Err-append_case.ensures c.in-Err-append_case.ensures.step c.in-Err-append_case.ensures.keeps
+    c.in-Some.ensures.slots c.end_streams-self-inside-in-Err-append_case.ensures c.in-Err-append_case.ensures.step c.in-Err-append_case.ensures.guards
     (balance_then c.self.inside.free c.seal-sealed.new.free c.append_case.new.free c.in-Some.stream.runs c.seal-sealed.new.stream.runs _ c.in_default-sealed.ensures.balance
     (subst (λ (x : List ℕ). Balances c.seal-sealed.new.free x c.append_case.new.free []) (ap (λ (x : Case). x.blocks) c.into_entry-entry.ensures) c.in-Err-append_case.ensures.free))
 
@@ -111,7 +116,7 @@ invariant_of-self-in-Ok g c =
     sound_with_case g.D.Disk c.self.inside.disk c.append_case.new.disk c.self.inside.journal c.self.inside.settings.limit c.self.inside.free c.self.inside.slots c.args.slot (parts_of c.in-Some.block c.in-Some.stream) c.self.inside.stopped
     (c.self.invariant.runs c.if-self.false) c.if-self.false (sym c.in-Some.ensures.stream)
     c.append_case.new.journal c.seal-sealed.new.free c.append_case.new.free c.take.new.self (parts_of c.seal-sealed.new.block c.seal-sealed.new.stream) c.in_default-sealed.field-0 c.in-Ok.seq (case_of c.into_entry-entry.result)
-    c.self.invariant c.in-Some.ensures.slots c.in_default-sealed.ensures.step c.in_default-sealed.ensures.balance c.in-Ok.ensures.free c.into_entry-entry.ensures c.in-Ok.ensures.step c.in-Ok.ensures.keeps
+    c.self.invariant c.in-Some.ensures.slots c.in_default-sealed.ensures.step c.in_default-sealed.ensures.balance c.in-Ok.ensures.free c.into_entry-entry.ensures c.in-Ok.ensures.step c.in-Ok.ensures.guards
 
 pub returns-clause-bytes : goal.returns-clause-bytes
 returns-clause-bytes g c honest =
@@ -134,3 +139,42 @@ returns-in-Ok-clause-bytes g c honest =
     (ap (λ (x : Case). x.len) (is_case ∙ closed_case g.D.Disk c.self.inside.disk c.append_case.new.disk c.self.inside.journal c.self.inside.settings.limit c.self.inside.free c.self.inside.slots c.args.slot (parts_of c.in-Some.block c.in-Some.stream) c.self.inside.stopped (c.self.invariant.runs c.if-self.false) c.if-self.false (sym c.in-Some.ensures.stream) (parts_of c.seal-sealed.new.block c.seal-sealed.new.stream) c.in_default-sealed.field-0 c.in_default-sealed.ensures.step))
     (subst (λ (x : Shape). ClosesBytes x (parts_of c.in-Some.block c.in-Some.stream) (case_of c.into_entry-entry.result).blocks (g.D.Disk.seen c.self.inside.disk) (g.D.Disk.seen c.seal-sealed.new.disk)) c.shape-shape.ensures
     (subst (λ (x : List ℕ). ClosesBytes c.shape-shape.result (parts_of c.in-Some.block c.in-Some.stream) x (g.D.Disk.seen c.self.inside.disk) (g.D.Disk.seen c.seal-sealed.new.disk)) (sym (ap (λ (x : Case). x.blocks) is_case)) (c.in_default-sealed.ensures.bytes real))))
+
+pub returns-in-Err-clause-any_moment : goal.returns-in-Err-clause-any_moment
+returns-in-Err-clause-any_moment g c honest =
+    let real = rw (← c.self.view_is) at honest in
+    rw (← c.self.view_is)
+    (rests_leaves g.D.Disk c.self.inside.disk c.seal-sealed.new.disk c.self.inside.journal c.self.inside.settings.limit c.self.inside.free c.self.inside.slots (c.self.invariant.runs c.if-self.false) ℕ (Err c.in-Err.fault) _ _
+    (grow_rests g.D.Disk c.self.inside.disk c.seal-sealed.new.disk c.self.inside.journal c.self.inside.settings.limit c.self.inside.free c.self.inside.slots (c.self.invariant.runs c.if-self.false) (c.in-Err.ensures.rests c.self.inside.journal (sym c.shape-shape.ensures))) real)
+
+pub returns-in-Ok-clause-any_moment : goal.returns-in-Ok-clause-any_moment
+returns-in-Ok-clause-any_moment g c honest =
+    let real = rw (← c.self.view_is) at honest in
+    let still = c.in_default-sealed.ensures.honesty ∙ real in
+    let j = c.self.inside.journal in
+    let r = store_of j.standing (case_of c.into_entry-entry.result) in
+    rw (← c.self.view_is)
+    (stored_adds g.D.Disk c.self.inside.disk c.seal-sealed.new.disk c.append_case.new.disk j (c.self.invariant.runs c.if-self.false).journal
+    (grow_rests g.D.Disk c.self.inside.disk c.seal-sealed.new.disk c.self.inside.journal c.self.inside.settings.limit c.self.inside.free c.self.inside.slots (c.self.invariant.runs c.if-self.false) (c.in_default-sealed.ensures.rests j (sym c.shape-shape.ensures))) real
+    (durable_in (g.D.Disk.seen c.seal-sealed.new.disk) (appended j.standing r)) _ (λ z. Unit {0}) c.in-Ok.seq
+    (ap (λ (k : Journaled). durable_in (g.D.Disk.seen c.append_case.new.disk) k.standing) c.in-Ok.ensures.step.4
+    ∙ new_behind g.D.Disk c.seal-sealed.new.disk c.append_case.new.disk j r (g.D.Disk.seen c.seal-sealed.new.disk) (g.D.Disk.seen c.append_case.new.disk) (c.in-Ok.ensures.outside still))
+    (c.in-Ok.ensures.any_moment still))
+
+pub returns-clause-any_moment : goal.returns-clause-any_moment
+returns-clause-any_moment g c honest =
+    let real = rw (← c.self.view_is) at honest in
+    let still = c.in_default-sealed.ensures.honesty ∙ real in
+    let j = c.self.inside.journal in
+    let running = c.self.invariant.runs c.if-self.false in
+    let s = parts_of c.in-Some.block c.in-Some.stream in
+    let rests = grow_rests g.D.Disk c.self.inside.disk c.seal-sealed.new.disk c.self.inside.journal c.self.inside.settings.limit c.self.inside.free c.self.inside.slots (c.self.invariant.runs c.if-self.false) (c.in_default-sealed.ensures.rests j (sym c.shape-shape.ensures)) in
+    let y : Durable = durable_in (g.D.Disk.seen c.seal-sealed.new.disk) (appended j.standing (store_of j.standing (case_of c.into_entry-entry.result))) in
+    rw (← c.self.view_is)
+    (unstored_adds g.D.Disk c.self.inside.disk c.seal-sealed.new.disk c.append_case.new.disk j running.journal rests real y _ _ c.in-Err-append_case.fault
+    (stored_doubt g.D.Disk c.self.inside.disk j c.self.inside.settings.limit c.self.inside.slots c.self.inside.stopped c.args.slot s y (sym c.in-Some.ensures.stream)
+    (stored_is g.D.Disk c.self.inside.disk c.seal-sealed.new.disk j s c.seal-sealed.new.stream.runs (case_of c.into_entry-entry.result)
+    (c.into_entry-entry.ensures ∙ closed_case g.D.Disk c.self.inside.disk c.append_case.new.disk j c.self.inside.settings.limit c.self.inside.free c.self.inside.slots c.args.slot s c.self.inside.stopped running c.if-self.false (sym c.in-Some.ensures.stream) (parts_of c.seal-sealed.new.block c.seal-sealed.new.stream) c.in_default-sealed.field-0 c.in_default-sealed.ensures.step)
+    (subst (λ (x : Shape). ClosesBytes x s c.seal-sealed.new.stream.runs (g.D.Disk.seen c.self.inside.disk) (g.D.Disk.seen c.seal-sealed.new.disk)) c.shape-shape.ensures (c.in_default-sealed.ensures.bytes real))
+    (rests.same running.journal real)))
+    (c.in-Err-append_case.ensures.any_moment still))

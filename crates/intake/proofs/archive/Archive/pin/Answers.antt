@@ -1,4 +1,4 @@
-use Rattle.std.proofs.Common.{◌∙◌, refl, ap, sym, subst, Err}
+use Rattle.std.proofs.Common.{◌≡◌, ◌∙◌, refl, ap, sym, subst, Err}
 use Rattle.std.specs.Prelude.{option_map}
 use Rattle.intake.specs.Contents.{UnmovedBytes}
 use Rattle.intake.specs.Ending.{EndsStreams}
@@ -10,6 +10,10 @@ use Rattle.journal_layout.specs.Case.{case_of}
 use Rattle.journal_layout.specs.Record.{Pin}
 use Rattle.intake.proofs.AfterLemmas.{bare_case_at, flags_differ, flags_same, sound_refusal, refusal_bytes}
 use Rattle.intake.proofs.PinLemmas.{pin_same, pin_ok, pin_err, pin_sound_after, pin_bytes}
+use Rattle.intake.specs.Durable.{durable_in, flagged}
+use Rattle.intake.proofs.CrashLemmas.{record_ok, record_err}
+use Rattle.intake.proofs.DurableLemmas.{durable_pinned}
+use Rattle.intake.proofs.LeaveLemmas.{done_guards, refusal_guards, whole_pinned}
 use Rattle.intake.proofs.archive.Archive.pin.Goals as goal
 
 pub returns-in_default-clause-step : goal.returns-in_default-clause-step
@@ -25,7 +29,10 @@ returns-then-entry-flag-clause-step g c =
 pub invariant_of-self : goal.invariant_of-self
 invariant_of-self g c =
     pin_sound_after g.D.Disk c.self.inside.disk c.append_pin.new.disk c.self.inside.journal c.append_pin.new.self c.self.inside.settings.limit c.self.inside.free c.self.inside.slots c.self.inside.slots c.self.inside.stopped c.self.inside.stopped
-    c.args.seq c.args.flag (case_of c.in-Some.entry.now) c.self.invariant c.if-self.false c.in-Some.ensures c.in_default-append_pin.field-0 c.in_default-append_pin.ensures.step c.append_pin.ensures.keeps
+    c.args.seq c.args.flag (case_of c.in-Some.entry.now) c.self.invariant c.if-self.false c.in-Some.ensures c.in_default-append_pin.field-0 c.in_default-append_pin.ensures.step
+    (done_guards g.D.Disk c.self.inside.disk c.append_pin.new.disk c.self.inside.journal c.append_pin.new.self (Pin c.args.seq c.args.flag) c.in_default-append_pin.ensures.step.2 c.append_pin.ensures.honesty (g.met.D.Disk.counts_now c.append_pin.new.disk) c.append_pin.ensures.keeps
+    (λ honest. whole_pinned g.D.Disk c.self.inside.disk c.self.inside.journal c.args.seq c.args.flag (λ b may. (c.self.invariant.runs c.if-self.false).keeps.whole (c.self.invariant.runs c.if-self.false).journal honest b may))
+    c.append_pin.ensures.outside c.append_pin.ensures.others)
 
 pub returns-in_default-append_pin-clause-step : goal.returns-in_default-append_pin-clause-step
 returns-in_default-append_pin-clause-step g c =
@@ -43,7 +50,8 @@ returns-in_default-append_pin-clause-bytes g c honest =
 pub invariant_of-self-2 : goal.invariant_of-self-2
 invariant_of-self-2 g c =
     sound_refusal g.D.Disk c.self.inside.disk c.append_pin.new.disk c.self.inside.journal c.append_pin.new.self (Pin c.args.seq c.args.flag) c.self.inside.settings.limit c.self.inside.free c.self.inside.slots c.end_streams-self-inside.new.slots c.self.inside.stopped c.end_streams-self-inside.result c.if-self.false
-    c.self.inside.free c.in-Err.fault c.self.invariant c.in-Err.ensures.step c.append_pin.ensures.keeps
+    c.self.inside.free c.in-Err.fault c.self.invariant c.in-Err.ensures.step
+    (refusal_guards g.D.Disk c.self.inside.disk c.append_pin.new.disk c.self.inside.journal c.append_pin.new.self (Pin c.args.seq c.args.flag) c.in-Err.fault c.in-Err.ensures.step c.in-Err.ensures.untouched c.append_pin.ensures.keeps (c.self.invariant.runs c.if-self.false).keeps)
     (subst (λ (f : ArchiveFault). EndsStreams f c.self.inside.slots c.end_streams-self-inside.result c.end_streams-self-inside.new.slots) c.from-fault.ensures c.end_streams-self-inside.ensures)
     (λ _. refl)
 
@@ -63,3 +71,23 @@ returns-clause-bytes g c honest =
     (refusal_bytes g.D.Disk.seen c.self.inside.disk c.append_pin.new.disk c.self.inside.journal c.self.inside.settings.limit c.self.inside.slots c.self.inside.stopped (c.append_pin.ensures.others real)
     (Pin c.args.seq c.args.flag) c.append_pin.new.self c.in-Err.fault c.end_streams-self-inside.result c.end_streams-self-inside.new.slots (c.self.invariant.runs c.if-self.false).journal c.in-Err.ensures.step
     (subst (λ (f : ArchiveFault). EndsStreams f c.self.inside.slots c.end_streams-self-inside.result c.end_streams-self-inside.new.slots) c.from-fault.ensures c.end_streams-self-inside.ensures)))
+
+pub returns-in_default-append_pin-clause-any_moment : goal.returns-in_default-append_pin-clause-any_moment
+returns-in_default-append_pin-clause-any_moment g c honest =
+    let real = rw (← c.self.view_is) at honest in
+    let running = c.self.invariant.runs c.if-self.false in
+    rw (← c.self.view_is)
+    (record_ok g.D.Disk c.self.inside.disk c.append_pin.new.disk c.self.inside.journal c.append_pin.new.self (Pin c.args.seq c.args.flag) running.keeps running.journal real
+    (whole_pinned g.D.Disk c.self.inside.disk c.self.inside.journal c.args.seq c.args.flag (λ b may. running.keeps.whole running.journal real b may))
+    (c.append_pin.ensures.any_moment real running.journal) (c.append_pin.ensures.outside real)
+    (λ z. z ≡ flagged (durable_in (g.D.Disk.seen c.self.inside.disk) c.self.inside.journal.standing) c.args.seq c.args.flag) tt (c.append_pin.ensures.others real) c.in_default-append_pin.ensures.step.2)
+
+pub returns-clause-any_moment : goal.returns-clause-any_moment
+returns-clause-any_moment g c honest =
+    let real = rw (← c.self.view_is) at honest in
+    let running = c.self.invariant.runs c.if-self.false in
+    rw (← c.self.view_is)
+    (record_err g.D.Disk c.self.inside.disk c.append_pin.new.disk c.self.inside.journal c.append_pin.new.self (Pin c.args.seq c.args.flag) running.keeps running.journal real
+    (whole_pinned g.D.Disk c.self.inside.disk c.self.inside.journal c.args.seq c.args.flag (λ b may. running.keeps.whole running.journal real b may))
+    (c.append_pin.ensures.any_moment real running.journal) (c.append_pin.ensures.outside real)
+    (λ z. z ≡ flagged (durable_in (g.D.Disk.seen c.self.inside.disk) c.self.inside.journal.standing) c.args.seq c.args.flag) c.in-Err.fault _ _ c.from-fault.ensures c.in-Err.ensures.untouched (durable_pinned c.self.inside.journal.standing c.args.seq c.args.flag (g.D.Disk.seen c.self.inside.disk)) (g.met.D.Disk.only_now c.self.inside.disk))

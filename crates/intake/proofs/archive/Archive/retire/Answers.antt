@@ -1,4 +1,4 @@
-use Rattle.std.proofs.Common.{◌≢◌, inl, inr, ap, sym, subst, refl, List, [], ℕ, Ok, Err, rules}
+use Rattle.std.proofs.Common.{◌≡◌, ◌≢◌, ◌∙◌, inl, inr, ap, sym, subst, refl, List, [], ℕ, Ok, Err, rules}
 use Rattle.journal_layout.specs.Case.{Case}
 use Rattle.journal_layout.specs.Record.{Drop}
 use Rattle.case_journal.specs.Append.{MayFollow}
@@ -6,6 +6,12 @@ use Rattle.intake.specs.Blocks.{image_in}
 use Rattle.intake.specs.Parts.{bare_of, contents_of}
 use Rattle.intake.specs.Step.{DropStep}
 use Rattle.intake.proofs.RetireLemmas.{all_stay, decision_of, entries_rise, none_dropped, retire_err, retire_may, some_dropped}
+use Rattle.disk_model.specs.MomentLaws.{adds_weakened}
+use Rattle.intake.specs.Durable.{Durable, durable_of, without}
+use Rattle.intake.specs.Guarding.{Leaves, MayBeRetired}
+use Rattle.intake.specs.Step.{Retires}
+use Rattle.retention.specs.declared.Decision.{Decision}
+use Rattle.intake.proofs.CrashLemmas.{leaves_of}
 use Rattle.intake.proofs.archive.Archive.retire.Goals as goal
 
 pub decide_for-requires : goal.decide_for-requires
@@ -46,3 +52,17 @@ returns-clause-step g c =
       rw (← c.self.view_is) (decision_of c.args.policy.now c.entries.result.now c.self.inside.journal.standing.cases c.in-Ok.decision.dropped.items c.in-Ok.decision.unmet c.entries.ensures c.in-Ok.ensures.decision),
       inr (some, step.0, step.1),
     )
+
+pub returns-in-Err-clause-any_moment : goal.returns-in-Err-clause-any_moment
+returns-in-Err-clause-any_moment g c honest =
+    let some : c.in-Ok.decision.dropped.items ≢ [] = search rules in
+    let retires : Retires (bare_of c.args.self.now) c.args.policy.now c.in-Ok.decision.dropped.items c.in-Ok.decision.unmet =
+    rw (← c.self.view_is) (c.if-self.false, (decision_of c.args.policy.now c.entries.result.now c.self.inside.journal.standing.cases c.in-Ok.decision.dropped.items c.in-Ok.decision.unmet c.entries.ensures c.in-Ok.ensures.decision), some) in
+    let x : Durable = durable_of g.D.Disk.seen c.args.self.now in
+    let y : Durable = durable_of g.D.Disk.seen c.drop_cases.new.self in
+    adds_weakened g.D.Disk c.args.self.now.disk c.drop_cases.new.self.disk
+    (Leaves {T = Unit {0}} x (Err c.in-Err.fault) y (λ z. z ≡ without x c.as_slice.result.now))
+    (Leaves {T = Decision} x (Err c.in-Err.fault) y (MayBeRetired (bare_of c.args.self.now) c.args.policy.now x))
+    (λ b h. leaves_of (Unit {0}) Decision c.in-Err.fault x y y (λ z. z ≡ without x c.as_slice.result.now) (MayBeRetired (bare_of c.args.self.now) c.args.policy.now x) b
+        (λ z is. (c.in-Ok.decision.dropped.items, c.in-Ok.decision.unmet, retires, is ∙ ap (without x) c.as_slice.ensures.value)) h)
+    (c.in-Err.ensures.any_moment honest)

@@ -1,0 +1,86 @@
+-- The images of cases, where the bytes of other places change.
+use Rattle.std.proofs.Common.{◌≡◌, ℕ, ◌+◌, ◌==◌, Bool, true, false, not, cond, List, [], ◌∷◌, ◌++◌, take, map, refl, sym, ap, ◌∙◌, arith}
+use Rattle.std.specs.List.{filter}
+use Rattle.std.proofs.lemmas.List.{map-append}
+use Rattle.std.proofs.lemmas.List.Sums.{sum_by-cons}
+use Rattle.disk_model.specs.Places.{SameOutside}
+use Rattle.extents.specs.FreeSet.{uses}
+use Rattle.journal_layout.specs.declared.shape.Shape.{Shape}
+use Rattle.journal_layout.specs.Case.{Case, numbered}
+use Rattle.journal_layout.specs.Folding.{is_among, dropped, with_pin}
+use Rattle.journal_layout.specs.Layout.{half_start, half_length}
+use Rattle.journal_layout.specs.Record.{Drop, Pin, Store}
+use Rattle.journal_layout.specs.Standing.{Standing, appended, store_of}
+use Rattle.case_journal.specs.Journaled.{Journaled}
+use Rattle.intake.specs.Blocks.{block_start, image_in, joined}
+use Rattle.intake.specs.Contents.{Contents}
+use Rattle.intake.specs.Durable.{FoundCase, Durable, found_with, found_case, durable_in, durable_of, durable_part, with_images, without, flagged}
+use Rattle.intake.specs.Live.{case_uses}
+use Rattle.intake.specs.Parts.{Parts, bare_case, bare_of, contents_of}
+use Rattle.intake.proofs.BlockLemmas.{joined_other}
+use Rattle.intake.proofs.StoreLemmas.{joined_behind}
+
+-- cases that are found in other bytes
+found_spared : (shape : Shape) (k : ℕ) (a b : List ℕ) → SameOutside (block_start shape k) 4096 a b → (cases : List Case) → case_uses cases k ≡ 0 → map (found_case shape b) cases ≡ map (found_case shape a) cases
+found_spared shape k a b same [] none = refl
+found_spared shape k a b same (c ∷ rest) none =
+    let s : case_uses (c ∷ rest) k ≡ uses c.blocks k + case_uses rest k = sum_by-cons (λ (x : Case). uses x.blocks k) c rest in
+    ap (λ (x : List ℕ). found_with c (take c.len x) ∷ map (found_case shape b) rest) (joined_other shape k a b same c.blocks (omega (arith, none, s)))
+    ∙ ap (λ (l : List FoundCase). found_case shape a c ∷ l) (found_spared shape k a b same rest (omega (arith, none, s)))
+
+-- where a block changes that no case has
+pub durable_spared : (s : Standing) (k : ℕ) (a b : List ℕ) → SameOutside (block_start s.shape k) 4096 a b → case_uses s.cases k ≡ 0 → durable_in b s ≡ durable_in a s
+durable_spared s k a b same none = ap (λ (l : List FoundCase). record { cases = l; next = s.next }) (found_spared s.shape k a b same s.cases none)
+
+abbrev pub found_in : Shape → List ℕ → List Case → ℕ → Durable
+found_in shape bytes cases next = record { cases = map (found_case shape bytes) cases; next = next }
+
+-- where a half of the journal changes
+module _ (j : Journaled) (a b : List ℕ) (same : SameOutside (half_start j.standing.shape j.standing.half) (half_length j.standing.shape) a b) where
+  found_behind : (cases : List Case) → map (found_case j.standing.shape b) cases ≡ map (found_case j.standing.shape a) cases
+  found_behind [] = refl
+  found_behind (c ∷ rest) =
+      ap (λ (x : List ℕ). found_with c (take c.len x) ∷ map (found_case j.standing.shape b) rest) (joined_behind j a b same c.blocks)
+      ∙ ap (λ (l : List FoundCase). found_case j.standing.shape a c ∷ l) (found_behind rest)
+
+  pub durable_behind : (cases : List Case) (next : ℕ) → found_in j.standing.shape b cases next ≡ found_in j.standing.shape a cases next
+  durable_behind cases next = ap (λ (l : List FoundCase). record { cases = l; next = next }) (found_behind cases)
+
+-- what the records do to what is found
+found_left : (shape : Shape) (bytes seqs : List ℕ) (cases : List Case)
+    → map (found_case shape bytes) (dropped seqs cases) ≡ filter (λ (c : FoundCase). not (is_among seqs c.seq)) (map (found_case shape bytes) cases)
+found_left shape bytes seqs [] = refl
+found_left shape bytes seqs (c ∷ rest) =
+    elim (is_among seqs c.seq) as (λ t. map (found_case shape bytes) (cond (not t) (c ∷ dropped seqs rest) (dropped seqs rest))
+    ≡ cond (not t) (found_case shape bytes c ∷ filter (λ (x : FoundCase). not (is_among seqs x.seq)) (map (found_case shape bytes) rest)) (filter (λ (x : FoundCase). not (is_among seqs x.seq)) (map (found_case shape bytes) rest))) [
+      | true ↦ found_left shape bytes seqs rest
+      | false ↦ ap (λ (l : List FoundCase). found_case shape bytes c ∷ l) (found_left shape bytes seqs rest)
+    ]
+
+found_flagged : (shape : Shape) (bytes : List ℕ) (seq : ℕ) (flag : Bool) (cases : List Case)
+    → map (found_case shape bytes) (with_pin seq flag cases) ≡ map (λ (c : FoundCase). cond (c.seq == seq) (record c { pinned = flag }) c) (map (found_case shape bytes) cases)
+found_flagged shape bytes seq flag [] = refl
+found_flagged shape bytes seq flag (c ∷ rest) =
+    elim (c.seq == seq) as (λ t. found_case shape bytes (cond t (record c { pinned = flag }) c) ∷ map (found_case shape bytes) (with_pin seq flag rest)
+    ≡ cond t (record (found_case shape bytes c) { pinned = flag }) (found_case shape bytes c) ∷ map (λ (x : FoundCase). cond (x.seq == seq) (record x { pinned = flag }) x) (map (found_case shape bytes) rest)) [
+      | true ↦ ap (λ (l : List FoundCase). record (found_case shape bytes c) { pinned = flag } ∷ l) (found_flagged shape bytes seq flag rest)
+      | false ↦ ap (λ (l : List FoundCase). found_case shape bytes c ∷ l) (found_flagged shape bytes seq flag rest)
+    ]
+
+pub durable_dropped : (s : Standing) (seqs bytes : List ℕ) → durable_in bytes (appended s (Drop seqs)) ≡ without (durable_in bytes s) seqs
+durable_dropped s seqs bytes = ap (λ (l : List FoundCase). record { cases = l; next = s.next }) (found_left s.shape bytes seqs s.cases)
+
+pub durable_pinned : (s : Standing) (seq : ℕ) (flag : Bool) (bytes : List ℕ) → durable_in bytes (appended s (Pin seq flag)) ≡ flagged (durable_in bytes s) seq flag
+durable_pinned s seq flag bytes = ap (λ (l : List FoundCase). record { cases = l; next = s.next }) (found_flagged s.shape bytes seq flag s.cases)
+
+pub durable_stored : (s : Standing) (c : Case) (bytes : List ℕ)
+    → durable_in bytes (appended s (store_of s c)) ≡ record (durable_in bytes s) { cases = map (found_case s.shape bytes) s.cases ++ found_with (numbered s.next c) (image_in s.shape bytes c.blocks c.len) ∷ []; next = s.next + 1 }
+durable_stored s c bytes = ap (λ (l : List FoundCase). record { cases = l; next = s.next + 1 }) (map-append (found_case s.shape bytes) s.cases (numbered s.next c ∷ []))
+
+-- a state and its bytes say the same
+found_zipped : (shape : Shape) (bytes : List ℕ) (cases : List Case) → map (found_case shape bytes) cases ≡ with_images (map bare_case cases) (map (λ (c : Case). image_in shape bytes c.blocks c.len) cases)
+found_zipped shape bytes [] = refl
+found_zipped shape bytes (c ∷ rest) = ap (λ (l : List FoundCase). found_case shape bytes c ∷ l) (found_zipped shape bytes rest)
+
+pub durable_is : {D : Type 0} (seen : D → List ℕ) (a : Parts D) → durable_of seen a ≡ durable_part (bare_of a) (contents_of seen a)
+durable_is seen a = ap (λ (l : List FoundCase). record { cases = l; next = a.journal.standing.next }) (found_zipped a.journal.standing.shape (seen a.disk) a.journal.standing.cases)

@@ -1,0 +1,8 @@
+use Rattle.intake.proofs.RestLemmas.{stands_now}
+use Rattle.intake.proofs.archive.Archive.is_stopped.Goals as goal
+
+pub returns-clause-stands : goal.returns-clause-stands
+returns-clause-stands g c on honest b may =
+    let real = rw (← c.self.view_is) at honest in
+    let left = rw (← c.self.view_is) at may in
+    rw (← c.self.view_is) (stands_now g.D.Disk c.self.inside.disk c.self.inside.journal (c.self.invariant.runs on).keeps (c.self.invariant.runs on).journal real b left)

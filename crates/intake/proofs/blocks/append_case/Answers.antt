@@ -1,0 +1,40 @@
+use Rattle.std.proofs.Common.{◌≡◌, ◌⊎◌, ap, sym, subst, List, ℕ, refl}
+use Rattle.std.specs.Prelude.{IsTrue}
+use Rattle.case_journal.specs.Keeping.{Keeps}
+use Rattle.disk_model.specs.Moments.{LeavesOnly}
+use Rattle.journal_layout.specs.Case.{case_of}
+use Rattle.journal_layout.specs.Standing.{appended, store_of}
+use Rattle.intake.specs.Durable.{StandsFor, Durable, durable_in}
+use Rattle.intake.specs.Guarding.{Guards, LeavesStored}
+use Rattle.intake.specs.declared.faults.ArchiveFault.{ArchiveFault}
+use Rattle.std.proofs.Common.{Err}
+use Rattle.intake.proofs.LeaveLemmas.{store_moments, guards_appended, refused_moments}
+use Rattle.intake.proofs.RestLemmas.{stands_now}
+use Rattle.intake.proofs.blocks.append_case.Goals as goal
+
+pub returns-in-Ok-clause-guards : goal.returns-in-Ok-clause-guards
+returns-in-Ok-clause-guards g c =
+    let j = c.args.journal.now in
+    let r = store_of j.standing (case_of c.args.entry) in
+    subst (Guards g.D.Disk c.append_store.new.disk) (sym c.in-Ok.ensures.step.4)
+    (guards_appended g.D.Disk c.args.disk.now c.append_store.new.disk j r c.append_store.ensures.honesty (g.met.D.Disk.counts_now c.append_store.new.disk)
+    (subst (Keeps g.D.Disk c.append_store.new.disk) c.in-Ok.ensures.step.4 c.append_store.ensures.keeps)
+    (λ honest b may. ap (λ (x : List ℕ). durable_in x (appended j.standing r)) (c.requires.settled honest b may))
+    c.append_store.ensures.outside c.append_store.ensures.others)
+
+pub returns-in-Ok-clause-any_moment : goal.returns-in-Ok-clause-any_moment
+returns-in-Ok-clause-any_moment g c honest =
+    store_moments g.D.Disk c.args.disk.now c.append_store.new.disk c.args.journal.now (case_of c.args.entry) c.requires.guards c.requires.runs honest (c.requires.settled honest)
+    (c.append_store.ensures.any_moment honest c.requires.runs) (c.append_store.ensures.outside honest)
+
+pub returns-in-Err-clause-any_moment : goal.returns-in-Err-clause-any_moment
+returns-in-Err-clause-any_moment g c honest =
+    let j = c.args.journal.now in
+    let d = c.args.disk.now in
+    let x : Durable = durable_in (g.D.Disk.seen d) j.standing in
+    let y : Durable = durable_in (g.D.Disk.seen d) (appended j.standing (store_of j.standing (case_of c.args.entry))) in
+    subst (λ (f : ArchiveFault). LeavesOnly g.D.Disk d c.append_store.new.disk (LeavesStored {T = ℕ} (Err f) x y)) (sym c.from.ensures)
+    (refused_moments ℕ g.D.Disk d c.append_store.new.disk c.in-Err.fault x y y (λ z. z ≡ y) refl c.in-Err.ensures.untouched
+    (λ b was. stands_now g.D.Disk d j c.requires.guards c.requires.runs honest b (g.met.D.Disk.only_now d b was))
+    (store_moments g.D.Disk d c.append_store.new.disk j (case_of c.args.entry) c.requires.guards c.requires.runs honest (c.requires.settled honest)
+    (c.append_store.ensures.any_moment honest c.requires.runs) (c.append_store.ensures.outside honest)))

@@ -1,0 +1,56 @@
+-- What a crash leaves of an archive's cases.
+use Rattle.std.specs.Prelude.{◌≡◌, ◌⊎◌, ℕ, false, true, Bool, List, Some, Result, Ok, Err, IsTrue}
+use Rattle.disk_model.specs.Moments.{LeavesOnly}
+use Rattle.disk_model.specs.declared.disk.Disk as disk
+use Rattle.extents.specs.FreeSet.{is_free}
+use Rattle.case_journal.specs.Journaled.{Journaled}
+use Rattle.case_journal.specs.Keeping.{Keeps}
+use Rattle.intake.specs.Contents.{Contents, Taken}
+use Rattle.intake.specs.Durable.{Durable, StandsFor, durable_in, with_case, without}
+use Rattle.intake.specs.Step.{Retires}
+use Rattle.retention.specs.declared.Policy.{Policy}
+use Rattle.intake.specs.Live.{case_uses}
+use Rattle.intake.specs.Slots.{stream_at}
+use Rattle.intake.specs.State.{Bare, BareStream}
+use Rattle.intake.specs.declared.faults.ArchiveFault.{ArchiveFault}
+use Rattle.intake.specs.declared.faults.ArchiveFault.TheVariants.{Disk}
+
+
+-- The disk is that of the journal, and what a crash now leaves has the images that reads give.
+pub record Guards {D : Type 0} (g : disk.Ghosts D) (d : D) (j : Journaled) : Type 0 where
+  pub keeps : Keeps g d j
+  pub whole : j.stopped ≡ false → IsTrue (g.is_honest d) → (c : List ℕ) → g.may_leave d c → durable_in c j.standing ≡ durable_in (g.seen d) j.standing
+
+-- Disk calls that change none of the cases: a crash at any moment of them leaves these cases.
+pub record Rests {D : Type 0} (g : disk.Ghosts D) (old new : D) (j : Journaled) : Type 0 where
+  pub guards : Guards g new j
+  pub same : j.stopped ≡ false → IsTrue (g.is_honest old) → durable_in (g.seen new) j.standing ≡ durable_in (g.seen old) j.standing
+  pub moments : j.stopped ≡ false → IsTrue (g.is_honest old) → LeavesOnly g old new (λ c. StandsFor c (durable_in (g.seen old) j.standing))
+
+-- no case has a block that is free
+abbrev pub Spares : List Bool → Journaled → Type 0
+Spares flags j = (k : ℕ) → is_free flags k ≡ true → case_uses j.standing.cases k ≡ 0
+
+-- What a crash at any moment of a call leaves: what stood before; or what stands after it, and where the disk failed what
+-- it would have left; a refusal leaves nothing else.
+abbrev pub LeavesNew : {T : Type 0} → Result T ArchiveFault → Durable → (Durable → Type 0) → List ℕ → Type 0
+LeavesNew (Ok x) new doubt c = StandsFor c new
+LeavesNew (Err Disk) new doubt c = (x : Durable) × doubt x × StandsFor c x
+LeavesNew (Err _) new doubt c = ⊥
+
+abbrev pub Leaves : {T : Type 0} → Durable → Result T ArchiveFault → Durable → (Durable → Type 0) → List ℕ → Type 0
+Leaves old r new doubt c = StandsFor c old ⊎ LeavesNew r new doubt c
+
+-- the same of an append: what it would have left is what it leaves at last
+abbrev pub LeavesStored : {T : Type 0} → Result T ArchiveFault → Durable → Durable → List ℕ → Type 0
+LeavesStored r old new c = Leaves old r new (λ x. x ≡ new) c
+
+-- what a finish leaves that was not answered: the stream in the slot is the last case, with the bytes that it took
+abbrev pub MayBeStored : Bare → Contents → Durable → ℕ → Durable → Type 0
+MayBeStored s c old slot x =
+    (stream : BareStream) × (taken : Taken) × (stream_at s.streams slot ≡ Some stream) × (stream_at c.taken slot ≡ Some taken)
+    × (x ≡ with_case old stream taken.bytes)
+
+-- what a retirement leaves that was not answered: the cases that go by the rule are gone
+abbrev pub MayBeRetired : Bare → Policy → Durable → Durable → Type 0
+MayBeRetired s policy old x = (dropped : List ℕ) × (unmet : Bool) × Retires s policy dropped unmet × (x ≡ without old dropped)
