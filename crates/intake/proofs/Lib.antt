@@ -12,6 +12,7 @@ pub mod StoreLemmas
 pub mod HoldLemmas
 pub mod AfterLemmas
 pub mod PinLemmas
+pub mod ReadLemmas
 pub mod SeqLemmas
 pub mod ListedLemmas
 pub mod DropLemmas
