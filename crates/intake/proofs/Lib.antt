@@ -13,6 +13,7 @@ pub mod HoldLemmas
 pub mod AfterLemmas
 pub mod PinLemmas
 pub mod ReadLemmas
+pub mod ImageLemmas
 pub mod SeqLemmas
 pub mod ListedLemmas
 pub mod DropLemmas

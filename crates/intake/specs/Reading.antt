@@ -1,5 +1,5 @@
--- How an image is read: the blocks that it lies in, and how the reading is answered.
-use Rattle.std.specs.Prelude.{◌≡◌, ℕ, ◌+◌, ◌≤◌, List, length, Result, Ok, Err}
+-- How an image is read: the blocks that it lies in, and what refuses the reading.
+use Rattle.std.specs.Prelude.{◌≡◌, ℕ, ◌+◌, ◌≤◌, List, length}
 use Rattle.std.specs.List.{All}
 use Rattle.extents.specs.declared.run_list.Run.{Run}
 use Rattle.extents.specs.Runs.{runs_of}
@@ -18,8 +18,7 @@ pub record LiesIn (limit : ℕ) (blocks : List ℕ) (len : ℕ) : Type 0 where
   pub enough : length blocks ≡ blocks_for len
 
 -- only memory and the disk refuse a reading
-abbrev pub ReadReply : {T : Type 0} → Result T ArchiveFault → Type 0
-ReadReply (Ok x) = Unit {0}
-ReadReply (Err OutOfMemory) = Unit {0}
-ReadReply (Err Disk) = Unit {0}
-ReadReply (Err _) = ⊥
+abbrev pub IsReadFault : ArchiveFault → Type 0
+IsReadFault OutOfMemory = Unit {0}
+IsReadFault Disk = Unit {0}
+IsReadFault _ = ⊥

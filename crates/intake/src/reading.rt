@@ -1,12 +1,12 @@
 // The bytes of an image, as they are read.
-ghost use Rattle.std.specs.Prelude.{◌≡◌, ◌+◌, ◌*◌, ◌≤◌, length, IsTrue, OnOk, IfOk};
+ghost use Rattle.std.specs.Prelude.{◌≡◌, ◌+◌, ◌*◌, ◌≤◌, length, IsTrue, OnOk, IfOk, IfErr};
 ghost use Rattle.disk_model.specs.Disk.{HasRisen};
 ghost use Rattle.extents.specs.Runs.{run_blocks, blocks_of};
 ghost use Rattle.journal_layout.specs.Layout.{IsWithinLimits, disk_length};
 ghost use Rattle.case_journal.specs.Viewing.{IsQuiet};
 ghost use Rattle.intake.specs.Blocks.{joined, image_in};
 ghost use Rattle.intake.specs.Growth.{DiskReply, IsDiskFault};
-ghost use Rattle.intake.specs.Reading.{LieWithin, LiesIn, ReadReply};
+ghost use Rattle.intake.specs.Reading.{LieWithin, LiesIn, IsReadFault};
 
 use crate::ArchiveFault;
 use disk_model::Disk;
@@ -77,7 +77,7 @@ pub(crate) fn read_image<D: Disk>(
     requires limits { IsWithinLimits shape }
     requires lies { LiesIn shape.data_blocks entry.now.runs entry.now.length }
     requires disk { D.size disk.old ≡ disk_length shape }
-    ensures reply { ReadReply result }
+    ensures reply { IfErr result IsReadFault }
     ensures bytes { IsTrue (D.is_honest disk.old)
         → IfOk result (λ v. v.items ≡ image_in shape (D.seen disk.old) entry.now.runs entry.now.length) }
     ensures quiet { IsQuiet D.Disk disk.old disk.new }
