@@ -1,5 +1,5 @@
 -- How the image of a case is read from the disk.
-use Rattle.std.proofs.Common.{◌≡◌, ℕ, ◌+◌, ◌-◌, ◌<◌, ◌≤◌, ◌==◌, Bool, true, false, cond, List, [], ◌∷◌, length, map, refl, sym, ap, ◌∙◌, subst, arith, IsTrue, Option, None, Some, Err}
+use Rattle.std.proofs.Common.{◌≡◌, ℕ, ◌+◌, ◌-◌, ◌≤◌, ◌==◌, Bool, true, false, cond, List, [], ◌∷◌, length, map, refl, sym, ap, ◌∙◌, subst, arith, IsTrue, Option, Some, Err}
 use Rattle.std.specs.Prelude.{option_map, nat_lt}
 use Rattle.std.specs.List.{All, Contains}
 use Rattle.std.proofs.lemmas.List.Elements.{All-nil, All-cons, All-head, All-tail}
@@ -15,11 +15,12 @@ use Rattle.journal_layout.specs.Live.{AreLive}
 use Rattle.journal_layout.specs.LiveCounts.{live_runs}
 use Rattle.journal_layout.specs.LiveFinds.{numbered_is, live_whole}
 use Rattle.journal_layout.specs.Soundness.{case_numbered}
+use Rattle.journal_layout.specs.Stands.{Stands}
 use Rattle.case_journal.specs.Journaled.{Journaled}
 use Rattle.case_journal.specs.Keeping.{Keeps, SameHeaders}
 use Rattle.case_journal.specs.Viewing.{IsQuiet}
 use Rattle.intake.specs.Blocks.{image_in}
-use Rattle.intake.specs.Contents.{Contents, Taken, UnmovedBytes, without_streams, image_at}
+use Rattle.intake.specs.Contents.{Taken, UnmovedBytes, without_streams, image_at}
 use Rattle.intake.specs.Ending.{EndsStreams}
 use Rattle.intake.specs.Parts.{Parts, StreamParts, bare_of, bare_case, bare_stream, taken_in, contents_of}
 use Rattle.intake.specs.Reading.{LieWithin, LiesIn, IsReadFault}
@@ -41,9 +42,6 @@ runs_within limit (r ∷ rest) some apart =
     All-cons (λ (x : Run). x.start + x.count ≤ limit) r rest here
     (runs_within limit rest (All-tail (λ (x : Run). 1 ≤ x.count) r rest some) (λ k. (let s = uses_append (run_blocks r) (blocks_of rest) k in let h = apart k in omega (arith, s, h))))
   where
-    last : ℕ
-    last = r.start + (r.count - 1)
-
     ends : (k : ℕ) → k + 1 ≡ r.start + r.count → 1 ≤ r.count → r.start + r.count ≤ limit
     ends k is one =
         let u = uses_inside r k (omega arith) (omega arith) in
@@ -73,17 +71,21 @@ image_found seq image (c ∷ rest) =
     [ true ↦ refl | false ↦ image_found seq image rest ]
 
 module _ {D : Type 0} (g : disk.Ghosts D) where
-  -- a journal that a disk is kept by still is after reads
+  -- what every crash image has in common with what reads give, it still has after reads
+  pub left_quiet : (P : List ℕ → List ℕ → Type 0) (old new : D) → IsQuiet g old new → (IsTrue (g.is_honest old) → (c : List ℕ) → g.may_leave old c → P (g.seen old) c)
+      → IsTrue (g.is_honest new) → (c : List ℕ) → g.may_leave new c → P (g.seen new) c
+  left_quiet P old new quiet was honest' c may =
+      let honest : IsTrue (g.is_honest old) = subst IsTrue quiet.honesty honest' in
+      subst (λ (b : List ℕ). P b c) (sym (quiet.seen honest)) (was honest c (quiet.crash honest c may))
+
+  -- a disk that is a journal's still is after reads
   pub keeps_quiet : (old new : D) (j : Journaled) → IsQuiet g old new → Keeps g old j → Keeps g new j
   keeps_quiet old new j quiet keeps = record {
     size = quiet.size ∙ keeps.size;
-    holds = λ runs honest'. (
-        let honest : IsTrue (g.is_honest old) = subst IsTrue quiet.honesty honest' in
-        let holds = keeps.holds runs honest in
-        record {
-          stands = λ c may. holds.stands c (quiet.crash honest c may);
-          headers = λ c may. subst (λ (b : List ℕ). SameHeaders j.standing.shape b c) (sym (quiet.seen honest)) (holds.headers c (quiet.crash honest c may));
-        });
+    holds = λ runs honest. record {
+      stands = left_quiet (λ b c. Stands c j.standing) old new quiet (λ was. (keeps.holds runs was).stands) honest;
+      headers = left_quiet (SameHeaders j.standing.shape) old new quiet (λ was. (keeps.holds runs was).headers) honest;
+    };
   }
 
   -- an archive stays sound over reads

@@ -10,8 +10,8 @@ use Rattle.disk_model.specs.MomentLaws.{started, weakened, then_again}
 use Rattle.disk_model.specs.Places.{part}
 use Rattle.disk_model.specs.PartLaws.{part_is, part_split}
 use Rattle.disk_model.specs.declared.disk.Disk as disk
-use Rattle.extents.specs.FreeLaws.{run_of}
-use Rattle.extents.specs.Runs.{run_blocks, blocks_of}
+use Rattle.extents.specs.RunLaws.{blocks_of_runs}
+use Rattle.extents.specs.Runs.{run_blocks, blocks_of, runs_of}
 use Rattle.extents.specs.declared.run_list.Run.{Run}
 use Rattle.journal_layout.specs.LiveCounts.{blocks_of-append}
 use Rattle.journal_layout.specs.declared.shape.Shape.{Shape}
@@ -28,6 +28,10 @@ run_bytes shape bytes start (suc count) =
     ∙ part_split bytes (block_start shape start) 4096 (4096 * count)
     ∙ ap (λ (p : ℕ). block_bytes shape bytes start ++ part bytes p (4096 * count)) next
     ∙ ap (λ (x : List ℕ). block_bytes shape bytes start ++ x) (run_bytes shape bytes (start + 1) count)
+
+-- the runs of blocks have these blocks again
+pub blocks_back : (runs : List Run) (blocks : List ℕ) → runs ≡ runs_of blocks → blocks_of runs ≡ blocks
+blocks_back runs blocks is = ap blocks_of is ∙ blocks_of_runs blocks
 
 -- the blocks of the first runs
 blocks_more : (runs : List Run) (i : ℕ) (r : Run) → i < length runs → blocks_of (take (i + 1) runs) ≡ blocks_of (take i runs) ++ run_blocks (get_or runs i r)

@@ -3,7 +3,7 @@ use Rattle.std.specs.Prelude.{option_map}
 use Rattle.journal_layout.specs.Case.{case_of}
 use Rattle.journal_layout.specs.declared.shape.Shape.{Shape}
 use Rattle.intake.specs.Blocks.{image_in}
-use Rattle.intake.specs.Contents.{UnmovedBytes, image_at}
+use Rattle.intake.specs.Contents.{UnmovedBytes}
 use Rattle.intake.specs.Parts.{Parts, bare_of, bare_case, contents_of}
 use Rattle.intake.specs.Reading.{LiesIn}
 use Rattle.intake.specs.Sound.{case_blocks}
