@@ -35,8 +35,7 @@ invariant_of-self-in-Err g c =
 
 pub returns-in-Ok-clause-step : goal.returns-in-Ok-clause-step
 returns-in-Ok-clause-step g c =
-    rw (← c.self.view_is)
-    (
+    rw (← c.self.view_is) (
       bare_case (case_of c.in-Some.entry.now),
       has_case g.D.Disk.seen c.self.inside.disk c.read_image.new.disk c.self.inside.journal c.self.inside.settings.limit c.self.inside.slots c.self.inside.slots c.self.inside.stopped c.self.inside.stopped
           c.args.seq (case_of c.in-Some.entry.now) c.if-self.false c.in-Some.ensures,
@@ -48,8 +47,7 @@ returns-in-Ok-clause-bytes g c honest =
     let real = rw (← c.self.view_is) at honest in
     let read : c.in-Ok.image.items ≡ image_in c.self.inside.journal.standing.shape (g.D.Disk.seen c.self.inside.disk) c.in-Some.entry.now.runs c.in-Some.entry.now.length =
     subst (λ (s : Shape). c.in-Ok.image.items ≡ image_in s (g.D.Disk.seen c.self.inside.disk) c.in-Some.entry.now.runs c.in-Some.entry.now.length) c.shape-shape.ensures (c.in-Ok.ensures.bytes real) in
-    rw (← c.self.view_is)
-    (
+    rw (← c.self.view_is) (
       bytes_of_case g.D.Disk.seen c.self.inside.disk c.read_image.new.disk c.self.inside.journal c.self.inside.settings.limit c.self.inside.slots c.self.inside.slots c.self.inside.stopped c.self.inside.stopped
           c.args.seq (case_of c.in-Some.entry.now) c.in-Some.ensures
           ∙ ap (λ (x : List ℕ). Some x) (sym read),
