@@ -435,11 +435,11 @@ impl<D: Disk> Archive<D> {
         if self.stopped {
             return Err(ArchiveFault::Stopped);
         }
-        let Some(entry) = self.journal.entry(seq) else {
+        let Some(stored) = self.journal.entry(seq) else {
             return Err(ArchiveFault::NoCase);
         };
         let shape = self.journal.shape();
-        match read_image(self.alloc, &mut self.disk, shape, entry) {
+        match read_image(self.alloc, &mut self.disk, shape, stored) {
             Ok(image) => Ok(image),
             Err(fault) => {
                 self.stopped = end_streams(fault, &mut self.slots);

@@ -20,8 +20,8 @@ pub read_image-requires-clause-lies : goal.read_image-requires-clause-lies
 read_image-requires-clause-lies g c =
     let running = c.self.invariant.runs c.if-self.false in
     let all : case_blocks c.self.inside.journal.standing.cases ≤ c.self.inside.journal.standing.shape.data_blocks = (let t = running.total in omega (arith, t)) in
-    subst (λ (s : Shape). LiesIn s.data_blocks c.in-Some.entry.now.runs c.in-Some.entry.now.length) (sym c.shape-shape.ensures)
-    (case_lies c.self.inside.journal.standing.shape.data_blocks c.self.inside.journal.standing.cases c.self.inside.journal.standing.next c.args.seq (case_of c.in-Some.entry.now) running.cases all c.in-Some.ensures)
+    subst (λ (s : Shape). LiesIn s.data_blocks c.in-Some.stored.now.runs c.in-Some.stored.now.length) (sym c.shape-shape.ensures)
+    (case_lies c.self.inside.journal.standing.shape.data_blocks c.self.inside.journal.standing.cases c.self.inside.journal.standing.next c.args.seq (case_of c.in-Some.stored.now) running.cases all c.in-Some.ensures)
 
 pub invariant_of-self : goal.invariant_of-self
 invariant_of-self g c =
@@ -36,20 +36,20 @@ invariant_of-self-in-Err g c =
 pub returns-in-Ok-clause-step : goal.returns-in-Ok-clause-step
 returns-in-Ok-clause-step g c =
     rw (← c.self.view_is) (
-      bare_case (case_of c.in-Some.entry.now),
+      bare_case (case_of c.in-Some.stored.now),
       has_case g.D.Disk.seen c.self.inside.disk c.read_image.new.disk c.self.inside.journal c.self.inside.settings.limit c.self.inside.slots c.self.inside.slots c.self.inside.stopped c.self.inside.stopped
-          c.args.seq (case_of c.in-Some.entry.now) c.if-self.false c.in-Some.ensures,
+          c.args.seq (case_of c.in-Some.stored.now) c.if-self.false c.in-Some.ensures,
       refl,
     )
 
 pub returns-in-Ok-clause-bytes : goal.returns-in-Ok-clause-bytes
 returns-in-Ok-clause-bytes g c honest =
     let real = rw (← c.self.view_is) at honest in
-    let read : c.in-Ok.image.items ≡ image_in c.self.inside.journal.standing.shape (g.D.Disk.seen c.self.inside.disk) c.in-Some.entry.now.runs c.in-Some.entry.now.length =
-    subst (λ (s : Shape). c.in-Ok.image.items ≡ image_in s (g.D.Disk.seen c.self.inside.disk) c.in-Some.entry.now.runs c.in-Some.entry.now.length) c.shape-shape.ensures (c.in-Ok.ensures.bytes real) in
+    let read : c.in-Ok.image.items ≡ image_in c.self.inside.journal.standing.shape (g.D.Disk.seen c.self.inside.disk) c.in-Some.stored.now.runs c.in-Some.stored.now.length =
+    subst (λ (s : Shape). c.in-Ok.image.items ≡ image_in s (g.D.Disk.seen c.self.inside.disk) c.in-Some.stored.now.runs c.in-Some.stored.now.length) c.shape-shape.ensures (c.in-Ok.ensures.bytes real) in
     rw (← c.self.view_is) (
       bytes_of_case g.D.Disk.seen c.self.inside.disk c.read_image.new.disk c.self.inside.journal c.self.inside.settings.limit c.self.inside.slots c.self.inside.slots c.self.inside.stopped c.self.inside.stopped
-          c.args.seq (case_of c.in-Some.entry.now) c.in-Some.ensures
+          c.args.seq (case_of c.in-Some.stored.now) c.in-Some.ensures
           ∙ ap (λ (x : List ℕ). Some x) (sym read),
       bytes_same g.D.Disk.seen c.self.inside.disk c.read_image.new.disk c.self.inside.journal c.self.inside.settings.limit c.self.inside.slots c.self.inside.slots c.self.inside.stopped c.self.inside.stopped
           (c.read_image.ensures.quiet.seen real) refl,
@@ -61,7 +61,7 @@ returns-in-Err-clause-step g c =
     (bare_of (record { disk = c.read_image.new.disk; journal = c.self.inside.journal; limit = c.self.inside.settings.limit; streams = c.end_streams-self-inside.new.slots; stopped = c.end_streams-self-inside.result })))
     c.self.view_is
     (image_refused g.D.Disk.seen c.self.inside.disk c.read_image.new.disk c.self.inside.journal c.self.inside.settings.limit c.self.inside.slots c.end_streams-self-inside.new.slots c.self.inside.stopped c.end_streams-self-inside.result
-    (Vec ℕ Global) c.args.seq (case_of c.in-Some.entry.now) c.in-Err.fault c.if-self.false c.in-Some.ensures c.in-Err.ensures.reply c.end_streams-self-inside.ensures)
+    (Vec ℕ Global) c.args.seq (case_of c.in-Some.stored.now) c.in-Err.fault c.if-self.false c.in-Some.ensures c.in-Err.ensures.reply c.end_streams-self-inside.ensures)
 
 pub returns-in-Err-clause-bytes : goal.returns-in-Err-clause-bytes
 returns-in-Err-clause-bytes g c honest =
