@@ -12,6 +12,8 @@ pub mod StoreLemmas
 pub mod HoldLemmas
 pub mod AfterLemmas
 pub mod PinLemmas
+pub mod ReadLemmas
+pub mod ImageLemmas
 pub mod SeqLemmas
 pub mod ListedLemmas
 pub mod DropLemmas

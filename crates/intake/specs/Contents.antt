@@ -1,5 +1,6 @@
 -- The bytes that an archive holds: an image for each case, and for each stream what it has taken and what is lent next.
 use Rattle.std.specs.Prelude.{◌≡◌, ℕ, List, [], ◌∷◌, ◌++◌, Option, None, Some, Result, Ok, Err, take, drop, replicate, slice_set, if◌then◌else◌}
+use Rattle.std.specs.Prelude.{Vec, ◌==◌}
 use Rattle.journal_layout.specs.Folding.{is_among}
 use Rattle.retention.specs.declared.Decision.{Decision}
 use Rattle.intake.specs.State.{Bare, BareCase}
@@ -99,3 +100,14 @@ DeleteBytes s old seq r new = DropBytes s old (seq ∷ []) r new
 abbrev pub RetireBytes : Bare → Contents → Result Decision ArchiveFault → Contents → Type 0
 RetireBytes s old (Ok d) new = DropBytes s old d.dropped.items (Ok tt) new
 RetireBytes s old (Err f) new = UnmovedBytes old f new
+
+-- the image of the case of this number, of these cases and their images
+abbrev pub image_at : ℕ → List BareCase → List (List ℕ) → Option (List ℕ)
+image_at seq [] images = None
+image_at seq (c ∷ cases) [] = None
+image_at seq (c ∷ cases) (image ∷ images) = if c.seq == seq then Some image else image_at seq cases images
+
+-- the bytes that are answered are those of the case, and no bytes change
+abbrev pub ImageBytes : {Z : Type 0} → Bare → Contents → ℕ → Result (Vec ℕ Z) ArchiveFault → Contents → Type 0
+ImageBytes s old seq (Ok image) new = (image_at seq s.cases old.images ≡ Some image.items) × (new ≡ old)
+ImageBytes s old seq (Err f) new = UnmovedBytes old f new

@@ -11,6 +11,7 @@ pub mod Lending
 pub mod Live
 pub mod Opened
 pub mod Parts
+pub mod Reading
 pub mod Retiring
 pub mod Room
 pub mod Slots

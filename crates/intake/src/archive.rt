@@ -22,6 +22,7 @@ use crate::blocks::{append_case, grow, release, seal, stops};
 use crate::buffer::Buffer;
 use crate::dropping::{hold_listed, release_listed};
 use crate::opening::open_parts;
+use crate::reading::read_image;
 use crate::retiring::decide_for;
 use crate::slots::Slots;
 use crate::stream::Stream;
@@ -78,6 +79,9 @@ impl<D: Disk> Archive<D> {
     ghost use Rattle.intake.specs.State.{Bare, BareStream};
     ghost use Rattle.intake.specs.Step.{AdvanceStep, FinishStep, BeginStep, RoomReply, AbandonStep, FreeReply, PinStep, DropStep, DeleteStep, RetireStep};
     ghost use Rattle.intake.specs.Contents.{AdvanceBytes, FinishBytes, BeginBytes, AbandonBytes, PinBytes, DropBytes, DeleteBytes, RetireBytes};
+    ghost use Rattle.intake.specs.Step.{ImageStep};
+    ghost use Rattle.intake.specs.Contents.{ImageBytes};
+    ghost use Rattle.case_journal.specs.Viewing.{IsQuiet};
     ghost use Rattle.intake.specs.Opened.{CasesReply, IsOpened, disk_in, journal_in};
     ghost use Rattle.intake.specs.Room.{LendsRoom, room_of, FitsFree};
     ghost use Rattle.intake.specs.Slots.{stream_at};
@@ -448,6 +452,40 @@ impl<D: Disk> Archive<D> {
             → StandsFor c (durable_of D.seen self.now) }
     {
         self.stopped
+    }
+
+    /// The bytes of a case's image. Their memory is taken before the first read of the disk, and each run of blocks is read
+    /// at once. Answers, in this order: `Stopped`; `NoCase`; `OutOfMemory`; `Disk`. All but the last change nothing.
+    pub fn image(&mut self, seq: u32) -> Result<Vec<u8>, ArchiveFault>
+        ensures step { ImageStep (bare_of self.old) seq result (bare_of self.new) }
+        ensures bytes { IsTrue (D.is_honest self.old.disk)
+            → ImageBytes (bare_of self.old) (contents_of D.seen self.old) seq result
+            (contents_of D.seen self.new) }
+        // Reads give what they gave, and a crash meanwhile leaves what one before could have left.
+        ensures quiet { IsQuiet D.Disk self.old.disk self.new.disk }
+        ensures durable { IsTrue (D.is_honest self.old.disk)
+            → durable_of D.seen self.new ≡ durable_of D.seen self.old }
+        ensures any_moment { IsTrue (D.is_honest self.old.disk)
+            → AddsOnly D.Disk self.old.disk self.new.disk (λ c. StandsFor c (durable_of D.seen self.old)) }
+        ensures cause { IsDiskFault result
+            → HasRisen (D.failures self.old.disk) (D.failures self.new.disk) }
+        ensures later { D.failures self.old.disk ≤ D.failures self.new.disk }
+        ensures honesty { D.is_honest self.new.disk ≡ D.is_honest self.old.disk }
+    {
+        if self.stopped {
+            return Err(ArchiveFault::Stopped);
+        }
+        let Some(stored) = self.journal.entry(seq) else {
+            return Err(ArchiveFault::NoCase);
+        };
+        let shape = self.journal.shape();
+        match read_image(self.alloc, &mut self.disk, shape, stored) {
+            Ok(image) => Ok(image),
+            Err(fault) => {
+                self.stopped = end_streams(fault, &mut self.slots);
+                Err(fault)
+            }
+        }
     }
 
     /// Lets the disk go.

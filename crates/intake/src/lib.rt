@@ -7,6 +7,7 @@ mod buffer;
 mod dropping;
 mod faults;
 mod opening;
+mod reading;
 mod retiring;
 mod slots;
 mod stream;
