@@ -101,7 +101,7 @@ module _ {D : Type 0} (g : disk.Ghosts D) (d d1 d2 : D) (j : Journaled) (runs : 
       joined_moments (LeavesStored {T = ℕ} (Err f) (durable_in (g.seen d1) j.standing) y) (Leaves {T = ℕ} old (Err f) new doubt)
       (λ c stands. inl stands)
       (λ c h. ⊎_elim (λ a. inl (subst (StandsFor c) (rests.same runs honest) a))
-          (λ b. inr (told_of ℕ ℕ f y new (λ z. z ≡ y) doubt c (λ z is. subst doubt (sym is) may) b)) h)
+      (λ b. inr (told_of ℕ ℕ f y new (λ z. z ≡ y) doubt c (λ z is. subst doubt (sym is) may) b)) h)
       moments
 
 -- what a stream that is stored leaves
@@ -119,12 +119,12 @@ pub stored_doubt : {D : Type 0} (g : disk.Ghosts D) (d : D) (j : Journaled) (mos
     → y ≡ with_case (durable_in (g.seen d) j.standing) (bare_stream s) (taken_in j (g.seen d) s).bytes
     → MayBeStored (bare_of (record { disk = d; journal = j; limit = most; streams = streams; stopped = b })) (contents_of g.seen (record { disk = d; journal = j; limit = most; streams = streams; stopped = b })) (durable_in (g.seen d) j.standing) slot y
 stored_doubt g d j most streams b slot s y is stored = (
-    bare_stream s,
-    taken_in j (g.seen d) s,
-    at_map bare_stream streams slot ∙ ap (option_map bare_stream) is,
-    at_map (taken_in j (g.seen d)) streams slot ∙ ap (option_map (taken_in j (g.seen d))) is,
-    stored,
-  )
+  bare_stream s,
+  taken_in j (g.seen d) s,
+  at_map bare_stream streams slot ∙ ap (option_map bare_stream) is,
+  at_map (taken_in j (g.seen d)) streams slot ∙ ap (option_map (taken_in j (g.seen d))) is,
+  stored,
+)
   where
     at_map : {Y : Type 0} (f : StreamParts → Y) (xs : List (Option StreamParts)) (i : ℕ) → stream_at (map (option_map f) xs) i ≡ option_map f (stream_at xs i)
     at_map f [] i = refl

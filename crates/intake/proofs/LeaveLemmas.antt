@@ -45,9 +45,9 @@ module _ {D : Type 0} (g : disk.Ghosts D) (d d' : D) (j : Journaled) (r : Record
       (λ c. (Stands c j.standing ⊎ Stands c (appended j.standing r)) × ChangedIn (half_start j.standing.shape j.standing.half) (half_length j.standing.shape) (g.may_leave d) c)
       (λ c. StandsFor c (durable_in (g.seen d) j.standing) ⊎ StandsFor c (durable_in (g.seen d) (appended j.standing r)))
       (λ c h. ⊎_elim
-          (λ stands. inl (record { standing = j.standing; stands = stands; is = old_behind h.1.0 c h.1.2 ∙ whole h.1.0 h.1.1 }))
-          (λ stands. inr (record { standing = appended j.standing r; stands = stands; is = new_behind h.1.0 c h.1.2 ∙ whole_after h.1.0 h.1.1 }))
-          h.0)
+      (λ stands. inl (record { standing = j.standing; stands = stands; is = old_behind h.1.0 c h.1.2 ∙ whole h.1.0 h.1.1 }))
+      (λ stands. inr (record { standing = appended j.standing r; stands = stands; is = new_behind h.1.0 c h.1.2 ∙ whole_after h.1.0 h.1.1 }))
+      h.0)
       (both g d d' (λ c. Stands c j.standing ⊎ Stands c (appended j.standing r)) (ChangedIn (half_start j.standing.shape j.standing.half) (half_length j.standing.shape) (g.may_leave d)) either outside)
 
   -- once it is done

@@ -22,3 +22,4 @@ pub mod DurableLemmas
 pub mod RestLemmas
 pub mod LeaveLemmas
 pub mod CrashLemmas
+pub mod LastingLemmas

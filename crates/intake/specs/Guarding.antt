@@ -15,7 +15,6 @@ use Rattle.intake.specs.State.{Bare, BareStream}
 use Rattle.intake.specs.declared.faults.ArchiveFault.{ArchiveFault}
 use Rattle.intake.specs.declared.faults.ArchiveFault.TheVariants.{Disk}
 
-
 -- The disk is that of the journal, and what a crash now leaves has the images that reads give.
 pub record Guards {D : Type 0} (g : disk.Ghosts D) (d : D) (j : Journaled) : Type 0 where
   pub keeps : Keeps g d j

@@ -7,6 +7,7 @@ pub mod Ending
 pub mod Faults
 pub mod Growth
 pub mod Guarding
+pub mod Lasting
 pub mod Lending
 pub mod Live
 pub mod Opened

@@ -6,6 +6,7 @@ mod blocks;
 mod buffer;
 mod dropping;
 mod faults;
+mod laws;
 mod opening;
 mod reading;
 mod retiring;
@@ -14,3 +15,4 @@ mod stream;
 
 pub use archive::{Archive, Settings};
 pub use faults::ArchiveFault;
+pub use laws::{a_state_tells_what_lasts, the_next_number_is_above, what_stands_is_one};

@@ -64,5 +64,5 @@ returns-in-Err-clause-any_moment g c honest =
     (Leaves {T = Unit {0}} x (Err c.in-Err.fault) y (λ z. z ≡ without x c.as_slice.result.now))
     (Leaves {T = Decision} x (Err c.in-Err.fault) y (MayBeRetired (bare_of c.args.self.now) c.args.policy.now x))
     (λ b h. leaves_of (Unit {0}) Decision c.in-Err.fault x y y (λ z. z ≡ without x c.as_slice.result.now) (MayBeRetired (bare_of c.args.self.now) c.args.policy.now x) b
-        (λ z is. (c.in-Ok.decision.dropped.items, c.in-Ok.decision.unmet, retires, is ∙ ap (without x) c.as_slice.ensures.value)) h)
+    (λ z is. (c.in-Ok.decision.dropped.items, c.in-Ok.decision.unmet, retires, is ∙ ap (without x) c.as_slice.ensures.value)) h)
     (c.in-Err.ensures.any_moment honest)

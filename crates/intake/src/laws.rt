@@ -1,0 +1,25 @@
+// What the definitions that the contracts cite say together. These functions do nothing.
+ghost use Rattle.std.specs.Prelude.{◌≡◌};
+ghost use Rattle.intake.specs.Durable.{durable_of, durable_part};
+ghost use Rattle.intake.specs.Lasting.{WhatStandsIsOne, NumbersAreAbove};
+ghost use Rattle.intake.specs.Parts.{Parts, bare_of, contents_of};
+
+use disk_model::Disk;
+use journal_layout::live_cases_are_sound;
+
+/// Bytes stand for one archive at most: what an opening finds is told by them alone.
+pub fn what_stands_is_one()
+    ensures { WhatStandsIsOne }
+{}
+
+/// The next number of what bytes stand for is above the number of each case, and the numbers rise.
+pub fn the_next_number_is_above()
+    ensures { NumbersAreAbove }
+{
+    live_cases_are_sound();
+}
+
+/// What outlives a stop is told by the state and its bytes: the cases, each with its image, and the next number.
+pub fn a_state_tells_what_lasts<D: Disk>()
+    ensures { (a : Parts D) → durable_of D.seen a ≡ durable_part (bare_of a) (contents_of D.seen a) }
+{}
