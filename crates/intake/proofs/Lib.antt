@@ -23,3 +23,4 @@ pub mod RestLemmas
 pub mod LeaveLemmas
 pub mod CrashLemmas
 pub mod LastingLemmas
+pub mod MarkLemmas

@@ -10,6 +10,7 @@ pub mod Guarding
 pub mod Lasting
 pub mod Lending
 pub mod Live
+pub mod Marks
 pub mod Opened
 pub mod Parts
 pub mod Reading

@@ -2,6 +2,7 @@
 ghost use Rattle.std.specs.Prelude.{◌≡◌};
 ghost use Rattle.intake.specs.Durable.{durable_of, durable_part};
 ghost use Rattle.intake.specs.Lasting.{WhatStandsIsOne, NumbersAreAbove};
+ghost use Rattle.intake.specs.Marks.{FoundAfterAStop, ChangesPass};
 ghost use Rattle.intake.specs.Parts.{Parts, bare_of, contents_of};
 
 use disk_model::Disk;
@@ -22,4 +23,16 @@ pub fn the_next_number_is_above()
 /// What outlives a stop is told by the state and its bytes: the cases, each with its image, and the next number.
 pub fn a_state_tells_what_lasts<D: Disk>()
     ensures { (a : Parts D) → durable_of D.seen a ≡ durable_part (bare_of a) (contents_of D.seen a) }
+{}
+
+/// Crash safety over a run of calls, told by marks, one behind each call that was answered: whatever crash there was since a
+/// mark, between two disk writes or within one, an opening finds what that mark has, or a later one.
+pub fn found_after_a_stop<D: Disk>()
+    ensures { FoundAfterAStop D.Disk }
+{}
+
+/// What a call promises of a crash leads from its mark to the next, and what a call that answered Disk would have left is in
+/// doubt from then on.
+pub fn calls_lead_from_mark_to_mark<D: Disk>()
+    ensures { ChangesPass D.Disk }
 {}
