@@ -28,7 +28,7 @@ fn format_command<'a>(alloc: Global) -> Result<Command<'a>, Error> {
     let command = Command::new(alloc, "format")
         .about("makes an archive in a new file, with no case in it")
         .arg(archive)?;
-    Ok(with_shape(alloc, command)?)
+    with_shape(alloc, command)
 }
 
 // `run` and its words.
@@ -39,7 +39,7 @@ fn run_command<'a>(alloc: Global) -> Result<Command<'a>, Error> {
             "runs the script on standard input over an archive, and writes its replies to standard output",
         )
         .arg(archive)?;
-    Ok(with_session(alloc, command)?)
+    with_session(alloc, command)
 }
 
 // `memory` and its words.
@@ -48,7 +48,7 @@ fn memory_command<'a>(alloc: Global) -> Result<Command<'a>, Error> {
         "runs the script on standard input over a fresh archive in memory, which is gone at its end",
     );
     let command = with_shape(alloc, command)?;
-    Ok(with_session(alloc, command)?)
+    with_session(alloc, command)
 }
 
 // `store` and its words.
@@ -78,7 +78,7 @@ fn store_command<'a>(alloc: Global) -> Result<Command<'a>, Error> {
         .arg(file)?
         .arg(pairs)?
         .arg(exec)?;
-    Ok(with_session(alloc, command)?)
+    with_session(alloc, command)
 }
 
 // A word that names a file.
