@@ -1,7 +1,8 @@
 //! The program: its words, its standard streams and its status.
 #![tactic(auto)]
 
-use inspector_cli::{ReadInput, WriteOutput, run_words};
+use program_words::run_words;
+use script_streams::{ReadInput, WriteOutput};
 use std::process::ExitCode;
 use std::{env, io};
 

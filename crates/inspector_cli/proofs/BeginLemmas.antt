@@ -1,6 +1,6 @@
 -- How `begin` is answered, by what is wrong with the name.
 use Rattle.std.proofs.Common.{◌≡◌, ℕ, List, Option, Some, None, Result, refl, sym, subst}
-use Rattle.store_journal.specs.declared.entry.Kind.TheVariants.{Exec}
+use Rattle.journal_layout.specs.declared.entry.Kind.TheVariants.{Exec}
 use Rattle.intake.specs.declared.faults.ArchiveFault.{ArchiveFault}
 use Rattle.intake.specs.State.{Bare, BareStream}
 use Rattle.intake.specs.Step.{BeginStep}

@@ -2,8 +2,8 @@
 use Rattle.std.proofs.Common.{◌≡◌, ℕ, ◌+◌, ◌<◌, List, [], ◌∷◌, ◌++◌, length, take, map, get_or, refl, sym, ap, ◌∙◌, append_assoc}
 use Rattle.std.proofs.lemmas.List.{append-nil, take_more}
 use Rattle.std.specs.List.{flat_map}
-use Rattle.store_journal.specs.declared.entry.Entry.{Entry}
-use Rattle.store_journal.specs.Case.{case_of}
+use Rattle.journal_layout.specs.declared.entry.Entry.{Entry}
+use Rattle.journal_layout.specs.Case.{case_of}
 use Rattle.intake.specs.Parts.{bare_case}
 use Rattle.inspector_cli.specs.Reply.{case_line}
 

@@ -8,11 +8,12 @@ ghost use Rattle.inspector_cli.specs.Reply.{name_fault};
 ghost use Rattle.inspector_cli.specs.Answering.{AnswersTo};
 
 use crate::command::Request;
+use crate::session::Naming;
 use crate::telling::{tell_begun, tell_cases, tell_no, tell_outcome, tell_stored};
 use disk_model::Disk;
 use intake::Archive;
+use journal_layout::{Kind, Name};
 use script_streams::{Output, Reply};
-use store_journal::{Kind, Name};
 
 // Answers a line.
 pub(crate) fn answer_plain<O: Output, D: Disk>(
@@ -20,6 +21,7 @@ pub(crate) fn answer_plain<O: Output, D: Disk>(
     reply: &mut Reply,
     output: &mut O,
     archive: &mut Archive<D>,
+    _naming: &Naming,
 )
     ensures { AnswersTo (record {
       taken = O.taken output.old;
@@ -34,27 +36,25 @@ pub(crate) fn answer_plain<O: Output, D: Disk>(
         Request::Silence => {}
         Request::BadLine => tell_no(reply, output, b"BadLine"),
         Request::LineTooLong => tell_no(reply, output, b"LineTooLong"),
-        Request::Begin { slot, name } => answer_begin(
-            slot,
-            name.as_slice(),
-            reply,
-            output,
-            archive,
-        ),
-        Request::End { slot } => answer_end(slot, reply, output, archive),
+        Request::Begin { slot, name } => {
+            let _ = answer_begin(slot, name.as_slice(), reply, output, archive);
+        }
+        Request::End { slot } => {
+            let _ = answer_end(slot, reply, output, archive);
+        }
         Request::Drop { slot } => answer_drop(slot, reply, output, archive),
         Request::ListCases => answer_list(reply, output, archive),
     }
 }
 
-// Answers `begin exec`.
-fn answer_begin<O: Output, D: Disk>(
+// Answers `begin exec`. Says whether the stream has begun.
+pub(crate) fn answer_begin<O: Output, D: Disk>(
     slot: u8,
     text: &[u8],
     reply: &mut Reply,
     output: &mut O,
     archive: &mut Archive<D>,
-)
+) -> bool
     ensures { AnswersTo (record {
       taken = O.taken output.old;
       taken' = O.taken output.new;
@@ -68,9 +68,14 @@ fn answer_begin<O: Output, D: Disk>(
     match checked_name(text) {
         Ok(name) => {
             let outcome = archive.begin(slot, Kind::Exec, name, 0, 0, 0);
+            let begun = outcome.is_ok();
             tell_begun(reply, output, text, outcome);
+            begun
         }
-        Err(reason) => tell_no(reply, output, reason),
+        Err(reason) => {
+            tell_no(reply, output, reason);
+            false
+        }
     }
 }
 
@@ -104,13 +109,13 @@ fn copied(text: &[u8]) -> Name
     name
 }
 
-// Answers `end`.
-fn answer_end<O: Output, D: Disk>(
+// Answers `end`. Says whether the case is stored.
+pub(crate) fn answer_end<O: Output, D: Disk>(
     slot: u8,
     reply: &mut Reply,
     output: &mut O,
     archive: &mut Archive<D>,
-)
+) -> bool
     ensures { AnswersTo (record {
       taken = O.taken output.old;
       taken' = O.taken output.new;
@@ -121,7 +126,9 @@ fn answer_end<O: Output, D: Disk>(
     }) (bare_of archive.old) (end_of slot) (bare_of archive.new) }
 {
     let outcome = archive.finish(slot);
+    let stored = outcome.is_ok();
     tell_stored(reply, output, outcome);
+    stored
 }
 
 // Answers `drop`.

@@ -8,7 +8,9 @@ ghost use Rattle.script_streams.specs.Lines.{KeepsLine};
 
 use arrayvec::ArrayVec;
 use script_streams::KeptLine;
-use script_words::{Words, decode_text, is_plain, parse_part_length, parse_slot};
+use script_words::{
+    Words, decode_text, is_blank_or_comment, is_plain, parse_part_length, parse_slot,
+};
 
 /// What a line asks for, or why it asks for nothing.
 #[derive(Drop)]
@@ -50,6 +52,19 @@ pub(crate) fn parse_line(line: &KeptLine) -> Command
         return Command::Plain(Request::LineTooLong);
     }
     parse_short_line(line.text())
+}
+
+// What a line says that is at hand whole.
+pub(crate) fn parse_text(line: &[u8]) -> Command
+    ensures { said_by result ≡ said line.now }
+{
+    if is_blank_or_comment(line) {
+        return Command::Plain(Request::Silence);
+    }
+    if line.len() > 1024 {
+        return Command::Plain(Request::LineTooLong);
+    }
+    parse_short_line(line)
 }
 
 // What a line says that has a reply and is not too long.

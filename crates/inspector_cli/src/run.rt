@@ -5,7 +5,7 @@ ghost use Rattle.inspector_cli.specs.Answering.{session_fault};
 ghost use Rattle.std.specs.Prelude.{◌≡◌};
 
 use crate::script::answer_script;
-use crate::session::SessionFault;
+use crate::session::{Naming, SessionFault};
 use disk_model::Disk;
 use intake::Archive;
 use script_streams::{Input, Output, ReadStop, Reply, ScriptBuffer};
@@ -21,6 +21,7 @@ pub fn run_session<I: Input, O: Output, D: Disk>(
     input: &mut I,
     output: &mut O,
     archive: &mut Archive<D>,
+    naming: &Naming,
 ) -> Result<(), SessionFault>
     ensures { SessionEnds (I.remaining input.old) (I.remaining input.new) (I.failures input.old)
         (I.failures input.new) (O.taken output.old) (O.taken output.new) (O.failures output.old)
@@ -28,7 +29,7 @@ pub fn run_session<I: Input, O: Output, D: Disk>(
 {
     let mut buffer = ScriptBuffer::new();
     let mut reply = Reply::new();
-    let answered = answer_script(&mut buffer, input, &mut reply, output, archive);
+    let answered = answer_script(&mut buffer, input, &mut reply, output, archive, naming);
     close_streams(archive);
     let Ok(()) = reply.finish(output) else {
         return Err(SessionFault::WriteFailed);

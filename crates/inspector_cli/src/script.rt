@@ -9,6 +9,7 @@ ghost use Rattle.inspector_cli.specs.Answering.{CommandEnds, ScriptEnds, PartAns
 use crate::answers::answer_plain;
 use crate::command::{Command, parse_line};
 use crate::parts::answer_part;
+use crate::session::Naming;
 use crate::telling::{tell_no, tell_outcome};
 use disk_model::Disk;
 use intake::Archive;
@@ -21,6 +22,7 @@ pub(crate) fn answer_script<I: Input, O: Output, D: Disk>(
     reply: &mut Reply,
     output: &mut O,
     archive: &mut Archive<D>,
+    naming: &Naming,
 ) -> Result<(), ReadStop>
     ensures answers { ScriptEnds
         (record {
@@ -45,7 +47,7 @@ pub(crate) fn answer_script<I: Input, O: Output, D: Disk>(
     let mut line = KeptLine::new();
     let mut goes_on = true;
     while goes_on {
-        goes_on = answer_command(&mut line, buffer, input, reply, output, archive)?;
+        goes_on = answer_command(&mut line, buffer, input, reply, output, archive, naming)?;
     }
     Ok(())
 }
@@ -58,6 +60,7 @@ fn answer_command<I: Input, O: Output, D: Disk>(
     reply: &mut Reply,
     output: &mut O,
     archive: &mut Archive<D>,
+    naming: &Naming,
 ) -> Result<bool, ReadStop>
     ensures answers { CommandEnds
         (record {
@@ -80,9 +83,9 @@ fn answer_command<I: Input, O: Output, D: Disk>(
     ensures stops { Stops (I.failures input.old) (I.failures input.new) buffer.new result }
 {
     match buffer.next_line(input, line)? {
-        LineEnding::Newline => answer_line(line, buffer, input, reply, output, archive),
+        LineEnding::Newline => answer_line(line, buffer, input, reply, output, archive, naming),
         LineEnding::EndOfInput => {
-            answer_last(line, reply, output, archive);
+            answer_last(line, reply, output, archive, naming);
             Ok(false)
         }
         LineEnding::NothingLeft => Ok(false),
@@ -97,6 +100,7 @@ fn answer_line<I: Input, O: Output, D: Disk>(
     reply: &mut Reply,
     output: &mut O,
     archive: &mut Archive<D>,
+    naming: &Naming,
 ) -> Result<bool, ReadStop>
     requires { (text : List ℕ) × KeepsLine text line.now }
     ensures answers { (text : List ℕ) → KeepsLine text line.now
@@ -123,7 +127,7 @@ fn answer_line<I: Input, O: Output, D: Disk>(
             answer_part(slot, count, buffer, input, reply, output, archive)
         }
         Command::Plain(request) => {
-            answer_plain(request, reply, output, archive);
+            answer_plain(request, reply, output, archive, naming);
             Ok(true)
         }
     }
@@ -135,6 +139,7 @@ fn answer_last<O: Output, D: Disk>(
     reply: &mut Reply,
     output: &mut O,
     archive: &mut Archive<D>,
+    naming: &Naming,
 )
     requires { (text : List ℕ) × KeepsLine text line.now }
     ensures { (text : List ℕ) → KeepsLine text line.now
@@ -151,7 +156,7 @@ fn answer_last<O: Output, D: Disk>(
 {
     match parse_line(line) {
         Command::Part { slot, count } => answer_cut(slot, count, reply, output, archive),
-        Command::Plain(request) => answer_plain(request, reply, output, archive),
+        Command::Plain(request) => answer_plain(request, reply, output, archive, naming),
     }
 }
 

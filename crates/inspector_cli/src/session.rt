@@ -1,5 +1,15 @@
 //! A session: the commands of a script and the replies to them.
+use name_template::Template;
 use thiserror::Error;
+
+/// How the core files that are stored are named (core(5), "Naming of core dump files").
+#[derive(Drop)]
+pub struct Naming {
+    /// The template of their names.
+    pub template: Template,
+    /// Whether `.` and the process are added to a name whose template does not show the process.
+    pub uses_pid: bool,
+}
 
 /// Why a session ended before its script.
 #[derive(Clone, Copy, PartialEq, Eq, Debug, Error)]

@@ -1,14 +1,14 @@
 // The texts of replies.
 ghost use Rattle.std.specs.Prelude.{◌≡◌, ◌++◌, map};
 ghost use Rattle.std.specs.List.{flat_map};
-ghost use Rattle.store_journal.specs.Case.{case_of};
+ghost use Rattle.journal_layout.specs.Case.{case_of};
 ghost use Rattle.intake.specs.Parts.{bare_case};
 ghost use Rattle.inspector_cli.specs.Reply.{ok_reply, no_reply, reason_of, plain_reply, begin_reply, end_reply, number_word, case_line, kind_name, pin_name};
 ghost use Rattle.inspector_cli.specs.Answering.{TellsText};
 
 use intake::ArchiveFault;
+use journal_layout::{Entry, Kind};
 use script_streams::{Output, Reply};
-use store_journal::{Entry, Kind};
 
 // The name that a refusal is told by.
 pub(crate) fn reason(fault: ArchiveFault) -> &'static [u8]

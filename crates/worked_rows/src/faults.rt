@@ -1,6 +1,8 @@
 // Streams that fail midway.
-use crate::sessions::{fresh, session};
-use inspector_cli::{Input, Output, SessionFault, StreamFault, WriteOutput, run_session};
+use crate::archives::{fresh, named, told};
+use inspector_cli::{
+    Input, Output, ReadInput, SessionFault, StreamFault, WriteOutput, run_session,
+};
 use std::test::Fail;
 
 // An input that fails behind these bytes.
@@ -65,12 +67,17 @@ fn an_input_that_fails_within_a_part(rt: HostRuntime) -> Result<(), Fail> {
     };
     let mut text = Vec::new(rt.alloc());
     let mut output = WriteOutput::new(&mut text);
-    let ended = run_session(&mut input, &mut output, &mut archive);
+    let ended = run_session(
+        &mut input,
+        &mut output,
+        &mut archive,
+        &named(b"core.%p", false)?,
+    );
     assert_eq!(rt; ended, Err(SessionFault::ReadFailed));
     assert_eq!(rt; input.failures, 1);
     assert_eq!(rt; text.as_slice(), b"name a\nok\nok\n".as_slice());
-    let (_, text) = session(rt.alloc(), &mut archive, b"drop 0\nlist\n");
-    assert_eq!(rt; text.as_slice(), b"no NoStream\nok\n".as_slice());
+    let text = told(rt.alloc(), &mut archive, b"drop 0\nlist\n")?;
+    assert_eq!(rt; text.as_str(), "no NoStream\nok\n");
     Ok(())
 }
 
@@ -82,12 +89,17 @@ fn an_output_that_fails_within_a_reply(rt: HostRuntime) -> Result<(), Fail> {
         last: 0,
         failures: 0,
     };
-    let mut input = inspector_cli::ReadInput::new(b"begin exec 0 a\n".as_slice());
-    let ended = run_session(&mut input, &mut output, &mut archive);
+    let mut input = ReadInput::new(b"begin exec 0 a\n".as_slice());
+    let ended = run_session(
+        &mut input,
+        &mut output,
+        &mut archive,
+        &named(b"core.%p", false)?,
+    );
     assert_eq!(rt; ended, Err(SessionFault::WriteFailed));
     assert_eq!(rt; output.failures, 1);
     assert_eq!(rt; output.last, b'e');
-    let (_, text) = session(rt.alloc(), &mut archive, b"drop 0\n");
-    assert_eq!(rt; text.as_slice(), b"no NoStream\n".as_slice());
+    let text = told(rt.alloc(), &mut archive, b"drop 0\n")?;
+    assert_eq!(rt; text.as_str(), "no NoStream\n");
     Ok(())
 }

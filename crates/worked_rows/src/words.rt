@@ -1,9 +1,11 @@
 // The words of the program, its texts and its statuses.
-use inspector_cli::{ReadInput, WriteOutput, run_words};
+use program_words::run_words;
+use script_streams::{ReadInput, WriteOutput};
 use std::test::Fail;
 
-// The status that the words give, and what is written to the output and for errors.
-fn run(rt: &HostRuntime, texts: &[&str], script: &[u8]) -> Result<(u8, Vec<u8>, Vec<u8>), Fail> {
+// Runs the program on these words, with this script as its input: its status, and what it wrote to its output and for
+// errors.
+fn run(rt: &HostRuntime, texts: &[&str], script: &[u8]) -> Result<(u8, String, String), Fail> {
     let mut words = Vec::new(rt.alloc());
     for text in texts {
         words.push(String::from_str(rt.alloc(), *text)?)?;
@@ -14,62 +16,122 @@ fn run(rt: &HostRuntime, texts: &[&str], script: &[u8]) -> Result<(u8, Vec<u8>, 
     let mut output = WriteOutput::new(&mut replies);
     let mut errors = WriteOutput::new(&mut reasons);
     let status = run_words(rt, words.as_slice(), &mut input, &mut output, &mut errors);
-    Ok((status, replies, reasons))
+    Ok((
+        status,
+        String::from_utf8(replies)?,
+        String::from_utf8(reasons)?,
+    ))
+}
+
+// The same as one text: what it wrote to its output and then for errors, and a line with its status.
+pub(crate) fn shown(rt: &HostRuntime, texts: &[&str], script: &[u8]) -> Result<String, Fail> {
+    let (status, replies, reasons) = run(rt, texts, script)?;
+    Ok(format!(in rt.alloc(); "{replies}{reasons}status {status}\n")?)
 }
 
 #[test]
 fn a_script_over_memory(rt: HostRuntime) -> Result<(), Fail> {
     let script = b"begin exec 0 a\npart 0 3\nabcend 0\nlist\n";
-    let (status, replies, reasons) = run(&rt, &["memory", "--half", "1", "--data", "4"], script)?;
-    assert_eq!(rt; status, 0);
+    let text = shown(&rt, &["memory", "--half", "1", "--data", "4"], script)?;
     assert_eq!(rt;
-        replies.as_slice(),
-        b"name a\nok\nok\nstored 1\nok\n1 exec 3 0 0 0 - a\nok\n".as_slice()
+        text.as_str(),
+        "name a\nok\nok\nstored 1\nok\n1 exec 3 0 0 0 - a\nok\nstatus 0\n"
     );
-    assert_eq!(rt; reasons.as_slice(), b"".as_slice());
     let words = ["memory", "--half", "1", "--data", "4", "--limit", "2"];
-    let (status, replies, _) = run(&rt, &words, script)?;
-    assert_eq!(rt; status, 0);
+    let text = shown(&rt, &words, script)?;
     assert_eq!(rt;
-        replies.as_slice(),
-        b"name a\nok\nno TooLong\nno NoStream\nok\n".as_slice()
+        text.as_str(),
+        "name a\nok\nno TooLong\nno NoStream\nok\nstatus 0\n"
     );
+    Ok(())
+}
+
+#[test]
+fn the_words_name_cores(rt: HostRuntime) -> Result<(), Fail> {
+    let script = b"begin core 0 comm=cat pid=7\n";
+    let text = shown(&rt, &["memory", "--half", "1", "--data", "4"], script)?;
+    assert_eq!(rt; text.as_str(), "name core.cat.7\nok\nstatus 0\n");
+    let words = [
+        "memory",
+        "--half",
+        "1",
+        "--data",
+        "4",
+        "--template",
+        "c-%e",
+        "--uses-pid",
+    ];
+    let text = shown(&rt, &words, script)?;
+    assert_eq!(rt; text.as_str(), "name c-cat.7\nok\nstatus 0\n");
     Ok(())
 }
 
 #[test]
 fn a_shape_outside_its_limits(rt: HostRuntime) -> Result<(), Fail> {
-    let (status, replies, reasons) = run(
+    let text = shown(&rt, &["memory", "--half", "0", "--data", "4"], b"list\n")?;
+    assert_eq!(rt; text.as_str(), "no BadShape\nstatus 1\n");
+    let text = shown(
         &rt,
-        &["memory", "--half", "0", "--data", "4"],
+        &["memory", "--half", "1", "--data", "16777217"],
         b"list\n",
     )?;
-    assert_eq!(rt; status, 1);
-    assert_eq!(rt; replies.as_slice(), b"no BadShape\n".as_slice());
-    assert_eq!(rt; reasons.as_slice(), b"".as_slice());
+    assert_eq!(rt; text.as_str(), "no BadShape\nstatus 1\n");
     Ok(())
 }
 
-// Whether the words are refused: with a text for errors alone, and the status 2.
-fn is_refused(rt: &HostRuntime, texts: &[&str]) -> Result<bool, Fail> {
-    let (status, replies, reasons) = run(rt, texts, b"list\n")?;
-    Ok(status == 2 && replies.is_empty() && !reasons.is_empty())
+#[test]
+fn a_template_that_is_refused(rt: HostRuntime) -> Result<(), Fail> {
+    let words = ["memory", "--half", "0", "--data", "4", "--template", "|x"];
+    let text = shown(&rt, &words, b"list\n")?;
+    assert_eq!(rt; text.as_str(), "no Pipe\nstatus 1\n");
+    let long = String::from_utf8(vec![in rt.alloc(); b't'; 128]?)?;
+    let words = [
+        "memory",
+        "--half",
+        "1",
+        "--data",
+        "4",
+        "--template",
+        long.as_str(),
+    ];
+    let text = shown(&rt, &words, b"list\n")?;
+    assert_eq!(rt; text.as_str(), "no TemplateTooLong\nstatus 1\n");
+    Ok(())
 }
 
 #[test]
 fn words_that_are_refused(rt: HostRuntime) -> Result<(), Fail> {
-    assert!(rt; is_refused(&rt, &["--nope"])?);
-    assert!(rt; is_refused(&rt, &[])?);
-    assert!(rt; is_refused(&rt, &["memory", "--half", "1"])?);
-    assert!(rt; is_refused(&rt, &["memory", "--half", "1", "--data", "4", "--nope"])?);
+    let refused: [&[&str]; 9] = [
+        &["--nope"],
+        &[],
+        &["memory", "--half", "1"],
+        &["memory", "--half", "1", "--data", "4", "--nope"],
+        &["memory", "--half", "1", "--data", "4294967296"],
+        &["format", "a", "--half", "1"],
+        &["format", "--half", "1", "--data", "4"],
+        &["run"],
+        &["store", "a"],
+    ];
+    for words in refused {
+        let (status, replies, reasons) = run(&rt, words, b"list\n")?;
+        assert_eq!(rt; status, 2, "at {words:?}");
+        assert!(rt; replies.is_empty() && !reasons.is_empty(), "at {words:?}");
+    }
     Ok(())
 }
 
 #[test]
 fn help_goes_to_the_output(rt: HostRuntime) -> Result<(), Fail> {
-    let (status, replies, reasons) = run(&rt, &["--help"], b"")?;
-    assert_eq!(rt; status, 0);
-    assert!(rt; replies.starts_with(b"keeps images"));
-    assert_eq!(rt; reasons.as_slice(), b"".as_slice());
+    let asked: [(&[&str], &str); 3] = [
+        (&["--help"], "keeps images of programs"),
+        (&["store", "--help"], "stores a core file"),
+        (&["help", "format"], "makes an archive in a new file"),
+    ];
+    for (words, begins) in asked {
+        let (status, replies, reasons) = run(&rt, words, b"")?;
+        assert_eq!(rt; status, 0, "at {words:?}");
+        assert!(rt; replies.starts_with(begins), "at {words:?}");
+        assert!(rt; reasons.is_empty(), "at {words:?}");
+    }
     Ok(())
 }

@@ -1,6 +1,6 @@
 use Rattle.std.proofs.Common.{◌≡◌, take, map}
 use Rattle.std.specs.List.{flat_map}
-use Rattle.store_journal.specs.Case.{case_of}
+use Rattle.journal_layout.specs.Case.{case_of}
 use Rattle.intake.specs.Parts.{bare_case}
 use Rattle.script_streams.specs.Telling.{Tells}
 use Rattle.inspector_cli.specs.Reply.{case_line}

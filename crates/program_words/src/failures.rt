@@ -1,0 +1,208 @@
+// Why the program ends with a status other than 0, and how it says so.
+use case_journal::FormatFault;
+use clap::error::ErrorKind;
+use disk_model::FileFault;
+use inspector_cli::SessionFault;
+use journal_layout::{BadShape, OpenFault};
+use name_template::TemplateFault;
+use script_streams::{Output, Reply};
+use std::alloc::{AllocError, Global};
+
+// Why the program did not do what its words ask for.
+#[derive(Drop)]
+pub(crate) enum Failure {
+    // The words are outside the grammar, or ask for help, or there was no memory to read them.
+    Words(clap::Error),
+    // It was refused.
+    Refused(Refusal),
+    // The session ended before its script.
+    Faulted(SessionFault),
+    // A step was refused, and its reply has said so.
+    Told,
+}
+
+// What a line `no REASON` tells.
+#[derive(Clone, Copy, Debug, PartialEq, Eq)]
+pub(crate) enum Refusal {
+    // The words contradict one another.
+    BadLine,
+    // The template would hand cores to a program.
+    Pipe,
+    // The template is too long.
+    TemplateTooLong,
+    // The shape is outside its limits.
+    BadShape,
+    // A file could not be made or opened.
+    File,
+    // There was no memory.
+    OutOfMemory,
+    // The disk failed while the archive was made.
+    Disk,
+    // The archive could not be opened.
+    Open(OpenFault),
+}
+
+impl From<clap::Error> for Failure {
+    fn from(error: clap::Error) -> Self {
+        Failure::Words(error)
+    }
+}
+
+impl From<Refusal> for Failure {
+    fn from(refusal: Refusal) -> Self {
+        Failure::Refused(refusal)
+    }
+}
+
+impl From<SessionFault> for Failure {
+    fn from(fault: SessionFault) -> Self {
+        Failure::Faulted(fault)
+    }
+}
+
+impl From<AllocError> for Failure {
+    fn from(_: AllocError) -> Self {
+        Failure::Refused(Refusal::OutOfMemory)
+    }
+}
+
+impl From<TemplateFault> for Refusal {
+    fn from(fault: TemplateFault) -> Self {
+        match fault {
+            TemplateFault::Pipe => Refusal::Pipe,
+            TemplateFault::TemplateTooLong => Refusal::TemplateTooLong,
+        }
+    }
+}
+
+impl From<BadShape> for Refusal {
+    fn from(_: BadShape) -> Self {
+        Refusal::BadShape
+    }
+}
+
+impl From<FileFault> for Refusal {
+    fn from(_: FileFault) -> Self {
+        Refusal::File
+    }
+}
+
+impl From<FormatFault> for Refusal {
+    fn from(fault: FormatFault) -> Self {
+        match fault {
+            FormatFault::BadShape => Refusal::BadShape,
+            FormatFault::Disk => Refusal::Disk,
+        }
+    }
+}
+
+impl From<OpenFault> for Refusal {
+    fn from(fault: OpenFault) -> Self {
+        Refusal::Open(fault)
+    }
+}
+
+impl From<AllocError> for Refusal {
+    fn from(_: AllocError) -> Self {
+        Refusal::OutOfMemory
+    }
+}
+
+// Says why the program failed, and answers its status. Help is no failure: it goes to the output, and the status is 0.
+pub(crate) fn tell_failure<O: Output, E: Output>(
+    alloc: Global,
+    failure: &Failure,
+    output: &mut O,
+    errors: &mut E,
+) -> u8 {
+    match failure {
+        Failure::Words(error) => tell_words(alloc, error, output, errors),
+        Failure::Refused(refusal) => tell_refusal(*refusal, output),
+        Failure::Faulted(fault) => tell_fault(*fault, errors),
+        Failure::Told => 1,
+    }
+}
+
+// Says why the words are refused, or what they can be.
+fn tell_words<O: Output, E: Output>(
+    alloc: Global,
+    error: &clap::Error,
+    output: &mut O,
+    errors: &mut E,
+) -> u8 {
+    if error.kind() == ErrorKind::OutOfMemory {
+        return tell_refusal(Refusal::OutOfMemory, output);
+    }
+    let Ok(text) = format!(in alloc; "{error}") else {
+        return tell_refusal(Refusal::OutOfMemory, output);
+    };
+    if error.use_stderr() {
+        tell_text(errors, text.as_bytes());
+        2
+    } else {
+        tell_text(output, text.as_bytes());
+        0
+    }
+}
+
+fn tell_text<O: Output>(output: &mut O, text: &[u8]) {
+    let mut reply = Reply::new();
+    reply.tell(output, text);
+    let _ = reply.finish(output);
+}
+
+// Tells what is refused.
+fn tell_refusal<O: Output>(refusal: Refusal, output: &mut O) -> u8 {
+    let mut reply = Reply::new();
+    reply.tell(output, b"no ");
+    match refusal {
+        Refusal::BadLine => reply.tell(output, b"BadLine"),
+        Refusal::Pipe => reply.tell(output, b"Pipe"),
+        Refusal::TemplateTooLong => reply.tell(output, b"TemplateTooLong"),
+        Refusal::BadShape => reply.tell(output, b"BadShape"),
+        Refusal::File => reply.tell(output, b"File"),
+        Refusal::OutOfMemory => reply.tell(output, b"OutOfMemory"),
+        Refusal::Disk => reply.tell(output, b"Disk"),
+        Refusal::Open(fault) => tell_open_fault(&mut reply, output, fault),
+    }
+    reply.tell(output, b"\n");
+    let _ = reply.finish(output);
+    1
+}
+
+// Tells why an archive could not be opened.
+fn tell_open_fault<O: Output>(reply: &mut Reply, output: &mut O, fault: OpenFault) {
+    match fault {
+        OpenFault::Disk => reply.tell(output, b"Disk"),
+        OpenFault::NotAnArchive => reply.tell(output, b"NotAnArchive"),
+        OpenFault::OutOfMemory => reply.tell(output, b"OutOfMemory"),
+        OpenFault::UnknownVersion(version) => {
+            reply.tell(output, b"UnknownVersion ");
+            reply.tell_decimal(output, u128::from(version));
+        }
+        OpenFault::Damaged { at, field } => {
+            reply.tell(output, b"Damaged ");
+            reply.tell_decimal(output, u128::from(at));
+            reply.tell(output, b" ");
+            reply.tell(output, field.name().as_bytes());
+        }
+    }
+}
+
+// Tells why a session ended before its script.
+fn tell_fault<E: Output>(fault: SessionFault, errors: &mut E) -> u8 {
+    let mut reply = Reply::new();
+    reply.tell(errors, b"fault ");
+    reply.tell(errors, fault_name(fault));
+    reply.tell(errors, b"\n");
+    let _ = reply.finish(errors);
+    1
+}
+
+fn fault_name(fault: SessionFault) -> &'static [u8] {
+    match fault {
+        SessionFault::ReadFailed => b"ReadFailed",
+        SessionFault::WriteFailed => b"WriteFailed",
+        SessionFault::TooManyReads => b"TooManyReads",
+    }
+}

@@ -1,0 +1,131 @@
+// The grammar of the program's words.
+use clap::{Arg, ArgAction, Command, Error, value_parser};
+use std::alloc::Global;
+
+// The program and its commands.
+pub(crate) fn program<'a>(alloc: Global) -> Result<Command<'a>, Error> {
+    let command = Command::new(alloc, "corekeep")
+        .about("keeps images of programs and their memory as numbered cases in an archive")
+        .after_help(
+            "Statuses: 0; 1 where an archive, a file, a shape, a template or a step of `store` is refused (`no REASON` on \
+             standard output) or a session ends before its script (`fault NAME` on standard error); 2 where these words \
+             are refused.",
+        )
+        .no_binary_name(true)
+        .subcommand_required(true)
+        .subcommand(format_command(alloc)?)?
+        .subcommand(run_command(alloc)?)?
+        .subcommand(store_command(alloc)?)?
+        .subcommand(memory_command(alloc)?)?;
+    Ok(command)
+}
+
+// `format` and its words.
+fn format_command<'a>(alloc: Global) -> Result<Command<'a>, Error> {
+    let archive = file_word(alloc, "archive", "ARCHIVE").help(
+        "the file to make; one that exists is refused",
+    );
+    let command = Command::new(alloc, "format")
+        .about("makes an archive in a new file, with no case in it")
+        .arg(archive)?;
+    with_shape(alloc, command)
+}
+
+// `run` and its words.
+fn run_command<'a>(alloc: Global) -> Result<Command<'a>, Error> {
+    let archive = file_word(alloc, "archive", "ARCHIVE").help("the archive's file");
+    let command = Command::new(alloc, "run")
+        .about(
+            "runs the script on standard input over an archive, and writes its replies to standard output",
+        )
+        .arg(archive)?;
+    with_session(alloc, command)
+}
+
+// `memory` and its words.
+fn memory_command<'a>(alloc: Global) -> Result<Command<'a>, Error> {
+    let command = Command::new(alloc, "memory").about(
+        "runs the script on standard input over a fresh archive in memory, which is gone at its end",
+    );
+    let command = with_shape(alloc, command)?;
+    with_session(alloc, command)
+}
+
+// `store` and its words.
+fn store_command<'a>(alloc: Global) -> Result<Command<'a>, Error> {
+    let archive = file_word(alloc, "archive", "ARCHIVE").help("the archive's file");
+    let file = file_word(alloc, "file", "FILE").help(
+        "what to store: a file or a pipe, or /dev/stdin for standard input",
+    );
+    let pairs = Arg::new(alloc, "pairs")
+        .value_name("KEY=VALUE")
+        .help(
+            "what is known of the core; KEY is comm, exe, host, pid, tid, sig, uid, gid, mode, time or limit, and a byte \
+             of a text outside 0x21 to 0x7e, or a backslash, is \\xHH",
+        )
+        .num_args(0..)
+        .action(ArgAction::Append);
+    let exec = Arg::new(alloc, "exec")
+        .long("exec")
+        .value_name("NAME")
+        .help("stores an executable of this name in place of a core")
+        .action(ArgAction::Set);
+    let command = Command::new(alloc, "store")
+        .about(
+            "stores a core file as a case of an archive, named by the template, or an executable",
+        )
+        .arg(archive)?
+        .arg(file)?
+        .arg(pairs)?
+        .arg(exec)?;
+    with_session(alloc, command)
+}
+
+// A word that names a file.
+fn file_word<'a>(alloc: Global, id: &'a str, name: &'a str) -> Arg<'a> {
+    Arg::new(alloc, id)
+        .value_name(name)
+        .required(true)
+        .action(ArgAction::Set)
+}
+
+// A command that takes the shape of an archive.
+fn with_shape<'a>(alloc: Global, command: Command<'a>) -> Result<Command<'a>, Error> {
+    let half = Arg::new(alloc, "half")
+        .long("half")
+        .value_name("N")
+        .help("blocks of 4096 bytes in each half of the journal, 1 to 4096")
+        .required(true)
+        .action(ArgAction::Set)
+        .value_parser(value_parser!(u32));
+    let blocks = Arg::new(alloc, "data")
+        .long("data")
+        .value_name("N")
+        .help("data blocks of 4096 bytes, 1 to 16777216")
+        .required(true)
+        .action(ArgAction::Set)
+        .value_parser(value_parser!(u32));
+    Ok(command.arg(half)?.arg(blocks)?)
+}
+
+// A command that takes what a session goes by.
+fn with_session<'a>(alloc: Global, command: Command<'a>) -> Result<Command<'a>, Error> {
+    let template = Arg::new(alloc, "template")
+        .long("template")
+        .value_name("T")
+        .help("how core files are named, a template of core(5)")
+        .default_value("core.%e.%p")
+        .action(ArgAction::Set);
+    let uses_pid = Arg::new(alloc, "uses-pid")
+        .long("uses-pid")
+        .help("adds a dot and the process to names whose template has no %p")
+        .action(ArgAction::SetTrue);
+    let limit = Arg::new(alloc, "limit")
+        .long("limit")
+        .value_name("N")
+        .help("the most bytes that an image may have")
+        .default_value("1073741824")
+        .action(ArgAction::Set)
+        .value_parser(value_parser!(u64));
+    Ok(command.arg(template)?.arg(uses_pid)?.arg(limit)?)
+}

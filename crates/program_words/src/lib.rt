@@ -1,0 +1,10 @@
+//! The program but for its `main`: the words of its command line, and what they ask for.
+#![tactic(auto)]
+
+mod archives;
+mod asked;
+mod failures;
+mod grammar;
+mod words;
+
+pub use words::run_words;
