@@ -1,4 +1,0 @@
-pub mod FormatLemmas
-pub mod OpenLemmas
-pub mod PublishLemmas
-pub mod RecordLemmas
