@@ -1,10 +1,10 @@
 -- What a crash leaves of the calls of an archive.
-use Rattle.std.proofs.Common.{◌≡◌, ◌⊎◌, ℕ, zero, suc, ◌+◌, ◌≤◌, Bool, true, false, List, [], ◌∷◌, map, refl, sym, ap, ◌∙◌, subst, ⊎_elim, inl, inr, arith, Option, Some, Ok, Err, Result}
+use Rattle.std.proofs.Common.{◌≡◌, ◌⊎◌, ℕ, zero, suc, ◌≤◌, Bool, true, false, List, [], ◌∷◌, map, refl, sym, ap, ◌∙◌, subst, ⊎_elim, inl, inr, arith, Option, Some, Ok, Err, Result}
 use Rattle.std.specs.Prelude.{IsTrue, nat_lt, option_map}
 use Rattle.disk_model.specs.MomentLaws.{adds, weakened, then_also}
 use Rattle.disk_model.specs.Moments.{LeavesOnly, AddsOnly}
 use Rattle.disk_model.specs.declared.disk.Disk as disk
-use Rattle.extents.specs.FreeSet.{is_free, one_if}
+use Rattle.extents.specs.FreeSet.{one_if}
 use Rattle.journal_layout.specs.Case.{Case}
 use Rattle.journal_layout.specs.Standing.{Standing, appended, store_of}
 use Rattle.journal_layout.specs.declared.faults.OpenFault.{OpenFault}
@@ -15,7 +15,6 @@ use Rattle.intake.specs.Blocks.{image_in}
 use Rattle.intake.specs.Closing.{with_blocks}
 use Rattle.intake.specs.Durable.{Durable, StandsFor, durable_in, durable_of, with_case}
 use Rattle.intake.specs.Guarding.{Guards, Rests, Spares, Leaves, LeavesNew, LeavesStored, MayBeStored}
-use Rattle.intake.specs.Live.{case_uses}
 use Rattle.intake.specs.Parts.{Parts, StreamParts, bare_of, bare_stream, contents_of, taken_in}
 use Rattle.intake.specs.Slots.{stream_at}
 use Rattle.intake.specs.Sound.{IsRunning}

@@ -1,5 +1,5 @@
 -- The images of cases, where the bytes of other places change.
-use Rattle.std.proofs.Common.{◌≡◌, ℕ, ◌+◌, ◌==◌, Bool, true, false, not, cond, List, [], ◌∷◌, ◌++◌, take, map, refl, sym, ap, ◌∙◌, arith}
+use Rattle.std.proofs.Common.{◌≡◌, ℕ, ◌+◌, ◌==◌, Bool, true, false, not, cond, List, [], ◌∷◌, ◌++◌, take, map, refl, ap, ◌∙◌, arith}
 use Rattle.std.specs.List.{filter}
 use Rattle.std.proofs.lemmas.List.{map-append}
 use Rattle.std.proofs.lemmas.List.Sums.{sum_by-cons}
@@ -9,11 +9,10 @@ use Rattle.journal_layout.specs.declared.shape.Shape.{Shape}
 use Rattle.journal_layout.specs.Case.{Case, numbered}
 use Rattle.journal_layout.specs.Folding.{is_among, dropped, with_pin}
 use Rattle.journal_layout.specs.Layout.{half_start, half_length}
-use Rattle.journal_layout.specs.Record.{Drop, Pin, Store}
+use Rattle.journal_layout.specs.Record.{Drop, Pin}
 use Rattle.journal_layout.specs.Standing.{Standing, appended, store_of}
 use Rattle.case_journal.specs.Journaled.{Journaled}
-use Rattle.intake.specs.Blocks.{block_start, image_in, joined}
-use Rattle.intake.specs.Contents.{Contents}
+use Rattle.intake.specs.Blocks.{block_start, image_in}
 use Rattle.intake.specs.Durable.{FoundCase, Durable, found_with, found_case, durable_in, durable_of, durable_part, with_images, without, flagged}
 use Rattle.intake.specs.Live.{case_uses}
 use Rattle.intake.specs.Parts.{Parts, bare_case, bare_of, contents_of}

@@ -7,7 +7,6 @@ use Rattle.journal_layout.specs.Case.{Case}
 use Rattle.journal_layout.specs.Live.{AreLive, IsWhole, seq_of_case}
 use Rattle.journal_layout.specs.ReadingLaws.{stands_once}
 use Rattle.journal_layout.specs.Soundness.{Rise}
-use Rattle.journal_layout.specs.Standing.{Standing}
 use Rattle.intake.specs.Durable.{Durable, FoundCase, StandsFor, found_case, durable_in}
 use Rattle.intake.specs.Lasting.{HasNumbers, number_of}
 

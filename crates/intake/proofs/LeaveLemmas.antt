@@ -1,5 +1,5 @@
 -- What a crash leaves of the append of a record.
-use Rattle.std.proofs.Common.{◌≡◌, ◌⊎◌, ℕ, ◌≤◌, false, true, Bool, List, refl, sym, ap, ◌∙◌, subst, ⊎_elim, inl, inr, Err}
+use Rattle.std.proofs.Common.{◌≡◌, ◌⊎◌, ℕ, ◌≤◌, false, true, Bool, List, sym, ap, ◌∙◌, subst, ⊎_elim, inl, inr, Err}
 use Rattle.std.specs.Prelude.{IsTrue}
 use Rattle.disk_model.specs.Disk.{ChangedIn}
 use Rattle.disk_model.specs.MomentLaws.{started, weakened, both, now_too}

@@ -1,11 +1,10 @@
 -- Disk calls that change none of an archive's cases.
-use Rattle.std.proofs.Common.{◌≡◌, ℕ, false, List, refl, sym, ap, ◌∙◌, subst, ⊎_elim, inl, inr, arith, ◌≤◌}
+use Rattle.std.proofs.Common.{◌≡◌, ℕ, false, List, refl, sym, ap, ◌∙◌, subst, arith}
 use Rattle.std.specs.Prelude.{IsTrue}
 use Rattle.disk_model.specs.Disk.{Elapses, Follows}
 use Rattle.disk_model.specs.MomentLaws.{started, stays, then_again, weakened}
 use Rattle.disk_model.specs.Places.{SameOutside}
 use Rattle.disk_model.specs.declared.disk.Disk as disk
-use Rattle.journal_layout.specs.Layout.{data_start}
 use Rattle.case_journal.specs.Journaled.{Journaled}
 use Rattle.case_journal.specs.Keeping.{DataIsApart, SameHeaders}
 use Rattle.intake.specs.Blocks.{block_start}

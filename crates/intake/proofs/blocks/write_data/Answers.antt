@@ -1,4 +1,4 @@
-use Rattle.std.proofs.Common.{◌∙◌, ap, arith, length, sym}
+use Rattle.std.proofs.Common.{◌∙◌, ap, length, sym}
 use Rattle.intake.specs.Blocks.{block_start}
 use Rattle.intake.proofs.RestLemmas.{rests_write}
 use Rattle.intake.proofs.blocks.write_data.Goals as goal
