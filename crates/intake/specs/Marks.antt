@@ -1,9 +1,17 @@
 -- A run of calls as marks: how things stand when a call has been answered. What a stop leaves is told by them.
-use Rattle.std.specs.Prelude.{◌≡◌, ◌⊎◌, ℕ, false, true, List, [], ◌∷◌, ◌++◌, IsTrue}
+use Rattle.std.specs.Prelude.{◌≡◌, ◌⊎◌, ℕ, Bool, false, true, List, [], ◌∷◌, ◌++◌, Option, None, Some, Result, IsTrue}
 use Rattle.disk_model.specs.Moments.{AddsOnly}
 use Rattle.disk_model.specs.declared.disk.Disk as disk
-use Rattle.intake.specs.Durable.{Durable, StandsFor, durable_of}
-use Rattle.intake.specs.Parts.{Parts}
+use Rattle.intake.specs.Contents.{Taken}
+use Rattle.intake.specs.Durable.{Durable, StandsFor, durable_of, with_case, without, flagged}
+use Rattle.intake.specs.Guarding.{Leaves, MayBeStored, MayBeRetired}
+use Rattle.intake.specs.Parts.{Parts, bare_of, contents_of}
+use Rattle.intake.specs.Slots.{stream_at}
+use Rattle.intake.specs.State.{BareStream}
+use Rattle.intake.specs.Step.{Retires}
+use Rattle.intake.specs.declared.faults.ArchiveFault.{ArchiveFault}
+use Rattle.retention.specs.declared.Decision.{Decision}
+use Rattle.retention.specs.declared.Policy.{Policy}
 
 pub record Mark (D : Type 0) : Type 0 where
   pub disk : D
@@ -67,15 +75,41 @@ FoundAfterAStop {D} g = (m : Mark D) (ns : List (Mark D)) → IsTrue (g.is_hones
 abbrev pub mark_of : {D : Type 0} → (D → List ℕ) → Parts D → List Durable → Mark D
 mark_of seen a doubts = record { disk = a.disk; durable = durable_of seen a; in_doubt = doubts }
 
--- an opening finds what the archive holds, or one of these
-abbrev pub FindsIn : List ℕ → Durable → List Durable → Type 0
-FindsIn c x more = (y : Durable) × StandsFor c y × ((y ≡ x) ⊎ IsOneOf more y)
-
--- A call leads from mark to mark, where it adds these doubts.
-abbrev pub ChangesPass : {D : Type 0} → disk.Ghosts D → Type 0
-ChangesPass {D} g = (old new : Parts D) (before more : List Durable)
+-- A call that began here leads from mark to mark, where what it may leave in doubt is among these.
+abbrev pub ChangesPass : {D : Type 0} → Type 0 → disk.Ghosts D → Parts D → (Durable → Type 0) → List Durable → Type 0
+ChangesPass {D} T g old doubt more = (new : Parts D) (r : Result T ArchiveFault) (before : List Durable)
     → g.is_honest new.disk ≡ g.is_honest old.disk
-    → (IsTrue (g.is_honest old.disk) → AddsOnly g old.disk new.disk (λ c. StandsFor c (durable_of g.seen old) ⊎ FindsIn c (durable_of g.seen new) more))
+    → (IsTrue (g.is_honest old.disk) → AddsOnly g old.disk new.disk (Leaves (durable_of g.seen old) r (durable_of g.seen new) doubt))
     → (new.stopped ≡ false → IsTrue (g.is_honest new.disk) → (c : List ℕ) → g.may_leave new.disk c → StandsFor c (durable_of g.seen new))
     → (new.stopped ≡ true → IsTrue (g.is_honest old.disk) → durable_of g.seen new ≡ durable_of g.seen old)
     → Passes g (mark_of g.seen old before) (mark_of g.seen new (more ++ before))
+
+-- A call that changes no case leads from mark to mark, and leaves nothing in doubt.
+abbrev pub RestsPass : {D : Type 0} → disk.Ghosts D → Type 0
+RestsPass {D} g = (old new : Parts D) (before : List Durable)
+    → g.is_honest new.disk ≡ g.is_honest old.disk
+    → (IsTrue (g.is_honest old.disk) → AddsOnly g old.disk new.disk (λ c. StandsFor c (durable_of g.seen old)))
+    → (IsTrue (g.is_honest old.disk) → durable_of g.seen new ≡ durable_of g.seen old)
+    → Passes g (mark_of g.seen old before) (mark_of g.seen new before)
+
+-- what a finish that answered Disk may leave: the stream that stood in the slot, as a case
+abbrev pub stored_doubts : Durable → Option BareStream → Option Taken → List Durable
+stored_doubts x (Some s) (Some t) = with_case x s t.bytes ∷ []
+stored_doubts x (Some s) None = []
+stored_doubts x None t = []
+
+abbrev pub FinishPasses : {D : Type 0} → disk.Ghosts D → Type 0
+FinishPasses {D} g = (old : Parts D) (slot : ℕ) → ChangesPass ℕ g old
+    (MayBeStored (bare_of old) (contents_of g.seen old) (durable_of g.seen old) slot)
+    (stored_doubts (durable_of g.seen old) (stream_at (bare_of old).streams slot) (stream_at (contents_of g.seen old).taken slot))
+
+abbrev pub DeletePasses : {D : Type 0} → disk.Ghosts D → Type 0
+DeletePasses {D} g = (old : Parts D) (seqs : List ℕ) → ChangesPass (Unit {0}) g old (λ x. x ≡ without (durable_of g.seen old) seqs) (without (durable_of g.seen old) seqs ∷ [])
+
+abbrev pub PinPasses : {D : Type 0} → disk.Ghosts D → Type 0
+PinPasses {D} g = (old : Parts D) (seq : ℕ) (flag : Bool) → ChangesPass (Unit {0}) g old (λ x. x ≡ flagged (durable_of g.seen old) seq flag) (flagged (durable_of g.seen old) seq flag ∷ [])
+
+-- the rule has one answer
+abbrev pub RetirePasses : {D : Type 0} → disk.Ghosts D → Type 0
+RetirePasses {D} g = (old : Parts D) (policy : Policy) (dropped : List ℕ) (unmet : Bool) → Retires (bare_of old) policy dropped unmet
+    → ChangesPass Decision g old (MayBeRetired (bare_of old) policy (durable_of g.seen old)) (without (durable_of g.seen old) dropped ∷ [])

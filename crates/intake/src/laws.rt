@@ -2,7 +2,7 @@
 ghost use Rattle.std.specs.Prelude.{◌≡◌};
 ghost use Rattle.intake.specs.Durable.{durable_of, durable_part};
 ghost use Rattle.intake.specs.Lasting.{WhatStandsIsOne, NumbersAreAbove};
-ghost use Rattle.intake.specs.Marks.{FoundAfterAStop, ChangesPass};
+ghost use Rattle.intake.specs.Marks.{FoundAfterAStop, RestsPass, FinishPasses, DeletePasses, PinPasses, RetirePasses};
 ghost use Rattle.intake.specs.Parts.{Parts, bare_of, contents_of};
 
 use disk_model::Disk;
@@ -31,8 +31,12 @@ pub fn found_after_a_stop<D: Disk>()
     ensures { FoundAfterAStop D.Disk }
 {}
 
-/// What a call promises of a crash leads from its mark to the next, and what a call that answered Disk would have left is in
-/// doubt from then on.
+/// What a call promises of a crash leads from its mark to the next. What a call that answered Disk would have left is in
+/// doubt from then on: one archive at most, which is told by the state before the call.
 pub fn calls_lead_from_mark_to_mark<D: Disk>()
-    ensures { ChangesPass D.Disk }
+    ensures rests { RestsPass D.Disk }
+    ensures finish { FinishPasses D.Disk }
+    ensures delete { DeletePasses D.Disk }
+    ensures pin { PinPasses D.Disk }
+    ensures retire { RetirePasses D.Disk }
 {}
