@@ -76,3 +76,7 @@ closed_all old new closes few = (
       closes.0,
   closes.1,
 )
+
+-- the first slot alone
+pub quiet_after : (old new : Bare) (r : Result (Unit {0}) ArchiveFault) → AbandonStep old 0 r new → IsQuietBelow 1 new
+quiet_after old new r step = (closes_on 0 old old new r (closes_none old) step).0

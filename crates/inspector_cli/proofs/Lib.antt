@@ -1,7 +1,6 @@
 pub mod WordLemmas
 pub mod TellLemmas
 pub mod CaseLemmas
-pub mod BeginLemmas
 pub mod SlotLemmas
 pub mod TakeLemmas
 pub mod RoomLemmas
@@ -10,3 +9,6 @@ pub mod LineLemmas
 pub mod RunLemmas
 pub mod CloseLemmas
 pub mod SessionLemmas
+pub mod NameLemmas
+pub mod StoreLemmas
+pub mod KeyLemmas

@@ -5,47 +5,53 @@ use Rattle.script_streams.specs.Lines.{IsLine}
 use Rattle.script_streams.specs.Reading.{Gives}
 use Rattle.script_streams.specs.declared.reader.ScriptBuffer.{ScriptBuffer}
 use Rattle.script_streams.specs.declared.reader.ReadStop.{ReadStop}
+use Rattle.inspector_cli.specs.declared.session.Naming.{Naming}
 use Rattle.inspector_cli.specs.Said.{Said, said, raw_length}
 use Rattle.inspector_cli.specs.Commands.{asked_by}
 use Rattle.inspector_cli.specs.declared.command.Request.{Request}
-use Rattle.inspector_cli.specs.declared.command.Request.TheVariants.{Silence, BadLine, LineTooLong, Begin, End, Drop, ListCases}
+use Rattle.inspector_cli.specs.declared.command.Request.TheVariants.{Silence, BadLine, LineTooLong, BeginExec, BeginCore, End, Drop, Delete, Pin, Retire, ListCases, CountFree}
 use Rattle.inspector_cli.specs.Reply.{Replies}
 use Rattle.inspector_cli.specs.Session.{Item, IsItem, spelled, cut_part, LastReplies, Truncates}
 use Rattle.inspector_cli.specs.Answering.{Reading, Telling, AnswersTo, PartAnswers, CommandEnds}
 use Rattle.inspector_cli.proofs.GiveLemmas.{gives_nothing, gives_then, gives_as}
 
-pub last_whole : (n : ℕ) (old new : Bare) (what : Said) (reply : List ℕ) → n ≡ 0 → Replies old what reply new → LastReplies n old what reply new
-last_whole n old new what reply none replies = subst (λ (k : ℕ). LastReplies k old what reply new) (sym none) replies
+pub last_whole : (naming : Naming) (n : ℕ) (old new : Bare) (what : Said) (reply : List ℕ) → n ≡ 0 → Replies naming old what reply new → LastReplies naming n old what reply new
+last_whole naming n old new what reply none replies = subst (λ (k : ℕ). LastReplies naming k old what reply new) (sym none) replies
 
-pub last_cut : (n : ℕ) (old new : Bare) (what : Said) (reply : List ℕ) → (n ≡ 0 → ⊥) → Truncates old what [] reply new → LastReplies n old what reply new
-last_cut zero old new what reply some cut = absurd (some refl)
-last_cut (suc n) old new what reply some cut = cut
+pub last_cut : (naming : Naming) (n : ℕ) (old new : Bare) (what : Said) (reply : List ℕ) → (n ≡ 0 → ⊥) → Truncates old what [] reply new → LastReplies naming n old what reply new
+last_cut naming zero old new what reply some cut = absurd (some refl)
+last_cut naming (suc n) old new what reply some cut = cut
 
 -- no bytes stand behind a request
 no_raw : (r : Request) → raw_length (asked_by r) ≡ 0
 no_raw Silence = refl
 no_raw BadLine = refl
 no_raw LineTooLong = refl
-no_raw (Begin slot name) = refl
+no_raw (BeginExec slot name) = refl
+no_raw (BeginCore slot process) = refl
 no_raw (End slot) = refl
 no_raw (Drop slot) = refl
+no_raw (Delete seq) = refl
+no_raw (Pin seq flag) = refl
+no_raw (Retire policy) = refl
 no_raw ListCases = refl
+no_raw CountFree = refl
 
-pub plain_answers : (a : Option (List ℕ)) (b : ScriptBuffer) (t : Telling) (old new : Bare) (r : Request) (what : Said) → asked_by r ≡ what → AnswersTo t old (asked_by r) new
-    → PartAnswers (record { before = a; after = a; buffer = b; buffer' = b }) t old what new (Ok true)
-plain_answers a b t old new r what is answers =
-    subst (λ (w : Said). PartAnswers (record { before = a; after = a; buffer = b; buffer' = b }) t old w new (Ok true)) is
+pub plain_answers : (naming : Naming) (a : Option (List ℕ)) (b : ScriptBuffer) (t : Telling) (old new : Bare) (r : Request) (what : Said) → asked_by r ≡ what → AnswersTo naming t old (asked_by r) new
+    → PartAnswers naming (record { before = a; after = a; buffer = b; buffer' = b }) t old what new (Ok true)
+plain_answers naming a b t old new r what is answers =
+    subst (λ (w : Said). PartAnswers naming (record { before = a; after = a; buffer = b; buffer' = b }) t old w new (Ok true)) is
     ([], sym (no_raw r), gives_nothing a b, answers)
 
-module _ (a b c : Option (List ℕ)) (buf mid buf' : ScriptBuffer) (t : Telling) (old new : Bare) (line : List ℕ) (one : IsLine line)
+module _ (naming : Naming) (a b c : Option (List ℕ)) (buf mid buf' : ScriptBuffer) (t : Telling) (old new : Bare) (line : List ℕ) (one : IsLine line)
     (gives : Gives a b buf mid (line ++ 10 ∷ [])) where
   with_raw : (raw : List ℕ) → Gives b c mid buf' raw → Gives a c buf buf' (line ++ 10 ∷ raw)
   with_raw raw more =
       gives_as a c buf buf' ((line ++ 10 ∷ []) ++ raw) (line ++ 10 ∷ raw) (append_assoc line (10 ∷ []) raw)
       (gives_then a b c buf mid buf' (line ++ 10 ∷ []) raw gives more)
 
-  pub line_answered : (r : Result Bool ReadStop) → PartAnswers (record { before = b; after = c; buffer = mid; buffer' = buf' }) t old (said line) new r
-      → CommandEnds (record { before = a; after = c; buffer = buf; buffer' = buf' }) t old new r
+  pub line_answered : (r : Result Bool ReadStop) → PartAnswers naming (record { before = b; after = c; buffer = mid; buffer' = buf' }) t old (said line) new r
+      → CommandEnds naming (record { before = a; after = c; buffer = buf; buffer' = buf' }) t old new r
   line_answered (Ok true) p = (record { line = line; raw = p.0 }, record { line = one; raw = p.1 }, with_raw p.0 p.2, p.3)
   line_answered (Ok false) p = (cut_part line p.0, (one, p.1), with_raw p.0 p.2, p.3, p.4, p.5, p.6)
   line_answered (Err stop) p = (line ++ 10 ∷ p.0, with_raw p.0 p.2, p.3, inr (line, p.0, refl, one, p.1, p.4), p.5)

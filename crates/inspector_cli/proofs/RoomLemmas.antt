@@ -7,7 +7,8 @@ use Rattle.intake.specs.declared.faults.ArchiveFault.TheVariants.{Stopped, BadSl
 use Rattle.intake.specs.Slots.{stream_at}
 use Rattle.intake.specs.State.{Bare, BareStream}
 use Rattle.intake.specs.Parts.{Parts, StreamParts, bare_of, bare_stream}
-use Rattle.intake.specs.Room.{room_left, with_room, FitsFree}
+use Rattle.intake.specs.Lending.{with_room}
+use Rattle.intake.specs.Room.{room_left, FitsFree}
 use Rattle.intake.specs.Step.{RoomReply, longer, with_stream}
 use Rattle.inspector_cli.specs.Reply.{TakeStep}
 use Rattle.inspector_cli.proofs.SlotLemmas.{at_set, at_mapped}

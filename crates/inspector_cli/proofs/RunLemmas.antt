@@ -8,6 +8,7 @@ use Rattle.script_streams.specs.Telling.{Tells}
 use Rattle.script_streams.specs.declared.reader.ScriptBuffer.{ScriptBuffer}
 use Rattle.script_streams.specs.declared.reader.ReadStop.{ReadStop}
 use Rattle.script_streams.specs.declared.reply.Reply.{Reply}
+use Rattle.inspector_cli.specs.declared.session.Naming.{Naming}
 use Rattle.inspector_cli.specs.Said.{Said, said}
 use Rattle.inspector_cli.specs.Reply.{Replies}
 use Rattle.inspector_cli.specs.Session.{Item, IsItem, spelled, Run, Ending, ending_text, AnswersAll, AnswersWhole}
@@ -15,11 +16,11 @@ use Rattle.inspector_cli.specs.Answering.{Reading, Telling, CommandEnds, ScriptE
 use Rattle.inspector_cli.proofs.GiveLemmas.{gives_nothing, gives_then, gives_as}
 use Rattle.inspector_cli.proofs.TellLemmas.{tells_nothing, tells_then}
 
-run_then : (old mid new : Bare) (is : List Item) (out : List ℕ) (i : Item) (reply : List ℕ) → Run old is out mid → Replies mid (said i.line) reply new → Run old (is ++ i ∷ []) (out ++ reply) new
-run_then old mid new [] out i reply run replies =
-    (reply, [], new, subst (λ (b : Bare). Replies b (said i.line) reply new) run.1 replies, (refl, refl), ap (λ x. x ++ reply) run.0 ∙ sym (append-nil reply))
-run_then old mid new (j ∷ js) out i reply run replies =
-    (run.0, run.1 ++ reply, run.2, run.3, run_then run.2 mid new js run.1 i reply run.4 replies, ap (λ x. x ++ reply) run.5 ∙ append_assoc run.0 run.1 reply)
+run_then : (naming : Naming) (old mid new : Bare) (is : List Item) (out : List ℕ) (i : Item) (reply : List ℕ) → Run naming old is out mid → Replies naming mid (said i.line) reply new → Run naming old (is ++ i ∷ []) (out ++ reply) new
+run_then naming old mid new [] out i reply run replies =
+    (reply, [], new, subst (λ (b : Bare). Replies naming b (said i.line) reply new) run.1 replies, (refl, refl), ap (λ x. x ++ reply) run.0 ∙ sym (append-nil reply))
+run_then naming old mid new (j ∷ js) out i reply run replies =
+    (run.0, run.1 ++ reply, run.2, run.3, run_then naming run.2 mid new js run.1 i reply run.4 replies, ap (λ x. x ++ reply) run.5 ∙ append_assoc run.0 run.1 reply)
 
 all_then : (is : List Item) (i : Item) → AllByRecursion IsItem is → IsItem i → AllByRecursion IsItem (is ++ i ∷ [])
 all_then [] i all one = (one, tt)
@@ -30,18 +31,18 @@ text_then [] i = sym (append-nil (spelled i))
 text_then (j ∷ js) i = append_assoc (spelled j) (flat_map spelled js) (spelled i) ∙ ap (λ x. spelled j ++ x) (text_then js i)
 
 -- the commands so far, or all of them
-abbrev pub Along : Reading → Telling → Bare → Bare → Bool → Type 0
-Along r t old new true =
-    (items : List Item) × (out : List ℕ) × AllByRecursion IsItem items × Gives r.before r.after r.buffer r.buffer' (flat_map spelled items) × Run old items out new
+abbrev pub Along : Naming → Reading → Telling → Bare → Bare → Bool → Type 0
+Along naming r t old new true =
+    (items : List Item) × (out : List ℕ) × AllByRecursion IsItem items × Gives r.before r.after r.buffer r.buffer' (flat_map spelled items) × Run naming old items out new
     × Tells t.taken t.taken' t.failures t.failures' t.reply t.reply' out
-Along r t old new false = ScriptEnds r t old new (Ok tt)
+Along naming r t old new false = ScriptEnds naming r t old new (Ok tt)
 
-pub begun : (a : Option (List ℕ)) (b : ScriptBuffer) (o : Option (List ℕ)) (f : ℕ) (reply : Reply) (s : Bare)
-    → Along (record { before = a; after = a; buffer = b; buffer' = b }) (record { taken = o; taken' = o; failures = f; failures' = f; reply = reply; reply' = reply }) s s true
-begun a b o f reply s = ([], [], tt, gives_nothing a b, (refl, refl), tells_nothing o f reply)
+pub begun : (naming : Naming) (a : Option (List ℕ)) (b : ScriptBuffer) (o : Option (List ℕ)) (f : ℕ) (reply : Reply) (s : Bare)
+    → Along naming (record { before = a; after = a; buffer = b; buffer' = b }) (record { taken = o; taken' = o; failures = f; failures' = f; reply = reply; reply' = reply }) s s true
+begun naming a b o f reply s = ([], [], tt, gives_nothing a b, (refl, refl), tells_nothing o f reply)
 
-module _ (a b c : Option (List ℕ)) (x y z : ScriptBuffer) (o p q : Option (List ℕ)) (f g h : ℕ) (u v w : Reply) (old mid new : Bare)
-    (so_far : Along (record { before = a; after = b; buffer = x; buffer' = y }) (record { taken = o; taken' = p; failures = f; failures' = g; reply = u; reply' = v }) old mid true) where
+module _ (naming : Naming) (a b c : Option (List ℕ)) (x y z : ScriptBuffer) (o p q : Option (List ℕ)) (f g h : ℕ) (u v w : Reply) (old mid new : Bare)
+    (so_far : Along naming (record { before = a; after = b; buffer = x; buffer' = y }) (record { taken = o; taken' = p; failures = f; failures' = g; reply = u; reply' = v }) old mid true) where
   abbrev next_reading : Reading
   next_reading = record { before = b; after = c; buffer = y; buffer' = z }
 
@@ -54,14 +55,14 @@ module _ (a b c : Option (List ℕ)) (x y z : ScriptBuffer) (o p q : Option (Lis
   abbrev all_telling : Telling
   all_telling = record { taken = o; taken' = q; failures = f; failures' = h; reply = u; reply' = w }
 
-  pub goes_along : (more : Bool) → CommandEnds next_reading next_telling mid new (Ok more) → Along all_reading all_telling old new more
+  pub goes_along : (more : Bool) → CommandEnds naming next_reading next_telling mid new (Ok more) → Along naming all_reading all_telling old new more
   goes_along true e = (
     so_far.0 ++ e.0 ∷ [],
     so_far.1 ++ e.3.0,
     all_then so_far.0 e.0 so_far.2 e.1,
     gives_as a c x z (flat_map spelled so_far.0 ++ spelled e.0) (flat_map spelled (so_far.0 ++ e.0 ∷ [])) (text_then so_far.0 e.0)
         (gives_then a b c x y z (flat_map spelled so_far.0) (spelled e.0) so_far.3 e.2),
-    run_then old mid new so_far.0 so_far.1 e.0 e.3.0 so_far.4 e.3.1,
+    run_then naming old mid new so_far.0 so_far.1 e.0 e.3.0 so_far.4 e.3.1,
     tells_then o p q f g h u v w so_far.1 e.3.0 so_far.5 e.3.2,
   )
   goes_along false e = (
@@ -85,7 +86,7 @@ module _ (a b c : Option (List ℕ)) (x y z : ScriptBuffer) (o p q : Option (Lis
     tells_then o p q f g h u v w so_far.1 e.4 so_far.5 e.6,
   )
 
-  pub stops_along : (stop : ReadStop) → CommandEnds next_reading next_telling mid new (Err stop) → ScriptEnds all_reading all_telling old new (Err stop)
+  pub stops_along : (stop : ReadStop) → CommandEnds naming next_reading next_telling mid new (Err stop) → ScriptEnds naming all_reading all_telling old new (Err stop)
   stops_along stop e = (
     flat_map spelled so_far.0 ++ e.0,
     so_far.1 ++ [],
@@ -97,15 +98,15 @@ module _ (a b c : Option (List ℕ)) (x y z : ScriptBuffer) (o p q : Option (Lis
       rest = e.0;
       cut = refl;
       mid = mid;
-      run = subst (λ (text : List ℕ). Run old so_far.0 text mid) (sym (append-nil so_far.1)) so_far.4;
+      run = subst (λ (text : List ℕ). Run naming old so_far.0 text mid) (sym (append-nil so_far.1)) so_far.4;
       broken = e.3;
     },
     tells_then o p q f g h u v w so_far.1 [] so_far.5 e.4,
   )
 
 -- each command takes a byte, but where it is the last
-pub gets_nearer : (r : Reading) (t : Telling) (old new : Bare) (more : Bool) → CommandEnds r t old new (Ok more)
+pub gets_nearer : (naming : Naming) (r : Reading) (t : Telling) (old new : Bare) (more : Bool) → CommandEnds naming r t old new (Ok more)
     → steps_left r.buffer' + cond more 1 0 < steps_left r.buffer + 1
-gets_nearer r t old new true e =
+gets_nearer naming r t old new true e =
     let size = length-append e.0.line (10 ∷ e.0.raw) in let steps = e.2.steps in omega (arith, size, steps)
-gets_nearer r t old new false e = let steps = e.2.steps in omega (arith, steps)
+gets_nearer naming r t old new false e = let steps = e.2.steps in omega (arith, steps)

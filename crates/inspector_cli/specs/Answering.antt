@@ -11,6 +11,7 @@ use Rattle.script_streams.specs.declared.reader.ReadStop.TheVariants as stop
 use Rattle.script_streams.specs.declared.reply.Reply.{Reply}
 use Rattle.inspector_cli.specs.declared.session.SessionFault.{SessionFault}
 use Rattle.inspector_cli.specs.declared.session.SessionFault.TheVariants as fault
+use Rattle.inspector_cli.specs.declared.session.Naming.{Naming}
 use Rattle.inspector_cli.specs.Said.{Said, part_of, said, raw_length}
 use Rattle.inspector_cli.specs.Reply.{Replies, TakeStep}
 use Rattle.inspector_cli.specs.Session.{Item, IsItem, spelled, Ending, IsEnding, ending_text, EndReplies, BreaksOff, AnswersAll, AnswersWhole, Truncates, TakesFront, LastReplies}
@@ -27,9 +28,13 @@ pub record Telling : Type 0 where
 abbrev pub TellsText : Telling → List ℕ → Type 0
 TellsText t text = Tells t.taken t.taken' t.failures t.failures' t.reply t.reply' text
 
+-- a text is told that is so
+abbrev pub TellsReply : Telling → (List ℕ → Type 0) → Type 0
+TellsReply t P = (text : List ℕ) × P text × TellsText t text
+
 -- a line with no bytes behind it is answered
-abbrev pub AnswersTo : Telling → Bare → Said → Bare → Type 0
-AnswersTo t old what new = (text : List ℕ) × Replies old what text new × TellsText t text
+abbrev pub AnswersTo : Naming → Telling → Bare → Said → Bare → Type 0
+AnswersTo naming t old what new = (text : List ℕ) × Replies naming old what text new × TellsText t text
 
 -- an input before and after, with the bytes that were read and not used
 pub record Reading : Type 0 where
@@ -64,30 +69,30 @@ PartEnds r old slot count new (Err stop) =
     (raw : List ℕ) × (length raw < count) × GivesBytes r raw × (held_bytes r.buffer' ≡ []) × (verdict : Result (Unit {0}) ArchiveFault) × TakeStep old slot (length raw) verdict new
 
 -- a part is answered, whole or not
-abbrev pub PartAnswers : Reading → Telling → Bare → Said → Bare → Result Bool ReadStop → Type 0
-PartAnswers r t old what new (Ok true) = (raw : List ℕ) × (length raw ≡ raw_length what) × GivesBytes r raw × AnswersTo t old what new
-PartAnswers r t old what new (Ok false) =
+abbrev pub PartAnswers : Naming → Reading → Telling → Bare → Said → Bare → Result Bool ReadStop → Type 0
+PartAnswers naming r t old what new (Ok true) = (raw : List ℕ) × (length raw ≡ raw_length what) × GivesBytes r raw × AnswersTo naming t old what new
+PartAnswers naming r t old what new (Ok false) =
     (raw : List ℕ) × (length raw < raw_length what) × GivesBytes r raw × IsReadUp r × (reply : List ℕ) × Truncates old what raw reply new × TellsText t reply
-PartAnswers r t old what new (Err stop) =
+PartAnswers naming r t old what new (Err stop) =
     (raw : List ℕ) × (length raw < raw_length what) × GivesBytes r raw × (held_bytes r.buffer' ≡ []) × TakesFront old what raw new × TellsText t []
 
 -- a last line is answered
-abbrev pub LastAnswers : Telling → Bare → Said → Bare → Type 0
-LastAnswers t old what new = (reply : List ℕ) × LastReplies (raw_length what) old what reply new × TellsText t reply
+abbrev pub LastAnswers : Naming → Telling → Bare → Said → Bare → Type 0
+LastAnswers naming t old what new = (reply : List ℕ) × LastReplies naming (raw_length what) old what reply new × TellsText t reply
 
 -- One command: an item is answered, or the script ends, or it can't be read on
-abbrev pub CommandEnds : Reading → Telling → Bare → Bare → Result Bool ReadStop → Type 0
-CommandEnds r t old new (Ok true) = (i : Item) × IsItem i × GivesBytes r (spelled i) × AnswersTo t old (said i.line) new
-CommandEnds r t old new (Ok false) =
-    (e : Ending) × IsEnding e × GivesBytes r (ending_text e) × IsReadUp r × (reply : List ℕ) × EndReplies old e reply new × TellsText t reply
-CommandEnds r t old new (Err stop) =
+abbrev pub CommandEnds : Naming → Reading → Telling → Bare → Bare → Result Bool ReadStop → Type 0
+CommandEnds naming r t old new (Ok true) = (i : Item) × IsItem i × GivesBytes r (spelled i) × AnswersTo naming t old (said i.line) new
+CommandEnds naming r t old new (Ok false) =
+    (e : Ending) × IsEnding e × GivesBytes r (ending_text e) × IsReadUp r × (reply : List ℕ) × EndReplies naming old e reply new × TellsText t reply
+CommandEnds naming r t old new (Err stop) =
     (rest : List ℕ) × GivesBytes r rest × (held_bytes r.buffer' ≡ []) × BreaksOff old rest new × TellsText t []
 
 -- all commands of a script
-abbrev pub ScriptEnds : Reading → Telling → Bare → Bare → Result (Unit {0}) ReadStop → Type 0
-ScriptEnds r t old new (Ok u) = (read : List ℕ) × (out : List ℕ) × GivesBytes r read × IsReadUp r × AnswersAll read out old new × TellsText t out
-ScriptEnds r t old new (Err stop) =
-    (read : List ℕ) × (out : List ℕ) × GivesBytes r read × (held_bytes r.buffer' ≡ []) × AnswersWhole read out old new × TellsText t out
+abbrev pub ScriptEnds : Naming → Reading → Telling → Bare → Bare → Result (Unit {0}) ReadStop → Type 0
+ScriptEnds naming r t old new (Ok u) = (read : List ℕ) × (out : List ℕ) × GivesBytes r read × IsReadUp r × AnswersAll naming read out old new × TellsText t out
+ScriptEnds naming r t old new (Err stop) =
+    (read : List ℕ) × (out : List ℕ) × GivesBytes r read × (held_bytes r.buffer' ≡ []) × AnswersWhole naming read out old new × TellsText t out
 
 -- what a session answers where its script could not be read on
 abbrev pub session_fault : ReadStop → SessionFault

@@ -1,5 +1,7 @@
+pub mod Keys
 pub mod Said
 pub mod Commands
 pub mod Reply
 pub mod Session
 pub mod Answering
+pub mod Storing

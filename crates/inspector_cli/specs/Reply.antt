@@ -1,5 +1,5 @@
 -- The reply to what a line says, and what it does to the archive.
-use Rattle.std.specs.Prelude.{◌≡◌, ◌≢◌, ◌⊎◌, ℕ, ◌+◌, ◌*◌, ◌/◌, ◌%◌, ◌<◌, ◌≤◌, ◌==◌, Bool, true, false, nat_lt, List, [], ◌∷◌, ◌++◌, length, Option, None, Some, Result, Ok, Err, codes, decimal, if◌then◌else◌}
+use Rattle.std.specs.Prelude.{◌≡◌, ◌≢◌, ◌⊎◌, ℕ, ◌+◌, ◌*◌, ◌/◌, ◌%◌, ◌<◌, ◌≤◌, ◌==◌, Bool, true, false, nat_lt, List, [], ◌∷◌, ◌++◌, length, Option, None, Some, Result, Ok, Err, is_ok, codes, decimal, if◌then◌else◌}
 use Rattle.std.specs.List.{flat_map, list_any}
 use Rattle.journal_layout.specs.declared.entry.Kind.{Kind}
 use Rattle.journal_layout.specs.declared.entry.Kind.TheVariants.{Core, Exec}
@@ -8,8 +8,17 @@ use Rattle.intake.specs.declared.faults.ArchiveFault.{ArchiveFault}
 use Rattle.intake.specs.declared.faults.ArchiveFault.TheVariants.{Stopped, BadSlot, SlotBusy, NameTaken, NoStream, TooLong, SpaceFull, NoCase, Pinned, JournalFull, NumbersSpent, OutOfMemory, Disk}
 use Rattle.intake.specs.Slots.{stream_at}
 use Rattle.intake.specs.State.{Bare, BareCase, BareStream, blocks_in}
-use Rattle.intake.specs.Step.{BeginStep, FinishStep, AbandonStep, with_stream, halted, longer}
-use Rattle.inspector_cli.specs.Said.{Said, silence, bad_line, long_line, begin_exec, part_of, end_of, drop_of, list_all_cases}
+use Rattle.intake.specs.Step.{BeginStep, FinishStep, AbandonStep, DeleteStep, PinStep, RetireStep, FreeReply, with_stream, halted, longer}
+use Rattle.retention.specs.declared.Decision.{Decision}
+use Rattle.retention.specs.declared.Policy.{Policy}
+use Rattle.name_template.specs.Expansion.{expansion, name_of}
+use Rattle.name_template.specs.Naming.{template_bytes}
+use Rattle.name_template.specs.declared.facts.Facts.{Facts}
+use Rattle.name_template.specs.declared.template.NameFault.{NameFault}
+use Rattle.name_template.specs.declared.template.NameFault.TheVariants as name
+use Rattle.std.specs.Borrow.{Bor}
+use Rattle.inspector_cli.specs.declared.session.Naming.{Naming}
+use Rattle.inspector_cli.specs.Said.{Said, ProcessSaid, silence, bad_line, long_line, begin_exec, begin_core, part_of, end_of, drop_of, delete_of, pin_of, retire_by, list_all_cases, count_free}
 
 -- the reply to what was done
 abbrev pub ok_reply : List ℕ
@@ -40,7 +49,7 @@ abbrev pub plain_reply : Result (Unit {0}) ArchiveFault → List ℕ
 plain_reply (Ok u) = ok_reply
 plain_reply (Err fault) = no_reply (reason_of fault)
 
--- what is wrong with a name: it has more than 128 bytes, or a NUL
+-- what is wrong with a name that a line gives: it has more than 128 bytes, or a NUL
 abbrev pub name_fault : List ℕ → Option (List ℕ)
 name_fault name =
     if nat_lt 128 (length name) then Some (codes "TooLong")
@@ -51,16 +60,74 @@ name_fault name =
 abbrev pub new_exec : List ℕ → BareStream
 new_exec name = record { kind = Exec; name = name; pid = 0; signal = 0; time = 0; len = 0 }
 
+-- the stream of a core, with no bytes yet
+abbrev pub new_core : ProcessSaid → List ℕ → BareStream
+new_core process name = record {
+  kind = Core;
+  name = name;
+  pid = process.pid;
+  signal = process.signal;
+  time = process.time;
+  len = 0;
+}
+
+-- the stream, or what is wrong with its name
+abbrev pub exec_unless : List ℕ → Option (List ℕ) → Result BareStream (List ℕ)
+exec_unless name None = Ok (new_exec name)
+exec_unless name (Some reason) = Err reason
+
+-- what `begin exec` begins
+abbrev pub exec_stream : List ℕ → Result BareStream (List ℕ)
+exec_stream name = exec_unless name (name_fault name)
+
+-- a text in memory. Where it lies there is looked at nowhere.
+abbrev pub lent : List ℕ → Bor (List ℕ)
+lent text = record { ref_ptr = (0, 0); now = text }
+
+-- what a template's letters stand for
+abbrev pub facts_of : ProcessSaid → Facts
+facts_of process = record {
+  comm = lent process.comm;
+  exe = lent process.exe;
+  host = lent process.host;
+  pid = process.pid;
+  tid = process.tid;
+  signal = process.signal;
+  uid = process.uid;
+  gid = process.gid;
+  mode = process.mode;
+  time = process.time;
+  limit = process.limit;
+}
+
+-- the name of a process's core
+abbrev pub core_name : Naming → ProcessSaid → Result (List ℕ) NameFault
+core_name naming process = name_of (expansion (template_bytes naming.template) (facts_of process) naming.uses_pid)
+
+-- the name that a template's refusal is told by
+abbrev pub name_reason : NameFault → List ℕ
+name_reason name.Empty = codes "Empty"
+name_reason name.TooLong = codes "TooLong"
+name_reason name.NulByte = codes "NulByte"
+
+abbrev pub core_unless : ProcessSaid → Result (List ℕ) NameFault → Result BareStream (List ℕ)
+core_unless process (Ok name) = Ok (new_core process name)
+core_unless process (Err fault) = Err (name_reason fault)
+
+-- what `begin core` begins
+abbrev pub core_stream : Naming → ProcessSaid → Result BareStream (List ℕ)
+core_stream naming process = core_unless process (core_name naming process)
+
 -- `name NAME`, and what the call answers
 abbrev pub begin_reply : List ℕ → Result (Unit {0}) ArchiveFault → List ℕ
 begin_reply name (Ok u) = ((codes "name " ++ shown name) ++ 10 ∷ []) ++ ok_reply
 begin_reply name (Err fault) = no_reply (reason_of fault)
 
--- `begin`: what is wrong with the name comes first
-abbrev pub Begins : Bare → ℕ → List ℕ → Option (List ℕ) → List ℕ → Bare → Type 0
-Begins old slot name (Some reason) reply new = (reply ≡ no_reply reason) × (new ≡ old)
-Begins old slot name None reply new =
-    (result : Result (Unit {0}) ArchiveFault) × BeginStep old slot (new_exec name) result new × (reply ≡ begin_reply name result)
+-- `begin`: what is wrong with the name comes first. It is accepted or not.
+abbrev pub Begins : Bare → ℕ → Result BareStream (List ℕ) → List ℕ → Bare → Bool → Type 0
+Begins old slot (Err reason) reply new accepted = (reply ≡ no_reply reason) × (new ≡ old) × (accepted ≡ false)
+Begins old slot (Ok stream) reply new accepted =
+    (result : Result (Unit {0}) ArchiveFault) × BeginStep old slot stream result new × (reply ≡ begin_reply stream.name result) × (accepted ≡ is_ok result)
 
 -- the bytes of a stream at which the next block that it fills would find none free: m is the first multiple of 4,096 above
 -- its length for which the blocks in use, and those that it fills before m, are all that there are
@@ -103,11 +170,43 @@ abbrev pub end_reply : Result ℕ ArchiveFault → List ℕ
 end_reply (Ok seq) = ((codes "stored " ++ decimal seq) ++ 10 ∷ []) ++ ok_reply
 end_reply (Err fault) = no_reply (reason_of fault)
 
-abbrev pub Ends : Bare → ℕ → List ℕ → Bare → Type 0
-Ends old slot reply new = (result : Result ℕ ArchiveFault) × FinishStep old slot result new × (reply ≡ end_reply result)
+-- `end`: the case is stored or not
+abbrev pub Ends : Bare → ℕ → List ℕ → Bare → Bool → Type 0
+Ends old slot reply new stored =
+    (result : Result ℕ ArchiveFault) × FinishStep old slot result new × (reply ≡ end_reply result) × (stored ≡ is_ok result)
 
 abbrev pub Drops : Bare → ℕ → List ℕ → Bare → Type 0
 Drops old slot reply new = (result : Result (Unit {0}) ArchiveFault) × AbandonStep old slot result new × (reply ≡ plain_reply result)
+
+abbrev pub Deletes : Bare → ℕ → List ℕ → Bare → Type 0
+Deletes old seq reply new = (result : Result (Unit {0}) ArchiveFault) × DeleteStep old seq result new × (reply ≡ plain_reply result)
+
+abbrev pub Pins : Bare → ℕ → Bool → List ℕ → Bare → Type 0
+Pins old seq flag reply new = (result : Result (Unit {0}) ArchiveFault) × PinStep old seq flag result new × (reply ≡ plain_reply result)
+
+-- `dropped N`
+abbrev pub dropped_line : ℕ → List ℕ
+dropped_line seq = (codes "dropped " ++ decimal seq) ++ 10 ∷ []
+
+-- `unmet`, where the limits do not hold even so
+abbrev pub unmet_line : Bool → List ℕ
+unmet_line unmet = if unmet then codes "unmet" ++ 10 ∷ [] else []
+
+-- a line for each case that was dropped
+abbrev pub retire_reply : Result Decision ArchiveFault → List ℕ
+retire_reply (Ok decision) = flat_map dropped_line decision.dropped.items ++ (unmet_line decision.unmet ++ ok_reply)
+retire_reply (Err fault) = no_reply (reason_of fault)
+
+abbrev pub Retires : Bare → Policy → List ℕ → Bare → Type 0
+Retires old policy reply new = (result : Result Decision ArchiveFault) × RetireStep old policy result new × (reply ≡ retire_reply result)
+
+-- `free F of N`
+abbrev pub free_reply : Result (ℕ × ℕ) ArchiveFault → List ℕ
+free_reply (Ok n) = (codes "free " ++ (decimal n.0 ++ (codes " of " ++ (decimal n.1 ++ 10 ∷ [])))) ++ ok_reply
+free_reply (Err fault) = no_reply (reason_of fault)
+
+abbrev pub Frees : Bare → List ℕ → Bare → Type 0
+Frees old reply new = (result : Result (ℕ × ℕ) ArchiveFault) × FreeReply old result × (reply ≡ free_reply result) × (new ≡ old)
 
 abbrev pub kind_name : Kind → List ℕ
 kind_name Core = codes "core"
@@ -131,12 +230,17 @@ abbrev pub list_reply : Bool → List BareCase → List ℕ
 list_reply stopped cases = if stopped then no_reply (codes "Stopped") else flat_map case_line cases ++ ok_reply
 
 -- the reply, and the archive behind it, where as many bytes as the line says stood behind it
-abbrev pub Replies : Bare → Said → List ℕ → Bare → Type 0
-Replies old silence reply new = (reply ≡ []) × (new ≡ old)
-Replies old bad_line reply new = (reply ≡ no_reply (codes "BadLine")) × (new ≡ old)
-Replies old long_line reply new = (reply ≡ no_reply (codes "LineTooLong")) × (new ≡ old)
-Replies old (begin_exec slot name) reply new = Begins old slot name (name_fault name) reply new
-Replies old (part_of slot n) reply new = Parts old slot n reply new
-Replies old (end_of slot) reply new = Ends old slot reply new
-Replies old (drop_of slot) reply new = Drops old slot reply new
-Replies old list_all_cases reply new = (reply ≡ list_reply old.stopped old.cases) × (new ≡ old)
+abbrev pub Replies : Naming → Bare → Said → List ℕ → Bare → Type 0
+Replies naming old silence reply new = (reply ≡ []) × (new ≡ old)
+Replies naming old bad_line reply new = (reply ≡ no_reply (codes "BadLine")) × (new ≡ old)
+Replies naming old long_line reply new = (reply ≡ no_reply (codes "LineTooLong")) × (new ≡ old)
+Replies naming old (begin_exec slot name) reply new = (accepted : Bool) × Begins old slot (exec_stream name) reply new accepted
+Replies naming old (begin_core slot process) reply new = (accepted : Bool) × Begins old slot (core_stream naming process) reply new accepted
+Replies naming old (part_of slot n) reply new = Parts old slot n reply new
+Replies naming old (end_of slot) reply new = (stored : Bool) × Ends old slot reply new stored
+Replies naming old (drop_of slot) reply new = Drops old slot reply new
+Replies naming old (delete_of seq) reply new = Deletes old seq reply new
+Replies naming old (pin_of seq flag) reply new = Pins old seq flag reply new
+Replies naming old (retire_by policy) reply new = Retires old policy reply new
+Replies naming old list_all_cases reply new = (reply ≡ list_reply old.stopped old.cases) × (new ≡ old)
+Replies naming old count_free reply new = Frees old reply new

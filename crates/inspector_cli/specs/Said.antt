@@ -1,10 +1,26 @@
 -- What a line of a script says.
-use Rattle.std.specs.Prelude.{ℕ, ◌≤◌, Bool, true, false, nat_lt, List, [], ◌∷◌, length, Option, None, Some, codes, if◌then◌else◌}
-use Rattle.std.specs.List.{AllByRecursion}
+use Rattle.std.specs.Prelude.{ℕ, ◌^◌, ◌-◌, Bool, true, false, nat_lt, List, [], ◌∷◌, length, Option, None, Some, codes, if◌then◌else◌}
 use Rattle.std.specs.Str.{bytes_eq}
+use Rattle.retention.specs.declared.Policy.{Policy}
 use Rattle.script_words.specs.Words.{words_of, is_plain_line, is_blank_or_comment_line}
 use Rattle.script_words.specs.Number.{number_within}
 use Rattle.script_words.specs.Text.{text_of}
+use Rattle.inspector_cli.specs.declared.keys.Keys.TheVariants.{Core, Retire}
+use Rattle.inspector_cli.specs.Keys.{are_pairs, text_at, small_at, large_at, number_or_zero}
+
+-- what a line tells of a process that dumped core: what it leaves out is empty or 0
+pub record ProcessSaid : Type 0 where
+  pub comm : List ℕ
+  pub exe : List ℕ
+  pub host : List ℕ
+  pub pid : ℕ
+  pub tid : ℕ
+  pub signal : ℕ
+  pub uid : ℕ
+  pub gid : ℕ
+  pub mode : ℕ
+  pub time : ℕ
+  pub limit : ℕ
 
 -- what a line asks for, or why it asks for nothing
 pub data Said : Type 0 where
@@ -16,14 +32,24 @@ pub data Said : Type 0 where
   long_line : Said
   -- a stream of an executable of this name, in a slot
   begin_exec : ℕ → List ℕ → Said
+  -- a stream of the core of this process, in a slot
+  begin_core : ℕ → ProcessSaid → Said
   -- so many bytes more, which stand behind the line
   part_of : ℕ → ℕ → Said
   -- the stream in a slot becomes a case
   end_of : ℕ → Said
   -- the stream in a slot is dropped
   drop_of : ℕ → Said
+  -- the case of this number is dropped
+  delete_of : ℕ → Said
+  -- the case of this number is kept from deletion, or no longer
+  pin_of : ℕ → Bool → Said
+  -- the cases that the rule drops under this policy are dropped
+  retire_by : Policy → Said
   -- the cases
   list_all_cases : Said
+  -- the free data blocks
+  count_free : Said
 
 -- what is said, if it is anything that is known
 abbrev pub known_or_bad : Option Said → Said
@@ -54,13 +80,51 @@ abbrev pub drops : Option ℕ → Option Said
 drops None = None
 drops (Some slot) = Some (drop_of slot)
 
--- what stands behind the word of each command: `begin exec SLOT NAME`
+-- `begin exec SLOT NAME`, behind the kind
+abbrev pub exec_said : List (List ℕ) → Option Said
+exec_said [] = None
+exec_said (slot ∷ []) = None
+exec_said (slot ∷ name ∷ []) = begins (slot_of slot) (text_of name)
+exec_said (slot ∷ name ∷ more ∷ words) = None
+
+-- what pairs tell of a process
+abbrev pub process_in : List (List ℕ) → ProcessSaid
+process_in words = record {
+  comm = text_at (codes "comm") words;
+  exe = text_at (codes "exe") words;
+  host = text_at (codes "host") words;
+  pid = small_at (codes "pid") words;
+  tid = small_at (codes "tid") words;
+  signal = small_at (codes "sig") words;
+  uid = small_at (codes "uid") words;
+  gid = small_at (codes "gid") words;
+  mode = small_at (codes "mode") words;
+  time = number_or_zero (large_at (codes "time") words);
+  limit = number_or_zero (large_at (codes "limit") words);
+}
+
+-- what pairs tell of a process, if they are pairs that tell of one
+abbrev pub process_said : List (List ℕ) → Option ProcessSaid
+process_said words = if are_pairs Core words then Some (process_in words) else None
+
+-- a slot and a process
+abbrev pub begins_core : Option ℕ → Option ProcessSaid → Option Said
+begins_core None process = None
+begins_core (Some slot) None = None
+begins_core (Some slot) (Some process) = Some (begin_core slot process)
+
+-- `begin core SLOT KEY=VALUE ..`, behind the kind
+abbrev pub core_said : List (List ℕ) → Option Said
+core_said [] = None
+core_said (slot ∷ words) = begins_core (slot_of slot) (process_said words)
+
+-- what stands behind the word of each command: `begin KIND ..`
 abbrev pub begin_said : List (List ℕ) → Option Said
 begin_said [] = None
-begin_said (kind ∷ []) = None
-begin_said (kind ∷ slot ∷ []) = None
-begin_said (kind ∷ slot ∷ name ∷ []) = if bytes_eq kind (codes "exec") then begins (slot_of slot) (text_of name) else None
-begin_said (kind ∷ slot ∷ name ∷ more ∷ words) = None
+begin_said (kind ∷ words) =
+    if bytes_eq kind (codes "exec") then exec_said words
+    else (if bytes_eq kind (codes "core") then core_said words
+    else None)
 
 -- `part SLOT COUNT`, 0 to 65,536 bytes
 abbrev pub part_said : List (List ℕ) → Option Said
@@ -75,21 +139,66 @@ slot_alone [] = None
 slot_alone (slot ∷ []) = slot_of slot
 slot_alone (slot ∷ more ∷ words) = None
 
+-- the one word that is the number of a case, 1 to 2 ^ 32 - 1
+abbrev pub case_alone : List (List ℕ) → Option ℕ
+case_alone [] = None
+case_alone (seq ∷ []) = number_within 1 (2 ^ 32 - 1) seq
+case_alone (seq ∷ more ∷ words) = None
+
+abbrev pub deletes : Option ℕ → Option Said
+deletes None = None
+deletes (Some seq) = Some (delete_of seq)
+
+abbrev pub pins : Bool → Option ℕ → Option Said
+pins flag None = None
+pins flag (Some seq) = Some (pin_of seq flag)
+
+-- what pairs say that an archive is to be brought down to
+abbrev pub policy_in : List (List ℕ) → Policy
+policy_in words = record {
+  keep = large_at (codes "keep") words;
+  bytes = large_at (codes "bytes") words;
+  before = large_at (codes "before") words;
+}
+
+-- `retire KEY=VALUE ..`
+abbrev pub retire_said : List (List ℕ) → Option Said
+retire_said words = if are_pairs Retire words then Some (retire_by (policy_in words)) else None
+
+-- `free`
+abbrev pub free_said : List (List ℕ) → Option Said
+free_said [] = Some count_free
+free_said (more ∷ words) = None
+
 -- `list`
 abbrev pub list_said : List (List ℕ) → Option Said
 list_said [] = Some list_all_cases
 list_said (more ∷ words) = None
 
+-- the commands on cases
+abbrev pub case_words_said : List ℕ → List (List ℕ) → Option Said
+case_words_said command words =
+    if bytes_eq command (codes "delete") then deletes (case_alone words)
+    else (if bytes_eq command (codes "pin") then pins true (case_alone words)
+    else (if bytes_eq command (codes "unpin") then pins false (case_alone words)
+    else (if bytes_eq command (codes "retire") then retire_said words
+    else (if bytes_eq command (codes "list") then list_said words
+    else (if bytes_eq command (codes "free") then free_said words
+    else None)))))
+
+-- the commands on streams, and the others
+abbrev pub command_said : List ℕ → List (List ℕ) → Option Said
+command_said command words =
+    if bytes_eq command (codes "begin") then begin_said words
+    else (if bytes_eq command (codes "part") then part_said words
+    else (if bytes_eq command (codes "end") then ends (slot_alone words)
+    else (if bytes_eq command (codes "drop") then drops (slot_alone words)
+    else case_words_said command words)))
+
 -- what the words of a line say
 abbrev pub words_said : List (List ℕ) → Option Said
 words_said [] = None
-words_said (command ∷ words) =
-    if bytes_eq command (codes "begin") then begin_said words
-    else if bytes_eq command (codes "part") then part_said words
-    else if bytes_eq command (codes "end") then ends (slot_alone words)
-    else if bytes_eq command (codes "drop") then drops (slot_alone words)
-    else if bytes_eq command (codes "list") then list_said words
-    else None
+words_said (command ∷ words) = command_said command words
 
 -- what a line says that has a reply and is not too long: no bytes stand in it but spaces and 0x21 to 0x7e
 abbrev pub short_line_said : List ℕ → Said
@@ -109,7 +218,12 @@ raw_length silence = 0
 raw_length bad_line = 0
 raw_length long_line = 0
 raw_length (begin_exec slot name) = 0
+raw_length (begin_core slot process) = 0
 raw_length (part_of slot count) = count
 raw_length (end_of slot) = 0
 raw_length (drop_of slot) = 0
+raw_length (delete_of seq) = 0
+raw_length (pin_of seq flag) = 0
+raw_length (retire_by policy) = 0
 raw_length list_all_cases = 0
+raw_length count_free = 0

@@ -1,18 +1,17 @@
 // The answers to lines that no bytes stand behind.
-ghost use Rattle.std.specs.Prelude.{◌≡◌, ◌≤◌, ◌==◌, MatchResult, None, Some, length};
-ghost use Rattle.std.specs.List.{list_any};
+ghost use Rattle.std.specs.Prelude.{◌≡◌};
 ghost use Rattle.intake.specs.Parts.{bare_of};
-ghost use Rattle.inspector_cli.specs.Said.{begin_exec, end_of, drop_of, part_of, list_all_cases};
 ghost use Rattle.inspector_cli.specs.Commands.{asked_by};
-ghost use Rattle.inspector_cli.specs.Reply.{name_fault};
-ghost use Rattle.inspector_cli.specs.Answering.{AnswersTo};
+ghost use Rattle.inspector_cli.specs.Reply.{Ends, Drops, Deletes, Pins, Retires, Frees, list_reply};
+ghost use Rattle.inspector_cli.specs.Answering.{AnswersTo, TellsReply, TellsText};
 
+use crate::begin::{answer_begin, core_stream, exec_stream};
 use crate::command::Request;
 use crate::session::Naming;
-use crate::telling::{tell_begun, tell_cases, tell_no, tell_outcome, tell_stored};
+use crate::telling::{tell_cases, tell_free, tell_no, tell_outcome, tell_retired, tell_stored};
 use disk_model::Disk;
 use intake::Archive;
-use journal_layout::{Kind, Name};
+use retention::Policy;
 use script_streams::{Output, Reply};
 
 // Answers a line.
@@ -21,9 +20,9 @@ pub(crate) fn answer_plain<O: Output, D: Disk>(
     reply: &mut Reply,
     output: &mut O,
     archive: &mut Archive<D>,
-    _naming: &Naming,
+    naming: &Naming,
 )
-    ensures { AnswersTo (record {
+    ensures { AnswersTo naming.now (record {
       taken = O.taken output.old;
       taken' = O.taken output.new;
       failures = O.failures output.old;
@@ -36,77 +35,23 @@ pub(crate) fn answer_plain<O: Output, D: Disk>(
         Request::Silence => {}
         Request::BadLine => tell_no(reply, output, b"BadLine"),
         Request::LineTooLong => tell_no(reply, output, b"LineTooLong"),
-        Request::Begin { slot, name } => {
-            let _ = answer_begin(slot, name.as_slice(), reply, output, archive);
+        Request::BeginExec { slot, name } => {
+            let _ = answer_begin(slot, exec_stream(&name), reply, output, archive);
+        }
+        Request::BeginCore { slot, process } => {
+            let found = core_stream(&process, naming);
+            let _ = answer_begin(slot, found, reply, output, archive);
         }
         Request::End { slot } => {
             let _ = answer_end(slot, reply, output, archive);
         }
         Request::Drop { slot } => answer_drop(slot, reply, output, archive),
+        Request::Delete { seq } => answer_delete(seq, reply, output, archive),
+        Request::Pin { seq, flag } => answer_pin(seq, flag, reply, output, archive),
+        Request::Retire { policy } => answer_retire(policy, reply, output, archive),
         Request::ListCases => answer_list(reply, output, archive),
+        Request::CountFree => answer_free(reply, output, archive),
     }
-}
-
-// Answers `begin exec`. Says whether the stream has begun.
-pub(crate) fn answer_begin<O: Output, D: Disk>(
-    slot: u8,
-    text: &[u8],
-    reply: &mut Reply,
-    output: &mut O,
-    archive: &mut Archive<D>,
-) -> bool
-    ensures { AnswersTo (record {
-      taken = O.taken output.old;
-      taken' = O.taken output.new;
-      failures = O.failures output.old;
-      failures' = O.failures output.new;
-      reply = reply.old;
-      reply' = reply.new;
-    }) (bare_of archive.old) (begin_exec slot text.now)
-        (bare_of archive.new) }
-{
-    match checked_name(text) {
-        Ok(name) => {
-            let outcome = archive.begin(slot, Kind::Exec, name, 0, 0, 0);
-            let begun = outcome.is_ok();
-            tell_begun(reply, output, text, outcome);
-            begun
-        }
-        Err(reason) => {
-            tell_no(reply, output, reason);
-            false
-        }
-    }
-}
-
-// A name, or what is wrong with it.
-fn checked_name(text: &[u8]) -> Result<Name, &'static [u8]>
-    ensures { MatchResult result (λ name. (name.items ≡ text.now) × (name_fault text.now
-        ≡ None)) (λ reason. name_fault text.now ≡ Some reason.now) }
-{
-    if text.len() > 128 {
-        return Err(b"TooLong");
-    }
-    if has_nul(text) {
-        return Err(b"NulByte");
-    }
-    Ok(copied(text))
-}
-
-fn has_nul(text: &[u8]) -> bool
-    ensures { result ≡ list_any (λ c. c == 0) text.now }
-{
-    text.iter().any(|byte| *byte == 0)
-}
-
-// A text that a name has room for.
-fn copied(text: &[u8]) -> Name
-    requires { length text.now ≤ 128 }
-    ensures { result.items ≡ text.now }
-{
-    let mut name = Name::new();
-    let _ = name.try_extend_from_slice(text);
-    name
 }
 
 // Answers `end`. Says whether the case is stored.
@@ -116,19 +61,19 @@ pub(crate) fn answer_end<O: Output, D: Disk>(
     output: &mut O,
     archive: &mut Archive<D>,
 ) -> bool
-    ensures { AnswersTo (record {
+    ensures { TellsReply (record {
       taken = O.taken output.old;
       taken' = O.taken output.new;
       failures = O.failures output.old;
       failures' = O.failures output.new;
       reply = reply.old;
       reply' = reply.new;
-    }) (bare_of archive.old) (end_of slot) (bare_of archive.new) }
+    }) (λ text. Ends (bare_of archive.old) slot text (bare_of archive.new) result) }
 {
     let outcome = archive.finish(slot);
-    let stored = outcome.is_ok();
+    let is_stored = outcome.is_ok();
     tell_stored(reply, output, outcome);
-    stored
+    is_stored
 }
 
 // Answers `drop`.
@@ -138,32 +83,107 @@ fn answer_drop<O: Output, D: Disk>(
     output: &mut O,
     archive: &mut Archive<D>,
 )
-    ensures { AnswersTo (record {
+    ensures { TellsReply (record {
       taken = O.taken output.old;
       taken' = O.taken output.new;
       failures = O.failures output.old;
       failures' = O.failures output.new;
       reply = reply.old;
       reply' = reply.new;
-    }) (bare_of archive.old) (drop_of slot) (bare_of archive.new) }
+    }) (λ text. Drops (bare_of archive.old) slot text (bare_of archive.new)) }
 {
     let outcome = archive.abandon(slot);
     tell_outcome(reply, output, outcome);
 }
 
-// Answers `list`.
-fn answer_list<O: Output, D: Disk>(reply: &mut Reply, output: &mut O, archive: &Archive<D>)
-    ensures { AnswersTo (record {
+// Answers `delete`.
+fn answer_delete<O: Output, D: Disk>(
+    seq: u32,
+    reply: &mut Reply,
+    output: &mut O,
+    archive: &mut Archive<D>,
+)
+    ensures { TellsReply (record {
       taken = O.taken output.old;
       taken' = O.taken output.new;
       failures = O.failures output.old;
       failures' = O.failures output.new;
       reply = reply.old;
       reply' = reply.new;
-    }) (bare_of archive.now) list_all_cases (bare_of archive.now) }
+    }) (λ text. Deletes (bare_of archive.old) seq text (bare_of archive.new)) }
+{
+    let outcome = archive.delete(seq);
+    tell_outcome(reply, output, outcome);
+}
+
+// Answers `pin` and `unpin`.
+fn answer_pin<O: Output, D: Disk>(
+    seq: u32,
+    flag: bool,
+    reply: &mut Reply,
+    output: &mut O,
+    archive: &mut Archive<D>,
+)
+    ensures { TellsReply (record {
+      taken = O.taken output.old;
+      taken' = O.taken output.new;
+      failures = O.failures output.old;
+      failures' = O.failures output.new;
+      reply = reply.old;
+      reply' = reply.new;
+    }) (λ text. Pins (bare_of archive.old) seq flag text (bare_of archive.new)) }
+{
+    let outcome = archive.pin(seq, flag);
+    tell_outcome(reply, output, outcome);
+}
+
+// Answers `retire`.
+fn answer_retire<O: Output, D: Disk>(
+    policy: Policy,
+    reply: &mut Reply,
+    output: &mut O,
+    archive: &mut Archive<D>,
+)
+    ensures { TellsReply (record {
+      taken = O.taken output.old;
+      taken' = O.taken output.new;
+      failures = O.failures output.old;
+      failures' = O.failures output.new;
+      reply = reply.old;
+      reply' = reply.new;
+    }) (λ text. Retires (bare_of archive.old) policy text (bare_of archive.new)) }
+{
+    let outcome = archive.retire(&policy);
+    tell_retired(reply, output, outcome);
+}
+
+// Answers `list`.
+fn answer_list<O: Output, D: Disk>(reply: &mut Reply, output: &mut O, archive: &Archive<D>)
+    ensures { TellsText (record {
+      taken = O.taken output.old;
+      taken' = O.taken output.new;
+      failures = O.failures output.old;
+      failures' = O.failures output.new;
+      reply = reply.old;
+      reply' = reply.new;
+    }) (list_reply (bare_of archive.now).stopped (bare_of archive.now).cases) }
 {
     match archive.cases() {
         Ok(cases) => tell_cases(reply, output, cases),
         Err(_) => tell_no(reply, output, b"Stopped"),
     }
+}
+
+// Answers `free`.
+fn answer_free<O: Output, D: Disk>(reply: &mut Reply, output: &mut O, archive: &Archive<D>)
+    ensures { TellsReply (record {
+      taken = O.taken output.old;
+      taken' = O.taken output.new;
+      failures = O.failures output.old;
+      failures' = O.failures output.new;
+      reply = reply.old;
+      reply' = reply.new;
+    }) (λ text. Frees (bare_of archive.now) text (bare_of archive.now)) }
+{
+    tell_free(reply, output, archive.free_blocks());
 }

@@ -1,15 +1,20 @@
 //! What a line of a script says.
-ghost use Rattle.std.specs.Prelude.{◌≡◌, ◌≤◌, ℕ, List, length, option_map, is_some};
+ghost use Rattle.std.specs.Prelude.{◌≡◌, ◌<◌, ◌≤◌, ℕ, List, length, option_map, is_some};
 ghost use Rattle.script_words.specs.Words.{words_of};
 ghost use Rattle.script_words.specs.WordsLeft.{words_left};
-ghost use Rattle.inspector_cli.specs.Said.{said, begin_said, part_said, slot_alone, list_said, words_said, short_line_said};
-ghost use Rattle.inspector_cli.specs.Commands.{said_by, AreShort};
+ghost use Rattle.script_words.specs.Text.{text_of};
+ghost use Rattle.inspector_cli.specs.Said.{said, begin_said, exec_said, core_said, part_said, slot_alone, case_alone, pins, retire_said, list_said, free_said, case_words_said, words_said, short_line_said};
+ghost use Rattle.inspector_cli.specs.Commands.{said_by, asked_by, name_text, AreWords};
 ghost use Rattle.script_streams.specs.Lines.{KeepsLine};
 
-use arrayvec::ArrayVec;
+use crate::keys::{Keys, are_pairs, large_at};
+use crate::names::NameWord;
+use crate::process::{Process, parse_process};
+use retention::Policy;
 use script_streams::KeptLine;
 use script_words::{
-    Words, decode_text, is_blank_or_comment, is_plain, parse_part_length, parse_slot,
+    Words, decode_text, is_blank_or_comment, is_plain, parse_case_number, parse_part_length,
+    parse_slot,
 };
 
 /// What a line asks for, or why it asks for nothing.
@@ -31,13 +36,23 @@ pub(crate) enum Request {
     /// It has more than 1,024 bytes.
     LineTooLong,
     /// A stream of an executable of this name.
-    Begin { slot: u8, name: ArrayVec<u8, 1024> },
+    BeginExec { slot: u8, name: NameWord },
+    /// A stream of the core of this process.
+    BeginCore { slot: u8, process: Process },
     /// The stream becomes a case.
     End { slot: u8 },
     /// The stream is dropped.
     Drop { slot: u8 },
+    /// The case is dropped.
+    Delete { seq: u32 },
+    /// The case is kept from deletion, or no longer.
+    Pin { seq: u32, flag: bool },
+    /// The cases that the rule drops are dropped.
+    Retire { policy: Policy },
     /// The cases.
     ListCases,
+    /// The free data blocks.
+    CountFree,
 }
 
 // What a line says.
@@ -83,13 +98,13 @@ fn parse_short_line(line: &[u8]) -> Command
 
 // What the words of a line say.
 fn parse_words(words: Words<'_>) -> Option<Command>
-    requires { AreShort (words_left words) }
+    requires { AreWords (words_left words) }
     ensures { option_map said_by result ≡ words_said (words_left words.entry) }
 {
     let mut rest = words;
     let command = rest.next()?;
     if command == b"begin".as_slice() {
-        parse_begin(rest)
+        Some(Command::Plain(parse_begin(rest)?))
     } else if command == b"part".as_slice() {
         parse_part(rest)
     } else if command == b"end".as_slice() {
@@ -100,29 +115,89 @@ fn parse_words(words: Words<'_>) -> Option<Command>
         Some(Command::Plain(Request::Drop {
             slot: parse_slot_alone(rest)?,
         }))
+    } else {
+        Some(Command::Plain(parse_case_words(command, rest)?))
+    }
+}
+
+// What the words of a line on cases say.
+fn parse_case_words(command: &[u8], words: Words<'_>) -> Option<Request>
+    requires { AreWords (words_left words) }
+    ensures { option_map asked_by result ≡ case_words_said command.now (words_left words.entry) }
+{
+    if command == b"delete".as_slice() {
+        Some(Request::Delete {
+            seq: parse_case_alone(words)?,
+        })
+    } else if command == b"pin".as_slice() {
+        parse_pin(words, true)
+    } else if command == b"unpin".as_slice() {
+        parse_pin(words, false)
+    } else if command == b"retire".as_slice() {
+        parse_retire(words)
     } else if command == b"list".as_slice() {
-        parse_list(rest)
+        parse_list(words)
+    } else if command == b"free".as_slice() {
+        parse_free(words)
     } else {
         None
     }
 }
 
-// `begin`: the kind, a slot and a name.
-fn parse_begin(words: Words<'_>) -> Option<Command>
-    requires { AreShort (words_left words) }
-    ensures { option_map said_by result ≡ begin_said (words_left words.entry) }
+// `begin`: the kind, and what it is of.
+fn parse_begin(words: Words<'_>) -> Option<Request>
+    requires { AreWords (words_left words) }
+    ensures { option_map asked_by result ≡ begin_said (words_left words.entry) }
 {
     let mut rest = words;
     let kind = rest.next()?;
+    if kind == b"exec".as_slice() {
+        parse_exec(rest)
+    } else if kind == b"core".as_slice() {
+        parse_core(rest)
+    } else {
+        None
+    }
+}
+
+// `begin exec`: a slot and a name.
+fn parse_exec(words: Words<'_>) -> Option<Request>
+    requires { AreWords (words_left words) }
+    ensures { option_map asked_by result ≡ exec_said (words_left words.entry) }
+{
+    let mut rest = words;
     let slot = rest.next()?;
     let name = rest.next()?;
-    if rest.next().is_some() || kind != b"exec".as_slice() {
+    if rest.next().is_some() {
         return None;
     }
-    Some(Command::Plain(Request::Begin {
+    Some(Request::BeginExec {
         slot: parse_slot(slot)?,
-        name: decode_text(name)?,
-    }))
+        name: parse_name(name)?,
+    })
+}
+
+// The name that a word stands for.
+fn parse_name(word: &[u8]) -> Option<NameWord>
+    requires some { 0 < length word.now }
+    requires short { length word.now ≤ 1024 }
+    ensures { option_map name_text result ≡ text_of word.now }
+{
+    let text = decode_text(word)?;
+    Some(NameWord { text })
+}
+
+// `begin core`: a slot and what is told of a process.
+fn parse_core(words: Words<'_>) -> Option<Request>
+    requires { AreWords (words_left words) }
+    ensures { option_map asked_by result ≡ core_said (words_left words.entry) }
+{
+    let mut rest = words;
+    let slot = rest.next()?;
+    Some(Request::BeginCore {
+        slot: parse_slot(slot)?,
+        process: parse_process(rest)?,
+    })
 }
 
 // `part`: a slot and a number of bytes.
@@ -153,13 +228,63 @@ fn parse_slot_alone(words: Words<'_>) -> Option<u8>
     parse_slot(slot)
 }
 
+// The number of a case and nothing else.
+fn parse_case_alone(words: Words<'_>) -> Option<u32>
+    ensures { result ≡ case_alone (words_left words.entry) }
+{
+    let mut rest = words;
+    let seq = rest.next()?;
+    if rest.next().is_some() {
+        return None;
+    }
+    parse_case_number(seq)
+}
+
+// `pin` and `unpin`: the number of a case.
+fn parse_pin(words: Words<'_>, flag: bool) -> Option<Request>
+    ensures { option_map asked_by result ≡ pins flag (case_alone (words_left words.entry)) }
+{
+    Some(Request::Pin {
+        seq: parse_case_alone(words)?,
+        flag,
+    })
+}
+
+// `retire`: the limits.
+fn parse_retire(words: Words<'_>) -> Option<Request>
+    requires { AreWords (words_left words) }
+    ensures { option_map asked_by result ≡ retire_said (words_left words.entry) }
+{
+    if !are_pairs(Keys::Retire, words) {
+        return None;
+    }
+    Some(Request::Retire {
+        policy: Policy {
+            keep: large_at(words, b"keep"),
+            bytes: large_at(words, b"bytes"),
+            before: large_at(words, b"before"),
+        },
+    })
+}
+
 // `list`: nothing else.
-fn parse_list(words: Words<'_>) -> Option<Command>
-    ensures { option_map said_by result ≡ list_said (words_left words.entry) }
+fn parse_list(words: Words<'_>) -> Option<Request>
+    ensures { option_map asked_by result ≡ list_said (words_left words.entry) }
 {
     let mut rest = words;
     if rest.next().is_some() {
         return None;
     }
-    Some(Command::Plain(Request::ListCases))
+    Some(Request::ListCases)
+}
+
+// `free`: nothing else.
+fn parse_free(words: Words<'_>) -> Option<Request>
+    ensures { option_map asked_by result ≡ free_said (words_left words.entry) }
+{
+    let mut rest = words;
+    if rest.next().is_some() {
+        return None;
+    }
+    Some(Request::CountFree)
 }

@@ -2,8 +2,12 @@
 #![tactic(auto)]
 
 mod answers;
+mod begin;
 mod command;
+mod keys;
+mod names;
 mod parts;
+mod process;
 mod run;
 mod script;
 mod session;

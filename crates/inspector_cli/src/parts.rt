@@ -5,6 +5,7 @@ ghost use Rattle.intake.specs.State.{Bare};
 ghost use Rattle.inspector_cli.specs.Said.{part_of};
 ghost use Rattle.script_streams.specs.Reading.{Stops, steps_left};
 ghost use Rattle.inspector_cli.specs.Reply.{TakeStep};
+ghost use Rattle.inspector_cli.specs.declared.session.Naming.{Naming};
 ghost use Rattle.inspector_cli.specs.Answering.{PieceEnds, PartEnds, PartAnswers, SkipEnds};
 
 use crate::telling::{tell_no, tell_outcome};
@@ -22,7 +23,7 @@ pub(crate) fn answer_part<I: Input, O: Output, D: Disk>(
     output: &mut O,
     archive: &mut Archive<D>,
 ) -> Result<bool, ReadStop>
-    ensures answers { PartAnswers
+    ensures answers { (naming : Naming) → PartAnswers naming
         (record {
           before = I.remaining input.old;
           after = I.remaining input.new;

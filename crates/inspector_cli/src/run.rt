@@ -23,7 +23,7 @@ pub fn run_session<I: Input, O: Output, D: Disk>(
     archive: &mut Archive<D>,
     naming: &Naming,
 ) -> Result<(), SessionFault>
-    ensures { SessionEnds (I.remaining input.old) (I.remaining input.new) (I.failures input.old)
+    ensures { SessionEnds naming.now (I.remaining input.old) (I.remaining input.new) (I.failures input.old)
         (I.failures input.new) (O.taken output.old) (O.taken output.new) (O.failures output.old)
         (O.failures output.new) (bare_of archive.old) (bare_of archive.new) result }
 {

@@ -4,6 +4,7 @@ ghost use Rattle.script_streams.specs.Lines.{IsLine, KeepsLine};
 ghost use Rattle.script_streams.specs.Reading.{Stops};
 ghost use Rattle.intake.specs.Parts.{bare_of};
 ghost use Rattle.inspector_cli.specs.Said.{said, part_of};
+ghost use Rattle.inspector_cli.specs.declared.session.Naming.{Naming};
 ghost use Rattle.inspector_cli.specs.Answering.{CommandEnds, ScriptEnds, PartAnswers, LastAnswers};
 
 use crate::answers::answer_plain;
@@ -24,7 +25,7 @@ pub(crate) fn answer_script<I: Input, O: Output, D: Disk>(
     archive: &mut Archive<D>,
     naming: &Naming,
 ) -> Result<(), ReadStop>
-    ensures answers { ScriptEnds
+    ensures answers { ScriptEnds naming.now
         (record {
           before = I.remaining input.old;
           after = I.remaining input.new;
@@ -62,7 +63,7 @@ fn answer_command<I: Input, O: Output, D: Disk>(
     archive: &mut Archive<D>,
     naming: &Naming,
 ) -> Result<bool, ReadStop>
-    ensures answers { CommandEnds
+    ensures answers { CommandEnds naming.now
         (record {
           before = I.remaining input.old;
           after = I.remaining input.new;
@@ -104,7 +105,7 @@ fn answer_line<I: Input, O: Output, D: Disk>(
 ) -> Result<bool, ReadStop>
     requires { (text : List ℕ) × KeepsLine text line.now }
     ensures answers { (text : List ℕ) → KeepsLine text line.now
-        → PartAnswers (record {
+        → PartAnswers naming.now (record {
           before = I.remaining input.old;
           after = I.remaining input.new;
           buffer = buffer.old;
@@ -143,7 +144,7 @@ fn answer_last<O: Output, D: Disk>(
 )
     requires { (text : List ℕ) × KeepsLine text line.now }
     ensures { (text : List ℕ) → KeepsLine text line.now
-        → LastAnswers (record {
+        → LastAnswers naming.now (record {
           taken = O.taken output.old;
           taken' = O.taken output.new;
           failures
@@ -168,7 +169,7 @@ fn answer_cut<O: Output, D: Disk>(
     output: &mut O,
     archive: &mut Archive<D>,
 )
-    ensures { LastAnswers (record {
+    ensures { (naming : Naming) → LastAnswers naming (record {
       taken = O.taken output.old;
       taken' = O.taken output.new;
       failures = O.failures output.old;

@@ -1,6 +1,14 @@
 // One stream, stored from its own input.
+ghost use Rattle.std.specs.Prelude.{◌≡◌, ℕ, true, Ok};
+ghost use Rattle.intake.specs.Parts.{bare_of};
+ghost use Rattle.intake.specs.State.{Bare};
+ghost use Rattle.inspector_cli.specs.Said.{said};
+ghost use Rattle.inspector_cli.specs.Reply.{TakeStep};
+ghost use Rattle.inspector_cli.specs.Answering.{TellsReply};
+ghost use Rattle.inspector_cli.specs.Storing.{StoreEnds, Stores, FirstReplies, RestReplies, TakesFile, TakesMore, IsSlotQuiet};
 
-use crate::answers::{answer_begin, answer_end};
+use crate::answers::answer_end;
+use crate::begin::{answer_begin, core_stream, exec_stream};
 use crate::command::{Command, Request, parse_text};
 use crate::session::{Naming, SessionFault};
 use crate::telling::{reason, tell_no};
@@ -12,7 +20,7 @@ use script_streams::{Input, Output, Reply};
 const MOST_READS: u64 = 1 << 40;
 
 // Why a file's bytes were not all taken.
-#[derive(Clone, Copy, PartialEq, Eq, Debug)]
+#[derive(Clone, Copy)]
 enum TakeStop {
     // It could not be read, or did not end.
     File,
@@ -21,9 +29,10 @@ enum TakeStop {
 }
 
 /// Answers a line that begins a stream in slot 0. Where it is accepted, the stream takes all bytes of `file` and becomes a
-/// case, and the reply is that of the first step that was refused, or else that of the line `end 0`. A `file` that
-/// cannot be read, or that has not ended after 2^40 reads, is a step that is refused with the reply `no File`. Says
-/// whether the case is stored. No stream is open in slot 0 then.
+/// case, and the reply goes on by that of the first step that was refused, or else by that of the line `end 0`. A `file`
+/// that cannot be read, or that has not ended after 2^40 reads, is a step that is refused with the reply `no File`. Says
+/// whether the case is stored. No stream is open in slot 0 then. Any other line is refused with the reply `no BadLine`,
+/// and one of more than 1,024 bytes with `no LineTooLong`.
 ///
 /// # Errors
 ///
@@ -34,7 +43,12 @@ pub fn store_stream<I: Input, O: Output, D: Disk>(
     output: &mut O,
     archive: &mut Archive<D>,
     naming: &Naming,
-) -> Result<bool, SessionFault> {
+) -> Result<bool, SessionFault>
+    ensures ends { StoreEnds naming.now (I.remaining file.old) (I.remaining file.new) (I.failures file.old)
+        (I.failures file.new) (O.taken output.old) (O.taken output.new) (O.failures output.old)
+        (O.failures output.new) (bare_of archive.old) line.now (bare_of archive.new) result }
+    ensures quiet { IsSlotQuiet (bare_of archive.new) }
+{
     let mut reply = Reply::new();
     let is_stored = answer_store(line, file, &mut reply, output, archive, naming);
     let _ = archive.abandon(0);
@@ -44,7 +58,7 @@ pub fn store_stream<I: Input, O: Output, D: Disk>(
     Ok(is_stored)
 }
 
-// Answers a stream's first line, and then its file. Says whether the case is stored.
+// Answers the line that begins a stream, and then its file. Says whether the case is stored.
 fn answer_store<I: Input, O: Output, D: Disk>(
     line: &[u8],
     file: &mut I,
@@ -52,10 +66,79 @@ fn answer_store<I: Input, O: Output, D: Disk>(
     output: &mut O,
     archive: &mut Archive<D>,
     naming: &Naming,
-) -> bool {
-    if !answer_first(line, reply, output, archive, naming) {
+) -> bool
+    ensures { TellsReply (record {
+      taken = O.taken output.old;
+      taken' = O.taken output.new;
+      failures = O.failures output.old;
+      failures' = O.failures output.new;
+      reply = reply.old;
+      reply' = reply.new;
+    }) (λ text. Stores naming.now (I.remaining file.old) (I.remaining file.new) (I.failures file.old) (I.failures file.new)
+        (bare_of archive.old) line.now text (bare_of archive.new) result) }
+{
+    let is_begun = answer_first(line, reply, output, archive, naming);
+    if !is_begun {
         return false;
     }
+    answer_file(file, reply, output, archive)
+}
+
+// Answers the line that begins the stream. Says whether it has begun.
+fn answer_first<O: Output, D: Disk>(
+    line: &[u8],
+    reply: &mut Reply,
+    output: &mut O,
+    archive: &mut Archive<D>,
+    naming: &Naming,
+) -> bool
+    ensures first { TellsReply (record {
+      taken = O.taken output.old;
+      taken' = O.taken output.new;
+      failures = O.failures output.old;
+      failures' = O.failures output.new;
+      reply = reply.old;
+      reply' = reply.new;
+    }) (λ text. FirstReplies naming.now (bare_of archive.old) (said line.now) text (bare_of archive.new) result) }
+    ensures begun { result ≡ true → TakeStep (bare_of archive.new) 0 0 (Ok tt) (bare_of archive.new) }
+{
+    match parse_text(line) {
+        Command::Plain(Request::BeginExec { slot: 0, name }) => {
+            answer_begin(0, exec_stream(&name), reply, output, archive)
+        }
+        Command::Plain(Request::BeginCore { slot: 0, process }) => {
+            let found = core_stream(&process, naming);
+            answer_begin(0, found, reply, output, archive)
+        }
+        Command::Plain(Request::LineTooLong) => {
+            tell_no(reply, output, b"LineTooLong");
+            false
+        }
+        _ => {
+            tell_no(reply, output, b"BadLine");
+            false
+        }
+    }
+}
+
+// Takes a file into the stream in slot 0, and makes it a case. Says whether the case is stored.
+fn answer_file<I: Input, O: Output, D: Disk>(
+    file: &mut I,
+    reply: &mut Reply,
+    output: &mut O,
+    archive: &mut Archive<D>,
+) -> bool
+    requires { TakeStep (bare_of archive.old) 0 0 (Ok tt) (bare_of archive.old) }
+    ensures { TellsReply (record {
+      taken = O.taken output.old;
+      taken' = O.taken output.new;
+      failures = O.failures output.old;
+      failures' = O.failures output.new;
+      reply = reply.old;
+      reply' = reply.new;
+    }) (λ text. RestReplies (I.remaining file.old) (I.remaining file.new) (I.failures file.old) (I.failures file.new)
+        (bare_of archive.old) true text (bare_of archive.new) result) }
+{
     match take_file(file, archive) {
         Ok(()) => answer_end(0, reply, output, archive),
         Err(TakeStop::File) => {
@@ -69,45 +152,40 @@ fn answer_store<I: Input, O: Output, D: Disk>(
     }
 }
 
-// Answers the line that begins the stream. Says whether it has begun.
-fn answer_first<O: Output, D: Disk>(
-    line: &[u8],
-    reply: &mut Reply,
-    output: &mut O,
-    archive: &mut Archive<D>,
-    _naming: &Naming,
-) -> bool {
-    match parse_text(line) {
-        Command::Plain(Request::Begin { slot: 0, name }) => {
-            answer_begin(0, name.as_slice(), reply, output, archive)
-        }
-        Command::Plain(Request::LineTooLong) => {
-            tell_no(reply, output, b"LineTooLong");
-            false
-        }
-        _ => {
-            tell_no(reply, output, b"BadLine");
-            false
-        }
-    }
-}
-
 // Takes all bytes of a file into the stream in slot 0.
-fn take_file<I: Input, D: Disk>(file: &mut I, archive: &mut Archive<D>) -> Result<(), TakeStop> {
+fn take_file<I: Input, D: Disk>(file: &mut I, archive: &mut Archive<D>) -> Result<(), TakeStop>
+    requires { TakeStep (bare_of archive.old) 0 0 (Ok tt) (bare_of archive.old) }
+    ensures { TakesFile (I.remaining file.old) (I.remaining file.new) (I.failures file.old) (I.failures file.new)
+        (bare_of archive.old) (bare_of archive.new) result }
+{
     for _ in 0..MOST_READS {
-        let (lent, room) = archive.room(0);
-        if let Err(fault) = lent {
-            return Err(TakeStop::Refused(fault));
-        }
-        let Ok(count) = file.read(room) else {
-            return Err(TakeStop::File);
-        };
-        if count == 0 {
+        let goes_on = take_more(file, archive)?;
+        if !goes_on {
             return Ok(());
-        }
-        if let Err(fault) = archive.advance(0, count) {
-            return Err(TakeStop::Refused(fault));
         }
     }
     Err(TakeStop::File)
+}
+
+// Takes the next bytes of a file into the stream in slot 0. Says whether there were any.
+fn take_more<I: Input, D: Disk>(file: &mut I, archive: &mut Archive<D>) -> Result<bool, TakeStop>
+    ensures { (begun : Bare) (so_far : ℕ)
+        → TakeStep begun 0 so_far (Ok tt) (bare_of archive.old)
+        → TakesMore (I.remaining file.old) (I.remaining file.new) (I.failures file.old) (I.failures file.new)
+        begun so_far (bare_of archive.new) result }
+{
+    let (lent, room) = archive.room(0);
+    if let Err(fault) = lent {
+        return Err(TakeStop::Refused(fault));
+    }
+    let Ok(count) = file.read(room) else {
+        return Err(TakeStop::File);
+    };
+    if count == 0 {
+        return Ok(false);
+    }
+    if let Err(fault) = archive.advance(0, count) {
+        return Err(TakeStop::Refused(fault));
+    }
+    Ok(true)
 }

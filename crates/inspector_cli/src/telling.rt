@@ -3,11 +3,12 @@ ghost use Rattle.std.specs.Prelude.{◌≡◌, ◌++◌, map};
 ghost use Rattle.std.specs.List.{flat_map};
 ghost use Rattle.journal_layout.specs.Case.{case_of};
 ghost use Rattle.intake.specs.Parts.{bare_case};
-ghost use Rattle.inspector_cli.specs.Reply.{ok_reply, no_reply, reason_of, plain_reply, begin_reply, end_reply, number_word, case_line, kind_name, pin_name};
+ghost use Rattle.inspector_cli.specs.Reply.{ok_reply, no_reply, reason_of, plain_reply, begin_reply, end_reply, retire_reply, dropped_line, free_reply, number_word, case_line, kind_name, pin_name};
 ghost use Rattle.inspector_cli.specs.Answering.{TellsText};
 
 use intake::ArchiveFault;
 use journal_layout::{Entry, Kind};
+use retention::Decision;
 use script_streams::{Output, Reply};
 
 // The name that a refusal is told by.
@@ -114,6 +115,79 @@ pub(crate) fn tell_stored<O: Output>(
         Ok(seq) => {
             reply.tell(output, b"stored ");
             reply.tell_decimal(output, u128::from(seq));
+            reply.tell(output, b"\n");
+            reply.tell(output, b"ok\n");
+        }
+        Err(fault) => tell_no(reply, output, reason(fault)),
+    }
+}
+
+// Tells the cases that were dropped, and whether the limits do not hold even so; or why none was dropped.
+pub(crate) fn tell_retired<O: Output>(
+    reply: &mut Reply,
+    output: &mut O,
+    outcome: Result<Decision, ArchiveFault>,
+)
+    ensures { TellsText (record {
+      taken = O.taken output.old;
+      taken' = O.taken output.new;
+      failures = O.failures output.old;
+      failures' = O.failures output.new;
+      reply = reply.old;
+      reply' = reply.new;
+    }) (retire_reply outcome) }
+{
+    match outcome {
+        Ok(decision) => {
+            tell_dropped(reply, output, decision.dropped.as_slice());
+            if decision.unmet {
+                reply.tell(output, b"unmet\n");
+            }
+            reply.tell(output, b"ok\n");
+        }
+        Err(fault) => tell_no(reply, output, reason(fault)),
+    }
+}
+
+// Tells a line for each case that was dropped.
+fn tell_dropped<O: Output>(reply: &mut Reply, output: &mut O, dropped: &[u32])
+    ensures { TellsText (record {
+      taken = O.taken output.old;
+      taken' = O.taken output.new;
+      failures = O.failures output.old;
+      failures' = O.failures output.new;
+      reply = reply.old;
+      reply' = reply.new;
+    }) (flat_map dropped_line dropped.now) }
+{
+    for seq in dropped {
+        reply.tell(output, b"dropped ");
+        reply.tell_decimal(output, u128::from(*seq));
+        reply.tell(output, b"\n");
+    }
+}
+
+// Tells how many data blocks are free, and how many there are.
+pub(crate) fn tell_free<O: Output>(
+    reply: &mut Reply,
+    output: &mut O,
+    outcome: Result<(u32, u32), ArchiveFault>,
+)
+    ensures { TellsText (record {
+      taken = O.taken output.old;
+      taken' = O.taken output.new;
+      failures = O.failures output.old;
+      failures' = O.failures output.new;
+      reply = reply.old;
+      reply' = reply.new;
+    }) (free_reply outcome) }
+{
+    match outcome {
+        Ok((free, all)) => {
+            reply.tell(output, b"free ");
+            reply.tell_decimal(output, u128::from(free));
+            reply.tell(output, b" of ");
+            reply.tell_decimal(output, u128::from(all));
             reply.tell(output, b"\n");
             reply.tell(output, b"ok\n");
         }

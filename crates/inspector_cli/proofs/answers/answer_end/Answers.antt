@@ -4,4 +4,4 @@ use Rattle.inspector_cli.proofs.answers.answer_end.Goals as goal
 
 pub returns : goal.returns
 returns g c =
-    (end_reply c.finish-outcome.result, (c.finish-outcome.result, c.finish-outcome.ensures.step, refl), c.tell_stored.ensures)
+    (end_reply c.finish-outcome.result, (c.finish-outcome.result, c.finish-outcome.ensures.step, refl, c.is_ok-is_stored.ensures.value), c.tell_stored.ensures)

@@ -1,6 +1,7 @@
 use Rattle.std.proofs.Common.{[], refl}
 use Rattle.std.specs.Prelude.{codes}
-use Rattle.inspector_cli.specs.Reply.{no_reply}
+use Rattle.intake.specs.Parts.{bare_of}
+use Rattle.inspector_cli.specs.Reply.{no_reply, list_reply}
 use Rattle.inspector_cli.proofs.TellLemmas.{tells_nothing}
 use Rattle.inspector_cli.proofs.answers.answer_plain.Goals as goal
 
@@ -12,3 +13,7 @@ returns-in-BadLine g c = rw c.in-BadLine.is (no_reply (codes "BadLine"), (refl, 
 
 pub returns-in-LineTooLong : goal.returns-in-LineTooLong
 returns-in-LineTooLong g c = rw c.in-LineTooLong.is (no_reply (codes "LineTooLong"), (refl, refl), c.tell_no-in-LineTooLong.ensures)
+
+pub returns-in-ListCases : goal.returns-in-ListCases
+returns-in-ListCases g c =
+    rw c.in-ListCases.is (list_reply (bare_of c.args.archive.now).stopped (bare_of c.args.archive.now).cases, (refl, refl), c.answer_list.ensures)

@@ -1,4 +1,4 @@
-use Rattle.std.proofs.Common.{◌≡◌, ℕ, ◌+◌, ◌≤◌, length, take, arith, sym, subst, Ok, length-take-le, List, ◌++◌, drop}
+use Rattle.std.proofs.Common.{length, take, sym, subst, Ok, length-take-le, ◌++◌, drop}
 use Rattle.intake.specs.Room.{room_left}
 use Rattle.inspector_cli.proofs.GiveLemmas.{first_of}
 use Rattle.std.proofs.lemmas.Result.{err_from_is_err_and}

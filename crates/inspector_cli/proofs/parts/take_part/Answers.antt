@@ -1,4 +1,4 @@
-use Rattle.std.proofs.Common.{◌≡◌, ◌≢◌, ℕ, ◌+◌, ◌≤◌, ◌<◌, ◌++◌, [], length, arith, refl, ◌∙◌}
+use Rattle.std.proofs.Common.{◌+◌, ◌++◌, [], length, arith, refl, ◌∙◌}
 use Rattle.std.proofs.lemmas.Result.{err_from_is_err_and}
 use Rattle.intake.specs.Parts.{bare_of}
 use Rattle.inspector_cli.proofs.TakeLemmas.{took_none}

@@ -1,4 +1,3 @@
-use Rattle.inspector_cli.proofs.TakeLemmas.{refused_yet}
 use Rattle.inspector_cli.proofs.parts.take_piece.Goals as goal
 
 pub returns-in-Ok-clause-takes : goal.returns-in-Ok-clause-takes

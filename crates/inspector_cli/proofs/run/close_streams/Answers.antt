@@ -1,4 +1,4 @@
-use Rattle.std.proofs.Common.{◌≡◌, ◌≤◌, ℕ, length, arith, subst}
+use Rattle.std.proofs.Common.{◌≡◌, ℕ, arith, subst}
 use Rattle.std.proofs.lemmas.List.{length-map}
 use Rattle.intake.specs.Parts.{bare_of}
 use Rattle.inspector_cli.proofs.CloseLemmas.{ClosesBelow, closes_on, closes_none, closed_all}

@@ -7,7 +7,7 @@ use Rattle.inspector_cli.proofs.run.run_session.Goals as goal
 
 pub returns-in_default : goal.returns-in_default
 returns-in_default g c =
-    write_failed (g.I.Input.remaining c.args.input.now) (g.I.Input.remaining c.answer_script-answered.new.input)
+    write_failed c.args.naming.now (g.I.Input.remaining c.args.input.now) (g.I.Input.remaining c.answer_script-answered.new.input)
     c.new-buffer.result c.answer_script-answered.new.buffer (g.I.Input.failures c.args.input.now) (g.I.Input.failures c.answer_script-answered.new.input)
     (g.O.Output.taken c.args.output.now) (g.O.Output.taken c.answer_script-answered.new.output) (g.O.Output.taken c.finish.new.output)
     (g.O.Output.failures c.args.output.now) (g.O.Output.failures c.answer_script-answered.new.output) (g.O.Output.failures c.finish.new.output)
@@ -18,7 +18,7 @@ returns-in_default g c =
 
 pub returns-in-Ok-answered : goal.returns-in-Ok-answered
 returns-in-Ok-answered g c =
-    ended (g.I.Input.remaining c.args.input.now) (g.I.Input.remaining c.answer_script-answered.new.input)
+    ended c.args.naming.now (g.I.Input.remaining c.args.input.now) (g.I.Input.remaining c.answer_script-answered.new.input)
     c.new-buffer.result c.answer_script-answered.new.buffer (g.I.Input.failures c.args.input.now) (g.I.Input.failures c.answer_script-answered.new.input)
     (g.O.Output.taken c.args.output.now) (g.O.Output.taken c.answer_script-answered.new.output) (g.O.Output.taken c.finish.new.output)
     (g.O.Output.failures c.args.output.now) (g.O.Output.failures c.answer_script-answered.new.output) (g.O.Output.failures c.finish.new.output)
@@ -29,12 +29,12 @@ returns-in-Ok-answered g c =
 
 pub returns-in-Err : goal.returns-in-Err
 returns-in-Err g c =
-    subst (λ (x : SessionFault). SessionEnds (g.I.Input.remaining c.args.input.now) (g.I.Input.remaining c.answer_script-answered.new.input)
+    subst (λ (x : SessionFault). SessionEnds c.args.naming.now (g.I.Input.remaining c.args.input.now) (g.I.Input.remaining c.answer_script-answered.new.input)
     (g.I.Input.failures c.args.input.now) (g.I.Input.failures c.answer_script-answered.new.input)
     (g.O.Output.taken c.args.output.now) (g.O.Output.taken c.finish.new.output) (g.O.Output.failures c.args.output.now) (g.O.Output.failures c.finish.new.output)
     (bare_of c.args.archive.now) (bare_of c.close_streams.new.archive) (Err x))
     (sym c.session_fault.ensures)
-    (read_stopped (g.I.Input.remaining c.args.input.now) (g.I.Input.remaining c.answer_script-answered.new.input)
+    (read_stopped c.args.naming.now (g.I.Input.remaining c.args.input.now) (g.I.Input.remaining c.answer_script-answered.new.input)
     c.new-buffer.result c.answer_script-answered.new.buffer (g.I.Input.failures c.args.input.now) (g.I.Input.failures c.answer_script-answered.new.input)
     (g.O.Output.taken c.args.output.now) (g.O.Output.taken c.answer_script-answered.new.output) (g.O.Output.taken c.finish.new.output)
     (g.O.Output.failures c.args.output.now) (g.O.Output.failures c.answer_script-answered.new.output) (g.O.Output.failures c.finish.new.output)

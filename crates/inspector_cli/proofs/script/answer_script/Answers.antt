@@ -6,14 +6,14 @@ use Rattle.inspector_cli.proofs.script.answer_script.Goals as goal
 
 pub loop-goes_on-init : goal.loop-goes_on-init
 loop-goes_on-init g c = record {
-  along = begun (g.I.Input.remaining c.args.input.now) c.args.buffer.now (g.O.Output.taken c.args.output.now) (g.O.Output.failures c.args.output.now) c.args.reply.now (bare_of c.args.archive.now);
+  along = begun c.args.naming.now (g.I.Input.remaining c.args.input.now) c.args.buffer.now (g.O.Output.taken c.args.output.now) (g.O.Output.failures c.args.output.now) c.args.reply.now (bare_of c.args.archive.now);
   failures = refl;
 }
 
 pub returns-in_err-goes_on-clause-answers : goal.returns-in_err-goes_on-clause-answers
 returns-in_err-goes_on-clause-answers g c =
     let q = err_from_is_err_and c.from_residual.result c.from_residual.ensures.1 in
-    rw q.1 (stops_along (g.I.Input.remaining c.args.input.now) (g.I.Input.remaining c.loop-goes_on.input) (g.I.Input.remaining c.answer_command.new.input)
+    rw q.1 (stops_along c.args.naming.now (g.I.Input.remaining c.args.input.now) (g.I.Input.remaining c.loop-goes_on.input) (g.I.Input.remaining c.answer_command.new.input)
     c.args.buffer.now c.loop-goes_on.buffer c.answer_command.new.buffer
     (g.O.Output.taken c.args.output.now) (g.O.Output.taken c.loop-goes_on.output) (g.O.Output.taken c.answer_command.new.output)
     (g.O.Output.failures c.args.output.now) (g.O.Output.failures c.loop-goes_on.output) (g.O.Output.failures c.answer_command.new.output)
@@ -24,7 +24,7 @@ returns-in_err-goes_on-clause-answers g c =
 pub loop-goes_on-preserved : goal.loop-goes_on-preserved
 loop-goes_on-preserved g c = record {
   along =
-      goes_along (g.I.Input.remaining c.args.input.now) (g.I.Input.remaining c.loop-goes_on.input) (g.I.Input.remaining c.answer_command.new.input)
+      goes_along c.args.naming.now (g.I.Input.remaining c.args.input.now) (g.I.Input.remaining c.loop-goes_on.input) (g.I.Input.remaining c.answer_command.new.input)
       c.args.buffer.now c.loop-goes_on.buffer c.answer_command.new.buffer
       (g.O.Output.taken c.args.output.now) (g.O.Output.taken c.loop-goes_on.output) (g.O.Output.taken c.answer_command.new.output)
       (g.O.Output.failures c.args.output.now) (g.O.Output.failures c.loop-goes_on.output) (g.O.Output.failures c.answer_command.new.output)

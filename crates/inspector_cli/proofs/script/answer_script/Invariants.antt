@@ -7,7 +7,7 @@ use Rattle.inspector_cli.proofs.script.answer_script.Given as goal
 abbrev pub invariant-loop-goes_on : goal.invariant-loop-goes_on
 invariant-loop-goes_on g l = record {
   along :
-      Along
+      Along l.naming
       (record { before = g.I.Input.remaining l.initial.input; after = g.I.Input.remaining l.input; buffer = l.initial.buffer; buffer' = l.buffer })
       (record {
         taken = g.O.Output.taken l.initial.output;

@@ -1,6 +1,6 @@
 use Rattle.std.proofs.Common.{arith}
-use Rattle.inspector_cli.proofs.CaseLemmas.{one_line_more, lines_of}
-use Rattle.inspector_cli.proofs.TellLemmas.{tells_then, tells_as, tells_nothing}
+use Rattle.inspector_cli.proofs.CaseLemmas.{one_line_more}
+use Rattle.inspector_cli.proofs.TellLemmas.{tells_then, tells_as}
 use Rattle.inspector_cli.proofs.telling.tell_cases.Goals as goal
 
 pub loop-entry-preserved : goal.loop-entry-preserved

@@ -1,4 +1,4 @@
-use Rattle.std.proofs.Common.{◌≡◌, take, map}
+use Rattle.std.proofs.Common.{take, map}
 use Rattle.std.specs.List.{flat_map}
 use Rattle.journal_layout.specs.Case.{case_of}
 use Rattle.intake.specs.Parts.{bare_case}

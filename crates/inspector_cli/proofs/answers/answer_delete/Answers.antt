@@ -1,0 +1,6 @@
+use Rattle.std.proofs.Common.{refl}
+use Rattle.inspector_cli.specs.Reply.{plain_reply}
+use Rattle.inspector_cli.proofs.answers.answer_delete.Goals as goal
+
+pub returns : goal.returns
+returns g c = (plain_reply c.delete-outcome.result, (c.delete-outcome.result, c.delete-outcome.ensures.step, refl), c.tell_outcome.ensures)

@@ -1,0 +1,6 @@
+use Rattle.std.proofs.Common.{refl}
+use Rattle.inspector_cli.specs.Reply.{retire_reply}
+use Rattle.inspector_cli.proofs.answers.answer_retire.Goals as goal
+
+pub returns : goal.returns
+returns g c = (retire_reply c.retire-outcome.result, (c.retire-outcome.result, c.retire-outcome.ensures.step, refl), c.tell_retired.ensures)

@@ -1,0 +1,44 @@
+// The names that lines give, and the streams of these names.
+ghost use Rattle.std.specs.Prelude.{◌≡◌, ◌<◌, ◌≤◌, ◌==◌, false, length};
+ghost use Rattle.std.specs.List.{list_any};
+ghost use Rattle.disk_model.specs.Places.{AreBytes};
+
+use arrayvec::ArrayVec;
+use journal_layout::{Kind, Name};
+
+// A name that is the text of a word, and so is not empty.
+#[derive(Drop)]
+pub(crate) struct NameWord {
+    pub(crate) text: ArrayVec<u8, 1024>,
+    ghost some: { 0 < length text.items },
+}
+
+// A stream with no bytes yet.
+#[derive(Drop)]
+pub(crate) struct NewStream {
+    pub(crate) kind: Kind,
+    pub(crate) name: Name,
+    pub(crate) pid: u32,
+    pub(crate) signal: u32,
+    pub(crate) time: u64,
+    ghost some: { 0 < length name.items },
+    ghost no_nul: { list_any (λ c. c == 0) name.items ≡ false },
+}
+
+// Whether a NUL is among the bytes.
+pub(crate) fn has_nul(text: &[u8]) -> bool
+    ensures { result ≡ list_any (λ c. c == 0) text.now }
+{
+    text.iter().any(|byte| *byte == 0)
+}
+
+// A text that a name has room for.
+pub(crate) fn copied(text: &[u8]) -> Name
+    requires { length text.now ≤ 128 }
+    ensures same { result.items ≡ text.now }
+    ensures bytes { AreBytes text.now }
+{
+    let mut name = Name::new();
+    let _ = name.try_extend_from_slice(text);
+    name
+}
