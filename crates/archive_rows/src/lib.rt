@@ -1,9 +1,22 @@
-//! Tests of the calls of a run list, a journal and an archive over a disk in memory.
+//! Tests of the calls of an archive over a disk in memory: its space, its pins and retirements, its images, and what
+//! stops, faults and crashes leave of it.
 #![tactic(auto)]
 
 #[cfg(test)]
-mod archive_calls;
+mod bench;
 #[cfg(test)]
-mod journal_calls;
+mod calls;
+#[cfg(test)]
+mod crashes;
+#[cfg(test)]
+mod images;
+#[cfg(test)]
+mod retirement;
 #[cfg(test)]
 mod run_lists;
+#[cfg(test)]
+mod script;
+#[cfg(test)]
+mod space;
+#[cfg(test)]
+mod stops;
