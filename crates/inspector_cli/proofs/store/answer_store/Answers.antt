@@ -1,7 +1,6 @@
-use Rattle.std.proofs.Common.{false, true, List, ℕ, Bool, subst}
+use Rattle.std.proofs.Common.{Bool, subst}
 use Rattle.intake.specs.Parts.{bare_of}
 use Rattle.inspector_cli.specs.Said.{said}
-use Rattle.inspector_cli.specs.Answering.{TellsReply}
 use Rattle.inspector_cli.specs.Reply.{Begins}
 use Rattle.inspector_cli.specs.Storing.{first_stream}
 use Rattle.inspector_cli.proofs.StoreLemmas.{stores, stores_none}

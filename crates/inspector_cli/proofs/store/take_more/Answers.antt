@@ -1,4 +1,4 @@
-use Rattle.std.proofs.Common.{◌≡◌, ℕ, ◌<◌, ◌≤◌, length, take, Ok, Err, arith, length-take-le}
+use Rattle.std.proofs.Common.{length, take, Ok, Err, arith, length-take-le}
 use Rattle.intake.specs.Parts.{bare_of}
 use Rattle.inspector_cli.proofs.StoreLemmas.{took_room}
 use Rattle.inspector_cli.proofs.store.take_more.Goals as goal
