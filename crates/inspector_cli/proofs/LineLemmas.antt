@@ -1,5 +1,5 @@
 -- How a line is answered, with what stands behind it.
-use Rattle.std.proofs.Common.{◌≡◌, ◌≢◌, ◌⊎◌, inl, inr, ℕ, zero, suc, ◌<◌, true, false, Bool, List, [], ◌∷◌, ◌++◌, length, Option, Result, Ok, Err, refl, sym, subst, append_assoc}
+use Rattle.std.proofs.Common.{◌≡◌, inr, ℕ, zero, suc, true, false, Bool, List, [], ◌∷◌, ◌++◌, Option, Result, Ok, Err, refl, sym, subst, append_assoc}
 use Rattle.intake.specs.State.{Bare}
 use Rattle.script_streams.specs.Lines.{IsLine}
 use Rattle.script_streams.specs.Reading.{Gives}
@@ -11,8 +11,8 @@ use Rattle.inspector_cli.specs.Commands.{asked_by}
 use Rattle.inspector_cli.specs.declared.command.Request.{Request}
 use Rattle.inspector_cli.specs.declared.command.Request.TheVariants.{Silence, BadLine, LineTooLong, BeginExec, BeginCore, End, Drop, Delete, Pin, Retire, ListCases, CountFree}
 use Rattle.inspector_cli.specs.Reply.{Replies}
-use Rattle.inspector_cli.specs.Session.{Item, IsItem, spelled, cut_part, LastReplies, Truncates}
-use Rattle.inspector_cli.specs.Answering.{Reading, Telling, AnswersTo, PartAnswers, CommandEnds}
+use Rattle.inspector_cli.specs.Session.{cut_part, LastReplies, Truncates}
+use Rattle.inspector_cli.specs.Answering.{Telling, AnswersTo, PartAnswers, CommandEnds}
 use Rattle.inspector_cli.proofs.GiveLemmas.{gives_nothing, gives_then, gives_as}
 
 pub last_whole : (naming : Naming) (n : ℕ) (old new : Bare) (what : Said) (reply : List ℕ) → n ≡ 0 → Replies naming old what reply new → LastReplies naming n old what reply new

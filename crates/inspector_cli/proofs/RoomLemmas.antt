@@ -1,6 +1,6 @@
 -- What is written into the room of a stream is no part of the state without bytes.
-use Rattle.std.proofs.Common.{◌≡◌, ℕ, zero, suc, ◌+◌, ◌%◌, ◌≤◌, false, true, List, [], ◌∷◌, length, map, Option, Some, None, Result, Ok, Err, refl, sym, ap, subst, ◌∙◌, arith}
-use Rattle.std.proofs.lemmas.Bool.{true≢false, false≢true}
+use Rattle.std.proofs.Common.{◌≡◌, ℕ, zero, suc, ◌≤◌, List, [], ◌∷◌, map, Option, Some, None, Result, Ok, Err, refl, sym, ap, subst, ◌∙◌, arith}
+use Rattle.std.proofs.lemmas.Bool.{false≢true}
 use Rattle.std.specs.Prelude.{slice_set, option_map}
 use Rattle.intake.specs.declared.faults.ArchiveFault.{ArchiveFault}
 use Rattle.intake.specs.declared.faults.ArchiveFault.TheVariants.{Stopped, BadSlot, SlotBusy, NameTaken, NoStream, TooLong, SpaceFull, NoCase, Pinned, JournalFull, NumbersSpent, OutOfMemory, Disk}
@@ -9,7 +9,7 @@ use Rattle.intake.specs.State.{Bare, BareStream}
 use Rattle.intake.specs.Parts.{Parts, StreamParts, bare_of, bare_stream}
 use Rattle.intake.specs.Lending.{with_room}
 use Rattle.intake.specs.Room.{room_left, FitsFree}
-use Rattle.intake.specs.Step.{RoomReply, longer, with_stream}
+use Rattle.intake.specs.Step.{RoomReply, longer}
 use Rattle.inspector_cli.specs.Reply.{TakeStep}
 use Rattle.inspector_cli.proofs.SlotLemmas.{at_set, at_mapped}
 use Rattle.inspector_cli.proofs.TakeLemmas.{FitsBlock}

@@ -1,17 +1,17 @@
 -- The commands of a script, one after the other.
-use Rattle.std.proofs.Common.{◌≡◌, ◌≢◌, ◌⊎◌, inl, inr, ℕ, ◌+◌, ◌<◌, ◌≤◌, true, false, Bool, cond, List, [], ◌∷◌, ◌++◌, length, Option, Result, Ok, Err, refl, sym, ap, subst, ◌∙◌, arith, append_assoc, length-append}
+use Rattle.std.proofs.Common.{◌≡◌, ℕ, ◌+◌, ◌<◌, true, false, Bool, cond, List, [], ◌∷◌, ◌++◌, Option, Ok, Err, refl, sym, ap, subst, ◌∙◌, arith, append_assoc, length-append}
 use Rattle.std.proofs.lemmas.List.{append-nil}
 use Rattle.std.specs.List.{flat_map, AllByRecursion}
 use Rattle.intake.specs.State.{Bare}
-use Rattle.script_streams.specs.Reading.{Gives, IsUsedUp, held_bytes, steps_left}
+use Rattle.script_streams.specs.Reading.{Gives, steps_left}
 use Rattle.script_streams.specs.Telling.{Tells}
 use Rattle.script_streams.specs.declared.reader.ScriptBuffer.{ScriptBuffer}
 use Rattle.script_streams.specs.declared.reader.ReadStop.{ReadStop}
 use Rattle.script_streams.specs.declared.reply.Reply.{Reply}
 use Rattle.inspector_cli.specs.declared.session.Naming.{Naming}
-use Rattle.inspector_cli.specs.Said.{Said, said}
+use Rattle.inspector_cli.specs.Said.{said}
 use Rattle.inspector_cli.specs.Reply.{Replies}
-use Rattle.inspector_cli.specs.Session.{Item, IsItem, spelled, Run, Ending, ending_text, AnswersAll, AnswersWhole}
+use Rattle.inspector_cli.specs.Session.{Item, IsItem, spelled, Run, ending_text}
 use Rattle.inspector_cli.specs.Answering.{Reading, Telling, CommandEnds, ScriptEnds}
 use Rattle.inspector_cli.proofs.GiveLemmas.{gives_nothing, gives_then, gives_as}
 use Rattle.inspector_cli.proofs.TellLemmas.{tells_nothing, tells_then}

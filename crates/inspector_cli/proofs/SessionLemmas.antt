@@ -1,11 +1,11 @@
 -- How a session ends, from how its script was answered and what its output took.
-use Rattle.std.proofs.Common.{◌≡◌, ◌⊎◌, inl, inr, ℕ, ◌+◌, ◌^◌, ◌<◌, ◌≤◌, List, [], ◌++◌, length, Option, Result, Ok, Err, refl, sym, ap, subst, ◌∙◌, arith}
+use Rattle.std.proofs.Common.{◌≡◌, inl, inr, ℕ, ◌^◌, ◌≤◌, List, [], ◌++◌, length, Option, Result, Ok, Err, sym, ap, subst, ◌∙◌, arith}
 use Rattle.std.proofs.lemmas.List.{append-nil}
-use Rattle.std.specs.Io.KnownBytes.{Consumes, Appends, IsAtEnd}
+use Rattle.std.specs.Io.KnownBytes.{Consumes}
 use Rattle.intake.specs.State.{Bare}
 use Rattle.script_streams.specs.Streams.{Rose}
-use Rattle.script_streams.specs.Reading.{Gives, IsUsedUp, held_bytes, reads_made, Stops}
-use Rattle.script_streams.specs.Telling.{Told, Tells, IsDelivered}
+use Rattle.script_streams.specs.Reading.{Gives, held_bytes, reads_made, Stops}
+use Rattle.script_streams.specs.Telling.{Told, IsDelivered}
 use Rattle.script_streams.specs.declared.reader.ScriptBuffer.{ScriptBuffer}
 use Rattle.script_streams.specs.declared.reader.ReadStop.{ReadStop}
 use Rattle.script_streams.specs.declared.reader.ReadStop.TheVariants as stop

@@ -1,11 +1,11 @@
 -- Bytes of a part that are taken piece by piece are taken as one step.
-use Rattle.std.proofs.Common.{◌≡◌, ◌≢◌, ◌⊎◌, ⊎_elim, ℕ, zero, suc, ◌+◌, ◌*◌, ◌/◌, ◌%◌, ◌<◌, ◌≤◌, false, true, List, [], ◌∷◌, ◌++◌, length, Option, Some, None, Result, Ok, Err, refl, sym, ap, subst, ◌∙◌, arith, add_assoc}
-use Rattle.std.proofs.lemmas.Bool.{cases_lt, true≢false, false≢true}
+use Rattle.std.proofs.Common.{◌≡◌, ◌≢◌, ⊎_elim, ℕ, ◌+◌, ◌/◌, ◌%◌, ◌<◌, ◌≤◌, true, List, Option, Some, None, Result, Ok, Err, refl, sym, ap, subst, ◌∙◌, arith, add_assoc}
+use Rattle.std.proofs.lemmas.Bool.{cases_lt, false≢true}
 use Rattle.std.specs.Prelude.{slice_set, sum_by}
 use Rattle.intake.specs.declared.faults.ArchiveFault.{ArchiveFault}
 use Rattle.intake.specs.declared.faults.ArchiveFault.TheVariants.{Stopped, BadSlot, SlotBusy, NameTaken, NoStream, TooLong, SpaceFull, NoCase, Pinned, JournalFull, NumbersSpent, OutOfMemory, Disk}
-use Rattle.intake.specs.Slots.{stream_at, closed}
-use Rattle.intake.specs.State.{Bare, BareStream, BareCase, blocks_for, blocks_in, filled_by}
+use Rattle.intake.specs.Slots.{stream_at}
+use Rattle.intake.specs.State.{Bare, BareStream, blocks_in, filled_by}
 use Rattle.intake.specs.Step.{AdvanceStep, FindsNoBlock, with_stream, longer, halted}
 use Rattle.inspector_cli.specs.Reply.{IsWall, MayTake, IsOpen, TakeStep}
 use Rattle.inspector_cli.proofs.SlotLemmas.{set_again, at_set, closed_set, sum_set}

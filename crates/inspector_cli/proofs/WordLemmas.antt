@@ -1,5 +1,5 @@
 -- No word of a line is empty, or longer than the line.
-use Rattle.std.proofs.Common.{◌≡◌, ℕ, suc, ◌≤◌, List, [], ◌∷◌, length, filter, true, false, arith, ⊎_elim, subst, sym}
+use Rattle.std.proofs.Common.{ℕ, suc, ◌≤◌, List, [], ◌∷◌, length, filter, arith, ⊎_elim}
 use Rattle.std.proofs.lemmas.Bool.{cases_Bool}
 use Rattle.script_words.specs.Words.{is_space, with_first, pieces_of, is_word, words_of}
 use Rattle.inspector_cli.specs.Commands.{AreWords}

@@ -1,6 +1,5 @@
 -- What the calls that answer a line do.
 use Rattle.std.specs.Prelude.{◌≡◌, ◌≢◌, ℕ, ◌+◌, ◌<◌, ◌≤◌, Bool, true, false, List, [], length, Option, Result, Ok, Err}
-use Rattle.std.specs.List.{flat_map}
 use Rattle.intake.specs.declared.faults.ArchiveFault.{ArchiveFault}
 use Rattle.intake.specs.State.{Bare}
 use Rattle.script_streams.specs.Reading.{Gives, IsUsedUp, held_bytes}
@@ -12,7 +11,7 @@ use Rattle.script_streams.specs.declared.reply.Reply.{Reply}
 use Rattle.inspector_cli.specs.declared.session.SessionFault.{SessionFault}
 use Rattle.inspector_cli.specs.declared.session.SessionFault.TheVariants as fault
 use Rattle.inspector_cli.specs.declared.session.Naming.{Naming}
-use Rattle.inspector_cli.specs.Said.{Said, part_of, said, raw_length}
+use Rattle.inspector_cli.specs.Said.{Said, said, raw_length}
 use Rattle.inspector_cli.specs.Reply.{Replies, TakeStep}
 use Rattle.inspector_cli.specs.Session.{Item, IsItem, spelled, Ending, IsEnding, ending_text, EndReplies, BreaksOff, AnswersAll, AnswersWhole, Truncates, TakesFront, LastReplies}
 

@@ -1,5 +1,5 @@
 -- What the code's commands say.
-use Rattle.std.specs.Prelude.{ℕ, ◌<◌, ◌≤◌, List, [], ◌∷◌, length, Option, None, Some, Result, Ok, Err}
+use Rattle.std.specs.Prelude.{ℕ, ◌<◌, ◌≤◌, List, [], ◌∷◌, length, Result, Ok, Err}
 use Rattle.std.specs.Borrow.{Bor}
 use Rattle.intake.specs.State.{BareStream}
 use Rattle.inspector_cli.specs.declared.names.NewStream.{NewStream}

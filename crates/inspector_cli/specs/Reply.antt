@@ -1,5 +1,5 @@
 -- The reply to what a line says, and what it does to the archive.
-use Rattle.std.specs.Prelude.{◌≡◌, ◌≢◌, ◌⊎◌, ℕ, ◌+◌, ◌*◌, ◌/◌, ◌%◌, ◌<◌, ◌≤◌, ◌==◌, Bool, true, false, nat_lt, List, [], ◌∷◌, ◌++◌, length, Option, None, Some, Result, Ok, Err, is_ok, codes, decimal, if◌then◌else◌}
+use Rattle.std.specs.Prelude.{◌≡◌, ℕ, ◌+◌, ◌/◌, ◌%◌, ◌<◌, ◌≤◌, ◌==◌, Bool, true, false, nat_lt, List, [], ◌∷◌, ◌++◌, length, Option, None, Some, Result, Ok, Err, is_ok, codes, decimal, if◌then◌else◌}
 use Rattle.std.specs.List.{flat_map, list_any}
 use Rattle.journal_layout.specs.declared.entry.Kind.{Kind}
 use Rattle.journal_layout.specs.declared.entry.Kind.TheVariants.{Core, Exec}

@@ -1,9 +1,9 @@
 -- One stream that is stored from its own input.
-use Rattle.std.specs.Prelude.{◌≡◌, ◌⊎◌, ℕ, zero, suc, ◌+◌, ◌^◌, ◌<◌, ◌≤◌, Bool, true, false, List, [], ◌++◌, length, Option, None, Result, Ok, Err, is_ok, codes}
+use Rattle.std.specs.Prelude.{◌≡◌, ◌⊎◌, ℕ, ◌+◌, ◌^◌, ◌<◌, ◌≤◌, ◌==◌, Bool, true, false, List, [], ◌++◌, length, Option, None, Result, Ok, Err, codes, if◌then◌else◌}
 use Rattle.std.specs.Io.KnownBytes.{Consumes, Appends, IsAtEnd}
 use Rattle.intake.specs.declared.faults.ArchiveFault.{ArchiveFault}
 use Rattle.intake.specs.Slots.{stream_at}
-use Rattle.intake.specs.State.{Bare}
+use Rattle.intake.specs.State.{Bare, BareStream}
 use Rattle.intake.specs.Step.{AbandonStep}
 use Rattle.script_streams.specs.Streams.{Rose}
 use Rattle.inspector_cli.specs.declared.session.Naming.{Naming}
@@ -14,16 +14,12 @@ use Rattle.inspector_cli.specs.declared.store.TakeStop.TheVariants.{File, Refuse
 use Rattle.inspector_cli.specs.Said.{Said, begin_exec, begin_core, long_line, said}
 use Rattle.inspector_cli.specs.Reply.{Begins, Ends, TakeStep, exec_stream, core_stream, no_reply, reason_of}
 
--- a line that has only a refusal
-abbrev pub RefusesLine : List ℕ → Bare → List ℕ → Bare → Bool → Type 0
-RefusesLine reason old reply new accepted = (reply ≡ no_reply reason) × (new ≡ old) × (accepted ≡ false)
-
--- The first line: it begins a stream in slot 0, and is accepted or not. Any other line is none that is known.
-abbrev pub FirstReplies : Naming → Bare → Said → List ℕ → Bare → Bool → Type 0
-FirstReplies naming old (begin_exec zero name) reply new accepted = Begins old 0 (exec_stream name) reply new accepted
-FirstReplies naming old (begin_core zero process) reply new accepted = Begins old 0 (core_stream naming process) reply new accepted
-FirstReplies naming old long_line reply new accepted = RefusesLine (codes "LineTooLong") old reply new accepted
-FirstReplies naming old _ reply new accepted = RefusesLine (codes "BadLine") old reply new accepted
+-- What the first line begins, or why it begins nothing: it begins a stream in slot 0. Any other line is none that is known.
+abbrev pub first_stream : Naming → Said → Result BareStream (List ℕ)
+first_stream naming (begin_exec slot name) = if slot == 0 then exec_stream name else Err (codes "BadLine")
+first_stream naming (begin_core slot process) = if slot == 0 then core_stream naming process else Err (codes "BadLine")
+first_stream naming long_line = Err (codes "LineTooLong")
+first_stream naming _ = Err (codes "BadLine")
 
 -- the bytes of a file are taken to its end; or to the first that are refused; or it could not be read on, or 2^40 reads
 -- were made and each gave a byte, and those that were read are taken
@@ -65,7 +61,7 @@ pub record Stores (naming : Naming) (file file' : Option (List ℕ)) (fails fail
   pub first : List ℕ
   pub mid : Bare
   pub accepted : Bool
-  pub begins : FirstReplies naming old (said line) first mid accepted
+  pub begins : Begins old 0 (first_stream naming (said line)) first mid accepted
   pub rest : List ℕ
   pub goes_on : RestReplies file file' fails fails' mid accepted rest new stored
   pub text : replies ≡ first ++ rest

@@ -3,13 +3,15 @@ ghost use Rattle.std.specs.Prelude.{◌≡◌, ℕ, true, Ok};
 ghost use Rattle.intake.specs.Parts.{bare_of};
 ghost use Rattle.intake.specs.State.{Bare};
 ghost use Rattle.inspector_cli.specs.Said.{said};
-ghost use Rattle.inspector_cli.specs.Reply.{TakeStep};
+ghost use Rattle.inspector_cli.specs.Commands.{asked_by, said_by, stream_found};
+ghost use Rattle.inspector_cli.specs.Reply.{Begins, TakeStep};
 ghost use Rattle.inspector_cli.specs.Answering.{TellsReply};
-ghost use Rattle.inspector_cli.specs.Storing.{StoreEnds, Stores, FirstReplies, RestReplies, TakesFile, TakesMore, IsSlotQuiet};
+ghost use Rattle.inspector_cli.specs.Storing.{StoreEnds, Stores, RestReplies, first_stream, TakesFile, TakesMore, IsSlotQuiet};
 
 use crate::answers::answer_end;
 use crate::begin::{answer_begin, core_stream, exec_stream};
 use crate::command::{Command, Request, parse_text};
+use crate::names::NewStream;
 use crate::session::{Naming, SessionFault};
 use crate::telling::{reason, tell_no};
 use disk_model::Disk;
@@ -99,25 +101,49 @@ fn answer_first<O: Output, D: Disk>(
       failures' = O.failures output.new;
       reply = reply.old;
       reply' = reply.new;
-    }) (λ text. FirstReplies naming.now (bare_of archive.old) (said line.now) text (bare_of archive.new) result) }
+    }) (λ text. Begins (bare_of archive.old) 0 (first_stream naming.now (said line.now)) text (bare_of archive.new) result) }
     ensures begun { result ≡ true → TakeStep (bare_of archive.new) 0 0 (Ok tt) (bare_of archive.new) }
 {
-    match parse_text(line) {
-        Command::Plain(Request::BeginExec { slot: 0, name }) => {
-            answer_begin(0, exec_stream(&name), reply, output, archive)
+    let found = first_stream(parse_text(line), naming);
+    answer_begin(0, found, reply, output, archive)
+}
+
+// What the first line begins, or why it begins nothing.
+fn first_stream(command: Command, naming: &Naming) -> Result<NewStream, &'static [u8]>
+    ensures { stream_found result ≡ first_stream naming.now (said_by command) }
+{
+    match command {
+        Command::Part { .. } => Err(b"BadLine"),
+        Command::Plain(request) => requested_stream(request, naming),
+    }
+}
+
+fn requested_stream(request: Request, naming: &Naming) -> Result<NewStream, &'static [u8]>
+    ensures { stream_found result ≡ first_stream naming.now (asked_by request) }
+{
+    match request {
+        Request::BeginExec { slot, name } => {
+            if slot != 0 {
+                return Err(b"BadLine");
+            }
+            exec_stream(&name)
         }
-        Command::Plain(Request::BeginCore { slot: 0, process }) => {
-            let found = core_stream(&process, naming);
-            answer_begin(0, found, reply, output, archive)
+        Request::BeginCore { slot, process } => {
+            if slot != 0 {
+                return Err(b"BadLine");
+            }
+            core_stream(&process, naming)
         }
-        Command::Plain(Request::LineTooLong) => {
-            tell_no(reply, output, b"LineTooLong");
-            false
-        }
-        _ => {
-            tell_no(reply, output, b"BadLine");
-            false
-        }
+        Request::LineTooLong => Err(b"LineTooLong"),
+        Request::Silence => Err(b"BadLine"),
+        Request::BadLine => Err(b"BadLine"),
+        Request::End { .. } => Err(b"BadLine"),
+        Request::Drop { .. } => Err(b"BadLine"),
+        Request::Delete { .. } => Err(b"BadLine"),
+        Request::Pin { .. } => Err(b"BadLine"),
+        Request::Retire { .. } => Err(b"BadLine"),
+        Request::ListCases => Err(b"BadLine"),
+        Request::CountFree => Err(b"BadLine"),
     }
 }
 

@@ -1,4 +1,4 @@
-use Rattle.std.proofs.Common.{refl, true, false, subst, Bool, ◌∙◌}
+use Rattle.std.proofs.Common.{refl, ◌∙◌}
 use Rattle.std.proofs.lemmas.Result.{err_from_is_err_and}
 use Rattle.intake.specs.Parts.{bare_of}
 use Rattle.inspector_cli.proofs.RunLemmas.{begun, goes_along, stops_along}
