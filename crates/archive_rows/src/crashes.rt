@@ -1,5 +1,5 @@
 // A disk that fails at the last sync of a call, and what crashes leave then.
-use crate::bench::{SHAPE, begin, formatted, opened, put, store};
+use crate::bench::{SHAPE, begin, formatted, has_image, opened, put, store};
 use disk_model::{Disk, MemDisk, OneFault, Pick};
 use intake::{Archive, ArchiveFault};
 use journal_layout::Kind;
@@ -77,7 +77,7 @@ fn a_gate_alone_makes_a_case(rt: HostRuntime) -> Result<(), Fail> {
     let left = fail_store(alloc, formatted(alloc, SHAPE)?, &GATES, 5, last)?;
     let mut archive = opened(alloc, left.after_crash(Pick::Fill(0xa5))?)?;
     assert!(rt; has_one(&archive, 1, &GATES, 5));
-    assert!(rt; crate::bench::has_image(&mut archive, 1, 1, 5));
+    assert!(rt; has_image(&mut archive, 1, 1, 5));
     assert_eq!(rt; store(&mut archive, b"n", 1, 0)?, Ok(2));
     let closed = left.after_crash(Pick::Fill(0x37))?;
     let mut archive = opened(alloc, left.after_crash(Pick::Fill(0x37))?)?;
@@ -110,7 +110,7 @@ fn a_deletion_may_stand_after_a_fault(rt: HostRuntime) -> Result<(), Fail> {
     let left = archive.close().into_inner();
     let mut archive = opened(alloc, left.after_crash(Pick::Nothing)?)?;
     assert!(rt; has_one(&archive, 1, b"a", 5000));
-    assert!(rt; crate::bench::has_image(&mut archive, 1, 1, 5000));
+    assert!(rt; has_image(&mut archive, 1, 1, 5000));
     assert_eq!(rt; store(&mut archive, b"b", 2, 1)?, Ok(2));
     let mut archive = opened(alloc, left)?;
     assert!(rt; is_empty(&archive));
