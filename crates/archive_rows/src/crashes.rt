@@ -1,5 +1,5 @@
 // A disk that fails at the last sync of a call, and what crashes leave then.
-use crate::bench::{SHAPE, begin, formatted, opened, put, store};
+use crate::bench::{SHAPE, begin, formatted, has_image, opened, put, store};
 use disk_model::{Disk, MemDisk, OneFault, Pick};
 use intake::{Archive, ArchiveFault};
 use journal_layout::Kind;
@@ -70,22 +70,41 @@ fn is_empty<D: Disk>(archive: &Archive<D>) -> bool {
     }
 }
 
+// Stores an image on the archive of a disk, which fails at the last sync.
+fn fail_last(alloc: Global, disk: &MemDisk, name: &[u8], length: u64) -> Result<MemDisk, Fail> {
+    let last = calls_of_store(alloc, disk.after_crash(Pick::Whole)?, name, length)?;
+    fail_store(alloc, disk.after_crash(Pick::Whole)?, name, length, last)
+}
+
+// Whether the case with the name of gates is there, has its image and is followed by case 2.
+fn is_open(alloc: Global, disk: MemDisk) -> Result<bool, Fail> {
+    let mut archive = opened(alloc, disk)?;
+    let stands = has_one(&archive, 1, &GATES, 5) && has_image(&mut archive, 1, 1, 5);
+    Ok(store(&mut archive, b"n", 1, 0)? == Ok(2) && stands)
+}
+
+// Whether there is no case, all blocks are free, and the next case has this number.
+fn is_next(alloc: Global, disk: MemDisk, next: u32) -> Result<bool, Fail> {
+    let mut archive = opened(alloc, disk)?;
+    let empty = is_empty(&archive) && archive.free_blocks() == Ok((4, 4));
+    Ok(store(&mut archive, b"n", 1, 0)? == Ok(next) && empty)
+}
+
 #[test]
 fn a_gate_alone_makes_a_case(rt: HostRuntime) -> Result<(), Fail> {
     let alloc = rt.alloc();
-    let last = calls_of_store(alloc, formatted(alloc, SHAPE)?, &GATES, 5)?;
-    let left = fail_store(alloc, formatted(alloc, SHAPE)?, &GATES, 5, last)?;
-    let mut archive = opened(alloc, left.after_crash(Pick::Fill(0xa5))?)?;
-    assert!(rt; has_one(&archive, 1, &GATES, 5));
-    assert!(rt; crate::bench::has_image(&mut archive, 1, 1, 5));
-    assert_eq!(rt; store(&mut archive, b"n", 1, 0)?, Ok(2));
-    let closed = left.after_crash(Pick::Fill(0x37))?;
-    let mut archive = opened(alloc, left.after_crash(Pick::Fill(0x37))?)?;
-    assert!(rt; is_empty(&archive));
-    assert_eq!(rt; archive.free_blocks(), Ok((4, 4)));
-    assert_eq!(rt; store(&mut archive, b"n", 1, 0)?, Ok(1));
-    let last = calls_of_store(alloc, left.after_crash(Pick::Fill(0x37))?, b"e", 0)?;
-    let left = fail_store(alloc, closed, b"e", 0, last)?;
+    let left = fail_last(alloc, &formatted(alloc, SHAPE)?, &GATES, 5)?;
+    assert!(rt; is_open(alloc, left.after_crash(Pick::Fill(0xa5))?)?);
+    assert!(rt; is_next(alloc, left.after_crash(Pick::Fill(0x37))?, 1)?);
+    Ok(())
+}
+
+#[test]
+fn the_bytes_of_a_lost_record_are_no_case(rt: HostRuntime) -> Result<(), Fail> {
+    let alloc = rt.alloc();
+    let lost = fail_last(alloc, &formatted(alloc, SHAPE)?, &GATES, 5)?;
+    let lost = lost.after_crash(Pick::Fill(0x37))?;
+    let left = fail_last(alloc, &lost, b"e", 0)?;
     let archive = opened(alloc, left.after_crash(Pick::Fill(0xa5))?)?;
     assert!(rt; has_one(&archive, 1, b"e", 0));
     Ok(())
@@ -100,6 +119,13 @@ fn with_case(alloc: Global) -> Result<MemDisk, Fail> {
     Ok(archive.close())
 }
 
+// Whether case 1 stands with its image, and is followed by case 2.
+fn has_case(alloc: Global, disk: MemDisk) -> Result<bool, Fail> {
+    let mut archive = opened(alloc, disk)?;
+    let stands = has_one(&archive, 1, b"a", 5000) && has_image(&mut archive, 1, 1, 5000);
+    Ok(store(&mut archive, b"n", 2, 1)? == Ok(2) && stands)
+}
+
 #[test]
 fn a_deletion_may_stand_after_a_fault(rt: HostRuntime) -> Result<(), Fail> {
     let alloc = rt.alloc();
@@ -108,13 +134,7 @@ fn a_deletion_may_stand_after_a_fault(rt: HostRuntime) -> Result<(), Fail> {
     assert_eq!(rt; archive.delete(1), Err(ArchiveFault::Disk));
     assert_eq!(rt; archive.cases().err(), Some(ArchiveFault::Stopped));
     let left = archive.close().into_inner();
-    let mut archive = opened(alloc, left.after_crash(Pick::Nothing)?)?;
-    assert!(rt; has_one(&archive, 1, b"a", 5000));
-    assert!(rt; crate::bench::has_image(&mut archive, 1, 1, 5000));
-    assert_eq!(rt; store(&mut archive, b"b", 2, 1)?, Ok(2));
-    let mut archive = opened(alloc, left)?;
-    assert!(rt; is_empty(&archive));
-    assert_eq!(rt; archive.free_blocks(), Ok((4, 4)));
-    assert_eq!(rt; store(&mut archive, b"b", 2, 1)?, Ok(2));
+    assert!(rt; has_case(alloc, left.after_crash(Pick::Nothing)?)?);
+    assert!(rt; is_next(alloc, left, 2)?);
     Ok(())
 }

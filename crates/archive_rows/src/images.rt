@@ -1,5 +1,5 @@
 // Images are read as they were streamed.
-use crate::bench::{begin, formatted, has_image, opened, put};
+use crate::bench::{begin, formatted, has_image, has_runs, opened, put};
 use disk_model::{Disk, OneFault};
 use intake::{Archive, ArchiveFault};
 use journal_layout::Shape;
@@ -40,8 +40,8 @@ fn images_are_read_as_they_were_streamed(rt: HostRuntime) -> Result<(), Fail> {
     let alloc = rt.alloc();
     let mut archive = opened(alloc, OneFault::new(formatted(alloc, SHAPE)?, 0))?;
     assert_eq!(rt; stream_three(&mut archive)?, Ok(3));
-    assert!(rt; crate::bench::has_runs(&archive, 1, &[(0, 1), (2, 2)]));
-    assert!(rt; crate::bench::has_runs(&archive, 2, &[(1, 1), (4, 1)]));
+    assert!(rt; has_runs(&archive, 1, &[(0, 1), (2, 2)]));
+    assert!(rt; has_runs(&archive, 2, &[(1, 1), (4, 1)]));
     assert!(rt; has_image(&mut archive, 1, 0, 8197));
     assert!(rt; has_image(&mut archive, 2, 1, 4103));
     assert!(rt; has_image(&mut archive, 3, 2, 0));

@@ -13,6 +13,8 @@ mod images;
 #[cfg(test)]
 mod retirement;
 #[cfg(test)]
+mod rows;
+#[cfg(test)]
 mod run_lists;
 #[cfg(test)]
 mod script;

@@ -1,44 +1,40 @@
 // Pins and retirements, and the records that they write.
-use crate::bench::{SHAPE, formatted, opened, store};
+use crate::bench::{SHAPE, formatted, opened};
+use crate::rows::{Call, OK, Row, follow};
 use case_journal::Journal;
 use disk_model::MemDisk;
-use intake::{Archive, ArchiveFault};
-use retention::Policy;
+use intake::ArchiveFault;
 use std::alloc::Global;
 use std::test::Fail;
 
-// At most so many cases.
-fn at_most(count: u64) -> Policy {
-    Policy {
-        keep: Some(count),
-        bytes: None,
-        before: None,
-    }
-}
+// Three records of cases, one of a pin, and one that drops two cases.
+const RETIRED: [Row; 7] = [
+    (Call::Store(b"n1", 1, 0, 1), OK),
+    (Call::Store(b"n2", 1, 0, 2), OK),
+    (Call::Store(b"n3", 1, 0, 3), OK),
+    (Call::Pin(1, true), OK),
+    (Call::Cases(&[(1, true), (2, false), (3, false)]), OK),
+    (Call::Keep(1, &[2, 3], false), OK),
+    (Call::Cases(&[(1, true)]), OK),
+];
 
-// Whether a retirement drops these cases, and says so of the limit.
-fn retires(archive: &mut Archive<MemDisk>, count: u64, dropped: &[u32], unmet: bool) -> bool {
-    match archive.retire(&at_most(count)) {
-        Ok(decision) => decision.dropped.as_slice() == dropped && decision.unmet == unmet,
-        Err(_) => false,
-    }
-}
+// No record.
+const UNCHANGED: [Row; 7] = [
+    (Call::Keep(0, &[], true), OK),
+    (Call::Keep(1, &[], false), OK),
+    (Call::Pin(1, true), OK),
+    (Call::Delete(1), Err(ArchiveFault::Pinned)),
+    (Call::Delete(2), Err(ArchiveFault::NoCase)),
+    (Call::Pin(3, true), Err(ArchiveFault::NoCase)),
+    (Call::Cases(&[(1, true)]), OK),
+];
 
-// The numbers and pins of the cases.
-fn has_cases(archive: &Archive<MemDisk>, cases: &[(u32, bool)]) -> bool {
-    let Ok(entries) = archive.cases() else {
-        return false;
-    };
-    if entries.len() != cases.len() {
-        return false;
-    }
-    for (entry, (seq, pinned)) in entries.iter().zip(cases) {
-        if entry.seq != *seq || entry.pinned != *pinned {
-            return false;
-        }
-    }
-    true
-}
+// One record of a pin, and one that drops a case.
+const UNPINNED: [Row; 3] = [
+    (Call::Pin(1, false), OK),
+    (Call::Keep(0, &[1], false), OK),
+    (Call::Cases(&[]), OK),
+];
 
 // The bytes of the journal that are in use.
 fn used_bytes(alloc: Global, disk: &mut MemDisk) -> Result<u64, Fail> {
@@ -48,34 +44,24 @@ fn used_bytes(alloc: Global, disk: &mut MemDisk) -> Result<u64, Fail> {
     Ok(journal.use_bytes())
 }
 
+// Makes the calls on the archive of a disk, and counts the bytes of the journal that are in use then.
+fn used_after(alloc: Global, disk: MemDisk, rows: &[Row]) -> Result<(u64, MemDisk), Fail> {
+    let mut archive = opened(alloc, disk)?;
+    if follow(&mut archive, rows)? != rows.len() {
+        return Err(Fail::from("a call answered something else"));
+    }
+    let mut disk = archive.close();
+    Ok((used_bytes(alloc, &mut disk)?, disk))
+}
+
 #[test]
 fn a_record_is_written_only_where_something_changes(rt: HostRuntime) -> Result<(), Fail> {
     let alloc = rt.alloc();
-    let mut archive = opened(alloc, formatted(alloc, SHAPE)?)?;
-    assert_eq!(rt; store(&mut archive, b"n1", 1, 0)?, Ok(1));
-    assert_eq!(rt; store(&mut archive, b"n2", 1, 0)?, Ok(2));
-    assert_eq!(rt; store(&mut archive, b"n3", 1, 0)?, Ok(3));
-    assert_eq!(rt; archive.pin(1, true), Ok(()));
-    assert!(rt; has_cases(&archive, &[(1, true), (2, false), (3, false)]));
-    assert!(rt; retires(&mut archive, 1, &[2, 3], false));
-    assert!(rt; has_cases(&archive, &[(1, true)]));
-    let mut disk = archive.close();
-    assert_eq!(rt; used_bytes(alloc, &mut disk)?, 272);
-    let mut archive = opened(alloc, disk)?;
-    assert!(rt; retires(&mut archive, 0, &[], true));
-    assert!(rt; retires(&mut archive, 1, &[], false));
-    assert_eq!(rt; archive.pin(1, true), Ok(()));
-    assert_eq!(rt; archive.delete(1), Err(ArchiveFault::Pinned));
-    assert_eq!(rt; archive.delete(2), Err(ArchiveFault::NoCase));
-    assert_eq!(rt; archive.pin(3, true), Err(ArchiveFault::NoCase));
-    assert!(rt; has_cases(&archive, &[(1, true)]));
-    let mut disk = archive.close();
-    assert_eq!(rt; used_bytes(alloc, &mut disk)?, 272);
-    let mut archive = opened(alloc, disk)?;
-    assert_eq!(rt; archive.pin(1, false), Ok(()));
-    assert!(rt; retires(&mut archive, 0, &[1], false));
-    assert!(rt; has_cases(&archive, &[]));
-    let mut disk = archive.close();
-    assert_eq!(rt; used_bytes(alloc, &mut disk)?, 304);
+    let (used, disk) = used_after(alloc, formatted(alloc, SHAPE)?, &RETIRED)?;
+    assert_eq!(rt; used, 272);
+    let (used, disk) = used_after(alloc, disk, &UNCHANGED)?;
+    assert_eq!(rt; used, 272);
+    let (used, _) = used_after(alloc, disk, &UNPINNED)?;
+    assert_eq!(rt; used, 304);
     Ok(())
 }

@@ -2,10 +2,10 @@
 use journal_layout::{Kind, Shape};
 use retention::Policy;
 
-/// Ten data blocks: at one moment all of them are in use.
+/// Nine data blocks: at one moment all of them are in use.
 pub const SHAPE: Shape = Shape {
     half_blocks: 1,
-    data_blocks: 10,
+    data_blocks: 9,
 };
 
 /// An image: what it is of, how many bytes it has, and the seed of its bytes.
@@ -96,7 +96,7 @@ const H: Image = Image {
     pid: 8,
     signal: 4,
     time: 400,
-    length: 9000,
+    length: 4500,
     seed: 8,
 };
 
@@ -164,7 +164,7 @@ pub const SCRIPT: [Step; 46] = [
     Step::Finish(0, 3),
     Step::Begin(0, I),
     Step::Delete(2),
-    Step::Put(7, H, 4000, 9000),
+    Step::Put(7, H, 4000, 4500),
     Step::Finish(5, 4),
     // Three cases stand, and two are to stay: the oldest one that is not pinned goes.
     Step::Retire(
@@ -201,7 +201,7 @@ pub const SCRIPT: [Step; 46] = [
     Step::Delete(5),
     Step::Finish(0, 9),
     Step::Read(7, H),
-    // 21,389 bytes stand; without the oldest one that is not pinned they are 12,389.
+    // 16,889 bytes stand; without the oldest one that is not pinned they are 12,389.
     Step::Retire(
         Policy {
             keep: None,

@@ -1,102 +1,136 @@
 // Which blocks an image gets, and which are free again.
-use crate::bench::{begin, fresh, has_image, has_runs, put, store};
+use crate::bench::fresh;
+use crate::rows::{Call, OK, Row, follow};
 use intake::ArchiveFault;
 use std::test::Fail;
+
+const EMPTY_IMAGE: [Row; 6] = [
+    (Call::Free(4), OK),
+    (Call::Begin(0, b"x"), OK),
+    (Call::Finish(0, 1), OK),
+    (Call::Free(4), OK),
+    (Call::Runs(1, &[]), OK),
+    (Call::Image(1, 1, 0), OK),
+];
 
 #[test]
 fn an_empty_image_takes_no_block(rt: HostRuntime) -> Result<(), Fail> {
     let mut archive = fresh(rt.alloc())?;
-    assert_eq!(rt; archive.free_blocks(), Ok((4, 4)));
-    assert_eq!(rt; begin(&mut archive, 0, b"x")?, Ok(()));
-    assert_eq!(rt; archive.finish(0), Ok(1));
-    assert_eq!(rt; archive.free_blocks(), Ok((4, 4)));
-    assert!(rt; has_runs(&archive, 1, &[]));
-    assert!(rt; has_image(&mut archive, 1, 1, 0));
+    assert_eq!(rt; follow(&mut archive, &EMPTY_IMAGE)?, EMPTY_IMAGE.len());
     Ok(())
 }
+
+const WHOLE_BLOCKS: [Row; 6] = [
+    (Call::Store(b"a", 1, 4096, 1), OK),
+    (Call::Free(3), OK),
+    (Call::Store(b"b", 2, 4097, 2), OK),
+    (Call::Free(1), OK),
+    (Call::Image(1, 1, 4096), OK),
+    (Call::Image(2, 2, 4097), OK),
+];
 
 #[test]
 fn a_block_is_taken_for_each_4096_bytes(rt: HostRuntime) -> Result<(), Fail> {
     let mut archive = fresh(rt.alloc())?;
-    assert_eq!(rt; store(&mut archive, b"a", 1, 4096)?, Ok(1));
-    assert_eq!(rt; archive.free_blocks(), Ok((3, 4)));
-    assert_eq!(rt; store(&mut archive, b"b", 2, 4097)?, Ok(2));
-    assert_eq!(rt; archive.free_blocks(), Ok((1, 4)));
-    assert!(rt; has_image(&mut archive, 1, 1, 4096));
-    assert!(rt; has_image(&mut archive, 2, 2, 4097));
+    assert_eq!(rt; follow(&mut archive, &WHOLE_BLOCKS)?, WHOLE_BLOCKS.len());
     Ok(())
 }
+
+const FREED_BLOCKS: [Row; 14] = [
+    (Call::Store(b"a", 1, 1, 1), OK),
+    (Call::Store(b"b", 2, 1, 2), OK),
+    (Call::Store(b"c", 3, 1, 3), OK),
+    (Call::Runs(1, &[(0, 1)]), OK),
+    (Call::Runs(2, &[(1, 1)]), OK),
+    (Call::Runs(3, &[(2, 1)]), OK),
+    (Call::Delete(2), OK),
+    (Call::Free(2), OK),
+    (Call::Store(b"d", 4, 8192, 4), OK),
+    (Call::Runs(4, &[(1, 1), (3, 1)]), OK),
+    (Call::Free(0), OK),
+    (Call::Image(1, 1, 1), OK),
+    (Call::Image(3, 3, 1), OK),
+    (Call::Image(4, 4, 8192), OK),
+];
 
 #[test]
 fn freed_blocks_are_used_again(rt: HostRuntime) -> Result<(), Fail> {
     let mut archive = fresh(rt.alloc())?;
-    assert_eq!(rt; store(&mut archive, b"a", 1, 1)?, Ok(1));
-    assert_eq!(rt; store(&mut archive, b"b", 2, 1)?, Ok(2));
-    assert_eq!(rt; store(&mut archive, b"c", 3, 1)?, Ok(3));
-    assert!(rt; has_runs(&archive, 1, &[(0, 1)]));
-    assert!(rt; has_runs(&archive, 2, &[(1, 1)]));
-    assert!(rt; has_runs(&archive, 3, &[(2, 1)]));
-    assert_eq!(rt; archive.delete(2), Ok(()));
-    assert_eq!(rt; archive.free_blocks(), Ok((2, 4)));
-    assert_eq!(rt; store(&mut archive, b"d", 4, 8192)?, Ok(4));
-    assert!(rt; has_runs(&archive, 4, &[(1, 1), (3, 1)]));
-    assert_eq!(rt; archive.free_blocks(), Ok((0, 4)));
-    assert!(rt; has_image(&mut archive, 1, 1, 1));
-    assert!(rt; has_image(&mut archive, 3, 3, 1));
-    assert!(rt; has_image(&mut archive, 4, 4, 8192));
+    assert_eq!(rt; follow(&mut archive, &FREED_BLOCKS)?, FREED_BLOCKS.len());
     Ok(())
 }
+
+const TWO_STREAMS: [Row; 14] = [
+    (Call::Begin(0, b"a"), OK),
+    (Call::Begin(1, b"b"), OK),
+    (Call::Begin(2, b"a"), Err(ArchiveFault::NameTaken)),
+    (Call::Begin(0, b"c"), Err(ArchiveFault::SlotBusy)),
+    (Call::Put(0, 1, 0, 4096), OK),
+    (Call::Put(1, 2, 0, 4096), OK),
+    (Call::Put(0, 1, 4096, 4097), OK),
+    (Call::Finish(1, 1), OK),
+    (Call::Runs(1, &[(1, 1)]), OK),
+    (Call::Finish(0, 2), OK),
+    (Call::Runs(2, &[(0, 1), (2, 1)]), OK),
+    (Call::Free(1), OK),
+    (Call::Image(1, 2, 4096), OK),
+    (Call::Image(2, 1, 4097), OK),
+];
 
 #[test]
 fn streams_take_blocks_in_turn(rt: HostRuntime) -> Result<(), Fail> {
     let mut archive = fresh(rt.alloc())?;
-    assert_eq!(rt; begin(&mut archive, 0, b"a")?, Ok(()));
-    assert_eq!(rt; begin(&mut archive, 1, b"b")?, Ok(()));
-    assert_eq!(rt; begin(&mut archive, 2, b"a")?, Err(ArchiveFault::NameTaken));
-    assert_eq!(rt; begin(&mut archive, 0, b"c")?, Err(ArchiveFault::SlotBusy));
-    assert_eq!(rt; put(&mut archive, 0, 1, 0, 4096), Ok(()));
-    assert_eq!(rt; put(&mut archive, 1, 2, 0, 4096), Ok(()));
-    assert_eq!(rt; put(&mut archive, 0, 1, 4096, 4097), Ok(()));
-    assert_eq!(rt; archive.finish(1), Ok(1));
-    assert!(rt; has_runs(&archive, 1, &[(1, 1)]));
-    assert_eq!(rt; archive.finish(0), Ok(2));
-    assert!(rt; has_runs(&archive, 2, &[(0, 1), (2, 1)]));
-    assert_eq!(rt; archive.free_blocks(), Ok((1, 4)));
-    assert!(rt; has_image(&mut archive, 1, 2, 4096));
-    assert!(rt; has_image(&mut archive, 2, 1, 4097));
+    assert_eq!(rt; follow(&mut archive, &TWO_STREAMS)?, TWO_STREAMS.len());
     Ok(())
 }
+
+const EIGHT_STREAMS: [Row; 26] = [
+    (Call::Begin(0, b"a"), OK),
+    (Call::Begin(1, b"b"), OK),
+    (Call::Begin(2, b"c"), OK),
+    (Call::Begin(3, b"d"), OK),
+    (Call::Begin(4, b"e"), OK),
+    (Call::Begin(5, b"f"), OK),
+    (Call::Begin(6, b"g"), OK),
+    (Call::Begin(7, b"h"), OK),
+    (Call::Put(0, 1, 0, 1), OK),
+    (Call::Put(1, 2, 0, 1), OK),
+    (Call::Put(2, 3, 0, 1), OK),
+    (Call::Put(3, 4, 0, 1), OK),
+    (Call::Put(4, 5, 0, 1), OK),
+    (Call::Put(5, 6, 0, 1), OK),
+    (Call::Put(6, 7, 0, 1), OK),
+    (Call::Put(7, 8, 0, 1), OK),
+    (Call::Finish(0, 1), OK),
+    (Call::Finish(1, 2), OK),
+    (Call::Finish(2, 3), OK),
+    (Call::Finish(3, 4), OK),
+    (Call::Free(0), OK),
+    (Call::Finish(4, 5), Err(ArchiveFault::SpaceFull)),
+    (Call::Finish(4, 5), Err(ArchiveFault::NoStream)),
+    (Call::Delete(2), OK),
+    (Call::Finish(5, 5), OK),
+    (Call::Runs(5, &[(1, 1)]), OK),
+];
 
 #[test]
 fn four_of_eight_streams_find_a_block(rt: HostRuntime) -> Result<(), Fail> {
     let mut archive = fresh(rt.alloc())?;
-    for slot in 0..8u8 {
-        assert_eq!(rt;
-            begin(&mut archive, slot, &[b'a' + slot])?,
-            Ok(()),
-            "at {slot}"
-        );
-        assert_eq!(rt; put(&mut archive, slot, slot, 0, 1), Ok(()), "at {slot}");
-    }
-    for slot in 0..4u8 {
-        assert_eq!(rt; archive.finish(slot), Ok(u32::from(slot) + 1), "at {slot}");
-    }
-    assert_eq!(rt; archive.free_blocks(), Ok((0, 4)));
-    assert_eq!(rt; archive.finish(4), Err(ArchiveFault::SpaceFull));
-    assert_eq!(rt; archive.finish(4), Err(ArchiveFault::NoStream));
-    assert_eq!(rt; archive.delete(2), Ok(()));
-    assert_eq!(rt; archive.finish(5), Ok(5));
-    assert!(rt; has_runs(&archive, 5, &[(1, 1)]));
+    assert_eq!(rt; follow(&mut archive, &EIGHT_STREAMS)?, EIGHT_STREAMS.len());
     Ok(())
 }
+
+const ABANDONED: [Row; 5] = [
+    (Call::Begin(0, b"a"), OK),
+    (Call::Put(0, 1, 0, 4096), OK),
+    (Call::Free(3), OK),
+    (Call::Abandon(0), OK),
+    (Call::Free(4), OK),
+];
 
 #[test]
 fn an_abandoned_stream_gives_its_blocks_back(rt: HostRuntime) -> Result<(), Fail> {
     let mut archive = fresh(rt.alloc())?;
-    assert_eq!(rt; begin(&mut archive, 0, b"a")?, Ok(()));
-    assert_eq!(rt; put(&mut archive, 0, 1, 0, 4096), Ok(()));
-    assert_eq!(rt; archive.free_blocks(), Ok((3, 4)));
-    assert_eq!(rt; archive.abandon(0), Ok(()));
-    assert_eq!(rt; archive.free_blocks(), Ok((4, 4)));
+    assert_eq!(rt; follow(&mut archive, &ABANDONED)?, ABANDONED.len());
     Ok(())
 }

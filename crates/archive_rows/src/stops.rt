@@ -10,13 +10,11 @@ use retention::Policy;
 use std::alloc::Global;
 use std::test::Fail;
 
-const PICKS: [Pick; 5] = [
-    Pick::Nothing,
-    Pick::Whole,
-    Pick::FirstHalf,
-    Pick::Fill(0xa5),
-    Pick::Fill(0x37),
-];
+// Of what was written since the last sync nothing is left, or its first bytes, or all of it.
+const CUT: [Pick; 3] = [Pick::Nothing, Pick::FirstHalf, Pick::Whole];
+
+// In its place stand the bytes of open gates, or others.
+const FILLED: [Pick; 2] = [Pick::Fill(0xa5), Pick::Fill(0x37)];
 
 // Begins the stream of an image.
 fn begin_image<D: Disk>(
@@ -184,21 +182,28 @@ fn check_disk(alloc: Global, disk: MemDisk, before: usize, after: usize) -> Resu
     Err(Fail::from("the archive shows neither state"))
 }
 
-// The same of what each crash leaves.
-fn check_crashes(alloc: Global, disk: &MemDisk, before: usize, after: usize) -> Result<(), Fail> {
-    for pick in PICKS {
-        check_disk(alloc, disk.after_crash(pick)?, before, after)?;
+// The same of what each of these crashes leaves.
+fn check_crashes(
+    alloc: Global,
+    disk: &MemDisk,
+    picks: &[Pick],
+    before: usize,
+    after: usize,
+) -> Result<(), Fail> {
+    for pick in picks {
+        check_disk(alloc, disk.after_crash(*pick)?, before, after)?;
     }
     Ok(())
 }
 
-// Stops the disk after so many calls. Answers how many changes were answered, or `None` where nothing was stopped.
-fn stop_after(alloc: Global, limit: u64) -> Result<Option<usize>, Fail> {
+// Stops the disk after so many calls, with these crashes. Answers how many changes were answered, or `None` where nothing
+// was stopped.
+fn stop_after(alloc: Global, limit: u64, picks: &[Pick]) -> Result<Option<usize>, Fail> {
     let disk = Fuse::new(formatted(alloc, SHAPE)?, limit);
     let mut archive = match Archive::open(alloc, disk, SETTINGS) {
         Ok(archive) => archive,
         Err((OpenFault::Disk, disk)) => {
-            check_crashes(alloc, &disk.into_inner(), 0, 0)?;
+            check_crashes(alloc, &disk.into_inner(), picks, 0, 0)?;
             return Ok(Some(0));
         }
         Err(_) => return Err(Fail::from("the archive was not opened")),
@@ -207,32 +212,47 @@ fn stop_after(alloc: Global, limit: u64) -> Result<Option<usize>, Fail> {
     let left = archive.close().into_inner();
     match ending {
         Ending::Whole => {
-            check_crashes(alloc, &left, CHANGES, CHANGES)?;
+            check_crashes(alloc, &left, picks, CHANGES, CHANGES)?;
             Ok(None)
         }
         Ending::Failed { before, after } => {
-            check_crashes(alloc, &left, before, after)?;
+            check_crashes(alloc, &left, picks, before, after)?;
             Ok(Some(before))
         }
     }
 }
 
-// Each call that changes the cases is stopped somewhere, and none is passed over.
-#[test]
-fn a_stop_leaves_the_cases_from_before_or_after(rt: HostRuntime) -> Result<(), Fail> {
+// Stops the disk after each number of calls, with these crashes. Each call that changes the cases is stopped somewhere,
+// and none is passed over.
+fn stop_everywhere(alloc: Global, picks: &[Pick]) -> Result<(), Fail> {
     let mut last = 0usize;
     for limit in 0..1000 {
-        let Some(done) = stop_after(rt.alloc(), limit)? else {
-            assert_eq!(rt; last.saturating_add(1), CHANGES);
+        let Some(done) = stop_after(alloc, limit, picks)? else {
+            if last.saturating_add(1) != CHANGES {
+                return Err(Fail::from("the last change was not stopped"));
+            }
             return Ok(());
         };
-        assert!(rt;
-            done == last || done == last.saturating_add(1),
-            "{done} changes after {limit} calls"
-        );
+        if done != last && done != last.saturating_add(1) {
+            return Err(Fail::from("a change was passed over"));
+        }
         last = done;
     }
     Err(Fail::from("the script never came to its end"))
+}
+
+#[test]
+fn a_stop_with_cut_writes_leaves_the_cases_from_before_or_after(
+    rt: HostRuntime,
+) -> Result<(), Fail> {
+    stop_everywhere(rt.alloc(), &CUT)
+}
+
+#[test]
+fn a_stop_with_filled_writes_leaves_the_cases_from_before_or_after(
+    rt: HostRuntime,
+) -> Result<(), Fail> {
+    stop_everywhere(rt.alloc(), &FILLED)
 }
 
 // Whether each call on the slot is refused, and nothing is lent.

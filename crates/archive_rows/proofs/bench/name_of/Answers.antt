@@ -1,7 +1,7 @@
 use Rattle.std.proofs.Common.{◌<◌, ◌≤◌, length, sym, ◌∙◌, subst, arith, false-eqb}
 use Rattle.disk_model.specs.Places.{AreBytes}
 use Rattle.journal_layout.specs.Soundness.{IsName}
-use Rattle.archive_rows.proofs.Rows.{is_name}
+use Rattle.archive_rows.proofs.Names.{is_name}
 use Rattle.archive_rows.proofs.bench.name_of.Goals as goal
 
 pub returns : goal.returns
