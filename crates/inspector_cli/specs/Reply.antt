@@ -1,14 +1,18 @@
 -- The reply to what a line says, and what it does to the archive.
-use Rattle.std.specs.Prelude.{◌≡◌, ℕ, ◌+◌, ◌/◌, ◌%◌, ◌<◌, ◌≤◌, ◌==◌, Bool, true, false, nat_lt, List, [], ◌∷◌, ◌++◌, length, Option, None, Some, Result, Ok, Err, is_ok, codes, decimal, if◌then◌else◌}
+use Rattle.std.specs.Prelude.{◌≡◌, ℕ, ◌+◌, ◌/◌, ◌%◌, ◌<◌, ◌≤◌, ◌==◌, Bool, true, false, nat_lt, List, [], ◌∷◌, ◌++◌, length, Option, None, Some, Result, Ok, Err, is_ok, IsTrue, codes, decimal, if◌then◌else◌}
 use Rattle.std.specs.List.{flat_map, list_any}
 use Rattle.journal_layout.specs.declared.entry.Kind.{Kind}
 use Rattle.journal_layout.specs.declared.entry.Kind.TheVariants.{Core, Exec}
 use Rattle.script_words.specs.Printing.{shown}
 use Rattle.intake.specs.declared.faults.ArchiveFault.{ArchiveFault}
 use Rattle.intake.specs.declared.faults.ArchiveFault.TheVariants.{Stopped, BadSlot, SlotBusy, NameTaken, NoStream, TooLong, SpaceFull, NoCase, Pinned, JournalFull, NumbersSpent, OutOfMemory, Disk}
+use Rattle.disk_model.specs.declared.disk.Disk as disk
+use Rattle.intake.specs.Calls.{Stays, BeginCall, AbandonCall, FinishCall, DeleteCall, PinCall, RetireCall}
+use Rattle.intake.specs.Contents.{Contents, Taken, RefusedBytes, with_taken}
+use Rattle.intake.specs.Parts.{Parts, bare_of, contents_of}
 use Rattle.intake.specs.Slots.{stream_at}
 use Rattle.intake.specs.State.{Bare, BareCase, BareStream, blocks_in}
-use Rattle.intake.specs.Step.{BeginStep, FinishStep, AbandonStep, DeleteStep, PinStep, RetireStep, FreeReply, with_stream, halted, longer}
+use Rattle.intake.specs.Step.{FreeReply, with_stream, halted, longer}
 use Rattle.retention.specs.declared.Decision.{Decision}
 use Rattle.retention.specs.declared.Policy.{Policy}
 use Rattle.name_template.specs.Expansion.{expansion, name_of}
@@ -124,10 +128,10 @@ begin_reply name (Ok u) = ((codes "name " ++ shown name) ++ 10 ∷ []) ++ ok_rep
 begin_reply name (Err fault) = no_reply (reason_of fault)
 
 -- `begin`: what is wrong with the name comes first. It is accepted or not.
-abbrev pub Begins : Bare → ℕ → Result BareStream (List ℕ) → List ℕ → Bare → Bool → Type 0
-Begins old slot (Err reason) reply new accepted = (reply ≡ no_reply reason) × (new ≡ old) × (accepted ≡ false)
-Begins old slot (Ok stream) reply new accepted =
-    (result : Result (Unit {0}) ArchiveFault) × BeginStep old slot stream result new × (reply ≡ begin_reply stream.name result) × (accepted ≡ is_ok result)
+abbrev pub Begins : {D : Type 0} → disk.Ghosts D → Parts D → ℕ → Result BareStream (List ℕ) → List ℕ → Parts D → Bool → Type 0
+Begins g old slot (Err reason) reply new accepted = (reply ≡ no_reply reason) × (new ≡ old) × (accepted ≡ false)
+Begins g old slot (Ok stream) reply new accepted =
+    (result : Result (Unit {0}) ArchiveFault) × BeginCall g old slot stream result new × (reply ≡ begin_reply stream.name result) × (accepted ≡ is_ok result)
 
 -- the bytes of a stream at which the next block that it fills would find none free: m is the first multiple of 4,096 above
 -- its length for which the blocks in use, and those that it fills before m, are all that there are
@@ -160,10 +164,22 @@ TakeStep old slot n (Err Disk) new =
     (s : BareStream) × (k : ℕ) × IsOpen old slot s × (k ≤ n) × MayTake old s k × (new ≡ halted old)
 TakeStep old slot n (Err _) new = ⊥
 
+-- the bytes of a stream once these were taken; what stands behind them in its block is left open
+abbrev pub TakeBytes : Contents → ℕ → List ℕ → Result (Unit {0}) ArchiveFault → Contents → Type 0
+TakeBytes old slot raw (Ok u) new =
+    (t : Taken) × (free : List ℕ) × (stream_at old.taken slot ≡ Some t) × (new ≡ with_taken old slot (Some (record { bytes = t.bytes ++ raw; free = free })))
+TakeBytes old slot raw (Err f) new = RefusedBytes old slot f new
+
+-- these bytes are taken as one step
+pub record Takes {D : Type 0} (g : disk.Ghosts D) (old : Parts D) (slot : ℕ) (raw : List ℕ) (r : Result (Unit {0}) ArchiveFault) (new : Parts D) : Type 0 where
+  pub step : TakeStep (bare_of old) slot (length raw) r (bare_of new)
+  pub bytes : IsTrue (g.is_honest old.disk) → TakeBytes (contents_of g.seen old) slot raw r (contents_of g.seen new)
+  pub stays : Stays g old new
+
 -- `part`: its bytes are taken
-abbrev pub Parts : Bare → ℕ → ℕ → List ℕ → Bare → Type 0
-Parts old slot n reply new =
-    (result : Result (Unit {0}) ArchiveFault) × TakeStep old slot n result new × (reply ≡ plain_reply result)
+abbrev pub Feeds : {D : Type 0} → disk.Ghosts D → Parts D → ℕ → List ℕ → List ℕ → Parts D → Type 0
+Feeds g old slot raw reply new =
+    (result : Result (Unit {0}) ArchiveFault) × Takes g old slot raw result new × (reply ≡ plain_reply result)
 
 -- `stored N`
 abbrev pub end_reply : Result ℕ ArchiveFault → List ℕ
@@ -171,18 +187,18 @@ end_reply (Ok seq) = ((codes "stored " ++ decimal seq) ++ 10 ∷ []) ++ ok_reply
 end_reply (Err fault) = no_reply (reason_of fault)
 
 -- `end`: the case is stored or not
-abbrev pub Ends : Bare → ℕ → List ℕ → Bare → Bool → Type 0
-Ends old slot reply new stored =
-    (result : Result ℕ ArchiveFault) × FinishStep old slot result new × (reply ≡ end_reply result) × (stored ≡ is_ok result)
+abbrev pub Ends : {D : Type 0} → disk.Ghosts D → Parts D → ℕ → List ℕ → Parts D → Bool → Type 0
+Ends g old slot reply new stored =
+    (result : Result ℕ ArchiveFault) × FinishCall g old slot result new × (reply ≡ end_reply result) × (stored ≡ is_ok result)
 
-abbrev pub Drops : Bare → ℕ → List ℕ → Bare → Type 0
-Drops old slot reply new = (result : Result (Unit {0}) ArchiveFault) × AbandonStep old slot result new × (reply ≡ plain_reply result)
+abbrev pub Drops : {D : Type 0} → disk.Ghosts D → Parts D → ℕ → List ℕ → Parts D → Type 0
+Drops g old slot reply new = (result : Result (Unit {0}) ArchiveFault) × AbandonCall g old slot result new × (reply ≡ plain_reply result)
 
-abbrev pub Deletes : Bare → ℕ → List ℕ → Bare → Type 0
-Deletes old seq reply new = (result : Result (Unit {0}) ArchiveFault) × DeleteStep old seq result new × (reply ≡ plain_reply result)
+abbrev pub Deletes : {D : Type 0} → disk.Ghosts D → Parts D → ℕ → List ℕ → Parts D → Type 0
+Deletes g old seq reply new = (result : Result (Unit {0}) ArchiveFault) × DeleteCall g old seq result new × (reply ≡ plain_reply result)
 
-abbrev pub Pins : Bare → ℕ → Bool → List ℕ → Bare → Type 0
-Pins old seq flag reply new = (result : Result (Unit {0}) ArchiveFault) × PinStep old seq flag result new × (reply ≡ plain_reply result)
+abbrev pub Pins : {D : Type 0} → disk.Ghosts D → Parts D → ℕ → Bool → List ℕ → Parts D → Type 0
+Pins g old seq flag reply new = (result : Result (Unit {0}) ArchiveFault) × PinCall g old seq flag result new × (reply ≡ plain_reply result)
 
 -- `dropped N`
 abbrev pub dropped_line : ℕ → List ℕ
@@ -197,16 +213,16 @@ abbrev pub retire_reply : Result Decision ArchiveFault → List ℕ
 retire_reply (Ok decision) = flat_map dropped_line decision.dropped.items ++ (unmet_line decision.unmet ++ ok_reply)
 retire_reply (Err fault) = no_reply (reason_of fault)
 
-abbrev pub Retires : Bare → Policy → List ℕ → Bare → Type 0
-Retires old policy reply new = (result : Result Decision ArchiveFault) × RetireStep old policy result new × (reply ≡ retire_reply result)
+abbrev pub Retires : {D : Type 0} → disk.Ghosts D → Parts D → Policy → List ℕ → Parts D → Type 0
+Retires g old policy reply new = (result : Result Decision ArchiveFault) × RetireCall g old policy result new × (reply ≡ retire_reply result)
 
 -- `free F of N`
 abbrev pub free_reply : Result (ℕ × ℕ) ArchiveFault → List ℕ
 free_reply (Ok n) = (codes "free " ++ (decimal n.0 ++ (codes " of " ++ (decimal n.1 ++ 10 ∷ [])))) ++ ok_reply
 free_reply (Err fault) = no_reply (reason_of fault)
 
-abbrev pub Frees : Bare → List ℕ → Bare → Type 0
-Frees old reply new = (result : Result (ℕ × ℕ) ArchiveFault) × FreeReply old result × (reply ≡ free_reply result) × (new ≡ old)
+abbrev pub Frees : {D : Type 0} → Parts D → List ℕ → Parts D → Type 0
+Frees old reply new = (result : Result (ℕ × ℕ) ArchiveFault) × FreeReply (bare_of old) result × (reply ≡ free_reply result) × (new ≡ old)
 
 abbrev pub kind_name : Kind → List ℕ
 kind_name Core = codes "core"
@@ -229,18 +245,18 @@ case_line c =
 abbrev pub list_reply : Bool → List BareCase → List ℕ
 list_reply stopped cases = if stopped then no_reply (codes "Stopped") else flat_map case_line cases ++ ok_reply
 
--- the reply, and the archive behind it, where as many bytes as the line says stood behind it
-abbrev pub Replies : Naming → Bare → Said → List ℕ → Bare → Type 0
-Replies naming old silence reply new = (reply ≡ []) × (new ≡ old)
-Replies naming old bad_line reply new = (reply ≡ no_reply (codes "BadLine")) × (new ≡ old)
-Replies naming old long_line reply new = (reply ≡ no_reply (codes "LineTooLong")) × (new ≡ old)
-Replies naming old (begin_exec slot name) reply new = (accepted : Bool) × Begins old slot (exec_stream name) reply new accepted
-Replies naming old (begin_core slot process) reply new = (accepted : Bool) × Begins old slot (core_stream naming process) reply new accepted
-Replies naming old (part_of slot n) reply new = Parts old slot n reply new
-Replies naming old (end_of slot) reply new = (stored : Bool) × Ends old slot reply new stored
-Replies naming old (drop_of slot) reply new = Drops old slot reply new
-Replies naming old (delete_of seq) reply new = Deletes old seq reply new
-Replies naming old (pin_of seq flag) reply new = Pins old seq flag reply new
-Replies naming old (retire_by policy) reply new = Retires old policy reply new
-Replies naming old list_all_cases reply new = (reply ≡ list_reply old.stopped old.cases) × (new ≡ old)
-Replies naming old count_free reply new = Frees old reply new
+-- the reply, and the archive behind it, where these bytes stood behind the line, as many as it says
+abbrev pub Replies : {D : Type 0} → disk.Ghosts D → Naming → Parts D → Said → List ℕ → List ℕ → Parts D → Type 0
+Replies g naming old silence raw reply new = (reply ≡ []) × (new ≡ old)
+Replies g naming old bad_line raw reply new = (reply ≡ no_reply (codes "BadLine")) × (new ≡ old)
+Replies g naming old long_line raw reply new = (reply ≡ no_reply (codes "LineTooLong")) × (new ≡ old)
+Replies g naming old (begin_exec slot name) raw reply new = (accepted : Bool) × Begins g old slot (exec_stream name) reply new accepted
+Replies g naming old (begin_core slot process) raw reply new = (accepted : Bool) × Begins g old slot (core_stream naming process) reply new accepted
+Replies g naming old (part_of slot n) raw reply new = Feeds g old slot raw reply new
+Replies g naming old (end_of slot) raw reply new = (stored : Bool) × Ends g old slot reply new stored
+Replies g naming old (drop_of slot) raw reply new = Drops g old slot reply new
+Replies g naming old (delete_of seq) raw reply new = Deletes g old seq reply new
+Replies g naming old (pin_of seq flag) raw reply new = Pins g old seq flag reply new
+Replies g naming old (retire_by policy) raw reply new = Retires g old policy reply new
+Replies g naming old list_all_cases raw reply new = (reply ≡ list_reply (bare_of old).stopped (bare_of old).cases) × (new ≡ old)
+Replies g naming old count_free raw reply new = Frees old reply new

@@ -1,22 +1,26 @@
 -- What is found after a stop, told by the marks of a run.
-use Rattle.std.proofs.Common.{◌≡◌, ◌⊎◌, ℕ, ◌<◌, ◌≤◌, Bool, true, false, not, List, [], ◌∷◌, ◌++◌, map, refl, sym, ap, subst, ◌∙◌, ⊎_elim, inl, inr, arith, Option, Some, Result, Ok, Err}
-use Rattle.std.proofs.lemmas.Bool.{cases_lt}
-use Rattle.std.specs.Prelude.{IsTrue}
+use Rattle.std.proofs.Common.{◌≡◌, ◌⊎◌, ℕ, zero, suc, ◌<◌, ◌≤◌, Bool, true, false, not, List, [], ◌∷◌, ◌++◌, map, refl, sym, ap, subst, ◌∙◌, ⊎_elim, inl, inr, arith, Option, None, Some, Result, Ok, Err}
+use Rattle.std.proofs.lemmas.Bool.{cases_lt, false≢true}
+use Rattle.std.specs.Prelude.{IsTrue, option_map}
 use Rattle.disk_model.specs.Moments.{AddsOnly}
 use Rattle.disk_model.specs.MomentLaws.{adds_weakened}
 use Rattle.disk_model.specs.declared.disk.Disk as disk
-use Rattle.intake.specs.Durable.{Durable, StandsFor, durable_of, without}
-use Rattle.intake.specs.Contents.{Contents, Taken}
+use Rattle.intake.specs.Calls.{Stays, Changes, FinishCall, DeleteCall, PinCall, RetireCall}
+use Rattle.intake.specs.Durable.{Durable, StandsFor, durable_of, durable_part, with_images, with_case, without, flagged}
+use Rattle.intake.specs.Contents.{Contents, Taken, FinishBytes, UnmovedBytes}
+use Rattle.intake.specs.Growth.{IsDiskFault}
 use Rattle.intake.specs.Guarding.{Leaves, LeavesNew, MayBeStored, MayBeRetired}
-use Rattle.intake.specs.Marks.{Mark, IsOneOf, Finds, IsSettled, Passes, Run, last_of, FindsOne, IsFoundFrom, IsFoundSince, mark_of, stored_doubts}
-use Rattle.intake.specs.Parts.{Parts}
+use Rattle.intake.specs.Marks.{Mark, IsOneOf, Finds, IsSettled, Passes, Run, last_of, FindsOne, IsFoundFrom, IsFoundSince, mark_of, doubted, Leads}
+use Rattle.intake.specs.Parts.{Parts, StreamParts, bare_of, bare_stream, contents_of, taken_in}
 use Rattle.intake.specs.Slots.{stream_at}
-use Rattle.intake.specs.State.{Bare, BareStream}
-use Rattle.intake.specs.Step.{Retires, brief_of}
+use Rattle.intake.specs.State.{Bare, BareCase, BareStream}
+use Rattle.intake.specs.Step.{FinishStep, DeleteStep, PinStep, RetireStep, brief_of, stored, halted, without_cases, with_flag}
 use Rattle.intake.specs.declared.faults.ArchiveFault.{ArchiveFault}
 use Rattle.intake.specs.declared.faults.ArchiveFault.TheVariants as fault
+use Rattle.intake.proofs.DurableLemmas.{durable_is}
 use Rattle.retention.specs.Rule.{IsDecision, holds_after, goes, seq_of}
 use Rattle.retention.specs.declared.Brief.{Brief}
+use Rattle.retention.specs.declared.Decision.{Decision}
 use Rattle.retention.specs.declared.Policy.{Policy}
 
 module _ {D : Type 0} (g : disk.Ghosts D) (only : (d : D) (c : List ℕ) → g.left_since d (g.clock d) c → g.may_leave d c) where
@@ -43,6 +47,16 @@ module _ {D : Type 0} (g : disk.Ghosts D) (only : (d : D) (c : List ℕ) → g.l
   found_since m [] honest settled run = found_from m [] honest settled run
   found_since m (n ∷ ns) honest settled run = (found_from m (n ∷ ns) honest settled run, found_since n ns (run.0.honesty ∙ honest) (run.0.settled honest settled) run.1)
 
+some_is : {X : Type 0} (x y : X) → Some x ≡ Some y → x ≡ y
+some_is x y e = cc
+
+none_some : {X : Type 0} (x : X) → None ≡ Some x → ⊥
+none_some x e = cc
+
+disk_or_not : (f : ArchiveFault) → (f ≡ fault.Disk) ⊎ (f ≡ fault.Disk → ⊥)
+disk_or_not fault.Disk = inl refl
+disk_or_not _ = inr (λ e. cc)
+
 -- what was in doubt stays so
 old_doubts : (more before : List Durable) (x : Durable) → IsOneOf before x → IsOneOf (more ++ before) x
 old_doubts [] before x was = was
@@ -53,10 +67,11 @@ new_doubts [] before x is = absurd is
 new_doubts (y ∷ more) before x is = ⊎_elim (λ here. inl here) (λ there. inr (new_doubts more before x there)) is
 
 -- what a call may leave is found at one of its two marks
-left_found : {D : Type 0} (T : Type 0) (seen : D → List ℕ) (old new : Parts D) (r : Result T ArchiveFault) (doubt : Durable → Type 0) (before more : List Durable) (c : List ℕ) → ((x : Durable) → doubt x → IsOneOf more x)
-    → LeavesNew {T = T} r (durable_of seen new) doubt c → Finds c (mark_of seen old before) ⊎ Finds c (mark_of seen new (more ++ before))
+left_found : {D : Type 0} (T : Type 0) (seen : D → List ℕ) (old new : Parts D) (r : Result T ArchiveFault) (doubt : Durable → Type 0) (before more : List Durable) (c : List ℕ)
+    → (IsDiskFault r → (x : Durable) → doubt x → IsOneOf more x)
+    → LeavesNew {T = T} r (durable_of seen new) doubt c → Finds c (mark_of seen old before) ⊎ Finds c (mark_of seen new (doubted {T = T} r more ++ before))
 left_found T seen old new (Ok v) doubt before more c among stands = inr (durable_of seen new, stands, inl refl)
-left_found T seen old new (Err fault.Disk) doubt before more c among h = inr (h.0, h.2, inr (new_doubts more before h.0 (among h.0 h.1)))
+left_found T seen old new (Err fault.Disk) doubt before more c among h = inr (h.0, h.2, inr (new_doubts more before h.0 (among refl h.0 h.1)))
 left_found T seen old new (Err _) doubt before more c among h = absurd h
 
 module _ {D : Type 0} (g : disk.Ghosts D) (counts : (d : D) (t : ℕ) (c : List ℕ) → t ≤ g.clock d → g.may_leave d c → g.left_since d t c)
@@ -78,49 +93,58 @@ module _ {D : Type 0} (g : disk.Ghosts D) (counts : (d : D) (t : ℕ) (c : List 
       (λ found. ⊎_elim (λ a. carried same c a) (λ b. b) found)
       (crash.added (g.clock old.disk) c (omega arith) (counts new.disk (g.clock old.disk) c crash.later may))
 
-  pub change_passes : (T : Type 0) (r : Result T ArchiveFault) (doubt : Durable → Type 0) → g.is_honest new.disk ≡ g.is_honest old.disk
-      → (IsTrue (g.is_honest old.disk) → AddsOnly g old.disk new.disk (Leaves {T = T} (durable_of g.seen old) r (durable_of g.seen new) doubt))
-      → ((x : Durable) → doubt x → IsOneOf more x)
-      → (new.stopped ≡ false → IsTrue (g.is_honest new.disk) → (c : List ℕ) → g.may_leave new.disk c → StandsFor c (durable_of g.seen new))
+module _ {D : Type 0} (T : Type 0) (g : disk.Ghosts D) (counts : (d : D) (t : ℕ) (c : List ℕ) → t ≤ g.clock d → g.may_leave d c → g.left_since d t c)
+    (only : (d : D) (c : List ℕ) → g.left_since d (g.clock d) c → g.may_leave d c) (old new : Parts D) (r : Result T ArchiveFault) (doubt : Durable → Type 0) where
+  -- where the cases of a stopped archive are those that it had
+  change_passes : (before more : List Durable) → Changes T g old r new doubt → (IsDiskFault r → (x : Durable) → doubt x → IsOneOf more x)
       → (new.stopped ≡ true → IsTrue (g.is_honest old.disk) → durable_of g.seen new ≡ durable_of g.seen old)
-      → Passes g first second
-  change_passes T r doubt honesty leaves among stands same = record {
-    honesty = honesty;
+      → Passes g (mark_of g.seen old before) (mark_of g.seen new (doubted {T = T} r more ++ before))
+  change_passes before more changes among same = record {
+    honesty = changes.honesty;
     crash = moments;
     settled = λ honest settled. here honest settled new.stopped refl;
   }
     where
-      moments : IsTrue (g.is_honest old.disk) → AddsOnly g old.disk new.disk (λ c. Finds c first ⊎ Finds c second)
+      moments : IsTrue (g.is_honest old.disk) → AddsOnly g old.disk new.disk (λ c. Finds c (mark_of g.seen old before) ⊎ Finds c (mark_of g.seen new (doubted {T = T} r more ++ before)))
       moments honest =
-          adds_weakened g old.disk new.disk (Leaves {T = T} (durable_of g.seen old) r (durable_of g.seen new) doubt) (λ c. Finds c first ⊎ Finds c second)
-          (λ c h. ⊎_elim (λ stands'. inl (durable_of g.seen old, stands', inl refl)) (λ more'. left_found T g.seen old new r doubt before more c among more') h) (leaves honest)
+          adds_weakened g old.disk new.disk (Leaves {T = T} (durable_of g.seen old) r (durable_of g.seen new) doubt)
+          (λ c. Finds c (mark_of g.seen old before) ⊎ Finds c (mark_of g.seen new (doubted {T = T} r more ++ before)))
+          (λ c h. ⊎_elim (λ stands'. inl (durable_of g.seen old, stands', inl refl)) (λ more'. left_found T g.seen old new r doubt before more c among more') h) (changes.crash honest)
 
-      here : IsTrue (g.is_honest old.disk) → IsSettled g first → (b : Bool) → new.stopped ≡ b → IsSettled g second
-      here honest settled false is c may = (durable_of g.seen new, stands is (honesty ∙ honest) c may, inl refl)
-      here honest settled true is c may = still_settled (moments honest) (same is honest) settled c may
+      here : IsTrue (g.is_honest old.disk) → IsSettled g (mark_of g.seen old before) → (b : Bool) → new.stopped ≡ b → IsSettled g (mark_of g.seen new (doubted {T = T} r more ++ before))
+      here honest settled false is c may = (durable_of g.seen new, changes.stands is (changes.honesty ∙ honest) c may, inl refl)
+      here honest settled true is c may = still_settled g counts only old new before (doubted {T = T} r more) (moments honest) (same is honest) settled c may
+
+  -- a call whose answer leaves nothing in doubt
+  leads_plain : (IsDiskFault r → ⊥) → Changes T g old r new doubt
+      → (new.stopped ≡ true → IsTrue (g.is_honest old.disk) → durable_of g.seen new ≡ durable_of g.seen old) → Leads T g old r new doubt
+  leads_plain not_disk changes same before = ([], tt, change_passes before [] changes (λ is x may. absurd (not_disk is)) same)
+
+  -- a call that has one archive in doubt
+  leads_one : (x : Durable) → doubt x → ((y : Durable) → doubt y → y ≡ x) → Changes T g old r new doubt
+      → (new.stopped ≡ true → IsTrue (g.is_honest old.disk) → durable_of g.seen new ≡ durable_of g.seen old) → Leads T g old r new doubt
+  leads_one x may one changes same before = (x ∷ [], (may, tt), change_passes before (x ∷ []) changes (λ is y may'. inl (one y may')) same)
 
 module _ {D : Type 0} (g : disk.Ghosts D) (counts : (d : D) (t : ℕ) (c : List ℕ) → t ≤ g.clock d → g.may_leave d c → g.left_since d t c)
     (only : (d : D) (c : List ℕ) → g.left_since d (g.clock d) c → g.may_leave d c) (old new : Parts D) (before : List Durable) where
-  pub rest_passes : g.is_honest new.disk ≡ g.is_honest old.disk
-      → (IsTrue (g.is_honest old.disk) → AddsOnly g old.disk new.disk (λ c. StandsFor c (durable_of g.seen old)))
-      → (IsTrue (g.is_honest old.disk) → durable_of g.seen new ≡ durable_of g.seen old)
-      → Passes g (mark_of g.seen old before) (mark_of g.seen new before)
-  rest_passes honesty adds same = record {
-    honesty = honesty;
+  pub stays_lead : Stays g old new → Passes g (mark_of g.seen old before) (mark_of g.seen new before)
+  stays_lead stays = record {
+    honesty = stays.honesty;
     crash = moments;
-    settled = λ honest settled. still_settled g counts only old new before [] (moments honest) (same honest) settled;
+    settled = λ honest settled. still_settled g counts only old new before [] (moments honest) (stays.durable honest) settled;
   }
     where
       moments : IsTrue (g.is_honest old.disk) → AddsOnly g old.disk new.disk (λ c. Finds c (mark_of g.seen old before) ⊎ Finds c (mark_of g.seen new before))
       moments honest =
           adds_weakened g old.disk new.disk (λ c. StandsFor c (durable_of g.seen old)) (λ c. Finds c (mark_of g.seen old before) ⊎ Finds c (mark_of g.seen new before))
-          (λ c stands. inl (durable_of g.seen old, stands, inl refl)) (adds honest)
+          (λ c stands. inl (durable_of g.seen old, stands, inl refl)) (stays.crash honest)
 
 -- what a finish may leave is one
-pub stored_listed : (s : Bare) (c : Contents) (old : Durable) (slot : ℕ) (x : Durable) → MayBeStored s c old slot x → IsOneOf (stored_doubts old (stream_at s.streams slot) (stream_at c.taken slot)) x
-stored_listed s c old slot x may =
-    subst (λ (o : Option BareStream). IsOneOf (stored_doubts old o (stream_at c.taken slot)) x) (sym may.2)
-    (subst (λ (o : Option Taken). IsOneOf (stored_doubts old (Some may.0) o) x) (sym may.3) (inl may.4))
+one_stored : (s : Bare) (c : Contents) (old : Durable) (slot : ℕ) (x y : Durable) → MayBeStored s c old slot x → MayBeStored s c old slot y → y ≡ x
+one_stored s c old slot x y may may' =
+    let stream : may'.0 ≡ may.0 = some_is may'.0 may.0 (sym may'.2 ∙ may.2) in
+    let taken : may'.1 ≡ may.1 = some_is may'.1 may.1 (sym may'.3 ∙ may.3) in
+    may'.4 ∙ ap (λ (z : BareStream). with_case old z may'.1.bytes) stream ∙ ap (λ (z : Taken). with_case old may.0 z.bytes) taken ∙ sym may.4
 
 -- the rule has one answer
 no_fewer : (policy : Policy) (cases : List Brief) (a b : List ℕ) (u v : Bool) (d : IsDecision policy cases a u) (e : IsDecision policy cases b v) → d.count < e.count → ⊥
@@ -145,6 +169,143 @@ one_decision : (policy : Policy) (cases : List Brief) (a b : List ℕ) (u v : Bo
 one_decision policy cases a b u v d e =
     d.dropped_are ∙ ap (λ (n : ℕ). map seq_of (goes policy n cases)) (one_count policy cases a b u v d e) ∙ sym e.dropped_are
 
-pub retired_listed : (s : Bare) (policy : Policy) (old : Durable) (dropped : List ℕ) (unmet : Bool) (x : Durable) → Retires s policy dropped unmet → MayBeRetired s policy old x → IsOneOf (without old dropped ∷ []) x
-retired_listed s policy old dropped unmet x retires may =
-    inl (may.3 ∙ ap (without old) (one_decision policy (map brief_of s.cases) may.0 dropped may.1 unmet may.2.1 retires.1))
+one_retired : (s : Bare) (policy : Policy) (old x y : Durable) → MayBeRetired s policy old x → MayBeRetired s policy old y → y ≡ x
+one_retired s policy old x y may may' = may'.3 ∙ ap (without old) (one_decision policy (map brief_of s.cases) may'.0 may.0 may'.1 may.1 may'.2.1 may.2.1) ∙ sym may.3
+
+-- the cases are told by the state and the bytes
+told : {D : Type 0} (seen : D → List ℕ) (old new : Parts D) (b : Bare) (c : Contents) → bare_of new ≡ b → contents_of seen new ≡ c
+    → durable_part b c ≡ durable_part (bare_of old) (contents_of seen old) → durable_of seen new ≡ durable_of seen old
+told seen old new b c is has same =
+    durable_is seen new ∙ ap (λ (z : Bare). durable_part z (contents_of seen new)) is ∙ ap (durable_part b) has ∙ same ∙ sym (durable_is seen old)
+
+-- what is not stopped is not stopped
+goes_on : {D : Type 0} (new : Parts D) (b : Bare) → b.stopped ≡ false → bare_of new ≡ b → new.stopped ≡ true → ⊥
+goes_on new b runs is stopped = false≢true (sym runs ∙ ap (λ (z : Bare). z.stopped) (sym is) ∙ stopped)
+
+-- the taken bytes of a stream that stands in a slot
+taken_there : {D : Type 0} (seen : D → List ℕ) (a : Parts D) (slot : ℕ) (s : BareStream) → stream_at (bare_of a).streams slot ≡ Some s
+    → (t : Taken) × (stream_at (contents_of seen a).taken slot ≡ Some t)
+taken_there seen a slot s is = there a.streams slot is
+  where
+    there : (xs : List (Option StreamParts)) (k : ℕ) → stream_at (map (option_map bare_stream) xs) k ≡ Some s
+        → (t : Taken) × (stream_at (map (option_map (taken_in a.journal (seen a.disk))) xs) k ≡ Some t)
+    there [] k h = absurd (none_some s h)
+    there (None ∷ xs) zero h = absurd (none_some s h)
+    there (Some x ∷ xs) zero h = (taken_in a.journal (seen a.disk) x, refl)
+    there (x ∷ xs) (suc k) h = there xs k h
+
+module _ {D : Type 0} (g : disk.Ghosts D) (counts : (d : D) (t : ℕ) (c : List ℕ) → t ≤ g.clock d → g.may_leave d c → g.left_since d t c)
+    (only : (d : D) (c : List ℕ) → g.left_since d (g.clock d) c → g.may_leave d c) (old new : Parts D) where
+  -- a state and bytes that are those before, but for streams
+  abbrev pub SameCases : Type 0
+  SameCases = durable_of g.seen new ≡ durable_of g.seen old
+
+  finish_same : (slot : ℕ) (f : ArchiveFault) → FinishStep (bare_of old) slot (Err f) (bare_of new) → FinishBytes (contents_of g.seen old) slot (Err f) (contents_of g.seen new) → SameCases
+  finish_same slot fault.Stopped step bytes = told g.seen old new (bare_of old) (contents_of g.seen old) step.1 bytes refl
+  finish_same slot fault.NoStream step bytes = told g.seen old new (bare_of old) (contents_of g.seen old) step.2 bytes refl
+  finish_same slot fault.SpaceFull step bytes = told g.seen old new _ _ step.5 bytes refl
+  finish_same slot fault.JournalFull step bytes = told g.seen old new _ _ step.5 bytes refl
+  finish_same slot fault.NumbersSpent step bytes = told g.seen old new _ _ step.6 bytes refl
+  finish_same slot fault.OutOfMemory step bytes = told g.seen old new _ _ step.2 bytes refl
+  finish_same slot fault.Disk step bytes = told g.seen old new _ _ step.2 bytes refl
+  finish_same slot _ step bytes = absurd step
+
+  pub finish_leads : (slot : ℕ) (r : Result ℕ ArchiveFault) → FinishCall g old slot r new → Leads ℕ g old r new (MayBeStored (bare_of old) (contents_of g.seen old) (durable_of g.seen old) slot)
+  finish_leads slot (Ok seq) call =
+      leads_plain ℕ g counts only old new (Ok seq) (MayBeStored (bare_of old) (contents_of g.seen old) (durable_of g.seen old) slot) (λ is. is) call.changes
+      (λ stopped honest. absurd (goes_on new (stored (bare_of old) slot call.step.0 call.step.1) call.step.2.0 call.step.7 stopped))
+  finish_leads slot (Err f) call =
+      let same : new.stopped ≡ true → IsTrue (g.is_honest old.disk) → SameCases = λ stopped honest. finish_same slot f call.step (call.bytes honest) in
+      ⊎_elim
+      (λ is. (
+        let step = subst (λ (z : ArchiveFault). FinishStep (bare_of old) slot (Err z) (bare_of new)) is call.step in
+        let t = taken_there g.seen old slot step.0 step.1.1 in
+        let x = with_case (durable_of g.seen old) step.0 t.0.bytes in
+        let may : MayBeStored (bare_of old) (contents_of g.seen old) (durable_of g.seen old) slot x = (step.0, t.0, step.1.1, t.1, refl) in
+        leads_one ℕ g counts only old new (Err f) (MayBeStored (bare_of old) (contents_of g.seen old) (durable_of g.seen old) slot) x may
+        (λ y may'. one_stored (bare_of old) (contents_of g.seen old) (durable_of g.seen old) slot x y may may') call.changes same
+      ))
+      (λ not. leads_plain ℕ g counts only old new (Err f) (MayBeStored (bare_of old) (contents_of g.seen old) (durable_of g.seen old) slot) not call.changes same)
+      (disk_or_not f)
+
+  -- what a refusal leaves that drops no stream but where the disk failed
+  unmoved : (f : ArchiveFault) (b : Bare) → durable_part b (contents_of g.seen old) ≡ durable_part (bare_of old) (contents_of g.seen old) → bare_of new ≡ b
+      → UnmovedBytes (contents_of g.seen old) f (contents_of g.seen new) → SameCases
+  unmoved fault.Disk b same is bytes = told g.seen old new b _ is bytes same
+  unmoved _ b same is bytes = told g.seen old new b (contents_of g.seen old) is bytes same
+
+  -- the state after such a refusal is the same, but for streams
+  delete_is : (seq : ℕ) (f : ArchiveFault) → DeleteStep (bare_of old) seq (Err f) (bare_of new) → (b : Bare) × (bare_of new ≡ b) × (b.cases ≡ (bare_of old).cases) × (b.next ≡ (bare_of old).next)
+  delete_is seq fault.Stopped step = (bare_of old, step.1, refl, refl)
+  delete_is seq fault.NoCase step = (bare_of old, step.2, refl, refl)
+  delete_is seq fault.Pinned step = (bare_of old, step.3, refl, refl)
+  delete_is seq fault.JournalFull step = (bare_of old, step.4, refl, refl)
+  delete_is seq fault.OutOfMemory step = (bare_of old, step.4, refl, refl)
+  delete_is seq fault.Disk step = (halted (bare_of old), step.4, refl, refl)
+  delete_is seq _ step = absurd step
+
+  pin_is : (seq : ℕ) (flag : Bool) (f : ArchiveFault) → PinStep (bare_of old) seq flag (Err f) (bare_of new) → (b : Bare) × (bare_of new ≡ b) × (b.cases ≡ (bare_of old).cases) × (b.next ≡ (bare_of old).next)
+  pin_is seq flag fault.Stopped step = (bare_of old, step.1, refl, refl)
+  pin_is seq flag fault.NoCase step = (bare_of old, step.2, refl, refl)
+  pin_is seq flag fault.JournalFull step = (bare_of old, step.4, refl, refl)
+  pin_is seq flag fault.OutOfMemory step = (bare_of old, step.4, refl, refl)
+  pin_is seq flag fault.Disk step = (halted (bare_of old), step.4, refl, refl)
+  pin_is seq flag _ step = absurd step
+
+  retire_is : (policy : Policy) (f : ArchiveFault) → RetireStep (bare_of old) policy (Err f) (bare_of new) → (b : Bare) × (bare_of new ≡ b) × (b.cases ≡ (bare_of old).cases) × (b.next ≡ (bare_of old).next)
+  retire_is policy fault.Stopped step = (bare_of old, step.1, refl, refl)
+  retire_is policy fault.JournalFull step = (bare_of old, step.4, refl, refl)
+  retire_is policy fault.OutOfMemory step = (bare_of old, step.1, refl, refl)
+  retire_is policy fault.Disk step = (halted (bare_of old), step.4, refl, refl)
+  retire_is policy _ step = absurd step
+
+  refused_same : (f : ArchiveFault) → (b : Bare) × (bare_of new ≡ b) × (b.cases ≡ (bare_of old).cases) × (b.next ≡ (bare_of old).next)
+      → UnmovedBytes (contents_of g.seen old) f (contents_of g.seen new) → SameCases
+  refused_same f is bytes =
+      unmoved f is.0
+      (ap (λ (cs : List BareCase). record { cases = with_images cs (contents_of g.seen old).images; next = is.0.next }) is.2
+      ∙ ap (λ (n : ℕ). record { cases = with_images (bare_of old).cases (contents_of g.seen old).images; next = n }) is.3)
+      is.1 bytes
+
+  pub delete_leads : (seq : ℕ) (r : Result (Unit {0}) ArchiveFault) → DeleteCall g old seq r new → Leads (Unit {0}) g old r new (λ x. x ≡ without (durable_of g.seen old) (seq ∷ []))
+  delete_leads seq (Ok u) call =
+      leads_plain (Unit {0}) g counts only old new (Ok u) (λ x. x ≡ without (durable_of g.seen old) (seq ∷ [])) (λ is. is) call.changes
+      (λ stopped honest. absurd (goes_on new (without_cases (bare_of old) (seq ∷ [])) call.step.1.0 call.step.4 stopped))
+  delete_leads seq (Err f) call =
+      let same : new.stopped ≡ true → IsTrue (g.is_honest old.disk) → SameCases = λ stopped honest. refused_same f (delete_is seq f call.step) (call.bytes honest) in
+      ⊎_elim
+      (λ is. leads_one (Unit {0}) g counts only old new (Err f) (λ x. x ≡ without (durable_of g.seen old) (seq ∷ [])) (without (durable_of g.seen old) (seq ∷ [])) refl (λ y may. may) call.changes same)
+      (λ not. leads_plain (Unit {0}) g counts only old new (Err f) (λ x. x ≡ without (durable_of g.seen old) (seq ∷ [])) not call.changes same)
+      (disk_or_not f)
+
+  pub pin_leads : (seq : ℕ) (flag : Bool) (r : Result (Unit {0}) ArchiveFault) → PinCall g old seq flag r new → Leads (Unit {0}) g old r new (λ x. x ≡ flagged (durable_of g.seen old) seq flag)
+  pin_leads seq flag (Ok u) call =
+      leads_plain (Unit {0}) g counts only old new (Ok u) (λ x. x ≡ flagged (durable_of g.seen old) seq flag) (λ is. is) call.changes
+      (λ stopped honest. absurd (⊎_elim
+      (λ kept. goes_on new (bare_of old) call.step.1.0 kept.1 stopped)
+      (λ set. goes_on new (with_flag (bare_of old) seq flag) call.step.1.0 set.2 stopped) call.step.2))
+  pin_leads seq flag (Err f) call =
+      let same : new.stopped ≡ true → IsTrue (g.is_honest old.disk) → SameCases = λ stopped honest. refused_same f (pin_is seq flag f call.step) (call.bytes honest) in
+      ⊎_elim
+      (λ is. leads_one (Unit {0}) g counts only old new (Err f) (λ x. x ≡ flagged (durable_of g.seen old) seq flag) (flagged (durable_of g.seen old) seq flag) refl (λ y may. may) call.changes same)
+      (λ not. leads_plain (Unit {0}) g counts only old new (Err f) (λ x. x ≡ flagged (durable_of g.seen old) seq flag) not call.changes same)
+      (disk_or_not f)
+
+  pub retire_leads : (policy : Policy) (r : Result Decision ArchiveFault) → RetireCall g old policy r new → Leads Decision g old r new (λ x. MayBeRetired (bare_of old) policy (durable_of g.seen old) x)
+  retire_leads policy (Ok d) call =
+      leads_plain Decision g counts only old new (Ok d) (λ x. MayBeRetired (bare_of old) policy (durable_of g.seen old) x) (λ is. is) call.changes
+      (λ stopped honest. absurd (⊎_elim
+      (λ kept. goes_on new (bare_of old) call.step.0 kept.1 stopped)
+      (λ gone. goes_on new (without_cases (bare_of old) d.dropped.items) call.step.0 gone.2 stopped) call.step.2))
+  retire_leads policy (Err f) call =
+      let same : new.stopped ≡ true → IsTrue (g.is_honest old.disk) → SameCases = λ stopped honest. refused_same f (retire_is policy f call.step) (call.bytes honest) in
+      ⊎_elim
+      (λ is. (
+        let step = subst (λ (z : ArchiveFault). RetireStep (bare_of old) policy (Err z) (bare_of new)) is call.step in
+        let x = without (durable_of g.seen old) step.0 in
+        let may : MayBeRetired (bare_of old) policy (durable_of g.seen old) x = (step.0, step.1, step.2, refl) in
+        leads_one Decision g counts only old new (Err f) (λ y. MayBeRetired (bare_of old) policy (durable_of g.seen old) y) x may
+        (λ y may'. one_retired (bare_of old) policy (durable_of g.seen old) x y may may') call.changes same
+      ))
+      (λ not. leads_plain Decision g counts only old new (Err f) (λ y. MayBeRetired (bare_of old) policy (durable_of g.seen old) y) not call.changes same)
+      (disk_or_not f)

@@ -1,5 +1,6 @@
 pub mod Balance
 pub mod Blocks
+pub mod Calls
 pub mod Closing
 pub mod Contents
 pub mod Durable

@@ -1,15 +1,14 @@
 -- A run of calls as marks: how things stand when a call has been answered. What a stop leaves is told by them.
-use Rattle.std.specs.Prelude.{◌≡◌, ◌⊎◌, ℕ, Bool, false, true, List, [], ◌∷◌, ◌++◌, Option, None, Some, Result, IsTrue}
+use Rattle.std.specs.Prelude.{◌≡◌, ◌⊎◌, ℕ, Bool, List, [], ◌∷◌, ◌++◌, Result, Err, IsTrue}
+use Rattle.std.specs.List.{AllByRecursion}
 use Rattle.disk_model.specs.Moments.{AddsOnly}
 use Rattle.disk_model.specs.declared.disk.Disk as disk
-use Rattle.intake.specs.Contents.{Taken}
-use Rattle.intake.specs.Durable.{Durable, StandsFor, durable_of, with_case, without, flagged}
-use Rattle.intake.specs.Guarding.{Leaves, MayBeStored, MayBeRetired}
+use Rattle.intake.specs.Calls.{Stays, FinishCall, DeleteCall, PinCall, RetireCall}
+use Rattle.intake.specs.Durable.{Durable, StandsFor, durable_of, without, flagged}
+use Rattle.intake.specs.Guarding.{MayBeStored, MayBeRetired}
 use Rattle.intake.specs.Parts.{Parts, bare_of, contents_of}
-use Rattle.intake.specs.Slots.{stream_at}
-use Rattle.intake.specs.State.{BareStream}
-use Rattle.intake.specs.Step.{Retires}
 use Rattle.intake.specs.declared.faults.ArchiveFault.{ArchiveFault}
+use Rattle.intake.specs.declared.faults.ArchiveFault.TheVariants.{Disk}
 use Rattle.retention.specs.declared.Decision.{Decision}
 use Rattle.retention.specs.declared.Policy.{Policy}
 
@@ -75,41 +74,32 @@ FoundAfterAStop {D} g = (m : Mark D) (ns : List (Mark D)) → IsTrue (g.is_hones
 abbrev pub mark_of : {D : Type 0} → (D → List ℕ) → Parts D → List Durable → Mark D
 mark_of seen a doubts = record { disk = a.disk; durable = durable_of seen a; in_doubt = doubts }
 
--- A call that began here leads from mark to mark, where what it may leave in doubt is among these.
-abbrev pub ChangesPass : {D : Type 0} → Type 0 → disk.Ghosts D → Parts D → (Durable → Type 0) → List Durable → Type 0
-ChangesPass {D} T g old doubt more = (new : Parts D) (r : Result T ArchiveFault) (before : List Durable)
-    → g.is_honest new.disk ≡ g.is_honest old.disk
-    → (IsTrue (g.is_honest old.disk) → AddsOnly g old.disk new.disk (Leaves (durable_of g.seen old) r (durable_of g.seen new) doubt))
-    → (new.stopped ≡ false → IsTrue (g.is_honest new.disk) → (c : List ℕ) → g.may_leave new.disk c → StandsFor c (durable_of g.seen new))
-    → (new.stopped ≡ true → IsTrue (g.is_honest old.disk) → durable_of g.seen new ≡ durable_of g.seen old)
-    → Passes g (mark_of g.seen old before) (mark_of g.seen new (more ++ before))
+-- what is in doubt after an answer: where the disk failed, what the call would have left
+abbrev pub doubted : {T : Type 0} → Result T ArchiveFault → List Durable → List Durable
+doubted (Err Disk) more = more
+doubted _ more = []
+
+-- A call leads from mark to mark; where the disk failed, all that is in doubt anew is what it would have left.
+abbrev pub Leads : {D : Type 0} → (T : Type 0) → disk.Ghosts D → Parts D → Result T ArchiveFault → Parts D → (Durable → Type 0) → Type 0
+Leads T g old r new doubt =
+    (before : List Durable) → (more : List Durable) × AllByRecursion doubt more × Passes g (mark_of g.seen old before) (mark_of g.seen new (doubted r more ++ before))
 
 -- A call that changes no case leads from mark to mark, and leaves nothing in doubt.
-abbrev pub RestsPass : {D : Type 0} → disk.Ghosts D → Type 0
-RestsPass {D} g = (old new : Parts D) (before : List Durable)
-    → g.is_honest new.disk ≡ g.is_honest old.disk
-    → (IsTrue (g.is_honest old.disk) → AddsOnly g old.disk new.disk (λ c. StandsFor c (durable_of g.seen old)))
-    → (IsTrue (g.is_honest old.disk) → durable_of g.seen new ≡ durable_of g.seen old)
-    → Passes g (mark_of g.seen old before) (mark_of g.seen new before)
+abbrev pub StaysLead : {D : Type 0} → disk.Ghosts D → Type 0
+StaysLead {D} g = (old new : Parts D) (before : List Durable) → Stays g old new → Passes g (mark_of g.seen old before) (mark_of g.seen new before)
 
--- what a finish that answered Disk may leave: the stream that stood in the slot, as a case
-abbrev pub stored_doubts : Durable → Option BareStream → Option Taken → List Durable
-stored_doubts x (Some s) (Some t) = with_case x s t.bytes ∷ []
-stored_doubts x (Some s) None = []
-stored_doubts x None t = []
+abbrev pub FinishLeads : {D : Type 0} → disk.Ghosts D → Type 0
+FinishLeads {D} g = (old new : Parts D) (slot : ℕ) (r : Result ℕ ArchiveFault) → FinishCall g old slot r new
+    → Leads ℕ g old r new (MayBeStored (bare_of old) (contents_of g.seen old) (durable_of g.seen old) slot)
 
-abbrev pub FinishPasses : {D : Type 0} → disk.Ghosts D → Type 0
-FinishPasses {D} g = (old : Parts D) (slot : ℕ) → ChangesPass ℕ g old
-    (MayBeStored (bare_of old) (contents_of g.seen old) (durable_of g.seen old) slot)
-    (stored_doubts (durable_of g.seen old) (stream_at (bare_of old).streams slot) (stream_at (contents_of g.seen old).taken slot))
+abbrev pub DeleteLeads : {D : Type 0} → disk.Ghosts D → Type 0
+DeleteLeads {D} g = (old new : Parts D) (seq : ℕ) (r : Result (Unit {0}) ArchiveFault) → DeleteCall g old seq r new
+    → Leads (Unit {0}) g old r new (λ x. x ≡ without (durable_of g.seen old) (seq ∷ []))
 
-abbrev pub DeletePasses : {D : Type 0} → disk.Ghosts D → Type 0
-DeletePasses {D} g = (old : Parts D) (seqs : List ℕ) → ChangesPass (Unit {0}) g old (λ x. x ≡ without (durable_of g.seen old) seqs) (without (durable_of g.seen old) seqs ∷ [])
+abbrev pub PinLeads : {D : Type 0} → disk.Ghosts D → Type 0
+PinLeads {D} g = (old new : Parts D) (seq : ℕ) (flag : Bool) (r : Result (Unit {0}) ArchiveFault) → PinCall g old seq flag r new
+    → Leads (Unit {0}) g old r new (λ x. x ≡ flagged (durable_of g.seen old) seq flag)
 
-abbrev pub PinPasses : {D : Type 0} → disk.Ghosts D → Type 0
-PinPasses {D} g = (old : Parts D) (seq : ℕ) (flag : Bool) → ChangesPass (Unit {0}) g old (λ x. x ≡ flagged (durable_of g.seen old) seq flag) (flagged (durable_of g.seen old) seq flag ∷ [])
-
--- the rule has one answer
-abbrev pub RetirePasses : {D : Type 0} → disk.Ghosts D → Type 0
-RetirePasses {D} g = (old : Parts D) (policy : Policy) (dropped : List ℕ) (unmet : Bool) → Retires (bare_of old) policy dropped unmet
-    → ChangesPass Decision g old (MayBeRetired (bare_of old) policy (durable_of g.seen old)) (without (durable_of g.seen old) dropped ∷ [])
+abbrev pub RetireLeads : {D : Type 0} → disk.Ghosts D → Type 0
+RetireLeads {D} g = (old new : Parts D) (policy : Policy) (r : Result Decision ArchiveFault) → RetireCall g old policy r new
+    → Leads Decision g old r new (λ x. MayBeRetired (bare_of old) policy (durable_of g.seen old) x)

@@ -2,7 +2,7 @@
 ghost use Rattle.std.specs.Prelude.{◌≡◌};
 ghost use Rattle.intake.specs.Durable.{durable_of, durable_part};
 ghost use Rattle.intake.specs.Lasting.{WhatStandsIsOne, NumbersAreAbove};
-ghost use Rattle.intake.specs.Marks.{FoundAfterAStop, RestsPass, FinishPasses, DeletePasses, PinPasses, RetirePasses};
+ghost use Rattle.intake.specs.Marks.{FoundAfterAStop, StaysLead, FinishLeads, DeleteLeads, PinLeads, RetireLeads};
 ghost use Rattle.intake.specs.Parts.{Parts, bare_of, contents_of};
 
 use disk_model::Disk;
@@ -31,12 +31,12 @@ pub fn found_after_a_stop<D: Disk>()
     ensures { FoundAfterAStop D.Disk }
 {}
 
-/// What a call promises of a crash leads from its mark to the next. What a call that answered Disk would have left is in
-/// doubt from then on: one archive at most, which is told by the state before the call.
+/// What a call promises leads from its mark to the next. What a call that answered Disk would have left is in doubt from then
+/// on, which is told by the state before the call; any other answer leaves nothing in doubt.
 pub fn calls_lead_from_mark_to_mark<D: Disk>()
-    ensures rests { RestsPass D.Disk }
-    ensures finish { FinishPasses D.Disk }
-    ensures delete { DeletePasses D.Disk }
-    ensures pin { PinPasses D.Disk }
-    ensures retire { RetirePasses D.Disk }
+    ensures stays { StaysLead D.Disk }
+    ensures finish { FinishLeads D.Disk }
+    ensures delete { DeleteLeads D.Disk }
+    ensures pin { PinLeads D.Disk }
+    ensures retire { RetireLeads D.Disk }
 {}
