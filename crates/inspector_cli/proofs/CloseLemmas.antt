@@ -4,10 +4,13 @@ use Rattle.std.proofs.lemmas.Bool.{cases_lt}
 use Rattle.std.specs.Prelude.{slice_set}
 use Rattle.intake.specs.declared.faults.ArchiveFault.{ArchiveFault}
 use Rattle.intake.specs.declared.faults.ArchiveFault.TheVariants.{Stopped, BadSlot, SlotBusy, NameTaken, NoStream, TooLong, SpaceFull, NoCase, Pinned, JournalFull, NumbersSpent, OutOfMemory, Disk}
+use Rattle.disk_model.specs.declared.disk.Disk as disk
+use Rattle.intake.specs.Calls.{Stays}
+use Rattle.intake.specs.Parts.{Parts, bare_of}
 use Rattle.intake.specs.Slots.{stream_at}
 use Rattle.intake.specs.State.{Bare}
 use Rattle.intake.specs.Step.{AbandonStep, with_stream}
-use Rattle.inspector_cli.specs.Session.{Closes}
+use Rattle.inspector_cli.specs.Session.{Closes, IsQuiet}
 
 -- no stream is open in the first n slots, or the archive is stopped
 abbrev pub IsQuietBelow : ℕ → Bare → Type 0
@@ -69,13 +72,12 @@ closes_on n begun old new (Err Disk) so_far step = absurd step
 pub closes_none : (s : Bare) → ClosesBelow 0 s s
 closes_none s = (inr (λ k lt. absurd (omega arith)), refl)
 
-pub closed_all : (old new : Bare) → ClosesBelow 8 old new → length new.streams ≤ 8 → Closes old new
-closed_all old new closes few = (
-  ⊎_elim (λ stopped. inl stopped)
-      (λ none. inr (λ k. ⊎_elim (λ a. none k a) (λ b. beyond new.streams k (omega arith)) (cases_lt k 8)))
-      closes.0,
-  closes.1,
-)
+all_quiet : (s : Bare) → IsQuietBelow 8 s → length s.streams ≤ 8 → IsQuiet s
+all_quiet s quiet few =
+    ⊎_elim (λ stopped. inl stopped) (λ none. inr (λ k. ⊎_elim (λ a. none k a) (λ b. beyond s.streams k (omega arith)) (cases_lt k 8))) quiet
+
+pub closed_all : {D : Type 0} (g : disk.Ghosts D) (old new : Parts D) → ClosesBelow 8 (bare_of old) (bare_of new) → length (bare_of new).streams ≤ 8 → Stays g old new → Closes g old new
+closed_all g old new closes few stays = record { quiet = all_quiet (bare_of new) closes.0 few; kept = closes.1; stays = stays }
 
 -- the first slot alone
 pub quiet_after : (old new : Bare) (r : Result (Unit {0}) ArchiveFault) → AbandonStep old 0 r new → IsQuietBelow 1 new

@@ -10,5 +10,8 @@ pub mod RunLemmas
 pub mod CloseLemmas
 pub mod SessionLemmas
 pub mod NameLemmas
+pub mod StayLemmas
+pub mod StageLemmas
+pub mod FeedLemmas
 pub mod StoreLemmas
 pub mod KeyLemmas

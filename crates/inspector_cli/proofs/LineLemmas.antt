@@ -1,6 +1,7 @@
 -- How a line is answered, with what stands behind it.
 use Rattle.std.proofs.Common.{◌≡◌, inr, ℕ, zero, suc, true, false, Bool, List, [], ◌∷◌, ◌++◌, Option, Result, Ok, Err, refl, sym, subst, append_assoc}
-use Rattle.intake.specs.State.{Bare}
+use Rattle.disk_model.specs.declared.disk.Disk as disk
+use Rattle.intake.specs.Parts.{Parts}
 use Rattle.script_streams.specs.Lines.{IsLine}
 use Rattle.script_streams.specs.Reading.{Gives}
 use Rattle.script_streams.specs.declared.reader.ScriptBuffer.{ScriptBuffer}
@@ -15,12 +16,12 @@ use Rattle.inspector_cli.specs.Session.{cut_part, LastReplies, Truncates}
 use Rattle.inspector_cli.specs.Answering.{Telling, AnswersTo, PartAnswers, CommandEnds}
 use Rattle.inspector_cli.proofs.GiveLemmas.{gives_nothing, gives_then, gives_as}
 
-pub last_whole : (naming : Naming) (n : ℕ) (old new : Bare) (what : Said) (reply : List ℕ) → n ≡ 0 → Replies naming old what reply new → LastReplies naming n old what reply new
-last_whole naming n old new what reply none replies = subst (λ (k : ℕ). LastReplies naming k old what reply new) (sym none) replies
+pub last_whole : {D : Type 0} (g : disk.Ghosts D) (naming : Naming) (n : ℕ) (old new : Parts D) (what : Said) (reply : List ℕ) → n ≡ 0 → Replies g naming old what [] reply new → LastReplies g naming n old what reply new
+last_whole g naming n old new what reply none replies = subst (λ (k : ℕ). LastReplies g naming k old what reply new) (sym none) replies
 
-pub last_cut : (naming : Naming) (n : ℕ) (old new : Bare) (what : Said) (reply : List ℕ) → (n ≡ 0 → ⊥) → Truncates old what [] reply new → LastReplies naming n old what reply new
-last_cut naming zero old new what reply some cut = absurd (some refl)
-last_cut naming (suc n) old new what reply some cut = cut
+pub last_cut : {D : Type 0} (g : disk.Ghosts D) (naming : Naming) (n : ℕ) (old new : Parts D) (what : Said) (reply : List ℕ) → (n ≡ 0 → ⊥) → Truncates g old what [] reply new → LastReplies g naming n old what reply new
+last_cut g naming zero old new what reply some cut = absurd (some refl)
+last_cut g naming (suc n) old new what reply some cut = cut
 
 -- no bytes stand behind a request
 no_raw : (r : Request) → raw_length (asked_by r) ≡ 0
@@ -37,21 +38,22 @@ no_raw (Retire policy) = refl
 no_raw ListCases = refl
 no_raw CountFree = refl
 
-pub plain_answers : (naming : Naming) (a : Option (List ℕ)) (b : ScriptBuffer) (t : Telling) (old new : Bare) (r : Request) (what : Said) → asked_by r ≡ what → AnswersTo naming t old (asked_by r) new
-    → PartAnswers naming (record { before = a; after = a; buffer = b; buffer' = b }) t old what new (Ok true)
-plain_answers naming a b t old new r what is answers =
-    subst (λ (w : Said). PartAnswers naming (record { before = a; after = a; buffer = b; buffer' = b }) t old w new (Ok true)) is
-    ([], sym (no_raw r), gives_nothing a b, answers)
+module _ {D : Type 0} (g : disk.Ghosts D) where
+  pub plain_answers : (naming : Naming) (a : Option (List ℕ)) (b : ScriptBuffer) (t : Telling) (old new : Parts D) (r : Request) (what : Said) → asked_by r ≡ what → AnswersTo g naming t old (asked_by r) [] new
+      → PartAnswers g naming (record { before = a; after = a; buffer = b; buffer' = b }) t old what new (Ok true)
+  plain_answers naming a b t old new r what is answers =
+      subst (λ (w : Said). PartAnswers g naming (record { before = a; after = a; buffer = b; buffer' = b }) t old w new (Ok true)) is
+      ([], sym (no_raw r), gives_nothing a b, answers)
 
-module _ (naming : Naming) (a b c : Option (List ℕ)) (buf mid buf' : ScriptBuffer) (t : Telling) (old new : Bare) (line : List ℕ) (one : IsLine line)
-    (gives : Gives a b buf mid (line ++ 10 ∷ [])) where
-  with_raw : (raw : List ℕ) → Gives b c mid buf' raw → Gives a c buf buf' (line ++ 10 ∷ raw)
-  with_raw raw more =
-      gives_as a c buf buf' ((line ++ 10 ∷ []) ++ raw) (line ++ 10 ∷ raw) (append_assoc line (10 ∷ []) raw)
-      (gives_then a b c buf mid buf' (line ++ 10 ∷ []) raw gives more)
+  module _ (naming : Naming) (a b c : Option (List ℕ)) (buf mid buf' : ScriptBuffer) (t : Telling) (old new : Parts D) (line : List ℕ) (one : IsLine line)
+      (gives : Gives a b buf mid (line ++ 10 ∷ [])) where
+    with_raw : (raw : List ℕ) → Gives b c mid buf' raw → Gives a c buf buf' (line ++ 10 ∷ raw)
+    with_raw raw more =
+        gives_as a c buf buf' ((line ++ 10 ∷ []) ++ raw) (line ++ 10 ∷ raw) (append_assoc line (10 ∷ []) raw)
+        (gives_then a b c buf mid buf' (line ++ 10 ∷ []) raw gives more)
 
-  pub line_answered : (r : Result Bool ReadStop) → PartAnswers naming (record { before = b; after = c; buffer = mid; buffer' = buf' }) t old (said line) new r
-      → CommandEnds naming (record { before = a; after = c; buffer = buf; buffer' = buf' }) t old new r
-  line_answered (Ok true) p = (record { line = line; raw = p.0 }, record { line = one; raw = p.1 }, with_raw p.0 p.2, p.3)
-  line_answered (Ok false) p = (cut_part line p.0, (one, p.1), with_raw p.0 p.2, p.3, p.4, p.5, p.6)
-  line_answered (Err stop) p = (line ++ 10 ∷ p.0, with_raw p.0 p.2, p.3, inr (line, p.0, refl, one, p.1, p.4), p.5)
+    pub line_answered : (r : Result Bool ReadStop) → PartAnswers g naming (record { before = b; after = c; buffer = mid; buffer' = buf' }) t old (said line) new r
+        → CommandEnds g naming (record { before = a; after = c; buffer = buf; buffer' = buf' }) t old new r
+    line_answered (Ok true) p = (record { line = line; raw = p.0 }, record { line = one; raw = p.1 }, with_raw p.0 p.2, p.3)
+    line_answered (Ok false) p = (cut_part line p.0, (one, p.1), with_raw p.0 p.2, p.3, p.4, p.5, p.6)
+    line_answered (Err stop) p = (line ++ 10 ∷ p.0, with_raw p.0 p.2, p.3, inr (line, p.0, refl, one, p.1, p.4), p.5)

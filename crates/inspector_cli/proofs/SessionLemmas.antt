@@ -2,7 +2,9 @@
 use Rattle.std.proofs.Common.{◌≡◌, inl, inr, ℕ, ◌^◌, ◌≤◌, List, [], ◌++◌, length, Option, Result, Ok, Err, sym, ap, subst, ◌∙◌, arith}
 use Rattle.std.proofs.lemmas.List.{append-nil}
 use Rattle.std.specs.Io.KnownBytes.{Consumes}
-use Rattle.intake.specs.State.{Bare}
+use Rattle.disk_model.specs.declared.disk.Disk as disk
+use Rattle.intake.specs.Marks.{FoundAfterAStop}
+use Rattle.intake.specs.Parts.{Parts}
 use Rattle.script_streams.specs.Streams.{Rose}
 use Rattle.script_streams.specs.Reading.{Gives, held_bytes, reads_made, Stops}
 use Rattle.script_streams.specs.Telling.{Told, IsDelivered}
@@ -13,8 +15,10 @@ use Rattle.script_streams.specs.declared.reply.Reply.{Reply}
 use Rattle.script_streams.specs.declared.streams.StreamFault.{StreamFault}
 use Rattle.inspector_cli.specs.declared.session.SessionFault.TheVariants.{ReadFailed, WriteFailed, TooManyReads}
 use Rattle.inspector_cli.specs.declared.session.Naming.{Naming}
+use Rattle.inspector_cli.specs.Stages.{Stage, IsFoundAfterAStop}
 use Rattle.inspector_cli.specs.Session.{AnswersAll, AnswersWhole, Closes, SessionEnds}
 use Rattle.inspector_cli.specs.Answering.{Reading, Telling, ScriptEnds, session_fault}
+use Rattle.inspector_cli.proofs.StageLemmas.{Laws, found_after}
 
 same_bytes : (a b : Option (List ℕ)) (old new : ScriptBuffer) (given : List ℕ) → held_bytes old ≡ [] → held_bytes new ≡ [] → (gives : Gives a b old new given) → gives.read ≡ given
 same_bytes a b old new given empty up gives =
@@ -28,39 +32,104 @@ counted : (a b : Option (List ℕ)) (old new : ScriptBuffer) (given : List ℕ) 
 counted a b old new given empty up none most gives =
     let e = ap length (same_bytes a b old new given empty up gives) in let n = gives.counted in omega (arith, e, n, none, most)
 
-module _ (naming : Naming) (a b : Option (List ℕ)) (x y : ScriptBuffer) (fails fails' : ℕ) (o p q : Option (List ℕ)) (f g h : ℕ) (u v : Reply) (old mid new : Bare)
-    (empty : held_bytes x ≡ []) (unread : reads_made x ≡ 0) (begun : Told o f o f u []) (closes : Closes mid new) where
+module _ {D : Type 0} (g : disk.Ghosts D) (laws : Laws g) (law : FoundAfterAStop g) (naming : Naming) (a b : Option (List ℕ)) (x y : ScriptBuffer) (fails fails' : ℕ) (o p q : Option (List ℕ)) (f i h : ℕ) (u v : Reply)
+    (old : Stage D) (mid new : Parts D) (empty : held_bytes x ≡ []) (unread : reads_made x ≡ 0) (begun : Told o f o f u []) (closes : Closes g mid new) where
   abbrev pub reading : Reading
   reading = record { before = a; after = b; buffer = x; buffer' = y }
 
   abbrev pub telling : Telling
-  telling = record { taken = o; taken' = p; failures = f; failures' = g; reply = u; reply' = v }
+  telling = record { taken = o; taken' = p; failures = f; failures' = i; reply = u; reply' = v }
 
   -- what the output was told, it took, or a front of it
   abbrev pub Delivers : Result (Unit {0}) StreamFault → Type 0
-  Delivers r = (start : Option (List ℕ)) (count : ℕ) (told : List ℕ) → Told start count p g v told → IsDelivered start count q h told r
+  Delivers r = (start : Option (List ℕ)) (count : ℕ) (told : List ℕ) → Told start count p i v told → IsDelivered start count q h told r
 
-  pub ended : (s : Unit {0}) → ScriptEnds naming reading telling old mid (Ok tt) → Delivers (Ok s) → SessionEnds naming a b fails fails' o q f h old new (Ok tt)
-  ended s e d = (e.0, e.1, mid, consumed a b x y e.0 empty e.3.1 e.2, e.3.0, d o f e.1 (e.5 o f [] begun), e.4, closes)
+  closes_from : (end : Stage D) → end.archive ≡ mid → Closes g end.archive new
+  closes_from end is = subst (λ (m : Parts D). Closes g m new) (sym is) closes
 
-  read_failed : (s : Unit {0}) → ScriptEnds naming reading telling old mid (Err stop.ReadFailed) → Delivers (Ok s) → Rose fails fails' → SessionEnds naming a b fails fails' o q f h old new (Err ReadFailed)
-  read_failed s e d rose = (e.0, e.1, mid, consumed a b x y e.0 empty e.3 e.2, d o f e.1 (e.5 o f [] begun), e.4, closes, rose)
+  all_found : (read out : List ℕ) (stages : List (Stage D)) (end : Stage D) → end.archive ≡ mid → AnswersAll g naming read out old stages end → IsFoundAfterAStop g old stages end new
+  all_found read out stages end is all =
+      found_after g laws law naming old all.items all.replies stages end new all.run all.moves.passes (closes_from end is).stays
 
-  too_many : (s : Unit {0}) → ScriptEnds naming reading telling old mid (Err stop.TooManyReads) → Delivers (Ok s) → reads_made y ≡ 2 ^ 40
-      → SessionEnds naming a b fails fails' o q f h old new (Err TooManyReads)
-  too_many s e d most =
-      (e.0, e.1, mid, consumed a b x y e.0 empty e.3 e.2, d o f e.1 (e.5 o f [] begun), e.4, closes, counted a b x y e.0 empty e.3 unread most e.2)
+  whole_found : (read out : List ℕ) (stages : List (Stage D)) (end : Stage D) → end.archive ≡ mid → AnswersWhole g naming read out old stages end → IsFoundAfterAStop g old stages end new
+  whole_found read out stages end is whole =
+      found_after g laws law naming old whole.items out stages end new whole.run whole.moves.passes (closes_from end is).stays
 
-  pub write_failed : (fault : StreamFault) (r : Result (Unit {0}) ReadStop) → ScriptEnds naming reading telling old mid r → Delivers (Err fault)
-      → SessionEnds naming a b fails fails' o q f h old new (Err WriteFailed)
+  pub ended : (s : Unit {0}) → ScriptEnds g naming reading telling old mid (Ok tt) → Delivers (Ok s) → SessionEnds g naming a b fails fails' o q f h old new (Ok tt)
+  ended s e d = (
+    e.0,
+    e.1,
+    e.2,
+    e.3,
+    consumed a b x y e.0 empty e.5.1 e.4,
+    e.5.0,
+    d o f e.1 (e.8 o f [] begun),
+    e.6,
+    closes_from e.3 e.7,
+    all_found e.0 e.1 e.2 e.3 e.7 e.6,
+  )
+
+  read_failed : (s : Unit {0}) → ScriptEnds g naming reading telling old mid (Err stop.ReadFailed) → Delivers (Ok s) → Rose fails fails' → SessionEnds g naming a b fails fails' o q f h old new (Err ReadFailed)
+  read_failed s e d rose = (
+    e.0,
+    e.1,
+    e.2,
+    e.3,
+    consumed a b x y e.0 empty e.5 e.4,
+    d o f e.1 (e.8 o f [] begun),
+    e.6,
+    closes_from e.3 e.7,
+    whole_found e.0 e.1 e.2 e.3 e.7 e.6,
+    rose,
+  )
+
+  too_many : (s : Unit {0}) → ScriptEnds g naming reading telling old mid (Err stop.TooManyReads) → Delivers (Ok s) → reads_made y ≡ 2 ^ 40
+      → SessionEnds g naming a b fails fails' o q f h old new (Err TooManyReads)
+  too_many s e d most = (
+    e.0,
+    e.1,
+    e.2,
+    e.3,
+    consumed a b x y e.0 empty e.5 e.4,
+    d o f e.1 (e.8 o f [] begun),
+    e.6,
+    closes_from e.3 e.7,
+    whole_found e.0 e.1 e.2 e.3 e.7 e.6,
+    counted a b x y e.0 empty e.5 unread most e.4,
+  )
+
+  pub write_failed : (fault : StreamFault) (r : Result (Unit {0}) ReadStop) → ScriptEnds g naming reading telling old mid r → Delivers (Err fault)
+      → SessionEnds g naming a b fails fails' o q f h old new (Err WriteFailed)
   write_failed fault (Ok s) e d =
-      let t = d o f e.1 (e.5 o f [] begun) in
-      (e.0, t.0, t.1, mid, consumed a b x y e.0 empty e.3.1 e.2, t.3, inl (subst (λ (z : List ℕ). AnswersAll naming e.0 z old mid) (sym t.2) e.4), closes, t.4)
+      let t = d o f e.1 (e.8 o f [] begun) in (
+        e.0,
+        t.0,
+        t.1,
+        e.2,
+        e.3,
+        consumed a b x y e.0 empty e.5.1 e.4,
+        t.3,
+        inl (subst (λ (z : List ℕ). AnswersAll g naming e.0 z old e.2 e.3) (sym t.2) e.6),
+        closes_from e.3 e.7,
+        all_found e.0 e.1 e.2 e.3 e.7 e.6,
+        t.4,
+      )
   write_failed fault (Err s) e d =
-      let t = d o f e.1 (e.5 o f [] begun) in
-      (e.0, t.0, t.1, mid, consumed a b x y e.0 empty e.3 e.2, t.3, inr (subst (λ (z : List ℕ). AnswersWhole naming e.0 z old mid) (sym t.2) e.4), closes, t.4)
+      let t = d o f e.1 (e.8 o f [] begun) in (
+        e.0,
+        t.0,
+        t.1,
+        e.2,
+        e.3,
+        consumed a b x y e.0 empty e.5 e.4,
+        t.3,
+        inr (subst (λ (z : List ℕ). AnswersWhole g naming e.0 z old e.2 e.3) (sym t.2) e.6),
+        closes_from e.3 e.7,
+        whole_found e.0 e.1 e.2 e.3 e.7 e.6,
+        t.4,
+      )
 
-  pub read_stopped : (s : Unit {0}) (why : ReadStop) → ScriptEnds naming reading telling old mid (Err why) → Delivers (Ok s) → Stops {T = Unit {0}} fails fails' y (Err why)
-      → SessionEnds naming a b fails fails' o q f h old new (Err (session_fault why))
+  pub read_stopped : (s : Unit {0}) (why : ReadStop) → ScriptEnds g naming reading telling old mid (Err why) → Delivers (Ok s) → Stops {T = Unit {0}} fails fails' y (Err why)
+      → SessionEnds g naming a b fails fails' o q f h old new (Err (session_fault why))
   read_stopped s stop.ReadFailed e d stops = read_failed s e d stops
   read_stopped s stop.TooManyReads e d stops = too_many s e d stops.1

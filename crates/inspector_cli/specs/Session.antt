@@ -3,14 +3,17 @@ use Rattle.std.specs.Prelude.{◌≡◌, ◌⊎◌, ℕ, zero, suc, ◌^◌, ◌
 use Rattle.std.specs.List.{flat_map, AllByRecursion}
 use Rattle.std.specs.Io.KnownBytes.{Consumes, Appends, IsAtEnd}
 use Rattle.intake.specs.declared.faults.ArchiveFault.{ArchiveFault}
+use Rattle.disk_model.specs.declared.disk.Disk as disk
+use Rattle.intake.specs.Calls.{Stays, AbandonCall}
+use Rattle.intake.specs.Parts.{Parts, bare_of}
 use Rattle.intake.specs.Slots.{stream_at}
 use Rattle.intake.specs.State.{Bare}
-use Rattle.intake.specs.Step.{AbandonStep}
 use Rattle.script_streams.specs.Streams.{Rose}
 use Rattle.script_streams.specs.Lines.{IsLine}
 use Rattle.inspector_cli.specs.declared.session.Naming.{Naming}
-use Rattle.inspector_cli.specs.Said.{Said, part_of, said, raw_length}
-use Rattle.inspector_cli.specs.Reply.{Replies, TakeStep, no_reply}
+use Rattle.inspector_cli.specs.Said.{Said, silence, part_of, said, raw_length}
+use Rattle.inspector_cli.specs.Reply.{Replies, Takes, no_reply}
+use Rattle.inspector_cli.specs.Stages.{Stage, Moves, IsFoundAfterAStop}
 use Rattle.inspector_cli.specs.declared.session.SessionFault.{SessionFault}
 use Rattle.inspector_cli.specs.declared.session.SessionFault.TheVariants.{ReadFailed, WriteFailed, TooManyReads}
 
@@ -46,85 +49,102 @@ IsEnding complete = Unit {0}
 IsEnding (last_line line) = IsLine line × (0 < length line)
 IsEnding (cut_part line raw) = IsLine line × (length raw < raw_length (said line))
 
--- the replies to items, one behind the other
-abbrev pub Run : Naming → Bare → List Item → List ℕ → Bare → Type 0
-Run naming old [] out new = (out ≡ []) × (new ≡ old)
-Run naming old (i ∷ is) out new =
-    (reply : List ℕ) × (more : List ℕ) × (mid : Bare) × Replies naming old (said i.line) reply mid × Run naming mid is more new × (out ≡ reply ++ more)
+-- The replies to items, one behind the other, and how the archive stands behind each.
+abbrev pub Run : {D : Type 0} → disk.Ghosts D → Naming → Stage D → List Item → List ℕ → List (Stage D) → Type 0
+Run g naming old [] out [] = out ≡ []
+Run g naming old [] out (s ∷ ss) = ⊥
+Run g naming old (i ∷ is) out [] = ⊥
+Run g naming old (i ∷ is) out (s ∷ ss) =
+    (reply : List ℕ) × (more : List ℕ) × Replies g naming old.archive (said i.line) i.raw reply s.archive × Moves g old (said i.line) reply s
+    × Run g naming s is more ss × (out ≡ reply ++ more)
+
+-- how it stands behind the last of them
+abbrev pub last_stage : {D : Type 0} → Stage D → List (Stage D) → Stage D
+last_stage s [] = s
+last_stage s (t ∷ ts) = last_stage t ts
 
 -- a part whose bytes are not all there: those that are there are taken, and then the stream is dropped
-abbrev pub Truncates : Bare → Said → List ℕ → List ℕ → Bare → Type 0
-Truncates old (part_of slot n) raw reply new =
-    (mid : Bare) × (taken : Result (Unit {0}) ArchiveFault) × (dropped : Result (Unit {0}) ArchiveFault)
-    × TakeStep old slot (length raw) taken mid × AbandonStep mid slot dropped new × (reply ≡ no_reply (codes "Truncated"))
-Truncates old _ raw reply new = ⊥
+abbrev pub Truncates : {D : Type 0} → disk.Ghosts D → Parts D → Said → List ℕ → List ℕ → Parts D → Type 0
+Truncates {D} g old (part_of slot n) raw reply new =
+    (mid : Parts D) × (taken : Result (Unit {0}) ArchiveFault) × (dropped : Result (Unit {0}) ArchiveFault)
+    × Takes g old slot raw taken mid × AbandonCall g mid slot dropped new × (reply ≡ no_reply (codes "Truncated"))
+Truncates g old _ raw reply new = ⊥
 
 -- the reply to how a script ends: a last line is a line like any other, if no bytes are to stand behind it
-abbrev pub LastReplies : Naming → ℕ → Bare → Said → List ℕ → Bare → Type 0
-LastReplies naming zero old what reply new = Replies naming old what reply new
-LastReplies naming (suc n) old what reply new = Truncates old what [] reply new
+abbrev pub LastReplies : {D : Type 0} → disk.Ghosts D → Naming → ℕ → Parts D → Said → List ℕ → Parts D → Type 0
+LastReplies g naming zero old what reply new = Replies g naming old what [] reply new
+LastReplies g naming (suc n) old what reply new = Truncates g old what [] reply new
 
-abbrev pub EndReplies : Naming → Bare → Ending → List ℕ → Bare → Type 0
-EndReplies naming old complete reply new = (reply ≡ []) × (new ≡ old)
-EndReplies naming old (last_line line) reply new = LastReplies naming (raw_length (said line)) old (said line) reply new
-EndReplies naming old (cut_part line raw) reply new = Truncates old (said line) raw reply new
+abbrev pub EndReplies : {D : Type 0} → disk.Ghosts D → Naming → Parts D → Ending → List ℕ → Parts D → Type 0
+EndReplies g naming old complete reply new = (reply ≡ []) × (new ≡ old)
+EndReplies g naming old (last_line line) reply new = LastReplies g naming (raw_length (said line)) old (said line) reply new
+EndReplies g naming old (cut_part line raw) reply new = Truncates g old (said line) raw reply new
 
--- a whole script and its text, and the archive at its end
-pub record AnswersAll (naming : Naming) (read out : List ℕ) (old new : Bare) : Type 0 where
+-- what the last line says
+abbrev pub said_last : Ending → Said
+said_last complete = silence
+said_last (last_line line) = said line
+said_last (cut_part line raw) = said line
+
+-- a whole script and its text, and how the archive stands behind each of its lines, and at its end
+pub record AnswersAll {D : Type 0} (g : disk.Ghosts D) (naming : Naming) (read out : List ℕ) (old : Stage D) (stages : List (Stage D)) (new : Stage D) : Type 0 where
   pub items : List Item
   pub each : AllByRecursion IsItem items
   pub ending : Ending
   pub ends : IsEnding ending
   pub cut : read ≡ flat_map spelled items ++ ending_text ending
   pub replies : List ℕ
-  pub mid : Bare
-  pub run : Run naming old items replies mid
+  pub run : Run g naming old items replies stages
   pub last : List ℕ
-  pub final : EndReplies naming mid ending last new
+  pub final : EndReplies g naming (last_stage old stages).archive ending last new.archive
+  pub moves : Moves g (last_stage old stages) (said_last ending) last new
   pub text : out ≡ replies ++ last
 
 -- Where reading stopped within a command: not all of its line is there, or not all of the bytes behind it; of these, those
 -- that are there may have been taken.
-abbrev pub TakesFront : Bare → Said → List ℕ → Bare → Type 0
-TakesFront old (part_of slot n) raw new = (taken : Result (Unit {0}) ArchiveFault) × TakeStep old slot (length raw) taken new
-TakesFront old _ raw new = ⊥
+abbrev pub TakesFront : {D : Type 0} → disk.Ghosts D → Parts D → Said → List ℕ → Parts D → Type 0
+TakesFront g old (part_of slot n) raw new = (taken : Result (Unit {0}) ArchiveFault) × Takes g old slot raw taken new
+TakesFront g old _ raw new = ⊥
 
-abbrev pub BreaksOff : Bare → List ℕ → Bare → Type 0
-BreaksOff old rest new =
+abbrev pub BreaksOff : {D : Type 0} → disk.Ghosts D → Parts D → List ℕ → Parts D → Type 0
+BreaksOff g old rest new =
     (IsLine rest × (new ≡ old))
-    ⊎ ((line : List ℕ) × (raw : List ℕ) × (rest ≡ line ++ 10 ∷ raw) × IsLine line × (length raw < raw_length (said line)) × TakesFront old (said line) raw new)
+    ⊎ ((line : List ℕ) × (raw : List ℕ) × (rest ≡ line ++ 10 ∷ raw) × IsLine line × (length raw < raw_length (said line)) × TakesFront g old (said line) raw new)
 
 -- what was read of a script that could not be read on, and the replies to all commands that are whole in it
-pub record AnswersWhole (naming : Naming) (read out : List ℕ) (old new : Bare) : Type 0 where
+pub record AnswersWhole {D : Type 0} (g : disk.Ghosts D) (naming : Naming) (read out : List ℕ) (old : Stage D) (stages : List (Stage D)) (new : Stage D) : Type 0 where
   pub items : List Item
   pub each : AllByRecursion IsItem items
   pub rest : List ℕ
   pub cut : read ≡ flat_map spelled items ++ rest
-  pub mid : Bare
-  pub run : Run naming old items out mid
-  pub broken : BreaksOff mid rest new
+  pub run : Run g naming old items out stages
+  pub broken : BreaksOff g (last_stage old stages).archive rest new.archive
+  pub moves : Moves g (last_stage old stages) silence [] new
 
 -- no stream is open in any slot, or the archive is stopped
 abbrev pub IsQuiet : Bare → Type 0
 IsQuiet s = (s.stopped ≡ true) ⊎ ((slot : ℕ) → stream_at s.streams slot ≡ None)
 
 -- the streams are dropped, and nothing else is
-abbrev pub Closes : Bare → Bare → Type 0
-Closes old new = IsQuiet new × (new ≡ record old { streams = new.streams })
+pub record Closes {D : Type 0} (g : disk.Ghosts D) (old new : Parts D) : Type 0 where
+  pub quiet : IsQuiet (bare_of new)
+  pub kept : bare_of new ≡ record (bare_of old) { streams = (bare_of new).streams }
+  pub stays : Stays g old new
 
 -- Whether a session answered to the end, or why it did not: on Ok all that the input had was read and answered; where it
 -- could not be read on, the commands that are whole in what was read were answered; where the output failed, it has a front
--- of that text.
-abbrev pub SessionEnds : Naming → Option (List ℕ) → Option (List ℕ) → ℕ → ℕ → Option (List ℕ) → Option (List ℕ) → ℕ → ℕ → Bare → Bare → Result (Unit {0}) SessionFault → Type 0
-SessionEnds naming input input' fails fails' taken taken' lost lost' old new (Ok u) =
-    (read : List ℕ) × (out : List ℕ) × (end : Bare) × Consumes input input' read × IsAtEnd input' × Appends taken taken' out
-    × AnswersAll naming read out old end × Closes end new
-SessionEnds naming input input' fails fails' taken taken' lost lost' old new (Err ReadFailed) =
-    (read : List ℕ) × (out : List ℕ) × (end : Bare) × Consumes input input' read × Appends taken taken' out
-    × AnswersWhole naming read out old end × Closes end new × Rose fails fails'
-SessionEnds naming input input' fails fails' taken taken' lost lost' old new (Err TooManyReads) =
-    (read : List ℕ) × (out : List ℕ) × (end : Bare) × Consumes input input' read × Appends taken taken' out
-    × AnswersWhole naming read out old end × Closes end new × (2 ^ 40 ≤ length read)
-SessionEnds naming input input' fails fails' taken taken' lost lost' old new (Err WriteFailed) =
-    (read : List ℕ) × (out : List ℕ) × (rest : List ℕ) × (end : Bare) × Consumes input input' read × Appends taken taken' out
-    × (AnswersAll naming read (out ++ rest) old end ⊎ AnswersWhole naming read (out ++ rest) old end) × Closes end new × Rose lost lost'
+-- of that text. In each case what is found after a stop is told by the stages.
+abbrev pub SessionEnds : {D : Type 0} → disk.Ghosts D → Naming → Option (List ℕ) → Option (List ℕ) → ℕ → ℕ → Option (List ℕ) → Option (List ℕ) → ℕ → ℕ → Stage D → Parts D → Result (Unit {0}) SessionFault → Type 0
+SessionEnds {D} g naming input input' fails fails' taken taken' lost lost' old new (Ok u) =
+    (read : List ℕ) × (out : List ℕ) × (stages : List (Stage D)) × (end : Stage D) × Consumes input input' read × IsAtEnd input' × Appends taken taken' out
+    × AnswersAll g naming read out old stages end × Closes g end.archive new × IsFoundAfterAStop g old stages end new
+SessionEnds {D} g naming input input' fails fails' taken taken' lost lost' old new (Err ReadFailed) =
+    (read : List ℕ) × (out : List ℕ) × (stages : List (Stage D)) × (end : Stage D) × Consumes input input' read × Appends taken taken' out
+    × AnswersWhole g naming read out old stages end × Closes g end.archive new × IsFoundAfterAStop g old stages end new × Rose fails fails'
+SessionEnds {D} g naming input input' fails fails' taken taken' lost lost' old new (Err TooManyReads) =
+    (read : List ℕ) × (out : List ℕ) × (stages : List (Stage D)) × (end : Stage D) × Consumes input input' read × Appends taken taken' out
+    × AnswersWhole g naming read out old stages end × Closes g end.archive new × IsFoundAfterAStop g old stages end new × (2 ^ 40 ≤ length read)
+SessionEnds {D} g naming input input' fails fails' taken taken' lost lost' old new (Err WriteFailed) =
+    (read : List ℕ) × (out : List ℕ) × (rest : List ℕ) × (stages : List (Stage D)) × (end : Stage D) × Consumes input input' read × Appends taken taken' out
+    × (AnswersAll g naming read (out ++ rest) old stages end ⊎ AnswersWhole g naming read (out ++ rest) old stages end)
+    × Closes g end.archive new × IsFoundAfterAStop g old stages end new × Rose lost lost'

@@ -2,9 +2,11 @@
 use Rattle.std.specs.Prelude.{◌≡◌, ◌⊎◌, ℕ, ◌+◌, ◌^◌, ◌<◌, ◌≤◌, ◌==◌, Bool, true, false, List, [], ◌++◌, length, Option, None, Result, Ok, Err, codes, if◌then◌else◌}
 use Rattle.std.specs.Io.KnownBytes.{Consumes, Appends, IsAtEnd}
 use Rattle.intake.specs.declared.faults.ArchiveFault.{ArchiveFault}
+use Rattle.disk_model.specs.declared.disk.Disk as disk
+use Rattle.intake.specs.Calls.{AbandonCall}
+use Rattle.intake.specs.Parts.{Parts}
 use Rattle.intake.specs.Slots.{stream_at}
 use Rattle.intake.specs.State.{Bare, BareStream}
-use Rattle.intake.specs.Step.{AbandonStep}
 use Rattle.script_streams.specs.Streams.{Rose}
 use Rattle.inspector_cli.specs.declared.session.Naming.{Naming}
 use Rattle.inspector_cli.specs.declared.session.SessionFault.{SessionFault}
@@ -12,7 +14,7 @@ use Rattle.inspector_cli.specs.declared.session.SessionFault.TheVariants.{ReadFa
 use Rattle.inspector_cli.specs.declared.store.TakeStop.{TakeStop}
 use Rattle.inspector_cli.specs.declared.store.TakeStop.TheVariants.{File, Refused}
 use Rattle.inspector_cli.specs.Said.{Said, begin_exec, begin_core, long_line, said}
-use Rattle.inspector_cli.specs.Reply.{Begins, Ends, TakeStep, exec_stream, core_stream, no_reply, reason_of}
+use Rattle.inspector_cli.specs.Reply.{Begins, Ends, Takes, exec_stream, core_stream, no_reply, reason_of}
 
 -- What the first line begins, or why it begins nothing: it begins a stream in slot 0. Any other line is none that is known.
 abbrev pub first_stream : Naming → Said → Result BareStream (List ℕ)
@@ -23,47 +25,47 @@ first_stream naming _ = Err (codes "BadLine")
 
 -- the bytes of a file are taken to its end; or to the first that are refused; or it could not be read on, or 2^40 reads
 -- were made and each gave a byte, and those that were read are taken
-abbrev pub TakesFile : Option (List ℕ) → Option (List ℕ) → ℕ → ℕ → Bare → Bare → Result (Unit {0}) TakeStop → Type 0
-TakesFile file file' fails fails' old new (Ok u) =
-    (raw : List ℕ) × Consumes file file' raw × IsAtEnd file' × TakeStep old 0 (length raw) (Ok tt) new
-TakesFile file file' fails fails' old new (Err File) =
-    (raw : List ℕ) × Consumes file file' raw × (Rose fails fails' ⊎ (2 ^ 40 ≤ length raw)) × TakeStep old 0 (length raw) (Ok tt) new
-TakesFile file file' fails fails' old new (Err (Refused fault)) =
-    (raw : List ℕ) × Consumes file file' raw × TakeStep old 0 (length raw) (Err fault) new
+abbrev pub TakesFile : {D : Type 0} → disk.Ghosts D → Option (List ℕ) → Option (List ℕ) → ℕ → ℕ → Parts D → Parts D → Result (Unit {0}) TakeStop → Type 0
+TakesFile g file file' fails fails' old new (Ok u) =
+    (raw : List ℕ) × Consumes file file' raw × IsAtEnd file' × Takes g old 0 raw (Ok tt) new
+TakesFile g file file' fails fails' old new (Err File) =
+    (raw : List ℕ) × Consumes file file' raw × (Rose fails fails' ⊎ (2 ^ 40 ≤ length raw)) × Takes g old 0 raw (Ok tt) new
+TakesFile g file file' fails fails' old new (Err (Refused fault)) =
+    (raw : List ℕ) × Consumes file file' raw × Takes g old 0 raw (Err fault) new
 
 -- the next bytes of a file behind so many are taken, or there are none; or they are refused, or could not be read
-abbrev pub TakesMore : Option (List ℕ) → Option (List ℕ) → ℕ → ℕ → Bare → ℕ → Bare → Result Bool TakeStop → Type 0
-TakesMore file file' fails fails' begun so_far new (Ok true) =
-    (raw : List ℕ) × Consumes file file' raw × (0 < length raw) × (fails' ≡ fails) × TakeStep begun 0 (so_far + length raw) (Ok tt) new
-TakesMore file file' fails fails' begun so_far new (Ok false) =
-    Consumes file file' [] × IsAtEnd file' × (fails' ≡ fails) × TakeStep begun 0 so_far (Ok tt) new
-TakesMore file file' fails fails' begun so_far new (Err File) =
-    Consumes file file' [] × Rose fails fails' × TakeStep begun 0 so_far (Ok tt) new
-TakesMore file file' fails fails' begun so_far new (Err (Refused fault)) =
-    (raw : List ℕ) × Consumes file file' raw × (fails' ≡ fails) × TakeStep begun 0 (so_far + length raw) (Err fault) new
+abbrev pub TakesMore : {D : Type 0} → disk.Ghosts D → Option (List ℕ) → Option (List ℕ) → ℕ → ℕ → Parts D → List ℕ → Parts D → Result Bool TakeStop → Type 0
+TakesMore g file file' fails fails' begun so_far new (Ok true) =
+    (raw : List ℕ) × Consumes file file' raw × (0 < length raw) × (fails' ≡ fails) × Takes g begun 0 (so_far ++ raw) (Ok tt) new
+TakesMore g file file' fails fails' begun so_far new (Ok false) =
+    Consumes file file' [] × IsAtEnd file' × (fails' ≡ fails) × Takes g begun 0 so_far (Ok tt) new
+TakesMore g file file' fails fails' begun so_far new (Err File) =
+    Consumes file file' [] × Rose fails fails' × Takes g begun 0 so_far (Ok tt) new
+TakesMore g file file' fails fails' begun so_far new (Err (Refused fault)) =
+    (raw : List ℕ) × Consumes file file' raw × (fails' ≡ fails) × Takes g begun 0 (so_far ++ raw) (Err fault) new
 
 -- the reply behind the bytes, and whether the case is stored
-abbrev pub FileReplies : Bare → Result (Unit {0}) TakeStop → List ℕ → Bare → Bool → Type 0
-FileReplies old (Ok u) reply new stored = Ends old 0 reply new stored
-FileReplies old (Err File) reply new stored = (reply ≡ no_reply (codes "File")) × (new ≡ old) × (stored ≡ false)
-FileReplies old (Err (Refused fault)) reply new stored = (reply ≡ no_reply (reason_of fault)) × (new ≡ old) × (stored ≡ false)
+abbrev pub FileReplies : {D : Type 0} → disk.Ghosts D → Parts D → Result (Unit {0}) TakeStop → List ℕ → Parts D → Bool → Type 0
+FileReplies g old (Ok u) reply new stored = Ends g old 0 reply new stored
+FileReplies g old (Err File) reply new stored = (reply ≡ no_reply (codes "File")) × (new ≡ old) × (stored ≡ false)
+FileReplies g old (Err (Refused fault)) reply new stored = (reply ≡ no_reply (reason_of fault)) × (new ≡ old) × (stored ≡ false)
 
 -- a file behind a first line that was accepted or not: where it was not, none of it is read
-abbrev pub RestReplies : Option (List ℕ) → Option (List ℕ) → ℕ → ℕ → Bare → Bool → List ℕ → Bare → Bool → Type 0
-RestReplies file file' fails fails' old true reply new stored =
-    (taken : Result (Unit {0}) TakeStop) × (mid : Bare) × TakesFile file file' fails fails' old mid taken × FileReplies mid taken reply new stored
-RestReplies file file' fails fails' old false reply new stored =
+abbrev pub RestReplies : {D : Type 0} → disk.Ghosts D → Option (List ℕ) → Option (List ℕ) → ℕ → ℕ → Parts D → Bool → List ℕ → Parts D → Bool → Type 0
+RestReplies {D} g file file' fails fails' old true reply new stored =
+    (taken : Result (Unit {0}) TakeStop) × (mid : Parts D) × TakesFile g file file' fails fails' old mid taken × FileReplies g mid taken reply new stored
+RestReplies g file file' fails fails' old false reply new stored =
     (file' ≡ file) × (fails' ≡ fails) × (reply ≡ []) × (new ≡ old) × (stored ≡ false)
 
 -- a line and its file: the replies, and whether the case is stored
-pub record Stores (naming : Naming) (file file' : Option (List ℕ)) (fails fails' : ℕ) (old : Bare) (line : List ℕ)
-    (replies : List ℕ) (new : Bare) (stored : Bool) : Type 0 where
+pub record Stores {D : Type 0} (g : disk.Ghosts D) (naming : Naming) (file file' : Option (List ℕ)) (fails fails' : ℕ) (old : Parts D) (line : List ℕ)
+    (replies : List ℕ) (new : Parts D) (stored : Bool) : Type 0 where
   pub first : List ℕ
-  pub mid : Bare
+  pub mid : Parts D
   pub accepted : Bool
-  pub begins : Begins old 0 (first_stream naming (said line)) first mid accepted
+  pub begins : Begins g old 0 (first_stream naming (said line)) first mid accepted
   pub rest : List ℕ
-  pub goes_on : RestReplies file file' fails fails' mid accepted rest new stored
+  pub goes_on : RestReplies g file file' fails fails' mid accepted rest new stored
   pub text : replies ≡ first ++ rest
 
 -- no stream is open in slot 0, or the archive is stopped
@@ -72,12 +74,12 @@ IsSlotQuiet s = (s.stopped ≡ true) ⊎ (stream_at s.streams 0 ≡ None)
 
 -- Whether the case is stored, and the replies were written; or the output failed, and has a front of them. A stream that
 -- is left in slot 0 is dropped.
-abbrev pub StoreEnds : Naming → Option (List ℕ) → Option (List ℕ) → ℕ → ℕ → Option (List ℕ) → Option (List ℕ) → ℕ → ℕ → Bare → List ℕ → Bare → Result Bool SessionFault → Type 0
-StoreEnds naming file file' fails fails' taken taken' lost lost' old line new (Ok stored) =
-    (replies : List ℕ) × (end : Bare) × (dropped : Result (Unit {0}) ArchiveFault)
-    × Stores naming file file' fails fails' old line replies end stored × AbandonStep end 0 dropped new × Appends taken taken' replies
-StoreEnds naming file file' fails fails' taken taken' lost lost' old line new (Err WriteFailed) =
-    (out : List ℕ) × (rest : List ℕ) × (end : Bare) × (stored : Bool) × (dropped : Result (Unit {0}) ArchiveFault)
-    × Stores naming file file' fails fails' old line (out ++ rest) end stored × AbandonStep end 0 dropped new × Appends taken taken' out × Rose lost lost'
-StoreEnds naming file file' fails fails' taken taken' lost lost' old line new (Err ReadFailed) = ⊥
-StoreEnds naming file file' fails fails' taken taken' lost lost' old line new (Err TooManyReads) = ⊥
+abbrev pub StoreEnds : {D : Type 0} → disk.Ghosts D → Naming → Option (List ℕ) → Option (List ℕ) → ℕ → ℕ → Option (List ℕ) → Option (List ℕ) → ℕ → ℕ → Parts D → List ℕ → Parts D → Result Bool SessionFault → Type 0
+StoreEnds {D} g naming file file' fails fails' taken taken' lost lost' old line new (Ok stored) =
+    (replies : List ℕ) × (end : Parts D) × (dropped : Result (Unit {0}) ArchiveFault)
+    × Stores g naming file file' fails fails' old line replies end stored × AbandonCall g end 0 dropped new × Appends taken taken' replies
+StoreEnds {D} g naming file file' fails fails' taken taken' lost lost' old line new (Err WriteFailed) =
+    (out : List ℕ) × (rest : List ℕ) × (end : Parts D) × (stored : Bool) × (dropped : Result (Unit {0}) ArchiveFault)
+    × Stores g naming file file' fails fails' old line (out ++ rest) end stored × AbandonCall g end 0 dropped new × Appends taken taken' out × Rose lost lost'
+StoreEnds g naming file file' fails fails' taken taken' lost lost' old line new (Err ReadFailed) = ⊥
+StoreEnds g naming file file' fails fails' taken taken' lost lost' old line new (Err TooManyReads) = ⊥

@@ -1,5 +1,5 @@
 // The answers to lines that no bytes stand behind.
-ghost use Rattle.std.specs.Prelude.{◌≡◌};
+ghost use Rattle.std.specs.Prelude.{◌≡◌, []};
 ghost use Rattle.intake.specs.Parts.{bare_of};
 ghost use Rattle.inspector_cli.specs.Commands.{asked_by};
 ghost use Rattle.inspector_cli.specs.Reply.{Ends, Drops, Deletes, Pins, Retires, Frees, list_reply};
@@ -22,14 +22,14 @@ pub(crate) fn answer_plain<O: Output, D: Disk>(
     archive: &mut Archive<D>,
     naming: &Naming,
 )
-    ensures { AnswersTo naming.now (record {
+    ensures { AnswersTo D.Disk naming.now (record {
       taken = O.taken output.old;
       taken' = O.taken output.new;
       failures = O.failures output.old;
       failures' = O.failures output.new;
       reply = reply.old;
       reply' = reply.new;
-    }) (bare_of archive.old) (asked_by request) (bare_of archive.new) }
+    }) archive.old (asked_by request) [] archive.new }
 {
     match request {
         Request::Silence => {}
@@ -68,9 +68,10 @@ pub(crate) fn answer_end<O: Output, D: Disk>(
       failures' = O.failures output.new;
       reply = reply.old;
       reply' = reply.new;
-    }) (λ text. Ends (bare_of archive.old) slot text (bare_of archive.new) result) }
+    }) (λ text. Ends D.Disk archive.old slot text archive.new result) }
 {
     let outcome = archive.finish(slot);
+    let _ = archive.is_stopped();
     let is_stored = outcome.is_ok();
     tell_stored(reply, output, outcome);
     is_stored
@@ -90,7 +91,7 @@ fn answer_drop<O: Output, D: Disk>(
       failures' = O.failures output.new;
       reply = reply.old;
       reply' = reply.new;
-    }) (λ text. Drops (bare_of archive.old) slot text (bare_of archive.new)) }
+    }) (λ text. Drops D.Disk archive.old slot text archive.new) }
 {
     let outcome = archive.abandon(slot);
     tell_outcome(reply, output, outcome);
@@ -110,9 +111,10 @@ fn answer_delete<O: Output, D: Disk>(
       failures' = O.failures output.new;
       reply = reply.old;
       reply' = reply.new;
-    }) (λ text. Deletes (bare_of archive.old) seq text (bare_of archive.new)) }
+    }) (λ text. Deletes D.Disk archive.old seq text archive.new) }
 {
     let outcome = archive.delete(seq);
+    let _ = archive.is_stopped();
     tell_outcome(reply, output, outcome);
 }
 
@@ -131,9 +133,10 @@ fn answer_pin<O: Output, D: Disk>(
       failures' = O.failures output.new;
       reply = reply.old;
       reply' = reply.new;
-    }) (λ text. Pins (bare_of archive.old) seq flag text (bare_of archive.new)) }
+    }) (λ text. Pins D.Disk archive.old seq flag text archive.new) }
 {
     let outcome = archive.pin(seq, flag);
+    let _ = archive.is_stopped();
     tell_outcome(reply, output, outcome);
 }
 
@@ -151,9 +154,10 @@ fn answer_retire<O: Output, D: Disk>(
       failures' = O.failures output.new;
       reply = reply.old;
       reply' = reply.new;
-    }) (λ text. Retires (bare_of archive.old) policy text (bare_of archive.new)) }
+    }) (λ text. Retires D.Disk archive.old policy text archive.new) }
 {
     let outcome = archive.retire(&policy);
+    let _ = archive.is_stopped();
     tell_retired(reply, output, outcome);
 }
 
@@ -183,7 +187,7 @@ fn answer_free<O: Output, D: Disk>(reply: &mut Reply, output: &mut O, archive: &
       failures' = O.failures output.new;
       reply = reply.old;
       reply' = reply.new;
-    }) (λ text. Frees (bare_of archive.now) text (bare_of archive.now)) }
+    }) (λ text. Frees archive.now text archive.now) }
 {
     tell_free(reply, output, archive.free_blocks());
 }

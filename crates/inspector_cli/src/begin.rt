@@ -1,6 +1,5 @@
 // The streams that lines begin.
 ghost use Rattle.std.specs.Prelude.{◌≡◌, ◌≤◌, length, MatchResult, Ok, Err};
-ghost use Rattle.intake.specs.Parts.{bare_of};
 ghost use Rattle.inspector_cli.specs.Reply.{Begins, exec_stream, core_name, core_stream, name_reason};
 ghost use Rattle.inspector_cli.specs.Commands.{name_text, process_of, stream_found};
 ghost use Rattle.inspector_cli.specs.Answering.{TellsReply};
@@ -30,7 +29,7 @@ pub(crate) fn answer_begin<O: Output, D: Disk>(
       failures' = O.failures output.new;
       reply = reply.old;
       reply' = reply.new;
-    }) (λ text. Begins (bare_of archive.old) slot (stream_found found.entry) text (bare_of archive.new) result) }
+    }) (λ text. Begins D.Disk archive.old slot (stream_found found.entry) text archive.new result) }
 {
     match found {
         Ok(stream) => begin_stream(slot, stream, reply, output, archive),
@@ -56,7 +55,7 @@ fn begin_stream<O: Output, D: Disk>(
       failures' = O.failures output.new;
       reply = reply.old;
       reply' = reply.new;
-    }) (λ text. Begins (bare_of archive.old) slot (stream_found (Ok stream)) text (bare_of archive.new) result) }
+    }) (λ text. Begins D.Disk archive.old slot (stream_found (Ok stream)) text archive.new result) }
 {
     let NewStream {
         kind,

@@ -1,10 +1,9 @@
 // The bytes of a part.
-ghost use Rattle.std.specs.Prelude.{◌≡◌, ℕ, ◌+◌, ◌<◌, ◌≤◌};
-ghost use Rattle.intake.specs.Parts.{bare_of};
-ghost use Rattle.intake.specs.State.{Bare};
+ghost use Rattle.std.specs.Prelude.{◌≡◌, ℕ, ◌<◌, ◌≤◌, List};
+ghost use Rattle.intake.specs.Parts.{Parts};
 ghost use Rattle.inspector_cli.specs.Said.{part_of};
 ghost use Rattle.script_streams.specs.Reading.{Stops, steps_left};
-ghost use Rattle.inspector_cli.specs.Reply.{TakeStep};
+ghost use Rattle.inspector_cli.specs.Reply.{Takes};
 ghost use Rattle.inspector_cli.specs.declared.session.Naming.{Naming};
 ghost use Rattle.inspector_cli.specs.Answering.{PieceEnds, PartEnds, PartAnswers, SkipEnds};
 
@@ -23,7 +22,7 @@ pub(crate) fn answer_part<I: Input, O: Output, D: Disk>(
     output: &mut O,
     archive: &mut Archive<D>,
 ) -> Result<bool, ReadStop>
-    ensures answers { (naming : Naming) → PartAnswers naming
+    ensures answers { (naming : Naming) → PartAnswers D.Disk naming
         (record {
           before = I.remaining input.old;
           after = I.remaining input.new;
@@ -40,7 +39,7 @@ pub(crate) fn answer_part<I: Input, O: Output, D: Disk>(
           reply = reply.old;
           reply' = reply.new;
         })
-        (bare_of archive.old) (part_of slot count) (bare_of archive.new) result }
+        archive.old (part_of slot count) archive.new result }
     ensures stops { Stops (I.failures input.old) (I.failures input.new) buffer.new result }
 {
     let (missing, verdict) = take_part(slot, count, buffer, input, archive)?;
@@ -61,15 +60,15 @@ fn take_part<I: Input, D: Disk>(
     input: &mut I,
     archive: &mut Archive<D>,
 ) -> Result<(u32, Result<(), ArchiveFault>), ReadStop>
-    ensures takes { PartEnds
+    ensures takes { PartEnds D.Disk
         (record {
           before = I.remaining input.old;
           after = I.remaining input.new;
           buffer =
               buffer.old;
           buffer' = buffer.new;
-        }) (bare_of archive.old) slot count
-        (bare_of archive.new) result }
+        }) archive.old slot count
+        archive.new result }
     ensures stops { Stops (I.failures input.old) (I.failures input.new) buffer.new result }
 {
     let mut verdict = archive.advance(slot, 0);
@@ -95,9 +94,9 @@ fn take_piece<I: Input, D: Disk>(
     archive: &mut Archive<D>,
 ) -> Result<(u32, Result<(), ArchiveFault>), ReadStop>
     requires { 0 < most }
-    ensures takes { (begun : Bare) (so_far : ℕ)
-        → TakeStep begun slot so_far verdict (bare_of archive.old)
-        → PieceEnds (record { before = I.remaining input.old; after = I.remaining input.new; buffer = buffer.old; buffer' = buffer.new }) begun slot so_far most verdict (bare_of archive.new) result }
+    ensures takes { (begun : Parts D) (so_far : List ℕ)
+        → Takes D.Disk begun slot so_far verdict archive.old
+        → PieceEnds D.Disk (record { before = I.remaining input.old; after = I.remaining input.new; buffer = buffer.old; buffer' = buffer.new }) begun slot so_far most verdict archive.new result }
     ensures stops { Stops (I.failures input.old) (I.failures input.new) buffer.new result }
 {
     match verdict {
@@ -118,9 +117,9 @@ fn fill_piece<I: Input, D: Disk>(
     archive: &mut Archive<D>,
 ) -> Result<(u32, Result<(), ArchiveFault>), ReadStop>
     requires { 0 < most }
-    ensures takes { (begun : Bare) (so_far : ℕ)
-        → TakeStep begun slot so_far (Ok tt) (bare_of archive.old)
-        → PieceEnds (record { before = I.remaining input.old; after = I.remaining input.new; buffer = buffer.old; buffer' = buffer.new }) begun slot so_far most (Ok tt) (bare_of archive.new) result }
+    ensures takes { (begun : Parts D) (so_far : List ℕ)
+        → Takes D.Disk begun slot so_far (Ok tt) archive.old
+        → PieceEnds D.Disk (record { before = I.remaining input.old; after = I.remaining input.new; buffer = buffer.old; buffer' = buffer.new }) begun slot so_far most (Ok tt) archive.new result }
     ensures stops { Stops (I.failures input.old) (I.failures input.new) buffer.new result }
 {
     let (lent, room) = archive.room(slot);

@@ -1,13 +1,13 @@
 // A session from its first line to its end.
-ghost use Rattle.intake.specs.Parts.{bare_of};
+ghost use Rattle.intake.specs.Durable.{Durable};
 ghost use Rattle.inspector_cli.specs.Session.{SessionEnds, Closes};
 ghost use Rattle.inspector_cli.specs.Answering.{session_fault};
-ghost use Rattle.std.specs.Prelude.{◌≡◌};
+ghost use Rattle.std.specs.Prelude.{◌≡◌, List};
 
 use crate::script::answer_script;
 use crate::session::{Naming, SessionFault};
 use disk_model::Disk;
-use intake::Archive;
+use intake::{Archive, calls_lead_from_mark_to_mark, found_after_a_stop};
 use script_streams::{Input, Output, ReadStop, Reply, ScriptBuffer};
 
 /// Reads a script to its end, answers its commands in order, and drops the streams that are open then.
@@ -23,10 +23,12 @@ pub fn run_session<I: Input, O: Output, D: Disk>(
     archive: &mut Archive<D>,
     naming: &Naming,
 ) -> Result<(), SessionFault>
-    ensures { SessionEnds naming.now (I.remaining input.old) (I.remaining input.new) (I.failures input.old)
+    ensures { (before : List Durable) → SessionEnds D.Disk naming.now (I.remaining input.old) (I.remaining input.new) (I.failures input.old)
         (I.failures input.new) (O.taken output.old) (O.taken output.new) (O.failures output.old)
-        (O.failures output.new) (bare_of archive.old) (bare_of archive.new) result }
+        (O.failures output.new) (record { archive = archive.old; in_doubt = before }) archive.new result }
 {
+    calls_lead_from_mark_to_mark::<D>();
+    found_after_a_stop::<D>();
     let mut buffer = ScriptBuffer::new();
     let mut reply = Reply::new();
     let answered = answer_script(&mut buffer, input, &mut reply, output, archive, naming);
@@ -52,7 +54,7 @@ fn session_fault(stop: ReadStop) -> SessionFault
 
 // Drops the streams that are open.
 fn close_streams<D: Disk>(archive: &mut Archive<D>)
-    ensures { Closes (bare_of archive.old) (bare_of archive.new) }
+    ensures { Closes D.Disk archive.old archive.new }
 {
     for slot in 0..8u8 {
         let _ = archive.abandon(slot);

@@ -2,7 +2,7 @@
 ghost use Rattle.std.specs.Prelude.{◌≡◌, ℕ, ◌<◌, List, length};
 ghost use Rattle.script_streams.specs.Lines.{IsLine, KeepsLine};
 ghost use Rattle.script_streams.specs.Reading.{Stops};
-ghost use Rattle.intake.specs.Parts.{bare_of};
+ghost use Rattle.intake.specs.Durable.{Durable};
 ghost use Rattle.inspector_cli.specs.Said.{said, part_of};
 ghost use Rattle.inspector_cli.specs.declared.session.Naming.{Naming};
 ghost use Rattle.inspector_cli.specs.Answering.{CommandEnds, ScriptEnds, PartAnswers, LastAnswers};
@@ -13,7 +13,7 @@ use crate::parts::answer_part;
 use crate::session::Naming;
 use crate::telling::{tell_no, tell_outcome};
 use disk_model::Disk;
-use intake::Archive;
+use intake::{Archive, calls_lead_from_mark_to_mark};
 use script_streams::{Input, KeptLine, LineEnding, Output, ReadStop, Reply, ScriptBuffer};
 
 // Answers all commands of a script.
@@ -25,7 +25,7 @@ pub(crate) fn answer_script<I: Input, O: Output, D: Disk>(
     archive: &mut Archive<D>,
     naming: &Naming,
 ) -> Result<(), ReadStop>
-    ensures answers { ScriptEnds naming.now
+    ensures answers { (before : List Durable) → ScriptEnds D.Disk naming.now
         (record {
           before = I.remaining input.old;
           after = I.remaining input.new;
@@ -42,9 +42,10 @@ pub(crate) fn answer_script<I: Input, O: Output, D: Disk>(
           reply = reply.old;
           reply' = reply.new;
         })
-        (bare_of archive.old) (bare_of archive.new) result }
+        (record { archive = archive.old; in_doubt = before }) archive.new result }
     ensures stops { Stops (I.failures input.old) (I.failures input.new) buffer.new result }
 {
+    calls_lead_from_mark_to_mark::<D>();
     let mut line = KeptLine::new();
     let mut goes_on = true;
     while goes_on {
@@ -63,7 +64,7 @@ fn answer_command<I: Input, O: Output, D: Disk>(
     archive: &mut Archive<D>,
     naming: &Naming,
 ) -> Result<bool, ReadStop>
-    ensures answers { CommandEnds naming.now
+    ensures answers { CommandEnds D.Disk naming.now
         (record {
           before = I.remaining input.old;
           after = I.remaining input.new;
@@ -80,7 +81,7 @@ fn answer_command<I: Input, O: Output, D: Disk>(
           reply = reply.old;
           reply' = reply.new;
         })
-        (bare_of archive.old) (bare_of archive.new) result }
+        archive.old archive.new result }
     ensures stops { Stops (I.failures input.old) (I.failures input.new) buffer.new result }
 {
     match buffer.next_line(input, line)? {
@@ -105,7 +106,7 @@ fn answer_line<I: Input, O: Output, D: Disk>(
 ) -> Result<bool, ReadStop>
     requires { (text : List ℕ) × KeepsLine text line.now }
     ensures answers { (text : List ℕ) → KeepsLine text line.now
-        → PartAnswers naming.now (record {
+        → PartAnswers D.Disk naming.now (record {
           before = I.remaining input.old;
           after = I.remaining input.new;
           buffer = buffer.old;
@@ -120,7 +121,7 @@ fn answer_line<I: Input, O: Output, D: Disk>(
           reply = reply.old;
           reply' = reply.new;
         })
-        (bare_of archive.old) (said text) (bare_of archive.new) result }
+        archive.old (said text) archive.new result }
     ensures stops { Stops (I.failures input.old) (I.failures input.new) buffer.new result }
 {
     match parse_line(line) {
@@ -144,7 +145,7 @@ fn answer_last<O: Output, D: Disk>(
 )
     requires { (text : List ℕ) × KeepsLine text line.now }
     ensures { (text : List ℕ) → KeepsLine text line.now
-        → LastAnswers naming.now (record {
+        → LastAnswers D.Disk naming.now (record {
           taken = O.taken output.old;
           taken' = O.taken output.new;
           failures
@@ -153,7 +154,7 @@ fn answer_last<O: Output, D: Disk>(
           reply = reply.old;
           reply' =
               reply.new;
-        }) (bare_of archive.old) (said text) (bare_of archive.new) }
+        }) archive.old (said text) archive.new }
 {
     match parse_line(line) {
         Command::Part { slot, count } => answer_cut(slot, count, reply, output, archive),
@@ -169,14 +170,14 @@ fn answer_cut<O: Output, D: Disk>(
     output: &mut O,
     archive: &mut Archive<D>,
 )
-    ensures { (naming : Naming) → LastAnswers naming (record {
+    ensures { (naming : Naming) → LastAnswers D.Disk naming (record {
       taken = O.taken output.old;
       taken' = O.taken output.new;
       failures = O.failures output.old;
       failures' = O.failures output.new;
       reply = reply.old;
       reply' = reply.new;
-    }) (bare_of archive.old) (part_of slot count) (bare_of archive.new) }
+    }) archive.old (part_of slot count) archive.new }
 {
     let verdict = archive.advance(slot, 0);
     if count == 0 {

@@ -1,10 +1,9 @@
 // One stream, stored from its own input.
-ghost use Rattle.std.specs.Prelude.{◌≡◌, ℕ, true, Ok};
-ghost use Rattle.intake.specs.Parts.{bare_of};
-ghost use Rattle.intake.specs.State.{Bare};
+ghost use Rattle.std.specs.Prelude.{◌≡◌, ℕ, true, List, [], Ok};
+ghost use Rattle.intake.specs.Parts.{Parts, bare_of};
 ghost use Rattle.inspector_cli.specs.Said.{said};
 ghost use Rattle.inspector_cli.specs.Commands.{asked_by, said_by, stream_found};
-ghost use Rattle.inspector_cli.specs.Reply.{Begins, TakeStep};
+ghost use Rattle.inspector_cli.specs.Reply.{Begins, Takes};
 ghost use Rattle.inspector_cli.specs.Answering.{TellsReply};
 ghost use Rattle.inspector_cli.specs.Storing.{StoreEnds, Stores, RestReplies, first_stream, TakesFile, TakesMore, IsSlotQuiet};
 
@@ -46,9 +45,9 @@ pub fn store_stream<I: Input, O: Output, D: Disk>(
     archive: &mut Archive<D>,
     naming: &Naming,
 ) -> Result<bool, SessionFault>
-    ensures ends { StoreEnds naming.now (I.remaining file.old) (I.remaining file.new) (I.failures file.old)
+    ensures ends { StoreEnds D.Disk naming.now (I.remaining file.old) (I.remaining file.new) (I.failures file.old)
         (I.failures file.new) (O.taken output.old) (O.taken output.new) (O.failures output.old)
-        (O.failures output.new) (bare_of archive.old) line.now (bare_of archive.new) result }
+        (O.failures output.new) archive.old line.now archive.new result }
     ensures quiet { IsSlotQuiet (bare_of archive.new) }
 {
     let mut reply = Reply::new();
@@ -76,8 +75,8 @@ fn answer_store<I: Input, O: Output, D: Disk>(
       failures' = O.failures output.new;
       reply = reply.old;
       reply' = reply.new;
-    }) (λ text. Stores naming.now (I.remaining file.old) (I.remaining file.new) (I.failures file.old) (I.failures file.new)
-        (bare_of archive.old) line.now text (bare_of archive.new) result) }
+    }) (λ text. Stores D.Disk naming.now (I.remaining file.old) (I.remaining file.new) (I.failures file.old) (I.failures file.new)
+        archive.old line.now text archive.new result) }
 {
     let is_begun = answer_first(line, reply, output, archive, naming);
     if !is_begun {
@@ -101,8 +100,8 @@ fn answer_first<O: Output, D: Disk>(
       failures' = O.failures output.new;
       reply = reply.old;
       reply' = reply.new;
-    }) (λ text. Begins (bare_of archive.old) 0 (first_stream naming.now (said line.now)) text (bare_of archive.new) result) }
-    ensures begun { result ≡ true → TakeStep (bare_of archive.new) 0 0 (Ok tt) (bare_of archive.new) }
+    }) (λ text. Begins D.Disk archive.old 0 (first_stream naming.now (said line.now)) text archive.new result) }
+    ensures begun { result ≡ true → Takes D.Disk archive.new 0 [] (Ok tt) archive.new }
 {
     let found = first_stream(parse_text(line), naming);
     answer_begin(0, found, reply, output, archive)
@@ -154,7 +153,7 @@ fn answer_file<I: Input, O: Output, D: Disk>(
     output: &mut O,
     archive: &mut Archive<D>,
 ) -> bool
-    requires { TakeStep (bare_of archive.old) 0 0 (Ok tt) (bare_of archive.old) }
+    requires { Takes D.Disk archive.old 0 [] (Ok tt) archive.old }
     ensures { TellsReply (record {
       taken = O.taken output.old;
       taken' = O.taken output.new;
@@ -162,8 +161,8 @@ fn answer_file<I: Input, O: Output, D: Disk>(
       failures' = O.failures output.new;
       reply = reply.old;
       reply' = reply.new;
-    }) (λ text. RestReplies (I.remaining file.old) (I.remaining file.new) (I.failures file.old) (I.failures file.new)
-        (bare_of archive.old) true text (bare_of archive.new) result) }
+    }) (λ text. RestReplies D.Disk (I.remaining file.old) (I.remaining file.new) (I.failures file.old) (I.failures file.new)
+        archive.old true text archive.new result) }
 {
     match take_file(file, archive) {
         Ok(()) => answer_end(0, reply, output, archive),
@@ -180,9 +179,9 @@ fn answer_file<I: Input, O: Output, D: Disk>(
 
 // Takes all bytes of a file into the stream in slot 0.
 fn take_file<I: Input, D: Disk>(file: &mut I, archive: &mut Archive<D>) -> Result<(), TakeStop>
-    requires { TakeStep (bare_of archive.old) 0 0 (Ok tt) (bare_of archive.old) }
-    ensures { TakesFile (I.remaining file.old) (I.remaining file.new) (I.failures file.old) (I.failures file.new)
-        (bare_of archive.old) (bare_of archive.new) result }
+    requires { Takes D.Disk archive.old 0 [] (Ok tt) archive.old }
+    ensures { TakesFile D.Disk (I.remaining file.old) (I.remaining file.new) (I.failures file.old) (I.failures file.new)
+        archive.old archive.new result }
 {
     for _ in 0..MOST_READS {
         let goes_on = take_more(file, archive)?;
@@ -195,10 +194,10 @@ fn take_file<I: Input, D: Disk>(file: &mut I, archive: &mut Archive<D>) -> Resul
 
 // Takes the next bytes of a file into the stream in slot 0. Says whether there were any.
 fn take_more<I: Input, D: Disk>(file: &mut I, archive: &mut Archive<D>) -> Result<bool, TakeStop>
-    ensures { (begun : Bare) (so_far : ℕ)
-        → TakeStep begun 0 so_far (Ok tt) (bare_of archive.old)
-        → TakesMore (I.remaining file.old) (I.remaining file.new) (I.failures file.old) (I.failures file.new)
-        begun so_far (bare_of archive.new) result }
+    ensures { (begun : Parts D) (so_far : List ℕ)
+        → Takes D.Disk begun 0 so_far (Ok tt) archive.old
+        → TakesMore D.Disk (I.remaining file.old) (I.remaining file.new) (I.failures file.old) (I.failures file.new)
+        begun so_far archive.new result }
 {
     let (lent, room) = archive.room(0);
     if let Err(fault) = lent {

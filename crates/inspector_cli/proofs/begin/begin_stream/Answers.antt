@@ -2,6 +2,7 @@ use Rattle.std.proofs.Common.{◌≤◌, length, refl, ap, subst, ◌∙◌, ari
 use Rattle.disk_model.specs.Places.{AreBytes}
 use Rattle.inspector_cli.specs.Reply.{begin_reply}
 use Rattle.inspector_cli.proofs.NameLemmas.{is_name}
+use Rattle.inspector_cli.proofs.StayLemmas.{stays_still}
 use Rattle.inspector_cli.proofs.TellLemmas.{tells_as}
 use Rattle.inspector_cli.proofs.begin.begin_stream.Goals as goal
 
@@ -15,6 +16,15 @@ begin-outcome-requires g c =
 pub returns : goal.returns
 returns g c = (
   begin_reply c.args.stream.name.items c.begin-outcome.result,
-  (c.begin-outcome.result, c.begin-outcome.ensures.step, refl, c.is_ok-is_begun.ensures.value),
+  (
+    c.begin-outcome.result,
+    record {
+      step = c.begin-outcome.ensures.step;
+      bytes = c.begin-outcome.ensures.bytes;
+      stays = stays_still g.D.Disk c.args.archive.now c.begin-outcome.new.self c.begin-outcome.ensures.disk c.begin-outcome.ensures.durable;
+    },
+    refl,
+    c.is_ok-is_begun.ensures.value,
+  ),
   tells_as _ _ _ _ _ _ _ _ (ap (λ t. begin_reply t c.begin-outcome.result) (c.as_slice-2.ensures.value ∙ (c.copied-shown.ensures.same ∙ c.as_slice.ensures.value))) c.tell_begun.ensures,
 )

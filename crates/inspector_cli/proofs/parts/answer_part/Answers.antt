@@ -1,8 +1,8 @@
 use Rattle.std.proofs.Common.{◌≡◌, length, arith, refl}
 use Rattle.std.proofs.lemmas.Result.{err_from_is_err_and}
-use Rattle.intake.specs.Parts.{bare_of}
-use Rattle.inspector_cli.specs.Reply.{plain_reply}
-use Rattle.inspector_cli.proofs.GiveLemmas.{took_as}
+use Rattle.std.specs.Prelude.{codes}
+use Rattle.inspector_cli.specs.Reply.{plain_reply, no_reply}
+use Rattle.inspector_cli.proofs.StayLemmas.{stays_still}
 use Rattle.inspector_cli.proofs.TellLemmas.{tells_nothing}
 use Rattle.inspector_cli.proofs.parts.answer_part.Goals as goal
 
@@ -19,5 +19,29 @@ returns-then-missing-eq0-clause-answers g c = λ naming.
       ends.0,
       size,
       ends.2,
-      (plain_reply c.in_ok-missing.verdict, (c.in_ok-missing.verdict, took_as (bare_of c.args.archive.now) (bare_of c.take_part.new.archive) c.args.slot (length ends.0) c.args.count c.in_ok-missing.verdict size ends.4, refl), c.tell_outcome.ensures),
+      (plain_reply c.in_ok-missing.verdict, (c.in_ok-missing.verdict, ends.4, refl), c.tell_outcome.ensures),
+    )
+
+pub returns-clause-answers : goal.returns-clause-answers
+returns-clause-answers g c = λ naming.
+    let ends = c.in_ok-missing.ensures.takes in
+    let some = c.if-missing-eq0.false in (
+      ends.0,
+      omega (arith, ends.1, some),
+      ends.2,
+      ends.3 some,
+      no_reply (codes "Truncated"),
+      (
+        c.take_part.new.archive,
+        c.in_ok-missing.verdict,
+        c.abandon.result,
+        ends.4,
+        record {
+          step = c.abandon.ensures.step;
+          bytes = c.abandon.ensures.bytes;
+          stays = stays_still g.D.Disk c.take_part.new.archive c.abandon.new.self c.abandon.ensures.disk c.abandon.ensures.durable;
+        },
+        refl,
+      ),
+      c.tell_no.ensures,
     )

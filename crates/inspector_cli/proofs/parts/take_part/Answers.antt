@@ -1,8 +1,7 @@
 use Rattle.std.proofs.Common.{◌+◌, ◌++◌, [], length, arith, refl, ◌∙◌}
 use Rattle.std.proofs.lemmas.Result.{err_from_is_err_and}
-use Rattle.intake.specs.Parts.{bare_of}
-use Rattle.inspector_cli.proofs.TakeLemmas.{took_none}
-use Rattle.inspector_cli.proofs.GiveLemmas.{gives_nothing, gives_then, gives_then_none, took_as, joined_length}
+use Rattle.inspector_cli.proofs.FeedLemmas.{fed_none}
+use Rattle.inspector_cli.proofs.GiveLemmas.{gives_nothing, gives_then, gives_then_none, joined_length}
 use Rattle.inspector_cli.proofs.parts.take_part.Goals as goal
 
 pub loop-missing-init : goal.loop-missing-init
@@ -10,7 +9,9 @@ loop-missing-init g c = record {
   raw = [];
   counted = omega arith;
   gives = gives_nothing _ _;
-  takes = took_none (bare_of c.args.archive.now) (bare_of c.advance-verdict.new.self) c.args.slot c.advance-verdict.result c.advance-verdict.ensures.step;
+  takes =
+      fed_none g.D.Disk c.args.archive.now c.advance-verdict.new.self c.args.slot c.advance-verdict.result c.advance-verdict.ensures.step c.advance-verdict.ensures.bytes
+      (record { honesty = c.advance-verdict.ensures.honesty; crash = c.advance-verdict.ensures.any_moment; durable = c.advance-verdict.ensures.durable });
   failures = refl;
 }
 
@@ -18,30 +19,30 @@ pub returns-in_err-taken-clause-takes : goal.returns-in_err-taken-clause-takes
 returns-in_err-taken-clause-takes g c =
     let p = err_from_is_err_and c.from_residual.result c.from_residual.ensures.1 in
     let so_far = c.loop-missing.invariant in
-    let ends = c.in_err-taken.ensures.takes (bare_of c.args.archive.now) (length so_far.raw) so_far.takes in
+    let ends = c.in_err-taken.ensures.takes c.args.archive.now so_far.raw so_far.takes in
     rw p.1 (so_far.raw, omega (arith, so_far.counted), gives_then_none _ _ _ _ _ _ so_far.raw so_far.gives ends.0, ends.1, c.loop-missing.verdict, ends.2)
 
 pub returns-then-taken-eq0-clause-takes : goal.returns-then-taken-eq0-clause-takes
 returns-then-taken-eq0-clause-takes g c =
     let so_far = c.loop-missing.invariant in
-    let piece = c.in_ok-taken.ensures.takes (bare_of c.args.archive.now) (length so_far.raw) so_far.takes in
+    let piece = c.in_ok-taken.ensures.takes c.args.archive.now so_far.raw so_far.takes in
     let size = joined_length so_far.raw piece.0 c.in_ok-taken.taken piece.1 in (
       so_far.raw ++ piece.0,
       omega (arith, size, so_far.counted),
       gives_then _ _ _ _ _ _ so_far.raw piece.0 so_far.gives piece.3,
       λ some. piece.4 c.if-taken-eq0.true,
-      took_as (bare_of c.args.archive.now) (bare_of c.take_piece.new.archive) c.args.slot (length so_far.raw + c.in_ok-taken.taken) (length (so_far.raw ++ piece.0)) c.in_ok-taken.answer size piece.5,
+      piece.5,
     )
 
 pub loop-missing-preserved : goal.loop-missing-preserved
 loop-missing-preserved g c =
     let so_far = c.loop-missing.invariant in
-    let piece = c.in_ok-taken.ensures.takes (bare_of c.args.archive.now) (length so_far.raw) so_far.takes in
+    let piece = c.in_ok-taken.ensures.takes c.args.archive.now so_far.raw so_far.takes in
     let size = joined_length so_far.raw piece.0 c.in_ok-taken.taken piece.1 in
     let few = piece.2 in record {
       raw = so_far.raw ++ piece.0;
       counted = omega (arith, size, few, so_far.counted);
       gives = gives_then _ _ _ _ _ _ so_far.raw piece.0 so_far.gives piece.3;
-      takes = took_as (bare_of c.args.archive.now) (bare_of c.take_piece.new.archive) c.args.slot (length so_far.raw + c.in_ok-taken.taken) (length (so_far.raw ++ piece.0)) c.in_ok-taken.answer size piece.5;
+      takes = piece.5;
       failures = c.in_ok-taken.ensures.stops ∙ so_far.failures;
     }

@@ -1,7 +1,6 @@
 use Rattle.std.proofs.Common.{◌≡◌, ℕ, ◌+◌, List, length}
-use Rattle.intake.specs.Parts.{bare_of}
 use Rattle.script_streams.specs.Reading.{Gives}
-use Rattle.inspector_cli.specs.Reply.{TakeStep}
+use Rattle.inspector_cli.specs.Reply.{Takes}
 use Rattle.inspector_cli.proofs.parts.take_part.Given as goal
 
 abbrev pub invariant-loop-missing : goal.invariant-loop-missing
@@ -9,7 +8,7 @@ invariant-loop-missing g l = record {
   raw : List ℕ;
   counted : length raw + l.missing ≡ l.fn.count;
   gives : Gives (g.I.Input.remaining l.initial.input) (g.I.Input.remaining l.input) l.initial.buffer l.buffer raw;
-  takes : TakeStep (bare_of l.fn.archive) l.slot (length raw) l.verdict (bare_of l.archive);
+  takes : Takes g.D.Disk l.fn.archive l.slot raw l.verdict l.archive;
   failures : g.I.Input.failures l.input ≡ g.I.Input.failures l.initial.input;
 }
 

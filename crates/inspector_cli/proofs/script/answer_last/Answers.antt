@@ -1,5 +1,4 @@
 use Rattle.std.proofs.Common.{subst}
-use Rattle.intake.specs.Parts.{bare_of}
 use Rattle.inspector_cli.specs.Said.{Said}
 use Rattle.inspector_cli.specs.Answering.{LastAnswers}
 use Rattle.inspector_cli.proofs.script.answer_last.Goals as goal
@@ -8,7 +7,7 @@ pub returns-in-Part : goal.returns-in-Part
 returns-in-Part g c = λ text keeps.
     subst
     (λ (w : Said).
-    LastAnswers c.args.naming.now
+    LastAnswers g.D.Disk c.args.naming.now
     (record {
       taken = g.O.Output.taken c.args.output.now;
       taken' = g.O.Output.taken c.answer_cut.new.output;
@@ -17,5 +16,5 @@ returns-in-Part g c = λ text keeps.
       reply = c.args.reply.now;
       reply' = c.answer_cut.new.reply;
     })
-    (bare_of c.args.archive.now) w (bare_of c.answer_cut.new.archive))
+    c.args.archive.now w c.answer_cut.new.archive)
     (c.in-Part.ensures text keeps) (c.answer_cut.ensures c.args.naming.now)

@@ -1,5 +1,4 @@
 use Rattle.std.proofs.Common.{subst}
-use Rattle.intake.specs.Parts.{bare_of}
 use Rattle.inspector_cli.specs.Said.{Said, said}
 use Rattle.inspector_cli.specs.Answering.{PartAnswers}
 use Rattle.inspector_cli.proofs.LineLemmas.{plain_answers}
@@ -9,7 +8,7 @@ pub returns-in-Part-clause-answers : goal.returns-in-Part-clause-answers
 returns-in-Part-clause-answers g c = λ text keeps.
     subst
     (λ (w : Said).
-    PartAnswers c.args.naming.now
+    PartAnswers g.D.Disk c.args.naming.now
     (record {
       before = g.I.Input.remaining c.args.input.now;
       after = g.I.Input.remaining c.answer_part.new.input;
@@ -24,10 +23,10 @@ returns-in-Part-clause-answers g c = λ text keeps.
       reply = c.args.reply.now;
       reply' = c.answer_part.new.reply;
     })
-    (bare_of c.args.archive.now) w (bare_of c.answer_part.new.archive) c.answer_part.result)
+    c.args.archive.now w c.answer_part.new.archive c.answer_part.result)
     (c.in-Part.ensures text keeps) (c.answer_part.ensures.answers c.args.naming.now)
 
 pub returns-in-Plain-clause-answers : goal.returns-in-Plain-clause-answers
 returns-in-Plain-clause-answers g c = λ text keeps.
-    plain_answers c.args.naming.now (g.I.Input.remaining c.args.input.now) c.args.buffer.now _ (bare_of c.args.archive.now) (bare_of c.answer_plain.new.archive) c.in-Plain.request (said text)
+    plain_answers g.D.Disk c.args.naming.now (g.I.Input.remaining c.args.input.now) c.args.buffer.now _ c.args.archive.now c.answer_plain.new.archive c.in-Plain.request (said text)
     (c.in-Plain.ensures text keeps) c.answer_plain.ensures

@@ -1,13 +1,14 @@
-use Rattle.std.proofs.Common.{◌≡◌, ◌+◌, cond}
-use Rattle.intake.specs.Parts.{bare_of}
+use Rattle.std.proofs.Common.{◌≡◌, ◌+◌, cond, List}
+use Rattle.intake.specs.Durable.{Durable}
 use Rattle.script_streams.specs.Reading.{steps_left}
 use Rattle.inspector_cli.proofs.RunLemmas.{Along}
+use Rattle.inspector_cli.proofs.StageLemmas.{stage_of}
 use Rattle.inspector_cli.proofs.script.answer_script.Given as goal
 
 abbrev pub invariant-loop-goes_on : goal.invariant-loop-goes_on
 invariant-loop-goes_on g l = record {
   along :
-      Along l.naming
+      (before : List Durable) → Along g.D.Disk l.naming
       (record { before = g.I.Input.remaining l.initial.input; after = g.I.Input.remaining l.input; buffer = l.initial.buffer; buffer' = l.buffer })
       (record {
         taken = g.O.Output.taken l.initial.output;
@@ -17,7 +18,7 @@ invariant-loop-goes_on g l = record {
         reply = l.initial.reply;
         reply' = l.reply;
       })
-      (bare_of l.initial.archive) (bare_of l.archive) l.goes_on;
+      (stage_of l.initial.archive before) l.archive l.goes_on;
   failures : g.I.Input.failures l.input ≡ g.I.Input.failures l.initial.input;
 }
 
