@@ -43,7 +43,7 @@ doubts_told T (Ok x) reply P more is all = inl refl
 doubts_told T (Err fault.Disk) reply P more is all = inr (is refl, all)
 doubts_told T (Err _) reply P more is all = inl refl
 
-begins_stays : {D : Type 0} (g : disk.Ghosts D) (old new : Parts D) (slot : ℕ) (found : Result BareStream (List ℕ)) (reply : List ℕ) (accepted : Bool) → Begins g old slot found reply new accepted → Stays g old new
+pub begins_stays : {D : Type 0} (g : disk.Ghosts D) (old new : Parts D) (slot : ℕ) (found : Result BareStream (List ℕ)) (reply : List ℕ) (accepted : Bool) → Begins g old slot found reply new accepted → Stays g old new
 begins_stays g old new slot (Ok s) reply accepted begins = begins.1.stays
 begins_stays g old new slot (Err reason) reply accepted begins = stays_as g old new begins.1
 

@@ -1,31 +1,35 @@
 -- One stream that is stored from its own input.
 use Rattle.std.proofs.Common.{◌≡◌, inl, inr, ⊎_elim, ℕ, zero, suc, ◌+◌, ◌<◌, ◌≤◌, Bool, true, false, List, [], ◌∷◌, ◌++◌, length, Option, Some, None, Result, Ok, Err, is_ok, refl, sym, ap, subst, ◌∙◌, arith, length-append}
-use Rattle.std.proofs.lemmas.List.{append-nil}
+use Rattle.std.proofs.lemmas.List.{append-nil, length-map}
 use Rattle.std.proofs.KnownBytes.{Consumes-trans}
 use Rattle.std.specs.Io.KnownBytes.{Consumes}
 use Rattle.std.proofs.lemmas.Bool.{cases_Bool, true≢false, false≢true}
-use Rattle.std.specs.Prelude.{slice_set, codes, ◌==◌, if◌then◌else◌}
+use Rattle.std.specs.Prelude.{slice_set, option_map, codes, ◌==◌, if◌then◌else◌}
 use Rattle.intake.specs.declared.faults.ArchiveFault.{ArchiveFault}
 use Rattle.intake.specs.Slots.{stream_at}
 use Rattle.intake.specs.State.{Bare, BareStream}
-use Rattle.intake.specs.Parts.{Parts, bare_of}
-use Rattle.intake.specs.Room.{room_left, FitsFree}
-use Rattle.intake.specs.Step.{BeginStep, AbandonStep, AdvanceStep, with_stream, longer}
+use Rattle.disk_model.specs.declared.disk.Disk as disk
+use Rattle.intake.specs.Calls.{Stays, BeginCall, AbandonCall}
+use Rattle.intake.specs.Contents.{Contents, Taken, BeginBytes, empty_taken, zero_block}
+use Rattle.intake.specs.Durable.{Durable}
+use Rattle.intake.specs.Marks.{FoundAfterAStop}
+use Rattle.intake.specs.Parts.{Parts, bare_of, bare_stream, contents_of, taken_in}
+use Rattle.intake.specs.Step.{BeginStep, AbandonStep, with_stream, longer}
 use Rattle.script_streams.specs.Streams.{Rose}
 use Rattle.script_streams.specs.Telling.{Told, IsDelivered}
 use Rattle.script_streams.specs.declared.reply.Reply.{Reply}
 use Rattle.script_streams.specs.declared.streams.StreamFault.{StreamFault}
 use Rattle.inspector_cli.specs.declared.session.Naming.{Naming}
 use Rattle.inspector_cli.specs.Said.{Said, ProcessSaid, silence, bad_line, long_line, begin_exec, begin_core, part_of, end_of, drop_of, delete_of, pin_of, retire_by, list_all_cases, count_free, said}
-use Rattle.inspector_cli.specs.Reply.{Begins, TakeStep, exec_unless, exec_stream, core_unless, core_stream, name_fault, core_name}
+use Rattle.inspector_cli.specs.Reply.{Begins, TakeStep, TakeBytes, Takes, exec_unless, exec_stream, core_unless, core_stream, name_fault, core_name}
 use Rattle.inspector_cli.specs.declared.session.SessionFault.TheVariants.{WriteFailed}
 use Rattle.inspector_cli.specs.declared.store.TakeStop.{TakeStop}
 use Rattle.inspector_cli.specs.declared.store.TakeStop.TheVariants.{File, Refused}
 use Rattle.inspector_cli.specs.Answering.{Telling, TellsReply}
-use Rattle.inspector_cli.specs.Storing.{first_stream, TakesFile, TakesMore, RestReplies, Stores, StoreEnds, IsSlotQuiet}
-use Rattle.inspector_cli.proofs.GiveLemmas.{took_as}
-use Rattle.inspector_cli.proofs.TakeLemmas.{took_piece}
-use Rattle.inspector_cli.proofs.RoomLemmas.{same_bare, still_fits, fits_bare}
+use Rattle.inspector_cli.specs.Stages.{Stage, Moves, mark_at, marks_of}
+use Rattle.inspector_cli.specs.Storing.{first_stream, TakesFile, TakesMore, FileReplies, RestReplies, Stores, StoreStages, StoreEnds, IsSlotQuiet}
+use Rattle.inspector_cli.proofs.StayLemmas.{stays_none, stays_as, stays_then}
+use Rattle.inspector_cli.proofs.StageLemmas.{Laws, Reaches, stage_of, line_moves, still, begins_stays}
 use Rattle.inspector_cli.proofs.TellLemmas.{tells_then}
 use Rattle.inspector_cli.proofs.SlotLemmas.{set_again}
 use Rattle.inspector_cli.proofs.CloseLemmas.{IsQuietBelow, quiet_after}
@@ -84,16 +88,42 @@ fresh_takes old slot s none runs there = (
       (sym (set_again old.streams slot (Some s) (Some (longer s 0)) ∙ ap (λ (n : ℕ). slice_set old.streams slot (Some (record s { len = n }))) (omega arith))),
 )
 
-ok_takes : (old new : Bare) (slot : ℕ) (s : BareStream) (r : Result (Unit {0}) ArchiveFault) → s.len ≡ 0 → BeginStep old slot s r new → true ≡ is_ok r
-    → TakeStep new slot 0 (Ok tt) new
-ok_takes old new slot s (Ok u) none step is =
-    subst (λ (b : Bare). TakeStep b slot 0 (Ok tt) b) (sym step.1) (fresh_takes old slot s none step.0.0 step.0.1)
-ok_takes old new slot s (Err fault) none step is = absurd (true≢false is)
+begun_step : (old new : Bare) (slot : ℕ) (s : BareStream) → s.len ≡ 0 → BeginStep old slot s (Ok tt) new → TakeStep new slot 0 (Ok tt) new
+begun_step old new slot s none step = subst (λ (b : Bare). TakeStep b slot 0 (Ok tt) b) (sym step.1) (fresh_takes old slot s none step.0.0 step.0.1)
 
-pub begun_takes : (old new : Bare) (slot : ℕ) (found : Result BareStream (List ℕ)) (text : List ℕ) (accepted : Bool) → IsFresh found
-    → Begins old slot found text new accepted → accepted ≡ true → TakeStep new slot 0 (Ok tt) new
-begun_takes old new slot (Ok s) text accepted none begins is = ok_takes old new slot s begins.0 none begins.1 (sym is ∙ begins.3)
-begun_takes old new slot (Err reason) text accepted none begins is = absurd (true≢false (sym is ∙ begins.2))
+-- what stands in a slot has taken what it has
+at_again : {X : Type 0} (xs : List (Option X)) (slot : ℕ) (x : X) → stream_at xs slot ≡ Some x → slice_set xs slot (Some x) ≡ xs
+at_again [] slot x is = refl
+at_again (y ∷ ys) zero x is = ap (λ (o : Option _). o ∷ ys) (sym is)
+at_again (y ∷ ys) (suc slot) x is = ap (λ zs. y ∷ zs) (at_again ys slot x is)
+
+module _ {D : Type 0} (g : disk.Ghosts D) (old new : Parts D) (slot : ℕ) where
+  begun_bytes : slot < length (bare_of old).streams → BeginBytes (contents_of g.seen old) slot (Ok tt) (contents_of g.seen new)
+      → TakeBytes (contents_of g.seen new) slot [] (Ok tt) (contents_of g.seen new)
+  begun_bytes there bytes =
+      let here : stream_at (contents_of g.seen new).taken slot ≡ Some empty_taken =
+      ap (λ (c : Contents). stream_at c.taken slot) bytes
+      ∙ set_there (contents_of g.seen old).taken slot (Some empty_taken) (there_too there) in
+      (empty_taken, zero_block, here, ap (λ (l : List (Option Taken)). record (contents_of g.seen new) { taken = l }) (sym (at_again (contents_of g.seen new).taken slot empty_taken here)))
+    where
+      there_too : slot < length (bare_of old).streams → slot < length (contents_of g.seen old).taken
+      there_too below =
+          let a = length-map old.streams (option_map bare_stream) in
+          let b = length-map old.streams (option_map (taken_in old.journal (g.seen old.disk))) in
+          omega (arith, a, b, below)
+
+  ok_takes : (s : BareStream) (r : Result (Unit {0}) ArchiveFault) → s.len ≡ 0 → BeginCall g old slot s r new → true ≡ is_ok r → Takes g new slot [] (Ok tt) new
+  ok_takes s (Ok u) none call is = record {
+    step = begun_step (bare_of old) (bare_of new) slot s none call.step;
+    bytes = λ honest. begun_bytes call.step.0.1 call.bytes;
+    stays = stays_none g new;
+  }
+  ok_takes s (Err fault) none call is = absurd (true≢false is)
+
+  pub begun_takes : (found : Result BareStream (List ℕ)) (text : List ℕ) (accepted : Bool) → IsFresh found
+      → Begins g old slot found text new accepted → accepted ≡ true → Takes g new slot [] (Ok tt) new
+  begun_takes (Ok s) text accepted none begins is = ok_takes s begins.0 none begins.1 (sym is ∙ begins.3)
+  begun_takes (Err reason) text accepted none begins is = absurd (true≢false (sym is ∙ begins.2))
 
 -- a stream that is dropped, or is not there, leaves its slot free
 quiet_slot : (s : Bare) → IsQuietBelow 1 s → IsSlotQuiet s
@@ -102,95 +132,123 @@ quiet_slot s quiet = ⊎_elim (λ stopped. inl stopped) (λ none. inr (none 0 (o
 pub dropped_quiet : (old new : Bare) (r : Result (Unit {0}) ArchiveFault) → AbandonStep old 0 r new → IsSlotQuiet new
 dropped_quiet old new r step = quiet_slot new (quiet_after old new r step)
 
--- the bytes that were read into the room of the stream are taken
-pub took_room : {D : Type 0} (a : Parts D) (begun new : Bare) (so_far n m : ℕ) (raw : List ℕ) (lent r : Result (Unit {0}) ArchiveFault) (ws : List ℕ) → length raw ≡ n → n ≤ m
-    → FitsFree (stream_at a.streams 0) m → TakeStep begun 0 so_far (Ok tt) (bare_of a) → AdvanceStep (bare_of (room_left a 0 lent ws)) 0 n r new
-    → TakeStep begun 0 (so_far + length raw) r new
-took_room a begun new so_far n m raw lent r ws size few fits step advance =
-    took_as begun new 0 (so_far + n) (so_far + length raw) r (ap (λ (k : ℕ). so_far + k) (sym size))
-    (took_piece begun (bare_of (room_left a 0 lent ws)) new 0 so_far n tt r
-    (subst (λ (x : Bare). TakeStep begun 0 so_far (Ok tt) x) (sym (same_bare a 0 lent ws)) step)
-    (fits_bare (room_left a 0 lent ws) 0 n (still_fits a 0 lent ws n m few fits))
-    advance)
-
 -- so many reads each gave a byte, and the bytes are taken
-abbrev pub FileAlong : Option (List ℕ) → Option (List ℕ) → ℕ → ℕ → Bare → ℕ → Bare → Type 0
-FileAlong file file' fails fails' old reads new =
-    (raw : List ℕ) × Consumes file file' raw × (reads ≤ length raw) × (fails' ≡ fails) × TakeStep old 0 (length raw) (Ok tt) new
+abbrev pub FileAlong : {D : Type 0} → disk.Ghosts D → Option (List ℕ) → Option (List ℕ) → ℕ → ℕ → Parts D → ℕ → Parts D → Type 0
+FileAlong g file file' fails fails' old reads new =
+    (raw : List ℕ) × Consumes file file' raw × (reads ≤ length raw) × (fails' ≡ fails) × Takes g old 0 raw (Ok tt) new
 
 consumes_none : (a b c : Option (List ℕ)) (raw : List ℕ) → Consumes a b raw → Consumes b c [] → Consumes a c raw
 consumes_none a b c raw p q = subst (Consumes a c) (append-nil raw) (Consumes-trans a b c raw [] p q)
 
-module _ (file mid file' : Option (List ℕ)) (fails fails' fails'' : ℕ) (old now new : Bare) (reads : ℕ) (so_far : FileAlong file mid fails fails' old reads now) where
-  pub file_went_on : (goes_on : Bool) → goes_on ≡ true → TakesMore mid file' fails' fails'' old (length so_far.0) new (Ok goes_on)
-      → FileAlong file file' fails fails'' old (reads + 1) new
+module _ {D : Type 0} (g : disk.Ghosts D) (file mid file' : Option (List ℕ)) (fails fails' fails'' : ℕ) (old now new : Parts D) (reads : ℕ) (so_far : FileAlong g file mid fails fails' old reads now) where
+  pub file_went_on : (goes_on : Bool) → goes_on ≡ true → TakesMore g mid file' fails' fails'' old so_far.0 new (Ok goes_on)
+      → FileAlong g file file' fails fails'' old (reads + 1) new
   file_went_on true is more =
       let size = length-append so_far.0 more.0 in
       let count = so_far.2 in
-      let some = more.2 in (
-        so_far.0 ++ more.0,
-        Consumes-trans file mid file' so_far.0 more.0 so_far.1 more.1,
-        omega (arith, count, some, size),
-        more.3 ∙ so_far.3,
-        took_as old new 0 (length so_far.0 + length more.0) (length (so_far.0 ++ more.0)) (Ok tt) (sym size) more.4,
-      )
+      let some = more.2 in
+      (so_far.0 ++ more.0, Consumes-trans file mid file' so_far.0 more.0 so_far.1 more.1, omega (arith, count, some, size), more.3 ∙ so_far.3, more.4)
   file_went_on false is more = absurd (false≢true is)
 
-  pub file_ended : (goes_on : Bool) → goes_on ≡ false → TakesMore mid file' fails' fails'' old (length so_far.0) new (Ok goes_on)
-      → TakesFile file file' fails fails'' old new (Ok tt)
+  pub file_ended : (goes_on : Bool) → goes_on ≡ false → TakesMore g mid file' fails' fails'' old so_far.0 new (Ok goes_on)
+      → TakesFile g file file' fails fails'' old new (Ok tt)
   file_ended true is more = absurd (true≢false is)
   file_ended false is more = (so_far.0, consumes_none file mid file' so_far.0 so_far.1 more.0, more.1, more.3)
 
-  pub file_stopped : (stop : TakeStop) → TakesMore mid file' fails' fails'' old (length so_far.0) new (Err stop)
-      → TakesFile file file' fails fails'' old new (Err stop)
+  pub file_stopped : (stop : TakeStop) → TakesMore g mid file' fails' fails'' old so_far.0 new (Err stop)
+      → TakesFile g file file' fails fails'' old new (Err stop)
   file_stopped File more =
       (so_far.0, consumes_none file mid file' so_far.0 so_far.1 more.0, inl (subst (λ (n : ℕ). Rose n fails'') so_far.3 more.1), more.2)
-  file_stopped (Refused fault) more = (
-    so_far.0 ++ more.0,
-    Consumes-trans file mid file' so_far.0 more.0 so_far.1 more.1,
-    took_as old new 0 (length so_far.0 + length more.0) (length (so_far.0 ++ more.0)) (Err fault) (sym (length-append so_far.0 more.0)) more.3,
+  file_stopped (Refused fault) more =
+      (so_far.0 ++ more.0, Consumes-trans file mid file' so_far.0 more.0 so_far.1 more.1, more.3)
+
+module _ {D : Type 0} (g : disk.Ghosts D) where
+  -- a first line and what stands behind it
+  pub stores : (naming : Naming) (file file' : Option (List ℕ)) (fails fails' : ℕ) (o p q : Option (List ℕ)) (f i h : ℕ) (u v w : Reply) (old mid new : Parts D) (line : List ℕ) (stored : Bool)
+      → TellsReply (record { taken = o; taken' = p; failures = f; failures' = i; reply = u; reply' = v }) (λ text. Begins g old 0 (first_stream naming (said line)) text mid true)
+      → TellsReply (record { taken = p; taken' = q; failures = i; failures' = h; reply = v; reply' = w }) (λ text. (filled : Parts D) × RestReplies g file file' fails fails' mid true filled text new stored)
+      → TellsReply (record { taken = o; taken' = q; failures = f; failures' = h; reply = u; reply' = w }) (λ text. Stores g naming file file' fails fails' old line text new stored)
+  stores naming file file' fails fails' o p q f i h u v w old mid new line stored first rest = (
+    first.0 ++ rest.0,
+    record { first = first.0; mid = mid; accepted = true; begins = first.1; filled = rest.1.0; rest = rest.0; goes_on = rest.1.1; text = refl },
+    tells_then o p q f i h u v w first.0 rest.0 first.2 rest.2,
   )
 
--- a first line and what stands behind it
-pub stores : (naming : Naming) (file file' : Option (List ℕ)) (fails fails' : ℕ) (o p q : Option (List ℕ)) (f g h : ℕ) (u v w : Reply) (old mid new : Bare) (line : List ℕ) (stored : Bool)
-    → TellsReply (record { taken = o; taken' = p; failures = f; failures' = g; reply = u; reply' = v }) (λ text. Begins old 0 (first_stream naming (said line)) text mid true)
-    → TellsReply (record { taken = p; taken' = q; failures = g; failures' = h; reply = v; reply' = w }) (λ text. RestReplies file file' fails fails' mid true text new stored)
-    → TellsReply (record { taken = o; taken' = q; failures = f; failures' = h; reply = u; reply' = w }) (λ text. Stores naming file file' fails fails' old line text new stored)
-stores naming file file' fails fails' o p q f g h u v w old mid new line stored first rest = (
-  first.0 ++ rest.0,
-  record { first = first.0; mid = mid; accepted = true; begins = first.1; rest = rest.0; goes_on = rest.1; text = refl },
-  tells_then o p q f g h u v w first.0 rest.0 first.2 rest.2,
-)
+  pub stores_none : (naming : Naming) (file : Option (List ℕ)) (fails : ℕ) (t : Telling) (old new : Parts D) (line : List ℕ)
+      → TellsReply t (λ text. Begins g old 0 (first_stream naming (said line)) text new false)
+      → TellsReply t (λ text. Stores g naming file file fails fails old line text new false)
+  stores_none naming file fails t old new line first = (
+    first.0,
+    record {
+      first = first.0;
+      mid = new;
+      accepted = false;
+      begins = first.1;
+      filled = new;
+      rest = [];
+      goes_on = (refl, refl, refl, refl, refl, refl);
+      text = sym (append-nil first.0);
+    },
+    first.2,
+  )
 
-pub stores_none : (naming : Naming) (file : Option (List ℕ)) (fails : ℕ) (t : Telling) (old new : Bare) (line : List ℕ)
-    → TellsReply t (λ text. Begins old 0 (first_stream naming (said line)) text new false)
-    → TellsReply t (λ text. Stores naming file file fails fails old line text new false)
-stores_none naming file fails t old new line first = (
-  first.0,
-  record {
-    first = first.0;
-    mid = new;
-    accepted = false;
-    begins = first.1;
-    rest = [];
-    goes_on = (refl, refl, refl, refl, refl);
-    text = sym (append-nil first.0);
-  },
-  first.2,
-)
+  file_stays : (file file' : Option (List ℕ)) (fails fails' : ℕ) (old new : Parts D) (r : Result (Unit {0}) TakeStop) → TakesFile g file file' fails fails' old new r → Stays g old new
+  file_stays file file' fails fails' old new (Ok u) takes = takes.3.stays
+  file_stays file file' fails fails' old new (Err File) takes = takes.3.stays
+  file_stays file file' fails fails' old new (Err (Refused fault)) takes = takes.2.stays
+
+  module _ (laws : Laws g) (naming : Naming) (old : Stage D) (new : Parts D) where
+    -- the end of a stream, or why it has none
+    end_reaches : (r : Result (Unit {0}) TakeStop) (reply : List ℕ) (stored : Bool) → FileReplies g old.archive r reply new stored → Reaches g laws old new (end_of 0) reply
+    end_reaches (Ok u) reply stored ends = line_moves g laws old new naming (end_of 0) [] reply (stored, ends)
+    end_reaches (Err File) reply stored ends = still g laws old new (end_of 0) reply (stays_as g old.archive new ends.1)
+    end_reaches (Err (Refused fault)) reply stored ends = still g laws old new (end_of 0) reply (stays_as g old.archive new ends.1)
+
+  rest_moves : (laws : Laws g) (naming : Naming) (file file' : Option (List ℕ)) (fails fails' : ℕ) (old : Stage D) (mid filled new : Parts D) (accepted : Bool) (rest : List ℕ) (stored : Bool) → Stays g old.archive mid
+      → RestReplies g file file' fails fails' mid accepted filled rest new stored → Stays g old.archive filled × Reaches g laws (stage_of filled old.in_doubt) new (end_of 0) rest
+  rest_moves laws naming file file' fails fails' old mid filled new true rest stored begun goes = (
+    stays_then g old.archive mid filled begun (file_stays file file' fails fails' mid filled goes.0 goes.1),
+    end_reaches laws naming (stage_of filled old.in_doubt) new goes.0 rest stored goes.2,
+  )
+  rest_moves laws naming file file' fails fails' old mid filled new false rest stored begun goes = (
+    stays_then g old.archive mid filled begun (stays_as g mid filled goes.2),
+    still g laws (stage_of filled old.in_doubt) new (end_of 0) rest (stays_as g filled new (goes.4 ∙ sym goes.2)),
+  )
+
+  pub stages_of : (laws : Laws g) → FoundAfterAStop g → (naming : Naming) (file file' : Option (List ℕ)) (fails fails' : ℕ) (old : Stage D) (line replies : List ℕ) (end : Parts D) (stored : Bool) (new : Parts D)
+      → (s : Stores g naming file file' fails fails' old.archive line replies end stored) → Stays g end new
+      → (more : List Durable) × StoreStages g old s.filled s.rest (stage_of end (more ++ old.in_doubt)) new
+  stages_of laws found naming file file' fails fails' old line replies end stored new s closes =
+      let m =
+      rest_moves laws naming file file' fails fails' old s.mid s.filled end s.accepted s.rest stored
+      (begins_stays g old.archive s.mid 0 (first_stream naming (said line)) s.first s.accepted s.begins) s.goes_on in (
+        m.1.0,
+        record {
+          takes = m.0;
+          moves = m.1.1;
+          found = λ honest settled.
+              found (mark_at g.seen old) (marks_of g.seen (stage_of s.filled old.in_doubt ∷ []) (stage_of end (m.1.0 ++ old.in_doubt)) new) honest settled
+              (laws.stays old.archive s.filled old.in_doubt m.0, (m.1.1.passes, (laws.stays end new (m.1.0 ++ old.in_doubt) closes, tt)));
+        },
+      )
 
 -- what was told is written, or a front of it
-module _ (naming : Naming) (file file' : Option (List ℕ)) (fails fails' : ℕ) (o p q : Option (List ℕ)) (f g h : ℕ) (u v : Reply) (old end new : Bare) (line : List ℕ) (stored : Bool)
+module _ {D : Type 0} (g : disk.Ghosts D) (laws : Laws g) (law : FoundAfterAStop g) (naming : Naming) (file file' : Option (List ℕ)) (fails fails' : ℕ) (o p q : Option (List ℕ)) (f i h : ℕ) (u v : Reply)
+    (old : Stage D) (end new : Parts D) (line : List ℕ) (stored : Bool)
     (dropped : Result (Unit {0}) ArchiveFault) (begun : Told o f o f u [])
-    (told : TellsReply (record { taken = o; taken' = p; failures = f; failures' = g; reply = u; reply' = v }) (λ text. Stores naming file file' fails fails' old line text end stored))
-    (drops : AbandonStep end 0 dropped new) where
+    (told : TellsReply (record { taken = o; taken' = p; failures = f; failures' = i; reply = u; reply' = v }) (λ text. Stores g naming file file' fails fails' old.archive line text end stored))
+    (drops : AbandonCall g end 0 dropped new) where
   abbrev pub WritesOut : Result (Unit {0}) StreamFault → Type 0
-  WritesOut r = (start : Option (List ℕ)) (count : ℕ) (text : List ℕ) → Told start count p g v text → IsDelivered start count q h text r
+  WritesOut r = (start : Option (List ℕ)) (count : ℕ) (text : List ℕ) → Told start count p i v text → IsDelivered start count q h text r
 
-  pub store_written : (s : Unit {0}) → WritesOut (Ok s) → StoreEnds naming file file' fails fails' o q f h old line new (Ok stored)
-  store_written s d = (told.0, end, dropped, told.1, drops, d o f told.0 (told.2 o f [] begun))
+  pub store_written : (s : Unit {0}) → WritesOut (Ok s) → StoreEnds g naming file file' fails fails' o q f h old line new (Ok stored)
+  store_written s d =
+      let stages = stages_of g laws law naming file file' fails fails' old line told.0 end stored new told.1 drops.stays in
+      (told.0, stage_of end (stages.0 ++ old.in_doubt), dropped, told.1, drops, d o f told.0 (told.2 o f [] begun), stages.1)
 
-  pub store_failed : (fault : StreamFault) → WritesOut (Err fault) → StoreEnds naming file file' fails fails' o q f h old line new (Err WriteFailed)
+  pub store_failed : (fault : StreamFault) → WritesOut (Err fault) → StoreEnds g naming file file' fails fails' o q f h old line new (Err WriteFailed)
   store_failed fault d =
       let t = d o f told.0 (told.2 o f [] begun) in
-      (t.0, t.1, end, stored, dropped, subst (λ (text : List ℕ). Stores naming file file' fails fails' old line text end stored) (sym t.2) told.1, drops, t.3, t.4)
+      let same = subst (λ (text : List ℕ). Stores g naming file file' fails fails' old.archive line text end stored) (sym t.2) told.1 in
+      let stages = stages_of g laws law naming file file' fails fails' old line (t.0 ++ t.1) end stored new same drops.stays in
+      (t.0, t.1, stage_of end (stages.0 ++ old.in_doubt), stored, dropped, same, drops, t.3, t.4, stages.1)

@@ -1,9 +1,9 @@
 -- One stream that is stored from its own input.
-use Rattle.std.specs.Prelude.{◌≡◌, ◌⊎◌, ℕ, ◌+◌, ◌^◌, ◌<◌, ◌≤◌, ◌==◌, Bool, true, false, List, [], ◌++◌, length, Option, None, Result, Ok, Err, codes, if◌then◌else◌}
+use Rattle.std.specs.Prelude.{◌≡◌, ◌⊎◌, ℕ, ◌+◌, ◌^◌, ◌<◌, ◌≤◌, ◌==◌, Bool, true, false, List, [], ◌∷◌, ◌++◌, length, Option, None, Result, Ok, Err, codes, if◌then◌else◌}
 use Rattle.std.specs.Io.KnownBytes.{Consumes, Appends, IsAtEnd}
 use Rattle.intake.specs.declared.faults.ArchiveFault.{ArchiveFault}
 use Rattle.disk_model.specs.declared.disk.Disk as disk
-use Rattle.intake.specs.Calls.{AbandonCall}
+use Rattle.intake.specs.Calls.{Stays, AbandonCall}
 use Rattle.intake.specs.Parts.{Parts}
 use Rattle.intake.specs.Slots.{stream_at}
 use Rattle.intake.specs.State.{Bare, BareStream}
@@ -13,7 +13,8 @@ use Rattle.inspector_cli.specs.declared.session.SessionFault.{SessionFault}
 use Rattle.inspector_cli.specs.declared.session.SessionFault.TheVariants.{ReadFailed, WriteFailed, TooManyReads}
 use Rattle.inspector_cli.specs.declared.store.TakeStop.{TakeStop}
 use Rattle.inspector_cli.specs.declared.store.TakeStop.TheVariants.{File, Refused}
-use Rattle.inspector_cli.specs.Said.{Said, begin_exec, begin_core, long_line, said}
+use Rattle.inspector_cli.specs.Said.{Said, begin_exec, begin_core, end_of, long_line, said}
+use Rattle.inspector_cli.specs.Stages.{Stage, Moves, IsFoundAfterAStop}
 use Rattle.inspector_cli.specs.Reply.{Begins, Ends, Takes, exec_stream, core_stream, no_reply, reason_of}
 
 -- What the first line begins, or why it begins nothing: it begins a stream in slot 0. Any other line is none that is known.
@@ -50,12 +51,13 @@ FileReplies g old (Ok u) reply new stored = Ends g old 0 reply new stored
 FileReplies g old (Err File) reply new stored = (reply ≡ no_reply (codes "File")) × (new ≡ old) × (stored ≡ false)
 FileReplies g old (Err (Refused fault)) reply new stored = (reply ≡ no_reply (reason_of fault)) × (new ≡ old) × (stored ≡ false)
 
--- a file behind a first line that was accepted or not: where it was not, none of it is read
-abbrev pub RestReplies : {D : Type 0} → disk.Ghosts D → Option (List ℕ) → Option (List ℕ) → ℕ → ℕ → Parts D → Bool → List ℕ → Parts D → Bool → Type 0
-RestReplies {D} g file file' fails fails' old true reply new stored =
-    (taken : Result (Unit {0}) TakeStop) × (mid : Parts D) × TakesFile g file file' fails fails' old mid taken × FileReplies g mid taken reply new stored
-RestReplies g file file' fails fails' old false reply new stored =
-    (file' ≡ file) × (fails' ≡ fails) × (reply ≡ []) × (new ≡ old) × (stored ≡ false)
+-- a file behind a first line that was accepted or not, with the archive when its bytes are taken: where the line was not
+-- accepted, none is read
+abbrev pub RestReplies : {D : Type 0} → disk.Ghosts D → Option (List ℕ) → Option (List ℕ) → ℕ → ℕ → Parts D → Bool → Parts D → List ℕ → Parts D → Bool → Type 0
+RestReplies g file file' fails fails' old true filled reply new stored =
+    (taken : Result (Unit {0}) TakeStop) × TakesFile g file file' fails fails' old filled taken × FileReplies g filled taken reply new stored
+RestReplies g file file' fails fails' old false filled reply new stored =
+    (file' ≡ file) × (fails' ≡ fails) × (filled ≡ old) × (reply ≡ []) × (new ≡ old) × (stored ≡ false)
 
 -- a line and its file: the replies, and whether the case is stored
 pub record Stores {D : Type 0} (g : disk.Ghosts D) (naming : Naming) (file file' : Option (List ℕ)) (fails fails' : ℕ) (old : Parts D) (line : List ℕ)
@@ -64,22 +66,32 @@ pub record Stores {D : Type 0} (g : disk.Ghosts D) (naming : Naming) (file file'
   pub mid : Parts D
   pub accepted : Bool
   pub begins : Begins g old 0 (first_stream naming (said line)) first mid accepted
+  -- when the file's bytes are taken
+  pub filled : Parts D
   pub rest : List ℕ
-  pub goes_on : RestReplies g file file' fails fails' mid accepted rest new stored
+  pub goes_on : RestReplies g file file' fails fails' mid accepted filled rest new stored
   pub text : replies ≡ first ++ rest
 
 -- no stream is open in slot 0, or the archive is stopped
 abbrev pub IsSlotQuiet : Bare → Type 0
 IsSlotQuiet s = (s.stopped ≡ true) ⊎ (stream_at s.streams 0 ≡ None)
 
+-- What a stop leaves of it: the line and the file's bytes change no case, and so only the end of the stream does.
+pub record StoreStages {D : Type 0} (g : disk.Ghosts D) (old : Stage D) (filled : Parts D) (reply : List ℕ) (end : Stage D) (new : Parts D) : Type 0 where
+  pub takes : Stays g old.archive filled
+  pub moves : Moves g (record { archive = filled; in_doubt = old.in_doubt }) (end_of 0) reply end
+  pub found : IsFoundAfterAStop g old (record { archive = filled; in_doubt = old.in_doubt } ∷ []) end new
+
 -- Whether the case is stored, and the replies were written; or the output failed, and has a front of them. A stream that
--- is left in slot 0 is dropped.
-abbrev pub StoreEnds : {D : Type 0} → disk.Ghosts D → Naming → Option (List ℕ) → Option (List ℕ) → ℕ → ℕ → Option (List ℕ) → Option (List ℕ) → ℕ → ℕ → Parts D → List ℕ → Parts D → Result Bool SessionFault → Type 0
+-- is left in slot 0 is dropped. In each case what is found after a stop is told by the stages.
+abbrev pub StoreEnds : {D : Type 0} → disk.Ghosts D → Naming → Option (List ℕ) → Option (List ℕ) → ℕ → ℕ → Option (List ℕ) → Option (List ℕ) → ℕ → ℕ → Stage D → List ℕ → Parts D → Result Bool SessionFault → Type 0
 StoreEnds {D} g naming file file' fails fails' taken taken' lost lost' old line new (Ok stored) =
-    (replies : List ℕ) × (end : Parts D) × (dropped : Result (Unit {0}) ArchiveFault)
-    × Stores g naming file file' fails fails' old line replies end stored × AbandonCall g end 0 dropped new × Appends taken taken' replies
+    (replies : List ℕ) × (end : Stage D) × (dropped : Result (Unit {0}) ArchiveFault)
+    × (s : Stores g naming file file' fails fails' old.archive line replies end.archive stored) × AbandonCall g end.archive 0 dropped new × Appends taken taken' replies
+    × StoreStages g old s.filled s.rest end new
 StoreEnds {D} g naming file file' fails fails' taken taken' lost lost' old line new (Err WriteFailed) =
-    (out : List ℕ) × (rest : List ℕ) × (end : Parts D) × (stored : Bool) × (dropped : Result (Unit {0}) ArchiveFault)
-    × Stores g naming file file' fails fails' old line (out ++ rest) end stored × AbandonCall g end 0 dropped new × Appends taken taken' out × Rose lost lost'
+    (out : List ℕ) × (rest : List ℕ) × (end : Stage D) × (stored : Bool) × (dropped : Result (Unit {0}) ArchiveFault)
+    × (s : Stores g naming file file' fails fails' old.archive line (out ++ rest) end.archive stored) × AbandonCall g end.archive 0 dropped new × Appends taken taken' out × Rose lost lost'
+    × StoreStages g old s.filled s.rest end new
 StoreEnds g naming file file' fails fails' taken taken' lost lost' old line new (Err ReadFailed) = ⊥
 StoreEnds g naming file file' fails fails' taken taken' lost lost' old line new (Err TooManyReads) = ⊥

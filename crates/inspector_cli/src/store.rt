@@ -1,5 +1,6 @@
 // One stream, stored from its own input.
 ghost use Rattle.std.specs.Prelude.{◌≡◌, ℕ, true, List, [], Ok};
+ghost use Rattle.intake.specs.Durable.{Durable};
 ghost use Rattle.intake.specs.Parts.{Parts, bare_of};
 ghost use Rattle.inspector_cli.specs.Said.{said};
 ghost use Rattle.inspector_cli.specs.Commands.{asked_by, said_by, stream_found};
@@ -14,7 +15,7 @@ use crate::names::NewStream;
 use crate::session::{Naming, SessionFault};
 use crate::telling::{reason, tell_no};
 use disk_model::Disk;
-use intake::{Archive, ArchiveFault};
+use intake::{Archive, ArchiveFault, calls_lead_from_mark_to_mark, found_after_a_stop};
 use script_streams::{Input, Output, Reply};
 
 // How many reads a file may take.
@@ -45,11 +46,13 @@ pub fn store_stream<I: Input, O: Output, D: Disk>(
     archive: &mut Archive<D>,
     naming: &Naming,
 ) -> Result<bool, SessionFault>
-    ensures ends { StoreEnds D.Disk naming.now (I.remaining file.old) (I.remaining file.new) (I.failures file.old)
+    ensures ends { (before : List Durable) → StoreEnds D.Disk naming.now (I.remaining file.old) (I.remaining file.new) (I.failures file.old)
         (I.failures file.new) (O.taken output.old) (O.taken output.new) (O.failures output.old)
-        (O.failures output.new) archive.old line.now archive.new result }
+        (O.failures output.new) (record { archive = archive.old; in_doubt = before }) line.now archive.new result }
     ensures quiet { IsSlotQuiet (bare_of archive.new) }
 {
+    calls_lead_from_mark_to_mark::<D>();
+    found_after_a_stop::<D>();
     let mut reply = Reply::new();
     let is_stored = answer_store(line, file, &mut reply, output, archive, naming);
     let _ = archive.abandon(0);
@@ -161,8 +164,8 @@ fn answer_file<I: Input, O: Output, D: Disk>(
       failures' = O.failures output.new;
       reply = reply.old;
       reply' = reply.new;
-    }) (λ text. RestReplies D.Disk (I.remaining file.old) (I.remaining file.new) (I.failures file.old) (I.failures file.new)
-        archive.old true text archive.new result) }
+    }) (λ text. (filled : Parts D) × RestReplies D.Disk (I.remaining file.old) (I.remaining file.new) (I.failures file.old) (I.failures file.new)
+        archive.old true filled text archive.new result) }
 {
     match take_file(file, archive) {
         Ok(()) => answer_end(0, reply, output, archive),

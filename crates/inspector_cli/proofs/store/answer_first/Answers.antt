@@ -1,5 +1,4 @@
 use Rattle.std.proofs.Common.{◌≡◌, List, ℕ, Result, ap, sym, subst, ◌∙◌}
-use Rattle.intake.specs.Parts.{bare_of}
 use Rattle.intake.specs.State.{BareStream}
 use Rattle.inspector_cli.specs.Said.{said}
 use Rattle.inspector_cli.specs.Commands.{stream_found}
@@ -13,7 +12,7 @@ returns-clause-first g c =
     let is : stream_found c.first_stream-found.result ≡ first_stream c.args.naming.now (said c.args.line.now) =
     c.first_stream-found.ensures ∙ ap (first_stream c.args.naming.now) c.parse_text.ensures in (
       c.answer_begin.ensures.0,
-      subst (λ (r : Result BareStream (List ℕ)). Begins (bare_of c.args.archive.now) 0 r c.answer_begin.ensures.0 (bare_of c.answer_begin.new.archive) c.answer_begin.result) is
+      subst (λ (r : Result BareStream (List ℕ)). Begins g.D.Disk c.args.archive.now 0 r c.answer_begin.ensures.0 c.answer_begin.new.archive c.answer_begin.result) is
           c.answer_begin.ensures.1,
       c.answer_begin.ensures.2,
     )
@@ -22,5 +21,5 @@ pub returns-clause-begun : goal.returns-clause-begun
 returns-clause-begun g c = λ begun.
     let is : stream_found c.first_stream-found.result ≡ first_stream c.args.naming.now (said c.args.line.now) =
     c.first_stream-found.ensures ∙ ap (first_stream c.args.naming.now) c.parse_text.ensures in
-    begun_takes (bare_of c.args.archive.now) (bare_of c.answer_begin.new.archive) 0 (stream_found c.first_stream-found.result) c.answer_begin.ensures.0 c.answer_begin.result
+    begun_takes g.D.Disk c.args.archive.now c.answer_begin.new.archive 0 (stream_found c.first_stream-found.result) c.answer_begin.ensures.0 c.answer_begin.result
     (subst IsFresh (sym is) (first_fresh c.args.naming.now (said c.args.line.now))) c.answer_begin.ensures.1 begun

@@ -1,16 +1,19 @@
 use Rattle.intake.specs.Parts.{bare_of}
 use Rattle.inspector_cli.proofs.StoreLemmas.{store_written, store_failed, dropped_quiet}
+use Rattle.inspector_cli.proofs.StageLemmas.{laws_of, stage_of}
+use Rattle.inspector_cli.proofs.StayLemmas.{stays_still}
 use Rattle.inspector_cli.proofs.store.store_stream.Goals as goal
 
 pub returns-in_default-clause-ends : goal.returns-in_default-clause-ends
-returns-in_default-clause-ends g c =
-    store_failed c.args.naming.now (g.I.Input.remaining c.args.file.now) (g.I.Input.remaining c.answer_store-is_stored.new.file)
+returns-in_default-clause-ends g c = λ before.
+    store_failed g.D.Disk (laws_of g.D.Disk c.calls_lead_from_mark_to_mark.ensures.stays c.calls_lead_from_mark_to_mark.ensures.finish c.calls_lead_from_mark_to_mark.ensures.delete c.calls_lead_from_mark_to_mark.ensures.pin c.calls_lead_from_mark_to_mark.ensures.retire) c.found_after_a_stop.ensures c.args.naming.now (g.I.Input.remaining c.args.file.now) (g.I.Input.remaining c.answer_store-is_stored.new.file)
     (g.I.Input.failures c.args.file.now) (g.I.Input.failures c.answer_store-is_stored.new.file)
     (g.O.Output.taken c.args.output.now) (g.O.Output.taken c.answer_store-is_stored.new.output) (g.O.Output.taken c.finish.new.output)
     (g.O.Output.failures c.args.output.now) (g.O.Output.failures c.answer_store-is_stored.new.output) (g.O.Output.failures c.finish.new.output)
     c.new-reply.result c.answer_store-is_stored.new.reply
-    (bare_of c.args.archive.now) (bare_of c.answer_store-is_stored.new.archive) (bare_of c.abandon.new.self) c.args.line.now c.answer_store-is_stored.result
-    c.abandon.result (c.new-reply.ensures (g.O.Output.taken c.args.output.now) (g.O.Output.failures c.args.output.now)) c.answer_store-is_stored.ensures c.abandon.ensures.step
+    (stage_of c.args.archive.now before) c.answer_store-is_stored.new.archive c.abandon.new.self c.args.line.now c.answer_store-is_stored.result
+    c.abandon.result (c.new-reply.ensures (g.O.Output.taken c.args.output.now) (g.O.Output.failures c.args.output.now)) c.answer_store-is_stored.ensures
+    (record { step = c.abandon.ensures.step; bytes = c.abandon.ensures.bytes; stays = stays_still g.D.Disk c.answer_store-is_stored.new.archive c.abandon.new.self c.abandon.ensures.disk c.abandon.ensures.durable })
     c.in_default.field-0 c.in_default.ensures.delivered
 
 pub returns-in_default-clause-quiet : goal.returns-in_default-clause-quiet
@@ -18,14 +21,15 @@ returns-in_default-clause-quiet g c =
     dropped_quiet (bare_of c.answer_store-is_stored.new.archive) (bare_of c.abandon.new.self) c.abandon.result c.abandon.ensures.step
 
 pub returns-clause-ends : goal.returns-clause-ends
-returns-clause-ends g c =
-    store_written c.args.naming.now (g.I.Input.remaining c.args.file.now) (g.I.Input.remaining c.answer_store-is_stored.new.file)
+returns-clause-ends g c = λ before.
+    store_written g.D.Disk (laws_of g.D.Disk c.calls_lead_from_mark_to_mark.ensures.stays c.calls_lead_from_mark_to_mark.ensures.finish c.calls_lead_from_mark_to_mark.ensures.delete c.calls_lead_from_mark_to_mark.ensures.pin c.calls_lead_from_mark_to_mark.ensures.retire) c.found_after_a_stop.ensures c.args.naming.now (g.I.Input.remaining c.args.file.now) (g.I.Input.remaining c.answer_store-is_stored.new.file)
     (g.I.Input.failures c.args.file.now) (g.I.Input.failures c.answer_store-is_stored.new.file)
     (g.O.Output.taken c.args.output.now) (g.O.Output.taken c.answer_store-is_stored.new.output) (g.O.Output.taken c.finish.new.output)
     (g.O.Output.failures c.args.output.now) (g.O.Output.failures c.answer_store-is_stored.new.output) (g.O.Output.failures c.finish.new.output)
     c.new-reply.result c.answer_store-is_stored.new.reply
-    (bare_of c.args.archive.now) (bare_of c.answer_store-is_stored.new.archive) (bare_of c.abandon.new.self) c.args.line.now c.answer_store-is_stored.result
-    c.abandon.result (c.new-reply.ensures (g.O.Output.taken c.args.output.now) (g.O.Output.failures c.args.output.now)) c.answer_store-is_stored.ensures c.abandon.ensures.step
+    (stage_of c.args.archive.now before) c.answer_store-is_stored.new.archive c.abandon.new.self c.args.line.now c.answer_store-is_stored.result
+    c.abandon.result (c.new-reply.ensures (g.O.Output.taken c.args.output.now) (g.O.Output.failures c.args.output.now)) c.answer_store-is_stored.ensures
+    (record { step = c.abandon.ensures.step; bytes = c.abandon.ensures.bytes; stays = stays_still g.D.Disk c.answer_store-is_stored.new.archive c.abandon.new.self c.abandon.ensures.disk c.abandon.ensures.durable })
     c.in-Ok.field-0 c.in-Ok.ensures.delivered
 
 pub returns-clause-quiet : goal.returns-clause-quiet

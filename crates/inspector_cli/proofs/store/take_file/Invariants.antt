@@ -1,7 +1,6 @@
 use Rattle.std.proofs.Common.{◌≡◌, ◌≤◌, ℕ, List, length, Ok}
 use Rattle.std.specs.Io.KnownBytes.{Consumes}
-use Rattle.intake.specs.Parts.{bare_of}
-use Rattle.inspector_cli.specs.Reply.{TakeStep}
+use Rattle.inspector_cli.specs.Reply.{Takes}
 use Rattle.inspector_cli.proofs.store.take_file.Given as goal
 
 abbrev pub invariant-loop : goal.invariant-loop
@@ -10,5 +9,5 @@ invariant-loop g l = record {
   consumed : Consumes (g.I.Input.remaining l.initial.file) (g.I.Input.remaining l.file) raw;
   counted : l.counter ≤ length raw;
   failures : g.I.Input.failures l.file ≡ g.I.Input.failures l.initial.file;
-  takes : TakeStep (bare_of l.fn.archive) 0 (length raw) (Ok tt) (bare_of l.archive);
+  takes : Takes g.D.Disk l.fn.archive 0 raw (Ok tt) l.archive;
 }

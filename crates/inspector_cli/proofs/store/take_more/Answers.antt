@@ -1,32 +1,66 @@
-use Rattle.std.proofs.Common.{length, take, Ok, Err, arith, length-take-le}
-use Rattle.intake.specs.Parts.{bare_of}
-use Rattle.inspector_cli.proofs.StoreLemmas.{took_room}
+use Rattle.std.proofs.Common.{◌≡◌, ℕ, List, [], length, take, sym, subst, ap, ◌∙◌, refl, Ok, Err, arith, length-take-le}
+use Rattle.std.proofs.KnownBytes.{Consumes-kept, Consumes-nil}
+use Rattle.inspector_cli.proofs.FeedLemmas.{lent_takes, fed}
 use Rattle.inspector_cli.proofs.store.take_more.Goals as goal
 
+pub returns-in_default-read : goal.returns-in_default-read
+returns-in_default-read g c = λ begun so_far taken.
+    let is = c.in_default.is in
+    let long : length c.read.new.into ≡ length c.room-lent.result.1.now = c.read.auto.into in
+    let lent = rw is at c.room-lent.ensures.lent in
+    let some = rw is at c.room-lent.ensures.never_empty in
+    rw is (
+      Consumes-kept (g.I.Input.remaining c.args.file.now) (g.I.Input.remaining c.args.file.now) (g.I.Input.remaining c.read.new.self) [] (Consumes-nil (g.I.Input.remaining c.args.file.now)) c.in_default-read.ensures.bytes,
+      c.in_default-read.ensures.err,
+      lent_takes g.D.Disk begun c.args.archive.now 0 so_far c.read.new.into tt taken (long ∙ ap length lent) (omega (arith, long, some)),
+    )
+
+pub returns-then-count-eq0 : goal.returns-then-count-eq0
+returns-then-count-eq0 g c = λ begun so_far taken.
+    let is = c.in_default.is in
+    let long : length c.read.new.into ≡ length c.room-lent.result.1.now = c.read.auto.into in
+    let lent = rw is at c.room-lent.ensures.lent in
+    let some = rw is at c.room-lent.ensures.never_empty in
+    let none = c.if-count-eq0.true in
+    rw is (
+      rw none at c.in-Ok.ensures.bytes.0,
+      c.in-Ok.ensures.bytes.1 none (omega (arith, long, some)),
+      c.in-Ok.ensures.ok,
+      lent_takes g.D.Disk begun c.args.archive.now 0 so_far c.read.new.into tt taken (long ∙ ap length lent) (omega (arith, long, some)),
+    )
+
 pub returns-in-Err-advance : goal.returns-in-Err-advance
-returns-in-Err-advance g c = λ begun so_far step.
+returns-in-Err-advance g c = λ begun so_far taken.
+    let is = c.in_default.is in
     let few = c.in-Ok.ensures.count in
+    let long : length c.read.new.into ≡ length c.room-lent.result.1.now = c.read.auto.into in
     let size = length-take-le c.in-Ok.count c.read.new.into few in
-    let same = c.read.auto.into in (
+    let lent = rw is at c.room-lent.ensures.lent in
+    let some = rw is at c.room-lent.ensures.never_empty in
+    let call = rw is at c.advance.ensures in (
       take c.in-Ok.count c.read.new.into,
       c.in-Ok.ensures.bytes.0,
       c.in-Ok.ensures.ok,
-      took_room c.args.archive.now begun (bare_of c.advance.new.self) so_far c.in-Ok.count (length c.room-lent.result.1.now) (take c.in-Ok.count c.read.new.into)
-          c.room-lent.result.0 (Err c.in-Err-advance.fault) c.read.new.into size (omega (arith, few, same)) (rw c.in_default.is at c.room-lent.ensures.fits) step
-          c.in-Err-advance.ensures.step,
+      rw c.in-Err-advance.is at (fed g.D.Disk begun c.args.archive.now 0 so_far c.read.new.into tt taken (long ∙ ap length lent) (omega (arith, long, some))
+          c.advance.new.self c.in-Ok.count (length c.room-lent.result.1.now) (take c.in-Ok.count c.read.new.into) c.advance.result
+          refl size (omega (arith, few, long)) (rw is at c.room-lent.ensures.fits) call.step call.bytes (record { honesty = call.honesty; crash = call.any_moment; durable = call.durable })),
     )
 
 pub returns : goal.returns
-returns g c = λ begun so_far step.
+returns g c = λ begun so_far taken.
+    let is = c.in_default.is in
     let few = c.in-Ok.ensures.count in
+    let long : length c.read.new.into ≡ length c.room-lent.result.1.now = c.read.auto.into in
     let size = length-take-le c.in-Ok.count c.read.new.into few in
-    let same = c.read.auto.into in
-    let some = c.if-count-eq0.false in (
+    let lent = rw is at c.room-lent.ensures.lent in
+    let some = rw is at c.room-lent.ensures.never_empty in
+    let more = c.if-count-eq0.false in
+    let call = rw is at c.advance.ensures in (
       take c.in-Ok.count c.read.new.into,
       c.in-Ok.ensures.bytes.0,
-      omega (arith, size, some),
+      omega (arith, size, more),
       c.in-Ok.ensures.ok,
-      took_room c.args.archive.now begun (bare_of c.advance.new.self) so_far c.in-Ok.count (length c.room-lent.result.1.now) (take c.in-Ok.count c.read.new.into)
-          c.room-lent.result.0 (Ok tt) c.read.new.into size (omega (arith, few, same)) (rw c.in_default.is at c.room-lent.ensures.fits) step
-          c.in_default-advance.ensures.step,
+      rw c.in_default-advance.is at (fed g.D.Disk begun c.args.archive.now 0 so_far c.read.new.into tt taken (long ∙ ap length lent) (omega (arith, long, some))
+          c.advance.new.self c.in-Ok.count (length c.room-lent.result.1.now) (take c.in-Ok.count c.read.new.into) c.advance.result
+          refl size (omega (arith, few, long)) (rw is at c.room-lent.ensures.fits) call.step call.bytes (record { honesty = call.honesty; crash = call.any_moment; durable = call.durable })),
     )
