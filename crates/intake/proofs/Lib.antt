@@ -1,6 +1,7 @@
 pub mod FinishLemmas
 pub mod KeepLemmas
 pub mod LiveLemmas
+pub mod LifeLemmas
 pub mod SlotLemmas
 pub mod AdvanceLemmas
 pub mod BlockLemmas

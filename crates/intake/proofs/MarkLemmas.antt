@@ -39,7 +39,7 @@ module _ {D : Type 0} (g : disk.Ghosts D) (only : (d : D) (c : List ℕ) → g.l
       (λ later. inr (inr later))
       (since t n ns (let l = crash.later in omega (arith, early, l)) (run.0.honesty ∙ honest) run.1 c was)
 
-  found_from : (m : Mark D) (ns : List (Mark D)) → IsTrue (g.is_honest m.disk) → IsSettled g m → Run g m ns → IsFoundFrom g m ns
+  pub found_from : (m : Mark D) (ns : List (Mark D)) → IsTrue (g.is_honest m.disk) → IsSettled g m → Run g m ns → IsFoundFrom g m ns
   found_from m ns honest settled run c was =
       ⊎_elim (λ now. first_finds c m ns (settled c (only m.disk c now))) (λ found. found) (since (g.clock m.disk) m ns (omega arith) honest run c was)
 
@@ -65,6 +65,16 @@ old_doubts (y ∷ more) before x was = inr (old_doubts more before x was)
 new_doubts : (more before : List Durable) (x : Durable) → IsOneOf more x → IsOneOf (more ++ before) x
 new_doubts [] before x is = absurd is
 new_doubts (y ∷ more) before x is = ⊎_elim (λ here. inl here) (λ there. inr (new_doubts more before x there)) is
+
+which_doubt : (more before : List Durable) (x : Durable) → IsOneOf (more ++ before) x → IsOneOf more x ⊎ IsOneOf before x
+which_doubt [] before x is = inr is
+which_doubt (y ∷ more) before x is = ⊎_elim (λ here. inl (inl here)) (λ there. ⊎_elim (λ a. inl (inr a)) (λ b. inr b) (which_doubt more before x there)) is
+
+-- what is in doubt after an answer is what the call would have left
+among_doubted : {T : Type 0} (r : Result T ArchiveFault) (more : List Durable) (x : Durable) → IsOneOf (doubted {T = T} r more) x → IsOneOf more x
+among_doubted (Ok v) more x is = absurd is
+among_doubted (Err fault.Disk) more x is = is
+among_doubted (Err _) more x is = absurd is
 
 -- what a call may leave is found at one of its two marks
 left_found : {D : Type 0} (T : Type 0) (seen : D → List ℕ) (old new : Parts D) (r : Result T ArchiveFault) (doubt : Durable → Type 0) (before more : List Durable) (c : List ℕ)
@@ -97,12 +107,15 @@ module _ {D : Type 0} (T : Type 0) (g : disk.Ghosts D) (counts : (d : D) (t : �
     (only : (d : D) (c : List ℕ) → g.left_since d (g.clock d) c → g.may_leave d c) (old new : Parts D) (r : Result T ArchiveFault) (doubt : Durable → Type 0) where
   -- where the cases of a stopped archive are those that it had
   change_passes : (before more : List Durable) → Changes T g old r new doubt → (IsDiskFault r → (x : Durable) → doubt x → IsOneOf more x)
+      → ((x : Durable) → IsOneOf more x → (durable_of g.seen old).next ≤ x.next) → (durable_of g.seen old).next ≤ (durable_of g.seen new).next
       → (new.stopped ≡ true → IsTrue (g.is_honest old.disk) → durable_of g.seen new ≡ durable_of g.seen old)
       → Passes g (mark_of g.seen old before) (mark_of g.seen new (doubted {T = T} r more ++ before))
-  change_passes before more changes among same = record {
+  change_passes before more changes among above number same = record {
     honesty = changes.honesty;
     crash = moments;
     settled = λ honest settled. here honest settled new.stopped refl;
+    number = λ honest. number;
+    doubts = λ honest x one. ⊎_elim (λ new_one. inr (above x (among_doubted r more x new_one))) (λ was. inl was) (which_doubt (doubted {T = T} r more) before x one);
   }
     where
       moments : IsTrue (g.is_honest old.disk) → AddsOnly g old.disk new.disk (λ c. Finds c (mark_of g.seen old before) ⊎ Finds c (mark_of g.seen new (doubted {T = T} r more ++ before)))
@@ -116,14 +129,16 @@ module _ {D : Type 0} (T : Type 0) (g : disk.Ghosts D) (counts : (d : D) (t : �
       here honest settled true is c may = still_settled g counts only old new before (doubted {T = T} r more) (moments honest) (same is honest) settled c may
 
   -- a call whose answer leaves nothing in doubt
-  leads_plain : (IsDiskFault r → ⊥) → Changes T g old r new doubt
+  leads_plain : (IsDiskFault r → ⊥) → Changes T g old r new doubt → (durable_of g.seen old).next ≤ (durable_of g.seen new).next
       → (new.stopped ≡ true → IsTrue (g.is_honest old.disk) → durable_of g.seen new ≡ durable_of g.seen old) → Leads T g old r new doubt
-  leads_plain not_disk changes same before = ([], tt, change_passes before [] changes (λ is x may. absurd (not_disk is)) same)
+  leads_plain not_disk changes number same before = ([], tt, change_passes before [] changes (λ is x may. absurd (not_disk is)) (λ x one. absurd one) number same)
 
   -- a call that has one archive in doubt
-  leads_one : (x : Durable) → doubt x → ((y : Durable) → doubt y → y ≡ x) → Changes T g old r new doubt
+  leads_one : (x : Durable) → doubt x → ((y : Durable) → doubt y → y ≡ x) → (durable_of g.seen old).next ≤ x.next → Changes T g old r new doubt
+      → (durable_of g.seen old).next ≤ (durable_of g.seen new).next
       → (new.stopped ≡ true → IsTrue (g.is_honest old.disk) → durable_of g.seen new ≡ durable_of g.seen old) → Leads T g old r new doubt
-  leads_one x may one changes same before = (x ∷ [], (may, tt), change_passes before (x ∷ []) changes (λ is y may'. inl (one y may')) same)
+  leads_one x may one high changes number same before =
+      (x ∷ [], (may, tt), change_passes before (x ∷ []) changes (λ is y may'. inl (one y may')) (λ y is. ⊎_elim (λ same_x. subst (λ (z : Durable). (durable_of g.seen old).next ≤ z.next) (sym same_x) high) (λ none. absurd none) is) number same)
 
 module _ {D : Type 0} (g : disk.Ghosts D) (counts : (d : D) (t : ℕ) (c : List ℕ) → t ≤ g.clock d → g.may_leave d c → g.left_since d t c)
     (only : (d : D) (c : List ℕ) → g.left_since d (g.clock d) c → g.may_leave d c) (old new : Parts D) (before : List Durable) where
@@ -132,6 +147,8 @@ module _ {D : Type 0} (g : disk.Ghosts D) (counts : (d : D) (t : ℕ) (c : List 
     honesty = stays.honesty;
     crash = moments;
     settled = λ honest settled. still_settled g counts only old new before [] (moments honest) (stays.durable honest) settled;
+    number = λ honest. (let e = ap (λ (x : Durable). x.next) (stays.durable honest) in omega (arith, e));
+    doubts = λ honest x one. inl one;
   }
     where
       moments : IsTrue (g.is_honest old.disk) → AddsOnly g old.disk new.disk (λ c. Finds c (mark_of g.seen old before) ⊎ Finds c (mark_of g.seen new before))
@@ -210,9 +227,24 @@ module _ {D : Type 0} (g : disk.Ghosts D) (counts : (d : D) (t : ℕ) (c : List 
   finish_same slot fault.Disk step bytes = told g.seen old new _ _ step.2 bytes refl
   finish_same slot _ step bytes = absurd step
 
+  finish_number : (slot : ℕ) (r : Result ℕ ArchiveFault) → FinishStep (bare_of old) slot r (bare_of new) → (bare_of old).next ≤ (bare_of new).next
+  finish_number slot (Ok seq) step = let e = ap (λ (b : Bare). b.next) step.7 in omega (arith, e)
+  finish_number slot (Err fault.Stopped) step = let e = ap (λ (b : Bare). b.next) step.1 in omega (arith, e)
+  finish_number slot (Err fault.NoStream) step = let e = ap (λ (b : Bare). b.next) step.2 in omega (arith, e)
+  finish_number slot (Err fault.SpaceFull) step = let e = ap (λ (b : Bare). b.next) step.5 in omega (arith, e)
+  finish_number slot (Err fault.JournalFull) step = let e = ap (λ (b : Bare). b.next) step.5 in omega (arith, e)
+  finish_number slot (Err fault.NumbersSpent) step = let e = ap (λ (b : Bare). b.next) step.6 in omega (arith, e)
+  finish_number slot (Err fault.OutOfMemory) step = let e = ap (λ (b : Bare). b.next) step.2 in omega (arith, e)
+  finish_number slot (Err fault.Disk) step = let e = ap (λ (b : Bare). b.next) step.2 in omega (arith, e)
+  finish_number slot (Err _) step = absurd step
+
+  -- the next number of a state that it has
+  same_number : (b : Bare) → bare_of new ≡ b → b.next ≡ (bare_of old).next → (bare_of old).next ≤ (bare_of new).next
+  same_number b is same = let e = ap (λ (z : Bare). z.next) is in omega (arith, e, same)
+
   pub finish_leads : (slot : ℕ) (r : Result ℕ ArchiveFault) → FinishCall g old slot r new → Leads ℕ g old r new (MayBeStored (bare_of old) (contents_of g.seen old) (durable_of g.seen old) slot)
   finish_leads slot (Ok seq) call =
-      leads_plain ℕ g counts only old new (Ok seq) (MayBeStored (bare_of old) (contents_of g.seen old) (durable_of g.seen old) slot) (λ is. is) call.changes
+      leads_plain ℕ g counts only old new (Ok seq) (MayBeStored (bare_of old) (contents_of g.seen old) (durable_of g.seen old) slot) (λ is. is) call.changes (finish_number slot (Ok seq) call.step)
       (λ stopped honest. absurd (goes_on new (stored (bare_of old) slot call.step.0 call.step.1) call.step.2.0 call.step.7 stopped))
   finish_leads slot (Err f) call =
       let same : new.stopped ≡ true → IsTrue (g.is_honest old.disk) → SameCases = λ stopped honest. finish_same slot f call.step (call.bytes honest) in
@@ -223,9 +255,9 @@ module _ {D : Type 0} (g : disk.Ghosts D) (counts : (d : D) (t : ℕ) (c : List 
         let x = with_case (durable_of g.seen old) step.0 t.0.bytes in
         let may : MayBeStored (bare_of old) (contents_of g.seen old) (durable_of g.seen old) slot x = (step.0, t.0, step.1.1, t.1, refl) in
         leads_one ℕ g counts only old new (Err f) (MayBeStored (bare_of old) (contents_of g.seen old) (durable_of g.seen old) slot) x may
-        (λ y may'. one_stored (bare_of old) (contents_of g.seen old) (durable_of g.seen old) slot x y may may') call.changes same
+        (λ y may'. one_stored (bare_of old) (contents_of g.seen old) (durable_of g.seen old) slot x y may may') (omega arith) call.changes (finish_number slot (Err f) call.step) same
       ))
-      (λ not. leads_plain ℕ g counts only old new (Err f) (MayBeStored (bare_of old) (contents_of g.seen old) (durable_of g.seen old) slot) not call.changes same)
+      (λ not. leads_plain ℕ g counts only old new (Err f) (MayBeStored (bare_of old) (contents_of g.seen old) (durable_of g.seen old) slot) not call.changes (finish_number slot (Err f) call.step) same)
       (disk_or_not f)
 
   -- what a refusal leaves that drops no stream but where the disk failed
@@ -259,6 +291,9 @@ module _ {D : Type 0} (g : disk.Ghosts D) (counts : (d : D) (t : ℕ) (c : List 
   retire_is policy fault.Disk step = (halted (bare_of old), step.4, refl, refl)
   retire_is policy _ step = absurd step
 
+  refused_number : (b : Bare) × (bare_of new ≡ b) × (b.cases ≡ (bare_of old).cases) × (b.next ≡ (bare_of old).next) → (bare_of old).next ≤ (bare_of new).next
+  refused_number is = same_number is.0 is.1 is.3
+
   refused_same : (f : ArchiveFault) → (b : Bare) × (bare_of new ≡ b) × (b.cases ≡ (bare_of old).cases) × (b.next ≡ (bare_of old).next)
       → UnmovedBytes (contents_of g.seen old) f (contents_of g.seen new) → SameCases
   refused_same f is bytes =
@@ -269,31 +304,33 @@ module _ {D : Type 0} (g : disk.Ghosts D) (counts : (d : D) (t : ℕ) (c : List 
 
   pub delete_leads : (seq : ℕ) (r : Result (Unit {0}) ArchiveFault) → DeleteCall g old seq r new → Leads (Unit {0}) g old r new (λ x. x ≡ without (durable_of g.seen old) (seq ∷ []))
   delete_leads seq (Ok u) call =
-      leads_plain (Unit {0}) g counts only old new (Ok u) (λ x. x ≡ without (durable_of g.seen old) (seq ∷ [])) (λ is. is) call.changes
+      leads_plain (Unit {0}) g counts only old new (Ok u) (λ x. x ≡ without (durable_of g.seen old) (seq ∷ [])) (λ is. is) call.changes (same_number (without_cases (bare_of old) (seq ∷ [])) call.step.4 refl)
       (λ stopped honest. absurd (goes_on new (without_cases (bare_of old) (seq ∷ [])) call.step.1.0 call.step.4 stopped))
   delete_leads seq (Err f) call =
       let same : new.stopped ≡ true → IsTrue (g.is_honest old.disk) → SameCases = λ stopped honest. refused_same f (delete_is seq f call.step) (call.bytes honest) in
       ⊎_elim
-      (λ is. leads_one (Unit {0}) g counts only old new (Err f) (λ x. x ≡ without (durable_of g.seen old) (seq ∷ [])) (without (durable_of g.seen old) (seq ∷ [])) refl (λ y may. may) call.changes same)
-      (λ not. leads_plain (Unit {0}) g counts only old new (Err f) (λ x. x ≡ without (durable_of g.seen old) (seq ∷ [])) not call.changes same)
+      (λ is. leads_one (Unit {0}) g counts only old new (Err f) (λ x. x ≡ without (durable_of g.seen old) (seq ∷ [])) (without (durable_of g.seen old) (seq ∷ [])) refl (λ y may. may) (omega arith) call.changes (refused_number (delete_is seq f call.step)) same)
+      (λ not. leads_plain (Unit {0}) g counts only old new (Err f) (λ x. x ≡ without (durable_of g.seen old) (seq ∷ [])) not call.changes (refused_number (delete_is seq f call.step)) same)
       (disk_or_not f)
 
   pub pin_leads : (seq : ℕ) (flag : Bool) (r : Result (Unit {0}) ArchiveFault) → PinCall g old seq flag r new → Leads (Unit {0}) g old r new (λ x. x ≡ flagged (durable_of g.seen old) seq flag)
   pin_leads seq flag (Ok u) call =
       leads_plain (Unit {0}) g counts only old new (Ok u) (λ x. x ≡ flagged (durable_of g.seen old) seq flag) (λ is. is) call.changes
+      (⊎_elim (λ kept. same_number (bare_of old) kept.1 refl) (λ set. same_number (with_flag (bare_of old) seq flag) set.2 refl) call.step.2)
       (λ stopped honest. absurd (⊎_elim
       (λ kept. goes_on new (bare_of old) call.step.1.0 kept.1 stopped)
       (λ set. goes_on new (with_flag (bare_of old) seq flag) call.step.1.0 set.2 stopped) call.step.2))
   pin_leads seq flag (Err f) call =
       let same : new.stopped ≡ true → IsTrue (g.is_honest old.disk) → SameCases = λ stopped honest. refused_same f (pin_is seq flag f call.step) (call.bytes honest) in
       ⊎_elim
-      (λ is. leads_one (Unit {0}) g counts only old new (Err f) (λ x. x ≡ flagged (durable_of g.seen old) seq flag) (flagged (durable_of g.seen old) seq flag) refl (λ y may. may) call.changes same)
-      (λ not. leads_plain (Unit {0}) g counts only old new (Err f) (λ x. x ≡ flagged (durable_of g.seen old) seq flag) not call.changes same)
+      (λ is. leads_one (Unit {0}) g counts only old new (Err f) (λ x. x ≡ flagged (durable_of g.seen old) seq flag) (flagged (durable_of g.seen old) seq flag) refl (λ y may. may) (omega arith) call.changes (refused_number (pin_is seq flag f call.step)) same)
+      (λ not. leads_plain (Unit {0}) g counts only old new (Err f) (λ x. x ≡ flagged (durable_of g.seen old) seq flag) not call.changes (refused_number (pin_is seq flag f call.step)) same)
       (disk_or_not f)
 
   pub retire_leads : (policy : Policy) (r : Result Decision ArchiveFault) → RetireCall g old policy r new → Leads Decision g old r new (λ x. MayBeRetired (bare_of old) policy (durable_of g.seen old) x)
   retire_leads policy (Ok d) call =
       leads_plain Decision g counts only old new (Ok d) (λ x. MayBeRetired (bare_of old) policy (durable_of g.seen old) x) (λ is. is) call.changes
+      (⊎_elim (λ kept. same_number (bare_of old) kept.1 refl) (λ gone. same_number (without_cases (bare_of old) d.dropped.items) gone.2 refl) call.step.2)
       (λ stopped honest. absurd (⊎_elim
       (λ kept. goes_on new (bare_of old) call.step.0 kept.1 stopped)
       (λ gone. goes_on new (without_cases (bare_of old) d.dropped.items) call.step.0 gone.2 stopped) call.step.2))
@@ -305,7 +342,7 @@ module _ {D : Type 0} (g : disk.Ghosts D) (counts : (d : D) (t : ℕ) (c : List 
         let x = without (durable_of g.seen old) step.0 in
         let may : MayBeRetired (bare_of old) policy (durable_of g.seen old) x = (step.0, step.1, step.2, refl) in
         leads_one Decision g counts only old new (Err f) (λ y. MayBeRetired (bare_of old) policy (durable_of g.seen old) y) x may
-        (λ y may'. one_retired (bare_of old) policy (durable_of g.seen old) x y may may') call.changes same
+        (λ y may'. one_retired (bare_of old) policy (durable_of g.seen old) x y may may') (omega arith) call.changes (refused_number (retire_is policy f call.step)) same
       ))
-      (λ not. leads_plain Decision g counts only old new (Err f) (λ y. MayBeRetired (bare_of old) policy (durable_of g.seen old) y) not call.changes same)
+      (λ not. leads_plain Decision g counts only old new (Err f) (λ y. MayBeRetired (bare_of old) policy (durable_of g.seen old) y) not call.changes (refused_number (retire_is policy f call.step)) same)
       (disk_or_not f)

@@ -11,6 +11,7 @@ pub mod Guarding
 pub mod Lasting
 pub mod Lending
 pub mod Live
+pub mod Lives
 pub mod Marks
 pub mod Opened
 pub mod Parts

@@ -1,5 +1,5 @@
 -- A run of calls as marks: how things stand when a call has been answered. What a stop leaves is told by them.
-use Rattle.std.specs.Prelude.{◌≡◌, ◌⊎◌, ℕ, Bool, List, [], ◌∷◌, ◌++◌, Result, Err, IsTrue}
+use Rattle.std.specs.Prelude.{◌≡◌, ◌⊎◌, ℕ, ◌≤◌, Bool, List, [], ◌∷◌, ◌++◌, Result, Err, IsTrue}
 use Rattle.std.specs.List.{AllByRecursion}
 use Rattle.disk_model.specs.Moments.{AddsOnly}
 use Rattle.disk_model.specs.declared.disk.Disk as disk
@@ -40,6 +40,9 @@ pub record Passes {D : Type 0} (g : disk.Ghosts D) (old new : Mark D) : Type 0 w
   pub honesty : g.is_honest new.disk ≡ g.is_honest old.disk
   pub crash : IsTrue (g.is_honest old.disk) → AddsOnly g old.disk new.disk (λ c. Finds c old ⊎ Finds c new)
   pub settled : IsTrue (g.is_honest old.disk) → IsSettled g old → IsSettled g new
+  -- the next number never falls, nor does what is in doubt anew have a lower one
+  pub number : IsTrue (g.is_honest old.disk) → old.durable.next ≤ new.durable.next
+  pub doubts : IsTrue (g.is_honest old.disk) → (x : Durable) → IsOneOf new.in_doubt x → IsOneOf old.in_doubt x ⊎ (old.durable.next ≤ x.next)
 
 -- marks one after the other
 abbrev pub Run : {D : Type 0} → disk.Ghosts D → Mark D → List (Mark D) → Type 0
@@ -69,6 +72,11 @@ IsFoundSince g m (n ∷ ns) = IsFoundFrom g m (n ∷ ns) × IsFoundSince g n ns
 -- or a later one.
 abbrev pub FoundAfterAStop : {D : Type 0} → disk.Ghosts D → Type 0
 FoundAfterAStop {D} g = (m : Mark D) (ns : List (Mark D)) → IsTrue (g.is_honest m.disk) → IsSettled g m → Run g m ns → IsFoundSince g m ns
+
+-- one of the marks of a run has it
+abbrev pub HasOne : {D : Type 0} → Mark D → List (Mark D) → Durable → Type 0
+HasOne m [] x = Has m x
+HasOne m (n ∷ ns) x = Has m x ⊎ HasOne n ns x
 
 -- how an archive stands, where these are in doubt
 abbrev pub mark_of : {D : Type 0} → (D → List ℕ) → Parts D → List Durable → Mark D

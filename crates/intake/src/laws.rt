@@ -2,6 +2,7 @@
 ghost use Rattle.std.specs.Prelude.{◌≡◌};
 ghost use Rattle.intake.specs.Durable.{durable_of, durable_part};
 ghost use Rattle.intake.specs.Lasting.{WhatStandsIsOne, NumbersAreAbove};
+ghost use Rattle.intake.specs.Lives.{KeptOverManyStops, ACaseIsFound, NumbersStayGiven};
 ghost use Rattle.intake.specs.Marks.{FoundAfterAStop, StaysLead, FinishLeads, DeleteLeads, PinLeads, RetireLeads};
 ghost use Rattle.intake.specs.Parts.{Parts, bare_of, contents_of};
 
@@ -39,4 +40,22 @@ pub fn calls_lead_from_mark_to_mark<D: Disk>()
     ensures delete { DeleteLeads D.Disk }
     ensures pin { PinLeads D.Disk }
     ensures retire { RetireLeads D.Disk }
+{}
+
+/// Crash safety over many stops: each life of an archive begins with what the last acknowledged mark of the life before has, or
+/// a later one.
+pub fn kept_over_many_stops<D: Disk>()
+    ensures { KeptOverManyStops D.Disk }
+{}
+
+/// What crash safety means for one case: where it stands behind a call and no later call drops it, it is found after a stop,
+/// with its image byte for byte.
+pub fn a_case_is_found<D: Disk>()
+    ensures { ACaseIsFound D.Disk }
+{}
+
+/// The next number that is found after a stop is not below one that was reached before a disk fault, so that no number is given
+/// twice.
+pub fn numbers_stay_given<D: Disk>()
+    ensures { NumbersStayGiven D.Disk }
 {}

@@ -1,0 +1,67 @@
+-- An archive over many stops, and what follows for one case and for the numbers of the cases.
+use Rattle.std.specs.Prelude.{◌≡◌, ◌⊎◌, ℕ, ◌<◌, ◌≤◌, List, [], ◌∷◌, ◌++◌, IsTrue}
+use Rattle.std.specs.List.{All, AllByRecursion}
+use Rattle.disk_model.specs.declared.disk.Disk as disk
+use Rattle.intake.specs.Durable.{Durable, FoundCase, StandsFor}
+use Rattle.intake.specs.Marks.{Mark, IsSettled, Run, HasOne, last_of}
+
+-- One life of an archive, from its opening to a stop: a mark behind each call that was answered; of these the first ones
+-- are acknowledged when the machine stops.
+pub record Life (D : Type 0) : Type 0 where
+  pub first : Mark D
+  pub acknowledged : List (Mark D)
+  pub later : List (Mark D)
+
+-- the last mark that is acknowledged
+abbrev pub last_acknowledged : {D : Type 0} → Life D → Mark D
+last_acknowledged l = last_of l.first l.acknowledged
+
+-- calls on an honest disk, from an opening on
+pub record IsLived {D : Type 0} (g : disk.Ghosts D) (l : Life D) : Type 0 where
+  pub honest : IsTrue (g.is_honest l.first.disk)
+  pub settled : IsSettled g l.first
+  pub before : Run g l.first l.acknowledged
+  pub after : Run g (last_acknowledged l) l.later
+
+-- The machine stops at any moment since the last acknowledgement, and the next life begins with what an opening finds of what
+-- is left then.
+pub record IsFollowed {D : Type 0} (g : disk.Ghosts D) (l next : Life D) : Type 0 where
+  pub left : List ℕ
+  pub stop : g.left_since (last_of (last_acknowledged l) l.later).disk (g.clock (last_acknowledged l).disk) left
+  pub found : StandsFor left next.first.durable
+
+abbrev pub AreLived : {D : Type 0} → disk.Ghosts D → Life D → List (Life D) → Type 0
+AreLived g l [] = IsLived g l
+AreLived g l (n ∷ ns) = IsLived g l × IsFollowed g l n × AreLived g n ns
+
+-- each life begins with what the last acknowledged mark of the life before has, or a later one
+abbrev pub AreKept : {D : Type 0} → Life D → List (Life D) → Type 0
+AreKept l [] = Unit {0}
+AreKept l (n ∷ ns) = HasOne (last_acknowledged l) l.later n.first.durable × AreKept n ns
+
+abbrev pub KeptOverManyStops : {D : Type 0} → disk.Ghosts D → Type 0
+KeptOverManyStops {D} g = (l : Life D) (ls : List (Life D)) → AreLived g l ls → AreKept l ls
+
+-- the case is among these
+abbrev pub IsAmong : List FoundCase → FoundCase → Type 0
+IsAmong [] c = ⊥
+IsAmong (d ∷ ds) c = (c ≡ d) ⊎ IsAmong ds c
+
+-- all that a mark has holds the case
+abbrev pub HoldsCase : {D : Type 0} → FoundCase → Mark D → Type 0
+HoldsCase c m = IsAmong m.durable.cases c × AllByRecursion (λ (x : Durable). IsAmong x.cases c) m.in_doubt
+
+abbrev pub AllHoldCase : {D : Type 0} → FoundCase → Mark D → List (Mark D) → Type 0
+AllHoldCase c m [] = HoldsCase c m
+AllHoldCase c m (n ∷ ns) = HoldsCase c m × AllHoldCase c n ns
+
+-- A case that stands at a mark and that no later call drops is found after a stop, with its image.
+abbrev pub ACaseIsFound : {D : Type 0} → disk.Ghosts D → Type 0
+ACaseIsFound {D} g = (m : Mark D) (ns : List (Mark D)) (c : FoundCase) (left : List ℕ) (x : Durable) → IsTrue (g.is_honest m.disk) → IsSettled g m → Run g m ns
+    → AllHoldCase c m ns → g.left_since (last_of m ns).disk (g.clock m.disk) left → StandsFor left x → IsAmong x.cases c
+
+-- The next number that is found is not below that of any mark before the stop at which nothing was in doubt: so no number that
+-- was given by then is given again.
+abbrev pub NumbersStayGiven : {D : Type 0} → disk.Ghosts D → Type 0
+NumbersStayGiven {D} g = (m : Mark D) (ns : List (Mark D)) (left : List ℕ) (x : Durable) → IsTrue (g.is_honest m.disk) → IsSettled g m → Run g m ns → m.in_doubt ≡ []
+    → g.left_since (last_of m ns).disk (g.clock m.disk) left → StandsFor left x → m.durable.next ≤ x.next
