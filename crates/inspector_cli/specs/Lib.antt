@@ -6,3 +6,4 @@ pub mod Stages
 pub mod Session
 pub mod Answering
 pub mod Storing
+pub mod Life

@@ -5,6 +5,7 @@ mod answers;
 mod begin;
 mod command;
 mod keys;
+mod life;
 mod names;
 mod parts;
 mod process;
@@ -14,7 +15,8 @@ mod session;
 mod store;
 mod telling;
 
+pub use life::open_and_run;
 pub use run::run_session;
 pub use script_streams::{Input, Output, ReadInput, StreamFault, WriteOutput};
-pub use session::{Naming, SessionFault};
+pub use session::{LifeFault, Naming, SessionFault};
 pub use store::store_stream;

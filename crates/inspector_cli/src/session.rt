@@ -1,4 +1,5 @@
 //! A session: the commands of a script and the replies to them.
+use journal_layout::OpenFault;
 use name_template::Template;
 use thiserror::Error;
 
@@ -23,4 +24,15 @@ pub enum SessionFault {
     /// 2^40 reads were made, and each gave a byte.
     #[error("too many reads")]
     TooManyReads,
+}
+
+/// Why a session over the archive on a disk did not end with its script.
+#[derive(Clone, Copy, PartialEq, Eq, Debug, Error)]
+pub enum LifeFault {
+    /// The archive could not be opened.
+    #[error(transparent)]
+    Open(OpenFault),
+    /// The session ended before its script.
+    #[error(transparent)]
+    Session(SessionFault),
 }

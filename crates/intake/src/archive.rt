@@ -99,6 +99,9 @@ impl<D: Disk> Archive<D> {
         ensures found_again { (x : Durable) → IsTrue (D.is_honest disk) → StandsFor (D.seen disk) x
             → FindsAgain D.seen result x }
         ensures state { IfOk result (λ a. IsOpened settings.limit a) }
+        // A crash from then on leaves what it shows.
+        ensures settled { IsTrue (D.is_honest disk)
+            → IfOk result (λ a. (c : List ℕ) → D.may_leave a.disk c → StandsFor c (durable_of D.seen a)) }
         // A crash meanwhile leaves what one before could have left.
         ensures any_moment { IsTrue (D.is_honest disk)
             → LeavesOnly D.Disk disk (disk_in result) (D.may_leave disk) }

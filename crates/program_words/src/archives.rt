@@ -1,7 +1,7 @@
 // Archives, made and opened.
 use crate::failures::Refusal;
 use case_journal::format;
-use disk_model::{Disk, FileDisk, MemDisk};
+use disk_model::{FileDisk, MemDisk};
 use intake::{Archive, Settings};
 use journal_layout::Shape;
 use std::alloc::Global;
@@ -27,25 +27,16 @@ pub(crate) fn open_file<R: AllocGlobal + Files<File = File>>(
     limit: u64,
 ) -> Result<Archive<FileDisk>, Refusal> {
     let disk = FileDisk::open(rt, path)?;
-    open_archive(rt.alloc(), disk, limit)
-}
-
-// A fresh archive in memory.
-pub(crate) fn open_memory(
-    alloc: Global,
-    shape: Shape,
-    limit: u64,
-) -> Result<Archive<MemDisk>, Refusal> {
-    let length = shape.length()?;
-    let mut disk = MemDisk::new(alloc, length)?;
-    format(&mut disk, shape)?;
-    open_archive(alloc, disk, limit)
-}
-
-// Opens the archive on a disk.
-fn open_archive<D: Disk + Drop>(alloc: Global, disk: D, limit: u64) -> Result<Archive<D>, Refusal> {
-    match Archive::open(alloc, disk, Settings { limit }) {
+    match Archive::open(rt.alloc(), disk, Settings { limit }) {
         Ok(archive) => Ok(archive),
         Err((fault, _)) => Err(Refusal::Open(fault)),
     }
+}
+
+// The disk of a fresh archive in memory.
+pub(crate) fn memory_disk(alloc: Global, shape: Shape) -> Result<MemDisk, Refusal> {
+    let length = shape.length()?;
+    let mut disk = MemDisk::new(alloc, length)?;
+    format(&mut disk, shape)?;
+    Ok(disk)
 }

@@ -2,7 +2,7 @@
 use case_journal::FormatFault;
 use clap::error::ErrorKind;
 use disk_model::FileFault;
-use inspector_cli::SessionFault;
+use inspector_cli::{LifeFault, SessionFault};
 use journal_layout::{BadShape, OpenFault};
 use name_template::TemplateFault;
 use script_streams::{Output, Reply};
@@ -57,6 +57,15 @@ impl From<Refusal> for Failure {
 impl From<SessionFault> for Failure {
     fn from(fault: SessionFault) -> Self {
         Failure::Faulted(fault)
+    }
+}
+
+impl From<LifeFault> for Failure {
+    fn from(fault: LifeFault) -> Self {
+        match fault {
+            LifeFault::Open(fault) => Failure::Refused(Refusal::Open(fault)),
+            LifeFault::Session(fault) => Failure::Faulted(fault),
+        }
     }
 }
 

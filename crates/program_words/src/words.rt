@@ -1,11 +1,14 @@
 // The program: what its words ask for, and the status that it ends with.
-use crate::archives::{make_archive, open_file, open_memory};
+use crate::archives::{make_archive, memory_disk, open_file};
 use crate::asked::{Asked, SessionWords, read_words};
 use crate::failures::{Failure, Refusal, tell_failure};
-use inspector_cli::{Naming, run_session, store_stream};
+use disk_model::{Disk, FileDisk};
+use inspector_cli::{Naming, open_and_run, store_stream};
+use intake::Settings;
 use journal_layout::Shape;
 use name_template::Template;
 use script_streams::{Input, Output, ReadInput};
+use std::alloc::Global;
 use std::fs::File;
 use std::rt::Files;
 
@@ -65,8 +68,8 @@ fn run_file<R: AllocGlobal + Files<File = File>, I: Input, O: Output>(
     output: &mut O,
 ) -> Result<(), Failure> {
     let naming = naming_of(settings)?;
-    let mut archive = open_file(rt, path, settings.limit)?;
-    Ok(run_session(input, output, &mut archive, &naming)?)
+    let disk = FileDisk::open(rt, path).map_err(Refusal::from)?;
+    run_over(rt.alloc(), disk, settings.limit, &naming, input, output)
 }
 
 // Runs a script over a fresh archive in memory.
@@ -78,8 +81,21 @@ fn run_memory<R: AllocGlobal, I: Input, O: Output>(
     output: &mut O,
 ) -> Result<(), Failure> {
     let naming = naming_of(settings)?;
-    let mut archive = open_memory(rt.alloc(), shape, settings.limit)?;
-    Ok(run_session(input, output, &mut archive, &naming)?)
+    let disk = memory_disk(rt.alloc(), shape)?;
+    run_over(rt.alloc(), disk, settings.limit, &naming, input, output)
+}
+
+// Opens the archive on a disk and runs a script over it.
+fn run_over<D: Disk + Drop, I: Input, O: Output>(
+    alloc: Global,
+    disk: D,
+    limit: u64,
+    naming: &Naming,
+    input: &mut I,
+    output: &mut O,
+) -> Result<(), Failure> {
+    let (ended, _) = open_and_run(alloc, disk, Settings { limit }, naming, input, output);
+    Ok(ended?)
 }
 
 // Stores a file as a case of the archive in a file; its stream begins by this line.

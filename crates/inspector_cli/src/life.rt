@@ -1,0 +1,52 @@
+// A session from the opening of its archive on.
+ghost use Rattle.inspector_cli.specs.Life.{LifeEnds};
+
+use crate::run::run_session;
+use crate::session::{LifeFault, Naming};
+use disk_model::Disk;
+use intake::{Archive, Settings};
+use script_streams::{Input, Output};
+use std::alloc::Global;
+
+/// Opens the archive on a disk, runs a session over it, and hands the disk back.
+///
+/// Crash safety, whole: on an honest disk that stands for an archive, after a stop of the machine or not, the session is one over
+/// exactly that archive. Whenever the machine stops then, between two disk writes or within one, an opening of what is left
+/// finds exactly the cases and images behind a line of the script that is not before the last one that was answered, or,
+/// where the disk failed, what that line would have left.
+///
+/// # Errors
+///
+/// `Open` where the archive could not be opened: nothing is read or written then. `Session` as `run_session` ends.
+pub fn open_and_run<I: Input, O: Output, D: Disk>(
+    alloc: Global,
+    disk: D,
+    settings: Settings,
+    naming: &Naming,
+    input: &mut I,
+    output: &mut O,
+) -> (Result<(), LifeFault>, D)
+    ensures { LifeEnds D.Disk naming.now (record {
+      input = I.remaining input.old;
+      input' = I.remaining input.new;
+      fails = I.failures input.old;
+      fails' = I.failures input.new;
+      taken = O.taken output.old;
+      taken' = O.taken output.new;
+      lost = O.failures output.old;
+      lost' = O.failures output.new;
+    }) disk result.0 result.1 }
+{
+    match Archive::open(alloc, disk, settings) {
+        Ok(archive) => {
+            let mut archive = archive;
+            let ended = run_session(input, output, &mut archive, naming);
+            let disk = archive.close();
+            match ended {
+                Ok(()) => (Ok(()), disk),
+                Err(fault) => (Err(LifeFault::Session(fault)), disk),
+            }
+        }
+        Err((fault, disk)) => (Err(LifeFault::Open(fault)), disk),
+    }
+}
