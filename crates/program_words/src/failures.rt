@@ -1,4 +1,6 @@
 // Why the program ends with a status other than 0, and how it says so.
+ghost use Rattle.std.specs.Prelude.{◌≡◌, ◌≢◌, ◌≤◌};
+
 use case_journal::FormatFault;
 use clap::error::ErrorKind;
 use disk_model::FileFault;
@@ -123,7 +125,10 @@ pub(crate) fn tell_failure<O: Output, E: Output>(
     failure: &Failure,
     output: &mut O,
     errors: &mut E,
-) -> u8 {
+) -> u8
+    ensures most { result ≤ 2 }
+    ensures quiet { result ≡ 0 → errors.new ≡ errors.old }
+{
     match failure {
         Failure::Words(error) => tell_words(alloc, error, output, errors),
         Failure::Refused(refusal) => tell_refusal(*refusal, output),
@@ -138,7 +143,10 @@ fn tell_words<O: Output, E: Output>(
     error: &clap::Error,
     output: &mut O,
     errors: &mut E,
-) -> u8 {
+) -> u8
+    ensures most { result ≤ 2 }
+    ensures quiet { result ≢ 2 → errors.new ≡ errors.old }
+{
     if error.kind() == ErrorKind::OutOfMemory {
         return tell_refusal(Refusal::OutOfMemory, output);
     }
@@ -161,7 +169,9 @@ fn tell_text<O: Output>(output: &mut O, text: &[u8]) {
 }
 
 // Tells what is refused.
-fn tell_refusal<O: Output>(refusal: Refusal, output: &mut O) -> u8 {
+fn tell_refusal<O: Output>(refusal: Refusal, output: &mut O) -> u8
+    ensures { result ≡ 1 }
+{
     let mut reply = Reply::new();
     reply.tell(output, b"no ");
     match refusal {
@@ -199,7 +209,9 @@ fn tell_open_fault<O: Output>(reply: &mut Reply, output: &mut O, fault: OpenFaul
 }
 
 // Tells why a session ended before its script.
-fn tell_fault<E: Output>(fault: SessionFault, errors: &mut E) -> u8 {
+fn tell_fault<E: Output>(fault: SessionFault, errors: &mut E) -> u8
+    ensures { result ≡ 1 }
+{
     let mut reply = Reply::new();
     reply.tell(errors, b"fault ");
     reply.tell(errors, fault_name(fault));

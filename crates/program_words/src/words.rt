@@ -1,4 +1,6 @@
 // The program: what its words ask for, and the status that it ends with.
+ghost use Rattle.std.specs.Prelude.{◌≡◌, ◌≤◌};
+
 use crate::archives::{make_archive, memory_disk, open_file};
 use crate::asked::{Asked, SessionWords, read_words};
 use crate::failures::{Failure, Refusal, tell_failure};
@@ -31,7 +33,11 @@ pub fn run_words<R: AllocGlobal + Files<File = File>, I: Input, O: Output, E: Ou
     input: &mut I,
     output: &mut O,
     errors: &mut E,
-) -> u8 {
+) -> u8
+    // The status, and where it is 0, nothing was written to the errors.
+    ensures most { result ≤ 2 }
+    ensures quiet { result ≡ 0 → errors.new ≡ errors.old }
+{
     match answer_words(rt, words, input, output) {
         Ok(()) => 0,
         Err(failure) => tell_failure(rt.alloc(), &failure, output, errors),
