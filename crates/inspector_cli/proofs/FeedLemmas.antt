@@ -1,24 +1,24 @@
 -- The bytes of a part are those that the stream takes, in order.
-use Rattle.std.proofs.Common.{◌≡◌, ℕ, zero, suc, ◌+◌, ◌-◌, ◌%◌, ◌<◌, ◌≤◌, true, false, List, [], ◌∷◌, ◌++◌, length, map, min, take, drop, Option, Some, None, Result, Ok, Err, refl, sym, ap, subst, ◌∙◌, arith, append_assoc, length-append, length-take-le}
+use Rattle.std.proofs.Common.{◌≡◌, ℕ, zero, suc, ◌+◌, ◌%◌, ◌<◌, ◌≤◌, List, [], ◌∷◌, ◌++◌, length, map, min, take, drop, Option, Some, None, Result, Ok, Err, refl, sym, ap, subst, ◌∙◌, arith, append_assoc, length-append, length-take-le}
 use Rattle.std.proofs.lemmas.Bool.{false≢true}
 use Rattle.std.proofs.lemmas.List.{append-nil, length-drop}
 use Rattle.std.proofs.Math.Seq.{take-append_seam, drop-append_seam, take-length, drop-length}
 use Rattle.std.specs.Prelude.{slice_set, option_map, IsTrue}
 use Rattle.disk_model.specs.declared.disk.Disk as disk
 use Rattle.intake.specs.declared.faults.ArchiveFault.{ArchiveFault}
-use Rattle.intake.specs.declared.faults.ArchiveFault.TheVariants.{Stopped, BadSlot, SlotBusy, NameTaken, NoStream, TooLong, SpaceFull, NoCase, Pinned, JournalFull, NumbersSpent, OutOfMemory, Disk}
+use Rattle.intake.specs.declared.faults.ArchiveFault.TheVariants.{Stopped, NoStream, Disk}
 use Rattle.intake.specs.Blocks.{joined}
 use Rattle.intake.specs.Calls.{Stays}
-use Rattle.intake.specs.Contents.{Contents, Taken, AdvanceBytes, RefusedBytes, with_taken, without_streams, advanced, next_free}
+use Rattle.intake.specs.Contents.{Contents, Taken, AdvanceBytes, with_taken, without_streams, advanced, next_free}
 use Rattle.intake.specs.Lending.{refilled, with_room}
-use Rattle.intake.specs.Parts.{Parts, StreamParts, bare_of, bare_stream, contents_of, taken_in}
+use Rattle.intake.specs.Parts.{Parts, StreamParts, bare_of, contents_of, taken_in}
 use Rattle.intake.specs.Room.{room_left, free_part, FitsFree}
-use Rattle.intake.specs.Slots.{stream_at, closed}
+use Rattle.intake.specs.Slots.{stream_at}
 use Rattle.intake.specs.State.{Bare, BareStream}
-use Rattle.intake.specs.Step.{AdvanceStep, RoomReply}
+use Rattle.intake.specs.Step.{AdvanceStep}
 use Rattle.inspector_cli.specs.Reply.{TakeStep, TakeBytes, Takes}
 use Rattle.inspector_cli.proofs.GiveLemmas.{took_as}
-use Rattle.inspector_cli.proofs.RoomLemmas.{same_bare, still_fits, fits_bare, has_room}
+use Rattle.inspector_cli.proofs.RoomLemmas.{same_bare, still_fits, fits_bare}
 use Rattle.inspector_cli.proofs.SlotLemmas.{set_again, at_set, at_mapped, closed_set}
 use Rattle.inspector_cli.proofs.StayLemmas.{stays_then}
 use Rattle.inspector_cli.proofs.TakeLemmas.{took_piece, took_none, refused_yet}

@@ -1,6 +1,5 @@
 -- Calls that change no case, one after the other.
-use Rattle.std.proofs.Common.{◌≡◌, ℕ, List, sym, ap, subst, ◌∙◌, refl}
-use Rattle.std.specs.Prelude.{IsTrue}
+use Rattle.std.proofs.Common.{◌≡◌, sym, ap, subst, ◌∙◌, refl}
 use Rattle.disk_model.specs.Moments.{AddsOnly}
 use Rattle.disk_model.specs.MomentLaws.{adds_nothing, adds_again, adds_weakened}
 use Rattle.disk_model.specs.declared.disk.Disk as disk

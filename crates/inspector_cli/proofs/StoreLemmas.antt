@@ -26,7 +26,7 @@ use Rattle.inspector_cli.specs.declared.session.SessionFault.TheVariants.{WriteF
 use Rattle.inspector_cli.specs.declared.store.TakeStop.{TakeStop}
 use Rattle.inspector_cli.specs.declared.store.TakeStop.TheVariants.{File, Refused}
 use Rattle.inspector_cli.specs.Answering.{Telling, TellsReply}
-use Rattle.inspector_cli.specs.Stages.{Stage, Moves, mark_at, marks_of}
+use Rattle.inspector_cli.specs.Stages.{Stage, mark_at, marks_of}
 use Rattle.inspector_cli.specs.Storing.{first_stream, TakesFile, TakesMore, FileReplies, RestReplies, Stores, StoreStages, StoreEnds, IsSlotQuiet}
 use Rattle.inspector_cli.proofs.StayLemmas.{stays_none, stays_as, stays_then}
 use Rattle.inspector_cli.proofs.StageLemmas.{Laws, Reaches, stage_of, line_moves, still, begins_stays}

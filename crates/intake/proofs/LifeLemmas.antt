@@ -4,8 +4,8 @@ use Rattle.std.specs.List.{AllByRecursion}
 use Rattle.std.specs.Prelude.{IsTrue}
 use Rattle.disk_model.specs.declared.disk.Disk as disk
 use Rattle.intake.specs.Durable.{Durable, FoundCase, StandsFor}
-use Rattle.intake.specs.Lives.{Life, IsAmong, HoldsCase, AllHoldCase, AreLived, AreKept, IsLived, last_acknowledged}
-use Rattle.intake.specs.Marks.{Mark, IsOneOf, Has, IsSettled, Finds, FindsOne, HasOne, IsFoundFrom, Run, last_of}
+use Rattle.intake.specs.Lives.{Life, IsAmong, HoldsCase, AllHoldCase, AreLived, AreKept, last_acknowledged}
+use Rattle.intake.specs.Marks.{Mark, IsOneOf, Has, IsSettled, FindsOne, HasOne, Run, last_of}
 use Rattle.intake.proofs.LastingLemmas.{one_stands}
 use Rattle.intake.proofs.MarkLemmas.{found_from}
 

@@ -250,12 +250,12 @@ module _ {D : Type 0} (g : disk.Ghosts D) (counts : (d : D) (t : ℕ) (c : List 
       let same : new.stopped ≡ true → IsTrue (g.is_honest old.disk) → SameCases = λ stopped honest. finish_same slot f call.step (call.bytes honest) in
       ⊎_elim
       (λ is. (
-        let step = subst (λ (z : ArchiveFault). FinishStep (bare_of old) slot (Err z) (bare_of new)) is call.step in
-        let t = taken_there g.seen old slot step.0 step.1.1 in
-        let x = with_case (durable_of g.seen old) step.0 t.0.bytes in
-        let may : MayBeStored (bare_of old) (contents_of g.seen old) (durable_of g.seen old) slot x = (step.0, t.0, step.1.1, t.1, refl) in
-        leads_one ℕ g counts only old new (Err f) (MayBeStored (bare_of old) (contents_of g.seen old) (durable_of g.seen old) slot) x may
-        (λ y may'. one_stored (bare_of old) (contents_of g.seen old) (durable_of g.seen old) slot x y may may') (omega arith) call.changes (finish_number slot (Err f) call.step) same
+      let step = subst (λ (z : ArchiveFault). FinishStep (bare_of old) slot (Err z) (bare_of new)) is call.step in
+      let t = taken_there g.seen old slot step.0 step.1.1 in
+      let x = with_case (durable_of g.seen old) step.0 t.0.bytes in
+      let may : MayBeStored (bare_of old) (contents_of g.seen old) (durable_of g.seen old) slot x = (step.0, t.0, step.1.1, t.1, refl) in
+      leads_one ℕ g counts only old new (Err f) (MayBeStored (bare_of old) (contents_of g.seen old) (durable_of g.seen old) slot) x may
+      (λ y may'. one_stored (bare_of old) (contents_of g.seen old) (durable_of g.seen old) slot x y may may') (omega arith) call.changes (finish_number slot (Err f) call.step) same
       ))
       (λ not. leads_plain ℕ g counts only old new (Err f) (MayBeStored (bare_of old) (contents_of g.seen old) (durable_of g.seen old) slot) not call.changes (finish_number slot (Err f) call.step) same)
       (disk_or_not f)
@@ -338,11 +338,11 @@ module _ {D : Type 0} (g : disk.Ghosts D) (counts : (d : D) (t : ℕ) (c : List 
       let same : new.stopped ≡ true → IsTrue (g.is_honest old.disk) → SameCases = λ stopped honest. refused_same f (retire_is policy f call.step) (call.bytes honest) in
       ⊎_elim
       (λ is. (
-        let step = subst (λ (z : ArchiveFault). RetireStep (bare_of old) policy (Err z) (bare_of new)) is call.step in
-        let x = without (durable_of g.seen old) step.0 in
-        let may : MayBeRetired (bare_of old) policy (durable_of g.seen old) x = (step.0, step.1, step.2, refl) in
-        leads_one Decision g counts only old new (Err f) (λ y. MayBeRetired (bare_of old) policy (durable_of g.seen old) y) x may
-        (λ y may'. one_retired (bare_of old) policy (durable_of g.seen old) x y may may') (omega arith) call.changes (refused_number (retire_is policy f call.step)) same
+      let step = subst (λ (z : ArchiveFault). RetireStep (bare_of old) policy (Err z) (bare_of new)) is call.step in
+      let x = without (durable_of g.seen old) step.0 in
+      let may : MayBeRetired (bare_of old) policy (durable_of g.seen old) x = (step.0, step.1, step.2, refl) in
+      leads_one Decision g counts only old new (Err f) (λ y. MayBeRetired (bare_of old) policy (durable_of g.seen old) y) x may
+      (λ y may'. one_retired (bare_of old) policy (durable_of g.seen old) x y may may') (omega arith) call.changes (refused_number (retire_is policy f call.step)) same
       ))
       (λ not. leads_plain Decision g counts only old new (Err f) (λ y. MayBeRetired (bare_of old) policy (durable_of g.seen old) y) not call.changes (refused_number (retire_is policy f call.step)) same)
       (disk_or_not f)

@@ -1,6 +1,6 @@
 -- An archive over many stops, and what follows for one case and for the numbers of the cases.
-use Rattle.std.specs.Prelude.{◌≡◌, ◌⊎◌, ℕ, ◌<◌, ◌≤◌, List, [], ◌∷◌, ◌++◌, IsTrue}
-use Rattle.std.specs.List.{All, AllByRecursion}
+use Rattle.std.specs.Prelude.{◌≡◌, ◌⊎◌, ℕ, ◌≤◌, List, [], ◌∷◌, IsTrue}
+use Rattle.std.specs.List.{AllByRecursion}
 use Rattle.disk_model.specs.declared.disk.Disk as disk
 use Rattle.intake.specs.Durable.{Durable, FoundCase, StandsFor}
 use Rattle.intake.specs.Marks.{Mark, IsSettled, Run, HasOne, last_of}

@@ -13,7 +13,8 @@ returns g c =
           bytes = call.bytes;
           changes = record { honesty = call.honesty; crash = call.any_moment; stands = λ runs. c.is_stopped.ensures.stands (c.is_stopped.ensures.value ∙ runs) };
         },
-        refl, c.is_ok-is_stored.ensures.value,
+        refl,
+        c.is_ok-is_stored.ensures.value,
       ),
       c.tell_stored.ensures,
     )

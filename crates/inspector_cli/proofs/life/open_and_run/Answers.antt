@@ -1,4 +1,4 @@
-use Rattle.std.proofs.Common.{refl, inl, [], ◌∙◌}
+use Rattle.std.proofs.Common.{refl, inl, []}
 use Rattle.intake.specs.Durable.{durable_of}
 use Rattle.inspector_cli.proofs.life.open_and_run.Goals as goal
 

@@ -1,6 +1,5 @@
-use Rattle.std.proofs.Common.{◌≡◌, ◌+◌, ◌<◌, length, take, sym, subst, ap, ◌∙◌, arith, Ok, length-take-le, length-append, ◌++◌, drop, List, ℕ, min}
-use Rattle.std.proofs.lemmas.List.{length-drop, take-append-le}
-use Rattle.intake.specs.Room.{room_left}
+use Rattle.std.proofs.Common.{length, take, sym, ap, ◌∙◌, arith, length-take-le, ◌++◌, drop}
+use Rattle.std.proofs.lemmas.List.{take-append-le}
 use Rattle.std.proofs.lemmas.Result.{err_from_is_err_and}
 use Rattle.inspector_cli.proofs.FeedLemmas.{lent_takes, fed, lent_length}
 use Rattle.inspector_cli.proofs.GiveLemmas.{first_of}

@@ -1,4 +1,4 @@
-use Rattle.std.proofs.Common.{◌+◌, ◌++◌, [], length, arith, refl, ◌∙◌}
+use Rattle.std.proofs.Common.{◌++◌, [], arith, refl, ◌∙◌}
 use Rattle.std.proofs.lemmas.Result.{err_from_is_err_and}
 use Rattle.inspector_cli.proofs.FeedLemmas.{fed_none}
 use Rattle.inspector_cli.proofs.GiveLemmas.{gives_nothing, gives_then, gives_then_none, joined_length}

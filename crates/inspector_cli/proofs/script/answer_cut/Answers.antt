@@ -1,4 +1,4 @@
-use Rattle.std.proofs.Common.{[], refl}
+use Rattle.std.proofs.Common.{refl}
 use Rattle.std.specs.Prelude.{codes}
 use Rattle.inspector_cli.specs.Reply.{plain_reply, no_reply}
 use Rattle.inspector_cli.specs.Said.{part_of}

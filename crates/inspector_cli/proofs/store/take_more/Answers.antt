@@ -1,4 +1,4 @@
-use Rattle.std.proofs.Common.{◌≡◌, ℕ, List, [], length, take, sym, subst, ap, ◌∙◌, refl, Ok, Err, arith, length-take-le}
+use Rattle.std.proofs.Common.{◌≡◌, [], length, take, ap, ◌∙◌, refl, arith, length-take-le}
 use Rattle.std.proofs.KnownBytes.{Consumes-kept, Consumes-nil}
 use Rattle.inspector_cli.proofs.FeedLemmas.{lent_takes, fed}
 use Rattle.inspector_cli.proofs.store.take_more.Goals as goal
