@@ -1,0 +1,109 @@
+// Archives in memory, sessions over them, and scripts.
+use case_journal::format;
+use disk_model::{Disk, MemDisk, Pick};
+use inspector_cli::{Naming, ReadInput, WriteOutput, run_session};
+use intake::{Archive, Settings};
+use journal_layout::Shape;
+use name_template::Template;
+use std::alloc::{AllocError, Global};
+use std::process::Abort;
+use std::test::Fail;
+
+// A formatted disk of one block in each journal half and four data blocks.
+pub(crate) fn fresh_disk(alloc: Global) -> Result<MemDisk, Fail> {
+    let shape = Shape {
+        half_blocks: 1,
+        data_blocks: 4,
+    };
+    let mut disk = MemDisk::new(alloc, shape.length()?)?;
+    format(&mut disk, shape)?;
+    Ok(disk)
+}
+
+// The archive on a disk, whose images have at most so many bytes.
+pub(crate) fn opened<D: Disk + Drop>(
+    alloc: Global,
+    disk: D,
+    limit: u64,
+) -> Result<Archive<D>, Fail> {
+    match Archive::open(alloc, disk, Settings { limit }) {
+        Ok(archive) => Ok(archive),
+        Err((fault, _)) => Err(fault)?,
+    }
+}
+
+// A fresh archive, whose images have at most so many bytes.
+pub(crate) fn fresh(alloc: Global, limit: u64) -> Result<Archive<MemDisk>, Fail> {
+    opened(alloc, fresh_disk(alloc)?, limit)
+}
+
+// The archive that is found where this one was closed.
+pub(crate) fn reopened(alloc: Global, archive: Archive<MemDisk>) -> Result<Archive<MemDisk>, Fail> {
+    opened(alloc, archive.close(), 1 << 30)
+}
+
+// The archive that is found after a crash of this one.
+pub(crate) fn after_crash(
+    alloc: Global,
+    disk: &MemDisk,
+    pick: Pick,
+) -> Result<Archive<MemDisk>, Fail> {
+    opened(alloc, disk.after_crash(pick)?, 1 << 30)
+}
+
+// Cores are named by this template.
+pub(crate) fn named(template: &[u8], uses_pid: bool) -> Result<Naming, Fail> {
+    Ok(Naming {
+        template: Template::parse(template)?,
+        uses_pid,
+    })
+}
+
+// What a session over this script writes, which ends well.
+pub(crate) fn replies<D: Disk>(
+    alloc: Global,
+    archive: &mut Archive<D>,
+    naming: &Naming,
+    script: &[u8],
+) -> Result<String, Fail> {
+    let mut text = Vec::new(alloc);
+    let mut input = ReadInput::new(script);
+    let mut output = WriteOutput::new(&mut text);
+    run_session(&mut input, &mut output, archive, naming)?;
+    Ok(String::from_utf8(text)?)
+}
+
+// The same, where cores are named `core.%e.%p`.
+pub(crate) fn told<D: Disk>(
+    alloc: Global,
+    archive: &mut Archive<D>,
+    script: &[u8],
+) -> Result<String, Fail> {
+    replies(alloc, archive, &named(b"core.%e.%p", false)?, script)
+}
+
+// A session over this script writes this text.
+pub(crate) fn tells<D: Disk>(
+    rt: &(impl AllocGlobal + Abort),
+    archive: &mut Archive<D>,
+    script: &[u8],
+    wanted: &str,
+) -> Result<(), Fail> {
+    let text = told(rt.alloc(), archive, script)?;
+    assert_eq!(rt; text.as_str(), wanted);
+    Ok(())
+}
+
+// A script with a part of so many bytes between two texts.
+pub(crate) fn with_part(
+    alloc: Global,
+    before: &[u8],
+    size: usize,
+    after: &[u8],
+) -> Result<Vec<u8>, AllocError> {
+    let mut script = before.to_vec(alloc)?;
+    let all = vec![in alloc; b'z'; size]?;
+    script.extend_from_slice(all.as_slice())?;
+    script.extend_from_slice(after)?;
+    Ok(script)
+}

@@ -1,0 +1,41 @@
+// Archives that are not opened.
+use crate::archives::{fresh, told};
+use disk_model::Disk;
+use intake::{Archive, Settings};
+use journal_layout::{Field, OpenFault};
+use std::alloc::Global;
+use std::test::Fail;
+
+// Why the archive of one executable is not opened once this byte of its disk is set.
+fn refused(alloc: Global, at: u64, byte: u8) -> Result<Option<OpenFault>, Fail> {
+    let mut archive = fresh(alloc, 1 << 30)?;
+    let script = b"begin exec 0 /bin/cat\npart 0 5\nhelloend 0\n";
+    let _ = told(alloc, &mut archive, script)?;
+    let mut disk = archive.close();
+    if at < disk.length() {
+        disk.write_at(at, &[byte])?;
+    }
+    match Archive::open(alloc, disk, Settings { limit: 1 << 30 }) {
+        Ok(_) => Ok(None),
+        Err((fault, _)) => Ok(Some(fault)),
+    }
+}
+
+#[test]
+fn a_damaged_archive_is_refused(rt: HostRuntime) -> Result<(), Fail> {
+    let alloc = rt.alloc();
+    assert_eq!(rt;
+        refused(alloc, 4129, 9)?,
+        Some(OpenFault::Damaged {
+            at: 4129,
+            field: Field::Kind
+        })
+    );
+    assert_eq!(rt;
+        refused(alloc, 4100, 7)?,
+        Some(OpenFault::UnknownVersion(7))
+    );
+    assert_eq!(rt; refused(alloc, 0, 0)?, Some(OpenFault::NotAnArchive));
+    assert_eq!(rt; refused(alloc, 0, 0xa5)?, None);
+    Ok(())
+}

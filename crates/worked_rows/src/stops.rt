@@ -1,0 +1,101 @@
+// Disks that fail at the last call of a session, and what is found after a crash.
+use crate::archives::{after_crash, fresh, fresh_disk, opened, tells, told};
+use disk_model::{MemDisk, OneFault, Pick};
+use std::alloc::Global;
+use std::process::Abort;
+use std::test::Fail;
+
+// What a session over this script writes, and the disk that it leaves, where this call of the disk fails. The archive on
+// the disk stays as it is: the session is over a copy.
+fn stopped(
+    alloc: Global,
+    disk: &MemDisk,
+    call: u64,
+    script: &[u8],
+) -> Result<(String, OneFault<MemDisk>), Fail> {
+    let copy = disk.after_crash(Pick::Nothing)?;
+    let mut archive = opened(alloc, OneFault::new(copy, call), 1 << 30)?;
+    let text = told(alloc, &mut archive, script)?;
+    Ok((text, archive.close()))
+}
+
+// The same, where the last call of the disk fails that the first part of the script makes.
+fn stopped_at_last_call(
+    alloc: Global,
+    disk: &MemDisk,
+    first: &[u8],
+    script: &[u8],
+) -> Result<(String, MemDisk), Fail> {
+    let (_, whole) = stopped(alloc, disk, 0, first)?;
+    let (text, left) = stopped(alloc, disk, whole.calls(), script)?;
+    Ok((text, left.into_inner()))
+}
+
+const STORED: &[u8] =
+    b"begin exec 0 \\xa5\\xa5\\xa5\\xa5\\xa5\\xa5\\xa5\\xa5\\xa5\\xa5\\xa5\\xa5\\xa5\\xa5\\xa5\\xa5\\xa5\\xa5\\xa5\\xa5\npart 0 5\nhelloend 0\n";
+
+// The disk that is left where its last call fails within the end of that stream.
+fn stopped_end(rt: &(impl AllocGlobal + Abort)) -> Result<MemDisk, Fail> {
+    let disk = fresh_disk(rt.alloc())?;
+    let (text, left) = stopped_at_last_call(rt.alloc(), &disk, STORED, STORED)?;
+    assert!(rt; text.ends_with("\nok\nok\nno Disk\n"));
+    Ok(left)
+}
+
+// The same of another stream, which ends well where no call fails.
+fn stopped_next(rt: &(impl AllocGlobal + Abort), disk: &MemDisk) -> Result<MemDisk, Fail> {
+    let script = b"begin exec 0 e\nend 0\n";
+    let (text, _) = stopped(rt.alloc(), disk, 0, script)?;
+    assert_eq!(rt; text.as_str(), "name e\nok\nstored 1\nok\n");
+    let (text, left) = stopped_at_last_call(rt.alloc(), disk, script, script)?;
+    assert_eq!(rt; text.as_str(), "name e\nok\nno Disk\n");
+    Ok(left)
+}
+
+// After this crash the archive lists these cases. Answers its disk.
+fn lists(
+    rt: &(impl AllocGlobal + Abort),
+    left: &MemDisk,
+    pick: Pick,
+    wanted: &str,
+) -> Result<MemDisk, Fail> {
+    let mut archive = after_crash(rt.alloc(), left, pick)?;
+    tells(rt, &mut archive, b"list\n", wanted)?;
+    Ok(archive.close())
+}
+
+#[test]
+fn a_crash_within_an_end_leaves_the_case_or_none(rt: HostRuntime) -> Result<(), Fail> {
+    let left = stopped_end(&rt)?;
+    let _ = lists(
+        &rt,
+        &left,
+        Pick::Fill(0xa5),
+        "1 exec 5 0 0 0 - \\xa5\\xa5\\xa5\\xa5\\xa5\\xa5\\xa5\\xa5\\xa5\\xa5\\xa5\\xa5\\xa5\\xa5\\xa5\\xa5\\xa5\\xa5\\xa5\\xa5\nok\n",
+    )?;
+    let disk = lists(&rt, &left, Pick::Fill(0x37), "ok\n")?;
+    let left = stopped_next(&rt, &disk)?;
+    let _ = lists(&rt, &left, Pick::Fill(0xa5), "1 exec 0 0 0 0 - e\nok\n")?;
+    Ok(())
+}
+
+#[test]
+fn a_fault_within_a_deletion_stops_the_archive(rt: HostRuntime) -> Result<(), Fail> {
+    let alloc = rt.alloc();
+    let mut archive = fresh(alloc, 1 << 30)?;
+    let _ = told(alloc, &mut archive, b"begin exec 0 a\nend 0\n")?;
+    let disk = archive.close();
+    let (text, left) = stopped_at_last_call(alloc, &disk, b"delete 1\n", b"delete 1\nlist\n")?;
+    assert_eq!(rt; text.as_str(), "no Disk\nno Stopped\n");
+    let script = b"list\nbegin exec 0 b\nend 0\n";
+    let mut archive = after_crash(alloc, &left, Pick::Nothing)?;
+    tells(
+        &rt,
+        &mut archive,
+        script,
+        "1 exec 0 0 0 0 - a\nok\nname b\nok\nstored 2\nok\n",
+    )?;
+    let mut archive = opened(alloc, left, 1 << 30)?;
+    tells(&rt, &mut archive, script, "ok\nname b\nok\nstored 2\nok\n")?;
+    Ok(())
+}

@@ -1,0 +1,167 @@
+// The words of the program, its texts and its statuses.
+use program_words::run_words;
+use script_streams::{ReadInput, WriteOutput};
+use std::fs::File;
+use std::process::Abort;
+use std::rt::Files;
+use std::test::Fail;
+
+// Runs the program on these words, with this script as its input: its status, and what it wrote to its output and for
+// errors.
+fn run(
+    rt: &(impl AllocGlobal + Files<File = File>),
+    texts: &[&str],
+    script: &[u8],
+) -> Result<(u8, String, String), Fail> {
+    let mut words = Vec::new(rt.alloc());
+    for text in texts {
+        words.push(String::from_str(rt.alloc(), *text)?)?;
+    }
+    let mut replies = Vec::new(rt.alloc());
+    let mut reasons = Vec::new(rt.alloc());
+    let mut input = ReadInput::new(script);
+    let mut output = WriteOutput::new(&mut replies);
+    let mut errors = WriteOutput::new(&mut reasons);
+    let status = run_words(rt, words.as_slice(), &mut input, &mut output, &mut errors);
+    Ok((
+        status,
+        String::from_utf8(replies)?,
+        String::from_utf8(reasons)?,
+    ))
+}
+
+// The same as one text: what it wrote to its output and then for errors, and a line with its status.
+fn shown(
+    rt: &(impl AllocGlobal + Files<File = File>),
+    texts: &[&str],
+    script: &[u8],
+) -> Result<String, Fail> {
+    let (status, replies, reasons) = run(rt, texts, script)?;
+    Ok(format!(in rt.alloc(); "{replies}{reasons}status {status}\n")?)
+}
+
+// The program shows this text on these words.
+pub(crate) fn shows(
+    rt: &(impl AllocGlobal + Files<File = File> + Abort),
+    words: &[&str],
+    script: &[u8],
+    wanted: &str,
+) -> Result<(), Fail> {
+    let text = shown(rt, words, script)?;
+    assert_eq!(rt; text.as_str(), wanted, "at {words:?}");
+    Ok(())
+}
+
+#[test]
+fn a_script_over_memory(rt: HostRuntime) -> Result<(), Fail> {
+    let script = b"begin exec 0 a\npart 0 3\nabcend 0\nlist\n";
+    shows(
+        &rt,
+        &["memory", "--half", "1", "--data", "4"],
+        script,
+        "name a\nok\nok\nstored 1\nok\n1 exec 3 0 0 0 - a\nok\nstatus 0\n",
+    )?;
+    let words = ["memory", "--half", "1", "--data", "4", "--limit", "2"];
+    shows(
+        &rt,
+        &words,
+        script,
+        "name a\nok\nno TooLong\nno NoStream\nok\nstatus 0\n",
+    )?;
+    Ok(())
+}
+
+#[test]
+fn the_words_name_cores(rt: HostRuntime) -> Result<(), Fail> {
+    let script = b"begin core 0 comm=cat pid=7\n";
+    shows(
+        &rt,
+        &["memory", "--half", "1", "--data", "4"],
+        script,
+        "name core.cat.7\nok\nstatus 0\n",
+    )?;
+    let words = [
+        "memory",
+        "--half",
+        "1",
+        "--data",
+        "4",
+        "--template",
+        "c-%e",
+        "--uses-pid",
+    ];
+    shows(&rt, &words, script, "name c-cat.7\nok\nstatus 0\n")?;
+    Ok(())
+}
+
+#[test]
+fn a_shape_outside_its_limits(rt: HostRuntime) -> Result<(), Fail> {
+    shows(
+        &rt,
+        &["memory", "--half", "0", "--data", "4"],
+        b"list\n",
+        "no BadShape\nstatus 1\n",
+    )?;
+    shows(
+        &rt,
+        &["memory", "--half", "1", "--data", "16777217"],
+        b"list\n",
+        "no BadShape\nstatus 1\n",
+    )?;
+    Ok(())
+}
+
+#[test]
+fn a_template_that_is_refused(rt: HostRuntime) -> Result<(), Fail> {
+    let words = ["memory", "--half", "0", "--data", "4", "--template", "|x"];
+    shows(&rt, &words, b"list\n", "no Pipe\nstatus 1\n")?;
+    let long = String::from_utf8(vec![in rt.alloc(); b't'; 128]?)?;
+    let words = [
+        "memory",
+        "--half",
+        "1",
+        "--data",
+        "4",
+        "--template",
+        long.as_str(),
+    ];
+    shows(&rt, &words, b"list\n", "no TemplateTooLong\nstatus 1\n")?;
+    Ok(())
+}
+
+#[test]
+fn words_that_are_refused(rt: HostRuntime) -> Result<(), Fail> {
+    let refused: [&[&str]; 9] = [
+        &["--nope"],
+        &[],
+        &["memory", "--half", "1"],
+        &["memory", "--half", "1", "--data", "4", "--nope"],
+        &["memory", "--half", "1", "--data", "4294967296"],
+        &["format", "a", "--half", "1"],
+        &["format", "--half", "1", "--data", "4"],
+        &["run"],
+        &["store", "a"],
+    ];
+    for words in refused {
+        let (status, replies, reasons) = run(&rt, words, b"list\n")?;
+        assert_eq!(rt; status, 2, "at {words:?}");
+        assert!(rt; replies.is_empty() && !reasons.is_empty(), "at {words:?}");
+    }
+    Ok(())
+}
+
+#[test]
+fn help_goes_to_the_output(rt: HostRuntime) -> Result<(), Fail> {
+    let asked: [(&[&str], &str); 3] = [
+        (&["--help"], "keeps images of programs"),
+        (&["store", "--help"], "stores a core file"),
+        (&["help", "format"], "makes an archive in a new file"),
+    ];
+    for (words, begins) in asked {
+        let (status, replies, reasons) = run(&rt, words, b"")?;
+        assert_eq!(rt; status, 0, "at {words:?}");
+        assert!(rt; replies.starts_with(begins), "at {words:?}");
+        assert!(rt; reasons.is_empty(), "at {words:?}");
+    }
+    Ok(())
+}
