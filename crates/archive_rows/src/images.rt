@@ -3,6 +3,7 @@ use crate::bench::{begin, formatted, has_image, has_runs, opened, put};
 use disk_model::{Disk, OneFault};
 use intake::{Archive, ArchiveFault};
 use journal_layout::Shape;
+use std::process::Abort;
 use std::test::Fail;
 
 const SHAPE: Shape = Shape {
@@ -55,7 +56,22 @@ fn images_are_read_as_they_were_streamed(rt: HostRuntime) -> Result<(), Fail> {
     Ok(())
 }
 
-// Each read of the first image fails once, and what was read before it is not given.
+// This call of the disk fails within the first image, and what was read before it is not given.
+fn stops_at(rt: &(impl AllocGlobal + Abort), call: u64) -> Result<(), Fail> {
+    let alloc = rt.alloc();
+    let mut archive = opened(alloc, OneFault::new(formatted(alloc, SHAPE)?, call))?;
+    assert_eq!(rt; stream_three(&mut archive)?, Ok(3), "at {call}");
+    assert_eq!(rt; begin(&mut archive, 0, b"w")?, Ok(()), "at {call}");
+    assert_eq!(rt; archive.image(1), Err(ArchiveFault::Disk), "at {call}");
+    assert_eq!(rt; archive.image(1), Err(ArchiveFault::Stopped), "at {call}");
+    assert_eq!(rt; archive.abandon(0), Err(ArchiveFault::Stopped), "at {call}");
+    let mut archive = opened(alloc, archive.close())?;
+    assert!(rt; has_image(&mut archive, 1, 0, 8197), "at {call}");
+    assert!(rt; has_image(&mut archive, 2, 1, 4103), "at {call}");
+    Ok(())
+}
+
+// Each read of the first image fails once.
 #[test]
 fn a_failing_read_stops_the_archive(rt: HostRuntime) -> Result<(), Fail> {
     let alloc = rt.alloc();
@@ -63,16 +79,7 @@ fn a_failing_read_stops_the_archive(rt: HostRuntime) -> Result<(), Fail> {
     assert_eq!(rt; stream_three(&mut archive)?, Ok(3));
     let before = archive.close().calls();
     for read in 1..3 {
-        let disk = OneFault::new(formatted(alloc, SHAPE)?, before.saturating_add(read));
-        let mut archive = opened(alloc, disk)?;
-        assert_eq!(rt; stream_three(&mut archive)?, Ok(3), "at {read}");
-        assert_eq!(rt; begin(&mut archive, 0, b"w")?, Ok(()), "at {read}");
-        assert_eq!(rt; archive.image(1), Err(ArchiveFault::Disk), "at {read}");
-        assert_eq!(rt; archive.image(1), Err(ArchiveFault::Stopped), "at {read}");
-        assert_eq!(rt; archive.abandon(0), Err(ArchiveFault::Stopped), "at {read}");
-        let mut archive = opened(alloc, archive.close())?;
-        assert!(rt; has_image(&mut archive, 1, 0, 8197), "at {read}");
-        assert!(rt; has_image(&mut archive, 2, 1, 4103), "at {read}");
+        stops_at(&rt, before.saturating_add(read))?;
     }
     Ok(())
 }

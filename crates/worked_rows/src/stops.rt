@@ -79,14 +79,20 @@ fn a_crash_within_an_end_leaves_the_case_or_none(rt: HostRuntime) -> Result<(), 
     Ok(())
 }
 
+// The disk that is left where its last call fails within the deletion of case 1.
+fn stopped_deletion(rt: &(impl AllocGlobal + Abort), disk: &MemDisk) -> Result<MemDisk, Fail> {
+    let script = b"delete 1\nlist\n";
+    let (text, left) = stopped_at_last_call(rt.alloc(), disk, b"delete 1\n", script)?;
+    assert_eq!(rt; text.as_str(), "no Disk\nno Stopped\n");
+    Ok(left)
+}
+
 #[test]
 fn a_fault_within_a_deletion_stops_the_archive(rt: HostRuntime) -> Result<(), Fail> {
     let alloc = rt.alloc();
     let mut archive = fresh(alloc, 1 << 30)?;
     let _ = told(alloc, &mut archive, b"begin exec 0 a\nend 0\n")?;
-    let disk = archive.close();
-    let (text, left) = stopped_at_last_call(alloc, &disk, b"delete 1\n", b"delete 1\nlist\n")?;
-    assert_eq!(rt; text.as_str(), "no Disk\nno Stopped\n");
+    let left = stopped_deletion(&rt, &archive.close())?;
     let script = b"list\nbegin exec 0 b\nend 0\n";
     let mut archive = after_crash(alloc, &left, Pick::Nothing)?;
     tells(
