@@ -26,7 +26,7 @@ pub fn open_and_run<I: Input, O: Output, D: Disk>(
     input: &mut I,
     output: &mut O,
 ) -> (Result<(), LifeFault>, D)
-    ensures { LifeEnds D.Disk naming.now (record {
+    ensures { LifeEnds D.Disk naming.now settings.limit (record {
       input = I.remaining input.old;
       input' = I.remaining input.new;
       fails = I.failures input.old;

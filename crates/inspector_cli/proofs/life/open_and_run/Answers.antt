@@ -5,6 +5,7 @@ use Rattle.inspector_cli.proofs.life.open_and_run.Goals as goal
 pub returns-in-Ok-ended : goal.returns-in-Ok-ended
 returns-in-Ok-ended g c = record {
   opened = c.in-Ok.archive;
+  fresh = c.in-Ok.ensures.state;
   finds = λ x honest stands. c.in-Ok.ensures.found_again x honest stands;
   honesty = c.in-Ok.ensures.honesty;
   settled = λ honest b may. (durable_of g.D.Disk.seen c.in-Ok.archive, c.in-Ok.ensures.settled honest b may, inl refl);
@@ -16,6 +17,7 @@ returns-in-Ok-ended g c = record {
 pub returns-in-Err-ended : goal.returns-in-Err-ended
 returns-in-Err-ended g c = record {
   opened = c.in-Ok.archive;
+  fresh = c.in-Ok.ensures.state;
   finds = λ x honest stands. c.in-Ok.ensures.found_again x honest stands;
   honesty = c.in-Ok.ensures.honesty;
   settled = λ honest b may. (durable_of g.D.Disk.seen c.in-Ok.archive, c.in-Ok.ensures.settled honest b may, inl refl);
