@@ -1,11 +1,15 @@
 -- An archive over many stops, told by the marks of its lives.
-use Rattle.std.proofs.Common.{◌≡◌, ◌⊎◌, ℕ, ◌≤◌, List, [], ◌∷◌, ap, sym, subst, ◌∙◌, ⊎_elim, inl, inr, arith}
+use Rattle.std.proofs.Common.{◌≡◌, ◌⊎◌, ℕ, ◌<◌, ◌≤◌, List, [], ◌∷◌, ◌++◌, Ok, refl, ap, sym, subst, ◌∙◌, ⊎_elim, inl, inr, arith}
 use Rattle.std.specs.List.{AllByRecursion}
 use Rattle.std.specs.Prelude.{IsTrue}
 use Rattle.disk_model.specs.declared.disk.Disk as disk
 use Rattle.intake.specs.Durable.{Durable, FoundCase, StandsFor}
-use Rattle.intake.specs.Lives.{Life, IsAmong, HoldsCase, AllHoldCase, AreLived, AreKept, last_acknowledged}
-use Rattle.intake.specs.Marks.{Mark, IsOneOf, Has, IsSettled, FindsOne, HasOne, Run, last_of}
+use Rattle.intake.specs.Calls.{FinishCall}
+use Rattle.intake.specs.Lives.{Life, IsLived, IsAmong, IsReached, BeginsClear, HoldsCase, AllHoldCase, AreLived, AreKept, last_acknowledged}
+use Rattle.intake.specs.Marks.{Mark, IsOneOf, Has, IsSettled, FindsOne, HasOne, Run, last_of, mark_of}
+use Rattle.intake.specs.Parts.{Parts, bare_of}
+use Rattle.intake.specs.State.{Bare}
+use Rattle.intake.specs.Step.{FinishStep}
 use Rattle.intake.proofs.LastingLemmas.{one_stands}
 use Rattle.intake.proofs.MarkLemmas.{found_from}
 
@@ -14,6 +18,15 @@ has_one : {D : Type 0} (c : List ℕ) (x : Durable) (m : Mark D) (ns : List (Mar
 has_one c x m [] stands found = subst (Has m) (one_stands c found.0 x found.1 stands) found.2
 has_one c x m (n ∷ ns) stands found =
     ⊎_elim (λ here. inl (subst (Has m) (one_stands c here.0 x here.1 stands) here.2)) (λ there. inr (has_one c x n ns stands there)) found
+
+-- what the last mark of a run or a later one has, the run with the later ones has
+one_later : {D : Type 0} (m : Mark D) (ns later : List (Mark D)) (x : Durable) → HasOne (last_of m ns) later x → HasOne m (ns ++ later) x
+one_later m [] later x has = has
+one_later m (n ∷ ns) later x has = inr (one_later n ns later x has)
+
+run_on : {D : Type 0} (g : disk.Ghosts D) (m : Mark D) (ns later : List (Mark D)) → Run g m ns → Run g (last_of m ns) later → Run g m (ns ++ later)
+run_on g m [] later run more = more
+run_on g m (n ∷ ns) later run more = (run.0, run_on g n ns later run.1 more)
 
 module _ {D : Type 0} (g : disk.Ghosts D) (only : (d : D) (c : List ℕ) → g.left_since d (g.clock d) c → g.may_leave d c) where
   pub found_has : (m : Mark D) (ns : List (Mark D)) (c : List ℕ) (x : Durable) → IsTrue (g.is_honest m.disk) → IsSettled g m → Run g m ns
@@ -67,3 +80,54 @@ module _ {D : Type 0} (g : disk.Ghosts D) (only : (d : D) (c : List ℕ) → g.l
   numbers_stay m ns left x honest settled run none was stands =
       ⊎_elim (λ one. absurd (subst (λ (l : List Durable). IsOneOf l x) none one)) (λ above. above)
       (not_below m ns x honest run (found_has m ns left x honest settled run was stands))
+
+  -- where nothing is in doubt, what a later mark has does not have a lower next number
+  above_here : (m : Mark D) (ns later : List (Mark D)) (x : Durable) → IsTrue (g.is_honest m.disk) → Run g m ns → Run g (last_of m ns) later → HasOne (last_of m ns) later x → m.in_doubt ≡ []
+      → m.durable.next ≤ x.next
+  above_here m ns later x honest run more has none =
+      ⊎_elim (λ one. absurd (subst (λ (l : List Durable). IsOneOf l x) none one)) (λ above. above)
+      (not_below m (ns ++ later) x honest (run_on g m ns later run more) (one_later m ns later x has))
+
+  above_from : (m first : Mark D) (ns later : List (Mark D)) (x : Durable) → IsTrue (g.is_honest first.disk) → Run g first ns → Run g (last_of first ns) later → HasOne (last_of first ns) later x
+      → IsReached m first ns → m.in_doubt ≡ [] → m.durable.next ≤ x.next
+  above_from m first [] later x honest run more has is none =
+      let a = above_here first [] later x honest run more has (sym (ap (λ (n : Mark D). n.in_doubt) is) ∙ none) in
+      let e = ap (λ (n : Mark D). n.durable.next) is in
+      omega (arith, a, e)
+  above_from m first (n ∷ ns) later x honest run more has (inl is) none =
+      let a = above_here first (n ∷ ns) later x honest run more has (sym (ap (λ (n : Mark D). n.in_doubt) is) ∙ none) in
+      let e = ap (λ (n : Mark D). n.durable.next) is in
+      omega (arith, a, e)
+  above_from m first (n ∷ ns) later x honest run more has (inr there) none = above_from m n ns later x (run.0.honesty ∙ honest) run.1 more has there none
+
+  -- what each later life begins with does not have a lower next number than what the one before may leave
+  above_all : (k : ℕ) (l : Life D) (ls : List (Life D)) → AreLived g l ls → AllByRecursion BeginsClear ls → ((x : Durable) → HasOne (last_acknowledged l) l.later x → k ≤ x.next)
+      → AllByRecursion (λ (n : Life D). k ≤ n.first.durable.next) ls
+  above_all k l [] lived clear above = tt
+  above_all k l (n ∷ ns) lived clear above =
+      let here = above n.first.durable (kept l (n ∷ ns) lived).0 in (
+        here,
+        above_all k n ns lived.2 clear.1 (λ x has.
+            let life = first_life n ns lived.2 in
+            let a = above_here n.first n.acknowledged n.later x life.honest life.before life.after has clear.0 in
+            omega (arith, here, a)),
+      )
+    where
+      first_life : (m : Life D) (ms : List (Life D)) → AreLived g m ms → IsLived g m
+      first_life m [] one = one
+      first_life m (o ∷ os) more = more.0
+
+  next_given : (old : Bare) (new : Bare) (slot seq : ℕ) → FinishStep old slot (Ok seq) new → seq < new.next
+  next_given old new slot seq step = let e = ap (λ (s : Bare). s.next) step.7 in let s = step.6 in omega (arith, e, s)
+
+  below_all : (seq k : ℕ) (ls : List (Life D)) → seq < k → AllByRecursion (λ (n : Life D). k ≤ n.first.durable.next) ls → AllByRecursion (λ (n : Life D). seq < n.first.durable.next) ls
+  below_all seq k [] below all = tt
+  below_all seq k (n ∷ ns) below all = (let a = all.0 in omega (arith, below, a), below_all seq k ns below all.1)
+
+  pub given_once : (l : Life D) (ls : List (Life D)) (old new : Parts D) (slot seq : ℕ) → AreLived g l ls → AllByRecursion BeginsClear ls → FinishCall g old slot (Ok seq) new
+      → IsReached (mark_of g.seen new []) l.first l.acknowledged → AllByRecursion (λ (n : Life D). seq < n.first.durable.next) ls
+  given_once l [] old new slot seq lived clear finish is = tt
+  given_once l (n ∷ ns) old new slot seq lived clear finish is =
+      below_all seq (bare_of new).next (n ∷ ns) (next_given (bare_of old) (bare_of new) slot seq finish.step)
+      (above_all (bare_of new).next l (n ∷ ns) lived clear (λ x has.
+      above_from (mark_of g.seen new []) l.first l.acknowledged l.later x lived.0.honest lived.0.before lived.0.after has is refl))

@@ -1,9 +1,11 @@
 -- An archive over many stops, and what follows for one case and for the numbers of the cases.
-use Rattle.std.specs.Prelude.{◌≡◌, ◌⊎◌, ℕ, ◌≤◌, List, [], ◌∷◌, IsTrue}
+use Rattle.std.specs.Prelude.{◌≡◌, ◌⊎◌, ℕ, ◌<◌, ◌≤◌, List, [], ◌∷◌, Ok, IsTrue}
 use Rattle.std.specs.List.{AllByRecursion}
 use Rattle.disk_model.specs.declared.disk.Disk as disk
+use Rattle.intake.specs.Calls.{FinishCall}
 use Rattle.intake.specs.Durable.{Durable, FoundCase, StandsFor}
-use Rattle.intake.specs.Marks.{Mark, IsSettled, Run, HasOne, last_of}
+use Rattle.intake.specs.Marks.{Mark, IsSettled, Run, HasOne, last_of, mark_of}
+use Rattle.intake.specs.Parts.{Parts}
 
 -- One life of an archive, from its opening to a stop: a mark behind each call that was answered; of these the first ones
 -- are acknowledged when the machine stops.
@@ -65,3 +67,19 @@ ACaseIsFound {D} g = (m : Mark D) (ns : List (Mark D)) (c : FoundCase) (left : L
 abbrev pub NumbersStayGiven : {D : Type 0} → disk.Ghosts D → Type 0
 NumbersStayGiven {D} g = (m : Mark D) (ns : List (Mark D)) (left : List ℕ) (x : Durable) → IsTrue (g.is_honest m.disk) → IsSettled g m → Run g m ns → m.in_doubt ≡ []
     → g.left_since (last_of m ns).disk (g.clock m.disk) left → StandsFor left x → m.durable.next ≤ x.next
+
+-- the mark is the first of a run or a later one
+abbrev pub IsReached : {D : Type 0} → Mark D → Mark D → List (Mark D) → Type 0
+IsReached m first [] = m ≡ first
+IsReached m first (n ∷ ns) = (m ≡ first) ⊎ IsReached m n ns
+
+-- nothing is in doubt when the archive has been opened
+abbrev pub BeginsClear : {D : Type 0} → Life D → Type 0
+BeginsClear l = l.first.in_doubt ≡ []
+
+-- A number that was given and acknowledged in one life is below the next number that each later life finds: no number is given
+-- twice, over however many stops.
+abbrev pub NumbersAreGivenOnce : {D : Type 0} → disk.Ghosts D → Type 0
+NumbersAreGivenOnce {D} g = (l : Life D) (ls : List (Life D)) (old new : Parts D) (slot seq : ℕ) → AreLived g l ls → AllByRecursion BeginsClear ls
+    → FinishCall g old slot (Ok seq) new → IsReached (mark_of g.seen new []) l.first l.acknowledged
+    → AllByRecursion (λ (n : Life D). seq < n.first.durable.next) ls

@@ -2,7 +2,7 @@
 ghost use Rattle.std.specs.Prelude.{◌≡◌};
 ghost use Rattle.intake.specs.Durable.{durable_of, durable_part};
 ghost use Rattle.intake.specs.Lasting.{WhatStandsIsOne, NumbersAreAbove};
-ghost use Rattle.intake.specs.Lives.{KeptOverManyStops, ACaseIsFound, NumbersStayGiven};
+ghost use Rattle.intake.specs.Lives.{KeptOverManyStops, ACaseIsFound, NumbersStayGiven, NumbersAreGivenOnce};
 ghost use Rattle.intake.specs.Marks.{FoundAfterAStop, StaysLead, FinishLeads, DeleteLeads, PinLeads, RetireLeads};
 ghost use Rattle.intake.specs.Parts.{Parts, bare_of, contents_of};
 
@@ -58,4 +58,10 @@ pub fn a_case_is_found<D: Disk>()
 /// twice.
 pub fn numbers_stay_given<D: Disk>()
     ensures { NumbersStayGiven D.Disk }
+{}
+
+/// A number that a finish gave, and that was acknowledged, is below the next number that is found after a stop, over however
+/// many stops: no number is given twice.
+pub fn numbers_are_given_once<D: Disk>()
+    ensures { NumbersAreGivenOnce D.Disk }
 {}
