@@ -27,9 +27,14 @@ pub enum FileFault {
     /// Its length or its name could not be made durable. Only `create` answers this.
     #[error("the file could not be synced")]
     Sync,
+    /// It could not be locked.
+    #[error("the file could not be locked")]
+    Lock,
 }
 
-/// A disk in a file, of the length that the file has when it is made or opened.
+/// A disk in a file, of the length that the file has when it is made or opened. As long as it is there it holds the file's
+/// advisory lock (flock), so that no two disks change one file at a time: a second one, of another process or of the same,
+/// waits until the first is gone. A process that ends in any way holds no lock.
 ///
 /// Nothing is promised of its bytes, or of what a crash leaves of them: it is not honest by proof, so what else is
 /// proved over a disk holds of it where the file system keeps to the disk model.
@@ -58,6 +63,7 @@ impl FileDisk {
             .create_new(true)
             .open(rt, path)
             .map_err(creation_fault)?;
+        file.lock().map_err(|_| FileFault::Lock)?;
         file.set_len(length).map_err(|_| FileFault::Length)?;
         file.sync_all().map_err(|_| FileFault::Sync)?;
         sync_folder(rt, path).map_err(|_| FileFault::Sync)?;
@@ -68,13 +74,14 @@ impl FileDisk {
         })
     }
 
-    /// Opens a file that is there.
+    /// Opens a file that is there. It waits while another disk has it open.
     pub fn open<R: Files<File = File>>(rt: &R, path: &str) -> Result<FileDisk, FileFault> {
         let file = File::options()
             .read(true)
             .write(true)
             .open(rt, path)
             .map_err(|_| FileFault::Open)?;
+        file.lock().map_err(|_| FileFault::Lock)?;
         let length = file.metadata().map_err(|_| FileFault::Length)?.len();
         Ok(FileDisk {
             file,

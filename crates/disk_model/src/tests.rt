@@ -183,6 +183,11 @@ fn a_file_keeps_its_bytes(rt: HostRuntime) -> Result<(), Fail> {
         FileDisk::create(&rt, path, 10).map(|_| ()),
         Err(FileFault::Exists)
     );
+    let other = File::open(&rt, path)?;
+    assert_eq!(rt; other.try_lock().is_ok(), false);
+    drop(disk);
+    assert_eq!(rt; other.try_lock().is_ok(), true);
+    drop(other);
     let mut disk = FileDisk::open(&rt, path)?;
     assert_eq!(rt; disk.length(), 10);
     disk.read_at(1, &mut bytes)?;

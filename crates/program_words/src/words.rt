@@ -16,6 +16,8 @@ use std::rt::Files;
 
 /// The program but for its `main`: `words` are those after its name. It answers the status that the program ends with.
 ///
+/// An archive in a file is used by one process at a time: another waits until that one has ended.
+///
 /// - `format ARCHIVE --half N --data N` makes an archive in a new file.
 /// - `run ARCHIVE` runs the script of `input` over the archive in a file, and writes its replies to `output`.
 /// - `memory --half N --data N` runs it over a fresh archive in memory.
