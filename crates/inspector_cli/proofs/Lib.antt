@@ -15,3 +15,4 @@ pub mod StageLemmas
 pub mod FeedLemmas
 pub mod StoreLemmas
 pub mod KeyLemmas
+pub mod CutLemmas

@@ -7,3 +7,4 @@ pub mod Session
 pub mod Answering
 pub mod Storing
 pub mod Life
+pub mod Cuts

@@ -1,0 +1,11 @@
+//! What holds over every script. These functions do nothing.
+ghost use Rattle.inspector_cli.specs.Cuts.{HasOneCut};
+
+use script_streams::lines_are_cut_one_way;
+
+/// A script has one cut into lines, each with the bytes that it says stand behind it, and an ending.
+pub fn a_script_has_one_cut()
+    ensures one { HasOneCut }
+{
+    lines_are_cut_one_way();
+}
