@@ -1,6 +1,8 @@
--- A script is cut into items and an ending in one way.
-use Rattle.std.proofs.Common.{◌≡◌, ℕ, ◌<◌, List, [], ◌∷◌, ◌++◌, length, refl, sym, ap, ◌∙◌, arith, append_assoc}
-use Rattle.std.proofs.lemmas.List.{length-append}
+-- A script is cut into items and an ending in one way, and each text is such a script.
+use Rattle.std.proofs.Common.{◌≡◌, ◌⊎◌, inl, inr, ⊎_elim, ℕ, zero, suc, ◌<◌, ◌≤◌, List, [], ◌∷◌, ◌++◌, length, refl, sym, ap, ◌∙◌, arith, append_assoc}
+use Rattle.std.proofs.lemmas.Bool.{cases_eq, cases_lt}
+use Rattle.std.proofs.lemmas.List.{length-append, length-take-le, length-drop, take-append-drop}
+use Rattle.std.specs.Prelude.{take, drop}
 use Rattle.std.specs.List.{flat_map, AllByRecursion}
 use Rattle.script_streams.specs.Lines.{IsLine}
 use Rattle.inspector_cli.specs.Said.{said, raw_length}
@@ -81,3 +83,58 @@ module _ (first : HasOneFirstLine) (last : HasNoNewline) where
       let heads = one_item i j (flat_map spelled is ++ ending_text e) (flat_map spelled js ++ ending_text f) each.0 all.0
       (sym (behind i (flat_map spelled is) (ending_text e)) ∙ same ∙ behind j (flat_map spelled js) (ending_text f)) in
       same_items i j is js e f heads.0 (one_cut is js e f each.1 all.1 a b heads.1)
+
+abbrev pub IsCut : List ℕ → Type 0
+IsCut text = (items : List Item) × (ending : Ending) × AllByRecursion IsItem items × IsEnding ending × (text ≡ flat_map spelled items ++ ending_text ending)
+
+-- a text is one line, or has a first one
+abbrev pub IsOneOrMore : List ℕ → Type 0
+IsOneOrMore text = IsLine text ⊎ ((line : List ℕ) × (rest : List ℕ) × IsLine line × (text ≡ line ++ 10 ∷ rest))
+
+one_or_more : (text : List ℕ) → IsOneOrMore text
+one_or_more [] = inl tt
+one_or_more (c ∷ cs) =
+    ⊎_elim
+    (λ newline. inr ([], cs, tt, ap (λ (x : ℕ). x ∷ cs) newline))
+    (λ other. ⊎_elim (λ line. inl (other, line)) (λ more. inr (c ∷ more.0, more.1, (other, more.2), ap (λ (x : List ℕ). c ∷ x) more.3)) (one_or_more cs))
+    (cases_eq c 10)
+
+-- a text without a newline is an ending
+one_line : (text : List ℕ) → IsLine text → IsCut text
+one_line [] line = ([], complete, tt, tt, refl)
+one_line (c ∷ cs) line = ([], last_line (c ∷ cs), tt, (line, omega arith), refl)
+
+-- a line with its bytes behind it is an item
+item_first : (text line rest : List ℕ) → IsLine line → text ≡ line ++ 10 ∷ rest → raw_length (said line) ≤ length rest → IsCut (drop (raw_length (said line)) rest) → IsCut text
+item_first text line rest one is long more =
+    let n : ℕ = raw_length (said line) in
+    let i : Item = record { line = line; raw = take n rest } in
+    let whole : rest ≡ take n rest ++ (flat_map spelled more.0 ++ ending_text more.1) = sym (take-append-drop n rest) ∙ ap (λ (x : List ℕ). take n rest ++ x) more.4 in (
+      i ∷ more.0,
+      more.1,
+      (record { line = one; raw = length-take-le n rest long }, more.2),
+      more.3,
+      is ∙ ap (λ (x : List ℕ). line ++ 10 ∷ x) whole ∙ sym (behind i (flat_map spelled more.0) (ending_text more.1)),
+    )
+
+fewer_left : (n k : ℕ) (text line rest : List ℕ) → text ≡ line ++ 10 ∷ rest → length text < suc n → length (drop k rest) < n
+fewer_left n k text line rest is low =
+    let all = ap length is ∙ length-append line (10 ∷ rest) in let left = length-drop k rest in omega (arith, all, left, low)
+
+-- a text of fewer bytes than that has a cut
+cut_below : (n : ℕ) (text : List ℕ) → length text < n → IsCut text
+cut_below zero text low = absurd (omega (arith, low))
+cut_below (suc n) text low =
+    ⊎_elim
+    (λ line. one_line text line)
+    (λ more.
+    (⊎_elim
+    (λ few. ([], cut_part more.0 more.1, tt, (more.2, few), more.3))
+    (λ enough.
+    item_first text more.0 more.1 more.2 more.3 enough
+    (cut_below n (drop (raw_length (said more.0)) more.1) (fewer_left n (raw_length (said more.0)) text more.0 more.1 more.3 low)))
+    (cases_lt (length more.1) (raw_length (said more.0)))))
+    (one_or_more text)
+
+pub some_cut : (text : List ℕ) → IsCut text
+some_cut text = cut_below (suc (length text)) text (omega arith)
