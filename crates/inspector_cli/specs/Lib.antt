@@ -8,3 +8,4 @@ pub mod Answering
 pub mod Storing
 pub mod Life
 pub mod Cuts
+pub mod Runs
