@@ -121,20 +121,21 @@ fewer_left : (n k : ℕ) (text line rest : List ℕ) → text ≡ line ++ 10 ∷
 fewer_left n k text line rest is low =
     let all = ap length is ∙ length-append line (10 ∷ rest) in let left = length-drop k rest in omega (arith, all, left, low)
 
+-- a text that has a first line has a cut, if each shorter one has
+more_lines : (n : ℕ) (text line rest : List ℕ) → length text < suc n → ((shorter : List ℕ) → length shorter < n → IsCut shorter) → IsLine line → text ≡ line ++ 10 ∷ rest → IsCut text
+more_lines n text line rest low shorter one is =
+    ⊎_elim
+    (λ few. ([], cut_part line rest, tt, (one, few), is))
+    (λ enough.
+    item_first text line rest one is enough
+    (shorter (drop (raw_length (said line)) rest) (fewer_left n (raw_length (said line)) text line rest is low)))
+    (cases_lt (length rest) (raw_length (said line)))
+
 -- a text of fewer bytes than that has a cut
 cut_below : (n : ℕ) (text : List ℕ) → length text < n → IsCut text
 cut_below zero text low = absurd (omega (arith, low))
 cut_below (suc n) text low =
-    ⊎_elim
-    (λ line. one_line text line)
-    (λ more.
-    (⊎_elim
-    (λ few. ([], cut_part more.0 more.1, tt, (more.2, few), more.3))
-    (λ enough.
-    item_first text more.0 more.1 more.2 more.3 enough
-    (cut_below n (drop (raw_length (said more.0)) more.1) (fewer_left n (raw_length (said more.0)) text more.0 more.1 more.3 low)))
-    (cases_lt (length more.1) (raw_length (said more.0)))))
-    (one_or_more text)
+    ⊎_elim (λ line. one_line text line) (λ more. more_lines n text more.0 more.1 low (cut_below n) more.2 more.3) (one_or_more text)
 
 pub some_cut : (text : List ℕ) → IsCut text
 some_cut text = cut_below (suc (length text)) text (omega arith)

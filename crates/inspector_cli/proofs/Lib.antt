@@ -16,3 +16,4 @@ pub mod FeedLemmas
 pub mod StoreLemmas
 pub mod KeyLemmas
 pub mod CutLemmas
+pub mod ClearLemmas

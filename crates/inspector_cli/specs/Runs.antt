@@ -1,5 +1,6 @@
 -- The stages of a session as a run of marks, so that what holds of marks and of lives holds of sessions.
-use Rattle.std.specs.Prelude.{ℕ, List}
+use Rattle.std.specs.Prelude.{◌≡◌, ◌⊎◌, ℕ, false, List, []}
+use Rattle.std.specs.List.{AllByRecursion}
 use Rattle.disk_model.specs.declared.disk.Disk as disk
 use Rattle.intake.specs.Marks.{Run}
 use Rattle.intake.specs.Parts.{Parts}
@@ -16,3 +17,12 @@ WholeIsARun {D} g = (naming : Naming) (read out : List ℕ) (old : Stage D) (sta
 abbrev pub FrontIsARun : {D : Type 0} → disk.Ghosts D → Type 0
 FrontIsARun {D} g = (naming : Naming) (read out : List ℕ) (old : Stage D) (stages : List (Stage D)) (end : Stage D) (new : Parts D)
     → AnswersWhole g naming read out old stages end → Closes g end.archive new → Run g (mark_at g.seen old) (marks_of g.seen stages end new)
+
+-- nothing is in doubt, unless a disk fault has stopped the archive
+abbrev pub IsClear : {D : Type 0} → Stage D → Type 0
+IsClear s = s.archive.stopped ≡ false → s.in_doubt ≡ []
+
+-- From such a stage on each stage of a session is one.
+abbrev pub StagesAreClear : {D : Type 0} → disk.Ghosts D → Type 0
+StagesAreClear {D} g = (naming : Naming) (read out : List ℕ) (old : Stage D) (stages : List (Stage D)) (end : Stage D) → IsClear old
+    → AnswersAll g naming read out old stages end ⊎ AnswersWhole g naming read out old stages end → AllByRecursion IsClear stages × IsClear end
