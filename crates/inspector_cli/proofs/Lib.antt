@@ -15,3 +15,5 @@ pub mod StageLemmas
 pub mod FeedLemmas
 pub mod StoreLemmas
 pub mod KeyLemmas
+pub mod CutLemmas
+pub mod ClearLemmas

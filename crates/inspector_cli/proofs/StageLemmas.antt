@@ -138,7 +138,7 @@ module _ {D : Type 0} (g : disk.Ghosts D) where
   last_then old s (t ∷ ts) = last_then t s ts
 
   -- the stages of a session are a run of marks
-  marks_run : (naming : Naming) (old : Stage D) (is : List Item) (out : List ℕ) (ss : List (Stage D)) (end : Stage D) (new : Parts D) → Run g naming old is out ss
+  pub marks_run : (naming : Naming) (old : Stage D) (is : List Item) (out : List ℕ) (ss : List (Stage D)) (end : Stage D) (new : Parts D) → Run g naming old is out ss
       → Passes g (mark_at g.seen (last_stage old ss)) (mark_at g.seen end) → Passes g (mark_at g.seen end) (mark_of g.seen new end.in_doubt)
       → RunOfMarks g (mark_at g.seen old) (marks_of g.seen ss end new)
   marks_run naming old [] out [] end new run last closed = (last, (closed, tt))

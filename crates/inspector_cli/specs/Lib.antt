@@ -7,3 +7,5 @@ pub mod Session
 pub mod Answering
 pub mod Storing
 pub mod Life
+pub mod Cuts
+pub mod Runs

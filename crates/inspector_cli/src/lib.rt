@@ -5,6 +5,7 @@ mod answers;
 mod begin;
 mod command;
 mod keys;
+mod laws;
 mod life;
 mod names;
 mod parts;
@@ -15,6 +16,7 @@ mod session;
 mod store;
 mod telling;
 
+pub use laws::{a_script_has_one_cut, sessions_are_runs};
 pub use life::open_and_run;
 pub use run::run_session;
 pub use script_streams::{Input, Output, ReadInput, StreamFault, WriteOutput};

@@ -1,0 +1,28 @@
+-- The stages of a session as a run of marks, so that what holds of marks and of lives holds of sessions.
+use Rattle.std.specs.Prelude.{◌≡◌, ◌⊎◌, ℕ, false, List, []}
+use Rattle.std.specs.List.{AllByRecursion}
+use Rattle.disk_model.specs.declared.disk.Disk as disk
+use Rattle.intake.specs.Marks.{Run}
+use Rattle.intake.specs.Parts.{Parts}
+use Rattle.inspector_cli.specs.declared.session.Naming.{Naming}
+use Rattle.inspector_cli.specs.Stages.{Stage, mark_at, marks_of}
+use Rattle.inspector_cli.specs.Session.{AnswersAll, AnswersWhole, Closes}
+
+-- The stages of a whole script, of its end, and of the archive when its streams are dropped are marks of a run.
+abbrev pub WholeIsARun : {D : Type 0} → disk.Ghosts D → Type 0
+WholeIsARun {D} g = (naming : Naming) (read out : List ℕ) (old : Stage D) (stages : List (Stage D)) (end : Stage D) (new : Parts D)
+    → AnswersAll g naming read out old stages end → Closes g end.archive new → Run g (mark_at g.seen old) (marks_of g.seen stages end new)
+
+-- So are those of a script that could not be read on.
+abbrev pub FrontIsARun : {D : Type 0} → disk.Ghosts D → Type 0
+FrontIsARun {D} g = (naming : Naming) (read out : List ℕ) (old : Stage D) (stages : List (Stage D)) (end : Stage D) (new : Parts D)
+    → AnswersWhole g naming read out old stages end → Closes g end.archive new → Run g (mark_at g.seen old) (marks_of g.seen stages end new)
+
+-- nothing is in doubt, unless a disk fault has stopped the archive
+abbrev pub IsClear : {D : Type 0} → Stage D → Type 0
+IsClear s = s.archive.stopped ≡ false → s.in_doubt ≡ []
+
+-- From such a stage on each stage of a session is one.
+abbrev pub StagesAreClear : {D : Type 0} → disk.Ghosts D → Type 0
+StagesAreClear {D} g = (naming : Naming) (read out : List ℕ) (old : Stage D) (stages : List (Stage D)) (end : Stage D) → IsClear old
+    → AnswersAll g naming read out old stages end ⊎ AnswersWhole g naming read out old stages end → AllByRecursion IsClear stages × IsClear end
