@@ -5,6 +5,7 @@ use Rattle.std.proofs.lemmas.List.{length-append, length-take-le, length-drop, t
 use Rattle.std.specs.Prelude.{take, drop}
 use Rattle.std.specs.List.{flat_map, AllByRecursion}
 use Rattle.script_streams.specs.Lines.{IsLine}
+use Rattle.inspector_cli.specs.Cuts.{IsBrokenOff}
 use Rattle.inspector_cli.specs.Said.{said, raw_length}
 use Rattle.inspector_cli.specs.Session.{Item, IsItem, spelled, Ending, complete, last_line, cut_part, IsEnding, ending_text}
 
@@ -98,6 +99,23 @@ one_or_more (c ∷ cs) =
     (λ newline. inr ([], cs, tt, ap (λ (x : ℕ). x ∷ cs) newline))
     (λ other. ⊎_elim (λ line. inl (other, line)) (λ more. inr (c ∷ more.0, more.1, (other, more.2), ap (λ (x : List ℕ). c ∷ x) more.3)) (one_or_more cs))
     (cases_eq c 10)
+
+-- what is broken off is the text of an ending
+of_line : (rest : List ℕ) → IsLine rest → (e : Ending) × IsEnding e × (rest ≡ ending_text e)
+of_line [] line = (complete, tt, refl)
+of_line (c ∷ cs) line = (last_line (c ∷ cs), (line, omega arith), refl)
+
+as_ending : (rest : List ℕ) → IsBrokenOff rest → (e : Ending) × IsEnding e × (rest ≡ ending_text e)
+as_ending rest broken = ⊎_elim (λ line. of_line rest line) (λ cut. (cut_part cut.0 cut.1, (cut.3, cut.4), cut.2)) broken
+
+pub one_front : HasOneFirstLine → HasNoNewline → (items others : List Item) (rest other : List ℕ) → AllByRecursion IsItem items → AllByRecursion IsItem others → IsBrokenOff rest → IsBrokenOff other
+    → flat_map spelled items ++ rest ≡ flat_map spelled others ++ other → (items ≡ others) × (rest ≡ other)
+one_front first last items others rest other each all broken off is =
+    let e = as_ending rest broken in
+    let f = as_ending other off in
+    let cut = one_cut first last items others e.0 f.0 each all e.1 f.1
+    (sym (ap (λ (x : List ℕ). flat_map spelled items ++ x) e.2) ∙ is ∙ ap (λ (x : List ℕ). flat_map spelled others ++ x) f.2) in
+    (cut.0, e.2 ∙ ap ending_text cut.1 ∙ sym f.2)
 
 -- a text without a newline is an ending
 one_line : (text : List ℕ) → IsLine text → IsCut text

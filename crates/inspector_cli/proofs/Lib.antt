@@ -17,3 +17,4 @@ pub mod StoreLemmas
 pub mod KeyLemmas
 pub mod CutLemmas
 pub mod ClearLemmas
+pub mod LifeLemmas

@@ -1,8 +1,9 @@
 -- The stages of a session as a run of marks, so that what holds of marks and of lives holds of sessions.
-use Rattle.std.specs.Prelude.{◌≡◌, ◌⊎◌, ℕ, false, List, []}
+use Rattle.std.specs.Prelude.{◌≡◌, ◌⊎◌, ℕ, false, List, [], ◌++◌, IsTrue}
 use Rattle.std.specs.List.{AllByRecursion}
 use Rattle.disk_model.specs.declared.disk.Disk as disk
-use Rattle.intake.specs.Marks.{Run}
+use Rattle.intake.specs.Lives.{Life, IsLived}
+use Rattle.intake.specs.Marks.{Run, IsSettled}
 use Rattle.intake.specs.Parts.{Parts}
 use Rattle.inspector_cli.specs.declared.session.Naming.{Naming}
 use Rattle.inspector_cli.specs.Stages.{Stage, mark_at, marks_of}
@@ -26,3 +27,13 @@ IsClear s = s.archive.stopped ≡ false → s.in_doubt ≡ []
 abbrev pub StagesAreClear : {D : Type 0} → disk.Ghosts D → Type 0
 StagesAreClear {D} g = (naming : Naming) (read out : List ℕ) (old : Stage D) (stages : List (Stage D)) (end : Stage D) → IsClear old
     → AnswersAll g naming read out old stages end ⊎ AnswersWhole g naming read out old stages end → AllByRecursion IsClear stages × IsClear end
+
+-- A session as a life of its archive: its marks, of which the first ones are acknowledged when the machine stops.
+abbrev pub IsLifeOf : {D : Type 0} → (D → List ℕ) → Stage D → List (Stage D) → Stage D → Parts D → Life D → Type 0
+IsLifeOf seen old stages end new l = (l.first ≡ mark_at seen old) × (l.acknowledged ++ l.later ≡ marks_of seen stages end new)
+
+-- From an opening of an honest disk on it is lived, wherever the acknowledged marks end: so sessions with stops between them
+-- are lives that are kept.
+abbrev pub SessionsAreLived : {D : Type 0} → disk.Ghosts D → Type 0
+SessionsAreLived {D} g = (naming : Naming) (read out : List ℕ) (old : Stage D) (stages : List (Stage D)) (end : Stage D) (new : Parts D) (l : Life D) → IsTrue (g.is_honest old.archive.disk) → IsSettled g (mark_at g.seen old)
+    → AnswersAll g naming read out old stages end ⊎ AnswersWhole g naming read out old stages end → Closes g end.archive new → IsLifeOf g.seen old stages end new l → IsLived g l

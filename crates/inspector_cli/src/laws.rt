@@ -1,25 +1,29 @@
 //! What holds over every script and every session. These functions do nothing.
-ghost use Rattle.inspector_cli.specs.Cuts.{HasOneCut, HasACut};
-ghost use Rattle.inspector_cli.specs.Runs.{WholeIsARun, FrontIsARun, StagesAreClear};
+ghost use Rattle.inspector_cli.specs.Cuts.{HasOneCut, HasACut, HasOneFront};
+ghost use Rattle.inspector_cli.specs.Runs.{WholeIsARun, FrontIsARun, StagesAreClear, SessionsAreLived};
 
 use disk_model::Disk;
 use intake::calls_lead_from_mark_to_mark;
 use script_streams::lines_are_cut_one_way;
 
 /// A script has one cut into lines, each with the bytes that it says stand behind it, and an ending; and every text has one.
+/// A script that could not be read on has one cut into the commands that are whole in it and what stands behind them.
 pub fn a_script_has_one_cut()
     ensures one { HasOneCut }
     ensures some { HasACut }
+    ensures front { HasOneFront }
 {
     lines_are_cut_one_way();
 }
 
-/// The stages of a session are a run of marks: so what intake's laws say of marks and lives holds of sessions. Nothing is in doubt
-/// at a stage, unless the archive is stopped there or something was in doubt at the first.
+/// The stages of a session are a run of marks, and from an opening of an honest disk on they are a life, wherever the machine
+/// stops: so what intake's laws say of marks and lives holds of sessions. Nothing is in doubt at a stage, unless the archive is
+/// stopped there or something was in doubt at the first.
 pub fn sessions_are_runs<D: Disk>()
     ensures whole { WholeIsARun D.Disk }
     ensures front { FrontIsARun D.Disk }
     ensures clear { StagesAreClear D.Disk }
+    ensures lives { SessionsAreLived D.Disk }
 {
     calls_lead_from_mark_to_mark::<D>();
 }
