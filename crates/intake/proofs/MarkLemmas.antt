@@ -29,7 +29,7 @@ module _ {D : Type 0} (g : disk.Ghosts D) (only : (d : D) (c : List ℕ) → g.l
   first_finds c m (n ∷ ns) found = inl found
 
   -- a crash since a moment before a mark leaves what it could have left at the mark, or what a mark from it on has
-  since : (t : ℕ) (m : Mark D) (ns : List (Mark D)) → t ≤ g.clock m.disk → IsTrue (g.is_honest m.disk) → Run g m ns
+  pub since : (t : ℕ) (m : Mark D) (ns : List (Mark D)) → t ≤ g.clock m.disk → IsTrue (g.is_honest m.disk) → Run g m ns
       → (c : List ℕ) → g.left_since (last_of m ns).disk t c → g.left_since m.disk t c ⊎ FindsOne c m ns
   since t m [] early honest run c was = inl was
   since t m (n ∷ ns) early honest run c was =

@@ -73,6 +73,12 @@ IsFoundSince g m (n ∷ ns) = IsFoundFrom g m (n ∷ ns) × IsFoundSince g n ns
 abbrev pub FoundAfterAStop : {D : Type 0} → disk.Ghosts D → Type 0
 FoundAfterAStop {D} g = (m : Mark D) (ns : List (Mark D)) → IsTrue (g.is_honest m.disk) → IsSettled g m → Run g m ns → IsFoundSince g m ns
 
+-- A crash since a moment before a run leaves nothing else than what it could have left before the run, or what one of its
+-- marks has.
+abbrev pub NothingElseIsLeft : {D : Type 0} → disk.Ghosts D → Type 0
+NothingElseIsLeft {D} g = (m : Mark D) (ns : List (Mark D)) (t : ℕ) (c : List ℕ) → IsTrue (g.is_honest m.disk) → Run g m ns → t ≤ g.clock m.disk
+    → g.left_since (last_of m ns).disk t c → g.left_since m.disk t c ⊎ FindsOne c m ns
+
 -- one of the marks of a run has it
 abbrev pub HasOne : {D : Type 0} → Mark D → List (Mark D) → Durable → Type 0
 HasOne m [] x = Has m x

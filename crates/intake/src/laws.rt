@@ -3,7 +3,7 @@ ghost use Rattle.std.specs.Prelude.{◌≡◌};
 ghost use Rattle.intake.specs.Durable.{durable_of, durable_part};
 ghost use Rattle.intake.specs.Lasting.{WhatStandsIsOne, NumbersAreAbove};
 ghost use Rattle.intake.specs.Lives.{KeptOverManyStops, ACaseIsFound, NumbersStayGiven, NumbersAreGivenOnce};
-ghost use Rattle.intake.specs.Marks.{FoundAfterAStop, StaysLead, FinishLeads, DeleteLeads, PinLeads, RetireLeads};
+ghost use Rattle.intake.specs.Marks.{FoundAfterAStop, NothingElseIsLeft, StaysLead, FinishLeads, DeleteLeads, PinLeads, RetireLeads};
 ghost use Rattle.intake.specs.Parts.{Parts, bare_of, contents_of};
 
 use disk_model::Disk;
@@ -30,6 +30,12 @@ pub fn a_state_tells_what_lasts<D: Disk>()
 /// mark, between two disk writes or within one, an opening finds what that mark has, or a later one.
 pub fn found_after_a_stop<D: Disk>()
     ensures { FoundAfterAStop D.Disk }
+{}
+
+/// A crash since a moment before a run leaves nothing else than what it could have left before the run, or what one of the run's
+/// marks has.
+pub fn nothing_else_is_left<D: Disk>()
+    ensures { NothingElseIsLeft D.Disk }
 {}
 
 /// What a call promises leads from its mark to the next. What a call that answered Disk would have left is in doubt from then
