@@ -19,6 +19,3 @@ pub use file_list::{FileMap, FileMaps, Files};
 pub use process_info::PsInfo;
 pub use signal_info::SigInfo;
 pub use thread_state::Status;
-
-#[cfg(test)]
-mod tests;

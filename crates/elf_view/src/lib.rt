@@ -21,6 +21,3 @@ pub use numbers::{part, u16_at, u32_at, u64_at};
 pub use program_headers::{Segment, Segments};
 pub use sections::Section;
 pub use view::{Elf, Header};
-
-#[cfg(test)]
-mod tests;

@@ -8,6 +8,3 @@ mod thread_list;
 pub use registers::Reg;
 pub use signals::signal_name;
 pub use thread_list::{Thread, ThreadList, threads};
-
-#[cfg(test)]
-mod tests;

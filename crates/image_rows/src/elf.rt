@@ -1,7 +1,8 @@
-use super::*;
-use crate::sample::{
+//! Headers, segments, notes and sections of images, and the first field of one that is at fault.
+use elf_view::sample::{
     LoadPart, NotePart, core_image, executable, file_core, mapped_core, stack_core,
 };
+use elf_view::{Elf, ElfFault, ElfField, Header, Note, SectionFault, Segment, Want};
 use std::alloc::{AllocError, Global};
 use std::process::Abort;
 use std::test::Fail;

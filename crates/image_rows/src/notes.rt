@@ -1,4 +1,5 @@
-use super::*;
+//! The typed notes of a core file, and the first field of one that is at fault.
+use core_notes::{AuxvPair, CoreNotes, NoteFault, NoteField, descriptors};
 use elf_view::sample::{
     FilePart, NT_AUXV, NT_FILE, NT_PRPSINFO, NT_PRSTATUS, NT_SIGINFO, NotePart, core_image,
     file_core, files, process, registers, stack_core, status,

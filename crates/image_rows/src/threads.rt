@@ -1,8 +1,9 @@
-use super::*;
+//! Threads, their registers, and the names of registers and signals.
 use core_notes::CoreNotes;
 use elf_view::sample::{NT_PRSTATUS, NotePart, core_image, registers, stack_core, status};
 use elf_view::{Elf, Want};
 use std::test::Fail;
+use thread_regs::{Reg, signal_name, threads};
 
 /// Each register's name with another, and what it holds in the sample.
 const REGISTERS: [(&[u8], &[u8], u64); 33] = [
