@@ -4,7 +4,7 @@ ghost use Rattle.journal_layout.specs.Folding.{is_among};
 ghost use Rattle.journal_layout.specs.Soundness.{IsName};
 
 use case_journal::format;
-use disk_model::{Disk, MemDisk};
+use disk_model::{Disk, MemDisk, Pick};
 use extents::Run;
 use intake::{Archive, ArchiveFault, Settings};
 use journal_layout::{Kind, Name, Shape};
@@ -35,6 +35,11 @@ pub fn opened<D: Disk + Drop>(alloc: Global, disk: D) -> Result<Archive<D>, Fail
         return Err(Fail::from("the archive was not opened"));
     };
     Ok(archive)
+}
+
+/// What a crash leaves of a disk.
+pub fn crashed(disk: &MemDisk, pick: Pick) -> Result<MemDisk, Fail> {
+    Ok(disk.after_crash(pick)?)
 }
 
 /// A fresh archive with four data blocks.

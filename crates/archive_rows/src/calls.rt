@@ -1,56 +1,88 @@
 // What the calls answer where nothing fails.
 use crate::bench::{begin, fresh, name_of, put, store};
-use intake::ArchiveFault;
-use journal_layout::Kind;
+use disk_model::{Disk, MemDisk};
+use intake::{Archive, ArchiveFault};
+use journal_layout::{Entry, Kind};
+use std::process::Abort;
 use std::test::Fail;
 
-#[test]
-fn a_case_keeps_what_it_was_begun_with(rt: HostRuntime) -> Result<(), Fail> {
-    let mut archive = fresh(rt.alloc())?;
+// Streams five bytes as a core in slot 7, which become case 1.
+fn store_core<D: Disk>(rt: &impl Abort, archive: &mut Archive<D>) -> Result<(), Fail> {
     let name = name_of(b"x")?;
     assert_eq!(rt; archive.begin(7, Kind::Core, name, 7, 11, 3), Ok(()));
-    assert_eq!(rt; put(&mut archive, 7, 1, 0, 5), Ok(()));
+    assert_eq!(rt; put(archive, 7, 1, 0, 5), Ok(()));
     assert_eq!(rt; archive.finish(7), Ok(1));
+    Ok(())
+}
+
+// The case is of that core.
+fn is_core(rt: &impl Abort, case: &Entry) {
+    assert_eq!(rt; case.seq, 1);
+    assert_eq!(rt; case.kind, Kind::Core);
+    assert_eq!(rt; case.name.as_slice(), b"x".as_slice());
+    assert_eq!(rt; case.pid, 7);
+    assert_eq!(rt; case.signal, 11);
+    assert_eq!(rt; case.time, 3);
+    assert_eq!(rt; case.pinned, false);
+    assert_eq!(rt; case.length, 5);
+}
+
+// The case of that core stands alone.
+fn has_core<D: Disk>(rt: &impl Abort, archive: &Archive<D>) -> Result<(), Fail> {
     let Ok(cases) = archive.cases() else {
         return Err(Fail::from("the archive is stopped"));
     };
     assert_eq!(rt; cases.len(), 1);
-    assert_eq!(rt; cases[0].seq, 1);
-    assert_eq!(rt; cases[0].kind, Kind::Core);
-    assert_eq!(rt; cases[0].name.as_slice(), b"x".as_slice());
-    assert_eq!(rt; cases[0].pid, 7);
-    assert_eq!(rt; cases[0].signal, 11);
-    assert_eq!(rt; cases[0].time, 3);
-    assert_eq!(rt; cases[0].pinned, false);
-    assert_eq!(rt; cases[0].length, 5);
+    is_core(rt, &cases[0]);
+    Ok(())
+}
+
+#[test]
+fn a_case_keeps_what_it_was_begun_with(rt: HostRuntime) -> Result<(), Fail> {
+    let mut archive = fresh(rt.alloc())?;
+    store_core(&rt, &mut archive)?;
+    has_core(&rt, &archive)
+}
+
+// No stream is in a slot that is none.
+fn refuses_slot<D: Disk>(rt: &impl Abort, archive: &mut Archive<D>) -> Result<(), Fail> {
+    assert_eq!(rt; begin(archive, 8, b"x")?, Err(ArchiveFault::BadSlot));
+    assert_eq!(rt; archive.finish(8), Err(ArchiveFault::NoStream));
+    assert_eq!(rt; archive.abandon(8), Err(ArchiveFault::NoStream));
+    Ok(())
+}
+
+// The stream in slot 3 becomes case 1, and the slot is empty then.
+fn takes_turns<D: Disk>(rt: &impl Abort, archive: &mut Archive<D>) -> Result<(), Fail> {
+    assert_eq!(rt; begin(archive, 3, b"x")?, Ok(()));
+    assert_eq!(rt; begin(archive, 3, b"y")?, Err(ArchiveFault::SlotBusy));
+    assert_eq!(rt; archive.finish(3), Ok(1));
+    assert_eq!(rt; archive.finish(3), Err(ArchiveFault::NoStream));
+    assert_eq!(rt; begin(archive, 3, b"x")?, Err(ArchiveFault::NameTaken));
     Ok(())
 }
 
 #[test]
 fn a_slot_has_one_stream_at_a_time(rt: HostRuntime) -> Result<(), Fail> {
     let mut archive = fresh(rt.alloc())?;
-    assert_eq!(rt; begin(&mut archive, 8, b"x")?, Err(ArchiveFault::BadSlot));
-    assert_eq!(rt; archive.finish(8), Err(ArchiveFault::NoStream));
-    assert_eq!(rt; archive.abandon(8), Err(ArchiveFault::NoStream));
-    assert_eq!(rt; begin(&mut archive, 3, b"x")?, Ok(()));
-    assert_eq!(rt; begin(&mut archive, 3, b"y")?, Err(ArchiveFault::SlotBusy));
-    assert_eq!(rt; archive.finish(3), Ok(1));
-    assert_eq!(rt; archive.finish(3), Err(ArchiveFault::NoStream));
-    assert_eq!(rt; begin(&mut archive, 3, b"x")?, Err(ArchiveFault::NameTaken));
+    refuses_slot(&rt, &mut archive)?;
+    takes_turns(&rt, &mut archive)
+}
+
+// Fills the journal with cases without bytes.
+fn fill(rt: &(impl AllocGlobal + Abort), archive: &mut Archive<MemDisk>) -> Result<(), Fail> {
+    for number in 1..64u32 {
+        let name = format!(in rt.alloc(); "n{number}")?;
+        assert_eq!(rt; store(archive, name.as_bytes(), 1, 0)?, Ok(number));
+    }
     Ok(())
 }
 
-#[test]
-fn the_journal_is_full(rt: HostRuntime) -> Result<(), Fail> {
-    let alloc = rt.alloc();
-    let mut archive = fresh(alloc)?;
-    for number in 1..64u32 {
-        let name = format!(in alloc; "n{number}")?;
-        assert_eq!(rt; store(&mut archive, name.as_bytes(), 1, 0)?, Ok(number));
-    }
-    assert_eq!(rt; begin(&mut archive, 0, b"n64")?, Ok(()));
+// A full journal takes no further case, but a deletion.
+fn is_full<D: Disk>(rt: &impl Abort, archive: &mut Archive<D>) -> Result<(), Fail> {
+    assert_eq!(rt; begin(archive, 0, b"n64")?, Ok(()));
     assert_eq!(rt; archive.finish(0), Err(ArchiveFault::JournalFull));
-    assert_eq!(rt; begin(&mut archive, 0, b"n64")?, Ok(()));
+    assert_eq!(rt; begin(archive, 0, b"n64")?, Ok(()));
     assert_eq!(rt; archive.delete(1), Ok(()));
     let Ok(cases) = archive.cases() else {
         return Err(Fail::from("the archive is stopped"));
@@ -58,4 +90,11 @@ fn the_journal_is_full(rt: HostRuntime) -> Result<(), Fail> {
     assert_eq!(rt; cases.len(), 62);
     assert_eq!(rt; archive.delete(1), Err(ArchiveFault::NoCase));
     Ok(())
+}
+
+#[test]
+fn the_journal_is_full(rt: HostRuntime) -> Result<(), Fail> {
+    let mut archive = fresh(rt.alloc())?;
+    fill(&rt, &mut archive)?;
+    is_full(&rt, &mut archive)
 }

@@ -1,6 +1,6 @@
 // Images are read as they were streamed.
 use crate::bench::{begin, formatted, has_image, has_runs, opened, put};
-use disk_model::{Disk, OneFault};
+use disk_model::{Disk, MemDisk, OneFault};
 use intake::{Archive, ArchiveFault};
 use journal_layout::Shape;
 use std::process::Abort;
@@ -36,48 +36,74 @@ fn stream_three<D: Disk>(archive: &mut Archive<D>) -> Result<Result<u32, Archive
     Ok(archive.finish(2))
 }
 
-#[test]
-fn images_are_read_as_they_were_streamed(rt: HostRuntime) -> Result<(), Fail> {
+// An archive with the three cases, on a disk whose call of this number fails once.
+fn streamed(
+    rt: &(impl AllocGlobal + Abort),
+    call: u64,
+) -> Result<Archive<OneFault<MemDisk>>, Fail> {
     let alloc = rt.alloc();
-    let mut archive = opened(alloc, OneFault::new(formatted(alloc, SHAPE)?, 0))?;
-    assert_eq!(rt; stream_three(&mut archive)?, Ok(3));
-    assert!(rt; has_runs(&archive, 1, &[(0, 1), (2, 2)]));
-    assert!(rt; has_runs(&archive, 2, &[(1, 1), (4, 1)]));
-    assert!(rt; has_image(&mut archive, 1, 0, 8197));
-    assert!(rt; has_image(&mut archive, 2, 1, 4103));
-    assert!(rt; has_image(&mut archive, 3, 2, 0));
-    assert!(rt; has_image(&mut archive, 1, 0, 8197));
+    let mut archive = opened(alloc, OneFault::new(formatted(alloc, SHAPE)?, call))?;
+    assert_eq!(rt; stream_three(&mut archive)?, Ok(3), "at {call}");
+    Ok(archive)
+}
+
+// The archive has these images, by the number of the case, the seed and the length.
+fn has_images<D: Disk>(
+    rt: &impl Abort,
+    archive: &mut Archive<D>,
+    images: &[(u32, u8, u64)],
+    call: u64,
+) {
+    for (seq, seed, length) in images {
+        assert!(rt;
+            has_image(archive, *seq, *seed, *length),
+            "case {seq} at {call}"
+        );
+    }
+}
+
+// The archive has the three cases in these blocks with these bytes, and no other.
+fn has_three<D: Disk>(rt: &impl Abort, archive: &mut Archive<D>) {
+    assert!(rt; has_runs(archive, 1, &[(0, 1), (2, 2)]));
+    assert!(rt; has_runs(archive, 2, &[(1, 1), (4, 1)]));
+    let images = [(1, 0, 8197), (2, 1, 4103), (3, 2, 0), (1, 0, 8197)];
+    has_images(rt, archive, &images, 0);
     assert_eq!(rt; archive.image(4), Err(ArchiveFault::NoCase));
     assert_eq!(rt; archive.image(0), Err(ArchiveFault::NoCase));
-    let mut archive = opened(alloc, archive.close())?;
-    assert!(rt; has_image(&mut archive, 2, 1, 4103));
-    assert!(rt; has_image(&mut archive, 1, 0, 8197));
-    assert!(rt; has_image(&mut archive, 3, 2, 0));
+}
+
+#[test]
+fn images_are_read_as_they_were_streamed(rt: HostRuntime) -> Result<(), Fail> {
+    let mut archive = streamed(&rt, 0)?;
+    has_three(&rt, &mut archive);
+    let mut archive = opened(rt.alloc(), archive.close())?;
+    let images = [(2, 1, 4103), (1, 0, 8197), (3, 2, 0)];
+    has_images(&rt, &mut archive, &images, 0);
+    Ok(())
+}
+
+// The first image is not read, and the archive stops then, also where a stream is open.
+fn stops<D: Disk>(rt: &impl Abort, archive: &mut Archive<D>, call: u64) -> Result<(), Fail> {
+    assert_eq!(rt; begin(archive, 0, b"w")?, Ok(()), "at {call}");
+    assert_eq!(rt; archive.image(1), Err(ArchiveFault::Disk), "at {call}");
+    assert_eq!(rt; archive.image(1), Err(ArchiveFault::Stopped), "at {call}");
+    assert_eq!(rt; archive.abandon(0), Err(ArchiveFault::Stopped), "at {call}");
     Ok(())
 }
 
 // This call of the disk fails within the first image, and what was read before it is not given.
 fn stops_at(rt: &(impl AllocGlobal + Abort), call: u64) -> Result<(), Fail> {
-    let alloc = rt.alloc();
-    let mut archive = opened(alloc, OneFault::new(formatted(alloc, SHAPE)?, call))?;
-    assert_eq!(rt; stream_three(&mut archive)?, Ok(3), "at {call}");
-    assert_eq!(rt; begin(&mut archive, 0, b"w")?, Ok(()), "at {call}");
-    assert_eq!(rt; archive.image(1), Err(ArchiveFault::Disk), "at {call}");
-    assert_eq!(rt; archive.image(1), Err(ArchiveFault::Stopped), "at {call}");
-    assert_eq!(rt; archive.abandon(0), Err(ArchiveFault::Stopped), "at {call}");
-    let mut archive = opened(alloc, archive.close())?;
-    assert!(rt; has_image(&mut archive, 1, 0, 8197), "at {call}");
-    assert!(rt; has_image(&mut archive, 2, 1, 4103), "at {call}");
+    let mut archive = streamed(rt, call)?;
+    stops(rt, &mut archive, call)?;
+    let mut archive = opened(rt.alloc(), archive.close())?;
+    has_images(rt, &mut archive, &[(1, 0, 8197), (2, 1, 4103)], call);
     Ok(())
 }
 
 // Each read of the first image fails once.
 #[test]
 fn a_failing_read_stops_the_archive(rt: HostRuntime) -> Result<(), Fail> {
-    let alloc = rt.alloc();
-    let mut archive = opened(alloc, OneFault::new(formatted(alloc, SHAPE)?, 0))?;
-    assert_eq!(rt; stream_three(&mut archive)?, Ok(3));
-    let before = archive.close().calls();
+    let before = streamed(&rt, 0)?.close().calls();
     for read in 1..3 {
         stops_at(&rt, before.saturating_add(read))?;
     }

@@ -5,6 +5,7 @@ use case_journal::Journal;
 use disk_model::MemDisk;
 use intake::ArchiveFault;
 use std::alloc::Global;
+use std::process::Abort;
 use std::test::Fail;
 
 // Three records of cases, one of a pin, and one that drops two cases.
@@ -54,14 +55,22 @@ fn used_after(alloc: Global, disk: MemDisk, rows: &[Row]) -> Result<(u64, MemDis
     Ok((used_bytes(alloc, &mut disk)?, disk))
 }
 
+// After the calls so many bytes of the journal are in use. Answers the disk.
+fn uses(
+    rt: &(impl AllocGlobal + Abort),
+    disk: MemDisk,
+    rows: &[Row],
+    bytes: u64,
+) -> Result<MemDisk, Fail> {
+    let (used, disk) = used_after(rt.alloc(), disk, rows)?;
+    assert_eq!(rt; used, bytes);
+    Ok(disk)
+}
+
 #[test]
 fn a_record_is_written_only_where_something_changes(rt: HostRuntime) -> Result<(), Fail> {
-    let alloc = rt.alloc();
-    let (used, disk) = used_after(alloc, formatted(alloc, SHAPE)?, &RETIRED)?;
-    assert_eq!(rt; used, 272);
-    let (used, disk) = used_after(alloc, disk, &UNCHANGED)?;
-    assert_eq!(rt; used, 272);
-    let (used, _) = used_after(alloc, disk, &UNPINNED)?;
-    assert_eq!(rt; used, 304);
+    let disk = uses(&rt, formatted(rt.alloc(), SHAPE)?, &RETIRED, 272)?;
+    let disk = uses(&rt, disk, &UNCHANGED, 272)?;
+    let _ = uses(&rt, disk, &UNPINNED, 304)?;
     Ok(())
 }

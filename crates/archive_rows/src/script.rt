@@ -141,8 +141,7 @@ impl Step {
     }
 }
 
-/// The script.
-pub const SCRIPT: [Step; 46] = [
+static SCRIPT: [Step; 46] = [
     Step::Begin(0, A),
     Step::Begin(1, B),
     Step::Begin(2, C),
@@ -215,6 +214,11 @@ pub const SCRIPT: [Step; 46] = [
     Step::Delete(6),
 ];
 
+/// The script.
+pub fn script() -> &'static [Step] {
+    &SCRIPT
+}
+
 /// The number, the image and the pin of each case, and the number of the next one.
 pub struct State {
     pub cases: &'static [(u32, Image, bool)],
@@ -224,8 +228,7 @@ pub struct State {
 /// How many calls of the script change the cases.
 pub const CHANGES: usize = 19;
 
-/// Before the script, and after each call that changes the cases.
-pub const STATES: [State; 20] = [
+static STATES: [State; 20] = [
     State {
         cases: &[],
         next: 1,
@@ -307,3 +310,8 @@ pub const STATES: [State; 20] = [
         next: 10,
     },
 ];
+
+/// The states before the script, and after each call that changes the cases.
+pub fn states() -> &'static [State] {
+    &STATES
+}

@@ -2,7 +2,15 @@
 use crate::bench::fresh;
 use crate::rows::{Call, OK, Row, follow};
 use intake::ArchiveFault;
+use std::process::Abort;
 use std::test::Fail;
+
+// Each call on a fresh archive answers what its row says.
+fn answers(rt: &(impl AllocGlobal + Abort), rows: &[Row]) -> Result<(), Fail> {
+    let mut archive = fresh(rt.alloc())?;
+    assert_eq!(rt; follow(&mut archive, rows)?, rows.len());
+    Ok(())
+}
 
 const EMPTY_IMAGE: [Row; 6] = [
     (Call::Free(4), OK),
@@ -15,9 +23,7 @@ const EMPTY_IMAGE: [Row; 6] = [
 
 #[test]
 fn an_empty_image_takes_no_block(rt: HostRuntime) -> Result<(), Fail> {
-    let mut archive = fresh(rt.alloc())?;
-    assert_eq!(rt; follow(&mut archive, &EMPTY_IMAGE)?, EMPTY_IMAGE.len());
-    Ok(())
+    answers(&rt, &EMPTY_IMAGE)
 }
 
 const WHOLE_BLOCKS: [Row; 6] = [
@@ -31,9 +37,7 @@ const WHOLE_BLOCKS: [Row; 6] = [
 
 #[test]
 fn a_block_is_taken_for_each_4096_bytes(rt: HostRuntime) -> Result<(), Fail> {
-    let mut archive = fresh(rt.alloc())?;
-    assert_eq!(rt; follow(&mut archive, &WHOLE_BLOCKS)?, WHOLE_BLOCKS.len());
-    Ok(())
+    answers(&rt, &WHOLE_BLOCKS)
 }
 
 const FREED_BLOCKS: [Row; 14] = [
@@ -55,9 +59,7 @@ const FREED_BLOCKS: [Row; 14] = [
 
 #[test]
 fn freed_blocks_are_used_again(rt: HostRuntime) -> Result<(), Fail> {
-    let mut archive = fresh(rt.alloc())?;
-    assert_eq!(rt; follow(&mut archive, &FREED_BLOCKS)?, FREED_BLOCKS.len());
-    Ok(())
+    answers(&rt, &FREED_BLOCKS)
 }
 
 const TWO_STREAMS: [Row; 14] = [
@@ -79,9 +81,7 @@ const TWO_STREAMS: [Row; 14] = [
 
 #[test]
 fn streams_take_blocks_in_turn(rt: HostRuntime) -> Result<(), Fail> {
-    let mut archive = fresh(rt.alloc())?;
-    assert_eq!(rt; follow(&mut archive, &TWO_STREAMS)?, TWO_STREAMS.len());
-    Ok(())
+    answers(&rt, &TWO_STREAMS)
 }
 
 const EIGHT_STREAMS: [Row; 26] = [
@@ -115,9 +115,7 @@ const EIGHT_STREAMS: [Row; 26] = [
 
 #[test]
 fn four_of_eight_streams_find_a_block(rt: HostRuntime) -> Result<(), Fail> {
-    let mut archive = fresh(rt.alloc())?;
-    assert_eq!(rt; follow(&mut archive, &EIGHT_STREAMS)?, EIGHT_STREAMS.len());
-    Ok(())
+    answers(&rt, &EIGHT_STREAMS)
 }
 
 const ABANDONED: [Row; 5] = [
@@ -130,7 +128,5 @@ const ABANDONED: [Row; 5] = [
 
 #[test]
 fn an_abandoned_stream_gives_its_blocks_back(rt: HostRuntime) -> Result<(), Fail> {
-    let mut archive = fresh(rt.alloc())?;
-    assert_eq!(rt; follow(&mut archive, &ABANDONED)?, ABANDONED.len());
-    Ok(())
+    answers(&rt, &ABANDONED)
 }

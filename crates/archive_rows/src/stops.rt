@@ -1,8 +1,9 @@
 // Stops and faults at each disk call of the script, and what the archive shows once it is opened again.
 use crate::bench::{
-    SETTINGS, begin, formatted, has_image, is_image, name_of, opened, put, put_nothing, store,
+    SETTINGS, begin, crashed, formatted, has_image, is_image, name_of, opened, put, put_nothing,
+    store,
 };
-use crate::script::{CHANGES, Image, SCRIPT, SHAPE, STATES, State, Step};
+use crate::script::{CHANGES, Image, SHAPE, State, Step, script, states};
 use disk_model::{Disk, Fuse, MemDisk, OneFault, Pick};
 use intake::{Archive, ArchiveFault};
 use journal_layout::{Entry, OpenFault};
@@ -92,9 +93,9 @@ enum Ending {
 // Makes the calls up to the first that the disk fails.
 fn run<D: Disk>(archive: &mut Archive<D>) -> Result<Ending, Fail> {
     let mut done = 0usize;
-    for step in SCRIPT {
+    for step in script() {
         let after = done.saturating_add(usize::from(step.changes()));
-        match take(archive, &step)? {
+        match take(archive, step)? {
             Ok(()) => done = after,
             Err(ArchiveFault::Disk) => {
                 return Ok(Ending::Failed {
@@ -164,20 +165,26 @@ fn shows<D: Disk>(archive: &mut Archive<D>, state: &State) -> bool {
         && have_images(archive, state.cases)
 }
 
-// Opens the archive, which shows the state after one of these numbers of changes, and gives the next case the number
-// that follows those given before.
+// Whether the archive shows the state after so many changes. It then gives the next case the number that follows those
+// given before.
+fn is_after<D: Disk>(archive: &mut Archive<D>, done: usize) -> Result<bool, Fail> {
+    let Some(state) = states().get(done) else {
+        return Err(Fail::from("there is no such state"));
+    };
+    if !shows(archive, state) {
+        return Ok(false);
+    }
+    if store(archive, b"z", 1, 0)? != Ok(state.next) {
+        return Err(Fail::from("the next case has another number"));
+    }
+    Ok(true)
+}
+
+// Opens the archive, which shows the state after one of these numbers of changes.
 fn check_disk(alloc: Global, disk: MemDisk, before: usize, after: usize) -> Result<(), Fail> {
     let mut archive = opened(alloc, disk)?;
-    for done in [before, after] {
-        let Some(state) = STATES.get(done) else {
-            return Err(Fail::from("there is no such state"));
-        };
-        if shows(&mut archive, state) {
-            if store(&mut archive, b"z", 1, 0)? != Ok(state.next) {
-                return Err(Fail::from("the next case has another number"));
-            }
-            return Ok(());
-        }
+    if is_after(&mut archive, before)? || is_after(&mut archive, after)? {
+        return Ok(());
     }
     Err(Fail::from("the archive shows neither state"))
 }
@@ -191,68 +198,9 @@ fn check_crashes(
     after: usize,
 ) -> Result<(), Fail> {
     for pick in picks {
-        check_disk(alloc, disk.after_crash(*pick)?, before, after)?;
+        check_disk(alloc, crashed(disk, *pick)?, before, after)?;
     }
     Ok(())
-}
-
-// Stops the disk after so many calls, with these crashes. Answers how many changes were answered, or `None` where nothing
-// was stopped.
-fn stop_after(alloc: Global, limit: u64, picks: &[Pick]) -> Result<Option<usize>, Fail> {
-    let disk = Fuse::new(formatted(alloc, SHAPE)?, limit);
-    let mut archive = match Archive::open(alloc, disk, SETTINGS) {
-        Ok(archive) => archive,
-        Err((OpenFault::Disk, disk)) => {
-            check_crashes(alloc, &disk.into_inner(), picks, 0, 0)?;
-            return Ok(Some(0));
-        }
-        Err(_) => return Err(Fail::from("the archive was not opened")),
-    };
-    let ending = run(&mut archive)?;
-    let left = archive.close().into_inner();
-    match ending {
-        Ending::Whole => {
-            check_crashes(alloc, &left, picks, CHANGES, CHANGES)?;
-            Ok(None)
-        }
-        Ending::Failed { before, after } => {
-            check_crashes(alloc, &left, picks, before, after)?;
-            Ok(Some(before))
-        }
-    }
-}
-
-// Stops the disk after each number of calls, with these crashes. Each call that changes the cases is stopped somewhere,
-// and none is passed over.
-fn stop_everywhere(alloc: Global, picks: &[Pick]) -> Result<(), Fail> {
-    let mut last = 0usize;
-    for limit in 0..1000 {
-        let Some(done) = stop_after(alloc, limit, picks)? else {
-            if last.saturating_add(1) != CHANGES {
-                return Err(Fail::from("the last change was not stopped"));
-            }
-            return Ok(());
-        };
-        if done != last && done != last.saturating_add(1) {
-            return Err(Fail::from("a change was passed over"));
-        }
-        last = done;
-    }
-    Err(Fail::from("the script never came to its end"))
-}
-
-#[test]
-fn a_stop_with_cut_writes_leaves_the_cases_from_before_or_after(
-    rt: HostRuntime,
-) -> Result<(), Fail> {
-    stop_everywhere(rt.alloc(), &CUT)
-}
-
-#[test]
-fn a_stop_with_filled_writes_leaves_the_cases_from_before_or_after(
-    rt: HostRuntime,
-) -> Result<(), Fail> {
-    stop_everywhere(rt.alloc(), &FILLED)
 }
 
 // Whether each call on the slot is refused, and nothing is lent.
@@ -302,24 +250,89 @@ fn is_stopped<D: Disk>(archive: &mut Archive<D>) -> Result<bool, Fail> {
     Ok(stopped)
 }
 
-// Fails this call of the disk alone. Answers how many changes were answered, or `None` where nothing failed.
-fn fault_at(alloc: Global, call: u64) -> Result<Option<usize>, Fail> {
-    let disk = OneFault::new(formatted(alloc, SHAPE)?, call);
-    let mut archive = match Archive::open(alloc, disk, SETTINGS) {
-        Ok(archive) => archive,
-        Err((OpenFault::Disk, disk)) => {
-            check_disk(alloc, disk.into_inner(), 0, 0)?;
-            return Ok(Some(0));
-        }
-        Err(_) => return Err(Fail::from("the archive was not opened")),
-    };
-    let Ending::Failed { before, after } = run(&mut archive)? else {
-        return Ok(None);
-    };
-    if !is_stopped(&mut archive)? {
+// Makes the calls up to the first that the disk fails, which stops the archive.
+fn run_to_stop<D: Disk>(archive: &mut Archive<D>) -> Result<Ending, Fail> {
+    let ending = run(archive)?;
+    if matches!(ending, Ending::Failed { .. }) && !is_stopped(archive)? {
         return Err(Fail::from("the fault did not stop the archive"));
     }
-    let disk = archive.close();
+    Ok(ending)
+}
+
+// The same once the archive of a disk is opened, where the disk may fail too. Answers the disk.
+fn open_and_run<D: Disk + Drop>(alloc: Global, disk: D) -> Result<(Ending, D), Fail> {
+    match Archive::open(alloc, disk, SETTINGS) {
+        Ok(mut archive) => {
+            let ending = run_to_stop(&mut archive)?;
+            Ok((ending, archive.close()))
+        }
+        Err((OpenFault::Disk, disk)) => {
+            let ending = Ending::Failed {
+                before: 0,
+                after: 0,
+            };
+            Ok((ending, disk))
+        }
+        Err(_) => Err(Fail::from("the archive was not opened")),
+    }
+}
+
+// Stops the disk after so many calls, with these crashes. Answers how many changes were answered, or `None` where nothing
+// was stopped.
+fn stop_after(alloc: Global, limit: u64, picks: &[Pick]) -> Result<Option<usize>, Fail> {
+    let (ending, disk) = open_and_run(alloc, Fuse::new(formatted(alloc, SHAPE)?, limit))?;
+    let left = disk.into_inner();
+    match ending {
+        Ending::Whole => {
+            check_crashes(alloc, &left, picks, CHANGES, CHANGES)?;
+            Ok(None)
+        }
+        Ending::Failed { before, after } => {
+            check_crashes(alloc, &left, picks, before, after)?;
+            Ok(Some(before))
+        }
+    }
+}
+
+// Stops the disk after each number of calls, with these crashes. Each call that changes the cases is stopped somewhere,
+// and none is passed over.
+fn stop_everywhere(alloc: Global, picks: &[Pick]) -> Result<(), Fail> {
+    let mut last = 0usize;
+    for limit in 0..1000 {
+        let Some(done) = stop_after(alloc, limit, picks)? else {
+            if last.saturating_add(1) != CHANGES {
+                return Err(Fail::from("the last change was not stopped"));
+            }
+            return Ok(());
+        };
+        if done != last && done != last.saturating_add(1) {
+            return Err(Fail::from("a change was passed over"));
+        }
+        last = done;
+    }
+    Err(Fail::from("the script never came to its end"))
+}
+
+#[test]
+fn a_stop_with_cut_writes_leaves_the_cases_from_before_or_after(
+    rt: HostRuntime,
+) -> Result<(), Fail> {
+    stop_everywhere(rt.alloc(), &CUT)
+}
+
+#[test]
+fn a_stop_with_filled_writes_leaves_the_cases_from_before_or_after(
+    rt: HostRuntime,
+) -> Result<(), Fail> {
+    stop_everywhere(rt.alloc(), &FILLED)
+}
+
+// Fails this call of the disk alone. Answers how many changes were answered, or `None` where nothing failed.
+fn fault_at(alloc: Global, call: u64) -> Result<Option<usize>, Fail> {
+    let (ending, disk) = open_and_run(alloc, OneFault::new(formatted(alloc, SHAPE)?, call))?;
+    let Ending::Failed { before, after } = ending else {
+        return Ok(None);
+    };
     if disk.calls() != call {
         return Err(Fail::from("the disk was called after the fault"));
     }

@@ -94,6 +94,31 @@ pub(crate) fn tells<D: Disk>(
     Ok(())
 }
 
+// A script, and what a session over it writes.
+pub(crate) type Row<'a> = (&'a [u8], &'a str);
+
+// Sessions over these scripts in turn write these texts.
+pub(crate) fn tells_each<D: Disk>(
+    rt: &(impl AllocGlobal + Abort),
+    archive: &mut Archive<D>,
+    rows: &[Row],
+) -> Result<(), Fail> {
+    for (script, wanted) in rows {
+        tells(rt, archive, script, wanted)?;
+    }
+    Ok(())
+}
+
+// The same over a fresh archive, whose images have at most so many bytes.
+pub(crate) fn tells_fresh(
+    rt: &(impl AllocGlobal + Abort),
+    limit: u64,
+    rows: &[Row],
+) -> Result<(), Fail> {
+    let mut archive = fresh(rt.alloc(), limit)?;
+    tells_each(rt, &mut archive, rows)
+}
+
 // A script with a part of so many bytes between two texts.
 pub(crate) fn with_part(
     alloc: Global,

@@ -1,5 +1,5 @@
 // Cores, and the names that a template gives them.
-use crate::archives::{fresh, named, replies, tells};
+use crate::archives::{fresh, named, replies, tells_fresh};
 use std::alloc::Global;
 use std::process::Abort;
 use std::test::Fail;
@@ -87,15 +87,9 @@ fn pairs_outside_the_grammar(rt: HostRuntime) -> Result<(), Fail> {
 
 #[test]
 fn a_core_keeps_its_process_signal_and_time(rt: HostRuntime) -> Result<(), Fail> {
-    let alloc = rt.alloc();
-    let mut archive = fresh(alloc, 1 << 30)?;
     let script =
         b"begin core 0 comm=cat pid=4242 tid=4243 sig=11 time=0x654\npart 0 2\nhiend 0\nlist\n";
-    tells(
-        &rt,
-        &mut archive,
-        script,
-        "name core.cat.4242\nok\nok\nstored 1\nok\n1 core 2 4242 11 1620 - core.cat.4242\nok\n",
-    )?;
-    Ok(())
+    let wanted =
+        "name core.cat.4242\nok\nok\nstored 1\nok\n1 core 2 4242 11 1620 - core.cat.4242\nok\n";
+    tells_fresh(&rt, 1 << 30, &[(script, wanted)])
 }

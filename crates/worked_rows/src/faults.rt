@@ -1,8 +1,11 @@
 // Streams that fail midway.
 use crate::archives::{fresh, named, tells};
+use disk_model::Disk;
 use inspector_cli::{
     Input, Output, ReadInput, SessionFault, StreamFault, WriteOutput, run_session,
 };
+use intake::Archive;
+use std::process::Abort;
 use std::test::Fail;
 
 // An input that fails behind these bytes.
@@ -58,46 +61,55 @@ impl Output for Narrow {
     }
 }
 
+// A session over an input that fails behind these bytes, and how many reads failed. Answers what was written.
+fn over_broken<D: Disk>(
+    rt: &(impl AllocGlobal + Abort),
+    archive: &mut Archive<D>,
+    rest: &[u8],
+) -> Result<Vec<u8>, Fail> {
+    let naming = named(b"core.%p", false)?;
+    let mut input = Broken { rest, failures: 0 };
+    let mut text = Vec::new(rt.alloc());
+    let mut output = WriteOutput::new(&mut text);
+    let ended = run_session(&mut input, &mut output, archive, &naming);
+    assert_eq!(rt; ended, Err(SessionFault::ReadFailed));
+    assert_eq!(rt; input.failures, 1);
+    Ok(text)
+}
+
 #[test]
 fn an_input_that_fails_within_a_part(rt: HostRuntime) -> Result<(), Fail> {
     let mut archive = fresh(rt.alloc(), 1 << 30)?;
-    let mut input = Broken {
-        rest: b"begin exec 0 a\nlist\npart 0 5\nab",
+    let script = b"begin exec 0 a\nlist\npart 0 5\nab";
+    let text = over_broken(&rt, &mut archive, script)?;
+    assert_eq!(rt; text.as_slice(), b"name a\nok\nok\n".as_slice());
+    tells(&rt, &mut archive, b"drop 0\nlist\n", "no NoStream\nok\n")
+}
+
+// A session over this script and an output that takes four bytes, of which this is the last.
+fn over_narrow<D: Disk>(
+    rt: &(impl AllocGlobal + Abort),
+    archive: &mut Archive<D>,
+    script: &[u8],
+    last: u8,
+) -> Result<(), Fail> {
+    let naming = named(b"core.%p", false)?;
+    let mut input = ReadInput::new(script);
+    let mut output = Narrow {
+        left: 4,
+        last: 0,
         failures: 0,
     };
-    let mut text = Vec::new(rt.alloc());
-    let mut output = WriteOutput::new(&mut text);
-    let ended = run_session(
-        &mut input,
-        &mut output,
-        &mut archive,
-        &named(b"core.%p", false)?,
-    );
-    assert_eq!(rt; ended, Err(SessionFault::ReadFailed));
-    assert_eq!(rt; input.failures, 1);
-    assert_eq!(rt; text.as_slice(), b"name a\nok\nok\n".as_slice());
-    tells(&rt, &mut archive, b"drop 0\nlist\n", "no NoStream\nok\n")?;
+    let ended = run_session(&mut input, &mut output, archive, &naming);
+    assert_eq!(rt; ended, Err(SessionFault::WriteFailed));
+    assert_eq!(rt; output.failures, 1);
+    assert_eq!(rt; output.last, last);
     Ok(())
 }
 
 #[test]
 fn an_output_that_fails_within_a_reply(rt: HostRuntime) -> Result<(), Fail> {
     let mut archive = fresh(rt.alloc(), 1 << 30)?;
-    let mut output = Narrow {
-        left: 4,
-        last: 0,
-        failures: 0,
-    };
-    let mut input = ReadInput::new(b"begin exec 0 a\n".as_slice());
-    let ended = run_session(
-        &mut input,
-        &mut output,
-        &mut archive,
-        &named(b"core.%p", false)?,
-    );
-    assert_eq!(rt; ended, Err(SessionFault::WriteFailed));
-    assert_eq!(rt; output.failures, 1);
-    assert_eq!(rt; output.last, b'e');
-    tells(&rt, &mut archive, b"drop 0\n", "no NoStream\n")?;
-    Ok(())
+    over_narrow(&rt, &mut archive, b"begin exec 0 a\n", b'e')?;
+    tells(&rt, &mut archive, b"drop 0\n", "no NoStream\n")
 }

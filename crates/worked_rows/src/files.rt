@@ -14,63 +14,25 @@ fn path_of(rt: &HostRuntime, name: &str) -> Result<String, Fail> {
     Ok(path.into_string())
 }
 
-#[test]
-fn there_is_no_archive(rt: HostRuntime) -> Result<(), Fail> {
-    let archive = path_of(&rt, "none")?;
-    shows(
-        &rt,
-        &["run", archive.as_str()],
-        b"list\n",
-        "no File\nstatus 1\n",
-    )?;
-    shows(
-        &rt,
-        &["store", archive.as_str(), "/dev/null"],
-        b"",
-        "no File\nstatus 1\n",
-    )?;
-    let words = ["format", archive.as_str(), "--half", "0", "--data", "4"];
-    shows(&rt, &words, b"", "no BadShape\nstatus 1\n")?;
-    assert!(rt; !fs::exists(&rt, archive.as_str())?);
-    Ok(())
+// Makes an archive in a new file, or shows this in its place.
+fn formats(
+    rt: &(impl AllocGlobal + Files<File = File> + Abort),
+    archive: &str,
+    half: &str,
+    wanted: &str,
+) -> Result<(), Fail> {
+    let words = ["format", archive, "--half", half, "--data", "4"];
+    shows(rt, &words, b"", wanted)
 }
 
-#[test]
-fn an_archive_is_made_once(rt: HostRuntime) -> Result<(), Fail> {
-    let archive = path_of(&rt, "made")?;
-    let words = ["format", archive.as_str(), "--half", "1", "--data", "4"];
-    shows(&rt, &words, b"", "status 0\n")?;
-    assert_eq!(rt; fs::metadata(&rt, archive.as_str())?.len(), 28_672);
-    let script = b"begin exec 0 a\npart 0 3\nabcend 0\n";
-    shows(
-        &rt,
-        &["run", archive.as_str()],
-        script,
-        "name a\nok\nok\nstored 1\nok\nstatus 0\n",
-    )?;
-    shows(&rt, &words, b"", "no File\nstatus 1\n")?;
-    shows(
-        &rt,
-        &["run", archive.as_str()],
-        b"list\nfree\n",
-        "1 exec 3 0 0 0 - a\nok\nfree 3 of 4\nok\nstatus 0\n",
-    )?;
-    fs::remove_file(&rt, archive.as_str())?;
-    Ok(())
-}
-
-#[test]
-fn files_that_hold_no_archive(rt: HostRuntime) -> Result<(), Fail> {
-    let archive = path_of(&rt, "other")?;
-    fs::write(&rt, archive.as_str(), "not an archive")?;
-    shows(
-        &rt,
-        &["run", archive.as_str()],
-        b"list\n",
-        "no NotAnArchive\nstatus 1\n",
-    )?;
-    fs::remove_file(&rt, archive.as_str())?;
-    Ok(())
+// A script over the archive in a file shows this text.
+fn runs(
+    rt: &(impl AllocGlobal + Files<File = File> + Abort),
+    archive: &str,
+    script: &[u8],
+    wanted: &str,
+) -> Result<(), Fail> {
+    shows(rt, &["run", archive], script, wanted)
 }
 
 // Storing the file shows this text, with these words behind its path.
@@ -92,7 +54,71 @@ fn stores(
 }
 
 // The words behind the file's path, and what is shown.
-const STORED: [(&[&str], &str); 5] = [
+type Row = (&'static [&'static str], &'static str);
+
+// Storing the file shows the text of each row, with its words.
+fn stores_each(
+    rt: &(impl AllocGlobal + Files<File = File> + Abort),
+    archive: &str,
+    file: &str,
+    rows: &[Row],
+) -> Result<(), Fail> {
+    for (rest, wanted) in rows {
+        stores(rt, archive, file, rest, wanted)?;
+    }
+    Ok(())
+}
+
+#[test]
+fn there_is_no_archive(rt: HostRuntime) -> Result<(), Fail> {
+    let archive = path_of(&rt, "none")?;
+    let archive = archive.as_str();
+    runs(&rt, archive, b"list\n", "no File\nstatus 1\n")?;
+    stores(&rt, archive, "/dev/null", &[], "no File\nstatus 1\n")?;
+    formats(&rt, archive, "0", "no BadShape\nstatus 1\n")?;
+    assert!(rt; !fs::exists(&rt, archive)?);
+    Ok(())
+}
+
+// A new archive in this file keeps its case.
+fn is_made(
+    rt: &(impl AllocGlobal + Files<File = File> + Abort),
+    archive: &str,
+) -> Result<(), Fail> {
+    formats(rt, archive, "1", "status 0\n")?;
+    assert_eq!(rt; fs::metadata(rt, archive)?.len(), 28_672);
+    let script = b"begin exec 0 a\npart 0 3\nabcend 0\n";
+    runs(
+        rt,
+        archive,
+        script,
+        "name a\nok\nok\nstored 1\nok\nstatus 0\n",
+    )
+}
+
+#[test]
+fn an_archive_is_made_once(rt: HostRuntime) -> Result<(), Fail> {
+    let archive = path_of(&rt, "made")?;
+    let archive = archive.as_str();
+    is_made(&rt, archive)?;
+    formats(&rt, archive, "1", "no File\nstatus 1\n")?;
+    let listed = "1 exec 3 0 0 0 - a\nok\nfree 3 of 4\nok\nstatus 0\n";
+    runs(&rt, archive, b"list\nfree\n", listed)?;
+    fs::remove_file(&rt, archive)?;
+    Ok(())
+}
+
+#[test]
+fn files_that_hold_no_archive(rt: HostRuntime) -> Result<(), Fail> {
+    let archive = path_of(&rt, "other")?;
+    let archive = archive.as_str();
+    fs::write(&rt, archive, "not an archive")?;
+    runs(&rt, archive, b"list\n", "no NotAnArchive\nstatus 1\n")?;
+    fs::remove_file(&rt, archive)?;
+    Ok(())
+}
+
+const STORED: [Row; 5] = [
     (
         &["--exec", "/bin/cat"],
         "name /bin/cat\nok\nstored 1\nok\nstatus 0\n",
@@ -112,60 +138,65 @@ const STORED: [(&[&str], &str); 5] = [
     ),
 ];
 
+// A file is stored, and then listed.
+fn is_stored(
+    rt: &(impl AllocGlobal + Files<File = File> + Abort),
+    archive: &str,
+    file: &str,
+) -> Result<(), Fail> {
+    fs::write(rt, file, "hello")?;
+    formats(rt, archive, "1", "status 0\n")?;
+    stores_each(rt, archive, file, &STORED)?;
+    let listed =
+        "1 exec 5 0 0 0 - /bin/cat\n2 core 5 7 11 9 - core.cat.7\n3 core 5 1 0 0 - c.1\nok\nfree 1 of 4\nok\nstatus 0\n";
+    runs(rt, archive, b"list\nfree\n", listed)
+}
+
 #[test]
 fn files_are_stored(rt: HostRuntime) -> Result<(), Fail> {
     let archive = path_of(&rt, "stored")?;
-    let archive = archive.as_str();
     let file = path_of(&rt, "image")?;
-    let file = file.as_str();
-    fs::write(&rt, file, "hello")?;
-    let words = ["format", archive, "--half", "1", "--data", "4"];
-    shows(&rt, &words, b"", "status 0\n")?;
-    for (rest, wanted) in STORED {
-        stores(&rt, archive, file, rest, wanted)?;
-    }
-    shows(
-        &rt,
-        &["run", archive],
-        b"list\nfree\n",
-        "1 exec 5 0 0 0 - /bin/cat\n2 core 5 7 11 9 - core.cat.7\n3 core 5 1 0 0 - c.1\nok\nfree 1 of 4\nok\nstatus 0\n",
-    )?;
-    fs::remove_file(&rt, file)?;
-    fs::remove_file(&rt, archive)?;
+    is_stored(&rt, archive.as_str(), file.as_str())?;
+    fs::remove_file(&rt, file.as_str())?;
+    fs::remove_file(&rt, archive.as_str())?;
     Ok(())
 }
 
-// The file's path, the words behind it, and what is shown.
-const REFUSED: [(&str, &[&str], &str); 8] = [
-    ("/dev/null", &["--template", "|x"], "no Pipe\nstatus 1\n"),
-    ("/dev/null", &["pid"], "no BadLine\nstatus 1\n"),
-    ("/dev/null", &["pid=1\n"], "no BadLine\nstatus 1\n"),
-    ("/dev/null", &["pid=1 pid=2"], "no BadLine\nstatus 1\n"),
-    ("/dev/null", &["comm=a\\"], "no BadLine\nstatus 1\n"),
-    ("/dev/null", &["--exec", ""], "no BadLine\nstatus 1\n"),
-    // A folder can be opened, but not read.
-    ("/", &["--exec", "a"], "name a\nok\nno File\nstatus 1\n"),
+// Of a file that is not there.
+const MISSING: [Row; 2] = [
+    (&["--exec", "a"], "no File\nstatus 1\n"),
     (
-        "/dev/null",
-        &["--exec", "a"],
-        "name a\nok\nstored 1\nok\nstatus 0\n",
+        &["--exec", "a", "pid=7", "--template", "|x"],
+        "no BadLine\nstatus 1\n",
     ),
 ];
+
+// Of an empty file.
+const REFUSED: [Row; 6] = [
+    (&["--template", "|x"], "no Pipe\nstatus 1\n"),
+    (&["pid"], "no BadLine\nstatus 1\n"),
+    (&["pid=1\n"], "no BadLine\nstatus 1\n"),
+    (&["pid=1 pid=2"], "no BadLine\nstatus 1\n"),
+    (&["comm=a\\"], "no BadLine\nstatus 1\n"),
+    (&["--exec", ""], "no BadLine\nstatus 1\n"),
+];
+
+// Of a folder, which can be opened, but not read.
+const UNREAD: [Row; 1] = [(&["--exec", "a"], "name a\nok\nno File\nstatus 1\n")];
+
+// Of an empty file after all of these.
+const EMPTY: [Row; 1] = [(&["--exec", "a"], "name a\nok\nstored 1\nok\nstatus 0\n")];
 
 #[test]
 fn what_store_refuses(rt: HostRuntime) -> Result<(), Fail> {
     let archive = path_of(&rt, "refusing")?;
     let archive = archive.as_str();
-    let words = ["format", archive, "--half", "1", "--data", "4"];
-    shows(&rt, &words, b"", "status 0\n")?;
+    formats(&rt, archive, "1", "status 0\n")?;
     let none = path_of(&rt, "nothing")?;
-    let none = none.as_str();
-    stores(&rt, archive, none, &["--exec", "a"], "no File\nstatus 1\n")?;
-    let rest = ["--exec", "a", "pid=7", "--template", "|x"];
-    stores(&rt, archive, none, &rest, "no BadLine\nstatus 1\n")?;
-    for (file, rest, wanted) in REFUSED {
-        stores(&rt, archive, file, rest, wanted)?;
-    }
+    stores_each(&rt, archive, none.as_str(), &MISSING)?;
+    stores_each(&rt, archive, "/dev/null", &REFUSED)?;
+    stores_each(&rt, archive, "/", &UNREAD)?;
+    stores_each(&rt, archive, "/dev/null", &EMPTY)?;
     fs::remove_file(&rt, archive)?;
     Ok(())
 }

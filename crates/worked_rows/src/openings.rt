@@ -1,24 +1,40 @@
 // Archives that are not opened.
 use crate::archives::{fresh, told};
-use disk_model::Disk;
+use disk_model::{Disk, MemDisk};
 use intake::{Archive, Settings};
 use journal_layout::{Field, OpenFault};
 use std::alloc::Global;
 use std::test::Fail;
 
-// Why the archive of one executable is not opened once this byte of its disk is set.
-fn refused(alloc: Global, at: u64, byte: u8) -> Result<Option<OpenFault>, Fail> {
+// The disk of an archive of one executable.
+fn stored(alloc: Global) -> Result<MemDisk, Fail> {
     let mut archive = fresh(alloc, 1 << 30)?;
     let script = b"begin exec 0 /bin/cat\npart 0 5\nhelloend 0\n";
     let _ = told(alloc, &mut archive, script)?;
-    let mut disk = archive.close();
+    Ok(archive.close())
+}
+
+// Sets this byte of a disk that has it.
+fn set(disk: &mut MemDisk, at: u64, byte: u8) -> Result<(), Fail> {
     if at < disk.length() {
         disk.write_at(at, &[byte])?;
     }
+    Ok(())
+}
+
+// Why the archive on a disk is not opened.
+fn fault_of(alloc: Global, disk: MemDisk) -> Option<OpenFault> {
     match Archive::open(alloc, disk, Settings { limit: 1 << 30 }) {
-        Ok(_) => Ok(None),
-        Err((fault, _)) => Ok(Some(fault)),
+        Ok(_) => None,
+        Err((fault, _)) => Some(fault),
     }
+}
+
+// Why the archive of one executable is not opened once this byte of its disk is set.
+fn refused(alloc: Global, at: u64, byte: u8) -> Result<Option<OpenFault>, Fail> {
+    let mut disk = stored(alloc)?;
+    set(&mut disk, at, byte)?;
+    Ok(fault_of(alloc, disk))
 }
 
 #[test]

@@ -1,130 +1,123 @@
 // Scripts over a fresh archive in memory, and the replies to them.
-use crate::archives::{fresh, tells, with_part};
+use crate::archives::{fresh, tells, tells_fresh, with_part};
+use disk_model::MemDisk;
+use std::process::Abort;
 use std::test::Fail;
+
+// The disk of an archive with one executable of five bytes.
+fn stored(rt: &(impl AllocGlobal + Abort)) -> Result<MemDisk, Fail> {
+    let mut archive = fresh(rt.alloc(), 1 << 30)?;
+    let script = b"begin exec 0 /bin/cat\npart 0 2\nhepart 0 0\npart 0 3\nlloend 0\nlist\n";
+    let wanted = "name /bin/cat\nok\nok\nok\nok\nstored 1\nok\n1 exec 5 0 0 0 - /bin/cat\nok\n";
+    tells(rt, &mut archive, script, wanted)?;
+    Ok(archive.close())
+}
+
+// From one place up to another the disk has these bytes.
+fn holds(rt: &impl Abort, disk: &MemDisk, from: usize, to: usize, wanted: &[u8]) {
+    assert_eq!(rt; disk.bytes().get(from..to), Some(wanted));
+}
+
+// The record of that executable.
+const RECORD: [u8; 64] = [
+    0xa5, 1, 0, 0, 0x40, 0, 0, 0, 1, 0, 0, 0, 2, 0, 8, 0, 0, 0, 0, 0, 0, 0, 0, 0, 0, 0, 0, 0, 0, 0,
+    0, 0, 5, 0, 0, 0, 0, 0, 0, 0, 1, 0, 0, 0, 0, 0, 0, 0, 0, 0, 0, 0, 1, 0, 0, 0, 0x2f, 0x62, 0x69,
+    0x6e, 0x2f, 0x63, 0x61, 0x74,
+];
 
 #[test]
 fn an_image_is_streamed_in_parts_and_listed(rt: HostRuntime) -> Result<(), Fail> {
-    let mut archive = fresh(rt.alloc(), 1 << 30)?;
-    let script = b"begin exec 0 /bin/cat\npart 0 2\nhepart 0 0\npart 0 3\nlloend 0\nlist\n";
-    tells(
-        &rt,
-        &mut archive,
-        script,
-        "name /bin/cat\nok\nok\nok\nok\nstored 1\nok\n1 exec 5 0 0 0 - /bin/cat\nok\n",
-    )?;
-    let disk = archive.close();
-    let record = [
-        0xa5, 1, 0, 0, 0x40, 0, 0, 0, 1, 0, 0, 0, 2, 0, 8, 0, 0, 0, 0, 0, 0, 0, 0, 0, 0, 0, 0, 0,
-        0, 0, 0, 0, 5, 0, 0, 0, 0, 0, 0, 0, 1, 0, 0, 0, 0, 0, 0, 0, 0, 0, 0, 0, 1, 0, 0, 0, 0x2f,
-        0x62, 0x69, 0x6e, 0x2f, 0x63, 0x61, 0x74,
-    ];
-    assert_eq!(rt; disk.bytes().get(4128..4192), Some(record.as_slice()));
-    assert_eq!(rt;
-        disk.bytes().get(16..24),
-        Some([1, 0, 0, 0, 4, 0, 0, 0].as_slice())
-    );
-    assert_eq!(rt; disk.bytes().get(12288..12294), Some(b"hello\0".as_slice()));
+    let disk = stored(&rt)?;
+    holds(&rt, &disk, 4128, 4192, &RECORD);
+    holds(&rt, &disk, 16, 24, &[1, 0, 0, 0, 4, 0, 0, 0]);
+    holds(&rt, &disk, 12288, 12294, b"hello\0");
     Ok(())
 }
 
 #[test]
 fn an_empty_image_takes_no_block(rt: HostRuntime) -> Result<(), Fail> {
-    let mut archive = fresh(rt.alloc(), 1 << 30)?;
-    tells(
+    tells_fresh(
         &rt,
-        &mut archive,
-        b"begin exec 0 x\nend 0\nfree\n",
-        "name x\nok\nstored 1\nok\nfree 4 of 4\nok\n",
-    )?;
-    Ok(())
+        1 << 30,
+        &[(
+            b"begin exec 0 x\nend 0\nfree\n",
+            "name x\nok\nstored 1\nok\nfree 4 of 4\nok\n",
+        )],
+    )
 }
 
 #[test]
 fn a_full_disk_refuses_the_next_block(rt: HostRuntime) -> Result<(), Fail> {
     let alloc = rt.alloc();
-    let mut archive = fresh(alloc, 1 << 30)?;
     let first = with_part(alloc, b"begin exec 0 a\npart 0 16384\n", 16384, b"end 0\n")?;
-    tells(
-        &rt,
-        &mut archive,
-        first.as_slice(),
-        "name a\nok\nok\nstored 1\nok\n",
-    )?;
     let second = with_part(
         alloc,
         b"begin exec 0 b\npart 0 1\nzend 0\nbegin exec 0 b\npart 0 4096\n",
         4096,
         b"part 0 0\nlist\n",
     )?;
-    tells(
+    tells_fresh(
         &rt,
-        &mut archive,
-        second.as_slice(),
-        "name b\nok\nok\nno SpaceFull\nname b\nok\nno SpaceFull\nno NoStream\n1 exec 16384 0 0 0 - a\nok\n",
-    )?;
-    Ok(())
+        1 << 30,
+        &[
+            (first.as_slice(), "name a\nok\nok\nstored 1\nok\n"),
+            (
+                second.as_slice(),
+                "name b\nok\nok\nno SpaceFull\nname b\nok\nno SpaceFull\nno NoStream\n1 exec 16384 0 0 0 - a\nok\n",
+            ),
+        ],
+    )
 }
 
 #[test]
 fn the_limit_refuses_a_longer_image(rt: HostRuntime) -> Result<(), Fail> {
-    let alloc = rt.alloc();
-    let mut archive = fresh(alloc, 10_000)?;
     let script = with_part(
-        alloc,
+        rt.alloc(),
         b"begin exec 0 a\npart 0 10000\n",
         10_000,
         b"part 0 1\nzbegin exec 0 a\n",
     )?;
-    tells(
-        &rt,
-        &mut archive,
-        script.as_slice(),
-        "name a\nok\nok\nno TooLong\nname a\nok\n",
-    )?;
-    Ok(())
+    let wanted = "name a\nok\nok\nno TooLong\nname a\nok\n";
+    tells_fresh(&rt, 10_000, &[(script.as_slice(), wanted)])
 }
 
 #[test]
 fn input_that_ends_within_a_part_stores_nothing(rt: HostRuntime) -> Result<(), Fail> {
-    let mut archive = fresh(rt.alloc(), 1 << 30)?;
-    tells(
+    tells_fresh(
         &rt,
-        &mut archive,
-        b"begin exec 0 a\npart 0 5\nab",
-        "name a\nok\nno Truncated\n",
-    )?;
-    tells(
-        &rt,
-        &mut archive,
-        b"list\nend 0\npart 0 1",
-        "ok\nno NoStream\nno Truncated\n",
-    )?;
-    Ok(())
+        1 << 30,
+        &[
+            (
+                b"begin exec 0 a\npart 0 5\nab",
+                "name a\nok\nno Truncated\n",
+            ),
+            (b"list\nend 0\npart 0 1", "ok\nno NoStream\nno Truncated\n"),
+        ],
+    )
 }
 
 #[test]
 fn lines_outside_the_grammar_and_without_replies(rt: HostRuntime) -> Result<(), Fail> {
-    let mut archive = fresh(rt.alloc(), 1 << 30)?;
     let script =
         b"# part 0 5\n\n   \nlist 1\nfree 1\npart 8 1\npart 0 65537\nbegin exec 0 a\\x00b\nbegin exec 0 \\x2d\ndrop 0\nbegin exec 8 a\nlist\r\nlist";
-    tells(
-        &rt,
-        &mut archive,
-        script,
-        "no BadLine\nno BadLine\nno BadLine\nno BadLine\nno NulByte\nname \\x2d\nok\nok\nno BadLine\nno BadLine\nok\n",
-    )?;
-    Ok(())
+    let wanted =
+        "no BadLine\nno BadLine\nno BadLine\nno BadLine\nno NulByte\nname \\x2d\nok\nok\nno BadLine\nno BadLine\nok\n";
+    tells_fresh(&rt, 1 << 30, &[(script, wanted)])
 }
 
 #[test]
 fn long_lines_and_long_names(rt: HostRuntime) -> Result<(), Fail> {
     let alloc = rt.alloc();
-    let mut archive = fresh(alloc, 1 << 30)?;
     let name = with_part(alloc, b"begin exec 0 ", 129, b"\n")?;
-    tells(&rt, &mut archive, name.as_slice(), "no TooLong\n")?;
     let line = with_part(alloc, b"list ", 1020, b"\n")?;
-    tells(&rt, &mut archive, line.as_slice(), "no LineTooLong\n")?;
     let remark = with_part(alloc, b"  # ", 3000, b"\nlist\n")?;
-    tells(&rt, &mut archive, remark.as_slice(), "ok\n")?;
-    Ok(())
+    tells_fresh(
+        &rt,
+        1 << 30,
+        &[
+            (name.as_slice(), "no TooLong\n"),
+            (line.as_slice(), "no LineTooLong\n"),
+            (remark.as_slice(), "ok\n"),
+        ],
+    )
 }

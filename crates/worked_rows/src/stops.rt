@@ -1,9 +1,16 @@
 // Disks that fail at the last call of a session, and what is found after a crash.
 use crate::archives::{after_crash, fresh, fresh_disk, opened, tells, told};
 use disk_model::{MemDisk, OneFault, Pick};
+use intake::Archive;
 use std::alloc::Global;
 use std::process::Abort;
 use std::test::Fail;
+
+// The archive on a copy of the disk, where this call of the copy fails.
+fn faulty(alloc: Global, disk: &MemDisk, call: u64) -> Result<Archive<OneFault<MemDisk>>, Fail> {
+    let copy = disk.after_crash(Pick::Nothing)?;
+    opened(alloc, OneFault::new(copy, call), 1 << 30)
+}
 
 // What a session over this script writes, and the disk that it leaves, where this call of the disk fails. The archive on
 // the disk stays as it is: the session is over a copy.
@@ -13,8 +20,7 @@ fn stopped(
     call: u64,
     script: &[u8],
 ) -> Result<(String, OneFault<MemDisk>), Fail> {
-    let copy = disk.after_crash(Pick::Nothing)?;
-    let mut archive = opened(alloc, OneFault::new(copy, call), 1 << 30)?;
+    let mut archive = faulty(alloc, disk, call)?;
     let text = told(alloc, &mut archive, script)?;
     Ok((text, archive.close()))
 }
@@ -42,11 +48,22 @@ fn stopped_end(rt: &(impl AllocGlobal + Abort)) -> Result<MemDisk, Fail> {
     Ok(left)
 }
 
-// The same of another stream, which ends well where no call fails.
+// A session over this script writes this text, where no call of the disk fails.
+fn ends_well(
+    rt: &(impl AllocGlobal + Abort),
+    disk: &MemDisk,
+    script: &[u8],
+    wanted: &str,
+) -> Result<(), Fail> {
+    let (text, _) = stopped(rt.alloc(), disk, 0, script)?;
+    assert_eq!(rt; text.as_str(), wanted);
+    Ok(())
+}
+
+// The disk that is left where the last call fails within another stream, which ends well where no call fails.
 fn stopped_next(rt: &(impl AllocGlobal + Abort), disk: &MemDisk) -> Result<MemDisk, Fail> {
     let script = b"begin exec 0 e\nend 0\n";
-    let (text, _) = stopped(rt.alloc(), disk, 0, script)?;
-    assert_eq!(rt; text.as_str(), "name e\nok\nstored 1\nok\n");
+    ends_well(rt, disk, script, "name e\nok\nstored 1\nok\n")?;
     let (text, left) = stopped_at_last_call(rt.alloc(), disk, script, script)?;
     assert_eq!(rt; text.as_str(), "name e\nok\nno Disk\n");
     Ok(left)
@@ -87,21 +104,22 @@ fn stopped_deletion(rt: &(impl AllocGlobal + Abort), disk: &MemDisk) -> Result<M
     Ok(left)
 }
 
-#[test]
-fn a_fault_within_a_deletion_stops_the_archive(rt: HostRuntime) -> Result<(), Fail> {
-    let alloc = rt.alloc();
+// The disk of an archive of one executable without bytes.
+fn stored(alloc: Global) -> Result<MemDisk, Fail> {
     let mut archive = fresh(alloc, 1 << 30)?;
     let _ = told(alloc, &mut archive, b"begin exec 0 a\nend 0\n")?;
-    let left = stopped_deletion(&rt, &archive.close())?;
-    let script = b"list\nbegin exec 0 b\nend 0\n";
-    let mut archive = after_crash(alloc, &left, Pick::Nothing)?;
-    tells(
-        &rt,
-        &mut archive,
-        script,
-        "1 exec 0 0 0 0 - a\nok\nname b\nok\nstored 2\nok\n",
-    )?;
-    let mut archive = opened(alloc, left, 1 << 30)?;
-    tells(&rt, &mut archive, script, "ok\nname b\nok\nstored 2\nok\n")?;
-    Ok(())
+    Ok(archive.close())
+}
+
+// The cases, and the next one.
+const NEXT: &[u8] = b"list\nbegin exec 0 b\nend 0\n";
+
+#[test]
+fn a_fault_within_a_deletion_stops_the_archive(rt: HostRuntime) -> Result<(), Fail> {
+    let left = stopped_deletion(&rt, &stored(rt.alloc())?)?;
+    let mut archive = after_crash(rt.alloc(), &left, Pick::Nothing)?;
+    let wanted = "1 exec 0 0 0 0 - a\nok\nname b\nok\nstored 2\nok\n";
+    tells(&rt, &mut archive, NEXT, wanted)?;
+    let mut archive = opened(rt.alloc(), left, 1 << 30)?;
+    tells(&rt, &mut archive, NEXT, "ok\nname b\nok\nstored 2\nok\n")
 }

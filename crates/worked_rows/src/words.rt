@@ -129,39 +129,53 @@ fn a_template_that_is_refused(rt: HostRuntime) -> Result<(), Fail> {
     Ok(())
 }
 
+const REFUSED: [&[&str]; 9] = [
+    &["--nope"],
+    &[],
+    &["memory", "--half", "1"],
+    &["memory", "--half", "1", "--data", "4", "--nope"],
+    &["memory", "--half", "1", "--data", "4294967296"],
+    &["format", "a", "--half", "1"],
+    &["format", "--half", "1", "--data", "4"],
+    &["run"],
+    &["store", "a"],
+];
+
+// The words are refused: nothing goes to the output, and something is written for errors.
+fn refuses(
+    rt: &(impl AllocGlobal + Files<File = File> + Abort),
+    words: &[&str],
+) -> Result<(), Fail> {
+    let (status, replies, reasons) = run(rt, words, b"list\n")?;
+    assert_eq!(rt; status, 2, "at {words:?}");
+    assert!(rt; replies.is_empty() && !reasons.is_empty(), "at {words:?}");
+    Ok(())
+}
+
 #[test]
 fn words_that_are_refused(rt: HostRuntime) -> Result<(), Fail> {
-    let refused: [&[&str]; 9] = [
-        &["--nope"],
-        &[],
-        &["memory", "--half", "1"],
-        &["memory", "--half", "1", "--data", "4", "--nope"],
-        &["memory", "--half", "1", "--data", "4294967296"],
-        &["format", "a", "--half", "1"],
-        &["format", "--half", "1", "--data", "4"],
-        &["run"],
-        &["store", "a"],
-    ];
-    for words in refused {
-        let (status, replies, reasons) = run(&rt, words, b"list\n")?;
-        assert_eq!(rt; status, 2, "at {words:?}");
-        assert!(rt; replies.is_empty() && !reasons.is_empty(), "at {words:?}");
+    for words in REFUSED {
+        refuses(&rt, words)?;
     }
+    Ok(())
+}
+
+// The words write a text to the output that begins so, and nothing for errors.
+fn helps(
+    rt: &(impl AllocGlobal + Files<File = File> + Abort),
+    words: &[&str],
+    begins: &str,
+) -> Result<(), Fail> {
+    let (status, replies, reasons) = run(rt, words, b"")?;
+    assert_eq!(rt; status, 0, "at {words:?}");
+    assert!(rt; replies.starts_with(begins), "at {words:?}");
+    assert!(rt; reasons.is_empty(), "at {words:?}");
     Ok(())
 }
 
 #[test]
 fn help_goes_to_the_output(rt: HostRuntime) -> Result<(), Fail> {
-    let asked: [(&[&str], &str); 3] = [
-        (&["--help"], "keeps images of programs"),
-        (&["store", "--help"], "stores a core file"),
-        (&["help", "format"], "makes an archive in a new file"),
-    ];
-    for (words, begins) in asked {
-        let (status, replies, reasons) = run(&rt, words, b"")?;
-        assert_eq!(rt; status, 0, "at {words:?}");
-        assert!(rt; replies.starts_with(begins), "at {words:?}");
-        assert!(rt; reasons.is_empty(), "at {words:?}");
-    }
-    Ok(())
+    helps(&rt, &["--help"], "keeps images of programs")?;
+    helps(&rt, &["store", "--help"], "stores a core file")?;
+    helps(&rt, &["help", "format"], "makes an archive in a new file")
 }
