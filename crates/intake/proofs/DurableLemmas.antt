@@ -77,7 +77,7 @@ pub durable_stored : (s : Standing) (c : Case) (bytes : List ℕ)
 durable_stored s c bytes = ap (λ (l : List FoundCase). record { cases = l; next = s.next + 1 }) (map-append (found_case s.shape bytes) s.cases (numbered s.next c ∷ []))
 
 -- a state and its bytes say the same
-found_zipped : (shape : Shape) (bytes : List ℕ) (cases : List Case) → map (found_case shape bytes) cases ≡ with_images (map bare_case cases) (map (λ (c : Case). image_in shape bytes c.blocks c.len) cases)
+pub found_zipped : (shape : Shape) (bytes : List ℕ) (cases : List Case) → map (found_case shape bytes) cases ≡ with_images (map bare_case cases) (map (λ (c : Case). image_in shape bytes c.blocks c.len) cases)
 found_zipped shape bytes [] = refl
 found_zipped shape bytes (c ∷ rest) = ap (λ (l : List FoundCase). found_case shape bytes c ∷ l) (found_zipped shape bytes rest)
 

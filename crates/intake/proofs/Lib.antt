@@ -25,3 +25,4 @@ pub mod LeaveLemmas
 pub mod CrashLemmas
 pub mod LastingLemmas
 pub mod MarkLemmas
+pub mod LastsLemmas

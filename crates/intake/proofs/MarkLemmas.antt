@@ -217,7 +217,7 @@ module _ {D : Type 0} (g : disk.Ghosts D) (counts : (d : D) (t : ℕ) (c : List 
   abbrev pub SameCases : Type 0
   SameCases = durable_of g.seen new ≡ durable_of g.seen old
 
-  finish_same : (slot : ℕ) (f : ArchiveFault) → FinishStep (bare_of old) slot (Err f) (bare_of new) → FinishBytes (contents_of g.seen old) slot (Err f) (contents_of g.seen new) → SameCases
+  pub finish_same : (slot : ℕ) (f : ArchiveFault) → FinishStep (bare_of old) slot (Err f) (bare_of new) → FinishBytes (contents_of g.seen old) slot (Err f) (contents_of g.seen new) → SameCases
   finish_same slot fault.Stopped step bytes = told g.seen old new (bare_of old) (contents_of g.seen old) step.1 bytes refl
   finish_same slot fault.NoStream step bytes = told g.seen old new (bare_of old) (contents_of g.seen old) step.2 bytes refl
   finish_same slot fault.SpaceFull step bytes = told g.seen old new _ _ step.5 bytes refl
@@ -267,7 +267,7 @@ module _ {D : Type 0} (g : disk.Ghosts D) (counts : (d : D) (t : ℕ) (c : List 
   unmoved _ b same is bytes = told g.seen old new b (contents_of g.seen old) is bytes same
 
   -- the state after such a refusal is the same, but for streams
-  delete_is : (seq : ℕ) (f : ArchiveFault) → DeleteStep (bare_of old) seq (Err f) (bare_of new) → (b : Bare) × (bare_of new ≡ b) × (b.cases ≡ (bare_of old).cases) × (b.next ≡ (bare_of old).next)
+  pub delete_is : (seq : ℕ) (f : ArchiveFault) → DeleteStep (bare_of old) seq (Err f) (bare_of new) → (b : Bare) × (bare_of new ≡ b) × (b.cases ≡ (bare_of old).cases) × (b.next ≡ (bare_of old).next)
   delete_is seq fault.Stopped step = (bare_of old, step.1, refl, refl)
   delete_is seq fault.NoCase step = (bare_of old, step.2, refl, refl)
   delete_is seq fault.Pinned step = (bare_of old, step.3, refl, refl)
@@ -276,7 +276,7 @@ module _ {D : Type 0} (g : disk.Ghosts D) (counts : (d : D) (t : ℕ) (c : List 
   delete_is seq fault.Disk step = (halted (bare_of old), step.4, refl, refl)
   delete_is seq _ step = absurd step
 
-  pin_is : (seq : ℕ) (flag : Bool) (f : ArchiveFault) → PinStep (bare_of old) seq flag (Err f) (bare_of new) → (b : Bare) × (bare_of new ≡ b) × (b.cases ≡ (bare_of old).cases) × (b.next ≡ (bare_of old).next)
+  pub pin_is : (seq : ℕ) (flag : Bool) (f : ArchiveFault) → PinStep (bare_of old) seq flag (Err f) (bare_of new) → (b : Bare) × (bare_of new ≡ b) × (b.cases ≡ (bare_of old).cases) × (b.next ≡ (bare_of old).next)
   pin_is seq flag fault.Stopped step = (bare_of old, step.1, refl, refl)
   pin_is seq flag fault.NoCase step = (bare_of old, step.2, refl, refl)
   pin_is seq flag fault.JournalFull step = (bare_of old, step.4, refl, refl)
@@ -284,7 +284,7 @@ module _ {D : Type 0} (g : disk.Ghosts D) (counts : (d : D) (t : ℕ) (c : List 
   pin_is seq flag fault.Disk step = (halted (bare_of old), step.4, refl, refl)
   pin_is seq flag _ step = absurd step
 
-  retire_is : (policy : Policy) (f : ArchiveFault) → RetireStep (bare_of old) policy (Err f) (bare_of new) → (b : Bare) × (bare_of new ≡ b) × (b.cases ≡ (bare_of old).cases) × (b.next ≡ (bare_of old).next)
+  pub retire_is : (policy : Policy) (f : ArchiveFault) → RetireStep (bare_of old) policy (Err f) (bare_of new) → (b : Bare) × (bare_of new ≡ b) × (b.cases ≡ (bare_of old).cases) × (b.next ≡ (bare_of old).next)
   retire_is policy fault.Stopped step = (bare_of old, step.1, refl, refl)
   retire_is policy fault.JournalFull step = (bare_of old, step.4, refl, refl)
   retire_is policy fault.OutOfMemory step = (bare_of old, step.1, refl, refl)
@@ -294,7 +294,7 @@ module _ {D : Type 0} (g : disk.Ghosts D) (counts : (d : D) (t : ℕ) (c : List 
   refused_number : (b : Bare) × (bare_of new ≡ b) × (b.cases ≡ (bare_of old).cases) × (b.next ≡ (bare_of old).next) → (bare_of old).next ≤ (bare_of new).next
   refused_number is = same_number is.0 is.1 is.3
 
-  refused_same : (f : ArchiveFault) → (b : Bare) × (bare_of new ≡ b) × (b.cases ≡ (bare_of old).cases) × (b.next ≡ (bare_of old).next)
+  pub refused_same : (f : ArchiveFault) → (b : Bare) × (bare_of new ≡ b) × (b.cases ≡ (bare_of old).cases) × (b.next ≡ (bare_of old).next)
       → UnmovedBytes (contents_of g.seen old) f (contents_of g.seen new) → SameCases
   refused_same f is bytes =
       unmoved f is.0

@@ -23,3 +23,4 @@ pub mod Sound
 pub mod State
 pub mod Step
 pub mod StreamView
+pub mod Lasts

@@ -2,6 +2,7 @@
 ghost use Rattle.std.specs.Prelude.{◌≡◌};
 ghost use Rattle.intake.specs.Durable.{durable_of, durable_part};
 ghost use Rattle.intake.specs.Lasting.{WhatStandsIsOne, NumbersAreAbove};
+ghost use Rattle.intake.specs.Lasts.{FinishLasts, DeleteLasts, PinLasts, RetireLasts, RefusalsLast};
 ghost use Rattle.intake.specs.Lives.{KeptOverManyStops, ACaseIsFound, NumbersStayGiven, NumbersAreGivenOnce};
 ghost use Rattle.intake.specs.Marks.{FoundAfterAStop, NothingElseIsLeft, StaysLead, FinishLeads, DeleteLeads, PinLeads, RetireLeads};
 ghost use Rattle.intake.specs.Parts.{Parts, bare_of, contents_of};
@@ -24,6 +25,17 @@ pub fn the_next_number_is_above()
 /// What outlives a stop is told by the state and its bytes: the cases, each with its image, and the next number.
 pub fn a_state_tells_what_lasts<D: Disk>()
     ensures { (a : Parts D) → durable_of D.seen a ≡ durable_part (bare_of a) (contents_of D.seen a) }
+{}
+
+/// What each call does to what the archive holds, on an honest disk: a finish adds the stream's case with the bytes that it took,
+/// a deletion and a retirement take cases away, a pin sets one flag, and each leaves all other cases as they are; a refusal
+/// changes nothing of it (where the disk failed, a stop may yet leave what the call would have left).
+pub fn what_calls_leave<D: Disk>()
+    ensures finish { FinishLasts D.Disk }
+    ensures delete { DeleteLasts D.Disk }
+    ensures pin { PinLasts D.Disk }
+    ensures retire { RetireLasts D.Disk }
+    ensures refusals { RefusalsLast D.Disk }
 {}
 
 /// Crash safety over a run of calls, told by marks, one behind each call that was answered: whatever crash there was since a

@@ -107,12 +107,6 @@ impl From<FormatFault> for Refusal {
     }
 }
 
-impl From<OpenFault> for Refusal {
-    fn from(fault: OpenFault) -> Self {
-        Refusal::Open(fault)
-    }
-}
-
 impl From<AllocError> for Refusal {
     fn from(_: AllocError) -> Self {
         Refusal::OutOfMemory

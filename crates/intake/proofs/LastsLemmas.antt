@@ -1,0 +1,143 @@
+-- What each call does to what the archive holds.
+use Rattle.std.proofs.Common.{◌≡◌, ◌⊎◌, ⊎_elim, inl, inr, ℕ, ◌+◌, ◌≤◌, ◌==◌, Bool, true, false, not, cond, List, [], ◌∷◌, ◌++◌, map, Ok, Err, refl, sym, ap, ◌∙◌}
+use Rattle.std.specs.List.{filter}
+use Rattle.std.specs.Prelude.{IsTrue}
+use Rattle.disk_model.specs.declared.disk.Disk as disk
+use Rattle.journal_layout.specs.Case.{Case}
+use Rattle.journal_layout.specs.Folding.{is_among}
+use Rattle.intake.specs.Blocks.{image_in}
+use Rattle.intake.specs.Calls.{FinishCall, DeleteCall, PinCall, RetireCall}
+use Rattle.intake.specs.Contents.{Contents, images_without}
+use Rattle.intake.specs.Durable.{FoundCase, durable_of, durable_part, with_images, without, flagged}
+use Rattle.intake.specs.Guarding.{MayBeStored}
+use Rattle.intake.specs.Parts.{Parts, bare_case, bare_of, contents_of}
+use Rattle.intake.specs.State.{Bare, BareCase}
+use Rattle.intake.specs.Step.{stored, case_from, without_cases, with_flag}
+use Rattle.intake.specs.declared.faults.ArchiveFault.{ArchiveFault}
+use Rattle.intake.proofs.DurableLemmas.{durable_is, found_zipped}
+use Rattle.intake.proofs.MarkLemmas.{finish_same, refused_same, delete_is, pin_is, retire_is}
+use Rattle.retention.specs.declared.Decision.{Decision}
+use Rattle.retention.specs.declared.Policy.{Policy}
+
+abbrev with_image : BareCase → List ℕ → FoundCase
+with_image c image = record {
+  seq = c.seq;
+  kind = c.kind;
+  name = c.name;
+  pid = c.pid;
+  signal = c.signal;
+  time = c.time;
+  pinned = c.pinned;
+  len = c.len;
+  image = image;
+}
+
+module _ (image : Case → List ℕ) where
+  abbrev zipped : List Case → List FoundCase
+  zipped cases = with_images (map bare_case cases) (map image cases)
+
+  zipped_then : (cases : List Case) (c : BareCase) (t : List ℕ) → with_images (map bare_case cases ++ c ∷ []) (map image cases ++ t ∷ []) ≡ zipped cases ++ with_image c t ∷ []
+  zipped_then [] c t = refl
+  zipped_then (d ∷ ds) c t = ap (λ (l : List FoundCase). with_image (bare_case d) (image d) ∷ l) (zipped_then ds c t)
+
+  zipped_without : (seqs : List ℕ) (cases : List Case)
+      → with_images (filter (λ (c : BareCase). not (is_among seqs c.seq)) (map bare_case cases)) (images_without seqs (map bare_case cases) (map image cases))
+      ≡ filter (λ (c : FoundCase). not (is_among seqs c.seq)) (zipped cases)
+  zipped_without seqs [] = refl
+  zipped_without seqs (d ∷ ds) =
+      let cs : List BareCase = filter (λ (c : BareCase). not (is_among seqs c.seq)) (map bare_case ds) in
+      let is : List (List ℕ) = images_without seqs (map bare_case ds) (map image ds) in
+      let fs : List FoundCase = filter (λ (c : FoundCase). not (is_among seqs c.seq)) (zipped ds) in
+      elim (is_among seqs d.seq) as (λ t. with_images (cond (not t) (bare_case d ∷ cs) cs) (cond t is (image d ∷ is)) ≡ cond (not t) (with_image (bare_case d) (image d) ∷ fs) fs) [
+        | true ↦ zipped_without seqs ds
+        | false ↦ ap (λ (l : List FoundCase). with_image (bare_case d) (image d) ∷ l) (zipped_without seqs ds)
+      ]
+
+  zipped_flagged : (seq : ℕ) (flag : Bool) (cases : List Case)
+      → with_images (map (λ (c : BareCase). cond (c.seq == seq) (record c { pinned = flag }) c) (map bare_case cases)) (map image cases)
+      ≡ map (λ (c : FoundCase). cond (c.seq == seq) (record c { pinned = flag }) c) (zipped cases)
+  zipped_flagged seq flag [] = refl
+  zipped_flagged seq flag (d ∷ ds) =
+      let cs : List BareCase = map (λ (c : BareCase). cond (c.seq == seq) (record c { pinned = flag }) c) (map bare_case ds) in
+      let fs : List FoundCase = map (λ (c : FoundCase). cond (c.seq == seq) (record c { pinned = flag }) c) (zipped ds) in
+      elim (d.seq == seq) as (λ t. with_images (cond t (record (bare_case d) { pinned = flag }) (bare_case d) ∷ cs) (image d ∷ map image ds)
+      ≡ cond t (record (with_image (bare_case d) (image d)) { pinned = flag }) (with_image (bare_case d) (image d)) ∷ fs) [
+        | true ↦ ap (λ (l : List FoundCase). record (with_image (bare_case d) (image d)) { pinned = flag } ∷ l) (zipped_flagged seq flag ds)
+        | false ↦ ap (λ (l : List FoundCase). with_image (bare_case d) (image d) ∷ l) (zipped_flagged seq flag ds)
+      ]
+
+none_gone : (cases : List BareCase) → cases ≡ filter (λ (c : BareCase). not (is_among [] c.seq)) cases
+none_gone [] = refl
+none_gone (c ∷ cs) = ap (λ (l : List BareCase). c ∷ l) (none_gone cs)
+
+module _ {D : Type 0} (g : disk.Ghosts D) (old new : Parts D) (honest : IsTrue (g.is_honest old.disk)) where
+  abbrev image_of : Case → List ℕ
+  image_of c = image_in old.journal.standing.shape (g.seen old.disk) c.blocks c.len
+
+  abbrev cases_of : List FoundCase
+  cases_of = with_images (bare_of old).cases (contents_of g.seen old).images
+
+  found_before : cases_of ≡ (durable_of g.seen old).cases
+  found_before = sym (found_zipped old.journal.standing.shape (g.seen old.disk) old.journal.standing.cases)
+
+  -- the cases are told by the state and the bytes
+  lasts : (b : Bare) (c : Contents) → bare_of new ≡ b → contents_of g.seen new ≡ c → durable_of g.seen new ≡ durable_part b c
+  lasts b c is has = durable_is g.seen new ∙ ap (λ (z : Bare). durable_part z (contents_of g.seen new)) is ∙ ap (durable_part b) has
+
+  pub finish_lasts : (slot seq : ℕ) → FinishCall g old slot (Ok seq) new → MayBeStored (bare_of old) (contents_of g.seen old) (durable_of g.seen old) slot (durable_of g.seen new)
+  finish_lasts slot seq call =
+      let step = call.step in
+      let bytes = call.bytes honest in
+      let case : BareCase = case_from step.0 (bare_of old).next step.1 in (
+        step.0,
+        bytes.0,
+        step.2.1,
+        bytes.1,
+        lasts (stored (bare_of old) slot step.0 step.1) _ step.7 bytes.2
+            ∙ ap (λ (l : List FoundCase). record { cases = l; next = (bare_of old).next + 1 })
+            (zipped_then image_of old.journal.standing.cases case bytes.0.bytes ∙ ap (λ (l : List FoundCase). l ++ with_image case bytes.0.bytes ∷ []) found_before),
+      )
+
+  left : (seqs : List ℕ) → record { cases = with_images (without_cases (bare_of old) seqs).cases (images_without seqs (bare_of old).cases (contents_of g.seen old).images); next = (bare_of old).next } ≡ without (durable_of g.seen old) seqs
+  left seqs =
+      ap (λ (l : List FoundCase). record { cases = l; next = (bare_of old).next })
+      (zipped_without image_of seqs old.journal.standing.cases ∙ ap (filter (λ (c : FoundCase). not (is_among seqs c.seq))) found_before)
+
+  pub delete_lasts : (seq : ℕ) (u : Unit {0}) → DeleteCall g old seq (Ok u) new → durable_of g.seen new ≡ without (durable_of g.seen old) (seq ∷ [])
+  delete_lasts seq u call = lasts (without_cases (bare_of old) (seq ∷ [])) _ call.step.4 (call.bytes honest) ∙ left (seq ∷ [])
+
+  pub pin_lasts : (seq : ℕ) (flag : Bool) (u : Unit {0}) → PinCall g old seq flag (Ok u) new
+      → (durable_of g.seen new ≡ durable_of g.seen old) ⊎ (durable_of g.seen new ≡ flagged (durable_of g.seen old) seq flag)
+  pin_lasts seq flag u call =
+      ⊎_elim
+      (λ kept. inl (lasts (bare_of old) (contents_of g.seen old) kept.1 (call.bytes honest) ∙ sym (durable_is g.seen old)))
+      (λ set. inr (
+      lasts (with_flag (bare_of old) seq flag) (contents_of g.seen old) set.2 (call.bytes honest)
+      ∙ ap (λ (l : List FoundCase). record { cases = l; next = (bare_of old).next })
+      (zipped_flagged image_of seq flag old.journal.standing.cases ∙ ap (map (λ (c : FoundCase). cond (c.seq == seq) (record c { pinned = flag }) c)) found_before)
+      ))
+      call.step.2
+
+  pub retire_lasts : (policy : Policy) (d : Decision) → RetireCall g old policy (Ok d) new → durable_of g.seen new ≡ without (durable_of g.seen old) d.dropped.items
+  retire_lasts policy d call =
+      ⊎_elim
+      (λ none. (
+      let no : List ℕ = [] in
+      lasts (bare_of old) _ none.1 (call.bytes honest)
+      ∙ ap (λ (l : List BareCase). record { cases = with_images l (images_without d.dropped.items (bare_of old).cases (contents_of g.seen old).images); next = (bare_of old).next })
+      (none_gone (bare_of old).cases ∙ ap (λ (seqs : List ℕ). filter (λ (c : BareCase). not (is_among seqs c.seq)) (bare_of old).cases) (sym none.0))
+      ∙ left d.dropped.items
+      ))
+      (λ some. lasts (without_cases (bare_of old) d.dropped.items) _ some.2 (call.bytes honest) ∙ left d.dropped.items)
+      call.step.2
+
+module _ {D : Type 0} (g : disk.Ghosts D) (counts : (d : D) (t : ℕ) (c : List ℕ) → t ≤ g.clock d → g.may_leave d c → g.left_since d t c)
+    (only : (d : D) (c : List ℕ) → g.left_since d (g.clock d) c → g.may_leave d c) (old new : Parts D) where
+  pub refusals_last : (f : ArchiveFault) → IsTrue (g.is_honest old.disk)
+      → ((slot : ℕ) × FinishCall g old slot (Err f) new) ⊎ (((seq : ℕ) × DeleteCall g old seq (Err f) new)
+      ⊎ (((seq : ℕ) × (flag : Bool) × PinCall g old seq flag (Err f) new) ⊎ ((policy : Policy) × RetireCall g old policy (Err f) new)))
+      → durable_of g.seen new ≡ durable_of g.seen old
+  refusals_last f honest (inl finish) = finish_same g counts only old new finish.0 f finish.1.step (finish.1.bytes honest)
+  refusals_last f honest (inr (inl delete)) = refused_same g counts only old new f (delete_is g counts only old new delete.0 f delete.1.step) (delete.1.bytes honest)
+  refusals_last f honest (inr (inr (inl pin))) = refused_same g counts only old new f (pin_is g counts only old new pin.0 pin.1 f pin.2.step) (pin.2.bytes honest)
+  refusals_last f honest (inr (inr (inr retire))) = refused_same g counts only old new f (retire_is g counts only old new retire.0 f retire.1.step) (retire.1.bytes honest)
