@@ -7,7 +7,7 @@ use case_journal::format;
 use disk_model::{Disk, MemDisk, Pick};
 use extents::Run;
 use intake::{Archive, ArchiveFault, Settings};
-use journal_layout::{Kind, Name, Shape};
+use journal_layout::{Entry, Kind, Name, Shape};
 use std::alloc::Global;
 use std::test::Fail;
 
@@ -65,6 +65,14 @@ pub fn name_of(bytes: &[u8]) -> Result<Name, Fail>
         return Err(Fail::from("these bytes are no name"));
     };
     Ok(name)
+}
+
+/// The cases of an archive.
+pub fn cases_of<D: Disk>(archive: &Archive<D>) -> Result<&[Entry], Fail> {
+    let Ok(cases) = archive.cases() else {
+        return Err(Fail::from("the archive is stopped"));
+    };
+    Ok(cases)
 }
 
 /// Begins the stream of an executable.

@@ -1,6 +1,6 @@
 // What the calls answer where nothing fails.
-use crate::bench::{begin, fresh, name_of, put, store};
-use disk_model::{Disk, MemDisk};
+use crate::bench::{begin, cases_of, fresh, name_of, put, store};
+use disk_model::Disk;
 use intake::{Archive, ArchiveFault};
 use journal_layout::{Entry, Kind};
 use std::process::Abort;
@@ -29,9 +29,7 @@ fn is_core(rt: &impl Abort, case: &Entry) {
 
 // The case of that core stands alone.
 fn has_core<D: Disk>(rt: &impl Abort, archive: &Archive<D>) -> Result<(), Fail> {
-    let Ok(cases) = archive.cases() else {
-        return Err(Fail::from("the archive is stopped"));
-    };
+    let cases = cases_of(archive)?;
     assert_eq!(rt; cases.len(), 1);
     is_core(rt, &cases[0]);
     Ok(())
@@ -69,11 +67,21 @@ fn a_slot_has_one_stream_at_a_time(rt: HostRuntime) -> Result<(), Fail> {
     takes_turns(&rt, &mut archive)
 }
 
+// Stores a case without bytes, which has this number.
+fn store_empty<D: Disk>(
+    rt: &(impl AllocGlobal + Abort),
+    archive: &mut Archive<D>,
+    number: u32,
+) -> Result<(), Fail> {
+    let name = format!(in rt.alloc(); "n{number}")?;
+    assert_eq!(rt; store(archive, name.as_bytes(), 1, 0)?, Ok(number));
+    Ok(())
+}
+
 // Fills the journal with cases without bytes.
-fn fill(rt: &(impl AllocGlobal + Abort), archive: &mut Archive<MemDisk>) -> Result<(), Fail> {
+fn fill<D: Disk>(rt: &(impl AllocGlobal + Abort), archive: &mut Archive<D>) -> Result<(), Fail> {
     for number in 1..64u32 {
-        let name = format!(in rt.alloc(); "n{number}")?;
-        assert_eq!(rt; store(archive, name.as_bytes(), 1, 0)?, Ok(number));
+        store_empty(rt, archive, number)?;
     }
     Ok(())
 }
@@ -84,9 +92,7 @@ fn is_full<D: Disk>(rt: &impl Abort, archive: &mut Archive<D>) -> Result<(), Fai
     assert_eq!(rt; archive.finish(0), Err(ArchiveFault::JournalFull));
     assert_eq!(rt; begin(archive, 0, b"n64")?, Ok(()));
     assert_eq!(rt; archive.delete(1), Ok(()));
-    let Ok(cases) = archive.cases() else {
-        return Err(Fail::from("the archive is stopped"));
-    };
+    let cases = cases_of(archive)?;
     assert_eq!(rt; cases.len(), 62);
     assert_eq!(rt; archive.delete(1), Err(ArchiveFault::NoCase));
     Ok(())

@@ -5,6 +5,7 @@ use case_journal::{Journal, JournalFault};
 use disk_model::{Disk, MemDisk};
 use journal_layout::Kind;
 use std::alloc::Global;
+use std::process::Abort;
 use std::test::Fail;
 
 // The record of case 1, an executable of 5 bytes with the name `/bin/cat`, in block 0.
@@ -95,21 +96,41 @@ fn the_numbers_are_spent(rt: HostRuntime) -> Result<(), Fail> {
     Ok(())
 }
 
-#[test]
-fn the_half_is_full(rt: HostRuntime) -> Result<(), Fail> {
-    let alloc = rt.alloc();
-    let mut bench = fresh(alloc)?;
-    for number in 1..64u32 {
-        let name = format!(in alloc; "n{number}")?;
-        assert_eq!(rt; bench.store(alloc, name.as_bytes())?, Ok(number));
-    }
+// The case has this number.
+fn stores<D: Disk + Drop>(
+    rt: &(impl AllocGlobal + Abort),
+    bench: &mut Bench<D>,
+    number: u32,
+) -> Result<(), Fail> {
+    let name = format!(in rt.alloc(); "n{number}")?;
+    assert_eq!(rt; bench.store(rt.alloc(), name.as_bytes())?, Ok(number));
+    Ok(())
+}
+
+// A full journal takes no further case, but the end of one.
+fn is_full<D: Disk + Drop>(
+    rt: &(impl AllocGlobal + Abort),
+    bench: &mut Bench<D>,
+) -> Result<(), Fail> {
     assert_eq!(rt; bench.journal().use_bytes(), 4064);
-    assert_eq!(rt; bench.store(alloc, b"n64")?, Err(JournalFault::JournalFull));
+    assert_eq!(rt;
+        bench.store(rt.alloc(), b"n64")?,
+        Err(JournalFault::JournalFull)
+    );
     assert_eq!(rt; bench.journal().entries().len(), 63);
     assert_eq!(rt; bench.end(1)?, Ok(()));
     assert_eq!(rt; bench.journal().entries().len(), 62);
     assert_eq!(rt; bench.journal().use_bytes(), 4080);
     Ok(())
+}
+
+#[test]
+fn the_half_is_full(rt: HostRuntime) -> Result<(), Fail> {
+    let mut bench = fresh(rt.alloc())?;
+    for number in 1..64u32 {
+        stores(&rt, &mut bench, number)?;
+    }
+    is_full(&rt, &mut bench)
 }
 
 // Whether the journal shows this state and so many bytes.

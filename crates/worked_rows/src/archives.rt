@@ -1,7 +1,7 @@
 // Archives in memory, sessions over them, and scripts.
 use case_journal::format;
 use disk_model::{Disk, MemDisk, Pick};
-use inspector_cli::{Naming, ReadInput, WriteOutput, run_session};
+use inspector_cli::{Input, Naming, Output, ReadInput, SessionFault, WriteOutput, run_session};
 use intake::{Archive, Settings};
 use journal_layout::Shape;
 use name_template::Template;
@@ -59,6 +59,16 @@ pub(crate) fn named(template: &[u8], uses_pid: bool) -> Result<Naming, Fail> {
     })
 }
 
+// How a session ends: nothing else is said of it here, so that no proof has to carry it.
+pub(crate) fn session<I: Input, O: Output, D: Disk>(
+    input: &mut I,
+    output: &mut O,
+    archive: &mut Archive<D>,
+    naming: &Naming,
+) -> Result<(), SessionFault> {
+    run_session(input, output, archive, naming)
+}
+
 // What a session over this script writes, which ends well.
 pub(crate) fn replies<D: Disk>(
     alloc: Global,
@@ -69,7 +79,7 @@ pub(crate) fn replies<D: Disk>(
     let mut text = Vec::new(alloc);
     let mut input = ReadInput::new(script);
     let mut output = WriteOutput::new(&mut text);
-    run_session(&mut input, &mut output, archive, naming)?;
+    session(&mut input, &mut output, archive, naming)?;
     Ok(String::from_utf8(text)?)
 }
 

@@ -98,14 +98,23 @@ fn a_full_journal_refuses_a_case(rt: HostRuntime) -> Result<(), Fail> {
     tells_each(&rt, &mut archive, &FULL)
 }
 
+// What the archive shows after a session over the script.
+fn changed<D: Disk>(
+    alloc: Global,
+    archive: &mut Archive<D>,
+    script: &[u8],
+) -> Result<String, Fail> {
+    let _ = told(alloc, archive, script)?;
+    told(alloc, archive, b"list\nfree\n")
+}
+
 // A session over the script, after which the archive shows the same when it is found again.
 fn changes(
     rt: &(impl AllocGlobal + Abort),
     mut archive: Archive<MemDisk>,
     script: &[u8],
 ) -> Result<Archive<MemDisk>, Fail> {
-    let _ = told(rt.alloc(), &mut archive, script)?;
-    let before = told(rt.alloc(), &mut archive, b"list\nfree\n")?;
+    let before = changed(rt.alloc(), &mut archive, script)?;
     let mut found = reopened(rt.alloc(), archive)?;
     tells(rt, &mut found, b"list\nfree\n", before.as_str())?;
     Ok(found)
@@ -121,12 +130,21 @@ static CHANGES: [&[u8]; 7] = [
     b"retire keep=1\n",
 ];
 
+// The same for each of the scripts in turn.
+fn change_all(
+    rt: &(impl AllocGlobal + Abort),
+    archive: Archive<MemDisk>,
+) -> Result<Archive<MemDisk>, Fail> {
+    let mut archive = archive;
+    for script in &CHANGES {
+        archive = changes(rt, archive, script)?;
+    }
+    Ok(archive)
+}
+
 #[test]
 fn an_archive_is_found_again_after_each_change(rt: HostRuntime) -> Result<(), Fail> {
-    let mut archive = fresh(rt.alloc(), 1 << 30)?;
-    for script in &CHANGES {
-        archive = changes(&rt, archive, script)?;
-    }
+    let mut archive = change_all(&rt, fresh(rt.alloc(), 1 << 30)?)?;
     tells(
         &rt,
         &mut archive,

@@ -1,6 +1,6 @@
 // Disks that fail at the last call of a session, and what is found after a crash.
 use crate::archives::{after_crash, fresh, fresh_disk, opened, tells, told};
-use disk_model::{MemDisk, OneFault, Pick};
+use disk_model::{Disk, MemDisk, OneFault, Pick};
 use intake::Archive;
 use std::alloc::Global;
 use std::process::Abort;
@@ -114,12 +114,25 @@ fn stored(alloc: Global) -> Result<MemDisk, Fail> {
 // The cases, and the next one.
 const NEXT: &[u8] = b"list\nbegin exec 0 b\nend 0\n";
 
+// A session over an archive that lists the cases and stores the next one writes this text.
+fn goes_on<D: Disk + Drop>(
+    rt: &(impl AllocGlobal + Abort),
+    archive: Archive<D>,
+    wanted: &str,
+) -> Result<(), Fail> {
+    let mut archive = archive;
+    tells(rt, &mut archive, NEXT, wanted)
+}
+
 #[test]
 fn a_fault_within_a_deletion_stops_the_archive(rt: HostRuntime) -> Result<(), Fail> {
     let left = stopped_deletion(&rt, &stored(rt.alloc())?)?;
-    let mut archive = after_crash(rt.alloc(), &left, Pick::Nothing)?;
-    let wanted = "1 exec 0 0 0 0 - a\nok\nname b\nok\nstored 2\nok\n";
-    tells(&rt, &mut archive, NEXT, wanted)?;
-    let mut archive = opened(rt.alloc(), left, 1 << 30)?;
-    tells(&rt, &mut archive, NEXT, "ok\nname b\nok\nstored 2\nok\n")
+    let archive = after_crash(rt.alloc(), &left, Pick::Nothing)?;
+    goes_on(
+        &rt,
+        archive,
+        "1 exec 0 0 0 0 - a\nok\nname b\nok\nstored 2\nok\n",
+    )?;
+    let archive = opened(rt.alloc(), left, 1 << 30)?;
+    goes_on(&rt, archive, "ok\nname b\nok\nstored 2\nok\n")
 }
