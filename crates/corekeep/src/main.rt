@@ -3,10 +3,14 @@
 
 use program_words::run_words;
 use script_streams::{ReadInput, WriteOutput};
+use std::fs::File;
 use std::process::ExitCode;
+use std::rt::Files;
 use std::{env, io};
 
 fn main(rt: HostRuntime) -> io::Result<ExitCode> {
+    // Before anything else is opened: an archive must not get the descriptor of a standard stream that is closed.
+    let _held = hold_standard_streams(&rt)?;
     let mut words = Vec::new(rt.alloc());
     for word in env::args(&rt)?.skip(1) {
         words.push(word)?;
@@ -16,4 +20,18 @@ fn main(rt: HostRuntime) -> io::Result<ExitCode> {
     let mut errors = WriteOutput::new(rt.stderr());
     let status = run_words(&rt, words.as_slice(), &mut input, &mut output, &mut errors);
     Ok(ExitCode::from(status))
+}
+
+// Opens the null device three times. A file gets the lowest descriptor that is free, so as long as these are there, none of
+// the descriptors 0, 1 and 2 is given to another file: one that was closed when the program began (the kernel starts a
+// handler of core files with descriptor 0 alone) reads as empty and takes what is written.
+fn hold_standard_streams<R: Files<File = File>>(rt: &R) -> io::Result<(File, File, File)> {
+    let first = open_null(rt)?;
+    let second = open_null(rt)?;
+    let third = open_null(rt)?;
+    Ok((first, second, third))
+}
+
+fn open_null<R: Files<File = File>>(rt: &R) -> io::Result<File> {
+    File::options().read(true).write(true).open(rt, "/dev/null")
 }
