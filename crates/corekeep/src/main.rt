@@ -1,24 +1,20 @@
-//! The program: its words, its standard streams and its status.
+//! The program: its standard streams and its status.
 #![tactic(auto)]
 
-use program_words::run_words;
+use program_words::run_program;
 use script_streams::{ReadInput, WriteOutput};
 use std::fs::File;
+use std::io;
 use std::process::ExitCode;
 use std::rt::Files;
-use std::{env, io};
 
 fn main(rt: HostRuntime) -> io::Result<ExitCode> {
     // Before anything else is opened: an archive must not get the descriptor of a standard stream that is closed.
     let _held = hold_standard_streams(&rt)?;
-    let mut words = Vec::new(rt.alloc());
-    for word in env::args(&rt)?.skip(1) {
-        words.push(word)?;
-    }
     let mut input = ReadInput::new(rt.stdin());
     let mut output = WriteOutput::new(rt.stdout());
     let mut errors = WriteOutput::new(rt.stderr());
-    let status = run_words(&rt, words.as_slice(), &mut input, &mut output, &mut errors);
+    let status = run_program(&rt, &mut input, &mut output, &mut errors);
     Ok(ExitCode::from(status))
 }
 

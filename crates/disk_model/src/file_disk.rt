@@ -4,37 +4,71 @@ ghost use Rattle.std.proofs.lemmas.Bool.{false≢true};
 ghost use Rattle.disk_model.specs.Disk.{HasCause};
 
 use crate::{Disk, DiskFault};
-use std::fs::File;
+use std::fs::{File, Permissions, TryLockError};
 use std::io;
 use std::io::ErrorKind;
-use std::os::unix::fs::FileExt;
+use std::os::unix::fs::{FileExt, OpenOptionsExt, PermissionsExt};
 use std::path::Path;
 use std::rt::Files;
 use thiserror::Error;
 
+// Only its owner may read and write a file that is made here.
+const OWNER_ALONE: u32 = 0o600;
+
+// The bytes of one write of zeros.
+const ZEROS: usize = 65_536;
+
 /// Why a disk in a file could not be made or opened.
 #[derive(Clone, Copy, Debug, PartialEq, Eq, Error)]
 pub enum FileFault {
-    /// There is a file of that name already. Only `create` answers this.
+    /// There is a file of that name already. Only `create` and `create_sparse` answer this.
     #[error("the file exists")]
     Exists,
-    /// The file could not be made or opened for reading and writing.
+    /// There is no file of that name, or no such folder.
+    #[error("there is no such file")]
+    Missing,
+    /// The permissions forbid it.
+    #[error("permission is denied")]
+    Denied,
+    /// It is a folder.
+    #[error("it is a folder")]
+    Folder,
+    /// The file system is full. Only `create` and `create_sparse` answer this.
+    #[error("the file system is full")]
+    Full,
+    /// The file could not be made or opened for reading and writing, for another reason.
     #[error("the file could not be opened")]
     Open,
-    /// Its length could not be set or asked.
+    /// Its permissions or its length could not be set or asked, or its zeros not be written.
     #[error("the file's length could not be set or asked")]
     Length,
-    /// Its length or its name could not be made durable. Only `create` answers this.
+    /// Its bytes or its name could not be made durable. Only `create` and `create_sparse` answer this.
     #[error("the file could not be synced")]
     Sync,
-    /// It could not be locked.
+    /// It has no lock here.
     #[error("the file could not be locked")]
     Lock,
+    /// Another has its lock.
+    #[error("another process has the file")]
+    Busy,
+}
+
+impl From<io::Error> for FileFault {
+    fn from(error: io::Error) -> FileFault {
+        match error.kind() {
+            ErrorKind::AlreadyExists => FileFault::Exists,
+            ErrorKind::NotFound | ErrorKind::NotADirectory => FileFault::Missing,
+            ErrorKind::PermissionDenied | ErrorKind::ReadOnlyFilesystem => FileFault::Denied,
+            ErrorKind::IsADirectory => FileFault::Folder,
+            ErrorKind::StorageFull | ErrorKind::QuotaExceeded => FileFault::Full,
+            _ => FileFault::Open,
+        }
+    }
 }
 
 /// A disk in a file, of the length that the file has when it is made or opened. As long as it is there it holds the file's
-/// advisory lock (flock), so that no two disks change one file at a time: a second one, of another process or of the same,
-/// waits until the first is gone. A process that ends in any way holds no lock.
+/// advisory lock (flock(2)), so that no two disks change one file at a time: a second one, of another process or of the
+/// same, is refused as `Busy`. A process that ends in any way holds no lock.
 ///
 /// Nothing is promised of its bytes, or of what a crash leaves of them: it is not honest by proof, so what else is
 /// proved over a disk holds of it where the file system keeps to the disk model.
@@ -47,9 +81,10 @@ pub struct FileDisk {
 }
 
 impl FileDisk {
-    /// Makes a file of so many zeros and opens it. Its length is made durable, and so is its name in its folder.
+    /// Makes a file of so many zeros and opens it. The zeros are written, so that the file system has room for all of
+    /// its bytes from then on, and made durable, and so is its name in its folder. Only its owner may read and write it.
     ///
-    /// A file that was made stays where a later step fails.
+    /// A file that was made stays where a later step fails. It never waits.
     pub fn create<R: Files<File = File>>(
         rt: &R,
         path: &str,
@@ -57,31 +92,35 @@ impl FileDisk {
     ) -> Result<FileDisk, FileFault>
         ensures { IfOk result (λ d. ⟦<FileDisk as Disk>⟧.size d ≡ length) }
     {
-        let file = File::options()
-            .read(true)
-            .write(true)
-            .create_new(true)
-            .open(rt, path)
-            .map_err(creation_fault)?;
-        file.lock().map_err(|_| FileFault::Lock)?;
-        file.set_len(length).map_err(|_| FileFault::Length)?;
-        file.sync_all().map_err(|_| FileFault::Sync)?;
-        sync_folder(rt, path).map_err(|_| FileFault::Sync)?;
-        Ok(FileDisk {
-            file,
-            length,
-            failures: 0,
-        })
+        let disk = made(rt, path, length)?;
+        write_zeros(&disk.file, length)?;
+        make_durable(rt, path, &disk.file)?;
+        Ok(disk)
     }
 
-    /// Opens a file that is there. It waits while another disk has it open.
+    /// The same, but its zeros are not written: the file system finds room for a byte when it is written first, and may
+    /// be full by then.
+    pub fn create_sparse<R: Files<File = File>>(
+        rt: &R,
+        path: &str,
+        length: u64,
+    ) -> Result<FileDisk, FileFault>
+        ensures { IfOk result (λ d. ⟦<FileDisk as Disk>⟧.size d ≡ length) }
+    {
+        let disk = made(rt, path, length)?;
+        make_durable(rt, path, &disk.file)?;
+        Ok(disk)
+    }
+
+    /// Opens a file that is there. It never waits: where another has the file's lock, it answers `Busy`.
     pub fn open<R: Files<File = File>>(rt: &R, path: &str) -> Result<FileDisk, FileFault> {
-        let file = File::options()
-            .read(true)
-            .write(true)
-            .open(rt, path)
-            .map_err(|_| FileFault::Open)?;
-        file.lock().map_err(|_| FileFault::Lock)?;
+        let file = File::options().read(true).write(true).open(rt, path)?;
+        take_lock(&file)?;
+        FileDisk::from_locked(file)
+    }
+
+    /// A disk in a file that is open for reading and writing, and whose lock the caller has taken.
+    pub fn from_locked(file: File) -> Result<FileDisk, FileFault> {
         let length = file.metadata().map_err(|_| FileFault::Length)?.len();
         Ok(FileDisk {
             file,
@@ -104,12 +143,58 @@ impl FileDisk {
     }
 }
 
-fn creation_fault(error: io::Error) -> FileFault {
-    if error.kind() == ErrorKind::AlreadyExists {
-        FileFault::Exists
-    } else {
-        FileFault::Open
+// Makes a file of this length, and has its lock.
+fn made<R: Files<File = File>>(rt: &R, path: &str, length: u64) -> Result<FileDisk, FileFault>
+    ensures { IfOk result (λ d. d.length ≡ length) }
+{
+    let file = File::options()
+        .read(true)
+        .write(true)
+        .create_new(true)
+        .mode(OWNER_ALONE)
+        .open(rt, path)?;
+    take_lock(&file)?;
+    // The mode that a file is made with loses what the process masks.
+    file.set_permissions(Permissions::from_mode(OWNER_ALONE))
+        .map_err(|_| FileFault::Length)?;
+    file.set_len(length).map_err(|_| FileFault::Length)?;
+    Ok(FileDisk {
+        file,
+        length,
+        failures: 0,
+    })
+}
+
+// Takes the file's lock, or answers that another has it.
+fn take_lock(file: &File) -> Result<(), FileFault> {
+    match file.try_lock() {
+        Ok(()) => Ok(()),
+        Err(TryLockError::WouldBlock) => Err(FileFault::Busy),
+        Err(TryLockError::Error(_)) => Err(FileFault::Lock),
     }
+}
+
+// Writes zeros over the whole file.
+fn write_zeros(file: &File, length: u64) -> Result<(), FileFault> {
+    let zeros = [0u8; ZEROS];
+    let mut at = 0u64;
+    while at < length {
+        let left = length - at;
+        let size = if left < ZEROS as u64 {
+            left as usize
+        } else {
+            ZEROS
+        };
+        file.write_all_at(&zeros[..size], at)?;
+        at += size as u64;
+    }
+    Ok(())
+}
+
+// Makes the file's bytes, its length and its name in its folder durable.
+fn make_durable<R: Files<File = File>>(rt: &R, path: &str, file: &File) -> Result<(), FileFault> {
+    file.sync_all().map_err(|_| FileFault::Sync)?;
+    sync_folder(rt, path).map_err(|_| FileFault::Sync)
 }
 
 // Makes the names in the file's folder durable.

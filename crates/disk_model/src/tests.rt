@@ -2,6 +2,7 @@ ghost use Rattle.std.specs.Prelude.{◌≤◌};
 
 use crate::{Disk, DiskFault, FileDisk, FileFault, Fuse, MemDisk, OneFault, Pick, write_stable};
 use std::fs::File;
+use std::os::unix::fs::MetadataExt;
 use std::test::Fail;
 use std::{env, fs, process};
 
@@ -164,14 +165,21 @@ fn one_fault_fails_one_call(rt: HostRuntime) -> Result<(), Fail> {
     Ok(())
 }
 
+// A path in the folder for temporary files that no other test has.
+fn path_of(rt: &HostRuntime, name: &str) -> Result<String, Fail> {
+    let folder = env::temp_dir(rt)?;
+    let id = process::id(rt.process());
+    Ok(format!(in rt.alloc(); "{}/corekeep-{name}-{id}", folder.as_str())?)
+}
+
 #[test]
 fn a_file_keeps_its_bytes(rt: HostRuntime) -> Result<(), Fail> {
-    let alloc = rt.alloc();
-    let folder = env::temp_dir(&rt)?;
-    let id = process::id(rt.process());
-    let path = format!(in alloc; "{}/corekeep-disk-{id}", folder.as_str())?;
+    let path = path_of(&rt, "disk")?;
     let path = path.as_str();
-    assert_eq!(rt; FileDisk::open(&rt, path).map(|_| ()), Err(FileFault::Open));
+    assert_eq!(rt;
+        FileDisk::open(&rt, path).map(|_| ()),
+        Err(FileFault::Missing)
+    );
     let mut disk = FileDisk::create(&rt, path, 10)?;
     assert_eq!(rt; disk.length(), 10);
     disk.write_at(3, &[1, 2, 3])?;
@@ -179,15 +187,7 @@ fn a_file_keeps_its_bytes(rt: HostRuntime) -> Result<(), Fail> {
     let mut bytes = [9u8; 5];
     disk.read_at(2, &mut bytes)?;
     assert_eq!(rt; bytes, [0, 1, 2, 3, 0]);
-    assert_eq!(rt;
-        FileDisk::create(&rt, path, 10).map(|_| ()),
-        Err(FileFault::Exists)
-    );
-    let other = File::open(&rt, path)?;
-    assert_eq!(rt; other.try_lock().is_ok(), false);
     drop(disk);
-    assert_eq!(rt; other.try_lock().is_ok(), true);
-    drop(other);
     let mut disk = FileDisk::open(&rt, path)?;
     assert_eq!(rt; disk.length(), 10);
     disk.read_at(1, &mut bytes)?;
@@ -196,5 +196,55 @@ fn a_file_keeps_its_bytes(rt: HostRuntime) -> Result<(), Fail> {
     assert_eq!(rt; disk.read_at(3, &mut bytes), Err(DiskFault::Read));
     assert_eq!(rt; disk.read_at(0, &mut bytes), Ok(()));
     fs::remove_file(&rt, path)?;
+    Ok(())
+}
+
+#[test]
+fn a_file_is_one_disks_at_a_time(rt: HostRuntime) -> Result<(), Fail> {
+    let path = path_of(&rt, "lock")?;
+    let path = path.as_str();
+    let disk = FileDisk::create(&rt, path, 10)?;
+    assert_eq!(rt;
+        FileDisk::create(&rt, path, 10).map(|_| ()),
+        Err(FileFault::Exists)
+    );
+    assert_eq!(rt; FileDisk::open(&rt, path).map(|_| ()), Err(FileFault::Busy));
+    drop(disk);
+    let file = File::options().read(true).write(true).open(&rt, path)?;
+    assert_eq!(rt; file.try_lock().is_ok(), true);
+    let disk = FileDisk::from_locked(file)?;
+    assert_eq!(rt; disk.length(), 10);
+    assert_eq!(rt; FileDisk::open(&rt, path).map(|_| ()), Err(FileFault::Busy));
+    drop(disk);
+    assert_eq!(rt; FileDisk::open(&rt, path).map(|_| ()), Ok(()));
+    assert_eq!(rt;
+        FileDisk::open(&rt, "/").map(|_| ()),
+        Err(FileFault::Folder)
+    );
+    fs::remove_file(&rt, path)?;
+    Ok(())
+}
+
+#[test]
+fn a_file_has_room_for_its_zeros(rt: HostRuntime) -> Result<(), Fail> {
+    let path = path_of(&rt, "zeros")?;
+    let path = path.as_str();
+    for (length, is_sparse) in [(200_000, false), (65_536, false), (200_000, true)] {
+        let disk = if is_sparse {
+            FileDisk::create_sparse(&rt, path, length)?
+        } else {
+            FileDisk::create(&rt, path, length)?
+        };
+        let metadata = fs::metadata(&rt, path)?;
+        assert_eq!(rt; disk.length(), length);
+        assert_eq!(rt; metadata.len(), length);
+        assert_eq!(rt;
+            metadata.blocks() < length / 512,
+            is_sparse,
+            "length {length}"
+        );
+        assert_eq!(rt; metadata.mode() & 0o777, 0o600);
+        fs::remove_file(&rt, path)?;
+    }
     Ok(())
 }

@@ -1,32 +1,83 @@
-// Archives, made and opened.
-use crate::failures::Refusal;
+// Archives, made, and taken from their files.
+use crate::asked::Place;
+use crate::failures::{Refusal, Word};
 use case_journal::format;
-use disk_model::{FileDisk, MemDisk};
+use disk_model::{FileDisk, FileFault, MemDisk};
 use intake::{Archive, Settings};
 use journal_layout::Shape;
 use std::alloc::Global;
-use std::fs::File;
+use std::fs;
+use std::fs::{File, TryLockError};
+use std::os::unix::fs::MetadataExt;
 use std::rt::Files;
+
+// How often a file is opened anew that is no longer the one of its path.
+const MOST_TRIES: u32 = 1_000_000;
 
 // Makes an archive in a new file. The shape is looked at before there is one.
 pub(crate) fn make_archive<R: Files<File = File>>(
     rt: &R,
     path: &str,
     shape: Shape,
+    is_sparse: bool,
 ) -> Result<(), Refusal> {
     let length = shape.length()?;
-    let mut disk = FileDisk::create(rt, path, length)?;
+    let made = if is_sparse {
+        FileDisk::create_sparse(rt, path, length)
+    } else {
+        FileDisk::create(rt, path, length)
+    };
+    let mut disk = made.map_err(|fault| Refusal::File(Word::Archive, fault))?;
     format(&mut disk, shape)?;
     Ok(())
 }
 
-// Opens the archive in a file.
-pub(crate) fn open_file<R: AllocGlobal + Files<File = File>>(
+// Takes the disk of an archive in a file. This alone waits: for the file's lock, as long as another process has it.
+pub(crate) fn take_disk<R: Files<File = File>>(
     rt: &R,
-    path: &str,
+    place: Place<'_>,
+) -> Result<FileDisk, Refusal> {
+    let taken = take_file(rt, place).and_then(FileDisk::from_locked);
+    taken.map_err(|fault| Refusal::File(Word::Archive, fault))
+}
+
+// Opens the file and takes its lock. While it waited, another file may have been put in its place: then it begins again.
+fn take_file<R: Files<File = File>>(rt: &R, place: Place<'_>) -> Result<File, FileFault> {
+    for _ in 0..MOST_TRIES {
+        let file = File::options().read(true).write(true).open(rt, place.path)?;
+        lock(&file, place.waits)?;
+        if is_named(rt, place.path, &file)? {
+            return Ok(file);
+        }
+    }
+    Err(FileFault::Busy)
+}
+
+fn lock(file: &File, waits: bool) -> Result<(), FileFault> {
+    if waits {
+        return file.lock().map_err(|_| FileFault::Lock);
+    }
+    match file.try_lock() {
+        Ok(()) => Ok(()),
+        Err(TryLockError::WouldBlock) => Err(FileFault::Busy),
+        Err(TryLockError::Error(_)) => Err(FileFault::Lock),
+    }
+}
+
+// Whether the path still names the file.
+fn is_named<R: Files<File = File>>(rt: &R, path: &str, file: &File) -> Result<bool, FileFault> {
+    let named = fs::metadata(rt, path)?;
+    let opened = file.metadata()?;
+    Ok(named.dev() == opened.dev() && named.ino() == opened.ino())
+}
+
+// Takes the archive in a file.
+pub(crate) fn take_archive<R: AllocGlobal + Files<File = File>>(
+    rt: &R,
+    place: Place<'_>,
     limit: u64,
 ) -> Result<Archive<FileDisk>, Refusal> {
-    let disk = FileDisk::open(rt, path)?;
+    let disk = take_disk(rt, place)?;
     match Archive::open(rt.alloc(), disk, Settings { limit }) {
         Ok(archive) => Ok(archive),
         Err((fault, _)) => Err(Refusal::Open(fault)),

@@ -1,6 +1,7 @@
 // What the words ask for.
 use crate::failures::{Failure, Refusal};
 use crate::grammar::program;
+use crate::raw_words::{is_text, push_escaped};
 use clap::ArgMatches;
 use journal_layout::Shape;
 use std::alloc::{AllocError, Global};
@@ -8,14 +9,15 @@ use std::alloc::{AllocError, Global};
 // What the program is asked to do. Files are named by their paths.
 #[derive(Drop)]
 pub(crate) enum Asked<'a> {
-    // An archive of this shape in a new file.
+    // An archive of this shape in a new file, whose zeros are written unless it is sparse.
     Format {
         archive: &'a str,
         shape: Shape,
+        is_sparse: bool,
     },
     // A session over the archive in a file.
     Run {
-        archive: &'a str,
+        archive: Place<'a>,
         settings: SessionWords<'a>,
     },
     // A session over a fresh archive in memory.
@@ -25,13 +27,20 @@ pub(crate) enum Asked<'a> {
     },
     // A file as a case of an archive; its stream begins by this line.
     Store {
-        archive: &'a str,
+        archive: Place<'a>,
         file: &'a str,
         line: Vec<u8>,
         settings: SessionWords<'a>,
     },
     // Nothing.
     Nothing,
+}
+
+// The file of an archive, and whether to wait for it where another process has it.
+#[derive(Clone, Copy)]
+pub(crate) struct Place<'a> {
+    pub(crate) path: &'a str,
+    pub(crate) waits: bool,
 }
 
 // What a session goes by, as the words say it.
@@ -48,30 +57,47 @@ pub(crate) fn read_words<'a>(alloc: Global, words: &'a [String]) -> Result<Asked
     let matches = program(alloc)?.try_get_matches_from(words)?;
     match matches.subcommand() {
         Some(("format", found)) => Ok(Asked::Format {
-            archive: text_of(found, "archive"),
+            archive: text_of(found, "archive")?,
             shape: shape_of(found),
+            is_sparse: found.get_flag("sparse"),
         }),
         Some(("run", found)) => Ok(Asked::Run {
-            archive: text_of(found, "archive"),
-            settings: settings_of(found),
+            archive: place_of(found)?,
+            settings: settings_of(found)?,
         }),
         Some(("memory", found)) => Ok(Asked::Memory {
             shape: shape_of(found),
-            settings: settings_of(found),
+            settings: settings_of(found)?,
         }),
         Some(("store", found)) => Ok(Asked::Store {
-            archive: text_of(found, "archive"),
-            file: text_of(found, "file"),
+            archive: place_of(found)?,
+            file: text_of(found, "file")?,
             line: first_line(alloc, found)?,
-            settings: settings_of(found),
+            settings: settings_of(found)?,
         }),
         _ => Ok(Asked::Nothing),
     }
 }
 
 // The text of a word that has to be there.
-fn text_of<'a>(found: &ArgMatches<'a>, id: &str) -> &'a str {
-    found.get_str(id).unwrap_or("")
+fn text_of<'a>(found: &ArgMatches<'a>, id: &str) -> Result<&'a str, Refusal> {
+    checked(found.get_str(id).unwrap_or(""))
+}
+
+// A word that has to be text.
+fn checked<'a>(word: &'a str) -> Result<&'a str, Refusal> {
+    if is_text(word) {
+        Ok(word)
+    } else {
+        Err(Refusal::NotUtf8)
+    }
+}
+
+fn place_of<'a>(found: &ArgMatches<'a>) -> Result<Place<'a>, Refusal> {
+    Ok(Place {
+        path: text_of(found, "archive")?,
+        waits: !found.get_flag("no-wait"),
+    })
 }
 
 fn shape_of(found: &ArgMatches<'_>) -> Shape {
@@ -81,31 +107,66 @@ fn shape_of(found: &ArgMatches<'_>) -> Shape {
     }
 }
 
-fn settings_of<'a>(found: &ArgMatches<'a>) -> SessionWords<'a> {
-    SessionWords {
-        template: text_of(found, "template"),
+fn settings_of<'a>(found: &ArgMatches<'a>) -> Result<SessionWords<'a>, Refusal> {
+    Ok(SessionWords {
+        template: text_of(found, "template")?,
         uses_pid: found.get_flag("uses-pid"),
         limit: found.get_one::<u64>("limit").unwrap_or(0),
-    }
+    })
 }
 
 // The line of a script that begins the stream: of an executable where it has a name, else of a core with its pairs. A
 // core's pairs say nothing of an executable, so both together are refused.
-fn first_line(alloc: Global, found: &ArgMatches<'_>) -> Result<Vec<u8>, Failure> {
+fn first_line(alloc: Global, found: &ArgMatches<'_>) -> Result<Vec<u8>, Refusal> {
     let pairs = found.get_strs("pairs").unwrap_or(&[]);
+    let escapes = found.get_flag("escape");
     match found.get_str("exec") {
-        None => Ok(joined(alloc, b"begin core 0", pairs)?),
-        Some(name) if pairs.is_empty() => Ok(joined(alloc, b"begin exec 0", &[name])?),
-        Some(_) => Err(Failure::Refused(Refusal::BadLine)),
+        None => core_line(alloc, pairs, escapes),
+        Some(name) if pairs.is_empty() => exec_line(alloc, name, escapes),
+        Some(_) => Err(Refusal::BadLine),
     }
 }
 
-// A text and words behind it, with a space before each.
-fn joined(alloc: Global, front: &[u8], words: &[&str]) -> Result<Vec<u8>, AllocError> {
-    let mut line = front.to_vec(alloc)?;
-    for word in words {
-        line.push(b' ')?;
-        line.extend_from_slice(word.as_bytes())?;
+// The line that begins a core, with a space before each of its pairs.
+fn core_line(alloc: Global, pairs: &[&str], escapes: bool) -> Result<Vec<u8>, Refusal> {
+    let mut line = b"begin core 0".to_vec(alloc)?;
+    for pair in pairs {
+        push_text(&mut line, " ")?;
+        push_pair(&mut line, pair, escapes)?;
     }
     Ok(line)
+}
+
+// The line that begins an executable.
+fn exec_line(alloc: Global, name: &str, escapes: bool) -> Result<Vec<u8>, Refusal> {
+    let mut line = b"begin exec 0 ".to_vec(alloc)?;
+    push_value(&mut line, name, escapes)?;
+    Ok(line)
+}
+
+// Adds a pair, whose VALUE alone may be escaped.
+fn push_pair(line: &mut Vec<u8>, pair: &str, escapes: bool) -> Result<(), Refusal> {
+    match pair.split_once('=') {
+        Some((key, value)) => {
+            push_text(line, checked(key)?)?;
+            push_text(line, "=")?;
+            push_value(line, value, escapes)
+        }
+        None => push_value(line, pair, false),
+    }
+}
+
+// Adds a text as it stands, or with the bytes that the line's grammar does not take as themselves escaped.
+fn push_value(line: &mut Vec<u8>, value: &str, escapes: bool) -> Result<(), Refusal> {
+    if escapes {
+        push_escaped(line, value)?;
+    } else {
+        push_text(line, checked(value)?)?;
+    }
+    Ok(())
+}
+
+fn push_text(line: &mut Vec<u8>, text: &str) -> Result<(), AllocError> {
+    line.extend_from_slice(text.as_bytes())?;
+    Ok(())
 }

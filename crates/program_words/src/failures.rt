@@ -23,6 +23,13 @@ pub(crate) enum Failure {
     Told,
 }
 
+// Which word of the command line names a file.
+#[derive(Clone, Copy, Debug, PartialEq, Eq)]
+pub(crate) enum Word {
+    Archive,
+    File,
+}
+
 // What a line `no REASON` tells.
 #[derive(Clone, Copy, Debug, PartialEq, Eq)]
 pub(crate) enum Refusal {
@@ -34,8 +41,10 @@ pub(crate) enum Refusal {
     TemplateTooLong,
     // The shape is outside its limits.
     BadShape,
-    // A file could not be made or opened.
-    File,
+    // The file that a word names could not be made, opened or locked.
+    File(Word, FileFault),
+    // A word is not UTF-8.
+    NotUtf8,
     // There was no memory.
     OutOfMemory,
     // The disk failed while the archive was made.
@@ -92,12 +101,6 @@ impl From<BadShape> for Refusal {
     }
 }
 
-impl From<FileFault> for Refusal {
-    fn from(_: FileFault) -> Self {
-        Refusal::File
-    }
-}
-
 impl From<FormatFault> for Refusal {
     fn from(fault: FormatFault) -> Self {
         match fault {
@@ -125,7 +128,10 @@ pub(crate) fn tell_failure<O: Output, E: Output>(
 {
     match failure {
         Failure::Words(error) => tell_words(alloc, error, output, errors),
-        Failure::Refused(refusal) => tell_refusal(*refusal, output),
+        Failure::Refused(refusal) => {
+            tell_in_words(alloc, *refusal, errors);
+            tell_refusal(*refusal, output)
+        }
         Failure::Faulted(fault) => tell_fault(*fault, errors),
         Failure::Told => 1,
     }
@@ -162,6 +168,21 @@ fn tell_text<O: Output>(output: &mut O, text: &[u8]) {
     let _ = reply.finish(output);
 }
 
+// Tells people what a reason for scripts leaves open.
+fn tell_in_words<E: Output>(alloc: Global, refusal: Refusal, errors: &mut E) {
+    let text = match refusal {
+        Refusal::File(Word::Archive, fault) => format!(in alloc; "corekeep: ARCHIVE: {fault}\n"),
+        Refusal::File(Word::File, fault) => format!(in alloc; "corekeep: FILE: {fault}\n"),
+        Refusal::NotUtf8 => format!(in alloc;
+            "corekeep: a word is not UTF-8; with --escape such bytes may stand in the VALUE of a pair and in NAME\n"
+        ),
+        _ => return,
+    };
+    if let Ok(text) = text {
+        tell_text(errors, text.as_bytes());
+    }
+}
+
 // Tells what is refused.
 fn tell_refusal<O: Output>(refusal: Refusal, output: &mut O) -> u8
     ensures { result ≡ 1 }
@@ -173,7 +194,9 @@ fn tell_refusal<O: Output>(refusal: Refusal, output: &mut O) -> u8
         Refusal::Pipe => reply.tell(output, b"Pipe"),
         Refusal::TemplateTooLong => reply.tell(output, b"TemplateTooLong"),
         Refusal::BadShape => reply.tell(output, b"BadShape"),
-        Refusal::File => reply.tell(output, b"File"),
+        Refusal::File(_, FileFault::Busy) => reply.tell(output, b"Busy"),
+        Refusal::File(_, _) => reply.tell(output, b"File"),
+        Refusal::NotUtf8 => reply.tell(output, b"NotUtf8"),
         Refusal::OutOfMemory => reply.tell(output, b"OutOfMemory"),
         Refusal::Disk => reply.tell(output, b"Disk"),
         Refusal::Open(fault) => tell_open_fault(&mut reply, output, fault),

@@ -5,6 +5,7 @@ use std::alloc::Global;
 // The program and its commands.
 pub(crate) fn program<'a>(alloc: Global) -> Result<Command<'a>, Error> {
     let command = Command::new(alloc, "corekeep")
+        .bin_name("corekeep")?
         .about("keeps images of programs and their memory as numbered cases in an archive")
         .after_help(
             "Statuses: 0; 1 where an archive, a file, a shape, a template or a step of `store` is refused (`no REASON` on \
@@ -23,11 +24,15 @@ pub(crate) fn program<'a>(alloc: Global) -> Result<Command<'a>, Error> {
 // `format` and its words.
 fn format_command<'a>(alloc: Global) -> Result<Command<'a>, Error> {
     let archive = file_word(alloc, "archive", "ARCHIVE").help(
-        "the file to make; one that exists is refused",
+        "the file to make, which only its owner may read and write; one that exists is refused",
+    );
+    let sparse = flag(alloc, "sparse").help(
+        "does not write the file's zeros: quick, but the file system may be full when a core file comes",
     );
     let command = Command::new(alloc, "format")
         .about("makes an archive in a new file, with no case in it")
-        .arg(archive)?;
+        .arg(archive)?
+        .arg(sparse)?;
     with_shape(alloc, command)
 }
 
@@ -38,7 +43,8 @@ fn run_command<'a>(alloc: Global) -> Result<Command<'a>, Error> {
         .about(
             "runs the script on standard input over an archive, and writes its replies to standard output",
         )
-        .arg(archive)?;
+        .arg(archive)?
+        .arg(no_wait(alloc))?;
     with_session(alloc, command)
 }
 
@@ -55,13 +61,13 @@ fn memory_command<'a>(alloc: Global) -> Result<Command<'a>, Error> {
 fn store_command<'a>(alloc: Global) -> Result<Command<'a>, Error> {
     let archive = file_word(alloc, "archive", "ARCHIVE").help("the archive's file");
     let file = file_word(alloc, "file", "FILE").help(
-        "what to store: a file or a pipe, or /dev/stdin for standard input",
+        "what to store: a file or a pipe, or - for standard input",
     );
     let pairs = Arg::new(alloc, "pairs")
         .value_name("KEY=VALUE")
         .help(
             "what is known of the core; KEY is comm, exe, host, pid, tid, sig, uid, gid, mode, time or limit, and a byte \
-             of a text outside 0x21 to 0x7e, or a backslash, is \\xHH",
+             of a text outside 0x21 to 0x7e, or a backslash, is \\xHH, unless --escape is there",
         )
         .num_args(0..)
         .action(ArgAction::Append);
@@ -70,6 +76,9 @@ fn store_command<'a>(alloc: Global) -> Result<Command<'a>, Error> {
         .value_name("NAME")
         .help("stores an executable of this name in place of a core")
         .action(ArgAction::Set);
+    let escape = flag(alloc, "escape").help(
+        "takes the bytes of each VALUE and of NAME as they are, whatever they are, as a process may call itself anything",
+    );
     let command = Command::new(alloc, "store")
         .about(
             "stores a core file as a case of an archive, named by the template, or an executable",
@@ -77,7 +86,9 @@ fn store_command<'a>(alloc: Global) -> Result<Command<'a>, Error> {
         .arg(archive)?
         .arg(file)?
         .arg(pairs)?
-        .arg(exec)?;
+        .arg(exec)?
+        .arg(escape)?
+        .arg(no_wait(alloc))?;
     with_session(alloc, command)
 }
 
@@ -87,6 +98,18 @@ fn file_word<'a>(alloc: Global, id: &'a str, name: &'a str) -> Arg<'a> {
         .value_name(name)
         .required(true)
         .action(ArgAction::Set)
+}
+
+// A word that is there or not.
+fn flag<'a>(alloc: Global, name: &'a str) -> Arg<'a> {
+    Arg::new(alloc, name).long(name).action(ArgAction::SetTrue)
+}
+
+// Whether to be refused where another process has the archive.
+fn no_wait<'a>(alloc: Global) -> Arg<'a> {
+    flag(alloc, "no-wait").help(
+        "answers `no Busy` where another process has the archive, in place of waiting for it",
+    )
 }
 
 // A command that takes the shape of an archive.
@@ -116,10 +139,9 @@ fn with_session<'a>(alloc: Global, command: Command<'a>) -> Result<Command<'a>, 
         .help("how core files are named, a template of core(5)")
         .default_value("core.%e.%p")
         .action(ArgAction::Set);
-    let uses_pid = Arg::new(alloc, "uses-pid")
-        .long("uses-pid")
-        .help("adds a dot and the process to names whose template has no %p")
-        .action(ArgAction::SetTrue);
+    let uses_pid = flag(alloc, "uses-pid").help(
+        "adds a dot and the process to names whose template has no %p",
+    );
     let limit = Arg::new(alloc, "limit")
         .long("limit")
         .value_name("N")

@@ -5,6 +5,7 @@ mod archives;
 mod asked;
 mod failures;
 mod grammar;
+mod raw_words;
 mod words;
 
-pub use words::run_words;
+pub use words::{run_program, run_words};

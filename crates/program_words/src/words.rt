@@ -1,34 +1,60 @@
 // The program: what its words ask for, and the status that it ends with.
 ghost use Rattle.std.specs.Prelude.{◌≡◌, ◌≤◌};
 
-use crate::archives::{make_archive, memory_disk, open_file};
-use crate::asked::{Asked, SessionWords, read_words};
-use crate::failures::{Failure, Refusal, tell_failure};
-use disk_model::{Disk, FileDisk};
+use crate::archives::{make_archive, memory_disk, take_archive, take_disk};
+use crate::asked::{Asked, Place, SessionWords, read_words};
+use crate::failures::{Failure, Refusal, Word, tell_failure};
+use crate::raw_words::words_of;
+use disk_model::{Disk, FileDisk, FileFault};
 use inspector_cli::{Naming, open_and_run, store_stream};
-use intake::Settings;
+use intake::{Archive, Settings};
 use journal_layout::Shape;
 use name_template::Template;
 use script_streams::{Input, Output, ReadInput};
 use std::alloc::Global;
 use std::fs::File;
-use std::rt::Files;
+use std::rt::{Env, Files};
 
-/// The program but for its `main`: `words` are those after its name. It answers the status that the program ends with.
+/// The program but for its standard streams, which its `main` hands in. Its words are those of the process, of any bytes.
+/// It answers the status that the program ends with, as `run_words` does.
+pub fn run_program<R: Env + AllocGlobal + Files<File = File>, I: Input, O: Output, E: Output>(
+    rt: &R,
+    input: &mut I,
+    output: &mut O,
+    errors: &mut E,
+) -> u8
+    ensures most { result ≤ 2 }
+    ensures quiet { result ≡ 0 → errors.new ≡ errors.old }
+{
+    match words_of(rt) {
+        Ok(words) => run_words(rt, words.as_slice(), input, output, errors),
+        Err(_) => tell_failure(
+            rt.alloc(),
+            &Failure::Refused(Refusal::OutOfMemory),
+            output,
+            errors,
+        ),
+    }
+}
+
+/// What the words after the program's name ask for. It answers the status that the program ends with.
 ///
-/// An archive in a file is used by one process at a time: another waits until that one has ended.
+/// An archive in a file is used by one process at a time: `run` and `store` wait until another one has ended, or, with
+/// `--no-wait`, are refused as `Busy`. While they wait they do not return, as where FILE is a pipe that nobody writes to.
 ///
-/// - `format ARCHIVE --half N --data N` makes an archive in a new file.
+/// - `format ARCHIVE --half N --data N` makes an archive in a new file, all of whose bytes are written; with `--sparse`
+///   they are not.
 /// - `run ARCHIVE` runs the script of `input` over the archive in a file, and writes its replies to `output`.
 /// - `memory --half N --data N` runs it over a fresh archive in memory.
 /// - `store ARCHIVE FILE [KEY=VALUE..]` stores a file as a core of which these pairs are known, and with `--exec NAME` in
 ///   place of the pairs as an executable of that name. Its replies are those of the lines `begin` and `end` of a script.
+///   FILE `-` is `input`. With `--escape` the bytes of each VALUE and of NAME are taken as they are.
 ///
 /// The last three take `--template T` and `--uses-pid`, by which cores are named, and `--limit N`, the most bytes of an
-/// image. Statuses: 0; 1 where something is refused, with one line `no REASON` on `output`, or the session ends before
-/// its script, with one line `fault NAME` on `errors`; 2 where the words are refused, with the reason on `errors`. Help
-/// goes to `output`, and the status is 0 then. What is refused is looked for in this order: the words, the template, the
-/// shape, ARCHIVE, FILE.
+/// image. Statuses: 0; 1 where something is refused, with one line `no REASON` on `output` (and, of a file, why in words on
+/// `errors`), or the session ends before its script, with one line `fault NAME` on `errors`; 2 where the words are refused,
+/// with the reason on `errors`. Help goes to `output`, and the status is 0 then. What is refused is looked for in this
+/// order: the words, the template, the shape, ARCHIVE, FILE.
 pub fn run_words<R: AllocGlobal + Files<File = File>, I: Input, O: Output, E: Output>(
     rt: &R,
     words: &[String],
@@ -54,7 +80,11 @@ fn answer_words<R: AllocGlobal + Files<File = File>, I: Input, O: Output>(
     output: &mut O,
 ) -> Result<(), Failure> {
     match read_words(rt.alloc(), words)? {
-        Asked::Format { archive, shape } => Ok(make_archive(rt, archive, shape)?),
+        Asked::Format {
+            archive,
+            shape,
+            is_sparse,
+        } => Ok(make_archive(rt, archive, shape, is_sparse)?),
         Asked::Run { archive, settings } => run_file(rt, archive, settings, input, output),
         Asked::Memory { shape, settings } => run_memory(rt, shape, settings, input, output),
         Asked::Store {
@@ -62,7 +92,16 @@ fn answer_words<R: AllocGlobal + Files<File = File>, I: Input, O: Output>(
             file,
             line,
             settings,
-        } => store_file(rt, archive, file, line.as_slice(), settings, output),
+        } => {
+            let naming = naming_of(settings)?;
+            let stored = Stored {
+                archive,
+                line: line.as_slice(),
+                naming: &naming,
+                limit: settings.limit,
+            };
+            store(rt, file, stored, input, output)
+        }
         Asked::Nothing => Ok(()),
     }
 }
@@ -70,13 +109,13 @@ fn answer_words<R: AllocGlobal + Files<File = File>, I: Input, O: Output>(
 // Runs a script over the archive in a file.
 fn run_file<R: AllocGlobal + Files<File = File>, I: Input, O: Output>(
     rt: &R,
-    path: &str,
+    place: Place<'_>,
     settings: SessionWords<'_>,
     input: &mut I,
     output: &mut O,
 ) -> Result<(), Failure> {
     let naming = naming_of(settings)?;
-    let disk = FileDisk::open(rt, path).map_err(Refusal::from)?;
+    let disk = take_disk(rt, place)?;
     run_over(rt.alloc(), disk, settings.limit, &naming, input, output)
 }
 
@@ -106,20 +145,43 @@ fn run_over<D: Disk + Drop, I: Input, O: Output>(
     Ok(ended?)
 }
 
-// Stores a file as a case of the archive in a file; its stream begins by this line.
-fn store_file<R: AllocGlobal + Files<File = File>, O: Output>(
+// Into which archive something is stored, and how: its stream begins by this line.
+#[derive(Clone, Copy)]
+struct Stored<'a> {
+    archive: Place<'a>,
+    line: &'a [u8],
+    naming: &'a Naming,
+    limit: u64,
+}
+
+// Stores a file, or the standard input. The file is opened before the archive's lock is taken, so that a pipe that nobody
+// writes to keeps no other process waiting.
+fn store<R: AllocGlobal + Files<File = File>, I: Input, O: Output>(
     rt: &R,
-    path: &str,
     file: &str,
-    line: &[u8],
-    settings: SessionWords<'_>,
+    stored: Stored<'_>,
+    input: &mut I,
     output: &mut O,
 ) -> Result<(), Failure> {
-    let naming = naming_of(settings)?;
-    let mut archive = open_file(rt, path, settings.limit)?;
-    let file = File::open(rt, file).map_err(|_| Refusal::File)?;
-    let mut file = ReadInput::new(file);
-    if store_stream(line, &mut file, output, &mut archive, &naming)? {
+    if file == "-" {
+        let archive = take_archive(rt, stored.archive, stored.limit)?;
+        return store_from(archive, stored, input, output);
+    }
+    let opened = File::open(rt, file);
+    let archive = take_archive(rt, stored.archive, stored.limit)?;
+    let file = opened.map_err(|error| Refusal::File(Word::File, FileFault::from(error)))?;
+    store_from(archive, stored, &mut ReadInput::new(file), output)
+}
+
+// Stores what an input gives.
+fn store_from<I: Input, O: Output>(
+    archive: Archive<FileDisk>,
+    stored: Stored<'_>,
+    input: &mut I,
+    output: &mut O,
+) -> Result<(), Failure> {
+    let mut archive = archive;
+    if store_stream(stored.line, input, output, &mut archive, stored.naming)? {
         Ok(())
     } else {
         Err(Failure::Told)

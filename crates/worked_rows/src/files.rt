@@ -69,12 +69,15 @@ fn stores_each(
     Ok(())
 }
 
+const NO_ARCHIVE: &str = "no File\ncorekeep: ARCHIVE: there is no such file\nstatus 1\n";
+
 #[test]
 fn there_is_no_archive(rt: HostRuntime) -> Result<(), Fail> {
     let archive = path_of(&rt, "none")?;
     let archive = archive.as_str();
-    runs(&rt, archive, b"list\n", "no File\nstatus 1\n")?;
-    stores(&rt, archive, "/dev/null", &[], "no File\nstatus 1\n")?;
+    runs(&rt, archive, b"list\n", NO_ARCHIVE)?;
+    stores(&rt, archive, "/dev/null", &[], NO_ARCHIVE)?;
+    stores(&rt, archive, archive, &[], NO_ARCHIVE)?;
     formats(&rt, archive, "0", "no BadShape\nstatus 1\n")?;
     assert!(rt; !fs::exists(&rt, archive)?);
     Ok(())
@@ -101,7 +104,8 @@ fn an_archive_is_made_once(rt: HostRuntime) -> Result<(), Fail> {
     let archive = path_of(&rt, "made")?;
     let archive = archive.as_str();
     is_made(&rt, archive)?;
-    formats(&rt, archive, "1", "no File\nstatus 1\n")?;
+    let exists = "no File\ncorekeep: ARCHIVE: the file exists\nstatus 1\n";
+    formats(&rt, archive, "1", exists)?;
     let listed = "1 exec 3 0 0 0 - a\nok\nfree 3 of 4\nok\nstatus 0\n";
     runs(&rt, archive, b"list\nfree\n", listed)?;
     fs::remove_file(&rt, archive)?;
@@ -164,28 +168,46 @@ fn files_are_stored(rt: HostRuntime) -> Result<(), Fail> {
 
 // Of a file that is not there.
 const MISSING: [Row; 2] = [
-    (&["--exec", "a"], "no File\nstatus 1\n"),
+    (
+        &["--exec", "a"],
+        "no File\ncorekeep: FILE: there is no such file\nstatus 1\n",
+    ),
     (
         &["--exec", "a", "pid=7", "--template", "|x"],
         "no BadLine\nstatus 1\n",
     ),
 ];
 
-// Of an empty file.
-const REFUSED: [Row; 6] = [
+// Of an empty file. The last has a character that stands for a byte which is not UTF-8.
+const REFUSED: [Row; 7] = [
     (&["--template", "|x"], "no Pipe\nstatus 1\n"),
     (&["pid"], "no BadLine\nstatus 1\n"),
     (&["pid=1\n"], "no BadLine\nstatus 1\n"),
     (&["pid=1 pid=2"], "no BadLine\nstatus 1\n"),
     (&["comm=a\\"], "no BadLine\nstatus 1\n"),
     (&["--exec", ""], "no BadLine\nstatus 1\n"),
+    (
+        &["comm=\u{10ffff}"],
+        "no NotUtf8\ncorekeep: a word is not UTF-8; with --escape such bytes may stand in the VALUE of a pair and in NAME\nstatus 1\n",
+    ),
 ];
 
 // Of a folder, which can be opened, but not read.
 const UNREAD: [Row; 1] = [(&["--exec", "a"], "name a\nok\nno File\nstatus 1\n")];
 
-// Of an empty file after all of these.
-const EMPTY: [Row; 1] = [(&["--exec", "a"], "name a\nok\nstored 1\nok\nstatus 0\n")];
+// Of an empty file after all of these: names whose bytes are taken as they are.
+const EMPTY: [Row; 4] = [
+    (&["--exec", "a"], "name a\nok\nstored 1\nok\nstatus 0\n"),
+    (
+        &["--escape", "--exec", "a b\\x41"],
+        "name a\\x20b\\x5cx41\nok\nstored 2\nok\nstatus 0\n",
+    ),
+    (
+        &["--escape", "comm=\u{10ff80}=\u{10ffff}\n", "pid=7"],
+        "name core.\\x80=\\xff\\x0a.7\nok\nstored 3\nok\nstatus 0\n",
+    ),
+    (&["--escape", "comm"], "no BadLine\nstatus 1\n"),
+];
 
 #[test]
 fn what_store_refuses(rt: HostRuntime) -> Result<(), Fail> {
@@ -197,6 +219,53 @@ fn what_store_refuses(rt: HostRuntime) -> Result<(), Fail> {
     stores_each(&rt, archive, "/dev/null", &REFUSED)?;
     stores_each(&rt, archive, "/", &UNREAD)?;
     stores_each(&rt, archive, "/dev/null", &EMPTY)?;
+    fs::remove_file(&rt, archive)?;
+    Ok(())
+}
+
+// What is stored from the input shows this text.
+const FROM_THE_INPUT: &str = "name a\nok\nstored 1\nok\nstatus 0\n";
+
+#[test]
+fn the_input_is_stored(rt: HostRuntime) -> Result<(), Fail> {
+    let archive = path_of(&rt, "input")?;
+    let archive = archive.as_str();
+    formats(&rt, archive, "1", "status 0\n")?;
+    let words = ["store", archive, "-", "--exec", "a", "--no-wait"];
+    shows(&rt, &words, b"hello", FROM_THE_INPUT)?;
+    runs(
+        &rt,
+        archive,
+        b"list\n",
+        "1 exec 5 0 0 0 - a\nok\nstatus 0\n",
+    )?;
+    fs::remove_file(&rt, archive)?;
+    Ok(())
+}
+
+#[test]
+fn another_has_the_archive(rt: HostRuntime) -> Result<(), Fail> {
+    let archive = path_of(&rt, "busy")?;
+    let archive = archive.as_str();
+    formats(&rt, archive, "1", "status 0\n")?;
+    let other = File::open(&rt, archive)?;
+    assert!(rt; other.try_lock().is_ok());
+    let busy = "no Busy\ncorekeep: ARCHIVE: another process has the file\nstatus 1\n";
+    shows(&rt, &["run", archive, "--no-wait"], b"list\n", busy)?;
+    stores(
+        &rt,
+        archive,
+        "/dev/null",
+        &["--exec", "a", "--no-wait"],
+        busy,
+    )?;
+    drop(other);
+    shows(
+        &rt,
+        &["run", archive, "--no-wait"],
+        b"list\n",
+        "ok\nstatus 0\n",
+    )?;
     fs::remove_file(&rt, archive)?;
     Ok(())
 }
