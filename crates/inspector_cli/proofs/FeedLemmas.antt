@@ -4,24 +4,28 @@ use Rattle.std.proofs.lemmas.Bool.{false≢true}
 use Rattle.std.proofs.lemmas.List.{append-nil, length-drop}
 use Rattle.std.proofs.Math.Seq.{take-append_seam, drop-append_seam, take-length, drop-length}
 use Rattle.std.specs.Prelude.{slice_set, option_map, IsTrue}
+use Rattle.disk_model.specs.Disk.{HasRisen}
 use Rattle.disk_model.specs.declared.disk.Disk as disk
 use Rattle.intake.specs.declared.faults.ArchiveFault.{ArchiveFault}
 use Rattle.intake.specs.declared.faults.ArchiveFault.TheVariants.{Stopped, NoStream, Disk}
 use Rattle.intake.specs.Blocks.{joined}
-use Rattle.intake.specs.Calls.{Stays}
+use Rattle.intake.specs.Calls.{Stays, AdvanceCall}
 use Rattle.intake.specs.Contents.{Contents, Taken, AdvanceBytes, with_taken, without_streams, advanced, next_free}
 use Rattle.intake.specs.Lending.{refilled, with_room}
 use Rattle.intake.specs.Parts.{Parts, StreamParts, bare_of, contents_of, taken_in}
 use Rattle.intake.specs.Room.{room_left, free_part, FitsFree}
 use Rattle.intake.specs.Slots.{stream_at}
 use Rattle.intake.specs.State.{Bare, BareStream}
-use Rattle.intake.specs.Step.{AdvanceStep}
 use Rattle.inspector_cli.specs.Reply.{TakeStep, TakeBytes, Takes}
 use Rattle.inspector_cli.proofs.GiveLemmas.{took_as}
 use Rattle.inspector_cli.proofs.RoomLemmas.{same_bare, still_fits, fits_bare}
 use Rattle.inspector_cli.proofs.SlotLemmas.{set_again, at_set, at_mapped, closed_set}
-use Rattle.inspector_cli.proofs.StayLemmas.{stays_then}
+use Rattle.intake.specs.StayLaws.{stays_then}
 use Rattle.inspector_cli.proofs.TakeLemmas.{took_piece, took_none, refused_yet}
+
+-- a count that rose since a moment rose since each moment before
+risen_since : (a b c : ℕ) → a ≤ b → HasRisen b c → HasRisen a c
+risen_since a b c later risen = omega (arith, risen)
 
 -- what is lent goes back to the end of the block
 module _ (old ws : List ℕ) (used : ℕ) (whole : used + length ws ≡ length old) where
@@ -78,7 +82,7 @@ module _ {D : Type 0} (g : disk.Ghosts D) (begun a : Parts D) (slot : ℕ) (so_f
   lent = room_left a slot (Ok u) ws
 
   pub lent_stays : Stays g begun lent
-  lent_stays = record { honesty = taken.stays.honesty; crash = taken.stays.crash; durable = taken.stays.durable }
+  lent_stays = record { honesty = taken.stays.honesty; later = taken.stays.later; size = taken.stays.size; crash = taken.stays.crash; durable = taken.stays.durable }
 
   pub lent_bytes : IsTrue (g.is_honest begun.disk) → (t : Taken) × (stream_at (contents_of g.seen begun).taken slot ≡ Some t)
       × (contents_of g.seen lent ≡ with_taken (contents_of g.seen begun) slot (Some (record { bytes = t.bytes ++ so_far; free = ws })))
@@ -108,17 +112,17 @@ module _ {D : Type 0} (g : disk.Ghosts D) (begun a : Parts D) (slot : ℕ) (so_f
   lent_takes = record {
     step = subst (λ (x : Bare). TakeStep (bare_of begun) slot (length so_far) (Ok tt) x) (sym (same_bare a slot (Ok u) ws)) taken.step;
     bytes = λ honest. (let b = lent_bytes honest in (b.0, ws, b.1, b.2));
+    cause = λ fault. absurd fault;
     stays = lent_stays;
   }
 
   module _ (new : Parts D) (n m : ℕ) (raw : List ℕ) (r : Result (Unit {0}) ArchiveFault) (is : raw ≡ take n ws) (size : length raw ≡ n) (few : n ≤ m)
-      (fits : FitsFree (stream_at a.streams slot) m) (step : AdvanceStep (bare_of lent) slot n r (bare_of new))
-      (bytes : IsTrue (g.is_honest lent.disk) → AdvanceBytes (contents_of g.seen lent) slot n r (contents_of g.seen new)) (stays : Stays g lent new) where
+      (fits : FitsFree (stream_at a.streams slot) m) (call : AdvanceCall g lent slot n r new) where
     stepped : TakeStep (bare_of begun) slot (length (so_far ++ raw)) r (bare_of new)
     stepped =
         took_as (bare_of begun) (bare_of new) slot (length so_far + n) (length (so_far ++ raw)) r (omega (arith, size, length-append so_far raw))
         (took_piece (bare_of begun) (bare_of lent) (bare_of new) slot (length so_far) n u r lent_takes.step
-        (fits_bare lent slot n (still_fits a slot (Ok u) ws n m few fits)) step)
+        (fits_bare lent slot n (still_fits a slot (Ok u) ws n m few fits)) call.step)
 
     fed_bytes : (v : Result (Unit {0}) ArchiveFault) → r ≡ v → IsTrue (g.is_honest begun.disk) → TakeStep (bare_of begun) slot (length (so_far ++ raw)) v (bare_of new)
         → AdvanceBytes (contents_of g.seen lent) slot n v (contents_of g.seen new) → TakeBytes (contents_of g.seen begun) slot (so_far ++ raw) v (contents_of g.seen new)
@@ -168,8 +172,9 @@ module _ {D : Type 0} (g : disk.Ghosts D) (begun a : Parts D) (slot : ℕ) (so_f
     pub fed : Takes g begun slot (so_far ++ raw) r new
     fed = record {
       step = stepped;
-      bytes = λ honest. fed_bytes r refl honest stepped (bytes (lent_stays.honesty ∙ honest));
-      stays = stays_then g begun lent new lent_stays stays;
+      bytes = λ honest. fed_bytes r refl honest stepped (call.bytes (lent_stays.honesty ∙ honest));
+      cause = λ fault. risen_since (g.failures begun.disk) (g.failures a.disk) (g.failures new.disk) taken.stays.later (call.cause fault);
+      stays = stays_then g begun lent new lent_stays call.stays;
     }
 
 -- the bytes that were written into the first part of a room, and what stands behind them, are as long as the room
@@ -182,12 +187,12 @@ lent_length into room size most same is =
     omega (arith, a, b, c, same, is)
 
 -- no byte yet
-pub fed_none : {D : Type 0} (g : disk.Ghosts D) (a new : Parts D) (slot : ℕ) (r : Result (Unit {0}) ArchiveFault) → AdvanceStep (bare_of a) slot 0 r (bare_of new)
-    → (IsTrue (g.is_honest a.disk) → AdvanceBytes (contents_of g.seen a) slot 0 r (contents_of g.seen new)) → Stays g a new → Takes g a slot [] r new
-fed_none g a new slot r step bytes stays = record {
-  step = took_none (bare_of a) (bare_of new) slot r step;
-  bytes = λ honest. same r (bytes honest);
-  stays = stays;
+pub fed_none : {D : Type 0} (g : disk.Ghosts D) (a new : Parts D) (slot : ℕ) (r : Result (Unit {0}) ArchiveFault) → AdvanceCall g a slot 0 r new → Takes g a slot [] r new
+fed_none g a new slot r call = record {
+  step = took_none (bare_of a) (bare_of new) slot r call.step;
+  bytes = λ honest. same r (call.bytes honest);
+  cause = call.cause;
+  stays = call.stays;
 }
   where
     same : (v : Result (Unit {0}) ArchiveFault) → AdvanceBytes (contents_of g.seen a) slot 0 v (contents_of g.seen new) → TakeBytes (contents_of g.seen a) slot [] v (contents_of g.seen new)
@@ -201,5 +206,6 @@ fed_past g begun a slot so_far raw f taken = record {
       took_as (bare_of begun) (bare_of a) slot (length so_far + length raw) (length (so_far ++ raw)) (Err f) (sym (length-append so_far raw))
       (refused_yet (bare_of begun) (bare_of a) slot (length so_far) (length raw) f taken.step);
   bytes = taken.bytes;
+  cause = taken.cause;
   stays = taken.stays;
 }

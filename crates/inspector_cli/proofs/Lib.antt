@@ -10,7 +10,6 @@ pub mod RunLemmas
 pub mod CloseLemmas
 pub mod SessionLemmas
 pub mod NameLemmas
-pub mod StayLemmas
 pub mod StageLemmas
 pub mod FeedLemmas
 pub mod StoreLemmas

@@ -18,7 +18,7 @@ use Rattle.inspector_cli.specs.Said.{Said, silence, bad_line, long_line, begin_e
 use Rattle.inspector_cli.specs.Reply.{Begins, Replies, no_reply, reason_of, end_reply, plain_reply, retire_reply, exec_stream, core_stream}
 use Rattle.inspector_cli.specs.Stages.{Stage, Moves, MayLeave, mark_at, marks_of, IsFoundAfterAStop}
 use Rattle.inspector_cli.specs.Session.{Item, Run, last_stage, Ending, complete, last_line, cut_part, said_last, EndReplies, LastReplies, Truncates, TakesFront, BreaksOff}
-use Rattle.inspector_cli.proofs.StayLemmas.{stays_as, stays_then}
+use Rattle.intake.specs.StayLaws.{stays_as, stays_then}
 
 all_as : {P Q : Durable → Type 0} (xs : List Durable) → ((x : Durable) → P x → Q x) → AllByRecursion P xs → AllByRecursion Q xs
 all_as [] f all = tt

@@ -1,5 +1,5 @@
 -- One stream that is stored from its own input.
-use Rattle.std.proofs.Common.{◌≡◌, inl, inr, ⊎_elim, ℕ, zero, suc, ◌+◌, ◌<◌, ◌≤◌, Bool, true, false, List, [], ◌∷◌, ◌++◌, length, Option, Some, None, Result, Ok, Err, is_ok, refl, sym, ap, subst, ◌∙◌, arith, length-append}
+use Rattle.std.proofs.Common.{◌≡◌, inl, ⊎_elim, ℕ, zero, suc, ◌+◌, ◌<◌, ◌≤◌, Bool, true, false, List, [], ◌∷◌, ◌++◌, length, Option, Some, None, Result, Ok, Err, is_ok, refl, sym, ap, subst, ◌∙◌, arith, length-append}
 use Rattle.std.proofs.lemmas.List.{append-nil, length-map}
 use Rattle.std.proofs.KnownBytes.{Consumes-trans}
 use Rattle.std.specs.Io.KnownBytes.{Consumes}
@@ -14,7 +14,7 @@ use Rattle.intake.specs.Contents.{Contents, Taken, BeginBytes, empty_taken, zero
 use Rattle.intake.specs.Durable.{Durable}
 use Rattle.intake.specs.Marks.{FoundAfterAStop}
 use Rattle.intake.specs.Parts.{Parts, bare_of, bare_stream, contents_of, taken_in}
-use Rattle.intake.specs.Step.{BeginStep, AbandonStep, with_stream, longer}
+use Rattle.intake.specs.Step.{BeginStep, with_stream, longer}
 use Rattle.script_streams.specs.Streams.{Rose}
 use Rattle.script_streams.specs.Telling.{Told, IsDelivered}
 use Rattle.script_streams.specs.declared.reply.Reply.{Reply}
@@ -27,12 +27,11 @@ use Rattle.inspector_cli.specs.declared.store.TakeStop.{TakeStop}
 use Rattle.inspector_cli.specs.declared.store.TakeStop.TheVariants.{File, Refused}
 use Rattle.inspector_cli.specs.Answering.{Telling, TellsReply}
 use Rattle.inspector_cli.specs.Stages.{Stage, mark_at, marks_of}
-use Rattle.inspector_cli.specs.Storing.{first_stream, TakesFile, TakesMore, FileReplies, RestReplies, Stores, StoreStages, StoreEnds, IsSlotQuiet}
-use Rattle.inspector_cli.proofs.StayLemmas.{stays_none, stays_as, stays_then}
+use Rattle.inspector_cli.specs.Storing.{first_stream, TakesFile, TakesMore, FileReplies, RestReplies, Stores, StoreStages, StoreEnds}
+use Rattle.intake.specs.StayLaws.{stays_none, stays_as, stays_then}
 use Rattle.inspector_cli.proofs.StageLemmas.{Laws, Reaches, stage_of, line_moves, still, begins_stays}
 use Rattle.inspector_cli.proofs.TellLemmas.{tells_then}
 use Rattle.inspector_cli.proofs.SlotLemmas.{set_again}
-use Rattle.inspector_cli.proofs.CloseLemmas.{IsQuietBelow, quiet_after}
 use Rattle.name_template.specs.declared.template.NameFault.{NameFault}
 
 -- the stream, if there is one, has no bytes yet
@@ -116,6 +115,7 @@ module _ {D : Type 0} (g : disk.Ghosts D) (old new : Parts D) (slot : ℕ) where
   ok_takes s (Ok u) none call is = record {
     step = begun_step (bare_of old) (bare_of new) slot s none call.step;
     bytes = λ honest. begun_bytes call.step.0.1 call.bytes;
+    cause = λ fault. absurd fault;
     stays = stays_none g new;
   }
   ok_takes s (Err fault) none call is = absurd (true≢false is)
@@ -124,13 +124,6 @@ module _ {D : Type 0} (g : disk.Ghosts D) (old new : Parts D) (slot : ℕ) where
       → Begins g old slot found text new accepted → accepted ≡ true → Takes g new slot [] (Ok tt) new
   begun_takes (Ok s) text accepted none begins is = ok_takes s begins.0 none begins.1 (sym is ∙ begins.3)
   begun_takes (Err reason) text accepted none begins is = absurd (true≢false (sym is ∙ begins.2))
-
--- a stream that is dropped, or is not there, leaves its slot free
-quiet_slot : (s : Bare) → IsQuietBelow 1 s → IsSlotQuiet s
-quiet_slot s quiet = ⊎_elim (λ stopped. inl stopped) (λ none. inr (none 0 (omega arith))) quiet
-
-pub dropped_quiet : (old new : Bare) (r : Result (Unit {0}) ArchiveFault) → AbandonStep old 0 r new → IsSlotQuiet new
-dropped_quiet old new r step = quiet_slot new (quiet_after old new r step)
 
 -- so many reads each gave a byte, and the bytes are taken
 abbrev pub FileAlong : {D : Type 0} → disk.Ghosts D → Option (List ℕ) → Option (List ℕ) → ℕ → ℕ → Parts D → ℕ → Parts D → Type 0

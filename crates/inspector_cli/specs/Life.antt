@@ -1,17 +1,18 @@
 -- A session from the opening of its archive on.
-use Rattle.std.specs.Prelude.{◌≡◌, ◌⊎◌, ℕ, List, [], Option, Result, Ok, Err, IsTrue}
+use Rattle.std.specs.Prelude.{◌≡◌, ◌⊎◌, ℕ, Bool, List, [], Option, Result, Ok, Err, IsTrue}
 use Rattle.disk_model.specs.declared.disk.Disk as disk
 use Rattle.journal_layout.specs.declared.faults.OpenFault.{OpenFault}
 use Rattle.journal_layout.specs.declared.faults.OpenFault.TheVariants as fault
-use Rattle.intake.specs.Durable.{Durable, StandsFor, durable_of}
+use Rattle.intake.specs.Calls.{OpenCall}
+use Rattle.intake.specs.Durable.{Durable, StandsFor}
 use Rattle.intake.specs.Marks.{IsSettled, mark_of}
-use Rattle.intake.specs.Opened.{IsOpened}
 use Rattle.intake.specs.Parts.{Parts}
 use Rattle.inspector_cli.specs.declared.session.Naming.{Naming}
 use Rattle.inspector_cli.specs.declared.session.SessionFault.{SessionFault}
 use Rattle.inspector_cli.specs.declared.session.LifeFault.{LifeFault}
 use Rattle.inspector_cli.specs.declared.session.LifeFault.TheVariants.{Open, Session}
 use Rattle.inspector_cli.specs.Session.{SessionEnds}
+use Rattle.inspector_cli.specs.Storing.{StoreEnds}
 
 -- what the streams of a session are before and after it
 pub record Streams : Type 0 where
@@ -24,27 +25,42 @@ pub record Streams : Type 0 where
   pub lost : ℕ
   pub lost' : ℕ
 
--- The archive that was opened holds what the disk stood for; a crash from then on leaves that. The session is one over it.
-pub record Lives {D : Type 0} (g : disk.Ghosts D) (naming : Naming) (limit : ℕ) (t : Streams) (before after : D) (r : Result (Unit {0}) SessionFault) : Type 0 where
+-- The opening with all that it promises, of its moments too; and what was done over the archive that it answered.
+pub record Lives {D : Type 0} (g : disk.Ghosts D) (limit : ℕ) (before after : D) (Goes : Parts D → Parts D → Type 0) : Type 0 where
   pub opened : Parts D
-  -- its limit is the one that was given, and no stream is open
-  pub fresh : IsOpened limit opened
-  pub finds : (x : Durable) → IsTrue (g.is_honest before) → StandsFor (g.seen before) x → durable_of g.seen opened ≡ x
-  pub honesty : g.is_honest opened.disk ≡ g.is_honest before
+  -- exactly the archive that the disk stood for: its cases, its shape and the bytes of its journal that are in use; its limit
+  -- is the one that was given, and no stream is open; a crash meanwhile leaves what one before could have left
+  pub opening : OpenCall g limit before (Ok opened)
+  -- a crash from then on leaves that
   pub settled : IsTrue (g.is_honest before) → IsSettled g (mark_of g.seen opened [])
   pub closed : Parts D
   pub disk : after ≡ closed.disk
-  pub session : SessionEnds g naming t.input t.input' t.fails t.fails' t.taken t.taken' t.lost t.lost' (record { archive = opened; in_doubt = [] }) closed r
+  pub goes : Goes opened closed
 
--- Where the disk stood for an archive, nothing but the disk and the memory refuses it; then the streams are not touched.
-pub record IsRefused {D : Type 0} (g : disk.Ghosts D) (t : Streams) (before : D) (f : OpenFault) : Type 0 where
+-- The opening is refused by the first check of the layout that fails, or the disk or the memory failed: Disk only where the
+-- count of failures rose. The disk that is handed back reads as it did, and a crash meanwhile leaves what one before could
+-- have left.
+pub record IsRefused {D : Type 0} (g : disk.Ghosts D) (limit : ℕ) (before after : D) (f : OpenFault) : Type 0 where
+  pub opening : OpenCall g limit before (Err (f, after))
+  -- where the disk stood for an archive, nothing but the disk and the memory refuses it
   pub kind : (x : Durable) → IsTrue (g.is_honest before) → StandsFor (g.seen before) x → (f ≡ fault.Disk) ⊎ (f ≡ fault.OutOfMemory)
-  pub input : t.input' ≡ t.input
-  pub fails : t.fails' ≡ t.fails
-  pub taken : t.taken' ≡ t.taken
-  pub lost : t.lost' ≡ t.lost
 
-abbrev pub LifeEnds : {D : Type 0} → disk.Ghosts D → Naming → ℕ → Streams → D → Result (Unit {0}) LifeFault → D → Type 0
-LifeEnds g naming limit t before (Ok u) after = Lives g naming limit t before after (Ok tt)
-LifeEnds g naming limit t before (Err (Session f)) after = Lives g naming limit t before after (Err f)
-LifeEnds g naming limit t before (Err (Open f)) after = IsRefused g t before f
+-- the streams are not touched
+abbrev pub IsUntouched : Streams → Type 0
+IsUntouched t = (t.input' ≡ t.input) × (t.fails' ≡ t.fails) × (t.taken' ≡ t.taken) × (t.lost' ≡ t.lost)
+
+-- From the opening of an archive on: what goes on over it by its answer, or why it was not opened.
+abbrev pub LifeEnds : {D : Type 0} {T : Type 0} → disk.Ghosts D → ℕ → Streams → D → Result T LifeFault → D → (Result T SessionFault → Parts D → Parts D → Type 0) → Type 0
+LifeEnds g limit t before (Ok x) after Goes = Lives g limit before after (Goes (Ok x))
+LifeEnds g limit t before (Err (Session f)) after Goes = Lives g limit before after (Goes (Err f))
+LifeEnds g limit t before (Err (Open f)) after Goes = IsRefused g limit before after f × IsUntouched t
+
+-- a session over an archive behind which nothing is in doubt
+abbrev pub RunsOver : {D : Type 0} → disk.Ghosts D → Naming → Streams → Result (Unit {0}) SessionFault → Parts D → Parts D → Type 0
+RunsOver g naming t r opened closed =
+    SessionEnds g naming t.input t.input' t.fails t.fails' t.taken t.taken' t.lost t.lost' (record { archive = opened; in_doubt = [] }) closed r
+
+-- the same of one stream that is stored from its own input
+abbrev pub StoresOver : {D : Type 0} → disk.Ghosts D → Naming → List ℕ → Streams → Result Bool SessionFault → Parts D → Parts D → Type 0
+StoresOver g naming line t r opened closed =
+    StoreEnds g naming t.input t.input' t.fails t.fails' t.taken t.taken' t.lost t.lost' (record { archive = opened; in_doubt = [] }) line closed r

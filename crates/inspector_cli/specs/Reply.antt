@@ -7,7 +7,7 @@ use Rattle.script_words.specs.Printing.{shown}
 use Rattle.intake.specs.declared.faults.ArchiveFault.{ArchiveFault}
 use Rattle.intake.specs.declared.faults.ArchiveFault.TheVariants.{Stopped, BadSlot, SlotBusy, NameTaken, NoStream, TooLong, SpaceFull, NoCase, Pinned, JournalFull, NumbersSpent, OutOfMemory, Disk}
 use Rattle.disk_model.specs.declared.disk.Disk as disk
-use Rattle.intake.specs.Calls.{Stays, BeginCall, AbandonCall, FinishCall, DeleteCall, PinCall, RetireCall}
+use Rattle.intake.specs.Calls.{Stays, HasDiskCause, BeginCall, AbandonCall, FinishCall, DeleteCall, PinCall, RetireCall}
 use Rattle.intake.specs.Contents.{Contents, Taken, RefusedBytes, with_taken}
 use Rattle.intake.specs.Parts.{Parts, bare_of, contents_of}
 use Rattle.intake.specs.Slots.{stream_at}
@@ -174,6 +174,7 @@ TakeBytes old slot raw (Err f) new = RefusedBytes old slot f new
 pub record Takes {D : Type 0} (g : disk.Ghosts D) (old : Parts D) (slot : ℕ) (raw : List ℕ) (r : Result (Unit {0}) ArchiveFault) (new : Parts D) : Type 0 where
   pub step : TakeStep (bare_of old) slot (length raw) r (bare_of new)
   pub bytes : IsTrue (g.is_honest old.disk) → TakeBytes (contents_of g.seen old) slot raw r (contents_of g.seen new)
+  pub cause : HasDiskCause g old r new
   pub stays : Stays g old new
 
 -- `part`: its bytes are taken

@@ -1,5 +1,5 @@
 -- A session: the script cut into lines and the bytes of their parts, and the replies to them in order.
-use Rattle.std.specs.Prelude.{◌≡◌, ◌⊎◌, ℕ, zero, suc, ◌^◌, ◌<◌, ◌≤◌, true, List, [], ◌∷◌, ◌++◌, length, Option, None, Result, Ok, Err, codes}
+use Rattle.std.specs.Prelude.{◌≡◌, ◌⊎◌, ℕ, zero, suc, ◌^◌, ◌<◌, ◌≤◌, List, [], ◌∷◌, ◌++◌, length, Option, None, Result, Ok, Err, codes}
 use Rattle.std.specs.List.{flat_map, AllByRecursion}
 use Rattle.std.specs.Io.KnownBytes.{Consumes, Appends, IsAtEnd}
 use Rattle.intake.specs.declared.faults.ArchiveFault.{ArchiveFault}
@@ -121,9 +121,9 @@ pub record AnswersWhole {D : Type 0} (g : disk.Ghosts D) (naming : Naming) (read
   pub broken : BreaksOff g (last_stage old stages).archive rest new.archive
   pub moves : Moves g (last_stage old stages) silence [] new
 
--- no stream is open in any slot, or the archive is stopped
+-- no stream is open in any slot
 abbrev pub IsQuiet : Bare → Type 0
-IsQuiet s = (s.stopped ≡ true) ⊎ ((slot : ℕ) → stream_at s.streams slot ≡ None)
+IsQuiet s = (slot : ℕ) → stream_at s.streams slot ≡ None
 
 -- the streams are dropped, and nothing else is
 pub record Closes {D : Type 0} (g : disk.Ghosts D) (old new : Parts D) : Type 0 where

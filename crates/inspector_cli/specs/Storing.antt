@@ -72,9 +72,9 @@ pub record Stores {D : Type 0} (g : disk.Ghosts D) (naming : Naming) (file file'
   pub goes_on : RestReplies g file file' fails fails' mid accepted filled rest new stored
   pub text : replies ≡ first ++ rest
 
--- no stream is open in slot 0, or the archive is stopped
+-- no stream is open in slot 0
 abbrev pub IsSlotQuiet : Bare → Type 0
-IsSlotQuiet s = (s.stopped ≡ true) ⊎ (stream_at s.streams 0 ≡ None)
+IsSlotQuiet s = stream_at s.streams 0 ≡ None
 
 -- What a stop leaves of it: the line and the file's bytes change no case, and so only the end of the stream does.
 pub record StoreStages {D : Type 0} (g : disk.Ghosts D) (old : Stage D) (filled : Parts D) (reply : List ℕ) (end : Stage D) (new : Parts D) : Type 0 where

@@ -71,7 +71,6 @@ pub(crate) fn answer_end<O: Output, D: Disk>(
     }) (λ text. Ends D.Disk archive.old slot text archive.new result) }
 {
     let outcome = archive.finish(slot);
-    let _ = archive.is_stopped();
     let is_stored = outcome.is_ok();
     tell_stored(reply, output, outcome);
     is_stored
@@ -114,7 +113,6 @@ fn answer_delete<O: Output, D: Disk>(
     }) (λ text. Deletes D.Disk archive.old seq text archive.new) }
 {
     let outcome = archive.delete(seq);
-    let _ = archive.is_stopped();
     tell_outcome(reply, output, outcome);
 }
 
@@ -136,7 +134,6 @@ fn answer_pin<O: Output, D: Disk>(
     }) (λ text. Pins D.Disk archive.old seq flag text archive.new) }
 {
     let outcome = archive.pin(seq, flag);
-    let _ = archive.is_stopped();
     tell_outcome(reply, output, outcome);
 }
 
@@ -157,7 +154,6 @@ fn answer_retire<O: Output, D: Disk>(
     }) (λ text. Retires D.Disk archive.old policy text archive.new) }
 {
     let outcome = archive.retire(&policy);
-    let _ = archive.is_stopped();
     tell_retired(reply, output, outcome);
 }
 

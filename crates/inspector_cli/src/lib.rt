@@ -14,6 +14,7 @@ mod run;
 mod script;
 mod session;
 mod store;
+mod store_life;
 mod telling;
 
 pub use laws::{a_script_has_one_cut, sessions_are_runs};
@@ -22,3 +23,4 @@ pub use run::run_session;
 pub use script_streams::{Input, Output, ReadInput, StreamFault, WriteOutput};
 pub use session::{LifeFault, Naming, SessionFault};
 pub use store::store_stream;
+pub use store_life::open_and_store;

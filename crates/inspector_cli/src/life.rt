@@ -1,5 +1,5 @@
-// A session from the opening of its archive on.
-ghost use Rattle.inspector_cli.specs.Life.{LifeEnds};
+// From the opening of an archive on.
+ghost use Rattle.inspector_cli.specs.Life.{LifeEnds, RunsOver, Streams};
 
 use crate::run::run_session;
 use crate::session::{LifeFault, Naming};
@@ -11,13 +11,15 @@ use std::alloc::Global;
 /// Opens the archive on a disk, runs a session over it, and hands the disk back.
 ///
 /// Crash safety, whole: on an honest disk that stands for an archive, after a stop of the machine or not, the session is one over
-/// exactly that archive. Whenever the machine stops then, between two disk writes or within one, an opening of what is left
-/// finds exactly the cases and images behind a line of the script that is not before the last one that was answered, or,
-/// where the disk failed, what that line would have left.
+/// exactly that archive. Whenever the machine stops, in the opening or from then on, between two disk writes or within one,
+/// an opening of what is left finds exactly the cases and images behind a line of the script that is not before the last one
+/// that was answered, or, where the disk failed, what that line would have left. A disk fault is answered only where the
+/// disk failed.
 ///
 /// # Errors
 ///
-/// `Open` where the archive could not be opened: nothing is read or written then. `Session` as `run_session` ends.
+/// `Open` where the archive could not be opened: nothing is written then, and no stream is touched. `Session` as
+/// `run_session` ends.
 pub fn open_and_run<I: Input, O: Output, D: Disk>(
     alloc: Global,
     disk: D,
@@ -26,7 +28,7 @@ pub fn open_and_run<I: Input, O: Output, D: Disk>(
     input: &mut I,
     output: &mut O,
 ) -> (Result<(), LifeFault>, D)
-    ensures { LifeEnds D.Disk naming.now settings.limit (record {
+    ensures crash_safe { let streams : Streams = record {
       input = I.remaining input.old;
       input' = I.remaining input.new;
       fails = I.failures input.old;
@@ -35,7 +37,7 @@ pub fn open_and_run<I: Input, O: Output, D: Disk>(
       taken' = O.taken output.new;
       lost = O.failures output.old;
       lost' = O.failures output.new;
-    }) disk result.0 result.1 }
+    } in LifeEnds D.Disk settings.limit streams disk result.0 result.1 (RunsOver D.Disk naming.now streams) }
 {
     match Archive::open(alloc, disk, settings) {
         Ok(archive) => {

@@ -26,3 +26,4 @@ pub mod CrashLemmas
 pub mod LastingLemmas
 pub mod MarkLemmas
 pub mod LastsLemmas
+pub mod ChangeLemmas

@@ -1,39 +1,92 @@
 -- What a call promises as a whole: the state, the bytes, and what a crash at any moment of it leaves.
-use Rattle.std.specs.Prelude.{◌≡◌, ℕ, Bool, false, List, [], ◌∷◌, Result, IsTrue}
-use Rattle.disk_model.specs.Moments.{AddsOnly}
+use Rattle.std.specs.Prelude.{◌≡◌, ℕ, ◌≤◌, Bool, false, List, [], ◌∷◌, length, None, Result, Err, IfOk, IsTrue, Vec}
+use Rattle.std.specs.Global.{Global}
+use Rattle.disk_model.specs.Disk.{HasRisen}
+use Rattle.disk_model.specs.Moments.{AddsOnly, LeavesOnly}
 use Rattle.disk_model.specs.declared.disk.Disk as disk
-use Rattle.intake.specs.Contents.{BeginBytes, FinishBytes, AbandonBytes, PinBytes, DeleteBytes, RetireBytes}
-use Rattle.intake.specs.Durable.{Durable, StandsFor, durable_of, without, flagged}
+use Rattle.journal_layout.specs.declared.faults.OpenFault.{OpenFault}
+use Rattle.journal_layout.specs.declared.faults.OpenFault.TheVariants as open_fault
+use Rattle.journal_layout.specs.Standing.{Standing}
+use Rattle.journal_layout.specs.Stands.{Stands}
+use Rattle.case_journal.specs.Viewing.{ShowsOpening, Finds, IsQuiet}
+use Rattle.intake.specs.Contents.{BeginBytes, AdvanceBytes, FinishBytes, AbandonBytes, PinBytes, DeleteBytes, RetireBytes, ImageBytes}
+use Rattle.intake.specs.Durable.{Durable, StandsFor, FindsAgain, durable_of, without, flagged}
 use Rattle.intake.specs.Guarding.{Leaves, MayBeStored, MayBeRetired}
+use Rattle.intake.specs.Opened.{IsOpened, disk_in, journal_in}
 use Rattle.intake.specs.Parts.{Parts, bare_of, contents_of}
+use Rattle.intake.specs.Slots.{stream_at}
 use Rattle.intake.specs.State.{BareStream}
-use Rattle.intake.specs.Step.{BeginStep, FinishStep, AbandonStep, PinStep, DeleteStep, RetireStep}
+use Rattle.intake.specs.Growth.{IsDiskFault}
+use Rattle.intake.specs.Step.{BeginStep, AdvanceStep, FinishStep, AbandonStep, PinStep, DeleteStep, RetireStep, ImageStep}
 use Rattle.intake.specs.declared.faults.ArchiveFault.{ArchiveFault}
 use Rattle.retention.specs.declared.Decision.{Decision}
 use Rattle.retention.specs.declared.Policy.{Policy}
 
+-- An opening: what it answers, and what a crash at any moment of it leaves, where it is refused too.
+pub record OpenCall {D : Type 0} (g : disk.Ghosts D) (limit : ℕ) (before : D) (r : Result (Parts D) (OpenFault × D)) : Type 0 where
+  -- the opening of some list of bytes as long as the disk, on an honest disk of its bytes
+  pub gives : ShowsOpening g before (journal_in r)
+  -- what the disk stands for is found, and nothing but the disk and the memory refuses it
+  pub found : (s : Standing) → IsTrue (g.is_honest before) → Stands (g.seen before) s → Finds (journal_in r) s
+  -- so is what its bytes hold of the cases: after a crash the cases that it left
+  pub found_again : (x : Durable) → IsTrue (g.is_honest before) → StandsFor (g.seen before) x → FindsAgain g.seen r x
+  -- the limit is the one that was given, and no stream is open
+  pub state : IfOk r (λ a. IsOpened limit a)
+  -- a crash from then on leaves what it shows
+  pub settled : IsTrue (g.is_honest before) → IfOk r (λ a. (c : List ℕ) → g.may_leave a.disk c → StandsFor c (durable_of g.seen a))
+  -- a crash meanwhile leaves what one before could have left
+  pub any_moment : IsTrue (g.is_honest before) → LeavesOnly g before (disk_in r) (g.may_leave before)
+  -- what reads give stays
+  pub seen : IsTrue (g.is_honest before) → g.seen (disk_in r) ≡ g.seen before
+  pub cause : journal_in r ≡ Err open_fault.Disk → HasRisen (g.failures before) (g.failures (disk_in r))
+  pub later : g.failures before ≤ g.failures (disk_in r)
+  pub honesty : g.is_honest (disk_in r) ≡ g.is_honest before
+  pub size : g.size (disk_in r) ≡ g.size before
+
 -- A call that changes no case: a crash at any moment of it leaves what one before could have left, or these cases.
 pub record Stays {D : Type 0} (g : disk.Ghosts D) (old new : Parts D) : Type 0 where
   pub honesty : g.is_honest new.disk ≡ g.is_honest old.disk
+  pub later : g.failures old.disk ≤ g.failures new.disk
+  pub size : g.size new.disk ≡ g.size old.disk
   pub crash : IsTrue (g.is_honest old.disk) → AddsOnly g old.disk new.disk (λ c. StandsFor c (durable_of g.seen old))
   pub durable : IsTrue (g.is_honest old.disk) → durable_of g.seen new ≡ durable_of g.seen old
+
+-- Disk is answered only where the disk's count of failures rose
+abbrev pub HasDiskCause : {D : Type 0} {T : Type 0} → disk.Ghosts D → Parts D → Result T ArchiveFault → Parts D → Type 0
+HasDiskCause g old r new = IsDiskFault r → HasRisen (g.failures old.disk) (g.failures new.disk)
 
 -- A call that changes the cases, or would have: a crash at any moment of it leaves what one before could have left, or what
 -- it leaves by its answer. Unless the archive is stopped, a crash from then on leaves what it shows.
 pub record Changes {D : Type 0} (T : Type 0) (g : disk.Ghosts D) (old : Parts D) (r : Result T ArchiveFault) (new : Parts D) (doubt : Durable → Type 0) : Type 0 where
   pub honesty : g.is_honest new.disk ≡ g.is_honest old.disk
+  pub later : g.failures old.disk ≤ g.failures new.disk
+  pub size : g.size new.disk ≡ g.size old.disk
+  pub cause : HasDiskCause g old r new
   pub crash : IsTrue (g.is_honest old.disk) → AddsOnly g old.disk new.disk (Leaves (durable_of g.seen old) r (durable_of g.seen new) doubt)
   pub stands : new.stopped ≡ false → IsTrue (g.is_honest new.disk) → (c : List ℕ) → g.may_leave new.disk c → StandsFor c (durable_of g.seen new)
+
+-- Each call of an open archive, by its name: the state, the bytes, and what a crash at any moment of it leaves.
 
 pub record BeginCall {D : Type 0} (g : disk.Ghosts D) (old : Parts D) (slot : ℕ) (s : BareStream) (r : Result (Unit {0}) ArchiveFault) (new : Parts D) : Type 0 where
   pub step : BeginStep (bare_of old) slot s r (bare_of new)
   pub bytes : BeginBytes (contents_of g.seen old) slot r (contents_of g.seen new)
+  pub disk : new.disk ≡ old.disk
+  pub stays : Stays g old new
+
+pub record AdvanceCall {D : Type 0} (g : disk.Ghosts D) (old : Parts D) (slot n : ℕ) (r : Result (Unit {0}) ArchiveFault) (new : Parts D) : Type 0 where
+  pub step : AdvanceStep (bare_of old) slot n r (bare_of new)
+  pub bytes : IsTrue (g.is_honest old.disk) → AdvanceBytes (contents_of g.seen old) slot n r (contents_of g.seen new)
+  pub cause : HasDiskCause g old r new
   pub stays : Stays g old new
 
 pub record AbandonCall {D : Type 0} (g : disk.Ghosts D) (old : Parts D) (slot : ℕ) (r : Result (Unit {0}) ArchiveFault) (new : Parts D) : Type 0 where
   pub step : AbandonStep (bare_of old) slot r (bare_of new)
   pub bytes : AbandonBytes (contents_of g.seen old) slot r (contents_of g.seen new)
+  pub disk : new.disk ≡ old.disk
   pub stays : Stays g old new
+  pub slots : length new.streams ≤ 8
+  -- whatever is answered, no stream is open in the slot then
+  pub quiet : stream_at (bare_of new).streams slot ≡ None
 
 pub record FinishCall {D : Type 0} (g : disk.Ghosts D) (old : Parts D) (slot : ℕ) (r : Result ℕ ArchiveFault) (new : Parts D) : Type 0 where
   pub step : FinishStep (bare_of old) slot r (bare_of new)
@@ -54,3 +107,11 @@ pub record RetireCall {D : Type 0} (g : disk.Ghosts D) (old : Parts D) (policy :
   pub step : RetireStep (bare_of old) policy r (bare_of new)
   pub bytes : IsTrue (g.is_honest old.disk) → RetireBytes (bare_of old) (contents_of g.seen old) r (contents_of g.seen new)
   pub changes : Changes Decision g old r new (λ x. MayBeRetired (bare_of old) policy (durable_of g.seen old) x)
+
+pub record ImageCall {D : Type 0} (g : disk.Ghosts D) (old : Parts D) (seq : ℕ) (r : Result (Vec ℕ Global) ArchiveFault) (new : Parts D) : Type 0 where
+  pub step : ImageStep (bare_of old) seq r (bare_of new)
+  pub bytes : IsTrue (g.is_honest old.disk) → ImageBytes (bare_of old) (contents_of g.seen old) seq r (contents_of g.seen new)
+  pub cause : HasDiskCause g old r new
+  -- reads give what they gave
+  pub quiet : IsQuiet g old.disk new.disk
+  pub stays : Stays g old new

@@ -21,6 +21,7 @@ pub mod Room
 pub mod Slots
 pub mod Sound
 pub mod State
+pub mod StayLaws
 pub mod Step
 pub mod StreamView
 pub mod Lasts

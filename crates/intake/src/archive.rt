@@ -77,12 +77,10 @@ impl<D: Disk> Model for Archive<D> {
 impl<D: Disk> Archive<D> {
     ghost use Rattle.intake.specs.Parts.{Parts, StreamParts, bare_of, contents_of};
     ghost use Rattle.intake.specs.State.{Bare, BareStream};
-    ghost use Rattle.intake.specs.Step.{AdvanceStep, FinishStep, BeginStep, RoomReply, AbandonStep, FreeReply, PinStep, DropStep, DeleteStep, RetireStep};
-    ghost use Rattle.intake.specs.Contents.{AdvanceBytes, FinishBytes, BeginBytes, AbandonBytes, PinBytes, DropBytes, DeleteBytes, RetireBytes};
-    ghost use Rattle.intake.specs.Step.{ImageStep};
-    ghost use Rattle.intake.specs.Contents.{ImageBytes};
-    ghost use Rattle.case_journal.specs.Viewing.{IsQuiet};
-    ghost use Rattle.intake.specs.Opened.{CasesReply, IsOpened, disk_in, journal_in};
+    ghost use Rattle.intake.specs.Step.{RoomReply, FreeReply, DropStep};
+    ghost use Rattle.intake.specs.Contents.{DropBytes};
+    ghost use Rattle.intake.specs.Opened.{CasesReply};
+    ghost use Rattle.intake.specs.Calls.{OpenCall, BeginCall, AdvanceCall, FinishCall, AbandonCall, PinCall, DeleteCall, RetireCall, ImageCall, Changes};
     ghost use Rattle.intake.specs.Room.{LendsRoom, room_of, FitsFree};
     ghost use Rattle.intake.specs.Slots.{stream_at};
     ghost use Rattle.std.specs.Borrow.{sem};
@@ -90,27 +88,7 @@ impl<D: Disk> Archive<D> {
     /// Opens the archive on a disk; no stream is open. A refusal hands the disk back: the first check of the layout that
     /// fails, or `Disk`, or `OutOfMemory`.
     pub fn open(alloc: Global, disk: D, settings: Settings) -> Result<Archive<D>, (OpenFault, D)>
-        // The answer is the opening of some bytes that reads gave, on an honest disk of its bytes.
-        ensures gives { ShowsOpening D.Disk disk (journal_in result) }
-        // What the disk stands for is found, and nothing but the disk and the memory refuses it.
-        ensures found { (s : Standing) → IsTrue (D.is_honest disk) → Stands (D.seen disk) s
-            → Finds (journal_in result) s }
-        // So is what its bytes hold of the cases: after a crash the cases that it left.
-        ensures found_again { (x : Durable) → IsTrue (D.is_honest disk) → StandsFor (D.seen disk) x
-            → FindsAgain D.seen result x }
-        ensures state { IfOk result (λ a. IsOpened settings.limit a) }
-        // A crash from then on leaves what it shows.
-        ensures settled { IsTrue (D.is_honest disk)
-            → IfOk result (λ a. (c : List ℕ) → D.may_leave a.disk c → StandsFor c (durable_of D.seen a)) }
-        // A crash meanwhile leaves what one before could have left.
-        ensures any_moment { IsTrue (D.is_honest disk)
-            → LeavesOnly D.Disk disk (disk_in result) (D.may_leave disk) }
-        ensures seen { IsTrue (D.is_honest disk) → D.seen (disk_in result) ≡ D.seen disk }
-        ensures cause { journal_in result ≡ Err OpenFault.Disk
-            → HasRisen (D.failures disk) (D.failures (disk_in result)) }
-        ensures later { D.failures disk ≤ D.failures (disk_in result) }
-        ensures honesty { D.is_honest (disk_in result) ≡ D.is_honest disk }
-        ensures size { D.size (disk_in result) ≡ D.size disk }
+        ensures { OpenCall D.Disk settings.limit disk result }
     {
         let mut disk = disk;
         match open_parts(alloc, &mut disk) {
@@ -166,7 +144,7 @@ impl<D: Disk> Archive<D> {
         time: u64,
     ) -> Result<(), ArchiveFault>
         requires name { IsName name.items }
-        ensures step { BeginStep (bare_of self.old) slot
+        ensures { BeginCall D.Disk self.old slot
             (record {
               kind = kind;
               name = name.items;
@@ -174,11 +152,7 @@ impl<D: Disk> Archive<D> {
               signal = signal;
               time = time;
               len = 0;
-            }) result (bare_of self.new) }
-        ensures bytes { BeginBytes (contents_of D.seen self.old) slot result
-            (contents_of D.seen self.new) }
-        ensures durable { durable_of D.seen self.new ≡ durable_of D.seen self.old }
-        ensures disk { self.new.disk ≡ self.old.disk }
+            }) result self.new }
     {
         if self.stopped {
             return Err(ArchiveFault::Stopped);
@@ -229,19 +203,7 @@ impl<D: Disk> Archive<D> {
     /// `SpaceFull` where a block is full and none is free; `OutOfMemory`; `Disk`. All but the first two drop the stream.
     pub fn advance(&mut self, slot: u8, n: usize) -> Result<(), ArchiveFault>
         requires { FitsFree (stream_at self.old.streams slot) n }
-        ensures step { AdvanceStep (bare_of self.old) slot n result (bare_of self.new) }
-        ensures bytes { IsTrue (D.is_honest self.old.disk)
-            → AdvanceBytes (contents_of D.seen self.old) slot n result
-            (contents_of D.seen self.new) }
-        ensures durable { IsTrue (D.is_honest self.old.disk)
-            → durable_of D.seen self.new ≡ durable_of D.seen self.old }
-        // A crash at any moment leaves what one before could have left, or these cases.
-        ensures any_moment { IsTrue (D.is_honest self.old.disk)
-            → AddsOnly D.Disk self.old.disk self.new.disk (λ c. StandsFor c (durable_of D.seen self.old)) }
-        ensures cause { IsDiskFault result
-            → HasRisen (D.failures self.old.disk) (D.failures self.new.disk) }
-        ensures later { D.failures self.old.disk ≤ D.failures self.new.disk }
-        ensures honesty { D.is_honest self.new.disk ≡ D.is_honest self.old.disk }
+        ensures { AdvanceCall D.Disk self.old slot n result self.new }
     {
         if self.stopped {
             return Err(ArchiveFault::Stopped);
@@ -274,16 +236,7 @@ impl<D: Disk> Archive<D> {
     /// `Stopped`; `NoStream`; `SpaceFull`; `OutOfMemory`; `Disk`; `JournalFull`; `NumbersSpent`; `OutOfMemory`; `Disk`. All
     /// but the first two drop the stream.
     pub fn finish(&mut self, slot: u8) -> Result<u32, ArchiveFault>
-        ensures step { FinishStep (bare_of self.old) slot result (bare_of self.new) }
-        ensures bytes { IsTrue (D.is_honest self.old.disk)
-            → FinishBytes (contents_of D.seen self.old) slot result (contents_of D.seen self.new) }
-        // A crash at any moment leaves what one before could have left, or the cases before the call or after it.
-        ensures any_moment { IsTrue (D.is_honest self.old.disk)
-            → AddsOnly D.Disk self.old.disk self.new.disk (Leaves (durable_of D.seen self.old) result (durable_of D.seen self.new) (MayBeStored (bare_of self.old) (contents_of D.seen self.old) (durable_of D.seen self.old) slot)) }
-        ensures cause { IsDiskFault result
-            → HasRisen (D.failures self.old.disk) (D.failures self.new.disk) }
-        ensures later { D.failures self.old.disk ≤ D.failures self.new.disk }
-        ensures honesty { D.is_honest self.new.disk ≡ D.is_honest self.old.disk }
+        ensures { FinishCall D.Disk self.old slot result self.new }
     {
         if self.stopped {
             return Err(ArchiveFault::Stopped);
@@ -316,12 +269,7 @@ impl<D: Disk> Archive<D> {
 
     /// Drops the stream in a slot. Answers, in this order: `Stopped`; `NoStream`.
     pub fn abandon(&mut self, slot: u8) -> Result<(), ArchiveFault>
-        ensures step { AbandonStep (bare_of self.old) slot result (bare_of self.new) }
-        ensures bytes { AbandonBytes (contents_of D.seen self.old) slot result
-            (contents_of D.seen self.new) }
-        ensures slots { length self.new.streams ≤ 8 }
-        ensures durable { durable_of D.seen self.new ≡ durable_of D.seen self.old }
-        ensures disk { self.new.disk ≡ self.old.disk }
+        ensures { AbandonCall D.Disk self.old slot result self.new }
     {
         if self.stopped {
             return Err(ArchiveFault::Stopped);
@@ -336,16 +284,7 @@ impl<D: Disk> Archive<D> {
     /// Keeps a case from deletion, or no longer; where that stands already, nothing is written. Answers, in this order:
     /// `Stopped`; `NoCase`; `JournalFull`; `Disk`. All but the last change nothing.
     pub fn pin(&mut self, seq: u32, flag: bool) -> Result<(), ArchiveFault>
-        ensures step { PinStep (bare_of self.old) seq flag result (bare_of self.new) }
-        ensures bytes { IsTrue (D.is_honest self.old.disk)
-            → PinBytes (contents_of D.seen self.old) result (contents_of D.seen self.new) }
-        // A crash at any moment leaves what one before could have left, or the cases before the call or after it.
-        ensures any_moment { IsTrue (D.is_honest self.old.disk)
-            → AddsOnly D.Disk self.old.disk self.new.disk (Leaves (durable_of D.seen self.old) result (durable_of D.seen self.new) (λ x. x ≡ flagged (durable_of D.seen self.old) seq flag)) }
-        ensures cause { IsDiskFault result
-            → HasRisen (D.failures self.old.disk) (D.failures self.new.disk) }
-        ensures later { D.failures self.old.disk ≤ D.failures self.new.disk }
-        ensures honesty { D.is_honest self.new.disk ≡ D.is_honest self.old.disk }
+        ensures { PinCall D.Disk self.old seq flag result self.new }
     {
         if self.stopped {
             return Err(ArchiveFault::Stopped);
@@ -372,13 +311,8 @@ impl<D: Disk> Archive<D> {
         ensures bytes { IsTrue (D.is_honest self.old.disk)
             → DropBytes (bare_of self.old) (contents_of D.seen self.old) seqs.now result
             (contents_of D.seen self.new) }
-        // A crash at any moment leaves what one before could have left, or the cases before the call or after it.
-        ensures any_moment { IsTrue (D.is_honest self.old.disk)
-            → AddsOnly D.Disk self.old.disk self.new.disk (Leaves (durable_of D.seen self.old) result (durable_of D.seen self.new) (λ x. x ≡ without (durable_of D.seen self.old) seqs.now)) }
-        ensures cause { IsDiskFault result
-            → HasRisen (D.failures self.old.disk) (D.failures self.new.disk) }
-        ensures later { D.failures self.old.disk ≤ D.failures self.new.disk }
-        ensures honesty { D.is_honest self.new.disk ≡ D.is_honest self.old.disk }
+        ensures changes { Changes (Unit {0}) D.Disk self.old result self.new
+            (λ x. x ≡ without (durable_of D.seen self.old) seqs.now) }
     {
         release_listed(&mut self.free, self.journal.entries(), seqs);
         let Err(fault) = self.journal.append_drop(&mut self.disk, seqs) else {
@@ -393,17 +327,7 @@ impl<D: Disk> Archive<D> {
     /// Drops a case that is not pinned; its blocks are free then. Answers, in this order: `Stopped`; `NoCase`; `Pinned`;
     /// `JournalFull`; `OutOfMemory`; `Disk`. All but the last change nothing.
     pub fn delete(&mut self, seq: u32) -> Result<(), ArchiveFault>
-        ensures step { DeleteStep (bare_of self.old) seq result (bare_of self.new) }
-        ensures bytes { IsTrue (D.is_honest self.old.disk)
-            → DeleteBytes (bare_of self.old) (contents_of D.seen self.old) seq result
-            (contents_of D.seen self.new) }
-        // A crash at any moment leaves what one before could have left, or the cases before the call or after it.
-        ensures any_moment { IsTrue (D.is_honest self.old.disk)
-            → AddsOnly D.Disk self.old.disk self.new.disk (Leaves (durable_of D.seen self.old) result (durable_of D.seen self.new) (λ x. x ≡ without (durable_of D.seen self.old) (seq ∷ []))) }
-        ensures cause { IsDiskFault result
-            → HasRisen (D.failures self.old.disk) (D.failures self.new.disk) }
-        ensures later { D.failures self.old.disk ≤ D.failures self.new.disk }
-        ensures honesty { D.is_honest self.new.disk ≡ D.is_honest self.old.disk }
+        ensures { DeleteCall D.Disk self.old seq result self.new }
     {
         if self.stopped {
             return Err(ArchiveFault::Stopped);
@@ -421,17 +345,7 @@ impl<D: Disk> Archive<D> {
     /// written. Answers, in this order: `Stopped`; `OutOfMemory`; `JournalFull`; `OutOfMemory`; `Disk`. All but the last
     /// change nothing.
     pub fn retire(&mut self, policy: &Policy) -> Result<Decision, ArchiveFault>
-        ensures step { RetireStep (bare_of self.old) policy.now result (bare_of self.new) }
-        ensures bytes { IsTrue (D.is_honest self.old.disk)
-            → RetireBytes (bare_of self.old) (contents_of D.seen self.old) result
-            (contents_of D.seen self.new) }
-        // A crash at any moment leaves what one before could have left, or the cases before the call or after it.
-        ensures any_moment { IsTrue (D.is_honest self.old.disk)
-            → AddsOnly D.Disk self.old.disk self.new.disk (Leaves (durable_of D.seen self.old) result (durable_of D.seen self.new) (λ x. MayBeRetired (bare_of self.old) policy.now (durable_of D.seen self.old) x)) }
-        ensures cause { IsDiskFault result
-            → HasRisen (D.failures self.old.disk) (D.failures self.new.disk) }
-        ensures later { D.failures self.old.disk ≤ D.failures self.new.disk }
-        ensures honesty { D.is_honest self.new.disk ≡ D.is_honest self.old.disk }
+        ensures { RetireCall D.Disk self.old policy.now result self.new }
     {
         if self.stopped {
             return Err(ArchiveFault::Stopped);
@@ -460,20 +374,7 @@ impl<D: Disk> Archive<D> {
     /// The bytes of a case's image. Their memory is taken before the first read of the disk, and each run of blocks is read
     /// at once. Answers, in this order: `Stopped`; `NoCase`; `OutOfMemory`; `Disk`. All but the last change nothing.
     pub fn image(&mut self, seq: u32) -> Result<Vec<u8>, ArchiveFault>
-        ensures step { ImageStep (bare_of self.old) seq result (bare_of self.new) }
-        ensures bytes { IsTrue (D.is_honest self.old.disk)
-            → ImageBytes (bare_of self.old) (contents_of D.seen self.old) seq result
-            (contents_of D.seen self.new) }
-        // Reads give what they gave, and a crash meanwhile leaves what one before could have left.
-        ensures quiet { IsQuiet D.Disk self.old.disk self.new.disk }
-        ensures durable { IsTrue (D.is_honest self.old.disk)
-            → durable_of D.seen self.new ≡ durable_of D.seen self.old }
-        ensures any_moment { IsTrue (D.is_honest self.old.disk)
-            → AddsOnly D.Disk self.old.disk self.new.disk (λ c. StandsFor c (durable_of D.seen self.old)) }
-        ensures cause { IsDiskFault result
-            → HasRisen (D.failures self.old.disk) (D.failures self.new.disk) }
-        ensures later { D.failures self.old.disk ≤ D.failures self.new.disk }
-        ensures honesty { D.is_honest self.new.disk ≡ D.is_honest self.old.disk }
+        ensures { ImageCall D.Disk self.old seq result self.new }
     {
         if self.stopped {
             return Err(ArchiveFault::Stopped);

@@ -2,7 +2,7 @@
 use crate::asked::Place;
 use crate::failures::{Refusal, Word};
 use case_journal::format;
-use disk_model::{FileDisk, FileFault, MemDisk};
+use disk_model::{Disk, FileDisk, FileFault, MemDisk};
 use intake::{Archive, Settings};
 use journal_layout::Shape;
 use std::alloc::Global;
@@ -71,15 +71,10 @@ fn is_named<R: Files<File = File>>(rt: &R, path: &str, file: &File) -> Result<bo
     Ok(named.dev() == opened.dev() && named.ino() == opened.ino())
 }
 
-// Takes the archive in a file.
-pub(crate) fn take_archive<R: AllocGlobal + Files<File = File>>(
-    rt: &R,
-    place: Place<'_>,
-    limit: u64,
-) -> Result<Archive<FileDisk>, Refusal> {
-    let disk = take_disk(rt, place)?;
-    match Archive::open(rt.alloc(), disk, Settings { limit }) {
-        Ok(archive) => Ok(archive),
+// Opens the archive on a disk for the sake of what is wrong with it.
+pub(crate) fn look_at<D: Disk + Drop>(alloc: Global, disk: D, limit: u64) -> Result<(), Refusal> {
+    match Archive::open(alloc, disk, Settings { limit }) {
+        Ok(_) => Ok(()),
         Err((fault, _)) => Err(Refusal::Open(fault)),
     }
 }

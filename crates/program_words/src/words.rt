@@ -1,13 +1,13 @@
 // The program: what its words ask for, and the status that it ends with.
 ghost use Rattle.std.specs.Prelude.{◌≡◌, ◌≤◌};
 
-use crate::archives::{make_archive, memory_disk, take_archive, take_disk};
+use crate::archives::{look_at, make_archive, memory_disk, take_disk};
 use crate::asked::{Asked, Place, SessionWords, read_words};
 use crate::failures::{Failure, Refusal, Word, tell_failure};
 use crate::raw_words::words_of;
-use disk_model::{Disk, FileDisk, FileFault};
-use inspector_cli::{Naming, open_and_run, store_stream};
-use intake::{Archive, Settings};
+use disk_model::{Disk, FileFault};
+use inspector_cli::{Naming, open_and_run, open_and_store};
+use intake::Settings;
 use journal_layout::Shape;
 use name_template::Template;
 use script_streams::{Input, Output, ReadInput};
@@ -155,7 +155,7 @@ struct Stored<'a> {
 }
 
 // Stores a file, or the standard input. The file is opened before the archive's lock is taken, so that a pipe that nobody
-// writes to keeps no other process waiting.
+// writes to keeps no other process waiting; yet what is wrong with the archive is told first.
 fn store<R: AllocGlobal + Files<File = File>, I: Input, O: Output>(
     rt: &R,
     file: &str,
@@ -164,28 +164,41 @@ fn store<R: AllocGlobal + Files<File = File>, I: Input, O: Output>(
     output: &mut O,
 ) -> Result<(), Failure> {
     if file == "-" {
-        let archive = take_archive(rt, stored.archive, stored.limit)?;
-        return store_from(archive, stored, input, output);
+        let disk = take_disk(rt, stored.archive)?;
+        return store_from(rt.alloc(), disk, stored, input, output);
     }
     let opened = File::open(rt, file);
-    let archive = take_archive(rt, stored.archive, stored.limit)?;
-    let file = opened.map_err(|error| Refusal::File(Word::File, FileFault::from(error)))?;
-    store_from(archive, stored, &mut ReadInput::new(file), output)
+    let disk = take_disk(rt, stored.archive)?;
+    match opened {
+        Ok(file) => store_from(rt.alloc(), disk, stored, &mut ReadInput::new(file), output),
+        Err(error) => {
+            look_at(rt.alloc(), disk, stored.limit)?;
+            Err(Failure::Refused(Refusal::File(Word::File, FileFault::from(error))))
+        }
+    }
 }
 
-// Stores what an input gives.
-fn store_from<I: Input, O: Output>(
-    archive: Archive<FileDisk>,
+// Opens the archive on a disk and stores what an input gives.
+fn store_from<D: Disk + Drop, I: Input, O: Output>(
+    alloc: Global,
+    disk: D,
     stored: Stored<'_>,
     input: &mut I,
     output: &mut O,
 ) -> Result<(), Failure> {
-    let mut archive = archive;
-    if store_stream(stored.line, input, output, &mut archive, stored.naming)? {
-        Ok(())
-    } else {
-        Err(Failure::Told)
-    }
+    let settings = Settings {
+        limit: stored.limit,
+    };
+    let (ended, _) = open_and_store(
+        alloc,
+        disk,
+        settings,
+        stored.naming,
+        stored.line,
+        input,
+        output,
+    );
+    if ended? { Ok(()) } else { Err(Failure::Told) }
 }
 
 // How cores are named.

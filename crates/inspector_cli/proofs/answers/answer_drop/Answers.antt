@@ -1,6 +1,5 @@
 use Rattle.std.proofs.Common.{refl}
 use Rattle.inspector_cli.specs.Reply.{plain_reply}
-use Rattle.inspector_cli.proofs.StayLemmas.{stays_still}
 use Rattle.inspector_cli.proofs.answers.answer_drop.Goals as goal
 
 pub returns : goal.returns
@@ -9,7 +8,7 @@ returns g c =
       plain_reply c.abandon-outcome.result,
       (
         c.abandon-outcome.result,
-        record { step = call.step; bytes = call.bytes; stays = stays_still g.D.Disk c.args.archive.now c.abandon-outcome.new.self call.disk call.durable },
+        call,
         refl,
       ),
       c.tell_outcome.ensures,

@@ -1,4 +1,4 @@
-use Rattle.std.proofs.Common.{refl, ◌∙◌}
+use Rattle.std.proofs.Common.{refl}
 use Rattle.inspector_cli.specs.Reply.{end_reply}
 use Rattle.inspector_cli.proofs.answers.answer_end.Goals as goal
 
@@ -8,11 +8,7 @@ returns g c =
       end_reply c.finish-outcome.result,
       (
         c.finish-outcome.result,
-        record {
-          step = call.step;
-          bytes = call.bytes;
-          changes = record { honesty = call.honesty; crash = call.any_moment; stands = λ runs. c.is_stopped.ensures.stands (c.is_stopped.ensures.value ∙ runs) };
-        },
+        call,
         refl,
         c.is_ok-is_stored.ensures.value,
       ),

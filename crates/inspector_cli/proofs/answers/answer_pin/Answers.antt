@@ -1,4 +1,4 @@
-use Rattle.std.proofs.Common.{refl, ◌∙◌}
+use Rattle.std.proofs.Common.{refl}
 use Rattle.inspector_cli.specs.Reply.{plain_reply}
 use Rattle.inspector_cli.proofs.answers.answer_pin.Goals as goal
 
@@ -8,11 +8,7 @@ returns g c =
       plain_reply c.pin-outcome.result,
       (
         c.pin-outcome.result,
-        record {
-          step = call.step;
-          bytes = call.bytes;
-          changes = record { honesty = call.honesty; crash = call.any_moment; stands = λ runs. c.is_stopped.ensures.stands (c.is_stopped.ensures.value ∙ runs) };
-        },
+        call,
         refl,
       ),
       c.tell_outcome.ensures,

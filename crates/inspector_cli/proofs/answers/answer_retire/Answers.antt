@@ -1,4 +1,4 @@
-use Rattle.std.proofs.Common.{refl, ◌∙◌}
+use Rattle.std.proofs.Common.{refl}
 use Rattle.inspector_cli.specs.Reply.{retire_reply}
 use Rattle.inspector_cli.proofs.answers.answer_retire.Goals as goal
 
@@ -8,11 +8,7 @@ returns g c =
       retire_reply c.retire-outcome.result,
       (
         c.retire-outcome.result,
-        record {
-          step = call.step;
-          bytes = call.bytes;
-          changes = record { honesty = call.honesty; crash = call.any_moment; stands = λ runs. c.is_stopped.ensures.stands (c.is_stopped.ensures.value ∙ runs) };
-        },
+        call,
         refl,
       ),
       c.tell_retired.ensures,

@@ -2,7 +2,6 @@ use Rattle.std.proofs.Common.{◌≤◌, length, refl, ap, subst, ◌∙◌, ari
 use Rattle.disk_model.specs.Places.{AreBytes}
 use Rattle.inspector_cli.specs.Reply.{begin_reply}
 use Rattle.inspector_cli.proofs.NameLemmas.{is_name}
-use Rattle.inspector_cli.proofs.StayLemmas.{stays_still}
 use Rattle.inspector_cli.proofs.TellLemmas.{tells_as}
 use Rattle.inspector_cli.proofs.begin.begin_stream.Goals as goal
 
@@ -18,11 +17,7 @@ returns g c = (
   begin_reply c.args.stream.name.items c.begin-outcome.result,
   (
     c.begin-outcome.result,
-    record {
-      step = c.begin-outcome.ensures.step;
-      bytes = c.begin-outcome.ensures.bytes;
-      stays = stays_still g.D.Disk c.args.archive.now c.begin-outcome.new.self c.begin-outcome.ensures.disk c.begin-outcome.ensures.durable;
-    },
+    c.begin-outcome.ensures,
     refl,
     c.is_ok-is_begun.ensures.value,
   ),

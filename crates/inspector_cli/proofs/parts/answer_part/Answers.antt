@@ -2,7 +2,6 @@ use Rattle.std.proofs.Common.{◌≡◌, length, arith, refl}
 use Rattle.std.proofs.lemmas.Result.{err_from_is_err_and}
 use Rattle.std.specs.Prelude.{codes}
 use Rattle.inspector_cli.specs.Reply.{plain_reply, no_reply}
-use Rattle.inspector_cli.proofs.StayLemmas.{stays_still}
 use Rattle.inspector_cli.proofs.TellLemmas.{tells_nothing}
 use Rattle.inspector_cli.proofs.parts.answer_part.Goals as goal
 
@@ -36,11 +35,7 @@ returns-clause-answers g c = λ naming.
         c.in_ok-missing.verdict,
         c.abandon.result,
         ends.4,
-        record {
-          step = c.abandon.ensures.step;
-          bytes = c.abandon.ensures.bytes;
-          stays = stays_still g.D.Disk c.take_part.new.archive c.abandon.new.self c.abandon.ensures.disk c.abandon.ensures.durable;
-        },
+        c.abandon.ensures,
         refl,
       ),
       c.tell_no.ensures,

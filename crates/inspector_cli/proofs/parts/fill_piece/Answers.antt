@@ -48,5 +48,5 @@ returns-clause-takes g c = λ begun so_far taken.
       fed g.D.Disk begun c.args.archive.now c.args.slot so_far (c.next_raw.new.into ++ drop c.min-size.result c.room-lent.result.1.now) tt taken (long ∙ ap length lent) (omega (arith, long, some))
           c.advance-answer.new.self c.in_ok-taken.taken (length c.room-lent.result.1.now) (take c.in_ok-taken.taken c.next_raw.new.into) c.advance-answer.result
           (sym (take-append-le c.in_ok-taken.taken c.next_raw.new.into (drop c.min-size.result c.room-lent.result.1.now) few)) size first.0
-          (rw is at c.room-lent.ensures.fits) call.step call.bytes (record { honesty = call.honesty; crash = call.any_moment; durable = call.durable }),
+          (rw is at c.room-lent.ensures.fits) call,
     )

@@ -10,8 +10,7 @@ loop-missing-init g c = record {
   counted = omega arith;
   gives = gives_nothing _ _;
   takes =
-      fed_none g.D.Disk c.args.archive.now c.advance-verdict.new.self c.args.slot c.advance-verdict.result c.advance-verdict.ensures.step c.advance-verdict.ensures.bytes
-      (record { honesty = c.advance-verdict.ensures.honesty; crash = c.advance-verdict.ensures.any_moment; durable = c.advance-verdict.ensures.durable });
+      fed_none g.D.Disk c.args.archive.now c.advance-verdict.new.self c.args.slot c.advance-verdict.result c.advance-verdict.ensures;
   failures = refl;
 }
 

@@ -2,7 +2,7 @@ use Rattle.std.proofs.Common.{◌≡◌, ℕ, arith, subst}
 use Rattle.std.proofs.lemmas.List.{length-map}
 use Rattle.intake.specs.Parts.{bare_of}
 use Rattle.inspector_cli.proofs.CloseLemmas.{ClosesBelow, closes_on, closes_none, closed_all}
-use Rattle.inspector_cli.proofs.StayLemmas.{stays_none, stays_still, stays_then}
+use Rattle.intake.specs.StayLaws.{stays_none, stays_then}
 use Rattle.inspector_cli.proofs.run.close_streams.Goals as goal
 
 pub loop-slot-init : goal.loop-slot-init
@@ -11,10 +11,9 @@ loop-slot-init g c = record { closed = closes_none (bare_of c.args.archive.now);
 pub loop-slot-preserved : goal.loop-slot-preserved
 loop-slot-preserved g c = record {
   closed =
-      closes_on c.loop-slot.slot (bare_of c.args.archive.now) (bare_of c.loop-slot.archive) (bare_of c.abandon.new.self) c.abandon.result c.loop-slot.invariant.closed c.abandon.ensures.step;
+      closes_on c.loop-slot.slot (bare_of c.args.archive.now) (bare_of c.loop-slot.archive) (bare_of c.abandon.new.self) c.abandon.result c.loop-slot.invariant.closed c.abandon.ensures.step c.abandon.ensures.quiet;
   stays =
-      stays_then g.D.Disk c.args.archive.now c.loop-slot.archive c.abandon.new.self c.loop-slot.invariant.stays
-      (stays_still g.D.Disk c.loop-slot.archive c.abandon.new.self c.abandon.ensures.disk c.abandon.ensures.durable);
+      stays_then g.D.Disk c.args.archive.now c.loop-slot.archive c.abandon.new.self c.loop-slot.invariant.stays c.abandon.ensures.stays;
   few = λ some. rw length-map c.abandon.ensures.slots;
 }
 

@@ -4,7 +4,6 @@ use Rattle.inspector_cli.specs.Reply.{plain_reply, no_reply}
 use Rattle.inspector_cli.specs.Said.{part_of}
 use Rattle.inspector_cli.proofs.FeedLemmas.{fed_none}
 use Rattle.inspector_cli.proofs.LineLemmas.{last_whole, last_cut}
-use Rattle.inspector_cli.proofs.StayLemmas.{stays_still}
 use Rattle.inspector_cli.proofs.script.answer_cut.Goals as goal
 
 pub returns-then-count-eq0 : goal.returns-then-count-eq0
@@ -15,7 +14,7 @@ returns-then-count-eq0 g c = λ naming.
       plain_reply c.advance-verdict.result,
       last_whole g.D.Disk naming c.args.count old new (part_of c.args.slot c.args.count) (plain_reply c.advance-verdict.result) c.if-count-eq0.true (
         c.advance-verdict.result,
-        fed_none g.D.Disk old new c.args.slot c.advance-verdict.result call.step call.bytes (record { honesty = call.honesty; crash = call.any_moment; durable = call.durable }),
+        fed_none g.D.Disk old new c.args.slot c.advance-verdict.result call,
         refl,
       ),
       c.tell_outcome.ensures,
@@ -32,8 +31,8 @@ returns g c = λ naming.
         mid,
         c.advance-verdict.result,
         c.abandon.result,
-        fed_none g.D.Disk old mid c.args.slot c.advance-verdict.result call.step call.bytes (record { honesty = call.honesty; crash = call.any_moment; durable = call.durable }),
-        record { step = c.abandon.ensures.step; bytes = c.abandon.ensures.bytes; stays = stays_still g.D.Disk mid new c.abandon.ensures.disk c.abandon.ensures.durable },
+        fed_none g.D.Disk old mid c.args.slot c.advance-verdict.result call,
+        c.abandon.ensures,
         refl,
       ),
       c.tell_no.ensures,

@@ -1,7 +1,5 @@
-use Rattle.intake.specs.Parts.{bare_of}
-use Rattle.inspector_cli.proofs.StoreLemmas.{store_written, store_failed, dropped_quiet}
+use Rattle.inspector_cli.proofs.StoreLemmas.{store_written, store_failed}
 use Rattle.inspector_cli.proofs.StageLemmas.{laws_of, stage_of}
-use Rattle.inspector_cli.proofs.StayLemmas.{stays_still}
 use Rattle.inspector_cli.proofs.store.store_stream.Goals as goal
 
 pub returns-in_default-clause-ends : goal.returns-in_default-clause-ends
@@ -13,12 +11,11 @@ returns-in_default-clause-ends g c = λ before.
     c.new-reply.result c.answer_store-is_stored.new.reply
     (stage_of c.args.archive.now before) c.answer_store-is_stored.new.archive c.abandon.new.self c.args.line.now c.answer_store-is_stored.result
     c.abandon.result (c.new-reply.ensures (g.O.Output.taken c.args.output.now) (g.O.Output.failures c.args.output.now)) c.answer_store-is_stored.ensures
-    (record { step = c.abandon.ensures.step; bytes = c.abandon.ensures.bytes; stays = stays_still g.D.Disk c.answer_store-is_stored.new.archive c.abandon.new.self c.abandon.ensures.disk c.abandon.ensures.durable })
+    c.abandon.ensures
     c.in_default.field-0 c.in_default.ensures.delivered
 
 pub returns-in_default-clause-quiet : goal.returns-in_default-clause-quiet
-returns-in_default-clause-quiet g c =
-    dropped_quiet (bare_of c.answer_store-is_stored.new.archive) (bare_of c.abandon.new.self) c.abandon.result c.abandon.ensures.step
+returns-in_default-clause-quiet g c = c.abandon.ensures.quiet
 
 pub returns-clause-ends : goal.returns-clause-ends
 returns-clause-ends g c = λ before.
@@ -29,9 +26,8 @@ returns-clause-ends g c = λ before.
     c.new-reply.result c.answer_store-is_stored.new.reply
     (stage_of c.args.archive.now before) c.answer_store-is_stored.new.archive c.abandon.new.self c.args.line.now c.answer_store-is_stored.result
     c.abandon.result (c.new-reply.ensures (g.O.Output.taken c.args.output.now) (g.O.Output.failures c.args.output.now)) c.answer_store-is_stored.ensures
-    (record { step = c.abandon.ensures.step; bytes = c.abandon.ensures.bytes; stays = stays_still g.D.Disk c.answer_store-is_stored.new.archive c.abandon.new.self c.abandon.ensures.disk c.abandon.ensures.durable })
+    c.abandon.ensures
     c.in-Ok.field-0 c.in-Ok.ensures.delivered
 
 pub returns-clause-quiet : goal.returns-clause-quiet
-returns-clause-quiet g c =
-    dropped_quiet (bare_of c.answer_store-is_stored.new.archive) (bare_of c.abandon.new.self) c.abandon.result c.abandon.ensures.step
+returns-clause-quiet g c = c.abandon.ensures.quiet

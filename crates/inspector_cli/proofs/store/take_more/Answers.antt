@@ -43,7 +43,7 @@ returns-in-Err-advance g c = λ begun so_far taken.
       c.in-Ok.ensures.ok,
       rw c.in-Err-advance.is at (fed g.D.Disk begun c.args.archive.now 0 so_far c.read.new.into tt taken (long ∙ ap length lent) (omega (arith, long, some))
           c.advance.new.self c.in-Ok.count (length c.room-lent.result.1.now) (take c.in-Ok.count c.read.new.into) c.advance.result
-          refl size (omega (arith, few, long)) (rw is at c.room-lent.ensures.fits) call.step call.bytes (record { honesty = call.honesty; crash = call.any_moment; durable = call.durable })),
+          refl size (omega (arith, few, long)) (rw is at c.room-lent.ensures.fits) call),
     )
 
 pub returns : goal.returns
@@ -62,5 +62,5 @@ returns g c = λ begun so_far taken.
       c.in-Ok.ensures.ok,
       rw c.in_default-advance.is at (fed g.D.Disk begun c.args.archive.now 0 so_far c.read.new.into tt taken (long ∙ ap length lent) (omega (arith, long, some))
           c.advance.new.self c.in-Ok.count (length c.room-lent.result.1.now) (take c.in-Ok.count c.read.new.into) c.advance.result
-          refl size (omega (arith, few, long)) (rw is at c.room-lent.ensures.fits) call.step call.bytes (record { honesty = call.honesty; crash = call.any_moment; durable = call.durable })),
+          refl size (omega (arith, few, long)) (rw is at c.room-lent.ensures.fits) call),
     )

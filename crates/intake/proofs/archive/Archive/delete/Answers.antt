@@ -1,27 +1,44 @@
-use Rattle.std.proofs.Common.{◌∙◌, ap, sym, refl}
+use Rattle.std.proofs.Common.{rules, ◌∙◌, ap, sym, refl}
 use Rattle.std.specs.Prelude.{option_map}
 use Rattle.intake.specs.Parts.{bare_of, bare_case}
 use Rattle.journal_layout.specs.Case.{case_of}
 use Rattle.intake.proofs.AfterLemmas.{bare_case_at}
 use Rattle.intake.proofs.DropLemmas.{delete_may, delete_step}
+use Rattle.intake.proofs.ChangeLemmas.{changes_none}
 use Rattle.intake.proofs.archive.Archive.delete.Goals as goal
-
-pub returns-in_default-clause-step : goal.returns-in_default-clause-step
-returns-in_default-clause-step g c =
-    rw (← c.self.view_is) (c.if-self.false, bare_case_at c.args.seq c.self.inside.journal.standing.cases ∙ ap (option_map bare_case) (sym c.in_default.ensures), refl)
-
-pub returns-then-entry-clause-step : goal.returns-then-entry-clause-step
-returns-then-entry-clause-step g c =
-    rw (← c.self.view_is)
-    (bare_case (case_of c.in-Some.entry.now), (c.if-self.false, bare_case_at c.args.seq c.self.inside.journal.standing.cases ∙ ap (option_map bare_case) (sym c.in-Some.ensures)), c.if-entry.true, refl)
 
 pub drop_cases-requires-clause-may : goal.drop_cases-requires-clause-may
 drop_cases-requires-clause-may g c =
     rw (← c.self.view_is)
     (delete_may g.D.Disk c.self.inside.disk c.self.inside.journal c.self.inside.settings.limit c.self.inside.free c.self.inside.slots c.args.seq (case_of c.in-Some.entry.now) (c.self.invariant.runs c.if-self.false) c.in-Some.ensures c.if-entry.false)
 
-pub returns-clause-step : goal.returns-clause-step
-returns-clause-step g c =
-    delete_step (bare_of c.args.self.now) c.args.seq (bare_case (case_of c.in-Some.entry.now)) c.drop_cases.result (bare_of c.drop_cases.new.self)
-    (rw (← c.self.view_is) (c.if-self.false, bare_case_at c.args.seq c.self.inside.journal.standing.cases ∙ ap (option_map bare_case) (sym c.in-Some.ensures)))
-    c.if-entry.false c.drop_cases.ensures.step
+pub returns-then-self : goal.returns-then-self
+returns-then-self g c = record {
+  step = search rules;
+  bytes = search rules;
+  changes = changes_none g.D.Disk (Unit {0}) c.self.inside.disk c.self.inside.journal c.self.inside.settings.limit c.self.inside.free c.self.inside.slots c.self.inside.stopped _ _ _ c.self.invariant c.self.view_is (λ fault. cc);
+}
+
+pub returns-in_default : goal.returns-in_default
+returns-in_default g c = record {
+  step = rw (← c.self.view_is) (c.if-self.false, bare_case_at c.args.seq c.self.inside.journal.standing.cases ∙ ap (option_map bare_case) (sym c.in_default.ensures), refl);
+  bytes = search rules;
+  changes = changes_none g.D.Disk (Unit {0}) c.self.inside.disk c.self.inside.journal c.self.inside.settings.limit c.self.inside.free c.self.inside.slots c.self.inside.stopped _ _ _ c.self.invariant c.self.view_is (λ fault. cc);
+}
+
+pub returns-then-entry : goal.returns-then-entry
+returns-then-entry g c = record {
+  step = rw (← c.self.view_is)
+        (bare_case (case_of c.in-Some.entry.now), (c.if-self.false, bare_case_at c.args.seq c.self.inside.journal.standing.cases ∙ ap (option_map bare_case) (sym c.in-Some.ensures)), c.if-entry.true, refl);
+  bytes = search rules;
+  changes = changes_none g.D.Disk (Unit {0}) c.self.inside.disk c.self.inside.journal c.self.inside.settings.limit c.self.inside.free c.self.inside.slots c.self.inside.stopped _ _ _ c.self.invariant c.self.view_is (λ fault. cc);
+}
+
+pub returns : goal.returns
+returns g c = record {
+  step = delete_step (bare_of c.args.self.now) c.args.seq (bare_case (case_of c.in-Some.entry.now)) c.drop_cases.result (bare_of c.drop_cases.new.self)
+        (rw (← c.self.view_is) (c.if-self.false, bare_case_at c.args.seq c.self.inside.journal.standing.cases ∙ ap (option_map bare_case) (sym c.in-Some.ensures)))
+        c.if-entry.false c.drop_cases.ensures.step;
+  bytes = search rules;
+  changes = c.drop_cases.ensures.changes;
+}

@@ -1,4 +1,4 @@
-use Rattle.std.proofs.Common.{◌≡◌, ◌∙◌, sym, subst, List, [], Err}
+use Rattle.std.proofs.Common.{rules, ◌≡◌, ◌∙◌, sym, subst, List, [], Err}
 use Rattle.intake.specs.Balance.{AreHeld, Balances}
 use Rattle.intake.specs.Contents.{UnmovedBytes}
 use Rattle.intake.specs.Ending.{EndsStreams}
@@ -17,6 +17,7 @@ use Rattle.intake.proofs.CrashLemmas.{record_ok, record_err}
 use Rattle.intake.proofs.DurableLemmas.{durable_dropped}
 use Rattle.intake.proofs.LeaveLemmas.{done_guards, refusal_guards, whole_dropped}
 use Rattle.intake.specs.Durable.{durable_in, without}
+use Rattle.intake.proofs.ChangeLemmas.{sound_stands}
 use Rattle.intake.proofs.archive.Archive.drop_cases.Goals as goal
 
 pub release_listed-requires-clause-held : goal.release_listed-requires-clause-held
@@ -75,24 +76,40 @@ returns-clause-bytes g c honest =
     (Drop c.args.seqs.now) c.append_drop.new.self c.in-Err.fault c.end_streams-self-inside.result c.end_streams-self-inside.new.slots (c.self.invariant.runs on).journal c.in-Err.ensures.step
     (subst (λ (f : ArchiveFault). EndsStreams f c.self.inside.slots c.end_streams-self-inside.result c.end_streams-self-inside.new.slots) c.from-fault.ensures c.end_streams-self-inside.ensures)))
 
-pub returns-in_default-clause-any_moment : goal.returns-in_default-clause-any_moment
-returns-in_default-clause-any_moment g c honest =
-    let on = rw (← c.self.view_is) at c.requires.runs in
-    let real = rw (← c.self.view_is) at honest in
-    let running = c.self.invariant.runs on in
-    rw (← c.self.view_is)
-    (record_ok g.D.Disk c.self.inside.disk c.append_drop.new.disk c.self.inside.journal c.append_drop.new.self (Drop c.args.seqs.now) running.keeps running.journal real
-    (whole_dropped g.D.Disk c.self.inside.disk c.self.inside.journal c.args.seqs.now (λ b may. running.keeps.whole running.journal real b may))
-    (c.append_drop.ensures.any_moment real running.journal) (c.append_drop.ensures.outside real)
-    (λ z. z ≡ without (durable_in (g.D.Disk.seen c.self.inside.disk) c.self.inside.journal.standing) c.args.seqs.now) tt (c.append_drop.ensures.others real) c.in_default.ensures.step.2)
+pub returns-in_default-clause-changes : goal.returns-in_default-clause-changes
+returns-in_default-clause-changes g c =
+    record {
+      honesty = search rules;
+      later = search rules;
+      size = search rules;
+      cause = search rules;
+      crash = λ honest.
+            let on = rw (← c.self.view_is) at c.requires.runs in
+            let real = rw (← c.self.view_is) at honest in
+            let running = c.self.invariant.runs on in
+            rw (← c.self.view_is)
+            (record_ok g.D.Disk c.self.inside.disk c.append_drop.new.disk c.self.inside.journal c.append_drop.new.self (Drop c.args.seqs.now) running.keeps running.journal real
+            (whole_dropped g.D.Disk c.self.inside.disk c.self.inside.journal c.args.seqs.now (λ b may. running.keeps.whole running.journal real b may))
+            (c.append_drop.ensures.any_moment real running.journal) (c.append_drop.ensures.outside real)
+            (λ z. z ≡ without (durable_in (g.D.Disk.seen c.self.inside.disk) c.self.inside.journal.standing) c.args.seqs.now) tt (c.append_drop.ensures.others real) c.in_default.ensures.step.2);
+      stands = sound_stands g.D.Disk c.append_drop.new.disk c.append_drop.new.self c.self.inside.settings.limit c.release_listed.new.free c.self.inside.slots c.self.inside.stopped (invariant_of-self g c);
+    }
 
-pub returns-clause-any_moment : goal.returns-clause-any_moment
-returns-clause-any_moment g c honest =
-    let on = rw (← c.self.view_is) at c.requires.runs in
-    let real = rw (← c.self.view_is) at honest in
-    let running = c.self.invariant.runs on in
-    rw (← c.self.view_is)
-    (record_err g.D.Disk c.self.inside.disk c.append_drop.new.disk c.self.inside.journal c.append_drop.new.self (Drop c.args.seqs.now) running.keeps running.journal real
-    (whole_dropped g.D.Disk c.self.inside.disk c.self.inside.journal c.args.seqs.now (λ b may. running.keeps.whole running.journal real b may))
-    (c.append_drop.ensures.any_moment real running.journal) (c.append_drop.ensures.outside real)
-    (λ z. z ≡ without (durable_in (g.D.Disk.seen c.self.inside.disk) c.self.inside.journal.standing) c.args.seqs.now) c.in-Err.fault _ _ c.from-fault.ensures c.in-Err.ensures.untouched (durable_dropped c.self.inside.journal.standing c.args.seqs.now (g.D.Disk.seen c.self.inside.disk)) (g.met.D.Disk.only_now c.self.inside.disk))
+pub returns-clause-changes : goal.returns-clause-changes
+returns-clause-changes g c =
+    record {
+      honesty = search rules;
+      later = search rules;
+      size = search rules;
+      cause = search rules;
+      crash = λ honest.
+            let on = rw (← c.self.view_is) at c.requires.runs in
+            let real = rw (← c.self.view_is) at honest in
+            let running = c.self.invariant.runs on in
+            rw (← c.self.view_is)
+            (record_err g.D.Disk c.self.inside.disk c.append_drop.new.disk c.self.inside.journal c.append_drop.new.self (Drop c.args.seqs.now) running.keeps running.journal real
+            (whole_dropped g.D.Disk c.self.inside.disk c.self.inside.journal c.args.seqs.now (λ b may. running.keeps.whole running.journal real b may))
+            (c.append_drop.ensures.any_moment real running.journal) (c.append_drop.ensures.outside real)
+            (λ z. z ≡ without (durable_in (g.D.Disk.seen c.self.inside.disk) c.self.inside.journal.standing) c.args.seqs.now) c.in-Err.fault _ _ c.from-fault.ensures c.in-Err.ensures.untouched (durable_dropped c.self.inside.journal.standing c.args.seqs.now (g.D.Disk.seen c.self.inside.disk)) (g.met.D.Disk.only_now c.self.inside.disk));
+      stands = sound_stands g.D.Disk c.append_drop.new.disk c.append_drop.new.self c.self.inside.settings.limit c.hold_listed.new.free c.end_streams-self-inside.new.slots c.end_streams-self-inside.result (invariant_of-self-2 g c);
+    }

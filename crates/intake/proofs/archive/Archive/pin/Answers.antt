@@ -1,4 +1,4 @@
-use Rattle.std.proofs.Common.{◌≡◌, ◌∙◌, refl, ap, sym, subst, Err}
+use Rattle.std.proofs.Common.{rules, ◌≡◌, ◌∙◌, refl, ap, sym, subst, Err}
 use Rattle.std.specs.Prelude.{option_map}
 use Rattle.intake.specs.Contents.{UnmovedBytes}
 use Rattle.intake.specs.Ending.{EndsStreams}
@@ -14,17 +14,8 @@ use Rattle.intake.specs.Durable.{durable_in, flagged}
 use Rattle.intake.proofs.CrashLemmas.{record_ok, record_err}
 use Rattle.intake.proofs.DurableLemmas.{durable_pinned}
 use Rattle.intake.proofs.LeaveLemmas.{done_guards, refusal_guards, whole_pinned}
+use Rattle.intake.proofs.ChangeLemmas.{sound_stands, changes_none}
 use Rattle.intake.proofs.archive.Archive.pin.Goals as goal
-
-pub returns-in_default-clause-step : goal.returns-in_default-clause-step
-returns-in_default-clause-step g c =
-    rw (← c.self.view_is) (c.if-self.false, bare_case_at c.args.seq c.self.inside.journal.standing.cases ∙ ap (option_map bare_case) (sym c.in_default.ensures), refl)
-
-pub returns-then-entry-flag-clause-step : goal.returns-then-entry-flag-clause-step
-returns-then-entry-flag-clause-step g c =
-    rw (← c.self.view_is)
-    (pin_same g.D.Disk c.self.inside.disk c.self.inside.disk c.self.inside.journal c.self.inside.journal c.self.inside.settings.limit c.self.inside.free c.self.inside.slots c.self.inside.slots c.self.inside.stopped c.self.inside.stopped
-    c.args.seq c.args.flag (case_of c.in-Some.entry.now) c.self.invariant c.if-self.false c.in-Some.ensures tt (flags_same c.in-Some.entry.now.pinned c.args.flag c.if-entry-flag.true))
 
 pub invariant_of-self : goal.invariant_of-self
 invariant_of-self g c =
@@ -34,19 +25,6 @@ invariant_of-self g c =
     (λ honest. whole_pinned g.D.Disk c.self.inside.disk c.self.inside.journal c.args.seq c.args.flag (λ b may. (c.self.invariant.runs c.if-self.false).keeps.whole (c.self.invariant.runs c.if-self.false).journal honest b may))
     c.append_pin.ensures.outside c.append_pin.ensures.others)
 
-pub returns-in_default-append_pin-clause-step : goal.returns-in_default-append_pin-clause-step
-returns-in_default-append_pin-clause-step g c =
-    rw (← c.self.view_is)
-    (pin_ok g.D.Disk c.self.inside.disk c.append_pin.new.disk c.self.inside.journal c.append_pin.new.self c.self.inside.settings.limit c.self.inside.free c.self.inside.slots c.self.inside.slots c.self.inside.stopped c.self.inside.stopped
-    c.args.seq c.args.flag (case_of c.in-Some.entry.now) c.self.invariant c.if-self.false c.in-Some.ensures tt (flags_differ c.in-Some.entry.now.pinned c.args.flag c.if-entry-flag.false) c.in_default-append_pin.ensures.step)
-
-pub returns-in_default-append_pin-clause-bytes : goal.returns-in_default-append_pin-clause-bytes
-returns-in_default-append_pin-clause-bytes g c honest =
-    let real = rw (← c.self.view_is) at honest in
-    rw (← c.self.view_is)
-    (pin_bytes g.D.Disk c.self.inside.disk c.append_pin.new.disk c.self.inside.journal c.append_pin.new.self c.self.inside.settings.limit c.self.inside.free c.self.inside.slots c.self.inside.slots c.self.inside.stopped c.self.inside.stopped
-    c.args.seq c.args.flag (case_of c.in-Some.entry.now) c.self.invariant c.if-self.false c.in-Some.ensures tt c.in_default-append_pin.ensures.step (c.append_pin.ensures.others real))
-
 pub invariant_of-self-2 : goal.invariant_of-self-2
 invariant_of-self-2 g c =
     sound_refusal g.D.Disk c.self.inside.disk c.append_pin.new.disk c.self.inside.journal c.append_pin.new.self (Pin c.args.seq c.args.flag) c.self.inside.settings.limit c.self.inside.free c.self.inside.slots c.end_streams-self-inside.new.slots c.self.inside.stopped c.end_streams-self-inside.result c.if-self.false
@@ -55,39 +33,83 @@ invariant_of-self-2 g c =
     (subst (λ (f : ArchiveFault). EndsStreams f c.self.inside.slots c.end_streams-self-inside.result c.end_streams-self-inside.new.slots) c.from-fault.ensures c.end_streams-self-inside.ensures)
     (λ _. refl)
 
-pub returns-clause-step : goal.returns-clause-step
-returns-clause-step g c =
-    subst (λ (f : ArchiveFault). PinStep (bare_of c.args.self.now) c.args.seq c.args.flag (Err f) (bare_of (record { disk = c.append_pin.new.disk; journal = c.append_pin.new.self; limit = c.self.inside.settings.limit; streams = c.end_streams-self-inside.new.slots; stopped = c.end_streams-self-inside.result }))) (sym c.from-fault.ensures)
-    (subst (λ (a : Parts g.row.D.Denot). PinStep (bare_of a) c.args.seq c.args.flag (Err (fault_of c.in-Err.fault)) (bare_of (record { disk = c.append_pin.new.disk; journal = c.append_pin.new.self; limit = c.self.inside.settings.limit; streams = c.end_streams-self-inside.new.slots; stopped = c.end_streams-self-inside.result }))) c.self.view_is
-    (pin_err g.D.Disk c.self.inside.disk c.append_pin.new.disk c.self.inside.journal c.append_pin.new.self c.self.inside.settings.limit c.self.inside.free c.self.inside.slots c.end_streams-self-inside.new.slots c.self.inside.stopped c.end_streams-self-inside.result
-    c.args.seq c.args.flag (case_of c.in-Some.entry.now) c.self.invariant c.if-self.false c.in-Some.ensures c.in-Err.fault (flags_differ c.in-Some.entry.now.pinned c.args.flag c.if-entry-flag.false) c.in-Err.ensures.step
-    (subst (λ (f : ArchiveFault). EndsStreams f c.self.inside.slots c.end_streams-self-inside.result c.end_streams-self-inside.new.slots) c.from-fault.ensures c.end_streams-self-inside.ensures)))
+pub returns-then-self : goal.returns-then-self
+returns-then-self g c = record {
+  step = search rules;
+  bytes = search rules;
+  changes = changes_none g.D.Disk (Unit {0}) c.self.inside.disk c.self.inside.journal c.self.inside.settings.limit c.self.inside.free c.self.inside.slots c.self.inside.stopped _ _ _ c.self.invariant c.self.view_is (λ fault. cc);
+}
 
-pub returns-clause-bytes : goal.returns-clause-bytes
-returns-clause-bytes g c honest =
-    let real = rw (← c.self.view_is) at honest in
-    subst (λ (f : ArchiveFault). UnmovedBytes (contents_of g.D.Disk.seen c.args.self.now) f (contents_of g.D.Disk.seen (record { disk = c.append_pin.new.disk; journal = c.append_pin.new.self; limit = c.self.inside.settings.limit; streams = c.end_streams-self-inside.new.slots; stopped = c.end_streams-self-inside.result }))) (sym c.from-fault.ensures)
-    (subst (λ (a : Parts g.row.D.Denot). UnmovedBytes (contents_of g.D.Disk.seen a) (fault_of c.in-Err.fault) (contents_of g.D.Disk.seen (record { disk = c.append_pin.new.disk; journal = c.append_pin.new.self; limit = c.self.inside.settings.limit; streams = c.end_streams-self-inside.new.slots; stopped = c.end_streams-self-inside.result }))) c.self.view_is
-    (refusal_bytes g.D.Disk.seen c.self.inside.disk c.append_pin.new.disk c.self.inside.journal c.self.inside.settings.limit c.self.inside.slots c.self.inside.stopped (c.append_pin.ensures.others real)
-    (Pin c.args.seq c.args.flag) c.append_pin.new.self c.in-Err.fault c.end_streams-self-inside.result c.end_streams-self-inside.new.slots (c.self.invariant.runs c.if-self.false).journal c.in-Err.ensures.step
-    (subst (λ (f : ArchiveFault). EndsStreams f c.self.inside.slots c.end_streams-self-inside.result c.end_streams-self-inside.new.slots) c.from-fault.ensures c.end_streams-self-inside.ensures)))
+pub returns-in_default : goal.returns-in_default
+returns-in_default g c = record {
+  step = rw (← c.self.view_is) (c.if-self.false, bare_case_at c.args.seq c.self.inside.journal.standing.cases ∙ ap (option_map bare_case) (sym c.in_default.ensures), refl);
+  bytes = search rules;
+  changes = changes_none g.D.Disk (Unit {0}) c.self.inside.disk c.self.inside.journal c.self.inside.settings.limit c.self.inside.free c.self.inside.slots c.self.inside.stopped _ _ _ c.self.invariant c.self.view_is (λ fault. cc);
+}
 
-pub returns-in_default-append_pin-clause-any_moment : goal.returns-in_default-append_pin-clause-any_moment
-returns-in_default-append_pin-clause-any_moment g c honest =
-    let real = rw (← c.self.view_is) at honest in
-    let running = c.self.invariant.runs c.if-self.false in
-    rw (← c.self.view_is)
-    (record_ok g.D.Disk c.self.inside.disk c.append_pin.new.disk c.self.inside.journal c.append_pin.new.self (Pin c.args.seq c.args.flag) running.keeps running.journal real
-    (whole_pinned g.D.Disk c.self.inside.disk c.self.inside.journal c.args.seq c.args.flag (λ b may. running.keeps.whole running.journal real b may))
-    (c.append_pin.ensures.any_moment real running.journal) (c.append_pin.ensures.outside real)
-    (λ z. z ≡ flagged (durable_in (g.D.Disk.seen c.self.inside.disk) c.self.inside.journal.standing) c.args.seq c.args.flag) tt (c.append_pin.ensures.others real) c.in_default-append_pin.ensures.step.2)
+pub returns-then-entry-flag : goal.returns-then-entry-flag
+returns-then-entry-flag g c = record {
+  step = rw (← c.self.view_is)
+        (pin_same g.D.Disk c.self.inside.disk c.self.inside.disk c.self.inside.journal c.self.inside.journal c.self.inside.settings.limit c.self.inside.free c.self.inside.slots c.self.inside.slots c.self.inside.stopped c.self.inside.stopped
+        c.args.seq c.args.flag (case_of c.in-Some.entry.now) c.self.invariant c.if-self.false c.in-Some.ensures tt (flags_same c.in-Some.entry.now.pinned c.args.flag c.if-entry-flag.true));
+  bytes = search rules;
+  changes = changes_none g.D.Disk (Unit {0}) c.self.inside.disk c.self.inside.journal c.self.inside.settings.limit c.self.inside.free c.self.inside.slots c.self.inside.stopped _ _ _ c.self.invariant c.self.view_is (λ fault. fault);
+}
 
-pub returns-clause-any_moment : goal.returns-clause-any_moment
-returns-clause-any_moment g c honest =
-    let real = rw (← c.self.view_is) at honest in
-    let running = c.self.invariant.runs c.if-self.false in
-    rw (← c.self.view_is)
-    (record_err g.D.Disk c.self.inside.disk c.append_pin.new.disk c.self.inside.journal c.append_pin.new.self (Pin c.args.seq c.args.flag) running.keeps running.journal real
-    (whole_pinned g.D.Disk c.self.inside.disk c.self.inside.journal c.args.seq c.args.flag (λ b may. running.keeps.whole running.journal real b may))
-    (c.append_pin.ensures.any_moment real running.journal) (c.append_pin.ensures.outside real)
-    (λ z. z ≡ flagged (durable_in (g.D.Disk.seen c.self.inside.disk) c.self.inside.journal.standing) c.args.seq c.args.flag) c.in-Err.fault _ _ c.from-fault.ensures c.in-Err.ensures.untouched (durable_pinned c.self.inside.journal.standing c.args.seq c.args.flag (g.D.Disk.seen c.self.inside.disk)) (g.met.D.Disk.only_now c.self.inside.disk))
+pub returns-in_default-append_pin : goal.returns-in_default-append_pin
+returns-in_default-append_pin g c = record {
+  step = rw (← c.self.view_is)
+        (pin_ok g.D.Disk c.self.inside.disk c.append_pin.new.disk c.self.inside.journal c.append_pin.new.self c.self.inside.settings.limit c.self.inside.free c.self.inside.slots c.self.inside.slots c.self.inside.stopped c.self.inside.stopped
+        c.args.seq c.args.flag (case_of c.in-Some.entry.now) c.self.invariant c.if-self.false c.in-Some.ensures tt (flags_differ c.in-Some.entry.now.pinned c.args.flag c.if-entry-flag.false) c.in_default-append_pin.ensures.step);
+  bytes = λ honest.
+        let real = rw (← c.self.view_is) at honest in
+        rw (← c.self.view_is)
+        (pin_bytes g.D.Disk c.self.inside.disk c.append_pin.new.disk c.self.inside.journal c.append_pin.new.self c.self.inside.settings.limit c.self.inside.free c.self.inside.slots c.self.inside.slots c.self.inside.stopped c.self.inside.stopped
+        c.args.seq c.args.flag (case_of c.in-Some.entry.now) c.self.invariant c.if-self.false c.in-Some.ensures tt c.in_default-append_pin.ensures.step (c.append_pin.ensures.others real));
+  changes = record {
+      honesty = search rules;
+      later = search rules;
+      size = search rules;
+      cause = search rules;
+      crash = λ honest.
+            let real = rw (← c.self.view_is) at honest in
+            let running = c.self.invariant.runs c.if-self.false in
+            rw (← c.self.view_is)
+            (record_ok g.D.Disk c.self.inside.disk c.append_pin.new.disk c.self.inside.journal c.append_pin.new.self (Pin c.args.seq c.args.flag) running.keeps running.journal real
+            (whole_pinned g.D.Disk c.self.inside.disk c.self.inside.journal c.args.seq c.args.flag (λ b may. running.keeps.whole running.journal real b may))
+            (c.append_pin.ensures.any_moment real running.journal) (c.append_pin.ensures.outside real)
+            (λ z. z ≡ flagged (durable_in (g.D.Disk.seen c.self.inside.disk) c.self.inside.journal.standing) c.args.seq c.args.flag) tt (c.append_pin.ensures.others real) c.in_default-append_pin.ensures.step.2);
+      stands = sound_stands g.D.Disk c.append_pin.new.disk c.append_pin.new.self c.self.inside.settings.limit c.self.inside.free c.self.inside.slots c.self.inside.stopped (invariant_of-self g c);
+    };
+}
+
+pub returns : goal.returns
+returns g c = record {
+  step = subst (λ (f : ArchiveFault). PinStep (bare_of c.args.self.now) c.args.seq c.args.flag (Err f) (bare_of (record { disk = c.append_pin.new.disk; journal = c.append_pin.new.self; limit = c.self.inside.settings.limit; streams = c.end_streams-self-inside.new.slots; stopped = c.end_streams-self-inside.result }))) (sym c.from-fault.ensures)
+        (subst (λ (a : Parts g.row.D.Denot). PinStep (bare_of a) c.args.seq c.args.flag (Err (fault_of c.in-Err.fault)) (bare_of (record { disk = c.append_pin.new.disk; journal = c.append_pin.new.self; limit = c.self.inside.settings.limit; streams = c.end_streams-self-inside.new.slots; stopped = c.end_streams-self-inside.result }))) c.self.view_is
+        (pin_err g.D.Disk c.self.inside.disk c.append_pin.new.disk c.self.inside.journal c.append_pin.new.self c.self.inside.settings.limit c.self.inside.free c.self.inside.slots c.end_streams-self-inside.new.slots c.self.inside.stopped c.end_streams-self-inside.result
+        c.args.seq c.args.flag (case_of c.in-Some.entry.now) c.self.invariant c.if-self.false c.in-Some.ensures c.in-Err.fault (flags_differ c.in-Some.entry.now.pinned c.args.flag c.if-entry-flag.false) c.in-Err.ensures.step
+        (subst (λ (f : ArchiveFault). EndsStreams f c.self.inside.slots c.end_streams-self-inside.result c.end_streams-self-inside.new.slots) c.from-fault.ensures c.end_streams-self-inside.ensures)));
+  bytes = λ honest.
+        let real = rw (← c.self.view_is) at honest in
+        subst (λ (f : ArchiveFault). UnmovedBytes (contents_of g.D.Disk.seen c.args.self.now) f (contents_of g.D.Disk.seen (record { disk = c.append_pin.new.disk; journal = c.append_pin.new.self; limit = c.self.inside.settings.limit; streams = c.end_streams-self-inside.new.slots; stopped = c.end_streams-self-inside.result }))) (sym c.from-fault.ensures)
+        (subst (λ (a : Parts g.row.D.Denot). UnmovedBytes (contents_of g.D.Disk.seen a) (fault_of c.in-Err.fault) (contents_of g.D.Disk.seen (record { disk = c.append_pin.new.disk; journal = c.append_pin.new.self; limit = c.self.inside.settings.limit; streams = c.end_streams-self-inside.new.slots; stopped = c.end_streams-self-inside.result }))) c.self.view_is
+        (refusal_bytes g.D.Disk.seen c.self.inside.disk c.append_pin.new.disk c.self.inside.journal c.self.inside.settings.limit c.self.inside.slots c.self.inside.stopped (c.append_pin.ensures.others real)
+        (Pin c.args.seq c.args.flag) c.append_pin.new.self c.in-Err.fault c.end_streams-self-inside.result c.end_streams-self-inside.new.slots (c.self.invariant.runs c.if-self.false).journal c.in-Err.ensures.step
+        (subst (λ (f : ArchiveFault). EndsStreams f c.self.inside.slots c.end_streams-self-inside.result c.end_streams-self-inside.new.slots) c.from-fault.ensures c.end_streams-self-inside.ensures)));
+  changes = record {
+      honesty = search rules;
+      later = search rules;
+      size = search rules;
+      cause = search rules;
+      crash = λ honest.
+            let real = rw (← c.self.view_is) at honest in
+            let running = c.self.invariant.runs c.if-self.false in
+            rw (← c.self.view_is)
+            (record_err g.D.Disk c.self.inside.disk c.append_pin.new.disk c.self.inside.journal c.append_pin.new.self (Pin c.args.seq c.args.flag) running.keeps running.journal real
+            (whole_pinned g.D.Disk c.self.inside.disk c.self.inside.journal c.args.seq c.args.flag (λ b may. running.keeps.whole running.journal real b may))
+            (c.append_pin.ensures.any_moment real running.journal) (c.append_pin.ensures.outside real)
+            (λ z. z ≡ flagged (durable_in (g.D.Disk.seen c.self.inside.disk) c.self.inside.journal.standing) c.args.seq c.args.flag) c.in-Err.fault _ _ c.from-fault.ensures c.in-Err.ensures.untouched (durable_pinned c.self.inside.journal.standing c.args.seq c.args.flag (g.D.Disk.seen c.self.inside.disk)) (g.met.D.Disk.only_now c.self.inside.disk));
+      stands = sound_stands g.D.Disk c.append_pin.new.disk c.append_pin.new.self c.self.inside.settings.limit c.self.inside.free c.end_streams-self-inside.new.slots c.end_streams-self-inside.result (invariant_of-self-2 g c);
+    };
+}

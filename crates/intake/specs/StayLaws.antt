@@ -1,5 +1,5 @@
 -- Calls that change no case, one after the other.
-use Rattle.std.proofs.Common.{◌≡◌, sym, ap, subst, ◌∙◌, refl}
+use Rattle.std.proofs.Common.{◌≡◌, sym, ap, subst, ◌∙◌, refl, arith}
 use Rattle.disk_model.specs.Moments.{AddsOnly}
 use Rattle.disk_model.specs.MomentLaws.{adds_nothing, adds_again, adds_weakened}
 use Rattle.disk_model.specs.declared.disk.Disk as disk
@@ -12,6 +12,8 @@ module _ {D : Type 0} (g : disk.Ghosts D) where
   pub stays_still : (old new : Parts D) → new.disk ≡ old.disk → durable_of g.seen new ≡ durable_of g.seen old → Stays g old new
   stays_still old new disk same = record {
     honesty = ap g.is_honest disk;
+    later = omega (arith, ap g.failures disk);
+    size = ap g.size disk;
     crash = λ honest. subst (λ (d : D). AddsOnly g old.disk d (λ c. StandsFor c (durable_of g.seen old))) (sym disk) (adds_nothing g old.disk (λ c. StandsFor c (durable_of g.seen old)));
     durable = λ honest. same;
   }
@@ -25,6 +27,8 @@ module _ {D : Type 0} (g : disk.Ghosts D) where
   pub stays_then : (a b c : Parts D) → Stays g a b → Stays g b c → Stays g a c
   stays_then a b c first second = record {
     honesty = second.honesty ∙ first.honesty;
+    later = omega (arith, first.later, second.later);
+    size = second.size ∙ first.size;
     crash = λ honest.
         adds_again g a.disk b.disk c.disk (λ x. StandsFor x (durable_of g.seen a)) (first.crash honest)
         (adds_weakened g b.disk c.disk (λ x. StandsFor x (durable_of g.seen b)) (λ x. StandsFor x (durable_of g.seen a)) (λ x stands. subst (StandsFor x) (first.durable honest) stands)
