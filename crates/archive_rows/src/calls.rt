@@ -17,14 +17,14 @@ fn store_core<D: Disk>(rt: &impl Abort, archive: &mut Archive<D>) -> Result<(), 
 
 // The case is of that core.
 fn is_core(rt: &impl Abort, case: &Entry) {
-    assert_eq!(rt; case.seq, 1);
-    assert_eq!(rt; case.kind, Kind::Core);
-    assert_eq!(rt; case.name.as_slice(), b"x".as_slice());
-    assert_eq!(rt; case.pid, 7);
-    assert_eq!(rt; case.signal, 11);
-    assert_eq!(rt; case.time, 3);
-    assert_eq!(rt; case.pinned, false);
-    assert_eq!(rt; case.length, 5);
+    assert_eq!(rt;
+        (case.seq, case.kind, case.name.as_slice(), case.pid),
+        (1, Kind::Core, b"x".as_slice(), 7)
+    );
+    assert_eq!(rt;
+        (case.signal, case.time, case.pinned, case.length),
+        (11, 3, false, 5)
+    );
 }
 
 // The case of that core stands alone.
@@ -86,14 +86,18 @@ fn fill<D: Disk>(rt: &(impl AllocGlobal + Abort), archive: &mut Archive<D>) -> R
     Ok(())
 }
 
-// A full journal takes no further case, but a deletion.
+// A full journal takes no further case.
 fn is_full<D: Disk>(rt: &impl Abort, archive: &mut Archive<D>) -> Result<(), Fail> {
     assert_eq!(rt; begin(archive, 0, b"n64")?, Ok(()));
     assert_eq!(rt; archive.finish(0), Err(ArchiveFault::JournalFull));
     assert_eq!(rt; begin(archive, 0, b"n64")?, Ok(()));
+    Ok(())
+}
+
+// It takes a deletion.
+fn takes_a_deletion<D: Disk>(rt: &impl Abort, archive: &mut Archive<D>) -> Result<(), Fail> {
     assert_eq!(rt; archive.delete(1), Ok(()));
-    let cases = cases_of(archive)?;
-    assert_eq!(rt; cases.len(), 62);
+    assert_eq!(rt; cases_of(archive)?.len(), 62);
     assert_eq!(rt; archive.delete(1), Err(ArchiveFault::NoCase));
     Ok(())
 }
@@ -102,5 +106,6 @@ fn is_full<D: Disk>(rt: &impl Abort, archive: &mut Archive<D>) -> Result<(), Fai
 fn the_journal_is_full(rt: HostRuntime) -> Result<(), Fail> {
     let mut archive = fresh(rt.alloc())?;
     fill(&rt, &mut archive)?;
-    is_full(&rt, &mut archive)
+    is_full(&rt, &mut archive)?;
+    takes_a_deletion(&rt, &mut archive)
 }

@@ -24,6 +24,24 @@ fn fault_of(image: &[u8], want: Want) -> Option<ElfFault> {
     Elf::read(image, want).err()
 }
 
+/// The image of a core with other bytes from a place on is refused by this field.
+fn is_refused(
+    rt: &(impl AllocGlobal + Abort),
+    image: &[u8],
+    at: usize,
+    bytes: &[u8],
+    field: ElfField,
+    index: u64,
+) -> Result<(), Fail> {
+    let image = patched(rt.alloc(), image, at, bytes)?;
+    assert_eq!(rt;
+        fault_of(&image, Want::Core),
+        fault(field, index),
+        "at {at}"
+    );
+    Ok(())
+}
+
 /// One segment's numbers, in the order of its fields.
 fn numbers_of(s: Segment<'_>) -> [u64; 6] {
     [
@@ -45,20 +63,8 @@ fn samples_are_as_long_as_written(rt: HostRuntime) -> Result<(), Fail> {
     Ok(())
 }
 
-#[test]
-fn a_core_shows_its_headers_and_notes(rt: HostRuntime) -> Result<(), Fail> {
-    let image = stack_core(rt.alloc())?;
-    let elf = Elf::read(&image, Want::Core).ok().ok_or("refused")?;
-    let header = Header {
-        kind: 4,
-        entry: 0,
-        flags: 0,
-        segments: 2,
-    };
-    assert_eq!(rt; elf.header(), header);
-    assert_eq!(rt; elf.image().len(), 4824);
-    let stack = [1, 6, 0x2d8, 0x7000, 0x1000, 0x1000];
-    let wanted = [[4, 0, 0xb0, 0, 0x228, 0], stack];
+/// The segments, one after another.
+fn has_segments(rt: &impl Abort, elf: &Elf<'_>, wanted: [[u64; 6]; 2]) -> Result<(), Fail> {
     let mut segments = elf.segments();
     assert_eq!(rt; segments.size_hint(), (2, Some(2)));
     for numbers in wanted {
@@ -66,8 +72,11 @@ fn a_core_shows_its_headers_and_notes(rt: HostRuntime) -> Result<(), Fail> {
         assert_eq!(rt; numbers_of(segment), numbers);
     }
     assert!(rt; segments.next().is_none());
-    assert_eq!(rt; elf.segment(1).map(numbers_of), Some(stack));
-    assert!(rt; elf.segment(2).is_none());
+    Ok(())
+}
+
+/// The notes named CORE, one after another.
+fn has_notes(rt: &impl Abort, elf: &Elf<'_>) {
     let mut count = 0u64;
     for (note, (kind, length)) in elf.notes().zip([(1u32, 376usize), (3, 136)]) {
         count = count.saturating_add(1);
@@ -75,29 +84,48 @@ fn a_core_shows_its_headers_and_notes(rt: HostRuntime) -> Result<(), Fail> {
         assert_eq!(rt; (note.kind, note.desc.len()), (kind, length));
     }
     assert_eq!(rt; count, 2);
-    Ok(())
+}
+
+/// The second segment is this one, and there is no third.
+fn has_second(rt: &impl Abort, elf: &Elf<'_>, wanted: [u64; 6]) {
+    assert_eq!(rt; elf.segment(1).map(numbers_of), Some(wanted));
+    assert!(rt; elf.segment(2).is_none());
+}
+
+/// The header that the image has.
+fn has_header(rt: &impl Abort, elf: &Elf<'_>, kind: u16, segments: u64) {
+    let header = Header {
+        kind,
+        entry: 0,
+        flags: 0,
+        segments,
+    };
+    assert_eq!(rt; elf.header(), header);
 }
 
 #[test]
-fn an_executable_shows_its_sections(rt: HostRuntime) -> Result<(), Fail> {
-    let image = executable(rt.alloc())?;
-    let elf = Elf::read(&image, Want::Exec).ok().ok_or("refused")?;
-    let header = Header {
-        kind: 2,
-        entry: 0,
-        flags: 0,
-        segments: 1,
-    };
-    assert_eq!(rt; elf.header(), header);
-    assert_eq!(rt;
-        elf.segment(0).map(numbers_of),
-        Some([1, 5, 0, 0x10000, 0x1000, 0x1000])
-    );
-    assert!(rt; elf.notes().next().is_none());
-    assert_eq!(rt; elf.section_count(), Ok(3));
+fn a_core_shows_its_headers_and_notes(rt: HostRuntime) -> Result<(), Fail> {
+    let image = stack_core(rt.alloc())?;
+    let elf = Elf::read(&image, Want::Core).ok().ok_or("refused")?;
+    has_header(&rt, &elf, 4, 2);
+    assert_eq!(rt; elf.image().len(), 4824);
+    let stack = [1, 6, 0x2d8, 0x7000, 0x1000, 0x1000];
+    has_segments(&rt, &elf, [[4, 0, 0xb0, 0, 0x228, 0], stack])?;
+    has_second(&rt, &elf, stack);
+    has_notes(&rt, &elf);
+    Ok(())
+}
+
+/// The symbol table's header.
+fn has_symbols(rt: &impl Abort, elf: &Elf<'_>) -> Result<(), Fail> {
     let symbols = elf.section(1).ok().ok_or("no section")?;
     assert_eq!(rt; (symbols.kind, symbols.link, symbols.entsize), (2, 2, 24));
     assert_eq!(rt; (symbols.offset, symbols.size), (0x10c0, 72));
+    Ok(())
+}
+
+/// The bytes of the section of names, behind which there is none.
+fn has_names(rt: &impl Abort, elf: &Elf<'_>) -> Result<(), Fail> {
     let names = elf
         .section(2)
         .ok()
@@ -108,29 +136,77 @@ fn an_executable_shows_its_sections(rt: HostRuntime) -> Result<(), Fail> {
     Ok(())
 }
 
+/// One segment, and no note.
+fn has_one_segment(rt: &impl Abort, elf: &Elf<'_>) {
+    assert_eq!(rt;
+        elf.segment(0).map(numbers_of),
+        Some([1, 5, 0, 0x10000, 0x1000, 0x1000])
+    );
+    assert!(rt; elf.notes().next().is_none());
+}
+
 #[test]
-fn faults_of_sections_come_in_order(rt: HostRuntime) -> Result<(), Fail> {
+fn an_executable_shows_its_sections(rt: HostRuntime) -> Result<(), Fail> {
     let image = executable(rt.alloc())?;
+    let elf = Elf::read(&image, Want::Exec).ok().ok_or("refused")?;
+    has_header(&rt, &elf, 2, 1);
+    has_one_segment(&rt, &elf);
+    assert_eq!(rt; elf.section_count(), Ok(3));
+    has_symbols(&rt, &elf)?;
+    has_names(&rt, &elf)
+}
+
+/// What the count of an executable's sections is answered.
+fn count_of(image: &[u8]) -> Option<Result<u64, SectionFault>> {
+    let elf = Elf::read(image, Want::Exec).ok()?;
+    Some(elf.section_count())
+}
+
+/// What a section of an executable is answered where it is refused.
+fn fault_of_section(image: &[u8], index: u64) -> Option<SectionFault> {
+    let elf = Elf::read(image, Want::Exec).ok()?;
+    elf.section(index).err()
+}
+
+/// A section whose bytes are cut has none.
+fn cut_has_no_bytes(rt: &impl Abort, image: &[u8]) -> Result<(), Fail> {
     let cut = Elf::read(&image[..image.len().min(4369)], Want::Exec)
         .ok()
         .ok_or("refused")?;
     assert!(rt; cut.section(2).ok().ok_or("no section")?.bytes.is_none());
-    let many = patched(
-        rt.alloc(),
-        &patched(rt.alloc(), &image, 60, &[0; 2])?,
-        0x1020,
-        &[0xff; 8],
-    )?;
-    let many = Elf::read(&many, Want::Exec).ok().ok_or("refused")?;
-    assert_eq!(rt; many.section_count(), Err(SectionFault::EShoff));
-    let sized = patched(rt.alloc(), &image, 58, &[63, 0])?;
-    let sized = Elf::read(&sized, Want::Exec).ok().ok_or("refused")?;
-    assert_eq!(rt; sized.section(9).err(), Some(SectionFault::EShentsize));
-    let none = patched(rt.alloc(), &sized.image(), 40, &[0; 8])?;
-    let none = Elf::read(&none, Want::Exec).ok().ok_or("refused")?;
-    assert_eq!(rt; none.section_count(), Ok(0));
-    assert_eq!(rt; none.section(0).err(), Some(SectionFault::NoSection));
     Ok(())
+}
+
+/// A section behind the first is told from its own header, where that is as long as it must be.
+fn sizes_are_looked_at(rt: &(impl AllocGlobal + Abort), image: &[u8]) -> Result<(), Fail> {
+    let sized = patched(rt.alloc(), image, 58, &[63, 0])?;
+    assert_eq!(rt; fault_of_section(&sized, 9), Some(SectionFault::EShentsize));
+    has_no_section(rt, &sized)
+}
+
+/// With no table there is no section, however long its headers would be.
+fn has_no_section(rt: &(impl AllocGlobal + Abort), image: &[u8]) -> Result<(), Fail> {
+    let elf = Elf::read(image, Want::Exec).ok().ok_or("refused")?;
+    let none = patched(rt.alloc(), &elf.image(), 40, &[0; 8])?;
+    assert_eq!(rt; count_of(&none), Some(Ok(0)));
+    assert_eq!(rt; fault_of_section(&none, 0), Some(SectionFault::NoSection));
+    Ok(())
+}
+
+/// A table with more sections than the image has room for.
+fn counts_too_many(rt: &(impl AllocGlobal + Abort), image: &[u8]) -> Result<(), Fail> {
+    let many = patched(rt.alloc(), image, 60, &[0; 2])?;
+    let many = patched(rt.alloc(), &many, 0x1020, &[0xff; 8])?;
+    assert_eq!(rt; count_of(&many), Some(Err(SectionFault::EShoff)));
+    Ok(())
+}
+
+#[test]
+fn faults_of_sections_come_in_order(rt: HostRuntime) -> Result<(), Fail> {
+    let image = executable(rt.alloc())?;
+    cut_has_no_bytes(&rt, &image)?;
+    counts_too_many(&rt, &image)?;
+    sizes_are_looked_at(&rt, &image)
 }
 
 /// The fault of a sample that is cut, where its tables and its notes end so.
@@ -146,38 +222,42 @@ fn fault_of_cut(length: usize, headers: usize, notes: usize) -> Option<ElfFault>
     }
 }
 
+/// Each cut of an image is refused by its field.
+fn cuts_are_refused(rt: &impl Abort, image: &[u8], want: Want, headers: usize, notes: usize) {
+    for length in 0..image.len() {
+        let wanted = fault_of_cut(length, headers, notes);
+        assert_eq!(rt; fault_of(&image[..length], want), wanted, "{length}");
+    }
+}
+
 #[test]
 fn each_cut_is_refused_by_its_field(rt: HostRuntime) -> Result<(), Fail> {
-    let stack = stack_core(rt.alloc())?;
-    for length in 0..stack.len() {
-        let want = fault_of_cut(length, 176, 728);
-        assert_eq!(rt; fault_of(&stack[..length], Want::Core), want, "{length}");
-    }
-    let file = file_core(rt.alloc())?;
-    for length in 0..file.len() {
-        let want = fault_of_cut(length, 176, 800);
-        assert_eq!(rt; fault_of(&file[..length], Want::Core), want, "{length}");
-    }
-    let exec = executable(rt.alloc())?;
-    for length in 0..exec.len() {
-        let want = fault_of_cut(length, 120, 0);
-        assert_eq!(rt; fault_of(&exec[..length], Want::Exec), want, "{length}");
-    }
+    cuts_are_refused(&rt, &stack_core(rt.alloc())?, Want::Core, 176, 728);
+    cuts_are_refused(&rt, &file_core(rt.alloc())?, Want::Core, 176, 800);
+    cuts_are_refused(&rt, &executable(rt.alloc())?, Want::Exec, 120, 0);
     Ok(())
+}
+
+/// How many bytes of its second segment a core has.
+fn memory_of(image: &[u8]) -> Option<usize> {
+    let elf = Elf::read(image, Want::Core).ok()?;
+    let segment = elf.segment(1)?;
+    Some(segment.bytes.len())
+}
+
+/// No field of an image is at fault.
+fn is_sound(rt: &impl Abort, image: &[u8], want: Want) {
+    assert!(rt; fault_of(image, want).is_none());
 }
 
 #[test]
 fn memory_may_be_cut(rt: HostRuntime) -> Result<(), Fail> {
     let stack = stack_core(rt.alloc())?;
-    let cut = Elf::read(&stack[..stack.len().min(2776)], Want::Core)
-        .ok()
-        .ok_or("refused")?;
-    let memory = cut.segment(1).ok_or("no segment")?;
-    assert_eq!(rt; memory.bytes.len(), 2048);
-    assert!(rt; fault_of(&stack, Want::Core).is_none());
-    assert!(rt; fault_of(&file_core(rt.alloc())?, Want::Core).is_none());
-    assert!(rt; fault_of(&mapped_core(rt.alloc())?, Want::Core).is_none());
-    assert!(rt; fault_of(&executable(rt.alloc())?, Want::Exec).is_none());
+    assert_eq!(rt; memory_of(&stack[..stack.len().min(2776)]), Some(2048));
+    is_sound(&rt, &stack, Want::Core);
+    is_sound(&rt, &file_core(rt.alloc())?, Want::Core);
+    is_sound(&rt, &mapped_core(rt.alloc())?, Want::Core);
+    is_sound(&rt, &executable(rt.alloc())?, Want::Exec);
     Ok(())
 }
 
@@ -185,8 +265,7 @@ fn memory_may_be_cut(rt: HostRuntime) -> Result<(), Fail> {
 fn the_first_faulty_field_is_named(rt: HostRuntime) -> Result<(), Fail> {
     let core = stack_core(rt.alloc())?;
     let ident = patched(rt.alloc(), &core, 18, &[62])?;
-    let ident = patched(rt.alloc(), &ident, 5, &[2])?;
-    assert_eq!(rt; fault_of(&ident, Want::Core), fault(ElfField::EiData, 0));
+    is_refused(&rt, &ident, 5, &[2], ElfField::EiData, 0)?;
     let cases: [(usize, &[u8], ElfField, u64); 14] = [
         (3, b"f", ElfField::Magic, 0),
         (4, &[1], ElfField::EiClass, 0),
@@ -204,17 +283,10 @@ fn the_first_faulty_field_is_named(rt: HostRuntime) -> Result<(), Fail> {
         (180, &[0xff; 4], ElfField::NDescsz, 0),
     ];
     for (at, bytes, field, index) in cases {
-        let image = patched(rt.alloc(), &core, at, bytes)?;
-        assert_eq!(rt;
-            fault_of(&image, Want::Core),
-            fault(field, index),
-            "at {at}"
-        );
+        is_refused(&rt, &core, at, bytes, field, index)?;
     }
     assert_eq!(rt; fault_of(&core, Want::Exec), fault(ElfField::EType, 0));
-    let second = patched(rt.alloc(), &core, 176 + 396 + 4, &[0xff; 4])?;
-    assert_eq!(rt; fault_of(&second, Want::Core), fault(ElfField::NDescsz, 1));
-    Ok(())
+    is_refused(&rt, &core, 176 + 396 + 4, &[0xff; 4], ElfField::NDescsz, 1)
 }
 
 #[test]
@@ -224,23 +296,34 @@ fn a_segment_may_end_with_the_address_space(rt: HostRuntime) -> Result<(), Fail>
     let core = patched(rt.alloc(), &core, 152, &0u64.to_le_bytes())?;
     let one = patched(rt.alloc(), &core, 160, &1u64.to_le_bytes())?;
     assert_eq!(rt; fault_of(&one, Want::Core), None);
-    let two = patched(rt.alloc(), &core, 160, &2u64.to_le_bytes())?;
-    assert_eq!(rt; fault_of(&two, Want::Core), fault(ElfField::PMemsz, 1));
-    Ok(())
+    is_refused(&rt, &core, 160, &2u64.to_le_bytes(), ElfField::PMemsz, 1)
+}
+
+/// How many segments a core has.
+fn segments_of(image: &[u8]) -> Option<u64> {
+    let elf = Elf::read(image, Want::Core).ok()?;
+    Some(elf.header().segments)
 }
 
 #[test]
 fn many_segments_are_counted_in_section_zero(rt: HostRuntime) -> Result<(), Fail> {
     let core = stack_core(rt.alloc())?;
-    let zero = patched(rt.alloc(), &[0; 64], 44, &[2])?;
     let placed = patched(rt.alloc(), &core, 40, &4824u64.to_le_bytes())?;
+    is_refused(&rt, &placed, 56, &[0xff, 0xff], ElfField::EShoff, 0)?;
     let cut = patched(rt.alloc(), &placed, 56, &[0xff, 0xff])?;
-    assert_eq!(rt; fault_of(&cut, Want::Core), fault(ElfField::EShoff, 0));
+    let zero = patched(rt.alloc(), &[0; 64], 44, &[2])?;
     let image = patched(rt.alloc(), &cut, 4824, &zero)?;
-    let elf = Elf::read(&image, Want::Core).ok().ok_or("refused")?;
-    assert_eq!(rt; elf.header().segments, 2);
-    let most = patched(rt.alloc(), &image, 4824 + 44, &[0xff; 4])?;
-    assert_eq!(rt; fault_of(&most, Want::Core), fault(ElfField::EPhoff, 0));
+    assert_eq!(rt; segments_of(&image), Some(2));
+    is_refused(&rt, &image, 4824 + 44, &[0xff; 4], ElfField::EPhoff, 0)
+}
+
+/// All these segments are counted, and the last has one byte.
+fn has_many_segments(rt: &impl Abort, image: &[u8]) -> Result<(), Fail> {
+    let elf = Elf::read(image, Want::Core).ok().ok_or("refused")?;
+    assert_eq!(rt; elf.header().segments, 65536);
+    assert_eq!(rt; elf.segments().count(), 65536);
+    let last = elf.segment(65535).ok_or("no segment")?;
+    assert_eq!(rt; last.bytes, b"a".as_slice());
     Ok(())
 }
 
@@ -254,12 +337,7 @@ fn a_large_count_of_segments_is_read(rt: HostRuntime) -> Result<(), Fail> {
     };
     let loads = vec![in rt.alloc(); load; 65536]?;
     let image = core_image(rt.alloc(), &[], &loads)?;
-    let elf = Elf::read(&image, Want::Core).ok().ok_or("refused")?;
-    assert_eq!(rt; elf.header().segments, 65536);
-    assert_eq!(rt; elf.segments().count(), 65536);
-    let last = elf.segment(65535).ok_or("no segment")?;
-    assert_eq!(rt; last.bytes, b"a".as_slice());
-    Ok(())
+    has_many_segments(&rt, &image)
 }
 
 /// A core of one PT_NOTE with these bytes.
@@ -274,6 +352,31 @@ fn core_of_notes(alloc: Global, bytes: &[u8]) -> Result<Vec<u8>, AllocError> {
     let mut out = Vec::from_slice(alloc, &image[..image.len().min(120)])?;
     out.extend_from_slice(bytes)?;
     Ok(out)
+}
+
+/// The first note of a core of these bytes has this name and so many bytes.
+fn begins_with_note(
+    rt: &(impl AllocGlobal + Abort),
+    bytes: &[u8],
+    name: Option<&[u8]>,
+    length: usize,
+) -> Result<(), Fail> {
+    let image = core_of_notes(rt.alloc(), bytes)?;
+    let elf = Elf::read(&image, Want::Core).ok().ok_or("refused")?;
+    let first = elf.notes().next();
+    assert_eq!(rt; first.map(|n| n.name), name);
+    assert_eq!(rt; first.map_or(0, |n| n.desc.len()), length);
+    Ok(())
+}
+
+/// The notes of a core of these bytes end within the one of this index.
+fn ends_in_a_note(rt: &(impl AllocGlobal + Abort), bytes: &[u8], index: u64) -> Result<(), Fail> {
+    let image = core_of_notes(rt.alloc(), bytes)?;
+    assert_eq!(rt;
+        fault_of(&image, Want::Core),
+        fault(ElfField::NNamesz, index)
+    );
+    Ok(())
 }
 
 #[test]
@@ -294,17 +397,10 @@ fn notes_end_where_their_segment_does(rt: HostRuntime) -> Result<(), Fail> {
         (b"", None, 0),
     ];
     for (bytes, name, length) in cases {
-        let image = core_of_notes(rt.alloc(), bytes)?;
-        let elf = Elf::read(&image, Want::Core).ok().ok_or("refused")?;
-        let first = elf.notes().next();
-        assert_eq!(rt; first.map(|n| n.name), name);
-        assert_eq!(rt; first.map_or(0, |n| n.desc.len()), length);
+        begins_with_note(&rt, bytes, name, length)?;
     }
-    let short = core_of_notes(rt.alloc(), &[0; 35])?;
-    assert_eq!(rt; fault_of(&short, Want::Core), fault(ElfField::NNamesz, 2));
-    let gap = core_of_notes(rt.alloc(), b"\x05\0\0\0\0\0\0\0\x07\0\0\0CORE\0..")?;
-    assert_eq!(rt; fault_of(&gap, Want::Core), fault(ElfField::NNamesz, 0));
-    Ok(())
+    ends_in_a_note(&rt, &[0; 35], 2)?;
+    ends_in_a_note(&rt, b"\x05\0\0\0\0\0\0\0\x07\0\0\0CORE\0..", 0)
 }
 
 /// What a view of the image gives, when the view and its iterators are gone.

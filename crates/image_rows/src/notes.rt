@@ -6,6 +6,7 @@ use elf_view::sample::{
 };
 use elf_view::{Elf, Note, Want};
 use std::alloc::{AllocError, Global};
+use std::process::Abort;
 use std::test::Fail;
 
 /// A note whose descriptor this is.
@@ -35,11 +36,8 @@ fn fault_of(alloc: Global, notes: &[NotePart<'_>]) -> Result<Option<NoteFault>, 
     }
 }
 
-#[test]
-fn a_thread_and_its_process_are_read(rt: HostRuntime) -> Result<(), Fail> {
-    let image = stack_core(rt.alloc())?;
-    let elf = Elf::read(&image, Want::Core).ok().ok_or("refused")?;
-    let notes = CoreNotes::of(&elf).ok().ok_or("faulty")?;
+/// The one thread of a core.
+fn has_thread(rt: &impl Abort, notes: &CoreNotes<'_>) -> Result<(), Fail> {
     let mut statuses = notes.statuses();
     let status = statuses.next().ok_or("no thread")?;
     assert_eq!(rt; (status.pr_cursig(), status.pr_pid()), (11, 4242));
@@ -48,6 +46,11 @@ fn a_thread_and_its_process_are_read(rt: HostRuntime) -> Result<(), Fail> {
         (0x10400, 0x7f40, 31)
     );
     assert!(rt; statuses.next().is_none());
+    Ok(())
+}
+
+/// The process of a core.
+fn has_process(rt: &impl Abort, notes: &CoreNotes<'_>) -> Result<(), Fail> {
     let process = notes.psinfo().ok_or("no process")?;
     assert_eq!(rt;
         (process.pr_pid(), process.pr_ppid(), process.pr_pgrp()),
@@ -59,9 +62,34 @@ fn a_thread_and_its_process_are_read(rt: HostRuntime) -> Result<(), Fail> {
     );
     assert_eq!(rt; process.pr_fname(), b"demo".as_slice());
     assert_eq!(rt; process.pr_psargs(), b"demo -v".as_slice());
+    Ok(())
+}
+
+/// No other note of a kind that is read.
+fn has_no_other(rt: &impl Abort, notes: &CoreNotes<'_>) {
     assert!(rt; notes.siginfo().is_none());
     assert!(rt; notes.auxv().is_none());
     assert!(rt; notes.files().is_none());
+}
+
+#[test]
+fn a_thread_and_its_process_are_read(rt: HostRuntime) -> Result<(), Fail> {
+    let image = stack_core(rt.alloc())?;
+    let elf = Elf::read(&image, Want::Core).ok().ok_or("refused")?;
+    let notes = CoreNotes::of(&elf).ok().ok_or("faulty")?;
+    has_thread(&rt, &notes)?;
+    has_process(&rt, &notes)?;
+    has_no_other(&rt, &notes);
+    Ok(())
+}
+
+/// One mapped file.
+fn has_file(rt: &impl Abort, notes: &CoreNotes<'_>) -> Result<(), Fail> {
+    let mut maps = notes.files().ok_or("no files")?.maps();
+    let map = maps.next().ok_or("no file")?;
+    assert_eq!(rt; (map.start, map.past, map.offset), (0x10000, 0x11000, 0));
+    assert_eq!(rt; map.name, b"/bin/cat".as_slice());
+    assert!(rt; maps.next().is_none());
     Ok(())
 }
 
@@ -70,12 +98,7 @@ fn a_mapped_file_is_read(rt: HostRuntime) -> Result<(), Fail> {
     let image = file_core(rt.alloc())?;
     let elf = Elf::read(&image, Want::Core).ok().ok_or("refused")?;
     let notes = CoreNotes::of(&elf).ok().ok_or("faulty")?;
-    let mut maps = notes.files().ok_or("no files")?.maps();
-    let map = maps.next().ok_or("no file")?;
-    assert_eq!(rt; (map.start, map.past, map.offset), (0x10000, 0x11000, 0));
-    assert_eq!(rt; map.name, b"/bin/cat".as_slice());
-    assert!(rt; maps.next().is_none());
-    Ok(())
+    has_file(&rt, &notes)
 }
 
 #[test]
@@ -86,25 +109,41 @@ fn status_fields_stand_at_their_places(rt: HostRuntime) -> Result<(), Fail> {
     }
     let status = descriptors::status(&note_of(&bytes)).ok().ok_or("size")?;
     assert_eq!(rt;
-        (status.si_signo(), status.si_code()),
-        (0x0302_0100, 0x0706_0504)
+        (
+            status.si_signo(),
+            status.si_code(),
+            status.si_errno(),
+            status.pr_cursig(),
+            status.pr_sigpend(),
+            status.pr_sighold(),
+        ),
+        (
+            0x0302_0100,
+            0x0706_0504,
+            0x0b0a_0908,
+            0x0d0c,
+            0x1716_1514_1312_1110,
+            0x1f1e_1d1c_1b1a_1918,
+        )
     );
     assert_eq!(rt;
-        (status.si_errno(), status.pr_cursig()),
-        (0x0b0a_0908, 0x0d0c)
+        (
+            status.pr_pid(),
+            status.pr_ppid(),
+            status.pr_pgrp(),
+            status.pr_sid(),
+            status.pr_reg(1),
+            status.pr_fpvalid(),
+        ),
+        (
+            0x2322_2120,
+            0x2726_2524,
+            0x2b2a_2928,
+            0x2f2e_2d2c,
+            0x7f7e_7d7c_7b7a_7978,
+            0x7877_7675,
+        )
     );
-    assert_eq!(rt; status.pr_sigpend(), 0x1716_1514_1312_1110);
-    assert_eq!(rt; status.pr_sighold(), 0x1f1e_1d1c_1b1a_1918);
-    assert_eq!(rt;
-        (status.pr_pid(), status.pr_ppid()),
-        (0x2322_2120, 0x2726_2524)
-    );
-    assert_eq!(rt;
-        (status.pr_pgrp(), status.pr_sid()),
-        (0x2b2a_2928, 0x2f2e_2d2c)
-    );
-    assert_eq!(rt; status.pr_reg(1), 0x7f7e_7d7c_7b7a_7978);
-    assert_eq!(rt; status.pr_fpvalid(), 0x7877_7675);
     Ok(())
 }
 
@@ -116,24 +155,31 @@ fn process_fields_stand_at_their_places(rt: HostRuntime) -> Result<(), Fail> {
     }
     let process = descriptors::psinfo(&note_of(&bytes)).ok().ok_or("size")?;
     assert_eq!(rt;
-        (process.pr_state(), process.pr_sname(), process.pr_zomb()),
-        (0, 1, 2)
+        (
+            process.pr_state(),
+            process.pr_sname(),
+            process.pr_zomb(),
+            process.pr_nice(),
+            process.pr_flag(),
+            process.pr_uid(),
+        ),
+        (0, 1, 2, 3, 0x0f0e_0d0c_0b0a_0908, 0x1312_1110)
     );
     assert_eq!(rt;
-        (process.pr_nice(), process.pr_flag()),
-        (3, 0x0f0e_0d0c_0b0a_0908)
-    );
-    assert_eq!(rt;
-        (process.pr_uid(), process.pr_gid()),
-        (0x1312_1110, 0x1716_1514)
-    );
-    assert_eq!(rt;
-        (process.pr_pid(), process.pr_ppid()),
-        (0x1b1a_1918, 0x1f1e_1d1c)
-    );
-    assert_eq!(rt;
-        (process.pr_pgrp(), process.pr_sid()),
-        (0x2322_2120, 0x2726_2524)
+        (
+            process.pr_gid(),
+            process.pr_pid(),
+            process.pr_ppid(),
+            process.pr_pgrp(),
+            process.pr_sid(),
+        ),
+        (
+            0x1716_1514,
+            0x1b1a_1918,
+            0x1f1e_1d1c,
+            0x2322_2120,
+            0x2726_2524,
+        )
     );
     assert_eq!(rt;
         (process.pr_fname().len(), process.pr_psargs().len()),
@@ -161,16 +207,37 @@ fn a_signal_shows_its_sender_or_its_address(rt: HostRuntime) -> Result<(), Fail>
         desc[20] = 7;
         let signal = descriptors::siginfo(&note_of(&desc)).ok().ok_or("size")?;
         assert_eq!(rt;
-            (signal.si_signo(), signal.si_errno(), signal.si_code()),
-            (signo, 0, code)
-        );
-        assert_eq!(rt;
-            (signal.si_pid(), signal.si_addr()),
-            (pid, addr),
+            (
+                signal.si_signo(),
+                signal.si_errno(),
+                signal.si_code(),
+                signal.si_pid(),
+                signal.si_uid(),
+                signal.si_addr(),
+            ),
+            (signo, 0, code, pid, pid.map(|_| 7), addr),
             "signal {signo} code {code}"
         );
-        assert_eq!(rt; signal.si_uid(), pid.map(|_| 7));
     }
+    Ok(())
+}
+
+/// The pairs of an auxiliary vector of these bytes, and no more.
+fn has_pairs(rt: &impl Abort, desc: &[u8], wanted: &[(u64, u64)]) -> Result<(), Fail> {
+    let mut pairs = descriptors::auxv(&note_of(desc))
+        .ok()
+        .ok_or("size")?
+        .pairs();
+    for (kind, value) in wanted {
+        assert_eq!(rt;
+            pairs.next(),
+            Some(AuxvPair {
+                kind: *kind,
+                value: *value
+            })
+        );
+    }
+    assert_eq!(rt; pairs.next(), None);
     Ok(())
 }
 
@@ -182,67 +249,47 @@ fn pairs_end_before_the_null(rt: HostRuntime) -> Result<(), Fail> {
     desc[16] = 51;
     desc[24] = 5;
     desc[48] = 9;
-    let mut pairs = descriptors::auxv(&note_of(&desc))
-        .ok()
-        .ok_or("size")?
-        .pairs();
-    assert_eq!(rt;
-        pairs.next(),
-        Some(AuxvPair {
-            kind: 6,
-            value: 4096
-        })
-    );
-    assert_eq!(rt; pairs.next(), Some(AuxvPair { kind: 51, value: 5 }));
-    assert_eq!(rt; pairs.next(), None);
-    let mut open = descriptors::auxv(&note_of(&desc[..16]))
-        .ok()
-        .ok_or("size")?
-        .pairs();
-    assert_eq!(rt;
-        open.next(),
-        Some(AuxvPair {
-            kind: 6,
-            value: 4096
-        })
-    );
-    assert_eq!(rt; open.next(), None);
-    Ok(())
+    has_pairs(&rt, &desc, &[(6, 4096), (51, 5)])?;
+    has_pairs(&rt, &desc[..16], &[(6, 4096)])
+}
+
+/// What the reader of each kind of descriptor says of a note.
+fn faults_of(note: &Note<'_>) -> [Option<NoteField>; 5] {
+    [
+        descriptors::status(note).err(),
+        descriptors::psinfo(note).err(),
+        descriptors::auxv(note).err(),
+        descriptors::siginfo(note).err(),
+        descriptors::files(note).err(),
+    ]
+}
+
+/// The fault of a descriptor's size, if it is wrong.
+fn wrong(right: bool) -> Option<NoteField> {
+    if right {
+        None
+    } else {
+        Some(NoteField::DescSize)
+    }
 }
 
 #[test]
 fn each_size_is_checked(rt: HostRuntime) {
     let bytes = [0u8; 400];
     for length in 0..400 {
-        let note = note_of(&bytes[..length]);
-        let size = Some(NoteField::DescSize);
-        let wrong = |right: bool| if right { None } else { size };
-        assert_eq!(rt;
-            descriptors::status(&note).err(),
-            wrong(length == 376),
-            "{length}"
-        );
-        assert_eq!(rt;
-            descriptors::psinfo(&note).err(),
-            wrong(length == 136),
-            "{length}"
-        );
-        assert_eq!(rt;
-            descriptors::auxv(&note).err(),
-            wrong(length % 16 == 0),
-            "{length}"
-        );
-        assert_eq!(rt;
-            descriptors::siginfo(&note).err(),
-            wrong(length >= 24),
-            "{length}"
-        );
         let count = if length < 16 {
             Some(NoteField::FileCount)
         } else {
             None
         };
-        assert_eq!(rt; descriptors::files(&note).err(), count, "{length}");
+        let wanted = [
+            wrong(length == 376),
+            wrong(length == 136),
+            wrong(length % 16 == 0),
+            wrong(length >= 24),
+            count,
+        ];
+        assert_eq!(rt; faults_of(&note_of(&bytes[..length])), wanted, "{length}");
     }
 }
 
@@ -305,31 +352,34 @@ fn the_place_of_a_file_fits(rt: HostRuntime) -> Result<(), Fail> {
     Ok(())
 }
 
+/// The first faulty note of a core of these notes is named so.
+fn names_note(
+    rt: &(impl AllocGlobal + Abort),
+    notes: &[NotePart<'_>],
+    index: u64,
+    field: NoteField,
+) -> Result<(), Fail> {
+    let wanted = Some(NoteFault { index, field });
+    assert_eq!(rt; fault_of(rt.alloc(), notes)?, wanted);
+    Ok(())
+}
+
 #[test]
 fn the_first_faulty_note_is_named(rt: HostRuntime) -> Result<(), Fail> {
     let state = status(11, 1, &registers());
     let good = note_part(NT_PRSTATUS, &state);
-    let size = Some(NoteFault {
-        index: 2,
-        field: NoteField::DescSize,
-    });
     for kind in [NT_PRSTATUS, NT_PRPSINFO, NT_AUXV, NT_SIGINFO] {
         let notes = [good, note_part(2, b"f"), note_part(kind, b"short")];
-        assert_eq!(rt; fault_of(rt.alloc(), &notes)?, size, "kind {kind}");
+        names_note(&rt, &notes, 2, NoteField::DescSize)?;
     }
-    let count = Some(NoteFault {
-        index: 1,
-        field: NoteField::FileCount,
-    });
     let files = [
         good,
         note_part(NT_FILE, b"short"),
         note_part(NT_AUXV, b"short"),
     ];
-    assert_eq!(rt; fault_of(rt.alloc(), &files)?, count);
+    names_note(&rt, &files, 1, NoteField::FileCount)?;
     let states = [good, good, note_part(NT_PRSTATUS, b"short")];
-    assert_eq!(rt; fault_of(rt.alloc(), &states)?, size);
-    Ok(())
+    names_note(&rt, &states, 2, NoteField::DescSize)
 }
 
 #[test]

@@ -2,8 +2,10 @@
 use core_notes::CoreNotes;
 use elf_view::sample::{NT_PRSTATUS, NotePart, core_image, registers, stack_core, status};
 use elf_view::{Elf, Want};
+use std::alloc::{AllocError, Global};
+use std::process::Abort;
 use std::test::Fail;
-use thread_regs::{Reg, signal_name, threads};
+use thread_regs::{Reg, Thread, signal_name, threads};
 
 /// Each register's name with another, and what it holds in the sample.
 const REGISTERS: [(&[u8], &[u8], u64); 33] = [
@@ -42,20 +44,24 @@ const REGISTERS: [(&[u8], &[u8], u64); 33] = [
     (b"t6", b"x31", 31),
 ];
 
-#[test]
-fn registers_are_their_words(rt: HostRuntime) -> Result<(), Fail> {
-    let image = stack_core(rt.alloc())?;
-    let elf = Elf::read(&image, Want::Core).ok().ok_or("refused")?;
-    let notes = CoreNotes::of(&elf).ok().ok_or("faulty")?;
-    let thread = threads(&notes).thread(0).ok_or("no thread")?;
-    assert_eq!(rt; (thread.tid(), thread.signal()), (4242, 11));
-    for (name, other, value) in REGISTERS {
-        let register = Reg::from_name(name).ok_or("no register")?;
-        assert_eq!(rt; thread.register(register), value);
-        assert_eq!(rt; register.name().as_bytes(), name);
-        let plain = Reg::from_name(other).ok_or("no register")?;
-        assert_eq!(rt; plain.name().as_bytes(), name);
-    }
+/// A thread's register under both of its names.
+fn holds(
+    rt: &impl Abort,
+    thread: &Thread<'_>,
+    name: &[u8],
+    other: &[u8],
+    value: u64,
+) -> Result<(), Fail> {
+    let register = Reg::from_name(name).ok_or("no register")?;
+    assert_eq!(rt; thread.register(register), value);
+    assert_eq!(rt; register.name().as_bytes(), name);
+    let plain = Reg::from_name(other).ok_or("no register")?;
+    assert_eq!(rt; plain.name().as_bytes(), name);
+    Ok(())
+}
+
+/// Registers by their words, the frame pointer, and names of none.
+fn names_are_known(rt: &impl Abort) -> Result<(), Fail> {
     for (word, name) in [(0usize, "pc"), (1, "ra"), (8, "s0"), (31, "t6")] {
         assert_eq!(rt; Reg::of_word(word).name(), name);
     }
@@ -73,9 +79,41 @@ fn registers_are_their_words(rt: HostRuntime) -> Result<(), Fail> {
     ] {
         assert!(rt; Reg::from_name(name).is_none());
     }
-    assert!(rt; threads(&notes).thread(1).is_none());
-    assert!(rt; threads(&notes).thread(u64::MAX).is_none());
     Ok(())
+}
+
+/// The one thread of the sample, with its registers.
+fn has_thread(rt: &impl Abort, notes: &CoreNotes<'_>) -> Result<(), Fail> {
+    let thread = threads(notes).thread(0).ok_or("no thread")?;
+    assert_eq!(rt; (thread.tid(), thread.signal()), (4242, 11));
+    for (name, other, value) in REGISTERS {
+        holds(rt, &thread, name, other, value)?;
+    }
+    Ok(())
+}
+
+/// No thread behind it.
+fn has_no_other(rt: &impl Abort, notes: &CoreNotes<'_>) {
+    assert!(rt; threads(notes).thread(1).is_none());
+    assert!(rt; threads(notes).thread(u64::MAX).is_none());
+}
+
+#[test]
+fn registers_are_their_words(rt: HostRuntime) -> Result<(), Fail> {
+    let image = stack_core(rt.alloc())?;
+    let elf = Elf::read(&image, Want::Core).ok().ok_or("refused")?;
+    let notes = CoreNotes::of(&elf).ok().ok_or("faulty")?;
+    has_thread(&rt, &notes)?;
+    has_no_other(&rt, &notes);
+    names_are_known(&rt)
+}
+
+fn has_name(rt: &impl Abort, signal: i32, name: &str) {
+    assert_eq!(rt; signal_name(signal), Some(name));
+}
+
+fn has_no_name(rt: &impl Abort, signal: i32) {
+    assert!(rt; signal_name(signal).is_none(), "{signal}");
 }
 
 #[test]
@@ -86,15 +124,26 @@ fn signals_have_names(rt: HostRuntime) {
         "XCPU", "XFSZ", "VTALRM", "PROF", "WINCH", "IO", "PWR", "SYS",
     ];
     for (signal, name) in (1i32..32).zip(names) {
-        assert_eq!(rt; signal_name(signal), Some(name));
+        has_name(&rt, signal, name);
     }
     for signal in [i32::MIN, -1, 0, 32, 33, i32::MAX] {
-        assert!(rt; signal_name(signal).is_none(), "{signal}");
+        has_no_name(&rt, signal);
     }
 }
 
-#[test]
-fn many_threads_are_listed_in_one_pass(rt: HostRuntime) -> Result<(), Fail> {
+/// A leader, and 10,000 threads behind it.
+fn has_threads(rt: &impl Abort, notes: &CoreNotes<'_>) {
+    let mut count = 0u64;
+    for thread in threads(notes) {
+        let tid = if count == 0 { 1 } else { -2 };
+        assert_eq!(rt; thread.tid(), tid);
+        count = count.saturating_add(1);
+    }
+    assert_eq!(rt; count, 10001);
+}
+
+/// A core of a leader, and 10,000 threads behind it.
+fn many_threads(alloc: Global) -> Result<Vec<u8>, AllocError> {
     let first = status(11, 1, &registers());
     let second = status(0, -2, &registers());
     let leader = NotePart {
@@ -106,19 +155,23 @@ fn many_threads_are_listed_in_one_pass(rt: HostRuntime) -> Result<(), Fail> {
         desc: &second,
         ..leader
     };
-    let mut parts = vec![in rt.alloc(); worker; 10000]?;
+    let mut parts = vec![in alloc; worker; 10000]?;
     parts.insert(0, leader)?;
-    let image = core_image(rt.alloc(), &parts, &[])?;
+    core_image(alloc, &parts, &[])
+}
+
+/// The last of them, and none behind it.
+fn has_last(rt: &impl Abort, notes: &CoreNotes<'_>) {
+    assert_eq!(rt; threads(notes).thread(10000).map(|t| t.signal()), Some(0));
+    assert!(rt; threads(notes).thread(10001).is_none());
+}
+
+#[test]
+fn many_threads_are_listed_in_one_pass(rt: HostRuntime) -> Result<(), Fail> {
+    let image = many_threads(rt.alloc())?;
     let elf = Elf::read(&image, Want::Core).ok().ok_or("refused")?;
     let notes = CoreNotes::of(&elf).ok().ok_or("faulty")?;
-    let mut count = 0u64;
-    for thread in threads(&notes) {
-        let tid = if count == 0 { 1 } else { -2 };
-        assert_eq!(rt; thread.tid(), tid);
-        count = count.saturating_add(1);
-    }
-    assert_eq!(rt; count, 10001);
-    assert_eq!(rt; threads(&notes).thread(10000).map(|t| t.signal()), Some(0));
-    assert!(rt; threads(&notes).thread(10001).is_none());
+    has_threads(&rt, &notes);
+    has_last(&rt, &notes);
     Ok(())
 }

@@ -3,7 +3,7 @@ use crate::bench::{Bench, SHAPE, cat, formatted};
 use crate::states::{SCRIPT, STATES, State, shows};
 use case_journal::{Journal, JournalFault};
 use disk_model::{Disk, MemDisk};
-use journal_layout::Kind;
+use journal_layout::{Entry, Kind};
 use std::alloc::Global;
 use std::process::Abort;
 use std::test::Fail;
@@ -23,18 +23,14 @@ fn fresh(alloc: Global) -> Result<Bench<MemDisk>, Fail> {
     Ok(bench)
 }
 
-#[test]
-fn the_first_record_stands_byte_for_byte(rt: HostRuntime) -> Result<(), Fail> {
-    let alloc = rt.alloc();
-    let mut bench = fresh(alloc)?;
-    assert_eq!(rt; bench.journal().use_bytes(), 32);
-    assert_eq!(rt; bench.journal().next_seq(), 1);
-    assert_eq!(rt; bench.journal().shape(), SHAPE);
-    let Ok(seq) = bench.store_first(cat(alloc)?)? else {
-        return Err(Fail::from("the case was not stored"));
-    };
-    assert_eq!(rt; seq, 1);
-    let bytes = bench.disk().bytes();
+// A journal with no case.
+fn is_fresh(rt: &impl Abort, journal: &Journal) {
+    assert_eq!(rt; (journal.use_bytes(), journal.next_seq()), (32, 1));
+    assert_eq!(rt; journal.shape(), SHAPE);
+}
+
+// The superblock's front, and half A's header.
+fn has_headers(rt: &impl Abort, bytes: &[u8]) {
     assert!(rt; bytes.len() == 28_672);
     assert_eq!(rt; &bytes[..8], [0xa5, 0, 0, 0, 0, 0, 0, 0].as_slice());
     assert_eq!(rt; &bytes[8..16], b"COREKEEP".as_slice());
@@ -43,10 +39,43 @@ fn the_first_record_stands_byte_for_byte(rt: HostRuntime) -> Result<(), Fail> {
         &bytes[4096..4112],
         [0xa5, 0, 0, 0, 1, 0, 0, 0, 1, 0, 0, 0, 0, 0, 0, 0].as_slice()
     );
+}
+
+// The first record, a closed gate behind it, and half B's.
+fn has_record(rt: &impl Abort, bytes: &[u8]) {
+    assert!(rt; bytes.len() == 28_672);
     assert_eq!(rt; &bytes[4128..4192], STORE.as_slice());
-    assert_eq!(rt; bytes[4192], 0);
-    assert_eq!(rt; bytes[8192], 0);
+    assert_eq!(rt; (bytes[4192], bytes[8192]), (0, 0));
+}
+
+#[test]
+fn the_first_record_stands_byte_for_byte(rt: HostRuntime) -> Result<(), Fail> {
+    let alloc = rt.alloc();
+    let mut bench = fresh(alloc)?;
+    is_fresh(&rt, bench.journal());
+    let Ok(seq) = bench.store_first(cat(alloc)?)? else {
+        return Err(Fail::from("the case was not stored"));
+    };
+    assert_eq!(rt; seq, 1);
+    has_headers(&rt, bench.disk().bytes());
+    has_record(&rt, bench.disk().bytes());
     Ok(())
+}
+
+// The entry is that of the record above.
+fn is_cat(rt: &impl Abort, entry: &Entry) {
+    assert_eq!(rt;
+        (entry.seq, entry.kind, entry.name.as_slice(), entry.pid),
+        (1, Kind::Exec, b"/bin/cat".as_slice(), 0)
+    );
+    assert_eq!(rt;
+        (entry.signal, entry.time, entry.pinned, entry.length),
+        (0, 0, false, 5)
+    );
+    assert_eq!(rt;
+        (entry.runs.block_at(0), entry.runs.block_at(1)),
+        (Some(0), None)
+    );
 }
 
 #[test]
@@ -55,44 +84,50 @@ fn a_stored_case_is_there_again(rt: HostRuntime) -> Result<(), Fail> {
     let mut bench = fresh(alloc)?;
     assert!(rt; bench.store_first(cat(alloc)?)?.is_ok());
     let bench = bench.reopened(alloc)?;
-    assert_eq!(rt; bench.journal().use_bytes(), 96);
-    assert_eq!(rt; bench.journal().next_seq(), 2);
+    assert_eq!(rt;
+        (bench.journal().use_bytes(), bench.journal().next_seq()),
+        (96, 2)
+    );
     let entries = bench.journal().entries();
     assert!(rt; entries.len() == 1);
-    let entry = &entries[0];
-    assert_eq!(rt; entry.seq, 1);
-    assert_eq!(rt; entry.kind, Kind::Exec);
-    assert_eq!(rt; entry.name.as_slice(), b"/bin/cat".as_slice());
-    assert_eq!(rt; entry.pid, 0);
-    assert_eq!(rt; entry.signal, 0);
-    assert_eq!(rt; entry.time, 0);
-    assert_eq!(rt; entry.pinned, false);
-    assert_eq!(rt; entry.length, 5);
-    assert_eq!(rt; entry.runs.block_at(0), Some(0));
-    assert_eq!(rt; entry.runs.block_at(1), None);
+    is_cat(&rt, &entries[0]);
     Ok(())
 }
 
-// A record that gives the next case the number 2^32.
-#[test]
-fn the_numbers_are_spent(rt: HostRuntime) -> Result<(), Fail> {
-    let alloc = rt.alloc();
-    let mut disk = formatted(alloc)?;
+// A journal whose one record gives the next case the number 2^32.
+fn spent(rt: &(impl AllocGlobal + Abort)) -> Result<Bench<MemDisk>, Fail> {
+    let mut disk = formatted(rt.alloc())?;
     assert!(rt; disk.length() == 28_672);
     let last = [0xa5, 4, 0, 0, 16, 0, 0, 0, 0, 0, 0, 0, 1, 0, 0, 0];
     assert_eq!(rt; disk.write_at(4128, &last), Ok(()));
-    let Ok(mut bench) = Bench::open(alloc, disk) else {
+    let Ok(bench) = Bench::open(rt.alloc(), disk) else {
         return Err(Fail::from("the journal was not opened"));
     };
-    assert_eq!(rt; bench.journal().next_seq(), 4_294_967_296);
-    let Err((fault, entry)) = bench.store_first(cat(alloc)?)? else {
+    Ok(bench)
+}
+
+// No number is left for a case, which is handed back.
+fn hands_back<D: Disk + Drop>(
+    rt: &(impl AllocGlobal + Abort),
+    bench: &mut Bench<D>,
+) -> Result<(), Fail> {
+    let Err((fault, entry)) = bench.store_first(cat(rt.alloc())?)? else {
         return Err(Fail::from("a case was stored"));
     };
     assert_eq!(rt; fault, JournalFault::NumbersSpent);
-    assert_eq!(rt; entry.name.as_slice(), b"/bin/cat".as_slice());
-    assert_eq!(rt; entry.length, 5);
-    assert_eq!(rt; bench.journal().entries().len(), 0);
-    assert_eq!(rt; bench.journal().use_bytes(), 48);
+    assert_eq!(rt;
+        (entry.name.as_slice(), entry.length),
+        (b"/bin/cat".as_slice(), 5)
+    );
+    Ok(())
+}
+
+#[test]
+fn the_numbers_are_spent(rt: HostRuntime) -> Result<(), Fail> {
+    let mut bench = spent(&rt)?;
+    assert_eq!(rt; bench.journal().next_seq(), 4_294_967_296);
+    hands_back(&rt, &mut bench)?;
+    assert_eq!(rt; sizes(bench.journal()), (0, 48));
     Ok(())
 }
 
@@ -107,7 +142,12 @@ fn stores<D: Disk + Drop>(
     Ok(())
 }
 
-// A full journal takes no further case, but the end of one.
+// How many cases the journal shows, and the bytes of the half that are used.
+fn sizes(journal: &Journal) -> (usize, u64) {
+    (journal.entries().len(), journal.use_bytes())
+}
+
+// A full journal takes no further case.
 fn is_full<D: Disk + Drop>(
     rt: &(impl AllocGlobal + Abort),
     bench: &mut Bench<D>,
@@ -118,9 +158,13 @@ fn is_full<D: Disk + Drop>(
         Err(JournalFault::JournalFull)
     );
     assert_eq!(rt; bench.journal().entries().len(), 63);
+    Ok(())
+}
+
+// It takes the end of one.
+fn takes_an_end<D: Disk + Drop>(rt: &impl Abort, bench: &mut Bench<D>) -> Result<(), Fail> {
     assert_eq!(rt; bench.end(1)?, Ok(()));
-    assert_eq!(rt; bench.journal().entries().len(), 62);
-    assert_eq!(rt; bench.journal().use_bytes(), 4080);
+    assert_eq!(rt; sizes(bench.journal()), (62, 4080));
     Ok(())
 }
 
@@ -130,7 +174,8 @@ fn the_half_is_full(rt: HostRuntime) -> Result<(), Fail> {
     for number in 1..64u32 {
         stores(&rt, &mut bench, number)?;
     }
-    is_full(&rt, &mut bench)
+    is_full(&rt, &mut bench)?;
+    takes_an_end(&rt, &mut bench)
 }
 
 // Whether the journal shows this state and so many bytes.
