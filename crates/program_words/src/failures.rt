@@ -178,9 +178,10 @@ fn tell_in_words<E: Output>(alloc: Global, refusal: Refusal, errors: &mut E) {
         ),
         _ => return,
     };
-    if let Ok(text) = text {
-        tell_text(errors, text.as_bytes());
-    }
+    let Ok(text) = text else {
+        return;
+    };
+    tell_text(errors, text.as_bytes());
 }
 
 // Tells what is refused.
