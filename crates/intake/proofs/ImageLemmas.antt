@@ -30,8 +30,8 @@ use Rattle.intake.specs.Parts.{Parts, StreamParts, bare_of, bare_case, bare_stre
 use Rattle.intake.specs.Reading.{LieWithin, LiesIn, IsReadFault}
 use Rattle.intake.specs.Slots.{closed}
 use Rattle.intake.specs.Sound.{IsSound, case_blocks}
-use Rattle.intake.specs.State.{BareStream}
-use Rattle.intake.specs.Step.{ImageStep, HasCase, halted}
+use Rattle.intake.specs.State.{Bare, BareCase, BareStream}
+use Rattle.intake.specs.Step.{ImageStep, HasCase, case_at, halted}
 use Rattle.intake.specs.declared.faults.ArchiveFault.{ArchiveFault}
 use Rattle.intake.specs.declared.faults.ArchiveFault.TheVariants as fault
 use Rattle.intake.proofs.AdvanceLemmas.{closed_map}
@@ -198,3 +198,10 @@ module _ {D : Type 0} (seen : D → List ℕ) (d d' : D) (j : Journaled) (most :
   bytes_of_case seq c found =
       image_found seq (λ (x : Case). image_in j.standing.shape (seen d) x.blocks x.len) j.standing.cases
       ∙ ap (option_map (λ (x : Case). image_in j.standing.shape (seen d) x.blocks x.len)) (sym found)
+
+-- what is as long as the case of this number has the length of each case of this number
+pub long_as : (s : Bare) (seq n : ℕ) (x y : BareCase) → HasCase s seq x → n ≡ x.len → case_at seq s.cases ≡ Some y → n ≡ y.len
+long_as s seq n x y has is at = is ∙ ap (λ (c : BareCase). c.len) (inside (sym has.1 ∙ at))
+  where
+    inside : Some x ≡ Some y → x ≡ y
+    inside e = cc

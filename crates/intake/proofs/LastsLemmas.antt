@@ -1,5 +1,5 @@
 -- What each call does to what the archive holds.
-use Rattle.std.proofs.Common.{◌≡◌, ◌⊎◌, ⊎_elim, inl, inr, ℕ, ◌+◌, ◌≤◌, ◌==◌, Bool, true, false, not, cond, List, [], ◌∷◌, ◌++◌, map, Ok, Err, refl, sym, ap, ◌∙◌}
+use Rattle.std.proofs.Common.{◌≡◌, ◌≢◌, ◌⊎◌, ⊎_elim, inl, inr, ℕ, ◌+◌, ◌≤◌, ◌==◌, Bool, true, false, not, cond, List, [], ◌∷◌, ◌++◌, map, Ok, Err, refl, sym, ap, ◌∙◌}
 use Rattle.std.specs.List.{filter}
 use Rattle.std.specs.Prelude.{IsTrue}
 use Rattle.disk_model.specs.declared.disk.Disk as disk
@@ -12,7 +12,7 @@ use Rattle.intake.specs.Durable.{FoundCase, durable_of, durable_part, with_image
 use Rattle.intake.specs.Guarding.{MayBeStored}
 use Rattle.intake.specs.Parts.{Parts, bare_case, bare_of, contents_of}
 use Rattle.intake.specs.State.{Bare, BareCase}
-use Rattle.intake.specs.Step.{stored, case_from, without_cases, with_flag}
+use Rattle.intake.specs.Step.{HasCase, stored, case_from, without_cases, with_flag}
 use Rattle.intake.specs.declared.faults.ArchiveFault.{ArchiveFault}
 use Rattle.intake.proofs.DurableLemmas.{durable_is, found_zipped}
 use Rattle.intake.proofs.MarkLemmas.{finish_same, refused_same, delete_is, pin_is, retire_is}
@@ -107,16 +107,21 @@ module _ {D : Type 0} (g : disk.Ghosts D) (old new : Parts D) (honest : IsTrue (
   delete_lasts seq u call = lasts (without_cases (bare_of old) (seq ∷ [])) _ call.step.4 (call.bytes honest) ∙ left (seq ∷ [])
 
   pub pin_lasts : (seq : ℕ) (flag : Bool) (u : Unit {0}) → PinCall g old seq flag (Ok u) new
-      → (durable_of g.seen new ≡ durable_of g.seen old) ⊎ (durable_of g.seen new ≡ flagged (durable_of g.seen old) seq flag)
-  pin_lasts seq flag u call =
-      ⊎_elim
-      (λ kept. inl (lasts (bare_of old) (contents_of g.seen old) kept.1 (call.bytes honest) ∙ sym (durable_is g.seen old)))
-      (λ set. inr (
-      lasts (with_flag (bare_of old) seq flag) (contents_of g.seen old) set.2 (call.bytes honest)
-      ∙ ap (λ (l : List FoundCase). record { cases = l; next = (bare_of old).next })
-      (zipped_flagged image_of seq flag old.journal.standing.cases ∙ ap (map (λ (c : FoundCase). cond (c.seq == seq) (record c { pinned = flag }) c)) found_before)
-      ))
-      call.step.2
+      → (c : BareCase) × HasCase (bare_of old) seq c
+      × (((c.pinned ≡ flag) × (durable_of g.seen new ≡ durable_of g.seen old)) ⊎ ((c.pinned ≢ flag) × (durable_of g.seen new ≡ flagged (durable_of g.seen old) seq flag)))
+  pin_lasts seq flag u call = (call.step.0, call.step.1, told)
+    where
+      told : ((call.step.0.pinned ≡ flag) × (durable_of g.seen new ≡ durable_of g.seen old)) ⊎ ((call.step.0.pinned ≢ flag) × (durable_of g.seen new ≡ flagged (durable_of g.seen old) seq flag))
+      told =
+          ⊎_elim
+          (λ kept. inl (kept.0, lasts (bare_of old) (contents_of g.seen old) kept.1 (call.bytes honest) ∙ sym (durable_is g.seen old)))
+          (λ set. inr (
+            set.0,
+            lasts (with_flag (bare_of old) seq flag) (contents_of g.seen old) set.2 (call.bytes honest)
+                ∙ ap (λ (l : List FoundCase). record { cases = l; next = (bare_of old).next })
+                (zipped_flagged image_of seq flag old.journal.standing.cases ∙ ap (map (λ (c : FoundCase). cond (c.seq == seq) (record c { pinned = flag }) c)) found_before),
+          ))
+          call.step.2
 
   pub retire_lasts : (policy : Policy) (d : Decision) → RetireCall g old policy (Ok d) new → durable_of g.seen new ≡ without (durable_of g.seen old) d.dropped.items
   retire_lasts policy d call =

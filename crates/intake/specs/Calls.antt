@@ -1,5 +1,5 @@
 -- What a call promises as a whole: the state, the bytes, and what a crash at any moment of it leaves.
-use Rattle.std.specs.Prelude.{◌≡◌, ℕ, ◌≤◌, Bool, false, List, [], ◌∷◌, length, None, Result, Err, IfOk, IsTrue, Vec}
+use Rattle.std.specs.Prelude.{◌≡◌, ℕ, ◌≤◌, Bool, false, List, [], ◌∷◌, length, None, Some, Result, Err, IfOk, IsTrue, Vec, vec_len}
 use Rattle.std.specs.Global.{Global}
 use Rattle.disk_model.specs.Disk.{HasRisen}
 use Rattle.disk_model.specs.Moments.{AddsOnly, LeavesOnly}
@@ -15,9 +15,9 @@ use Rattle.intake.specs.Guarding.{Leaves, MayBeStored, MayBeRetired}
 use Rattle.intake.specs.Opened.{IsOpened, disk_in, journal_in}
 use Rattle.intake.specs.Parts.{Parts, bare_of, contents_of}
 use Rattle.intake.specs.Slots.{stream_at}
-use Rattle.intake.specs.State.{BareStream}
+use Rattle.intake.specs.State.{BareCase, BareStream}
 use Rattle.intake.specs.Growth.{IsDiskFault}
-use Rattle.intake.specs.Step.{BeginStep, AdvanceStep, FinishStep, AbandonStep, PinStep, DeleteStep, RetireStep, ImageStep}
+use Rattle.intake.specs.Step.{BeginStep, AdvanceStep, FinishStep, AbandonStep, PinStep, DeleteStep, RetireStep, ImageStep, case_at}
 use Rattle.intake.specs.declared.faults.ArchiveFault.{ArchiveFault}
 use Rattle.retention.specs.declared.Decision.{Decision}
 use Rattle.retention.specs.declared.Policy.{Policy}
@@ -112,6 +112,8 @@ pub record ImageCall {D : Type 0} (g : disk.Ghosts D) (old : Parts D) (seq : ℕ
   pub step : ImageStep (bare_of old) seq r (bare_of new)
   pub bytes : IsTrue (g.is_honest old.disk) → ImageBytes (bare_of old) (contents_of g.seen old) seq r (contents_of g.seen new)
   pub cause : HasDiskCause g old r new
+  -- on any disk it has the case's length
+  pub long : IfOk r (λ image. (c : BareCase) → case_at seq (bare_of old).cases ≡ Some c → vec_len image ≡ c.len)
   -- reads give what they gave
   pub quiet : IsQuiet g old.disk new.disk
   pub stays : Stays g old new

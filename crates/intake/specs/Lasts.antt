@@ -1,10 +1,12 @@
 -- What each call does to what the archive holds: its cases with their images, and the next number.
-use Rattle.std.specs.Prelude.{◌≡◌, ◌⊎◌, ℕ, Bool, [], ◌∷◌, Ok, Err, IsTrue}
+use Rattle.std.specs.Prelude.{◌≡◌, ◌≢◌, ◌⊎◌, ℕ, Bool, [], ◌∷◌, Ok, Err, IsTrue}
 use Rattle.disk_model.specs.declared.disk.Disk as disk
 use Rattle.intake.specs.Calls.{FinishCall, DeleteCall, PinCall, RetireCall}
 use Rattle.intake.specs.Durable.{durable_of, without, flagged}
 use Rattle.intake.specs.Guarding.{MayBeStored}
 use Rattle.intake.specs.Parts.{Parts, bare_of, contents_of}
+use Rattle.intake.specs.State.{BareCase}
+use Rattle.intake.specs.Step.{HasCase}
 use Rattle.intake.specs.declared.faults.ArchiveFault.{ArchiveFault}
 use Rattle.retention.specs.declared.Decision.{Decision}
 use Rattle.retention.specs.declared.Policy.{Policy}
@@ -19,10 +21,11 @@ abbrev pub DeleteLasts : {D : Type 0} → disk.Ghosts D → Type 0
 DeleteLasts {D} g = (old new : Parts D) (seq : ℕ) (u : Unit {0}) → IsTrue (g.is_honest old.disk) → DeleteCall g old seq (Ok u) new
     → durable_of g.seen new ≡ without (durable_of g.seen old) (seq ∷ [])
 
--- a pin sets the flag of the one case, and changes no other; where it stands already nothing changes
+-- a pin sets the flag of the one case, and changes no other; exactly where it stands already nothing changes
 abbrev pub PinLasts : {D : Type 0} → disk.Ghosts D → Type 0
 PinLasts {D} g = (old new : Parts D) (seq : ℕ) (flag : Bool) (u : Unit {0}) → IsTrue (g.is_honest old.disk) → PinCall g old seq flag (Ok u) new
-    → (durable_of g.seen new ≡ durable_of g.seen old) ⊎ (durable_of g.seen new ≡ flagged (durable_of g.seen old) seq flag)
+    → (c : BareCase) × HasCase (bare_of old) seq c
+    × (((c.pinned ≡ flag) × (durable_of g.seen new ≡ durable_of g.seen old)) ⊎ ((c.pinned ≢ flag) × (durable_of g.seen new ≡ flagged (durable_of g.seen old) seq flag)))
 
 -- a retirement takes the cases away that it answers, and changes no other
 abbrev pub RetireLasts : {D : Type 0} → disk.Ghosts D → Type 0

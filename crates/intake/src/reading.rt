@@ -1,5 +1,5 @@
 // The bytes of an image, as they are read.
-ghost use Rattle.std.specs.Prelude.{◌≡◌, ◌+◌, ◌*◌, ◌≤◌, length, IsTrue, OnOk, IfOk, IfErr};
+ghost use Rattle.std.specs.Prelude.{◌≡◌, ◌+◌, ◌*◌, ◌≤◌, length, IsTrue, OnOk, IfOk, IfErr, vec_len};
 ghost use Rattle.disk_model.specs.Disk.{HasRisen};
 ghost use Rattle.extents.specs.Runs.{run_blocks, blocks_of};
 ghost use Rattle.journal_layout.specs.Layout.{IsWithinLimits, disk_length};
@@ -80,6 +80,7 @@ pub(crate) fn read_image<D: Disk>(
     ensures reply { IfErr result IsReadFault }
     ensures bytes { IsTrue (D.is_honest disk.old)
         → IfOk result (λ v. v.items ≡ image_in shape (D.seen disk.old) entry.now.runs entry.now.length) }
+    ensures long { IfOk result (λ v. vec_len v ≡ entry.now.length) }
     ensures quiet { IsQuiet D.Disk disk.old disk.new }
     ensures cause { IsDiskFault result → HasRisen (D.failures disk.old) (D.failures disk.new) }
     ensures later { D.failures disk.old ≤ D.failures disk.new }

@@ -17,3 +17,9 @@ returns-clause-bytes g c honest =
     (with_items_is c.in-Ok.image c.read_runs.new.into (c.read_runs.auto.into ∙ c.deref_mut.ensures.len)
     ∙ c.in_ok-read_runs.ensures.bytes honest
     ∙ ap (joined c.args.shape (g.D.Disk.seen c.args.disk.now)) (blocks_back c.runs.result.now c.args.entry.now.runs c.runs.ensures.shortest))
+
+pub returns-clause-long : goal.returns-clause-long
+returns-clause-long g c =
+    let enough = c.requires.lies.enough in
+    let same = c.read_runs.auto.into in
+    omega (arith, c.truncate.ensures.len, c.in-Ok.ensures.len, c.div_ceil-size.ensures)

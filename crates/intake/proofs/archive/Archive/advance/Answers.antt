@@ -11,7 +11,6 @@ use Rattle.intake.proofs.CrashLemmas.{grow_rests}
 use Rattle.std.proofs.lemmas.Grind.{common_steps}
 use Rattle.intake.proofs.archive.Archive.advance.Goals as goal
 
-
 pub release-requires : goal.release-requires
 release-requires g c =
     still_held c.self.inside.free c.grow-grown.new.free c.in-Some.stream.runs c.grow-grown.new.stream.runs
@@ -25,8 +24,6 @@ invariant_of-self-in-Err g c =
     (grow_rests g.D.Disk c.self.inside.disk c.grow-grown.new.disk c.self.inside.journal c.self.inside.settings.limit c.self.inside.free c.self.inside.slots (c.self.invariant.runs c.if-self.false) (c.in-Err.ensures.rests c.self.inside.journal (sym c.shape-shape.ensures))).guards
     (balance_then c.self.inside.free c.grow-grown.new.free c.release.new.free c.in-Some.stream.runs c.grow-grown.new.stream.runs _ c.in-Err.ensures.balance c.release.ensures)
     c.end_streams-self-inside.ensures
-
-
 
 pub invariant_of-self-2 : goal.invariant_of-self-2
 invariant_of-self-2 g c =
@@ -42,15 +39,15 @@ pub returns-in_default : goal.returns-in_default
 returns-in_default g c = record {
   step = grind (arith, common_steps);
   bytes = λ honest.
-        rw (← c.self.view_is)
-        (ap (λ (x : List (Option StreamParts)). contents_of g.D.Disk.seen (record {
-          disk = c.self.inside.disk;
-          journal = c.self.inside.journal;
-          limit = c.self.inside.settings.limit;
-          streams = x;
-          stopped = c.self.inside.stopped;
-        }))
-        (c.in_default.ensures.slots ∙ none_set c.self.inside.slots c.args.slot (sym c.in_default.ensures.stream)));
+      rw (← c.self.view_is)
+      (ap (λ (x : List (Option StreamParts)). contents_of g.D.Disk.seen (record {
+        disk = c.self.inside.disk;
+        journal = c.self.inside.journal;
+        limit = c.self.inside.settings.limit;
+        streams = x;
+        stopped = c.self.inside.stopped;
+      }))
+      (c.in_default.ensures.slots ∙ none_set c.self.inside.slots c.args.slot (sym c.in_default.ensures.stream)));
   cause = search rules;
   stays = record { honesty = search rules; later = search rules; size = search rules; crash = search rules; durable = search rules };
 }
@@ -58,22 +55,22 @@ returns-in_default g c = record {
 pub returns-in-Err : goal.returns-in-Err
 returns-in-Err g c = record {
   step = subst (λ (a : Parts g.row.D.Denot). AdvanceStep (bare_of a) c.args.slot c.args.n (Err c.in-Err.fault)
-        (bare_of (record { disk = c.grow-grown.new.disk; journal = c.self.inside.journal; limit = c.self.inside.settings.limit; streams = c.end_streams-self-inside.new.slots; stopped = c.end_streams-self-inside.result })))
-        c.self.view_is
-        (advance_err g.D.Disk c.self.inside.disk c.grow-grown.new.disk c.self.inside.journal c.self.inside.settings.limit c.self.inside.free c.self.inside.slots c.args.slot c.args.n (parts_of c.in-Some.block c.in-Some.stream) c.self.inside.stopped
-        (c.self.invariant.runs c.if-self.false) c.if-self.false (sym c.in-Some.ensures.stream)
-        c.end_streams-self-inside.result c.take.new.self c.end_streams-self-inside.new.slots (parts_of c.grow-grown.new.block c.grow-grown.new.stream) c.in-Err.fault
-        c.in-Some.ensures.slots c.end_streams-self-inside.ensures c.in-Err.ensures.step);
+      (bare_of (record { disk = c.grow-grown.new.disk; journal = c.self.inside.journal; limit = c.self.inside.settings.limit; streams = c.end_streams-self-inside.new.slots; stopped = c.end_streams-self-inside.result })))
+      c.self.view_is
+      (advance_err g.D.Disk c.self.inside.disk c.grow-grown.new.disk c.self.inside.journal c.self.inside.settings.limit c.self.inside.free c.self.inside.slots c.args.slot c.args.n (parts_of c.in-Some.block c.in-Some.stream) c.self.inside.stopped
+      (c.self.invariant.runs c.if-self.false) c.if-self.false (sym c.in-Some.ensures.stream)
+      c.end_streams-self-inside.result c.take.new.self c.end_streams-self-inside.new.slots (parts_of c.grow-grown.new.block c.grow-grown.new.stream) c.in-Err.fault
+      c.in-Some.ensures.slots c.end_streams-self-inside.ensures c.in-Err.ensures.step);
   bytes = λ honest.
-        let real = rw (← c.self.view_is) at honest in
-        let running = c.self.invariant.runs c.if-self.false in
-        rw (← c.self.view_is)
-        (refused_bytes g.D.Disk c.self.inside.disk c.grow-grown.new.disk c.self.inside.journal c.self.inside.settings.limit c.self.inside.free c.self.inside.slots c.args.slot c.self.inside.stopped c.end_streams-self-inside.result
-        running
-        (subst (λ (x : Shape). ChangesFree x c.self.inside.free (g.D.Disk.seen c.self.inside.disk) (g.D.Disk.seen c.grow-grown.new.disk)) c.shape-shape.ensures (c.in-Err.ensures.others real))
-        c.in-Err.fault c.take.new.self c.end_streams-self-inside.new.slots c.in-Some.ensures.slots c.end_streams-self-inside.ensures
-        (not_stopped g.D.Disk c.self.inside.disk c.grow-grown.new.disk c.self.inside.journal c.self.inside.settings.limit c.self.inside.free c.self.inside.slots c.args.slot c.args.n (parts_of c.in-Some.block c.in-Some.stream) c.self.inside.stopped running c.if-self.false (sym c.in-Some.ensures.stream) _ c.in-Err.fault c.in-Err.ensures.step)
-        (not_missing g.D.Disk c.self.inside.disk c.grow-grown.new.disk c.self.inside.journal c.self.inside.settings.limit c.self.inside.free c.self.inside.slots c.args.slot c.args.n (parts_of c.in-Some.block c.in-Some.stream) c.self.inside.stopped running c.if-self.false (sym c.in-Some.ensures.stream) _ c.in-Err.fault c.in-Err.ensures.step));
+      let real = rw (← c.self.view_is) at honest in
+      let running = c.self.invariant.runs c.if-self.false in
+      rw (← c.self.view_is)
+      (refused_bytes g.D.Disk c.self.inside.disk c.grow-grown.new.disk c.self.inside.journal c.self.inside.settings.limit c.self.inside.free c.self.inside.slots c.args.slot c.self.inside.stopped c.end_streams-self-inside.result
+      running
+      (subst (λ (x : Shape). ChangesFree x c.self.inside.free (g.D.Disk.seen c.self.inside.disk) (g.D.Disk.seen c.grow-grown.new.disk)) c.shape-shape.ensures (c.in-Err.ensures.others real))
+      c.in-Err.fault c.take.new.self c.end_streams-self-inside.new.slots c.in-Some.ensures.slots c.end_streams-self-inside.ensures
+      (not_stopped g.D.Disk c.self.inside.disk c.grow-grown.new.disk c.self.inside.journal c.self.inside.settings.limit c.self.inside.free c.self.inside.slots c.args.slot c.args.n (parts_of c.in-Some.block c.in-Some.stream) c.self.inside.stopped running c.if-self.false (sym c.in-Some.ensures.stream) _ c.in-Err.fault c.in-Err.ensures.step)
+      (not_missing g.D.Disk c.self.inside.disk c.grow-grown.new.disk c.self.inside.journal c.self.inside.settings.limit c.self.inside.free c.self.inside.slots c.args.slot c.args.n (parts_of c.in-Some.block c.in-Some.stream) c.self.inside.stopped running c.if-self.false (sym c.in-Some.ensures.stream) _ c.in-Err.fault c.in-Err.ensures.step));
   cause = search rules;
   stays = record { honesty = search rules; later = search rules; size = search rules; crash = search rules; durable = search rules };
 }
@@ -81,20 +78,20 @@ returns-in-Err g c = record {
 pub returns : goal.returns
 returns g c = record {
   step = rw (← c.self.view_is)
-        (advance_ok g.D.Disk c.self.inside.disk c.grow-grown.new.disk c.self.inside.journal c.self.inside.settings.limit c.self.inside.free c.self.inside.slots c.args.slot c.args.n (parts_of c.in-Some.block c.in-Some.stream) c.self.inside.stopped
-        (c.self.invariant.runs c.if-self.false) c.if-self.false (sym c.in-Some.ensures.stream)
-        c.take.new.self c.put.new.self (parts_of c.grow-grown.new.block c.grow-grown.new.stream) c.in_default-grown.field-0 c.in-Some.ensures.slots c.put.ensures
-        (fits_in g.D.Disk c.self.inside.disk c.grow-grown.new.disk c.self.inside.journal c.self.inside.settings.limit c.self.inside.free c.self.inside.slots c.args.slot c.args.n (parts_of c.in-Some.block c.in-Some.stream) c.self.inside.stopped (c.self.invariant.runs c.if-self.false) c.if-self.false (sym c.in-Some.ensures.stream) (rw (← c.self.view_is) at c.requires))
-        c.in_default-grown.ensures.step);
+      (advance_ok g.D.Disk c.self.inside.disk c.grow-grown.new.disk c.self.inside.journal c.self.inside.settings.limit c.self.inside.free c.self.inside.slots c.args.slot c.args.n (parts_of c.in-Some.block c.in-Some.stream) c.self.inside.stopped
+      (c.self.invariant.runs c.if-self.false) c.if-self.false (sym c.in-Some.ensures.stream)
+      c.take.new.self c.put.new.self (parts_of c.grow-grown.new.block c.grow-grown.new.stream) c.in_default-grown.field-0 c.in-Some.ensures.slots c.put.ensures
+      (fits_in g.D.Disk c.self.inside.disk c.grow-grown.new.disk c.self.inside.journal c.self.inside.settings.limit c.self.inside.free c.self.inside.slots c.args.slot c.args.n (parts_of c.in-Some.block c.in-Some.stream) c.self.inside.stopped (c.self.invariant.runs c.if-self.false) c.if-self.false (sym c.in-Some.ensures.stream) (rw (← c.self.view_is) at c.requires))
+      c.in_default-grown.ensures.step);
   bytes = λ honest.
-        let real = rw (← c.self.view_is) at honest in
-        rw (← c.self.view_is)
-        (advance_ok_bytes g.D.Disk c.self.inside.disk c.grow-grown.new.disk c.self.inside.journal c.self.inside.settings.limit c.self.inside.free c.self.inside.slots c.args.slot c.args.n (parts_of c.in-Some.block c.in-Some.stream) c.self.inside.stopped
-        (c.self.invariant.runs c.if-self.false) c.if-self.false (sym c.in-Some.ensures.stream)
-        c.take.new.self c.put.new.self (parts_of c.grow-grown.new.block c.grow-grown.new.stream) c.in_default-grown.field-0
-        (subst (λ (x : Shape). ChangesFree x c.self.inside.free (g.D.Disk.seen c.self.inside.disk) (g.D.Disk.seen c.grow-grown.new.disk)) c.shape-shape.ensures (c.in_default-grown.ensures.others real))
-        c.in-Some.ensures.slots c.put.ensures
-        (c.in_default-grown.ensures.bytes real c.self.inside.journal (sym c.shape-shape.ensures)));
+      let real = rw (← c.self.view_is) at honest in
+      rw (← c.self.view_is)
+      (advance_ok_bytes g.D.Disk c.self.inside.disk c.grow-grown.new.disk c.self.inside.journal c.self.inside.settings.limit c.self.inside.free c.self.inside.slots c.args.slot c.args.n (parts_of c.in-Some.block c.in-Some.stream) c.self.inside.stopped
+      (c.self.invariant.runs c.if-self.false) c.if-self.false (sym c.in-Some.ensures.stream)
+      c.take.new.self c.put.new.self (parts_of c.grow-grown.new.block c.grow-grown.new.stream) c.in_default-grown.field-0
+      (subst (λ (x : Shape). ChangesFree x c.self.inside.free (g.D.Disk.seen c.self.inside.disk) (g.D.Disk.seen c.grow-grown.new.disk)) c.shape-shape.ensures (c.in_default-grown.ensures.others real))
+      c.in-Some.ensures.slots c.put.ensures
+      (c.in_default-grown.ensures.bytes real c.self.inside.journal (sym c.shape-shape.ensures)));
   cause = search rules;
   stays = record { honesty = search rules; later = search rules; size = search rules; crash = search rules; durable = search rules };
 }

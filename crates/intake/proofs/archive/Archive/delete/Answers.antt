@@ -29,7 +29,7 @@ returns-in_default g c = record {
 pub returns-then-entry : goal.returns-then-entry
 returns-then-entry g c = record {
   step = rw (← c.self.view_is)
-        (bare_case (case_of c.in-Some.entry.now), (c.if-self.false, bare_case_at c.args.seq c.self.inside.journal.standing.cases ∙ ap (option_map bare_case) (sym c.in-Some.ensures)), c.if-entry.true, refl);
+      (bare_case (case_of c.in-Some.entry.now), (c.if-self.false, bare_case_at c.args.seq c.self.inside.journal.standing.cases ∙ ap (option_map bare_case) (sym c.in-Some.ensures)), c.if-entry.true, refl);
   bytes = search rules;
   changes = changes_none g.D.Disk (Unit {0}) c.self.inside.disk c.self.inside.journal c.self.inside.settings.limit c.self.inside.free c.self.inside.slots c.self.inside.stopped _ _ _ c.self.invariant c.self.view_is (λ fault. cc);
 }
@@ -37,8 +37,8 @@ returns-then-entry g c = record {
 pub returns : goal.returns
 returns g c = record {
   step = delete_step (bare_of c.args.self.now) c.args.seq (bare_case (case_of c.in-Some.entry.now)) c.drop_cases.result (bare_of c.drop_cases.new.self)
-        (rw (← c.self.view_is) (c.if-self.false, bare_case_at c.args.seq c.self.inside.journal.standing.cases ∙ ap (option_map bare_case) (sym c.in-Some.ensures)))
-        c.if-entry.false c.drop_cases.ensures.step;
+      (rw (← c.self.view_is) (c.if-self.false, bare_case_at c.args.seq c.self.inside.journal.standing.cases ∙ ap (option_map bare_case) (sym c.in-Some.ensures)))
+      c.if-entry.false c.drop_cases.ensures.step;
   bytes = search rules;
   changes = c.drop_cases.ensures.changes;
 }

@@ -84,14 +84,14 @@ returns-in_default-clause-changes g c =
       size = search rules;
       cause = search rules;
       crash = λ honest.
-            let on = rw (← c.self.view_is) at c.requires.runs in
-            let real = rw (← c.self.view_is) at honest in
-            let running = c.self.invariant.runs on in
-            rw (← c.self.view_is)
-            (record_ok g.D.Disk c.self.inside.disk c.append_drop.new.disk c.self.inside.journal c.append_drop.new.self (Drop c.args.seqs.now) running.keeps running.journal real
-            (whole_dropped g.D.Disk c.self.inside.disk c.self.inside.journal c.args.seqs.now (λ b may. running.keeps.whole running.journal real b may))
-            (c.append_drop.ensures.any_moment real running.journal) (c.append_drop.ensures.outside real)
-            (λ z. z ≡ without (durable_in (g.D.Disk.seen c.self.inside.disk) c.self.inside.journal.standing) c.args.seqs.now) tt (c.append_drop.ensures.others real) c.in_default.ensures.step.2);
+          let on = rw (← c.self.view_is) at c.requires.runs in
+          let real = rw (← c.self.view_is) at honest in
+          let running = c.self.invariant.runs on in
+          rw (← c.self.view_is)
+          (record_ok g.D.Disk c.self.inside.disk c.append_drop.new.disk c.self.inside.journal c.append_drop.new.self (Drop c.args.seqs.now) running.keeps running.journal real
+          (whole_dropped g.D.Disk c.self.inside.disk c.self.inside.journal c.args.seqs.now (λ b may. running.keeps.whole running.journal real b may))
+          (c.append_drop.ensures.any_moment real running.journal) (c.append_drop.ensures.outside real)
+          (λ z. z ≡ without (durable_in (g.D.Disk.seen c.self.inside.disk) c.self.inside.journal.standing) c.args.seqs.now) tt (c.append_drop.ensures.others real) c.in_default.ensures.step.2);
       stands = sound_stands g.D.Disk c.append_drop.new.disk c.append_drop.new.self c.self.inside.settings.limit c.release_listed.new.free c.self.inside.slots c.self.inside.stopped (invariant_of-self g c);
     }
 
@@ -103,13 +103,13 @@ returns-clause-changes g c =
       size = search rules;
       cause = search rules;
       crash = λ honest.
-            let on = rw (← c.self.view_is) at c.requires.runs in
-            let real = rw (← c.self.view_is) at honest in
-            let running = c.self.invariant.runs on in
-            rw (← c.self.view_is)
-            (record_err g.D.Disk c.self.inside.disk c.append_drop.new.disk c.self.inside.journal c.append_drop.new.self (Drop c.args.seqs.now) running.keeps running.journal real
-            (whole_dropped g.D.Disk c.self.inside.disk c.self.inside.journal c.args.seqs.now (λ b may. running.keeps.whole running.journal real b may))
-            (c.append_drop.ensures.any_moment real running.journal) (c.append_drop.ensures.outside real)
-            (λ z. z ≡ without (durable_in (g.D.Disk.seen c.self.inside.disk) c.self.inside.journal.standing) c.args.seqs.now) c.in-Err.fault _ _ c.from-fault.ensures c.in-Err.ensures.untouched (durable_dropped c.self.inside.journal.standing c.args.seqs.now (g.D.Disk.seen c.self.inside.disk)) (g.met.D.Disk.only_now c.self.inside.disk));
+          let on = rw (← c.self.view_is) at c.requires.runs in
+          let real = rw (← c.self.view_is) at honest in
+          let running = c.self.invariant.runs on in
+          rw (← c.self.view_is)
+          (record_err g.D.Disk c.self.inside.disk c.append_drop.new.disk c.self.inside.journal c.append_drop.new.self (Drop c.args.seqs.now) running.keeps running.journal real
+          (whole_dropped g.D.Disk c.self.inside.disk c.self.inside.journal c.args.seqs.now (λ b may. running.keeps.whole running.journal real b may))
+          (c.append_drop.ensures.any_moment real running.journal) (c.append_drop.ensures.outside real)
+          (λ z. z ≡ without (durable_in (g.D.Disk.seen c.self.inside.disk) c.self.inside.journal.standing) c.args.seqs.now) c.in-Err.fault _ _ c.from-fault.ensures c.in-Err.ensures.untouched (durable_dropped c.self.inside.journal.standing c.args.seqs.now (g.D.Disk.seen c.self.inside.disk)) (g.met.D.Disk.only_now c.self.inside.disk));
       stands = sound_stands g.D.Disk c.append_drop.new.disk c.append_drop.new.self c.self.inside.settings.limit c.hold_listed.new.free c.end_streams-self-inside.new.slots c.end_streams-self-inside.result (invariant_of-self-2 g c);
     }

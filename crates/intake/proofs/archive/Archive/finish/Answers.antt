@@ -77,134 +77,134 @@ pub returns-in_default : goal.returns-in_default
 returns-in_default g c = record {
   step = grind (arith, common_steps);
   bytes = λ honest.
-        rw (← c.self.view_is)
-        (ap (λ (x : List (Option StreamParts)). contents_of g.D.Disk.seen (record {
-          disk = c.self.inside.disk;
-          journal = c.self.inside.journal;
-          limit = c.self.inside.settings.limit;
-          streams = x;
-          stopped = c.self.inside.stopped;
-        }))
-        (c.in_default.ensures.slots ∙ none_set c.self.inside.slots c.args.slot (sym c.in_default.ensures.stream)));
+      rw (← c.self.view_is)
+      (ap (λ (x : List (Option StreamParts)). contents_of g.D.Disk.seen (record {
+        disk = c.self.inside.disk;
+        journal = c.self.inside.journal;
+        limit = c.self.inside.settings.limit;
+        streams = x;
+        stopped = c.self.inside.stopped;
+      }))
+      (c.in_default.ensures.slots ∙ none_set c.self.inside.slots c.args.slot (sym c.in_default.ensures.stream)));
   changes = record { honesty = search rules; later = search rules; size = search rules; cause = search rules; crash = search rules; stands = search rules };
 }
 
 pub returns-in-Err : goal.returns-in-Err
 returns-in-Err g c = record {
   step = subst (λ (a : Parts g.row.D.Denot). FinishStep (bare_of a) c.args.slot (Err c.in-Err.fault)
-        (bare_of (record { disk = c.seal-sealed.new.disk; journal = c.self.inside.journal; limit = c.self.inside.settings.limit; streams = c.end_streams-self-inside.new.slots; stopped = c.end_streams-self-inside.result })))
-        c.self.view_is
-        (seal_err g.D.Disk c.self.inside.disk c.seal-sealed.new.disk c.self.inside.journal c.self.inside.settings.limit c.self.inside.free c.self.inside.slots c.args.slot (parts_of c.in-Some.block c.in-Some.stream) c.self.inside.stopped
-        (c.self.invariant.runs c.if-self.false) c.if-self.false (sym c.in-Some.ensures.stream)
-        c.end_streams-self-inside.result c.take.new.self c.end_streams-self-inside.new.slots (parts_of c.seal-sealed.new.block c.seal-sealed.new.stream) c.in-Err.fault
-        c.in-Some.ensures.slots c.end_streams-self-inside.ensures c.in-Err.ensures.step);
+      (bare_of (record { disk = c.seal-sealed.new.disk; journal = c.self.inside.journal; limit = c.self.inside.settings.limit; streams = c.end_streams-self-inside.new.slots; stopped = c.end_streams-self-inside.result })))
+      c.self.view_is
+      (seal_err g.D.Disk c.self.inside.disk c.seal-sealed.new.disk c.self.inside.journal c.self.inside.settings.limit c.self.inside.free c.self.inside.slots c.args.slot (parts_of c.in-Some.block c.in-Some.stream) c.self.inside.stopped
+      (c.self.invariant.runs c.if-self.false) c.if-self.false (sym c.in-Some.ensures.stream)
+      c.end_streams-self-inside.result c.take.new.self c.end_streams-self-inside.new.slots (parts_of c.seal-sealed.new.block c.seal-sealed.new.stream) c.in-Err.fault
+      c.in-Some.ensures.slots c.end_streams-self-inside.ensures c.in-Err.ensures.step);
   bytes = λ honest.
-        let real = rw (← c.self.view_is) at honest in
-        let running = c.self.invariant.runs c.if-self.false in
-        rw (← c.self.view_is)
-        (refused_bytes g.D.Disk c.self.inside.disk c.seal-sealed.new.disk c.self.inside.journal c.self.inside.settings.limit c.self.inside.free c.self.inside.slots c.args.slot c.self.inside.stopped c.end_streams-self-inside.result
-        running
-        (subst (λ (x : Shape). ChangesFree x c.self.inside.free (g.D.Disk.seen c.self.inside.disk) (g.D.Disk.seen c.seal-sealed.new.disk)) c.shape-shape.ensures (c.in-Err.ensures.others real))
-        c.in-Err.fault c.take.new.self c.end_streams-self-inside.new.slots c.in-Some.ensures.slots c.end_streams-self-inside.ensures
-        (seal_not_stopped g.D.Disk c.self.inside.disk c.seal-sealed.new.disk c.self.inside.journal c.self.inside.settings.limit c.self.inside.free c.self.inside.slots c.args.slot (parts_of c.in-Some.block c.in-Some.stream) c.self.inside.stopped
-        (c.self.invariant.runs c.if-self.false) c.if-self.false (sym c.in-Some.ensures.stream) (parts_of c.seal-sealed.new.block c.seal-sealed.new.stream) c.in-Err.fault c.in-Err.ensures.step)
-        (seal_not_missing g.D.Disk c.self.inside.disk c.seal-sealed.new.disk c.self.inside.journal c.self.inside.settings.limit c.self.inside.free c.self.inside.slots c.args.slot (parts_of c.in-Some.block c.in-Some.stream) c.self.inside.stopped
-        (c.self.invariant.runs c.if-self.false) c.if-self.false (sym c.in-Some.ensures.stream) (parts_of c.seal-sealed.new.block c.seal-sealed.new.stream) c.in-Err.fault c.in-Err.ensures.step));
+      let real = rw (← c.self.view_is) at honest in
+      let running = c.self.invariant.runs c.if-self.false in
+      rw (← c.self.view_is)
+      (refused_bytes g.D.Disk c.self.inside.disk c.seal-sealed.new.disk c.self.inside.journal c.self.inside.settings.limit c.self.inside.free c.self.inside.slots c.args.slot c.self.inside.stopped c.end_streams-self-inside.result
+      running
+      (subst (λ (x : Shape). ChangesFree x c.self.inside.free (g.D.Disk.seen c.self.inside.disk) (g.D.Disk.seen c.seal-sealed.new.disk)) c.shape-shape.ensures (c.in-Err.ensures.others real))
+      c.in-Err.fault c.take.new.self c.end_streams-self-inside.new.slots c.in-Some.ensures.slots c.end_streams-self-inside.ensures
+      (seal_not_stopped g.D.Disk c.self.inside.disk c.seal-sealed.new.disk c.self.inside.journal c.self.inside.settings.limit c.self.inside.free c.self.inside.slots c.args.slot (parts_of c.in-Some.block c.in-Some.stream) c.self.inside.stopped
+      (c.self.invariant.runs c.if-self.false) c.if-self.false (sym c.in-Some.ensures.stream) (parts_of c.seal-sealed.new.block c.seal-sealed.new.stream) c.in-Err.fault c.in-Err.ensures.step)
+      (seal_not_missing g.D.Disk c.self.inside.disk c.seal-sealed.new.disk c.self.inside.journal c.self.inside.settings.limit c.self.inside.free c.self.inside.slots c.args.slot (parts_of c.in-Some.block c.in-Some.stream) c.self.inside.stopped
+      (c.self.invariant.runs c.if-self.false) c.if-self.false (sym c.in-Some.ensures.stream) (parts_of c.seal-sealed.new.block c.seal-sealed.new.stream) c.in-Err.fault c.in-Err.ensures.step));
   changes = record {
-      honesty = search rules;
-      later = search rules;
-      size = search rules;
-      cause = search rules;
-      crash = λ honest.
-            let real = rw (← c.self.view_is) at honest in
-            rw (← c.self.view_is)
-            (rests_leaves g.D.Disk c.self.inside.disk c.seal-sealed.new.disk c.self.inside.journal c.self.inside.settings.limit c.self.inside.free c.self.inside.slots (c.self.invariant.runs c.if-self.false) ℕ (Err c.in-Err.fault) _ _
-            (grow_rests g.D.Disk c.self.inside.disk c.seal-sealed.new.disk c.self.inside.journal c.self.inside.settings.limit c.self.inside.free c.self.inside.slots (c.self.invariant.runs c.if-self.false) (c.in-Err.ensures.rests c.self.inside.journal (sym c.shape-shape.ensures))) real);
-      stands = sound_stands g.D.Disk c.seal-sealed.new.disk c.self.inside.journal c.self.inside.settings.limit c.release.new.free c.end_streams-self-inside.new.slots c.end_streams-self-inside.result (invariant_of-self-in-Err g c);
-    };
+    honesty = search rules;
+    later = search rules;
+    size = search rules;
+    cause = search rules;
+    crash = λ honest.
+        let real = rw (← c.self.view_is) at honest in
+        rw (← c.self.view_is)
+        (rests_leaves g.D.Disk c.self.inside.disk c.seal-sealed.new.disk c.self.inside.journal c.self.inside.settings.limit c.self.inside.free c.self.inside.slots (c.self.invariant.runs c.if-self.false) ℕ (Err c.in-Err.fault) _ _
+        (grow_rests g.D.Disk c.self.inside.disk c.seal-sealed.new.disk c.self.inside.journal c.self.inside.settings.limit c.self.inside.free c.self.inside.slots (c.self.invariant.runs c.if-self.false) (c.in-Err.ensures.rests c.self.inside.journal (sym c.shape-shape.ensures))) real);
+    stands = sound_stands g.D.Disk c.seal-sealed.new.disk c.self.inside.journal c.self.inside.settings.limit c.release.new.free c.end_streams-self-inside.new.slots c.end_streams-self-inside.result (invariant_of-self-in-Err g c);
+  };
 }
 
 pub returns : goal.returns
 returns g c = record {
   step = subst (λ (a : Parts g.row.D.Denot). FinishStep (bare_of a) c.args.slot (Err c.in-Err-append_case.fault)
-        (bare_of (record { disk = c.append_case.new.disk; journal = c.append_case.new.journal; limit = c.self.inside.settings.limit; streams = c.end_streams-self-inside-in-Err-append_case.new.slots; stopped = c.end_streams-self-inside-in-Err-append_case.result })))
-        c.self.view_is
-        (refused_step g.D.Disk c.self.inside.disk c.append_case.new.disk c.self.inside.journal c.self.inside.settings.limit c.self.inside.free c.self.inside.slots c.args.slot (parts_of c.in-Some.block c.in-Some.stream) c.self.inside.stopped
-        (c.self.invariant.runs c.if-self.false) c.if-self.false (sym c.in-Some.ensures.stream)
-        c.append_case.new.journal c.end_streams-self-inside-in-Err-append_case.result c.take.new.self c.end_streams-self-inside-in-Err-append_case.new.slots (parts_of c.seal-sealed.new.block c.seal-sealed.new.stream) c.in_default-sealed.field-0 c.in-Err-append_case.fault _
-        c.in-Some.ensures.slots c.end_streams-self-inside-in-Err-append_case.ensures c.in_default-sealed.ensures.step c.into_entry-entry.ensures c.in-Err-append_case.ensures.step);
+      (bare_of (record { disk = c.append_case.new.disk; journal = c.append_case.new.journal; limit = c.self.inside.settings.limit; streams = c.end_streams-self-inside-in-Err-append_case.new.slots; stopped = c.end_streams-self-inside-in-Err-append_case.result })))
+      c.self.view_is
+      (refused_step g.D.Disk c.self.inside.disk c.append_case.new.disk c.self.inside.journal c.self.inside.settings.limit c.self.inside.free c.self.inside.slots c.args.slot (parts_of c.in-Some.block c.in-Some.stream) c.self.inside.stopped
+      (c.self.invariant.runs c.if-self.false) c.if-self.false (sym c.in-Some.ensures.stream)
+      c.append_case.new.journal c.end_streams-self-inside-in-Err-append_case.result c.take.new.self c.end_streams-self-inside-in-Err-append_case.new.slots (parts_of c.seal-sealed.new.block c.seal-sealed.new.stream) c.in_default-sealed.field-0 c.in-Err-append_case.fault _
+      c.in-Some.ensures.slots c.end_streams-self-inside-in-Err-append_case.ensures c.in_default-sealed.ensures.step c.into_entry-entry.ensures c.in-Err-append_case.ensures.step);
   bytes = λ honest.
+      let real = rw (← c.self.view_is) at honest in
+      let still = c.in_default-sealed.ensures.honesty ∙ real in
+      rw (← c.self.view_is)
+      (unstored_bytes g.D.Disk c.self.inside.disk c.seal-sealed.new.disk c.append_case.new.disk c.self.inside.journal c.append_case.new.journal c.self.inside.settings.limit c.self.inside.free c.self.inside.slots c.args.slot c.self.inside.stopped c.end_streams-self-inside-in-Err-append_case.result
+      (c.self.invariant.runs c.if-self.false) (subst (λ (x : Shape). ChangesFree x c.self.inside.free (g.D.Disk.seen c.self.inside.disk) (g.D.Disk.seen c.seal-sealed.new.disk)) c.shape-shape.ensures (c.in_default-sealed.ensures.others real)) (c.in-Err-append_case.ensures.outside still)
+      c.in-Err-append_case.fault (case_of c.into_entry-entry.result) c.take.new.self c.end_streams-self-inside-in-Err-append_case.new.slots c.in-Some.ensures.slots c.end_streams-self-inside-in-Err-append_case.ensures c.in-Err-append_case.ensures.step);
+  changes = record {
+    honesty = search rules;
+    later = search rules;
+    size = search rules;
+    cause = search rules;
+    crash = λ honest.
         let real = rw (← c.self.view_is) at honest in
         let still = c.in_default-sealed.ensures.honesty ∙ real in
+        let j = c.self.inside.journal in
+        let running = c.self.invariant.runs c.if-self.false in
+        let s = parts_of c.in-Some.block c.in-Some.stream in
+        let rests = grow_rests g.D.Disk c.self.inside.disk c.seal-sealed.new.disk c.self.inside.journal c.self.inside.settings.limit c.self.inside.free c.self.inside.slots (c.self.invariant.runs c.if-self.false) (c.in_default-sealed.ensures.rests j (sym c.shape-shape.ensures)) in
+        let y : Durable = durable_in (g.D.Disk.seen c.seal-sealed.new.disk) (appended j.standing (store_of j.standing (case_of c.into_entry-entry.result))) in
         rw (← c.self.view_is)
-        (unstored_bytes g.D.Disk c.self.inside.disk c.seal-sealed.new.disk c.append_case.new.disk c.self.inside.journal c.append_case.new.journal c.self.inside.settings.limit c.self.inside.free c.self.inside.slots c.args.slot c.self.inside.stopped c.end_streams-self-inside-in-Err-append_case.result
-        (c.self.invariant.runs c.if-self.false) (subst (λ (x : Shape). ChangesFree x c.self.inside.free (g.D.Disk.seen c.self.inside.disk) (g.D.Disk.seen c.seal-sealed.new.disk)) c.shape-shape.ensures (c.in_default-sealed.ensures.others real)) (c.in-Err-append_case.ensures.outside still)
-        c.in-Err-append_case.fault (case_of c.into_entry-entry.result) c.take.new.self c.end_streams-self-inside-in-Err-append_case.new.slots c.in-Some.ensures.slots c.end_streams-self-inside-in-Err-append_case.ensures c.in-Err-append_case.ensures.step);
-  changes = record {
-      honesty = search rules;
-      later = search rules;
-      size = search rules;
-      cause = search rules;
-      crash = λ honest.
-            let real = rw (← c.self.view_is) at honest in
-            let still = c.in_default-sealed.ensures.honesty ∙ real in
-            let j = c.self.inside.journal in
-            let running = c.self.invariant.runs c.if-self.false in
-            let s = parts_of c.in-Some.block c.in-Some.stream in
-            let rests = grow_rests g.D.Disk c.self.inside.disk c.seal-sealed.new.disk c.self.inside.journal c.self.inside.settings.limit c.self.inside.free c.self.inside.slots (c.self.invariant.runs c.if-self.false) (c.in_default-sealed.ensures.rests j (sym c.shape-shape.ensures)) in
-            let y : Durable = durable_in (g.D.Disk.seen c.seal-sealed.new.disk) (appended j.standing (store_of j.standing (case_of c.into_entry-entry.result))) in
-            rw (← c.self.view_is)
-            (unstored_adds g.D.Disk c.self.inside.disk c.seal-sealed.new.disk c.append_case.new.disk j running.journal rests real y _ _ c.in-Err-append_case.fault
-            (stored_doubt g.D.Disk c.self.inside.disk j c.self.inside.settings.limit c.self.inside.slots c.self.inside.stopped c.args.slot s y (sym c.in-Some.ensures.stream)
-            (stored_is g.D.Disk c.self.inside.disk c.seal-sealed.new.disk j s c.seal-sealed.new.stream.runs (case_of c.into_entry-entry.result)
-            (c.into_entry-entry.ensures ∙ closed_case g.D.Disk c.self.inside.disk c.append_case.new.disk j c.self.inside.settings.limit c.self.inside.free c.self.inside.slots c.args.slot s c.self.inside.stopped running c.if-self.false (sym c.in-Some.ensures.stream) (parts_of c.seal-sealed.new.block c.seal-sealed.new.stream) c.in_default-sealed.field-0 c.in_default-sealed.ensures.step)
-            (subst (λ (x : Shape). ClosesBytes x s c.seal-sealed.new.stream.runs (g.D.Disk.seen c.self.inside.disk) (g.D.Disk.seen c.seal-sealed.new.disk)) c.shape-shape.ensures (c.in_default-sealed.ensures.bytes real))
-            (rests.same running.journal real)))
-            (c.in-Err-append_case.ensures.any_moment still));
-      stands = sound_stands g.D.Disk c.append_case.new.disk c.append_case.new.journal c.self.inside.settings.limit c.append_case.new.free c.end_streams-self-inside-in-Err-append_case.new.slots c.end_streams-self-inside-in-Err-append_case.result (sound_not_stored g.D.Disk c.self.inside.disk c.append_case.new.disk c.self.inside.journal c.self.inside.settings.limit c.self.inside.free c.self.inside.slots c.args.slot (parts_of c.in-Some.block c.in-Some.stream) c.self.inside.stopped
-    (c.self.invariant.runs c.if-self.false) c.if-self.false (sym c.in-Some.ensures.stream)
-    c.append_case.new.journal c.end_streams-self-inside-in-Err-append_case.result c.append_case.new.free c.take.new.self c.end_streams-self-inside-in-Err-append_case.new.slots c.in-Err-append_case.fault (case_of c.into_entry-entry.result) c.self.invariant
-    c.in-Some.ensures.slots c.end_streams-self-inside-in-Err-append_case.ensures c.in-Err-append_case.ensures.step c.in-Err-append_case.ensures.guards
-    (balance_then c.self.inside.free c.seal-sealed.new.free c.append_case.new.free c.in-Some.stream.runs c.seal-sealed.new.stream.runs _ c.in_default-sealed.ensures.balance
-    (subst (λ (x : List ℕ). Balances c.seal-sealed.new.free x c.append_case.new.free []) (ap (λ (x : Case). x.blocks) c.into_entry-entry.ensures) c.in-Err-append_case.ensures.free)));
-    };
+        (unstored_adds g.D.Disk c.self.inside.disk c.seal-sealed.new.disk c.append_case.new.disk j running.journal rests real y _ _ c.in-Err-append_case.fault
+        (stored_doubt g.D.Disk c.self.inside.disk j c.self.inside.settings.limit c.self.inside.slots c.self.inside.stopped c.args.slot s y (sym c.in-Some.ensures.stream)
+        (stored_is g.D.Disk c.self.inside.disk c.seal-sealed.new.disk j s c.seal-sealed.new.stream.runs (case_of c.into_entry-entry.result)
+        (c.into_entry-entry.ensures ∙ closed_case g.D.Disk c.self.inside.disk c.append_case.new.disk j c.self.inside.settings.limit c.self.inside.free c.self.inside.slots c.args.slot s c.self.inside.stopped running c.if-self.false (sym c.in-Some.ensures.stream) (parts_of c.seal-sealed.new.block c.seal-sealed.new.stream) c.in_default-sealed.field-0 c.in_default-sealed.ensures.step)
+        (subst (λ (x : Shape). ClosesBytes x s c.seal-sealed.new.stream.runs (g.D.Disk.seen c.self.inside.disk) (g.D.Disk.seen c.seal-sealed.new.disk)) c.shape-shape.ensures (c.in_default-sealed.ensures.bytes real))
+        (rests.same running.journal real)))
+        (c.in-Err-append_case.ensures.any_moment still));
+    stands = sound_stands g.D.Disk c.append_case.new.disk c.append_case.new.journal c.self.inside.settings.limit c.append_case.new.free c.end_streams-self-inside-in-Err-append_case.new.slots c.end_streams-self-inside-in-Err-append_case.result (sound_not_stored g.D.Disk c.self.inside.disk c.append_case.new.disk c.self.inside.journal c.self.inside.settings.limit c.self.inside.free c.self.inside.slots c.args.slot (parts_of c.in-Some.block c.in-Some.stream) c.self.inside.stopped
+        (c.self.invariant.runs c.if-self.false) c.if-self.false (sym c.in-Some.ensures.stream)
+        c.append_case.new.journal c.end_streams-self-inside-in-Err-append_case.result c.append_case.new.free c.take.new.self c.end_streams-self-inside-in-Err-append_case.new.slots c.in-Err-append_case.fault (case_of c.into_entry-entry.result) c.self.invariant
+        c.in-Some.ensures.slots c.end_streams-self-inside-in-Err-append_case.ensures c.in-Err-append_case.ensures.step c.in-Err-append_case.ensures.guards
+        (balance_then c.self.inside.free c.seal-sealed.new.free c.append_case.new.free c.in-Some.stream.runs c.seal-sealed.new.stream.runs _ c.in_default-sealed.ensures.balance
+        (subst (λ (x : List ℕ). Balances c.seal-sealed.new.free x c.append_case.new.free []) (ap (λ (x : Case). x.blocks) c.into_entry-entry.ensures) c.in-Err-append_case.ensures.free)));
+  };
 }
 
 pub returns-in-Ok : goal.returns-in-Ok
 returns-in-Ok g c = record {
   step = rw (← c.self.view_is)
-        (stored_step g.D.Disk c.self.inside.disk c.append_case.new.disk c.self.inside.journal c.self.inside.settings.limit c.self.inside.free c.self.inside.slots c.args.slot (parts_of c.in-Some.block c.in-Some.stream) c.self.inside.stopped
-        (c.self.invariant.runs c.if-self.false) c.if-self.false (sym c.in-Some.ensures.stream)
-        c.append_case.new.journal c.take.new.self (parts_of c.seal-sealed.new.block c.seal-sealed.new.stream) c.in_default-sealed.field-0 c.in-Ok.seq (case_of c.into_entry-entry.result)
-        c.in-Some.ensures.slots c.in_default-sealed.ensures.step c.into_entry-entry.ensures c.in-Ok.ensures.step);
+      (stored_step g.D.Disk c.self.inside.disk c.append_case.new.disk c.self.inside.journal c.self.inside.settings.limit c.self.inside.free c.self.inside.slots c.args.slot (parts_of c.in-Some.block c.in-Some.stream) c.self.inside.stopped
+      (c.self.invariant.runs c.if-self.false) c.if-self.false (sym c.in-Some.ensures.stream)
+      c.append_case.new.journal c.take.new.self (parts_of c.seal-sealed.new.block c.seal-sealed.new.stream) c.in_default-sealed.field-0 c.in-Ok.seq (case_of c.into_entry-entry.result)
+      c.in-Some.ensures.slots c.in_default-sealed.ensures.step c.into_entry-entry.ensures c.in-Ok.ensures.step);
   bytes = λ honest.
+      let real = rw (← c.self.view_is) at honest in
+      let still = c.in_default-sealed.ensures.honesty ∙ real in
+      let is_case = c.into_entry-entry.ensures in
+      rw (← c.self.view_is)
+      (stored_bytes g.D.Disk c.self.inside.disk c.seal-sealed.new.disk c.append_case.new.disk c.self.inside.journal c.append_case.new.journal c.self.inside.settings.limit c.self.inside.free c.self.inside.slots c.args.slot c.self.inside.stopped c.self.inside.stopped
+      (c.self.invariant.runs c.if-self.false) (subst (λ (x : Shape). ChangesFree x c.self.inside.free (g.D.Disk.seen c.self.inside.disk) (g.D.Disk.seen c.seal-sealed.new.disk)) c.shape-shape.ensures (c.in_default-sealed.ensures.others real)) (c.in-Ok.ensures.outside still)
+      (parts_of c.in-Some.block c.in-Some.stream) (case_of c.into_entry-entry.result) c.in-Ok.seq c.take.new.self (sym c.in-Some.ensures.stream) c.in-Some.ensures.slots c.in-Ok.ensures.step.4
+      (ap (λ (x : Case). x.len) (is_case ∙ closed_case g.D.Disk c.self.inside.disk c.append_case.new.disk c.self.inside.journal c.self.inside.settings.limit c.self.inside.free c.self.inside.slots c.args.slot (parts_of c.in-Some.block c.in-Some.stream) c.self.inside.stopped (c.self.invariant.runs c.if-self.false) c.if-self.false (sym c.in-Some.ensures.stream) (parts_of c.seal-sealed.new.block c.seal-sealed.new.stream) c.in_default-sealed.field-0 c.in_default-sealed.ensures.step))
+      (subst (λ (x : Shape). ClosesBytes x (parts_of c.in-Some.block c.in-Some.stream) (case_of c.into_entry-entry.result).blocks (g.D.Disk.seen c.self.inside.disk) (g.D.Disk.seen c.seal-sealed.new.disk)) c.shape-shape.ensures
+      (subst (λ (x : List ℕ). ClosesBytes c.shape-shape.result (parts_of c.in-Some.block c.in-Some.stream) x (g.D.Disk.seen c.self.inside.disk) (g.D.Disk.seen c.seal-sealed.new.disk)) (sym (ap (λ (x : Case). x.blocks) is_case)) (c.in_default-sealed.ensures.bytes real))));
+  changes = record {
+    honesty = search rules;
+    later = search rules;
+    size = search rules;
+    cause = search rules;
+    crash = λ honest.
         let real = rw (← c.self.view_is) at honest in
         let still = c.in_default-sealed.ensures.honesty ∙ real in
-        let is_case = c.into_entry-entry.ensures in
+        let j = c.self.inside.journal in
+        let r = store_of j.standing (case_of c.into_entry-entry.result) in
         rw (← c.self.view_is)
-        (stored_bytes g.D.Disk c.self.inside.disk c.seal-sealed.new.disk c.append_case.new.disk c.self.inside.journal c.append_case.new.journal c.self.inside.settings.limit c.self.inside.free c.self.inside.slots c.args.slot c.self.inside.stopped c.self.inside.stopped
-        (c.self.invariant.runs c.if-self.false) (subst (λ (x : Shape). ChangesFree x c.self.inside.free (g.D.Disk.seen c.self.inside.disk) (g.D.Disk.seen c.seal-sealed.new.disk)) c.shape-shape.ensures (c.in_default-sealed.ensures.others real)) (c.in-Ok.ensures.outside still)
-        (parts_of c.in-Some.block c.in-Some.stream) (case_of c.into_entry-entry.result) c.in-Ok.seq c.take.new.self (sym c.in-Some.ensures.stream) c.in-Some.ensures.slots c.in-Ok.ensures.step.4
-        (ap (λ (x : Case). x.len) (is_case ∙ closed_case g.D.Disk c.self.inside.disk c.append_case.new.disk c.self.inside.journal c.self.inside.settings.limit c.self.inside.free c.self.inside.slots c.args.slot (parts_of c.in-Some.block c.in-Some.stream) c.self.inside.stopped (c.self.invariant.runs c.if-self.false) c.if-self.false (sym c.in-Some.ensures.stream) (parts_of c.seal-sealed.new.block c.seal-sealed.new.stream) c.in_default-sealed.field-0 c.in_default-sealed.ensures.step))
-        (subst (λ (x : Shape). ClosesBytes x (parts_of c.in-Some.block c.in-Some.stream) (case_of c.into_entry-entry.result).blocks (g.D.Disk.seen c.self.inside.disk) (g.D.Disk.seen c.seal-sealed.new.disk)) c.shape-shape.ensures
-        (subst (λ (x : List ℕ). ClosesBytes c.shape-shape.result (parts_of c.in-Some.block c.in-Some.stream) x (g.D.Disk.seen c.self.inside.disk) (g.D.Disk.seen c.seal-sealed.new.disk)) (sym (ap (λ (x : Case). x.blocks) is_case)) (c.in_default-sealed.ensures.bytes real))));
-  changes = record {
-      honesty = search rules;
-      later = search rules;
-      size = search rules;
-      cause = search rules;
-      crash = λ honest.
-            let real = rw (← c.self.view_is) at honest in
-            let still = c.in_default-sealed.ensures.honesty ∙ real in
-            let j = c.self.inside.journal in
-            let r = store_of j.standing (case_of c.into_entry-entry.result) in
-            rw (← c.self.view_is)
-            (stored_adds g.D.Disk c.self.inside.disk c.seal-sealed.new.disk c.append_case.new.disk j (c.self.invariant.runs c.if-self.false).journal
-            (grow_rests g.D.Disk c.self.inside.disk c.seal-sealed.new.disk c.self.inside.journal c.self.inside.settings.limit c.self.inside.free c.self.inside.slots (c.self.invariant.runs c.if-self.false) (c.in_default-sealed.ensures.rests j (sym c.shape-shape.ensures))) real
-            (durable_in (g.D.Disk.seen c.seal-sealed.new.disk) (appended j.standing r)) _ (λ z. Unit {0}) c.in-Ok.seq
-            (ap (λ (k : Journaled). durable_in (g.D.Disk.seen c.append_case.new.disk) k.standing) c.in-Ok.ensures.step.4
-            ∙ new_behind g.D.Disk c.seal-sealed.new.disk c.append_case.new.disk j r (g.D.Disk.seen c.seal-sealed.new.disk) (g.D.Disk.seen c.append_case.new.disk) (c.in-Ok.ensures.outside still))
-            (c.in-Ok.ensures.any_moment still));
-      stands = sound_stands g.D.Disk c.append_case.new.disk c.append_case.new.journal c.self.inside.settings.limit c.append_case.new.free c.take.new.self c.self.inside.stopped (invariant_of-self-in-Ok g c);
-    };
+        (stored_adds g.D.Disk c.self.inside.disk c.seal-sealed.new.disk c.append_case.new.disk j (c.self.invariant.runs c.if-self.false).journal
+        (grow_rests g.D.Disk c.self.inside.disk c.seal-sealed.new.disk c.self.inside.journal c.self.inside.settings.limit c.self.inside.free c.self.inside.slots (c.self.invariant.runs c.if-self.false) (c.in_default-sealed.ensures.rests j (sym c.shape-shape.ensures))) real
+        (durable_in (g.D.Disk.seen c.seal-sealed.new.disk) (appended j.standing r)) _ (λ z. Unit {0}) c.in-Ok.seq
+        (ap (λ (k : Journaled). durable_in (g.D.Disk.seen c.append_case.new.disk) k.standing) c.in-Ok.ensures.step.4
+        ∙ new_behind g.D.Disk c.seal-sealed.new.disk c.append_case.new.disk j r (g.D.Disk.seen c.seal-sealed.new.disk) (g.D.Disk.seen c.append_case.new.disk) (c.in-Ok.ensures.outside still))
+        (c.in-Ok.ensures.any_moment still));
+    stands = sound_stands g.D.Disk c.append_case.new.disk c.append_case.new.journal c.self.inside.settings.limit c.append_case.new.free c.take.new.self c.self.inside.stopped (invariant_of-self-in-Ok g c);
+  };
 }

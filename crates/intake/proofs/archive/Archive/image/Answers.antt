@@ -9,9 +9,8 @@ use Rattle.intake.specs.Reading.{LiesIn}
 use Rattle.intake.specs.Sound.{case_blocks}
 use Rattle.intake.specs.Step.{ImageStep}
 use Rattle.intake.proofs.AfterLemmas.{bare_case_at}
-use Rattle.intake.proofs.ImageLemmas.{case_lies, read_moments, sound_read, sound_unread, has_case, image_refused, bytes_same, bytes_refused, bytes_of_case}
+use Rattle.intake.proofs.ImageLemmas.{case_lies, read_moments, sound_read, sound_unread, has_case, image_refused, bytes_same, bytes_refused, bytes_of_case, long_as}
 use Rattle.intake.proofs.archive.Archive.image.Goals as goal
-
 
 pub read_image-requires-clause-lies : goal.read_image-requires-clause-lies
 read_image-requires-clause-lies g c =
@@ -35,6 +34,7 @@ returns-in_default g c = record {
   step = rw (← c.self.view_is) (c.if-self.false, bare_case_at c.args.seq c.self.inside.journal.standing.cases ∙ ap (option_map bare_case) (sym c.in_default.ensures), refl);
   bytes = search rules;
   cause = search rules;
+  long = search rules;
   quiet = search rules;
   stays = record { honesty = search rules; later = search rules; size = search rules; crash = search rules; durable = search rules };
 }
@@ -42,48 +42,64 @@ returns-in_default g c = record {
 pub returns-in-Ok : goal.returns-in-Ok
 returns-in-Ok g c = record {
   step = rw (← c.self.view_is) (
-          bare_case (case_of c.in-Some.stored.now),
-          has_case g.D.Disk.seen c.self.inside.disk c.read_image.new.disk c.self.inside.journal c.self.inside.settings.limit c.self.inside.slots c.self.inside.slots c.self.inside.stopped c.self.inside.stopped
-              c.args.seq (case_of c.in-Some.stored.now) c.if-self.false c.in-Some.ensures,
-          refl,
-        );
+    bare_case (case_of c.in-Some.stored.now),
+    has_case g.D.Disk.seen c.self.inside.disk c.read_image.new.disk c.self.inside.journal c.self.inside.settings.limit c.self.inside.slots c.self.inside.slots c.self.inside.stopped c.self.inside.stopped
+        c.args.seq (case_of c.in-Some.stored.now) c.if-self.false c.in-Some.ensures,
+    refl,
+  );
   bytes = λ honest.
-        let real = rw (← c.self.view_is) at honest in
-        let read : c.in-Ok.image.items ≡ image_in c.self.inside.journal.standing.shape (g.D.Disk.seen c.self.inside.disk) c.in-Some.stored.now.runs c.in-Some.stored.now.length =
-        subst (λ (s : Shape). c.in-Ok.image.items ≡ image_in s (g.D.Disk.seen c.self.inside.disk) c.in-Some.stored.now.runs c.in-Some.stored.now.length) c.shape-shape.ensures (c.in-Ok.ensures.bytes real) in
-        rw (← c.self.view_is) (
-          bytes_of_case g.D.Disk.seen c.self.inside.disk c.read_image.new.disk c.self.inside.journal c.self.inside.settings.limit c.self.inside.slots c.self.inside.slots c.self.inside.stopped c.self.inside.stopped
-              c.args.seq (case_of c.in-Some.stored.now) c.in-Some.ensures
-              ∙ ap (λ (x : List ℕ). Some x) (sym read),
-          bytes_same g.D.Disk.seen c.self.inside.disk c.read_image.new.disk c.self.inside.journal c.self.inside.settings.limit c.self.inside.slots c.self.inside.slots c.self.inside.stopped c.self.inside.stopped
-              (c.read_image.ensures.quiet.seen real) refl,
-        );
+      let real = rw (← c.self.view_is) at honest in
+      let read : c.in-Ok.image.items ≡ image_in c.self.inside.journal.standing.shape (g.D.Disk.seen c.self.inside.disk) c.in-Some.stored.now.runs c.in-Some.stored.now.length =
+      subst (λ (s : Shape). c.in-Ok.image.items ≡ image_in s (g.D.Disk.seen c.self.inside.disk) c.in-Some.stored.now.runs c.in-Some.stored.now.length) c.shape-shape.ensures (c.in-Ok.ensures.bytes real) in
+      rw (← c.self.view_is) (
+        bytes_of_case g.D.Disk.seen c.self.inside.disk c.read_image.new.disk c.self.inside.journal c.self.inside.settings.limit c.self.inside.slots c.self.inside.slots c.self.inside.stopped c.self.inside.stopped
+            c.args.seq (case_of c.in-Some.stored.now) c.in-Some.ensures
+            ∙ ap (λ (x : List ℕ). Some x) (sym read),
+        bytes_same g.D.Disk.seen c.self.inside.disk c.read_image.new.disk c.self.inside.journal c.self.inside.settings.limit c.self.inside.slots c.self.inside.slots c.self.inside.stopped c.self.inside.stopped
+            (c.read_image.ensures.quiet.seen real) refl,
+      );
   cause = search rules;
+  long = rw (← c.self.view_is) (λ x at. long_as (bare_of (record { disk = c.self.inside.disk; journal = c.self.inside.journal; limit = c.self.inside.settings.limit; streams = c.self.inside.slots; stopped = c.self.inside.stopped })) c.args.seq _ (bare_case (case_of c.in-Some.stored.now)) x
+      (has_case g.D.Disk.seen c.self.inside.disk c.read_image.new.disk c.self.inside.journal c.self.inside.settings.limit c.self.inside.slots c.self.inside.slots c.self.inside.stopped c.self.inside.stopped
+      c.args.seq (case_of c.in-Some.stored.now) c.if-self.false c.in-Some.ensures) c.in-Ok.ensures.long at);
   quiet = search rules;
-  stays = record { honesty = search rules; later = search rules; size = search rules; crash = λ honest.
-          let real = rw (← c.self.view_is) at honest in
-          let running = c.self.invariant.runs c.if-self.false in
-          rw (← c.self.view_is) (read_moments g.D.Disk c.self.inside.disk c.read_image.new.disk c.self.inside.journal running.keeps running.journal real c.read_image.ensures.quiet); durable = search rules };
+  stays = record {
+    honesty = search rules;
+    later = search rules;
+    size = search rules;
+    crash = λ honest.
+        let real = rw (← c.self.view_is) at honest in
+        let running = c.self.invariant.runs c.if-self.false in
+        rw (← c.self.view_is) (read_moments g.D.Disk c.self.inside.disk c.read_image.new.disk c.self.inside.journal running.keeps running.journal real c.read_image.ensures.quiet);
+    durable = search rules;
+  };
 }
 
 pub returns-in-Err : goal.returns-in-Err
 returns-in-Err g c = record {
   step = subst (λ (a : Parts g.row.D.Denot). ImageStep {T = Vec ℕ Global} (bare_of a) c.args.seq (Err c.in-Err.fault)
-        (bare_of (record { disk = c.read_image.new.disk; journal = c.self.inside.journal; limit = c.self.inside.settings.limit; streams = c.end_streams-self-inside.new.slots; stopped = c.end_streams-self-inside.result })))
-        c.self.view_is
-        (image_refused g.D.Disk.seen c.self.inside.disk c.read_image.new.disk c.self.inside.journal c.self.inside.settings.limit c.self.inside.slots c.end_streams-self-inside.new.slots c.self.inside.stopped c.end_streams-self-inside.result
-        (Vec ℕ Global) c.args.seq (case_of c.in-Some.stored.now) c.in-Err.fault c.if-self.false c.in-Some.ensures c.in-Err.ensures.reply c.end_streams-self-inside.ensures);
+      (bare_of (record { disk = c.read_image.new.disk; journal = c.self.inside.journal; limit = c.self.inside.settings.limit; streams = c.end_streams-self-inside.new.slots; stopped = c.end_streams-self-inside.result })))
+      c.self.view_is
+      (image_refused g.D.Disk.seen c.self.inside.disk c.read_image.new.disk c.self.inside.journal c.self.inside.settings.limit c.self.inside.slots c.end_streams-self-inside.new.slots c.self.inside.stopped c.end_streams-self-inside.result
+      (Vec ℕ Global) c.args.seq (case_of c.in-Some.stored.now) c.in-Err.fault c.if-self.false c.in-Some.ensures c.in-Err.ensures.reply c.end_streams-self-inside.ensures);
   bytes = λ honest.
-        let real = rw (← c.self.view_is) at honest in
-        subst (λ (a : Parts g.row.D.Denot). UnmovedBytes (contents_of g.D.Disk.seen a) c.in-Err.fault
-        (contents_of g.D.Disk.seen (record { disk = c.read_image.new.disk; journal = c.self.inside.journal; limit = c.self.inside.settings.limit; streams = c.end_streams-self-inside.new.slots; stopped = c.end_streams-self-inside.result })))
-        c.self.view_is
-        (bytes_refused g.D.Disk.seen c.self.inside.disk c.read_image.new.disk c.self.inside.journal c.self.inside.settings.limit c.self.inside.slots c.end_streams-self-inside.new.slots c.self.inside.stopped c.end_streams-self-inside.result
-        c.in-Err.fault (c.read_image.ensures.quiet.seen real) c.in-Err.ensures.reply c.end_streams-self-inside.ensures);
+      let real = rw (← c.self.view_is) at honest in
+      subst (λ (a : Parts g.row.D.Denot). UnmovedBytes (contents_of g.D.Disk.seen a) c.in-Err.fault
+      (contents_of g.D.Disk.seen (record { disk = c.read_image.new.disk; journal = c.self.inside.journal; limit = c.self.inside.settings.limit; streams = c.end_streams-self-inside.new.slots; stopped = c.end_streams-self-inside.result })))
+      c.self.view_is
+      (bytes_refused g.D.Disk.seen c.self.inside.disk c.read_image.new.disk c.self.inside.journal c.self.inside.settings.limit c.self.inside.slots c.end_streams-self-inside.new.slots c.self.inside.stopped c.end_streams-self-inside.result
+      c.in-Err.fault (c.read_image.ensures.quiet.seen real) c.in-Err.ensures.reply c.end_streams-self-inside.ensures);
   cause = search rules;
+  long = search rules;
   quiet = search rules;
-  stays = record { honesty = search rules; later = search rules; size = search rules; crash = λ honest.
-          let real = rw (← c.self.view_is) at honest in
-          let running = c.self.invariant.runs c.if-self.false in
-          rw (← c.self.view_is) (read_moments g.D.Disk c.self.inside.disk c.read_image.new.disk c.self.inside.journal running.keeps running.journal real c.read_image.ensures.quiet); durable = search rules };
+  stays = record {
+    honesty = search rules;
+    later = search rules;
+    size = search rules;
+    crash = λ honest.
+        let real = rw (← c.self.view_is) at honest in
+        let running = c.self.invariant.runs c.if-self.false in
+        rw (← c.self.view_is) (read_moments g.D.Disk c.self.inside.disk c.read_image.new.disk c.self.inside.journal running.keeps running.journal real c.read_image.ensures.quiet);
+    durable = search rules;
+  };
 }

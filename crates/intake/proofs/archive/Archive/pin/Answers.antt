@@ -50,8 +50,8 @@ returns-in_default g c = record {
 pub returns-then-entry-flag : goal.returns-then-entry-flag
 returns-then-entry-flag g c = record {
   step = rw (← c.self.view_is)
-        (pin_same g.D.Disk c.self.inside.disk c.self.inside.disk c.self.inside.journal c.self.inside.journal c.self.inside.settings.limit c.self.inside.free c.self.inside.slots c.self.inside.slots c.self.inside.stopped c.self.inside.stopped
-        c.args.seq c.args.flag (case_of c.in-Some.entry.now) c.self.invariant c.if-self.false c.in-Some.ensures tt (flags_same c.in-Some.entry.now.pinned c.args.flag c.if-entry-flag.true));
+      (pin_same g.D.Disk c.self.inside.disk c.self.inside.disk c.self.inside.journal c.self.inside.journal c.self.inside.settings.limit c.self.inside.free c.self.inside.slots c.self.inside.slots c.self.inside.stopped c.self.inside.stopped
+      c.args.seq c.args.flag (case_of c.in-Some.entry.now) c.self.invariant c.if-self.false c.in-Some.ensures tt (flags_same c.in-Some.entry.now.pinned c.args.flag c.if-entry-flag.true));
   bytes = search rules;
   changes = changes_none g.D.Disk (Unit {0}) c.self.inside.disk c.self.inside.journal c.self.inside.settings.limit c.self.inside.free c.self.inside.slots c.self.inside.stopped _ _ _ c.self.invariant c.self.view_is (λ fault. fault);
 }
@@ -59,57 +59,57 @@ returns-then-entry-flag g c = record {
 pub returns-in_default-append_pin : goal.returns-in_default-append_pin
 returns-in_default-append_pin g c = record {
   step = rw (← c.self.view_is)
-        (pin_ok g.D.Disk c.self.inside.disk c.append_pin.new.disk c.self.inside.journal c.append_pin.new.self c.self.inside.settings.limit c.self.inside.free c.self.inside.slots c.self.inside.slots c.self.inside.stopped c.self.inside.stopped
-        c.args.seq c.args.flag (case_of c.in-Some.entry.now) c.self.invariant c.if-self.false c.in-Some.ensures tt (flags_differ c.in-Some.entry.now.pinned c.args.flag c.if-entry-flag.false) c.in_default-append_pin.ensures.step);
+      (pin_ok g.D.Disk c.self.inside.disk c.append_pin.new.disk c.self.inside.journal c.append_pin.new.self c.self.inside.settings.limit c.self.inside.free c.self.inside.slots c.self.inside.slots c.self.inside.stopped c.self.inside.stopped
+      c.args.seq c.args.flag (case_of c.in-Some.entry.now) c.self.invariant c.if-self.false c.in-Some.ensures tt (flags_differ c.in-Some.entry.now.pinned c.args.flag c.if-entry-flag.false) c.in_default-append_pin.ensures.step);
   bytes = λ honest.
-        let real = rw (← c.self.view_is) at honest in
-        rw (← c.self.view_is)
-        (pin_bytes g.D.Disk c.self.inside.disk c.append_pin.new.disk c.self.inside.journal c.append_pin.new.self c.self.inside.settings.limit c.self.inside.free c.self.inside.slots c.self.inside.slots c.self.inside.stopped c.self.inside.stopped
-        c.args.seq c.args.flag (case_of c.in-Some.entry.now) c.self.invariant c.if-self.false c.in-Some.ensures tt c.in_default-append_pin.ensures.step (c.append_pin.ensures.others real));
+      let real = rw (← c.self.view_is) at honest in
+      rw (← c.self.view_is)
+      (pin_bytes g.D.Disk c.self.inside.disk c.append_pin.new.disk c.self.inside.journal c.append_pin.new.self c.self.inside.settings.limit c.self.inside.free c.self.inside.slots c.self.inside.slots c.self.inside.stopped c.self.inside.stopped
+      c.args.seq c.args.flag (case_of c.in-Some.entry.now) c.self.invariant c.if-self.false c.in-Some.ensures tt c.in_default-append_pin.ensures.step (c.append_pin.ensures.others real));
   changes = record {
-      honesty = search rules;
-      later = search rules;
-      size = search rules;
-      cause = search rules;
-      crash = λ honest.
-            let real = rw (← c.self.view_is) at honest in
-            let running = c.self.invariant.runs c.if-self.false in
-            rw (← c.self.view_is)
-            (record_ok g.D.Disk c.self.inside.disk c.append_pin.new.disk c.self.inside.journal c.append_pin.new.self (Pin c.args.seq c.args.flag) running.keeps running.journal real
-            (whole_pinned g.D.Disk c.self.inside.disk c.self.inside.journal c.args.seq c.args.flag (λ b may. running.keeps.whole running.journal real b may))
-            (c.append_pin.ensures.any_moment real running.journal) (c.append_pin.ensures.outside real)
-            (λ z. z ≡ flagged (durable_in (g.D.Disk.seen c.self.inside.disk) c.self.inside.journal.standing) c.args.seq c.args.flag) tt (c.append_pin.ensures.others real) c.in_default-append_pin.ensures.step.2);
-      stands = sound_stands g.D.Disk c.append_pin.new.disk c.append_pin.new.self c.self.inside.settings.limit c.self.inside.free c.self.inside.slots c.self.inside.stopped (invariant_of-self g c);
-    };
+    honesty = search rules;
+    later = search rules;
+    size = search rules;
+    cause = search rules;
+    crash = λ honest.
+        let real = rw (← c.self.view_is) at honest in
+        let running = c.self.invariant.runs c.if-self.false in
+        rw (← c.self.view_is)
+        (record_ok g.D.Disk c.self.inside.disk c.append_pin.new.disk c.self.inside.journal c.append_pin.new.self (Pin c.args.seq c.args.flag) running.keeps running.journal real
+        (whole_pinned g.D.Disk c.self.inside.disk c.self.inside.journal c.args.seq c.args.flag (λ b may. running.keeps.whole running.journal real b may))
+        (c.append_pin.ensures.any_moment real running.journal) (c.append_pin.ensures.outside real)
+        (λ z. z ≡ flagged (durable_in (g.D.Disk.seen c.self.inside.disk) c.self.inside.journal.standing) c.args.seq c.args.flag) tt (c.append_pin.ensures.others real) c.in_default-append_pin.ensures.step.2);
+    stands = sound_stands g.D.Disk c.append_pin.new.disk c.append_pin.new.self c.self.inside.settings.limit c.self.inside.free c.self.inside.slots c.self.inside.stopped (invariant_of-self g c);
+  };
 }
 
 pub returns : goal.returns
 returns g c = record {
   step = subst (λ (f : ArchiveFault). PinStep (bare_of c.args.self.now) c.args.seq c.args.flag (Err f) (bare_of (record { disk = c.append_pin.new.disk; journal = c.append_pin.new.self; limit = c.self.inside.settings.limit; streams = c.end_streams-self-inside.new.slots; stopped = c.end_streams-self-inside.result }))) (sym c.from-fault.ensures)
-        (subst (λ (a : Parts g.row.D.Denot). PinStep (bare_of a) c.args.seq c.args.flag (Err (fault_of c.in-Err.fault)) (bare_of (record { disk = c.append_pin.new.disk; journal = c.append_pin.new.self; limit = c.self.inside.settings.limit; streams = c.end_streams-self-inside.new.slots; stopped = c.end_streams-self-inside.result }))) c.self.view_is
-        (pin_err g.D.Disk c.self.inside.disk c.append_pin.new.disk c.self.inside.journal c.append_pin.new.self c.self.inside.settings.limit c.self.inside.free c.self.inside.slots c.end_streams-self-inside.new.slots c.self.inside.stopped c.end_streams-self-inside.result
-        c.args.seq c.args.flag (case_of c.in-Some.entry.now) c.self.invariant c.if-self.false c.in-Some.ensures c.in-Err.fault (flags_differ c.in-Some.entry.now.pinned c.args.flag c.if-entry-flag.false) c.in-Err.ensures.step
-        (subst (λ (f : ArchiveFault). EndsStreams f c.self.inside.slots c.end_streams-self-inside.result c.end_streams-self-inside.new.slots) c.from-fault.ensures c.end_streams-self-inside.ensures)));
+      (subst (λ (a : Parts g.row.D.Denot). PinStep (bare_of a) c.args.seq c.args.flag (Err (fault_of c.in-Err.fault)) (bare_of (record { disk = c.append_pin.new.disk; journal = c.append_pin.new.self; limit = c.self.inside.settings.limit; streams = c.end_streams-self-inside.new.slots; stopped = c.end_streams-self-inside.result }))) c.self.view_is
+      (pin_err g.D.Disk c.self.inside.disk c.append_pin.new.disk c.self.inside.journal c.append_pin.new.self c.self.inside.settings.limit c.self.inside.free c.self.inside.slots c.end_streams-self-inside.new.slots c.self.inside.stopped c.end_streams-self-inside.result
+      c.args.seq c.args.flag (case_of c.in-Some.entry.now) c.self.invariant c.if-self.false c.in-Some.ensures c.in-Err.fault (flags_differ c.in-Some.entry.now.pinned c.args.flag c.if-entry-flag.false) c.in-Err.ensures.step
+      (subst (λ (f : ArchiveFault). EndsStreams f c.self.inside.slots c.end_streams-self-inside.result c.end_streams-self-inside.new.slots) c.from-fault.ensures c.end_streams-self-inside.ensures)));
   bytes = λ honest.
-        let real = rw (← c.self.view_is) at honest in
-        subst (λ (f : ArchiveFault). UnmovedBytes (contents_of g.D.Disk.seen c.args.self.now) f (contents_of g.D.Disk.seen (record { disk = c.append_pin.new.disk; journal = c.append_pin.new.self; limit = c.self.inside.settings.limit; streams = c.end_streams-self-inside.new.slots; stopped = c.end_streams-self-inside.result }))) (sym c.from-fault.ensures)
-        (subst (λ (a : Parts g.row.D.Denot). UnmovedBytes (contents_of g.D.Disk.seen a) (fault_of c.in-Err.fault) (contents_of g.D.Disk.seen (record { disk = c.append_pin.new.disk; journal = c.append_pin.new.self; limit = c.self.inside.settings.limit; streams = c.end_streams-self-inside.new.slots; stopped = c.end_streams-self-inside.result }))) c.self.view_is
-        (refusal_bytes g.D.Disk.seen c.self.inside.disk c.append_pin.new.disk c.self.inside.journal c.self.inside.settings.limit c.self.inside.slots c.self.inside.stopped (c.append_pin.ensures.others real)
-        (Pin c.args.seq c.args.flag) c.append_pin.new.self c.in-Err.fault c.end_streams-self-inside.result c.end_streams-self-inside.new.slots (c.self.invariant.runs c.if-self.false).journal c.in-Err.ensures.step
-        (subst (λ (f : ArchiveFault). EndsStreams f c.self.inside.slots c.end_streams-self-inside.result c.end_streams-self-inside.new.slots) c.from-fault.ensures c.end_streams-self-inside.ensures)));
+      let real = rw (← c.self.view_is) at honest in
+      subst (λ (f : ArchiveFault). UnmovedBytes (contents_of g.D.Disk.seen c.args.self.now) f (contents_of g.D.Disk.seen (record { disk = c.append_pin.new.disk; journal = c.append_pin.new.self; limit = c.self.inside.settings.limit; streams = c.end_streams-self-inside.new.slots; stopped = c.end_streams-self-inside.result }))) (sym c.from-fault.ensures)
+      (subst (λ (a : Parts g.row.D.Denot). UnmovedBytes (contents_of g.D.Disk.seen a) (fault_of c.in-Err.fault) (contents_of g.D.Disk.seen (record { disk = c.append_pin.new.disk; journal = c.append_pin.new.self; limit = c.self.inside.settings.limit; streams = c.end_streams-self-inside.new.slots; stopped = c.end_streams-self-inside.result }))) c.self.view_is
+      (refusal_bytes g.D.Disk.seen c.self.inside.disk c.append_pin.new.disk c.self.inside.journal c.self.inside.settings.limit c.self.inside.slots c.self.inside.stopped (c.append_pin.ensures.others real)
+      (Pin c.args.seq c.args.flag) c.append_pin.new.self c.in-Err.fault c.end_streams-self-inside.result c.end_streams-self-inside.new.slots (c.self.invariant.runs c.if-self.false).journal c.in-Err.ensures.step
+      (subst (λ (f : ArchiveFault). EndsStreams f c.self.inside.slots c.end_streams-self-inside.result c.end_streams-self-inside.new.slots) c.from-fault.ensures c.end_streams-self-inside.ensures)));
   changes = record {
-      honesty = search rules;
-      later = search rules;
-      size = search rules;
-      cause = search rules;
-      crash = λ honest.
-            let real = rw (← c.self.view_is) at honest in
-            let running = c.self.invariant.runs c.if-self.false in
-            rw (← c.self.view_is)
-            (record_err g.D.Disk c.self.inside.disk c.append_pin.new.disk c.self.inside.journal c.append_pin.new.self (Pin c.args.seq c.args.flag) running.keeps running.journal real
-            (whole_pinned g.D.Disk c.self.inside.disk c.self.inside.journal c.args.seq c.args.flag (λ b may. running.keeps.whole running.journal real b may))
-            (c.append_pin.ensures.any_moment real running.journal) (c.append_pin.ensures.outside real)
-            (λ z. z ≡ flagged (durable_in (g.D.Disk.seen c.self.inside.disk) c.self.inside.journal.standing) c.args.seq c.args.flag) c.in-Err.fault _ _ c.from-fault.ensures c.in-Err.ensures.untouched (durable_pinned c.self.inside.journal.standing c.args.seq c.args.flag (g.D.Disk.seen c.self.inside.disk)) (g.met.D.Disk.only_now c.self.inside.disk));
-      stands = sound_stands g.D.Disk c.append_pin.new.disk c.append_pin.new.self c.self.inside.settings.limit c.self.inside.free c.end_streams-self-inside.new.slots c.end_streams-self-inside.result (invariant_of-self-2 g c);
-    };
+    honesty = search rules;
+    later = search rules;
+    size = search rules;
+    cause = search rules;
+    crash = λ honest.
+        let real = rw (← c.self.view_is) at honest in
+        let running = c.self.invariant.runs c.if-self.false in
+        rw (← c.self.view_is)
+        (record_err g.D.Disk c.self.inside.disk c.append_pin.new.disk c.self.inside.journal c.append_pin.new.self (Pin c.args.seq c.args.flag) running.keeps running.journal real
+        (whole_pinned g.D.Disk c.self.inside.disk c.self.inside.journal c.args.seq c.args.flag (λ b may. running.keeps.whole running.journal real b may))
+        (c.append_pin.ensures.any_moment real running.journal) (c.append_pin.ensures.outside real)
+        (λ z. z ≡ flagged (durable_in (g.D.Disk.seen c.self.inside.disk) c.self.inside.journal.standing) c.args.seq c.args.flag) c.in-Err.fault _ _ c.from-fault.ensures c.in-Err.ensures.untouched (durable_pinned c.self.inside.journal.standing c.args.seq c.args.flag (g.D.Disk.seen c.self.inside.disk)) (g.met.D.Disk.only_now c.self.inside.disk));
+    stands = sound_stands g.D.Disk c.append_pin.new.disk c.append_pin.new.self c.self.inside.settings.limit c.self.inside.free c.end_streams-self-inside.new.slots c.end_streams-self-inside.result (invariant_of-self-2 g c);
+  };
 }

@@ -44,57 +44,57 @@ returns-in_default g c = record {
 pub returns-then-is_empty : goal.returns-then-is_empty
 returns-then-is_empty g c = record {
   step = let none = none_dropped c.in-Ok.decision.dropped.items (search rules) in
-        rw (← c.self.view_is) (c.if-self.false, (decision_of c.args.policy.now c.entries.result.now c.self.inside.journal.standing.cases c.in-Ok.decision.dropped.items c.in-Ok.decision.unmet c.entries.ensures c.in-Ok.ensures.decision), inl (none, refl));
+      rw (← c.self.view_is) (c.if-self.false, (decision_of c.args.policy.now c.entries.result.now c.self.inside.journal.standing.cases c.in-Ok.decision.dropped.items c.in-Ok.decision.unmet c.entries.ensures c.in-Ok.ensures.decision), inl (none, refl));
   bytes = λ honest.
-        let none = none_dropped c.in-Ok.decision.dropped.items (search rules) in
-        rw none (ap (λ (x : List (List ℕ)). record (contents_of g.D.Disk.seen c.args.self.now) { images = x })
-        (sym (all_stay (λ (x : Case). image_in c.args.self.now.journal.standing.shape (g.D.Disk.seen c.args.self.now.disk) x.blocks x.len) c.args.self.now.journal.standing.cases)));
+      let none = none_dropped c.in-Ok.decision.dropped.items (search rules) in
+      rw none (ap (λ (x : List (List ℕ)). record (contents_of g.D.Disk.seen c.args.self.now) { images = x })
+      (sym (all_stay (λ (x : Case). image_in c.args.self.now.journal.standing.shape (g.D.Disk.seen c.args.self.now.disk) x.blocks x.len) c.args.self.now.journal.standing.cases)));
   changes = changes_none g.D.Disk Decision c.self.inside.disk c.self.inside.journal c.self.inside.settings.limit c.self.inside.free c.self.inside.slots c.self.inside.stopped _ _ _ c.self.invariant c.self.view_is (λ fault. fault);
 }
 
 pub returns-in-Err : goal.returns-in-Err
 returns-in-Err g c = record {
   step = let some : c.in-Ok.decision.dropped.items ≢ [] = search rules in
-        retire_err (bare_of c.args.self.now) c.args.policy.now c.in-Ok.decision.dropped.items c.in-Ok.decision.unmet c.in-Err.fault (bare_of c.drop_cases.new.self)
-        (rw (← c.self.view_is) (c.if-self.false, (decision_of c.args.policy.now c.entries.result.now c.self.inside.journal.standing.cases c.in-Ok.decision.dropped.items c.in-Ok.decision.unmet c.entries.ensures c.in-Ok.ensures.decision), some))
-        (subst (λ (xs : List ℕ). DropStep (bare_of c.args.self.now) xs (Err c.in-Err.fault) (bare_of c.drop_cases.new.self)) c.as_slice.ensures.value c.in-Err.ensures.step);
+      retire_err (bare_of c.args.self.now) c.args.policy.now c.in-Ok.decision.dropped.items c.in-Ok.decision.unmet c.in-Err.fault (bare_of c.drop_cases.new.self)
+      (rw (← c.self.view_is) (c.if-self.false, (decision_of c.args.policy.now c.entries.result.now c.self.inside.journal.standing.cases c.in-Ok.decision.dropped.items c.in-Ok.decision.unmet c.entries.ensures c.in-Ok.ensures.decision), some))
+      (subst (λ (xs : List ℕ). DropStep (bare_of c.args.self.now) xs (Err c.in-Err.fault) (bare_of c.drop_cases.new.self)) c.as_slice.ensures.value c.in-Err.ensures.step);
   bytes = search rules;
   changes = record {
-      honesty = c.in-Err.ensures.changes.honesty;
-      later = c.in-Err.ensures.changes.later;
-      size = c.in-Err.ensures.changes.size;
-      cause = c.in-Err.ensures.changes.cause;
-      crash = λ honest.
-            let some : c.in-Ok.decision.dropped.items ≢ [] = search rules in
-            let retires : Retires (bare_of c.args.self.now) c.args.policy.now c.in-Ok.decision.dropped.items c.in-Ok.decision.unmet =
-            rw (← c.self.view_is) (c.if-self.false, (decision_of c.args.policy.now c.entries.result.now c.self.inside.journal.standing.cases c.in-Ok.decision.dropped.items c.in-Ok.decision.unmet c.entries.ensures c.in-Ok.ensures.decision), some) in
-            let x : Durable = durable_of g.D.Disk.seen c.args.self.now in
-            let y : Durable = durable_of g.D.Disk.seen c.drop_cases.new.self in
-            adds_weakened g.D.Disk c.args.self.now.disk c.drop_cases.new.self.disk
-            (Leaves {T = Unit {0}} x (Err c.in-Err.fault) y (λ z. z ≡ without x c.as_slice.result.now))
-            (Leaves {T = Decision} x (Err c.in-Err.fault) y (MayBeRetired (bare_of c.args.self.now) c.args.policy.now x))
-            (λ b h. leaves_of (Unit {0}) Decision c.in-Err.fault x y y (λ z. z ≡ without x c.as_slice.result.now) (MayBeRetired (bare_of c.args.self.now) c.args.policy.now x) b
-            (λ z is. (c.in-Ok.decision.dropped.items, c.in-Ok.decision.unmet, retires, is ∙ ap (without x) c.as_slice.ensures.value)) h)
-            (c.in-Err.ensures.changes.crash honest);
-      stands = c.in-Err.ensures.changes.stands;
-    };
+    honesty = c.in-Err.ensures.changes.honesty;
+    later = c.in-Err.ensures.changes.later;
+    size = c.in-Err.ensures.changes.size;
+    cause = c.in-Err.ensures.changes.cause;
+    crash = λ honest.
+        let some : c.in-Ok.decision.dropped.items ≢ [] = search rules in
+        let retires : Retires (bare_of c.args.self.now) c.args.policy.now c.in-Ok.decision.dropped.items c.in-Ok.decision.unmet =
+        rw (← c.self.view_is) (c.if-self.false, (decision_of c.args.policy.now c.entries.result.now c.self.inside.journal.standing.cases c.in-Ok.decision.dropped.items c.in-Ok.decision.unmet c.entries.ensures c.in-Ok.ensures.decision), some) in
+        let x : Durable = durable_of g.D.Disk.seen c.args.self.now in
+        let y : Durable = durable_of g.D.Disk.seen c.drop_cases.new.self in
+        adds_weakened g.D.Disk c.args.self.now.disk c.drop_cases.new.self.disk
+        (Leaves {T = Unit {0}} x (Err c.in-Err.fault) y (λ z. z ≡ without x c.as_slice.result.now))
+        (Leaves {T = Decision} x (Err c.in-Err.fault) y (MayBeRetired (bare_of c.args.self.now) c.args.policy.now x))
+        (λ b h. leaves_of (Unit {0}) Decision c.in-Err.fault x y y (λ z. z ≡ without x c.as_slice.result.now) (MayBeRetired (bare_of c.args.self.now) c.args.policy.now x) b
+        (λ z is. (c.in-Ok.decision.dropped.items, c.in-Ok.decision.unmet, retires, is ∙ ap (without x) c.as_slice.ensures.value)) h)
+        (c.in-Err.ensures.changes.crash honest);
+    stands = c.in-Err.ensures.changes.stands;
+  };
 }
 
 pub returns : goal.returns
 returns g c = record {
   step = let some : c.in-Ok.decision.dropped.items ≢ [] = search rules in
-        let step = subst (λ (xs : List ℕ). DropStep (bare_of c.args.self.now) xs (Ok c.in_default-drop_cases.field-0) (bare_of c.drop_cases.new.self)) c.as_slice.ensures.value c.in_default-drop_cases.ensures.step in (
-          rw (← c.self.view_is) c.if-self.false,
-          rw (← c.self.view_is) (decision_of c.args.policy.now c.entries.result.now c.self.inside.journal.standing.cases c.in-Ok.decision.dropped.items c.in-Ok.decision.unmet c.entries.ensures c.in-Ok.ensures.decision),
-          inr (some, step.0, step.1),
-        );
+      let step = subst (λ (xs : List ℕ). DropStep (bare_of c.args.self.now) xs (Ok c.in_default-drop_cases.field-0) (bare_of c.drop_cases.new.self)) c.as_slice.ensures.value c.in_default-drop_cases.ensures.step in (
+        rw (← c.self.view_is) c.if-self.false,
+        rw (← c.self.view_is) (decision_of c.args.policy.now c.entries.result.now c.self.inside.journal.standing.cases c.in-Ok.decision.dropped.items c.in-Ok.decision.unmet c.entries.ensures c.in-Ok.ensures.decision),
+        inr (some, step.0, step.1),
+      );
   bytes = search rules;
   changes = record {
-      honesty = search rules;
-      later = search rules;
-      size = search rules;
-      cause = λ fault. absurd fault;
-      crash = search rules;
-      stands = c.in_default-drop_cases.ensures.changes.stands;
-    };
+    honesty = search rules;
+    later = search rules;
+    size = search rules;
+    cause = λ fault. absurd fault;
+    crash = search rules;
+    stands = c.in_default-drop_cases.ensures.changes.stands;
+  };
 }
