@@ -5,3 +5,5 @@
 mod faults;
 #[cfg(test)]
 mod lookups;
+#[cfg(test)]
+mod real;
