@@ -18,8 +18,8 @@ abbrev pub fault_at : SymbolField → ℕ → SymbolFault
 fault_at f i = record { «field» = f; index = i }
 
 -- how many sections there are, none where that is at fault
-abbrev pub section_number : List ℕ → ℕ
-section_number b = result_unwrap_or (section_count_of b) 0
+abbrev pub count_of_sections : List ℕ → ℕ
+count_of_sections b = result_unwrap_or (section_count_of b) 0
 
 -- section header i, of 64 bytes
 abbrev pub section_at : List ℕ → ℕ → SectionView
@@ -30,7 +30,7 @@ is_kind b kind i = (section_at b i).kind == kind
 
 -- the number of the first section of a type
 abbrev pub first_of_kind : List ℕ → ℕ → Option ℕ
-first_of_kind b kind = find (is_kind b kind) (range_with_len 0 (section_number b))
+first_of_kind b kind = find (is_kind b kind) (range_with_len 0 (count_of_sections b))
 
 -- the symbol table: the first SHT_SYMTAB (2), else the first SHT_DYNSYM (11)
 unfoldable pub table_number : List ℕ → Option ℕ
@@ -46,7 +46,7 @@ linked b i = (section_at b i).link
 
 -- an SHT_STRTAB (3) among the sections
 abbrev pub is_string_table : List ℕ → ℕ → Bool
-is_string_table b i = nat_lt i (section_number b) && is_kind b 3 i
+is_string_table b i = nat_lt i (count_of_sections b) && is_kind b 3 i
 
 -- the entries of the symbol table, and the bytes of its string table; no symbol table has none of either
 abbrev pub entries_at : List ℕ → Option ℕ → List ℕ
