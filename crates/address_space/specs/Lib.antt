@@ -1,0 +1,4 @@
+pub mod Source
+pub mod Pieces
+pub mod Ranges
+pub mod ScanWords
