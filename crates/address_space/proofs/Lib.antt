@@ -1,1 +1,3 @@
 pub mod Scanning
+pub mod Naming
+pub mod Places

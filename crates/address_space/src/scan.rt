@@ -1,5 +1,5 @@
 // The first segment, or mapped file, at an address, by a scan of the table in order.
-ghost use Rattle.std.specs.Prelude.{◌≡◌, ◌+◌, ◌-◌, ◌^◌, ◌<◌, ◌≤◌, ◌&&◌, ℕ, length, min, nat_le, nat_lt, if◌then◌else◌, Option};
+ghost use Rattle.std.specs.Prelude.{◌≡◌, ◌+◌, ◌-◌, ◌^◌, ◌<◌, ◌≤◌, ◌&&◌, ℕ, length, min, nat_le, nat_lt, if◌then◌else◌, Option, IfSome};
 ghost use Rattle.std.specs.Option.{option_map};
 ghost use Rattle.elf_view.specs.SegmentWords.{segment_view, segments_left};
 ghost use Rattle.core_notes.specs.FileList.{FileView};
@@ -58,6 +58,7 @@ pub(crate) fn first_segment<'a>(mut segments: Segments<'a>, at: u64, limit: u64)
         ≡ source.first_from (source.is_covering at) 0 (segments_left segments.entry) }
     ensures alike { IsAlike (λ a. source.first_from (source.is_covering a) 0 (segments_left segments.entry))
         at limit result.1 }
+    ensures covers { IfSome result.0 (λ d. d.segment.vaddr ≤ at) }
 {
     let mut number = 0;
     let mut length = limit;
@@ -79,6 +80,7 @@ pub(crate) fn first_file<'a>(mut files: FileMaps<'a>, at: u64, limit: u64) -> (O
     ensures first { option_map file_view result.0
         ≡ option_map (λ (e : ℕ × FileView). e.1) (source.first_from (source.is_mapping at) 0 (files_left files.entry)) }
     ensures alike { IsAlike (λ a. source.first_from (source.is_mapping a) 0 (files_left files.entry)) at limit result.1 }
+    ensures maps { IfSome result.0 (λ f. (f.start ≤ at) × (at < f.past)) }
 {
     let mut length = limit;
     while let Some(file) = files.next() {
