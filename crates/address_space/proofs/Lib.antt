@@ -1,3 +1,5 @@
 pub mod Scanning
 pub mod Naming
 pub mod Places
+pub mod Stretches
+pub mod Loads

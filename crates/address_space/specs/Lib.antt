@@ -4,3 +4,4 @@ pub mod Ranges
 pub mod ScanWords
 pub mod SourceWords
 pub mod SpaceWords
+pub mod PieceWords

@@ -155,6 +155,9 @@ mapping_in space s = record { start = s.vaddr; memsz = s.memsz; flags = s.flags;
 abbrev pub is_load : SegmentView → Bool
 is_load s = s.kind == 1
 
--- the mappings, in table order
+-- the mappings of these program headers, and of all, in table order
 unfoldable pub mappings_in : Space → List SegmentView → List MappingView
 mappings_in space segments = map (mapping_in space) (filter is_load segments)
+
+abbrev pub mappings_of : Space → List MappingView
+mappings_of space = mappings_in space space.segments

@@ -2,9 +2,13 @@
 #![tactic(auto)]
 
 mod locate;
+mod mappings;
+mod pieces;
 mod scan;
 mod source;
 mod space;
 
+pub use mappings::{Mapping, Mappings};
+pub use pieces::Pieces;
 pub use source::{FileSpot, Piece, PieceKind, Source};
 pub use space::AddressSpace;

@@ -9,7 +9,7 @@ ghost use Rattle.address_space.specs.Source as source;
 ghost use Rattle.address_space.specs.Pieces.{content_from};
 ghost use Rattle.address_space.specs.Ranges.{IsAlike, IsFull, IsStretch, place_number};
 ghost use Rattle.address_space.specs.ScanWords.{decided_view};
-ghost use Rattle.address_space.specs.SourceWords.{kind_view};
+ghost use Rattle.address_space.specs.SourceWords.{kind_view, spot_view};
 
 use crate::scan::{Decided, first_file, first_segment};
 use crate::source::{FileSpot, PieceKind};
@@ -160,5 +160,16 @@ impl<'a> AddressSpace<'a> {
             length,
             kind,
         }
+    }
+
+    /// Where the address lies in the file that is mapped there.
+    pub(crate) fn spot(&self, at: u64) -> Option<FileSpot<'a>>
+        ensures { option_map spot_view result ≡ source.spot_of at (source.entry_at (space_of self.now) at) }
+    {
+        let file = self.file_at(at, 1).0?;
+        Some(FileSpot {
+            name: file.name,
+            offset: file.offset + (at - file.start),
+        })
     }
 }
