@@ -3,3 +3,4 @@ pub mod Naming
 pub mod Places
 pub mod Stretches
 pub mod Loads
+pub mod Values

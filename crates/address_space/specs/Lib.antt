@@ -1,7 +1,9 @@
 pub mod Source
 pub mod Pieces
+pub mod Occurrence
 pub mod Ranges
 pub mod ScanWords
 pub mod SourceWords
 pub mod SpaceWords
 pub mod PieceWords
+pub mod CursorWords

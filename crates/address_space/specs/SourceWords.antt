@@ -29,3 +29,11 @@ kind_view kind.Unmapped = unmapped
 
 abbrev pub piece_view : Piece → PieceView
 piece_view p = record { first = p.first; length = p.length; content = kind_view p.kind }
+
+-- the values of the addresses of a piece, if they have any
+abbrev pub bytes_in : Content (List ℕ) → Option (List ℕ)
+bytes_in (held b) = Some b
+bytes_in (from_file b) = Some b
+bytes_in (not_dumped e) = None
+bytes_in cut = None
+bytes_in unmapped = None

@@ -1,6 +1,7 @@
 //! The memory of a process, as its core tells it: the program headers, the mapped files and attached executables.
 #![tactic(auto)]
 
+mod cursor;
 mod locate;
 mod mappings;
 mod pieces;
