@@ -4,3 +4,4 @@ pub mod Places
 pub mod Stretches
 pub mod Loads
 pub mod Values
+pub mod Ordering

@@ -29,19 +29,9 @@ to_come space test c = decided_from space test c.number c.at c.left ++ ordered_f
 -- the bytes at hand are the values of the next addresses, and the segment at hand decides these
 pub record IsPlaced (space : Space) (c : Cursor) : Type 0 where
   pub number : c.number < length space.segments
-  pub fits : c.at + c.left ≤ 2 ^ 64
-  pub within : length c.here.now ≤ c.left
   pub values : (k : ℕ) → k < length c.here.now → value_at space (c.at + k) ≡ Some (slice_index c.here.now k)
   pub decided : (k : ℕ) → k < length c.here.now → is_decided_by space c.number (c.at + k) ≡ true
 
 -- what is left to do: it falls with each step
 abbrev pub work_left : Space → Cursor → ℕ
-work_left space c = (length space.segments - c.number) * 2 ^ 65 + c.left
-
--- the same addresses are still to come from the one cursor and from the other
-pub record IsSameFrom (space : Space) (c d : Cursor) : Type 0 where
-  pub same : (test : ℕ → Bool) → WantsValue space test → to_come space test c ≡ to_come space test d
-  pub less : work_left space d ≤ work_left space c
-
-abbrev pub IsDone : Space → Cursor → Type 0
-IsDone space c = (test : ℕ → Bool) → WantsValue space test → to_come space test c ≡ []
+work_left space c = ((length space.segments - c.number) * 2 ^ 65 + c.left) * 2 + (1 - length c.here.now)
