@@ -5,3 +5,6 @@ pub mod Stretches
 pub mod Loads
 pub mod Values
 pub mod Ordering
+pub mod Finding
+pub mod Numbers
+pub mod Texts

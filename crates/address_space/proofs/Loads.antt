@@ -1,5 +1,5 @@
 -- The program headers of segments that are loaded, found by going through all.
-use Rattle.std.proofs.Common.{◌≡◌, ℕ, List, ◌∷◌, eqb, true, false, ap, ◌∙◌, sym}
+use Rattle.std.proofs.Common.{◌≡◌, List, ◌∷◌, eqb, true, false, ap, ◌∙◌}
 use Rattle.std.specs.List.{filter}
 use Rattle.std.proofs.lemmas.Bool.{cond-true, cond-false}
 use Rattle.elf_view.specs.Header.{SegmentView}

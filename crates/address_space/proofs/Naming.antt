@@ -1,10 +1,10 @@
 -- The first executable of a name, found by going through them.
-use Rattle.std.proofs.Common.{◌≡◌, ◌<◌, ℕ, ◌+◌, List, ◌∷◌, length, map, drop, get_or, true, false, Option, Some, ap, sym, ◌∙◌}
+use Rattle.std.proofs.Common.{◌≡◌, ◌<◌, ℕ, ◌+◌, List, ◌∷◌, length, map, drop, get_or, true, false, Some, ap, sym, ◌∙◌}
 use Rattle.std.specs.List.{find}
 use Rattle.std.specs.Str.{bytes_eq}
 use Rattle.std.proofs.lemmas.List.{drop_more}
 use Rattle.std.proofs.lemmas.Bool.{cond-true, cond-false}
-use Rattle.address_space.specs.Source.{ExecutableView, is_named}
+use Rattle.address_space.specs.Source.{is_named}
 use Rattle.address_space.specs.SpaceWords.{executable_view}
 use Rattle.address_space.specs.declared.space.Executable.{Executable}
 

@@ -1,17 +1,16 @@
 -- Steps through the addresses that are still to come.
-use Rattle.std.proofs.Common.{◌≡◌, ◌≢◌, ◌<◌, ◌≤◌, ℕ, zero, suc, ◌+◌, ◌-◌, ◌*◌, ◌^◌, ◌&&◌, eqb, cond, Bool, true, false, List, [], ◌∷◌, ◌++◌, length, drop, get_or, Option, None, Some, refl, sym, ap, subst, ◌∙◌, arith, inl, inr}
+use Rattle.std.proofs.Common.{◌≡◌, ◌<◌, ◌≤◌, ℕ, zero, suc, ◌+◌, ◌-◌, ◌^◌, ◌&&◌, eqb, Bool, true, false, List, [], ◌∷◌, length, drop, get_or, Option, None, Some, refl, sym, ap, subst, ◌∙◌, arith, inl, inr}
 use Rattle.std.specs.Option.{option_map}
 use Rattle.std.specs.Prelude.{slice_get}
 use Rattle.std.specs.List.{filter, range_with_len, AllByRecursion}
 use Rattle.std.proofs.lemmas.List.{length-drop, get_or-drop}
 use Rattle.elf_view.specs.Sound.{IsLoadable}
-use Rattle.std.proofs.lemmas.Bool.{and_left, and_right, and_from, cond-true, cond-false, eqb-true, eq-eqb, ne_eqb, cases_lt, cases_eq, cases_Bool, false≢true}
+use Rattle.std.proofs.lemmas.Bool.{and_left, and_right, cond-true, cond-false, eqb-true, eq-eqb, cases_lt, cases_Bool, false≢true}
 use Rattle.std.proofs.lemmas.Option.{same_Some, none-some}
 use Rattle.elf_view.specs.Header.{SegmentView}
 use Rattle.address_space.specs.Source.{Space, span, decider, value_at}
-use Rattle.address_space.specs.Occurrence.{is_number, is_decided_by, decided_from, ordered_from}
-use Rattle.address_space.specs.CursorWords.{IsRun, WantsValue, to_come, value_in, IsPlaced}
-use Rattle.address_space.specs.declared.cursor.Cursor.{Cursor}
+use Rattle.address_space.specs.Occurrence.{is_number, is_decided_by, decided_from}
+use Rattle.address_space.specs.CursorWords.{IsRun, WantsValue, value_in}
 
 filter_skip : (p : ℕ → Bool) (m a n : ℕ) → ((k : ℕ) → k < m → p (a + k) ≡ false) → filter p (range_with_len a (m + n)) ≡ filter p (range_with_len (a + m) n)
 filter_skip p zero a n none =

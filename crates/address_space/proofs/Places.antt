@@ -1,9 +1,9 @@
 -- Places of addresses in a row, and when two of them are not the same.
-use Rattle.std.proofs.Common.{◌≡◌, ◌<◌, ◌≤◌, ℕ, zero, suc, ◌+◌, ◌-◌, ◌&&◌, leb, ltb, eqb, cond, Bool, true, false, List, [], ◌∷◌, length, map, take, drop, Option, None, Some, refl, sym, ap, subst, ◌∙◌, arith, inl, inr}
+use Rattle.std.proofs.Common.{◌≡◌, ◌<◌, ◌≤◌, ℕ, zero, suc, ◌+◌, ◌-◌, leb, ltb, eqb, cond, Bool, true, false, List, length, map, drop, Option, None, Some, refl, sym, ap, subst, ◌∙◌, arith, inl, inr}
 use Rattle.std.specs.Option.{option_map}
 use Rattle.std.specs.List.{range_with_len}
 use Rattle.std.proofs.lemmas.List.{length-take}
-use Rattle.std.proofs.lemmas.Bool.{cases_lt, le-leb, lt-leb, and_left, and_right, cond-true, cond-false, cases_Bool, true≢false}
+use Rattle.std.proofs.lemmas.Bool.{cases_lt, and_left, and_right, cond-true, cond-false, cases_Bool, true≢false}
 use Rattle.std.proofs.lemmas.Option.{same_Some, none-some}
 use Rattle.elf_view.specs.Header.{SegmentView, segment_at, segments_of, segment_from}
 use Rattle.core_notes.specs.FileList.{FileView}
@@ -158,9 +158,9 @@ pub located_some : (space : Space) (a limit m n : ℕ) (o : Option (ℕ × Segme
 unfolding place_at
 located_some space a limit m n o is alike s =
     extended (place_at space) (λ b. placed space b o) a limit m n s
-        (λ k h. ap (placed space (a + k)) (alike.same k h ∙ is))
-        alike.within
-        (λ h. placed_apart space a (a + m) (decider space a) (decider space (a + m)) (alike.longest h))
+    (λ k h. ap (placed space (a + k)) (alike.same k h ∙ is))
+    alike.within
+    (λ h. placed_apart space a (a + m) (decider space a) (decider space (a + m)) (alike.longest h))
 
 pub nowhere_all : (space : Space) (a m : ℕ) → 0 < m → IsStretch (λ b. placed space b None) a m m
 nowhere_all space a m h = record { some = h; within = omega arith; same = λ k l. refl; longest = λ l. absurd (omega arith) }

@@ -1,6 +1,6 @@
 -- A scan for the first range that has an address, and for how far the answer stays the same.
-use Rattle.std.proofs.Common.{◌≡◌, ◌<◌, ◌≤◌, ℕ, ◌+◌, ◌-◌, ◌&&◌, leb, ltb, cond, Bool, true, false, List, [], ◌∷◌, Option, None, Some, min, refl, sym, ap, subst, ◌∙◌, arith, inl, inr, eqb}
-use Rattle.std.proofs.lemmas.Bool.{le-leb, lt-ltb, lt-leb, le-ltb, and_from, and_left, and_right, ne_eqb, cases_lt, cases_Bool, leb-true, leb-false, ltb-true, ltb-false, and_parts, and_cases, cond-true, cond-false}
+use Rattle.std.proofs.Common.{◌≡◌, ◌<◌, ◌≤◌, ℕ, ◌+◌, ◌-◌, ◌&&◌, leb, ltb, cond, Bool, true, false, List, [], ◌∷◌, Option, None, Some, min, refl, sym, ap, subst, ◌∙◌, arith, inl, inr}
+use Rattle.std.proofs.lemmas.Bool.{le-leb, lt-ltb, lt-leb, le-ltb, and_from, and_left, and_right, ne_eqb, cases_lt, leb-true, leb-false, ltb-true, ltb-false, and_parts, and_cases, cond-true, cond-false}
 use Rattle.address_space.specs.Source.{first_from}
 use Rattle.address_space.specs.Pieces.{same_number}
 use Rattle.address_space.specs.Ranges.{IsAlike}

@@ -1,8 +1,8 @@
 -- The first of the stretches of addresses, and those behind it.
-use Rattle.std.proofs.Common.{◌≡◌, ◌<◌, ◌≤◌, ℕ, zero, suc, ◌+◌, ◌-◌, ◌&&◌, eqb, cond, Bool, true, false, List, [], ◌∷◌, map, Option, None, Some, refl, sym, ap, subst, ◌∙◌, arith, inl, inr}
+use Rattle.std.proofs.Common.{◌≡◌, ◌<◌, ℕ, zero, suc, ◌+◌, ◌-◌, eqb, cond, Bool, true, false, List, [], ◌∷◌, map, Option, None, Some, refl, sym, ap, subst, ◌∙◌, arith, inl, inr}
 use Rattle.std.proofs.lemmas.Bool.{and_from, eq-eqb, cond-true, cond-false, cases_lt}
 use Rattle.address_space.specs.Source.{Space, Place, nowhere, dumped, cut_off, unwritten, in_file, place_at}
-use Rattle.address_space.specs.Pieces.{same_number, is_same, grown, stretches, PieceView, piece_of, is_same_at, pieces_of}
+use Rattle.address_space.specs.Pieces.{same_number, is_same, grown, stretches, piece_of, is_same_at, pieces_of}
 use Rattle.address_space.specs.Ranges.{IsStretch}
 
 number_itself : {A : Type 0} (x : Option (ℕ × A)) → same_number x x ≡ true
@@ -55,8 +55,8 @@ first_stretch same (suc m) a r joined ends =
     let next : a + 1 + suc m ≡ a + suc (suc m) = omega arith in
     let more : suc m + 1 ≡ suc (suc m) = omega arith in
     let behind = first_stretch same m (a + 1) r
-        (λ k h. let place : a + suc k ≡ a + 1 + k = omega arith in subst (λ b. same b (b + 1) ≡ true) place (joined (suc k) (omega arith)))
-        (λ h. subst (λ b. same b (b + 1) ≡ false) (sym last) (ends h)) in
+    (λ k h. let place : a + suc k ≡ a + 1 + k = omega arith in subst (λ b. same b (b + 1) ≡ true) place (joined (suc k) (omega arith)))
+    (λ h. subst (λ b. same b (b + 1) ≡ false) (sym last) (ends h)) in
     ap (stretches same a) size
     ∙ ap (grown same a) behind
     ∙ cond-true (same a (a + 1)) _ _ (subst (λ b. same b (b + 1) ≡ true) zeros (joined 0 (omega arith)))
@@ -74,15 +74,15 @@ next_piece space a n m s =
     let whole : suc d + (n - m) ≡ n = omega arith in
     let place = place_at space in
     let first = first_stretch (is_same_at space) d a (n - m)
-        (λ k h.
-            let here = s.same k (omega arith) in
-            let there : place (a + (k + 1)) ≡ place a = s.same (k + 1) (omega arith) in
-            let at : a + (k + 1) ≡ a + k + 1 = omega arith in
-            ap (λ p. is_same p (place (a + k + 1))) here ∙ ap (λ b. is_same (place a) (place b)) (sym at) ∙ ap (is_same (place a)) there ∙ same_itself (place a))
-        (λ h.
-            let here = s.same d (omega arith) in
-            let at : a + m ≡ a + d + 1 = omega arith in
-            ap (λ p. is_same p (place (a + d + 1))) here ∙ ap (λ b. is_same (place a) (place b)) (sym at) ∙ s.longest (omega arith)) in
+    (λ k h.
+    let here = s.same k (omega arith) in
+    let there : place (a + (k + 1)) ≡ place a = s.same (k + 1) (omega arith) in
+    let at : a + (k + 1) ≡ a + k + 1 = omega arith in
+    ap (λ p. is_same p (place (a + k + 1))) here ∙ ap (λ b. is_same (place a) (place b)) (sym at) ∙ ap (is_same (place a)) there ∙ same_itself (place a))
+    (λ h.
+    let here = s.same d (omega arith) in
+    let at : a + m ≡ a + d + 1 = omega arith in
+    ap (λ p. is_same p (place (a + d + 1))) here ∙ ap (λ b. is_same (place a) (place b)) (sym at) ∙ s.longest (omega arith)) in
     ap (λ q. map (piece_of space) (stretches (is_same_at space) a q)) (sym whole)
     ∙ ap (map (piece_of space)) first
     ∙ ap (λ q. piece_of space (a, q) ∷ map (piece_of space) (stretches (is_same_at space) (a + q) (n - m))) is

@@ -1,13 +1,12 @@
 -- The values of addresses of one place.
-use Rattle.std.proofs.Common.{◌≡◌, ◌<◌, ◌≤◌, ℕ, ◌+◌, ◌-◌, ◌&&◌, leb, ltb, cond, Bool, true, false, List, [], ◌∷◌, length, take, drop, get_or, Option, None, Some, refl, sym, ap, ◌∙◌, arith, inl, inr}
-use Rattle.std.specs.Option.{option_map}
+use Rattle.std.proofs.Common.{◌≡◌, ◌<◌, ◌≤◌, ℕ, ◌+◌, ◌-◌, leb, ltb, cond, Bool, true, false, List, [], ◌∷◌, length, drop, get_or, Option, None, Some, refl, sym, ap, ◌∙◌, arith, inl, inr}
 use Rattle.std.proofs.lemmas.List.{get_or-take, get_or-drop}
 use Rattle.std.proofs.lemmas.Bool.{and_parts, leb-true, cond-true, cond-false, cases_Bool}
 use Rattle.std.proofs.lemmas.Option.{same_Some, none-some}
 use Rattle.elf_view.specs.Header.{SegmentView}
 use Rattle.elf_view.specs.Field.{part}
 use Rattle.core_notes.specs.FileList.{FileView}
-use Rattle.address_space.specs.Source.{Space, Place, nowhere, dumped, cut_off, unwritten, in_file, first_from, is_covering, is_mapping, span, decider, entry_at, placed, undumped, filed, place_at, executable_named, ExecutableView, spot_in, Content, content_by, value_of, value_at, source_at}
+use Rattle.address_space.specs.Source.{Space, Place, nowhere, dumped, cut_off, unwritten, in_file, first_from, is_covering, is_mapping, span, decider, entry_at, placed, undumped, filed, place_at, executable_named, ExecutableView, spot_in, Content, content_by, value_of}
 use Rattle.address_space.specs.Pieces.{content_from}
 use Rattle.address_space.specs.Ranges.{IsStretch, place_number}
 use Rattle.address_space.specs.CursorWords.{IsRun, value_in}

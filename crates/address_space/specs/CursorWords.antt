@@ -1,5 +1,5 @@
 -- Where a search through all addresses has come.
-use Rattle.std.specs.Prelude.{◌≡◌, ◌<◌, ◌≤◌, ℕ, ◌+◌, ◌-◌, ◌*◌, ◌^◌, Bool, true, false, List, [], ◌++◌, length, drop, slice_index, Option, None, Some}
+use Rattle.std.specs.Prelude.{◌≡◌, ◌<◌, ◌≤◌, ℕ, ◌+◌, ◌-◌, ◌*◌, ◌^◌, Bool, true, false, List, ◌++◌, length, drop, slice_index, Option, None, Some}
 use Rattle.std.specs.Option.{option_map}
 use Rattle.elf_view.specs.Header.{SegmentView}
 use Rattle.address_space.specs.Source.{Space, decider, value_at}

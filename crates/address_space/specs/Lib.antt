@@ -7,3 +7,5 @@ pub mod SourceWords
 pub mod SpaceWords
 pub mod PieceWords
 pub mod CursorWords
+pub mod FindWords
+pub mod StringWords

@@ -1,6 +1,5 @@
 -- What the code's answers of a search through a table stand for.
-use Rattle.std.specs.Prelude.{ℕ, Option}
-use Rattle.std.specs.Option.{option_map}
+use Rattle.std.specs.Prelude.{ℕ}
 use Rattle.elf_view.specs.Header.{SegmentView}
 use Rattle.elf_view.specs.SegmentWords.{segment_view}
 use Rattle.address_space.specs.declared.scan.Decided.{Decided}

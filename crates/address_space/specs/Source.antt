@@ -1,7 +1,7 @@
 -- What stands at an address of a process's memory, as its core file tells it: the bytes of PT_LOAD segments, as far as the
 -- file has them (System V gABI, "Program Header"; core(5)), and the files that were mapped (core(5), NT_FILE), as far as
 -- executables that stand for them are attached.
-use Rattle.std.specs.Prelude.{ℕ, zero, suc, ◌+◌, ◌-◌, ◌*◌, ◌==◌, ◌&&◌, nat_lt, nat_le, if◌then◌else◌, Bool, List, [], ◌∷◌, length, map, filter, slice_index, Option, None, Some, find}
+use Rattle.std.specs.Prelude.{ℕ, zero, suc, ◌+◌, ◌-◌, ◌*◌, ◌==◌, ◌&&◌, nat_lt, nat_le, if◌then◌else◌, Bool, List, [], ◌∷◌, ◌++◌, length, map, filter, slice_index, Option, None, Some, find}
 use Rattle.std.specs.Str.{bytes_eq}
 use Rattle.elf_view.specs.Header.{SegmentView}
 use Rattle.core_notes.specs.FileList.{FileView}
@@ -16,6 +16,10 @@ pub record Space : Type 0 where
   pub segments : List SegmentView
   pub files : List FileView
   pub executables : List ExecutableView
+
+-- one more executable, attached last
+abbrev pub with_executable : Space → List ℕ → List ℕ → Space
+with_executable space path image = record space { executables = space.executables ++ (record { path = path; image = image }) ∷ [] }
 
 -- the first item that passes, with its number, where the first of the list has number i
 abbrev pub first_from : {A : Type 0} → (A → Bool) → ℕ → List A → Option (ℕ × A)

@@ -1,5 +1,5 @@
 -- What the code's address space stands for.
-use Rattle.std.specs.Prelude.{ℕ, List, [], map, Option, None, Some}
+use Rattle.std.specs.Prelude.{List, [], map, Option, None, Some}
 use Rattle.elf_view.specs.Header.{segments_of}
 use Rattle.elf_view.specs.ViewWords.{image_of}
 use Rattle.elf_view.specs.declared.view.Elf.{Elf}

@@ -56,7 +56,11 @@ fn values_by<'a>(run: Run<'a>, number: u64) -> Option<&'a [u8]>
         ((run.entry.number ≡ Some number → option_map (λ bytes. bytes.now) run.entry.bytes ≡ None))
         (λ b. (run.entry.number ≡ Some number) × (option_map (λ bytes. bytes.now) run.entry.bytes ≡ Some b.now)) }
 {
-    if run.number == Some(number) { run.bytes } else { None }
+    if run.number == Some(number) {
+        run.bytes
+    } else {
+        None
+    }
 }
 
 impl<'a> Cursor<'a> {

@@ -51,7 +51,11 @@ fn narrowed(start: u64, size: u64, at: u64, length: u64) -> u64
 }
 
 /// The segment that decides the address `at`, and how many addresses of the `limit` from there on it decides too.
-pub(crate) fn first_segment<'a>(mut segments: Segments<'a>, at: u64, limit: u64) -> (Option<Decided<'a>>, u64)
+pub(crate) fn first_segment<'a>(
+    mut segments: Segments<'a>,
+    at: u64,
+    limit: u64,
+) -> (Option<Decided<'a>>, u64)
     requires some { 0 < limit }
     requires few { length (segments_left segments) < 2 ^ 32 }
     ensures first { option_map decided_view result.0
@@ -75,7 +79,11 @@ pub(crate) fn first_segment<'a>(mut segments: Segments<'a>, at: u64, limit: u64)
 }
 
 /// The mapped file at the address `at`, and how many addresses of the `limit` from there on the same entry maps.
-pub(crate) fn first_file<'a>(mut files: FileMaps<'a>, at: u64, limit: u64) -> (Option<FileMap<'a>>, u64)
+pub(crate) fn first_file<'a>(
+    mut files: FileMaps<'a>,
+    at: u64,
+    limit: u64,
+) -> (Option<FileMap<'a>>, u64)
     requires { 0 < limit }
     ensures first { option_map file_view result.0
         ≡ option_map (λ (e : ℕ × FileView). e.1) (source.first_from (source.is_mapping at) 0 (files_left files.entry)) }

@@ -1,10 +1,12 @@
 // The address space of a core.
+use crate::find::Matches;
 use crate::mappings::Mappings;
 use crate::pieces::Pieces;
 use crate::source::{PieceKind, Source};
+use crate::strings::Strings;
 use core_notes::Files;
 use elf_view::Elf;
-use std::alloc::Global;
+use std::alloc::{AllocError, Global};
 
 /// An executable that stands for the mapped file of that path.
 #[derive(Clone, Copy, Debug)]
@@ -22,10 +24,14 @@ pub struct AddressSpace<'a> {
 }
 
 impl<'a> AddressSpace<'a> {
-    ghost use Rattle.std.specs.Prelude.{◌≡◌, ◌+◌, ◌^◌, ◌≤◌, []};
-    ghost use Rattle.address_space.specs.Source.{source_at, mappings_of};
+    ghost use Rattle.std.specs.Prelude.{◌≡◌, ◌+◌, ◌^◌, ◌<◌, ◌≤◌, [], OnErr, OnOk, length};
+    ghost use Rattle.address_space.specs.Source.{source_at, mappings_of, with_executable};
+    ghost use Rattle.elf_view.specs.ViewWords.{image_of};
     ghost use Rattle.address_space.specs.Pieces.{pieces_of};
+    ghost use Rattle.address_space.specs.Occurrence.{occurrences, strings_of};
     ghost use Rattle.address_space.specs.SourceWords.{source_view};
+    ghost use Rattle.address_space.specs.FindWords.{matches_left};
+    ghost use Rattle.address_space.specs.StringWords.{strings_left};
     ghost use Rattle.address_space.specs.SpaceWords.{space_of, space_view};
     ghost use Rattle.address_space.specs.PieceWords.{pieces_left, mappings_left};
 
@@ -40,6 +46,21 @@ impl<'a> AddressSpace<'a> {
             files,
             executables: Vec::new(alloc),
         }
+    }
+
+    /// Lets an executable stand for the mapped file of that path, where the core has no bytes. Of two with one path the
+    /// first stays. Where there is no memory nothing is attached.
+    #[tactic(auto, unfolding(crate::specs::SpaceWords::space_of))]
+    pub fn attach(&mut self, path: &'a [u8], elf: Elf<'a>) -> Result<(), AllocError>
+        ensures ok { OnOk result (space_of self.new
+            ≡ with_executable (space_of self.old) path.entry.now (image_of elf.entry)) }
+        ensures err { OnErr result (space_of self.new ≡ space_of self.old) }
+    {
+        self.executables.push(Executable {
+            path,
+            image: elf.image(),
+        })?;
+        Ok(())
     }
 
     /// What stands at an address. The first segment, in table order, that covers it decides.
@@ -62,6 +83,22 @@ impl<'a> AddressSpace<'a> {
         ensures { pieces_left result ≡ pieces_of (space_of self.now) first length }
     {
         Pieces::new(self, first, length)
+    }
+
+    /// Every address at which the bytes occur, by the number of the segment that decides it and then by itself.
+    pub fn find<'n>(&self, needle: &'n [u8]) -> Matches<'_, 'a, 'n>
+        requires { 0 < length needle.now }
+        ensures { matches_left result ≡ occurrences (space_of self.now) needle.now }
+    {
+        Matches::new(self, needle)
+    }
+
+    /// The stretches of text, each as long as can be, of at least `least` bytes: first address and length, ordered as matches
+    /// are by their first addresses. Bytes of text are those from the space to `~` and the tab.
+    pub fn strings(&self, least: u64) -> Strings<'_, 'a>
+        ensures { strings_left result ≡ strings_of (space_of self.now) least }
+    {
+        Strings::new(self, least)
     }
 
     /// The mappings, one for each PT_LOAD, in table order.

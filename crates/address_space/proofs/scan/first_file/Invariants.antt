@@ -1,4 +1,4 @@
-use Rattle.std.proofs.Common.{◌≡◌, ℕ, ◌+◌}
+use Rattle.std.proofs.Common.{ℕ}
 use Rattle.core_notes.specs.FileList.{FileView}
 use Rattle.core_notes.specs.FileWords.{files_left}
 use Rattle.address_space.proofs.Scanning.{Scanned}

@@ -2,7 +2,7 @@ use Rattle.std.proofs.Common.{◌+◌, sym, ◌∙◌, arith}
 use Rattle.elf_view.specs.Header.{SegmentView}
 use Rattle.elf_view.specs.SegmentWords.{segment_view, segments_left}
 use Rattle.address_space.specs.Source.{span}
-use Rattle.address_space.proofs.Scanning.{found_next, passed_next, ended_next}
+use Rattle.address_space.proofs.Scanning.{found_next, ended_next}
 use Rattle.address_space.proofs.scan.first_segment.Goals as goal
 
 pub returns-then-is_within-clause-alike : goal.returns-then-is_within-clause-alike

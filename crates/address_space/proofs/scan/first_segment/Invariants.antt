@@ -1,4 +1,4 @@
-use Rattle.std.proofs.Common.{◌≡◌, ℕ, ◌+◌, length}
+use Rattle.std.proofs.Common.{◌≡◌, ◌+◌, length}
 use Rattle.elf_view.specs.Header.{SegmentView}
 use Rattle.elf_view.specs.SegmentWords.{segments_left}
 use Rattle.address_space.specs.Source.{span}

@@ -1,4 +1,4 @@
-use Rattle.std.proofs.Common.{◌≡◌, ℕ, ◌+◌, ◌-◌, List, ◌∷◌, length, ap, sym, ◌∙◌, arith}
+use Rattle.std.proofs.Common.{ℕ, ◌+◌, ◌-◌, List, ◌∷◌, length, ap, ◌∙◌, arith}
 use Rattle.address_space.specs.Source.{Content}
 use Rattle.address_space.specs.Pieces.{PieceView, pieces_of}
 use Rattle.address_space.specs.SourceWords.{kind_view}

@@ -1,7 +1,7 @@
-use Rattle.std.proofs.Common.{rules, ◌≡◌, ◌<◌, ℕ, ◌+◌, ◌++◌, List, length, drop, ap, sym, ◌∙◌, arith, Some, None, ◌^◌}
+use Rattle.std.proofs.Common.{rules, ◌≡◌, ◌<◌, ◌+◌, ◌++◌, drop, ap, sym, ◌∙◌, arith, Some, None, ◌^◌}
 use Rattle.std.specs.Prelude.{slice_get}
 use Rattle.std.proofs.lemmas.Option.{slice_get_within}
-use Rattle.elf_view.specs.Header.{SegmentView, segments_of}
+use Rattle.elf_view.specs.Header.{segments_of}
 use Rattle.elf_view.specs.ViewWords.{image_of}
 use Rattle.elf_view.specs.SegmentWords.{segment_view}
 use Rattle.address_space.specs.Occurrence.{ordered_from, decided_from}

@@ -1,9 +1,8 @@
-use Rattle.std.proofs.Common.{◌≡◌, ℕ, ◌+◌, Some, None, Option, ap, sym, ◌∙◌, List}
-use Rattle.std.specs.Option.{option_map}
+use Rattle.std.proofs.Common.{◌≡◌, ℕ, Some, None, Option, ap, ◌∙◌}
 use Rattle.elf_view.specs.Header.{SegmentView}
 use Rattle.elf_view.specs.Field.{part}
 use Rattle.elf_view.specs.ViewWords.{image_of}
-use Rattle.address_space.specs.Source.{placed, place_at, decider, content_by}
+use Rattle.address_space.specs.Source.{decider, content_by}
 use Rattle.address_space.specs.Ranges.{place_number}
 use Rattle.address_space.specs.SpaceWords.{space_of}
 use Rattle.address_space.specs.ScanWords.{decided_view}

@@ -1,4 +1,4 @@
-use Rattle.std.proofs.Common.{◌≡◌, ℕ, ◌+◌, Some, Option, ap, subst, sym, ◌∙◌, refl, List}
+use Rattle.std.proofs.Common.{◌+◌, ap, ◌∙◌}
 use Rattle.elf_view.specs.Field.{part}
 use Rattle.core_notes.specs.FileWords.{file_view}
 use Rattle.address_space.specs.Source.{undumped, filed, entry_at, executable_named, content_by}
@@ -14,10 +14,10 @@ returns-in-Some-clause-stretch c i =
     let entry = with_number file_view c.file_at-length.result.0 c.in-Some.file (entry_at space at) c.in-Some.is c.file_at-length.ensures.first in
     let alike = c.file_at-length.ensures.alike in
     extended (λ b. undumped space b i (entry_at space b)) (λ b. filed b i (entry.0, file) (executable_named space file.name)) at c.args.limit c.file_at-length.result.1 c.locate_in_file.result.1
-        (c.locate_in_file.ensures.stretch i entry.0)
-        (λ k h. ap (undumped space (at + k) i) (alike.same k h ∙ entry.1))
-        alike.within
-        (λ h. undumped_apart space at (at + c.file_at-length.result.1) i (entry_at space at) (entry_at space (at + c.file_at-length.result.1)) (alike.longest h))
+    (c.locate_in_file.ensures.stretch i entry.0)
+    (λ k h. ap (undumped space (at + k) i) (alike.same k h ∙ entry.1))
+    alike.within
+    (λ h. undumped_apart space at (at + c.file_at-length.result.1) i (entry_at space at) (entry_at space (at + c.file_at-length.result.1)) (alike.longest h))
 
 pub returns-in-Some-clause-content : goal.returns-in-Some-clause-content
 returns-in-Some-clause-content c i =

@@ -1,4 +1,4 @@
-use Rattle.std.proofs.Common.{◌≡◌, ℕ, ◌+◌, ◌-◌, Some, arith, lit≤}
+use Rattle.std.proofs.Common.{◌+◌, ◌-◌, Some, arith}
 use Rattle.std.proofs.lemmas.Bool.{cond-true, le-leb}
 use Rattle.elf_view.specs.SegmentWords.{segment_view}
 use Rattle.address_space.specs.Source.{undumped, placed, entry_at}
@@ -12,7 +12,7 @@ returns-then-place-segment-clause-stretch c i =
     let at = c.args.at in
     let s = segment_view c.args.segment in
     extended (λ b. placed space b (Some (i, s))) (λ b. undumped space b i (entry_at space b)) at c.args.limit c.args.limit c.locate_undumped.result.1
-        (c.locate_undumped.ensures.stretch i)
-        (λ k h. cond-true _ _ _ (le-leb s.filesz (at + k - s.vaddr) (omega arith)))
-        (omega arith)
-        (λ h. absurd (omega arith))
+    (c.locate_undumped.ensures.stretch i)
+    (λ k h. cond-true _ _ _ (le-leb s.filesz (at + k - s.vaddr) (omega arith)))
+    (omega arith)
+    (λ h. absurd (omega arith))

@@ -1,4 +1,4 @@
-use Rattle.std.proofs.Common.{◌≡◌, ℕ, ◌+◌, ◌++◌, List, ap, drop, arith}
+use Rattle.std.proofs.Common.{◌+◌, ◌++◌, ap, drop, arith}
 use Rattle.address_space.specs.Occurrence.{ordered_from}
 use Rattle.address_space.specs.SpaceWords.{space_of}
 use Rattle.address_space.proofs.Ordering.{passed_over, run_passes}
@@ -11,6 +11,6 @@ returns-in-None-clause-same c test wants =
     let within = run.within in
     let n = c.run-run.result.length in
     ap (λ xs. xs ++ ordered_from space test (c.args.cursor.number + 1) (drop (c.args.cursor.number + 1) space.segments))
-        (passed_over space test c.args.cursor.number c.args.cursor.at c.args.cursor.left n c.saturating_add.result within
-            (run_passes space test c.args.cursor.number c.args.cursor.at c.args.cursor.left n _ _ wants run c.in-None.ensures)
-            (λ h. omega (arith, c.saturating_add.ensures)))
+    (passed_over space test c.args.cursor.number c.args.cursor.at c.args.cursor.left n c.saturating_add.result within
+    (run_passes space test c.args.cursor.number c.args.cursor.at c.args.cursor.left n _ _ wants run c.in-None.ensures)
+    (λ h. omega (arith, c.saturating_add.ensures)))

@@ -1,5 +1,3 @@
-use Rattle.std.proofs.Common.{List, ℕ}
-use Rattle.std.specs.Option.{option_map}
 use Rattle.address_space.specs.SourceWords.{kind_view}
 use Rattle.address_space.specs.SpaceWords.{space_of}
 use Rattle.address_space.proofs.Values.{run_of}
