@@ -126,21 +126,16 @@ impl<'s, 'a> Frames<'s, 'a> {
 }
 
 impl<'s, 'a> Iterator for Frames<'s, 'a> {
-    ghost use Rattle.std.specs.Iterator.{YieldsFirst, MakesProgress, item_count};
-    ghost use Rattle.std.specs.Prelude.{⊤};
-    ghost use Rattle.backtrace.specs.FrameWords.{frames_left, stop_left};
+    ghost use Rattle.std.specs.Iterator.{item_count};
+    ghost use Rattle.backtrace.specs.FrameWords.{GivesFrames, frames_left};
 
     type Item = Frame;
 
-    ghost next_gives = { YieldsFirst frames_left };
+    ghost next_gives = { GivesFrames };
 
     ghost remaining = { item_count frames_left };
 
-    fn next(&mut self) -> Option<Frame>
-        ensures steps { YieldsFirst frames_left self.old result self.new }
-        ensures goes { MakesProgress (λ _. ⊤) (item_count frames_left) self.old result self.new }
-        ensures stop { stop_left self.new ≡ stop_left self.old }
-    {
+    fn next(&mut self) -> Option<Frame> {
         let Ok(frame) = self.next else {
             return None;
         };
