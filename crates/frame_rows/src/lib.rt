@@ -5,3 +5,5 @@
 mod chains;
 #[cfg(test)]
 mod named;
+#[cfg(test)]
+mod real;
