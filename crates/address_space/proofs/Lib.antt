@@ -8,3 +8,4 @@ pub mod Ordering
 pub mod Finding
 pub mod Numbers
 pub mod Texts
+pub mod Coverings

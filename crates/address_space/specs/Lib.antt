@@ -9,3 +9,4 @@ pub mod PieceWords
 pub mod CursorWords
 pub mod FindWords
 pub mod StringWords
+pub mod Coverage

@@ -3,6 +3,7 @@
 
 mod cursor;
 mod find;
+mod laws;
 mod locate;
 mod mappings;
 mod pieces;
@@ -13,6 +14,7 @@ mod strings;
 mod words;
 
 pub use find::Matches;
+pub use laws::{cut_is_past_the_image, stretches_are_the_range, texts_are_maximal};
 pub use mappings::{Mapping, Mappings};
 pub use pieces::Pieces;
 pub use source::{FileSpot, Piece, PieceKind, Source};
