@@ -1,15 +1,21 @@
 // Cores, and the names that a template gives them.
 use crate::archives::{fresh, named, replies, tells_fresh};
+use inspector_cli::Naming;
 use std::alloc::Global;
 use std::process::Abort;
 use std::test::Fail;
 
+// What a session over this script writes on a fresh archive.
+fn answered(alloc: Global, naming: &Naming, script: &[u8]) -> Result<String, Fail> {
+    let mut archive = fresh(alloc, 1 << 30)?;
+    replies(alloc, &mut archive, naming, script)
+}
+
 // What the first line of a core is answered on a fresh archive, where this template names cores.
 fn begun(alloc: Global, template: &[u8], uses_pid: bool, pairs: &str) -> Result<String, Fail> {
-    let mut archive = fresh(alloc, 1 << 30)?;
-    let line = format!(in alloc; "begin core 0 {pairs}\n")?;
     let naming = named(template, uses_pid)?;
-    replies(alloc, &mut archive, &naming, line.as_bytes())
+    let line = format!(in alloc; "begin core 0 {pairs}\n")?;
+    answered(alloc, &naming, line.as_bytes())
 }
 
 // The first line of a core is answered so.

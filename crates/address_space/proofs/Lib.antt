@@ -1,0 +1,11 @@
+pub mod Scanning
+pub mod Naming
+pub mod Places
+pub mod Stretches
+pub mod Loads
+pub mod Values
+pub mod Ordering
+pub mod Finding
+pub mod Numbers
+pub mod Texts
+pub mod Coverings

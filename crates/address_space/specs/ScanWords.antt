@@ -1,0 +1,9 @@
+-- What the code's answers of a search through a table stand for.
+use Rattle.std.specs.Prelude.{ℕ}
+use Rattle.elf_view.specs.Header.{SegmentView}
+use Rattle.elf_view.specs.SegmentWords.{segment_view}
+use Rattle.address_space.specs.declared.scan.Decided.{Decided}
+
+-- a segment with its number
+abbrev pub decided_view : Decided → ℕ × SegmentView
+decided_view d = (d.number, segment_view d.segment)

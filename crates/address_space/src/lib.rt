@@ -1,0 +1,22 @@
+//! The memory of a process, as its core tells it: the program headers, the mapped files and attached executables.
+#![tactic(auto)]
+
+mod cursor;
+mod find;
+mod laws;
+mod locate;
+mod mappings;
+mod pieces;
+mod scan;
+mod source;
+mod space;
+mod strings;
+mod words;
+
+pub use find::Matches;
+pub use laws::{cut_is_past_the_image, stretches_are_the_range, texts_are_maximal};
+pub use mappings::{Mapping, Mappings};
+pub use pieces::Pieces;
+pub use source::{FileSpot, Piece, PieceKind, Source};
+pub use space::AddressSpace;
+pub use strings::Strings;

@@ -1,0 +1,175 @@
+// How many addresses from one on are of one place, and what stands there.
+ghost use Rattle.std.specs.Prelude.{◌≡◌, ◌+◌, ◌-◌, ◌^◌, ◌<◌, ◌≤◌, ℕ, List, Some, IfSome, length};
+ghost use Rattle.std.specs.Option.{option_map};
+ghost use Rattle.elf_view.specs.Field.{part};
+ghost use Rattle.elf_view.specs.SegmentWords.{segment_view};
+ghost use Rattle.core_notes.specs.FileList.{FileView};
+ghost use Rattle.core_notes.specs.FileWords.{file_view};
+ghost use Rattle.address_space.specs.Source as source;
+ghost use Rattle.address_space.specs.Pieces.{content_from};
+ghost use Rattle.address_space.specs.Ranges.{IsAlike, IsFull, IsStretch, place_number};
+ghost use Rattle.address_space.specs.ScanWords.{decided_view};
+ghost use Rattle.address_space.specs.SourceWords.{kind_view, spot_view};
+
+use crate::scan::{Decided, first_file, first_segment};
+use crate::source::{FileSpot, PieceKind};
+use crate::space::AddressSpace;
+use core_notes::FileMap;
+use elf_view::{Segment, part};
+
+/// Addresses of one place.
+#[derive(Clone, Copy, Debug)]
+pub(crate) struct Located<'a> {
+    /// The number of the segment that decides them.
+    pub number: Option<u64>,
+    /// How many there are.
+    pub length: u64,
+    /// What stands there.
+    pub kind: PieceKind<'a>,
+}
+
+impl<'a> AddressSpace<'a> {
+    ghost use Rattle.address_space.specs.SpaceWords.{space_of};
+
+    /// The image of the executable that stands for the file of that name.
+    #[tactic(auto, unfolding(crate::specs::SpaceWords::space_of, crate::specs::Source::executable_named))]
+    fn image_named(&self, name: &[u8]) -> Option<&'a [u8]>
+        ensures { option_map (λ image. image.now) result
+            ≡ option_map (λ (x : source.ExecutableView). x.image) (source.executable_named (space_of self.now) name.now) }
+    {
+        for executable in &self.executables {
+            if executable.path == name {
+                return Some(executable.image);
+            }
+        }
+        None
+    }
+
+    /// What stands at addresses that the entry maps and the core has no bytes for, and how many of the `limit` are of
+    /// one place.
+    fn locate_in_file(&self, file: FileMap<'a>, at: u64, limit: u64) -> (PieceKind<'a>, u64)
+        requires some { 0 < limit }
+        requires first { file.start ≤ at }
+        requires last { at < file.past }
+        ensures stretch { (i j : ℕ) → IsStretch (λ b. source.filed b i (j, file_view file.entry)
+            (source.executable_named (space_of self.now) file.entry.name.now)) at limit result.1 }
+        ensures content { (i j : ℕ) → source.content_by (λ bytes k. part bytes k result.1) at
+            (source.filed at i (j, file_view file.entry) (source.executable_named (space_of self.now) file.entry.name.now))
+            ≡ kind_view result.0 }
+        ensures full { IsFull result.1 (kind_view result.0) }
+    {
+        let offset = file.offset + (at - file.start);
+        if let Some(image) = self.image_named(file.name) {
+            let size = image.len() as u64;
+            if offset < size {
+                let length = limit.min(size - offset);
+                return (PieceKind::FromFile(part(image, offset, length)), length);
+            }
+        }
+        let spot = FileSpot {
+            name: file.name,
+            offset,
+        };
+        (PieceKind::NotDumped(Some(spot)), limit)
+    }
+
+    /// The mapped file at the address `at`, and how many addresses of the `limit` from there on the same entry maps.
+    #[tactic(auto, unfolding(crate::specs::SpaceWords::space_of, crate::specs::Source::entry_at))]
+    pub(crate) fn file_at(&self, at: u64, limit: u64) -> (Option<FileMap<'a>>, u64)
+        requires { 0 < limit }
+        ensures first { option_map file_view result.0
+            ≡ option_map (λ (e : ℕ × FileView). e.1) (source.entry_at (space_of self.now) at) }
+        ensures alike { IsAlike (source.entry_at (space_of self.now)) at limit result.1 }
+        ensures maps { IfSome result.0 (λ f. (f.start ≤ at) × (at < f.past)) }
+    {
+        match self.files {
+            Some(files) => first_file(files.maps(), at, limit),
+            None => (None, limit),
+        }
+    }
+
+    /// The segment that decides the address `at`, and how many addresses of the `limit` from there on it decides too.
+    #[tactic(auto, unfolding(crate::specs::SpaceWords::space_of, crate::specs::Source::decider))]
+    fn decide(&self, at: u64, limit: u64) -> (Option<Decided<'a>>, u64)
+        requires { 0 < limit }
+        ensures first { option_map decided_view result.0 ≡ source.decider (space_of self.now) at }
+        ensures alike { IsAlike (source.decider (space_of self.now)) at limit result.1 }
+        ensures covers { IfSome result.0 (λ d. d.segment.vaddr ≤ at) }
+    {
+        first_segment(self.elf.segments(), at, limit)
+    }
+
+    /// What stands at addresses of a segment that has no bytes for them, and how many of the `limit` are of one place.
+    fn locate_undumped(&self, at: u64, limit: u64) -> (PieceKind<'a>, u64)
+        requires { 0 < limit }
+        ensures stretch { (i : ℕ) → IsStretch (λ b. source.undumped (space_of self.now) b i
+            (source.entry_at (space_of self.now) b)) at limit result.1 }
+        ensures content { (i : ℕ) → source.content_by (λ bytes k. part bytes k result.1) at
+            (source.undumped (space_of self.now) at i (source.entry_at (space_of self.now) at)) ≡ kind_view result.0 }
+        ensures full { IsFull result.1 (kind_view result.0) }
+    {
+        let (file, length) = self.file_at(at, limit);
+        match file {
+            Some(file) => self.locate_in_file(file, at, length),
+            None => (PieceKind::NotDumped(None), length),
+        }
+    }
+
+    /// What stands at addresses that the segment decides, and how many of the `limit` are of one place.
+    fn locate_within(&self, segment: Segment<'a>, at: u64, limit: u64) -> (PieceKind<'a>, u64)
+        requires some { 0 < limit }
+        requires first { segment.vaddr ≤ at }
+        requires held { length segment.bytes.now ≤ segment.filesz }
+        ensures stretch { (i : ℕ) → IsStretch (λ b. source.placed (space_of self.now) b
+            (Some (i, segment_view segment.entry))) at limit result.1 }
+        ensures content { (i : ℕ) → source.content_by (λ bytes k. part bytes k result.1) at
+            (source.placed (space_of self.now) at (Some (i, segment_view segment.entry))) ≡ kind_view result.0 }
+        ensures full { IsFull result.1 (kind_view result.0) }
+    {
+        let place = at - segment.vaddr;
+        if place >= segment.filesz {
+            return self.locate_undumped(at, limit);
+        }
+        let size = segment.bytes.len() as u64;
+        if place >= size {
+            return (PieceKind::Cut, limit.min(segment.filesz - place));
+        }
+        let length = limit.min(size - place);
+        (PieceKind::Bytes(part(segment.bytes, place, length)), length)
+    }
+
+    /// What stands at addresses from `at` on, and how many of the `limit` are of one place.
+    pub(crate) fn locate(&self, at: u64, limit: u64) -> Located<'a>
+        requires { 0 < limit }
+        ensures stretch { IsStretch (source.place_at (space_of self.now)) at limit result.length }
+        ensures number { place_number (source.place_at (space_of self.now) at) ≡ result.number }
+        ensures content { content_from (space_of self.now) at result.length ≡ kind_view result.kind }
+        ensures full { IsFull result.length (kind_view result.kind) }
+    {
+        let (decided, length) = self.decide(at, limit);
+        let Some(decided) = decided else {
+            return Located {
+                number: None,
+                length,
+                kind: PieceKind::Unmapped,
+            };
+        };
+        let (kind, length) = self.locate_within(decided.segment, at, length);
+        Located {
+            number: Some(decided.number),
+            length,
+            kind,
+        }
+    }
+
+    /// Where the address lies in the file that is mapped there.
+    pub(crate) fn spot(&self, at: u64) -> Option<FileSpot<'a>>
+        ensures { option_map spot_view result ≡ source.spot_of at (source.entry_at (space_of self.now) at) }
+    {
+        let file = self.file_at(at, 1).0?;
+        Some(FileSpot {
+            name: file.name,
+            offset: file.offset + (at - file.start),
+        })
+    }
+}

@@ -1,0 +1,69 @@
+// The mappings of a process.
+ghost use Rattle.std.specs.Prelude.{◌≡◌, [], ◌∷◌, MatchOption, filter};
+ghost use Rattle.elf_view.specs.SegmentWords.{segment_view, segments_left};
+ghost use Rattle.address_space.specs.Source as source;
+
+use crate::scan::PT_LOAD;
+use crate::source::FileSpot;
+use crate::space::AddressSpace;
+use elf_view::{Segment, Segments};
+
+/// A mapping of a process: what a PT_LOAD tells of it.
+#[derive(Clone, Copy, Debug)]
+pub struct Mapping<'a> {
+    /// The first address.
+    pub start: u64,
+    /// How many addresses it has.
+    pub memsz: u64,
+    /// Its flags: 1 is PF_X, 2 is PF_W, 4 is PF_R.
+    pub flags: u32,
+    /// How many of its bytes the core is to have.
+    pub filesz: u64,
+    /// Where the first address lies in the file that is mapped there.
+    pub spot: Option<FileSpot<'a>>,
+}
+
+/// The mappings of a process, in the order of the program headers.
+#[derive(Clone, Copy)]
+pub struct Mappings<'s, 'a> {
+    pub(crate) space: &'s AddressSpace<'a>,
+    pub(crate) segments: Segments<'a>,
+}
+
+/// The next program header of a segment that is loaded.
+fn next_load<'a>(segments: &mut Segments<'a>) -> Option<Segment<'a>>
+    ensures { MatchOption result
+        ((filter source.is_load (segments_left segments.old) ≡ []) × (filter source.is_load (segments_left segments.new) ≡ []))
+        (λ s. filter source.is_load (segments_left segments.old)
+        ≡ segment_view s ∷ filter source.is_load (segments_left segments.new)) }
+{
+    while let Some(segment) = segments.next() {
+        if segment.kind == PT_LOAD {
+            return Some(segment);
+        }
+    }
+    None
+}
+
+impl<'s, 'a> Iterator for Mappings<'s, 'a> {
+    ghost use Rattle.std.specs.Iterator.{YieldsFirstBy, item_count};
+    ghost use Rattle.address_space.specs.PieceWords.{mapping_view, mappings_left};
+
+    type Item = Mapping<'a>;
+
+    ghost next_gives = { YieldsFirstBy mapping_view mappings_left };
+
+    ghost remaining = { item_count mappings_left };
+
+    #[tactic(auto, unfolding(crate::specs::Source::mappings_in))]
+    fn next(&mut self) -> Option<Mapping<'a>> {
+        let segment = next_load(&mut self.segments)?;
+        Some(Mapping {
+            start: segment.vaddr,
+            memsz: segment.memsz,
+            flags: segment.flags,
+            filesz: segment.filesz,
+            spot: self.space.spot(segment.vaddr),
+        })
+    }
+}

@@ -1,0 +1,114 @@
+// The address space of a core.
+use crate::find::Matches;
+use crate::mappings::Mappings;
+use crate::pieces::Pieces;
+use crate::source::{PieceKind, Source};
+use crate::strings::Strings;
+use core_notes::Files;
+use elf_view::Elf;
+use std::alloc::{AllocError, Global};
+
+/// An executable that stands for the mapped file of that path.
+#[derive(Clone, Copy, Debug)]
+pub(crate) struct Executable<'a> {
+    pub path: &'a [u8],
+    pub image: &'a [u8],
+}
+
+/// The memory of a process, as its core tells it.
+#[derive(Drop)]
+pub struct AddressSpace<'a> {
+    pub(crate) elf: Elf<'a>,
+    pub(crate) files: Option<Files<'a>>,
+    pub(crate) executables: Vec<Executable<'a>>,
+}
+
+impl<'a> AddressSpace<'a> {
+    ghost use Rattle.std.specs.Prelude.{◌≡◌, ◌+◌, ◌^◌, ◌<◌, ◌≤◌, [], OnErr, OnOk, length};
+    ghost use Rattle.address_space.specs.Source.{source_at, mappings_of, with_executable};
+    ghost use Rattle.elf_view.specs.ViewWords.{image_of};
+    ghost use Rattle.address_space.specs.Pieces.{pieces_of};
+    ghost use Rattle.address_space.specs.Occurrence.{occurrences, strings_of};
+    ghost use Rattle.address_space.specs.SourceWords.{source_view};
+    ghost use Rattle.address_space.specs.FindWords.{matches_left};
+    ghost use Rattle.address_space.specs.StringWords.{strings_left};
+    ghost use Rattle.address_space.specs.SpaceWords.{space_of, space_view};
+    ghost use Rattle.address_space.specs.PieceWords.{pieces_left, mappings_left};
+
+    /// The memory that the core's program headers tell of, with the mapped files that its NT_FILE names. No executable
+    /// is attached.
+    #[tactic(auto, unfolding(crate::specs::SpaceWords::space_of))]
+    pub fn new(alloc: Global, elf: &Elf<'a>, files: Option<Files<'a>>) -> AddressSpace<'a>
+        ensures { space_of result ≡ space_view elf.now files.entry [] }
+    {
+        AddressSpace {
+            elf: *elf,
+            files,
+            executables: Vec::new(alloc),
+        }
+    }
+
+    /// Lets an executable stand for the mapped file of that path, where the core has no bytes. Of two with one path the
+    /// first stays. Where there is no memory nothing is attached.
+    #[tactic(auto, unfolding(crate::specs::SpaceWords::space_of))]
+    pub fn attach(&mut self, path: &'a [u8], elf: Elf<'a>) -> Result<(), AllocError>
+        ensures ok { OnOk result (space_of self.new
+            ≡ with_executable (space_of self.old) path.entry.now (image_of elf.entry)) }
+        ensures err { OnErr result (space_of self.new ≡ space_of self.old) }
+    {
+        self.executables.push(Executable {
+            path,
+            image: elf.image(),
+        })?;
+        Ok(())
+    }
+
+    /// What stands at an address. The first segment, in table order, that covers it decides.
+    pub fn at(&self, address: u64) -> Source<'a>
+        ensures { source_view result ≡ source_at (space_of self.now) address }
+    {
+        match self.locate(address, 1).kind {
+            PieceKind::Bytes(bytes) => Source::Byte(bytes[0]),
+            PieceKind::FromFile(bytes) => Source::FromFile(bytes[0]),
+            PieceKind::NotDumped(spot) => Source::NotDumped(spot),
+            PieceKind::Cut => Source::Cut,
+            PieceKind::Unmapped => Source::Unmapped,
+        }
+    }
+
+    /// The pieces of `length` addresses from `first` on, in rising order: neighbours are in one piece exactly where kind,
+    /// deciding segment and, for those without bytes in the core, the entry of NT_FILE are the same.
+    pub fn pieces(&self, first: u64, length: u64) -> Pieces<'_, 'a>
+        requires { first + length ≤ 2 ^ 64 }
+        ensures { pieces_left result ≡ pieces_of (space_of self.now) first length }
+    {
+        Pieces::new(self, first, length)
+    }
+
+    /// Every address at which the bytes occur, by the number of the segment that decides it and then by itself.
+    pub fn find<'n>(&self, needle: &'n [u8]) -> Matches<'_, 'a, 'n>
+        requires { 0 < length needle.now }
+        ensures { matches_left result ≡ occurrences (space_of self.now) needle.now }
+    {
+        Matches::new(self, needle)
+    }
+
+    /// The stretches of text, each as long as can be, of at least `least` bytes: first address and length, ordered as matches
+    /// are by their first addresses. Bytes of text are those from the space to `~` and the tab.
+    pub fn strings(&self, least: u64) -> Strings<'_, 'a>
+        ensures { strings_left result ≡ strings_of (space_of self.now) least }
+    {
+        Strings::new(self, least)
+    }
+
+    /// The mappings, one for each PT_LOAD, in table order.
+    #[tactic(auto, unfolding(crate::specs::SpaceWords::space_of))]
+    pub fn mappings(&self) -> Mappings<'_, 'a>
+        ensures { mappings_left result ≡ mappings_of (space_of self.now) }
+    {
+        Mappings {
+            space: self,
+            segments: self.elf.segments(),
+        }
+    }
+}

@@ -1,0 +1,147 @@
+// Frames, one after another.
+ghost use Rattle.std.specs.Prelude.{◌≡◌, ◌≤◌};
+ghost use Rattle.std.specs.Result.{ForOk};
+ghost use Rattle.backtrace.specs.Chain as spec;
+ghost use Rattle.backtrace.specs.MemoryWords.{memory_of};
+ghost use Rattle.backtrace.specs.declared.frames.Frame as numbers;
+
+use address_space::AddressSpace;
+
+/// The number of the last frame that is looked at.
+const LAST: u64 = 1023;
+
+/// A frame of a stack.
+#[derive(Clone, Copy, Debug, PartialEq, Eq)]
+pub struct Frame {
+    /// Its number, 0 where execution stands.
+    pub index: u64,
+    /// The pc in frame 0, else the return address into this frame.
+    pub pc: u64,
+    /// The frame pointer.
+    pub fp: u64,
+}
+
+/// Why a chain of frames ends.
+#[derive(Clone, Copy, Debug, PartialEq, Eq)]
+pub enum Stop {
+    /// The frame pointer is neither 0 nor above that of the frame before.
+    NotRising,
+    /// The frame pointer is 0.
+    ZeroLink,
+    /// The frame pointer is no multiple of 8.
+    Misaligned,
+    /// The 16 bytes below the frame pointer are not all there.
+    Unreadable,
+    /// The frame has number 1,023.
+    Limit,
+}
+
+/// The frames of a stack, from the innermost on.
+#[derive(Clone, Copy)]
+pub struct Frames<'s, 'a> {
+    space: &'s AddressSpace<'a>,
+    before: Option<u64>,
+    next: Result<Frame, Stop>,
+    ghost few: { ForOk next (λ (f : numbers.Frame). f.index ≤ 1023) },
+}
+
+/// Whether a frame pointer is neither 0 nor above that of the frame before, if there is one.
+fn is_not_rising(before: Option<u64>, fp: u64) -> bool
+    ensures { result ≡ spec.is_not_rising before fp }
+{
+    match before {
+        Some(before) => fp != 0 && fp <= before,
+        None => false,
+    }
+}
+
+/// The words at 8 and at 16 below a frame pointer: the return address and the caller's frame pointer.
+#[tactic(auto, unfolding(crate::specs::Chain::link_below))]
+fn link_below(space: &AddressSpace<'_>, fp: u64) -> Option<(u64, u64)>
+    ensures { result ≡ spec.link_below (memory_of space.now) fp }
+{
+    if fp < 16 {
+        return None;
+    }
+    let pc = space.read_u64(fp - 8)?;
+    let link = space.read_u64(fp - 16)?;
+    Some((pc, link))
+}
+
+/// The frame behind one, or the first reason why there is none.
+#[tactic(auto, unfolding(crate::specs::Chain::step))]
+fn step(space: &AddressSpace<'_>, before: Option<u64>, frame: Frame) -> Result<Frame, Stop>
+    requires { frame.index ≤ 1023 }
+    ensures step { result ≡ spec.step (memory_of space.now) before frame }
+    ensures few { ForOk result (λ (f : numbers.Frame). f.index ≤ 1023) }
+{
+    if is_not_rising(before, frame.fp) {
+        return Err(Stop::NotRising);
+    }
+    if frame.fp == 0 {
+        return Err(Stop::ZeroLink);
+    }
+    if frame.fp % 8 != 0 {
+        return Err(Stop::Misaligned);
+    }
+    let Some((pc, fp)) = link_below(space, frame.fp) else {
+        return Err(Stop::Unreadable);
+    };
+    if frame.index == LAST {
+        return Err(Stop::Limit);
+    }
+    Ok(Frame {
+        index: frame.index + 1,
+        pc,
+        fp,
+    })
+}
+
+impl<'s, 'a> Frames<'s, 'a> {
+    ghost use Rattle.backtrace.specs.FrameWords.{frames_left, stop_left};
+
+    /// The frames from a pc and a frame pointer on.
+    #[tactic(auto, unfolding(crate::specs::FrameWords::frames_left, crate::specs::FrameWords::stop_left, crate::specs::Chain::chain, crate::specs::Chain::stop_of))]
+    pub fn new(space: &'s AddressSpace<'a>, pc: u64, fp: u64) -> Frames<'s, 'a>
+        ensures frames { frames_left result ≡ spec.chain (memory_of space.now) pc fp }
+        ensures stop { stop_left result ≡ spec.stop_of (memory_of space.now) pc fp }
+    {
+        Frames {
+            space,
+            before: None,
+            next: Ok(Frame { index: 0, pc, fp }),
+        }
+    }
+
+    /// Why the frames ended, once they have. Of a frame's reasons it is the first in the order of [`Stop`].
+    #[tactic(auto, using(crate::proofs::Steps::some_left), unfolding(crate::specs::FrameWords::frames_left, crate::specs::FrameWords::stop_left))]
+    pub fn stop(&self) -> Option<Stop>
+        ensures { result ≡ spec.told (frames_left self.now) (stop_left self.now) }
+    {
+        match self.next {
+            Ok(_) => None,
+            Err(stop) => Some(stop),
+        }
+    }
+}
+
+impl<'s, 'a> Iterator for Frames<'s, 'a> {
+    ghost use Rattle.std.specs.Iterator.{item_count};
+    ghost use Rattle.backtrace.specs.FrameWords.{GivesFrames, frames_left};
+
+    type Item = Frame;
+
+    ghost next_gives = { GivesFrames };
+
+    ghost remaining = { item_count frames_left };
+
+    fn next(&mut self) -> Option<Frame> {
+        let Ok(frame) = self.next else {
+            return None;
+        };
+        let next = step(self.space, self.before, frame);
+        self.before = Some(frame.fp);
+        self.next = next;
+        Some(frame)
+    }
+}

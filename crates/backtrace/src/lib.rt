@@ -1,0 +1,11 @@
+//! The frames of a thread's stack, by the chain of frame pointers.
+//!
+//! [`Frames`] goes from a pc and a frame pointer up the stack, one frame an item, and says by [`Frames::stop`] why it
+//! ended.
+#![tactic(auto)]
+
+mod frames;
+mod laws;
+
+pub use frames::{Frame, Frames, Stop};
+pub use laws::the_frames_are_the_chain;

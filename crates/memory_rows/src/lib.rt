@@ -1,0 +1,7 @@
+//! Tests of the memory of a core: sources, pieces, matches, texts, numbers and mappings.
+#![tactic(auto)]
+
+#[cfg(test)]
+mod memory;
+#[cfg(test)]
+mod small;

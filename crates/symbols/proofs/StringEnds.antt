@@ -1,0 +1,70 @@
+-- Where the names of a string table end.
+use Rattle.std.proofs.Common.{◌≡◌, ◌<◌, ◌≤◌, ◌+◌, ◌-◌, ℕ, Bool, true, false, List, Some, None, length, get_or, take, drop, min, leb, refl, sym, ap, ⊎_elim, ◌∙◌, arith}
+use Rattle.std.specs.List.{position_or_len, before_first}
+use Rattle.std.proofs.lemmas.Bool.{le-leb, lt-leb, cases_lt}
+use Rattle.std.proofs.lemmas.List.{get_or-drop, length-drop, take_all, drop_all}
+use Rattle.std.proofs.lemmas.List.Elements.{All-from_get_or}
+use Rattle.std.proofs.lemmas.List.Folds.{list_any_at, list_any_none}
+use Rattle.std.proofs.lemmas.List.Sums.{position_or_len_is}
+use Rattle.memchr.specs.Find.{IsFirstByte, IsLastByte, is_byte}
+use Rattle.symbols.specs.SymbolTable.{ends_in_nul, name_at}
+
+not_yet : (t : Bool) → (t ≡ true → ⊥) → t ≡ false
+not_yet true h = absurd (h refl)
+not_yet false h = refl
+
+-- one stands there or behind where the last does
+pub ended : (s : List ℕ) (place last : ℕ) → IsLastByte (is_byte 0) s (Some last) → place ≤ last → ends_in_nul s place ≡ true
+unfolding ends_in_nul
+ended s place last h behind =
+    let i : place + (last - place) ≡ last = omega arith in
+    list_any_at (is_byte 0) (drop place s) (last - place) 0 (omega (arith, length-drop place s, h.0.high)) (ap (is_byte 0) (get_or-drop place s (last - place) 0 ∙ ap (λ k. get_or s k 0) i) ∙ h.1)
+
+none_from : (s : List ℕ) (place : ℕ) → ((k : ℕ) → place ≤ k → k < length s → is_byte 0 (get_or s k 0) ≡ false) → ends_in_nul s place ≡ false
+unfolding ends_in_nul
+none_from s place none =
+    list_any_none (is_byte 0) (drop place s) (All-from_get_or (λ x. is_byte 0 x ≡ false) (drop place s) 0 (λ i lt. ap (is_byte 0) (get_or-drop place s i 0) ∙ none (place + i) (omega arith) (omega (arith, lt, length-drop place s))))
+
+pub unended : (s : List ℕ) (place last : ℕ) → IsLastByte (is_byte 0) s (Some last) → last < place → ends_in_nul s place ≡ false
+unended s place last h behind = none_from s place (λ k low lt. not_yet _ (h.0.after k (omega arith) lt))
+
+pub none_ended : (s : List ℕ) (place : ℕ) → IsLastByte (is_byte 0) s None → ends_in_nul s place ≡ false
+none_ended s place h = none_from s place (λ k low lt. not_yet _ (h k (omega arith) lt))
+
+-- the last decides
+pub last_decides : (s : List ℕ) (place last : ℕ) → IsLastByte (is_byte 0) s (Some last) → leb place last ≡ ends_in_nul s place
+last_decides s place last h =
+    ⊎_elim
+    (λ before. lt-leb place last before ∙ sym (unended s place last h before))
+    (λ behind. le-leb place last behind ∙ sym (ended s place last h behind))
+    (cases_lt last place)
+
+-- the place that was found, and none found
+found_at : (xs : List ℕ) (k : ℕ) → IsFirstByte (is_byte 0) xs (Some k) → position_or_len (is_byte 0) xs ≡ k
+found_at xs k h = position_or_len_is (is_byte 0) xs k 0 (omega (arith, h.0.high)) (λ i lt. not_yet _ (h.0.before i (omega arith) lt)) (λ lt. h.1)
+
+found_none : (xs : List ℕ) → IsFirstByte (is_byte 0) xs None → position_or_len (is_byte 0) xs ≡ length xs
+found_none xs h = position_or_len_is (is_byte 0) xs (length xs) 0 (omega arith) (λ i lt. not_yet _ (h i (omega arith) lt)) (λ lt. absurd (omega arith))
+
+-- the bytes from a place on, which may be past the end
+from_place : (s : List ℕ) (place start : ℕ) → start ≡ min place (length s) → take (length s - start) (drop start s) ≡ drop place s
+from_place s place start is =
+    take_all (length s - start) (drop start s) (omega (arith, length-drop start s))
+    ∙ ⊎_elim
+    (λ past.
+    let end : start ≡ length s = omega arith in
+    ap (λ n. drop n s) end ∙ drop_all (length s) s (omega arith) ∙ sym (drop_all place s (omega arith)))
+    (λ within.
+    let same : start ≡ place = omega arith in ap (λ n. drop n s) same)
+    (cases_lt (length s) place)
+
+-- a name is the bytes before the first NUL, and all of them where there is none
+pub name_found : (s : List ℕ) (place start end : ℕ) → start ≡ min place (length s) → IsFirstByte (is_byte 0) (take (length s - start) (drop start s)) (Some end) → take end (take (length s - start) (drop start s)) ≡ name_at s place
+name_found s place start end is h =
+    let rest = take (length s - start) (drop start s) in
+    ap (λ n. take n rest) (sym (found_at rest end h)) ∙ ap (before_first (is_byte 0)) (from_place s place start is)
+
+pub name_open : (s : List ℕ) (place start : ℕ) → start ≡ min place (length s) → IsFirstByte (is_byte 0) (take (length s - start) (drop start s)) None → take (length s - start) (drop start s) ≡ name_at s place
+name_open s place start is h =
+    let rest = take (length s - start) (drop start s) in
+    sym (take_all (length rest) rest (omega arith)) ∙ ap (λ n. take n rest) (sym (found_none rest h)) ∙ ap (before_first (is_byte 0)) (from_place s place start is)
