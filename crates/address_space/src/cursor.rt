@@ -1,10 +1,6 @@
 // Going through all addresses that have a value, by the number of the segment that decides them.
-ghost use Rattle.std.specs.Prelude.{◌≡◌, ◌+◌, ◌^◌, ◌<◌, ◌≤◌, ◌-◌, ℕ, Bool, [], Some, None, MatchOption, IfSome, drop, length};
-ghost use Rattle.std.specs.Option.{option_map};
-ghost use Rattle.elf_view.specs.Header.{SegmentView};
-ghost use Rattle.address_space.specs.Source.{span, value_at};
-ghost use Rattle.address_space.specs.Occurrence.{ordered, ordered_from};
-ghost use Rattle.address_space.specs.SourceWords.{bytes_in, kind_view};
+ghost use Rattle.std.specs.Prelude.{◌≡◌, ◌+◌, ◌-◌, ◌^◌, ◌<◌, ◌≤◌, ℕ, Bool, [], MatchOption, IfSome, drop, length};
+ghost use Rattle.address_space.specs.Occurrence.{ordered_from};
 
 use crate::runs::values_by;
 use crate::scan::span;
