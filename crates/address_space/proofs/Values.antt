@@ -1,14 +1,16 @@
 -- The values of addresses of one place.
+use Rattle.std.specs.Option.{option_map}
+use Rattle.std.specs.List.{find}
 use Rattle.std.proofs.Common.{◌≡◌, ◌<◌, ◌≤◌, ℕ, ◌+◌, ◌-◌, leb, ltb, cond, Bool, true, false, List, [], ◌∷◌, length, drop, get_or, Option, None, Some, refl, sym, ap, ◌∙◌, arith, inl, inr}
 use Rattle.std.proofs.lemmas.List.{get_or-take, get_or-drop}
-use Rattle.std.proofs.lemmas.Bool.{and_parts, leb-true, cond-true, cond-false, cases_Bool}
+use Rattle.std.proofs.lemmas.Bool.{and_parts, leb-true, cond-true, cond-false, cases_Bool, le-leb, lt-leb}
 use Rattle.std.proofs.lemmas.Option.{same_Some, none-some}
 use Rattle.elf_view.specs.Header.{SegmentView}
 use Rattle.elf_view.specs.Field.{part}
 use Rattle.core_notes.specs.FileList.{FileView}
-use Rattle.address_space.specs.Source.{Space, Place, nowhere, dumped, cut_off, unwritten, in_file, first_from, is_covering, is_mapping, span, decider, entry_at, placed, undumped, filed, place_at, executable_named, ExecutableView, spot_in, Content, content_by, value_of}
+use Rattle.address_space.specs.Source.{Space, Place, nowhere, dumped, cut_off, unwritten, in_file, first_from, is_covering, is_mapping, span, decider, entry_at, placed, undumped, filed, place_at, executable_named, ExecutableView, spot_in, Content, content_by, value_of, is_named}
 use Rattle.address_space.specs.Pieces.{content_from}
-use Rattle.address_space.specs.Ranges.{IsStretch, place_number}
+use Rattle.address_space.specs.Ranges.{IsStretch, place_number, IsAlike}
 use Rattle.address_space.specs.CursorWords.{IsRun, value_in}
 use Rattle.address_space.specs.SourceWords.{bytes_in}
 use Rattle.address_space.proofs.Places.{placed_number}
@@ -74,4 +76,46 @@ run_of space a limit n number content bytes s num is bytes_is = record {
   decided = λ k h. sym (placed_number space (a + k) (decider space (a + k))) ∙ ap place_number (s.same k h) ∙ num;
   values = λ k h.
       ap (λ p. value_of (content_by (λ b j. get_or b j 0) (a + k) p)) (s.same k h) ∙ value_within (place_at space a) a n k (begun space a) h ∙ ap (λ c. value_in (bytes_in c) k) is ∙ ap (λ o. value_in o k) (sym bytes_is);
+}
+
+-- where no executable is attached, an address without a byte in the core has no value
+undumped_alone : (space : Space) (b i : ℕ) (e : Option (ℕ × FileView)) → space.executables ≡ [] → value_of (content_by (λ x j. get_or x j 0) b (undumped space b i e)) ≡ None
+unfolding executable_named
+undumped_alone space b i None none = refl
+undumped_alone space b i (Some e) none = ap (λ xs. value_of (content_by (λ x j. get_or x j 0) b (filed b i e (find (is_named e.1.name) xs)))) none
+
+abbrev value_placed : Space → ℕ → ℕ → SegmentView → Option ℕ
+value_placed space b i s = value_of (content_by (λ x j. get_or x j 0) b (placed space b (Some (i, s))))
+
+pub no_byte : (space : Space) (b i : ℕ) (s : SegmentView) → space.executables ≡ [] → length s.bytes ≤ b - s.vaddr → value_placed space b i s ≡ None
+no_byte space b i s none past = elim (cases_Bool (leb s.filesz (b - s.vaddr))) as (λ _. value_placed space b i s ≡ None) [
+  | inl behind ↦ ap (λ p. value_of (content_by (λ x j. get_or x j 0) b p)) (cond-true (leb s.filesz (b - s.vaddr)) (undumped space b i (entry_at space b)) (cond (leb (length s.bytes) (b - s.vaddr)) (cut_off i) (dumped i s)) behind) ∙ undumped_alone space b i (entry_at space b) none
+  | inr within ↦ ap (λ p. value_of (content_by (λ x j. get_or x j 0) b p)) (cond-false (leb s.filesz (b - s.vaddr)) (undumped space b i (entry_at space b)) (cond (leb (length s.bytes) (b - s.vaddr)) (cut_off i) (dumped i s)) within ∙ cond-true (leb (length s.bytes) (b - s.vaddr)) (cut_off i) (dumped i s) (le-leb (length s.bytes) (b - s.vaddr) past))
+]
+
+pub byte_here : (space : Space) (a k n i : ℕ) (s : SegmentView) → s.vaddr ≤ a → k < n → a - s.vaddr + n ≤ length s.bytes → length s.bytes ≤ s.filesz → value_placed space (a + k) i s ≡ Some (get_or (part s.bytes (a - s.vaddr) n) k 0)
+byte_here space a k n i s low h fits held =
+    let b = a + k in
+    let e : b - s.vaddr ≡ a - s.vaddr + k = omega arith in
+    ap (λ p. value_of (content_by (λ x j. get_or x j 0) b p)) (cond-false (leb s.filesz (b - s.vaddr)) (undumped space b i (entry_at space b)) (cond (leb (length s.bytes) (b - s.vaddr)) (cut_off i) (dumped i s)) (lt-leb s.filesz (b - s.vaddr) (omega arith)) ∙ cond-false (leb (length s.bytes) (b - s.vaddr)) (cut_off i) (dumped i s) (lt-leb (length s.bytes) (b - s.vaddr) (omega arith)))
+    ∙ ap Some (byte_of_part s.bytes (a - s.vaddr) n k (b - s.vaddr) h e)
+
+-- what is known of addresses that one segment decides, and of those that none does
+pub run_decided_by : (space : Space) (a limit m n : ℕ) (d : ℕ × SegmentView) (bytes : Option (List ℕ)) → decider space a ≡ Some d → IsAlike (decider space) a limit m → 0 < n → n ≤ m → ((k : ℕ) → k < n → value_placed space (a + k) d.0 d.1 ≡ value_in bytes k) → IsRun space a limit n (Some d.0) bytes
+unfolding place_at
+run_decided_by space a limit m n d bytes is alike some le values =
+    let within = alike.within in record {
+      some = some;
+      within = omega arith;
+      decided = λ k h. ap (option_map (λ (e : ℕ × SegmentView). e.0)) (alike.same k (omega arith) ∙ is);
+      values = λ k h. ap (λ o. value_of (content_by (λ x j. get_or x j 0) (a + k) (placed space (a + k) o))) (alike.same k (omega arith) ∙ is) ∙ values k h;
+    }
+
+pub run_undecided : (space : Space) (a limit m : ℕ) → decider space a ≡ None → IsAlike (decider space) a limit m → IsRun space a limit m None None
+unfolding place_at
+run_undecided space a limit m is alike = record {
+  some = alike.some;
+  within = alike.within;
+  decided = λ k h. ap (option_map (λ (e : ℕ × SegmentView). e.0)) (alike.same k h ∙ is);
+  values = λ k h. ap (λ o. value_of (content_by (λ x j. get_or x j 0) (a + k) (placed space (a + k) o))) (alike.same k h ∙ is);
 }

@@ -1,26 +1,11 @@
 // Going through all addresses that have a value, by the number of the segment that decides them.
-ghost use Rattle.std.specs.Prelude.{◌≡◌, ◌+◌, ◌^◌, ◌<◌, ◌≤◌, ◌-◌, ℕ, Bool, [], Some, None, MatchOption, IfSome, drop, length};
-ghost use Rattle.std.specs.Option.{option_map};
-ghost use Rattle.elf_view.specs.Header.{SegmentView};
-ghost use Rattle.address_space.specs.Source.{span, value_at};
-ghost use Rattle.address_space.specs.Occurrence.{ordered, ordered_from};
-ghost use Rattle.address_space.specs.SourceWords.{bytes_in, kind_view};
+ghost use Rattle.std.specs.Prelude.{◌≡◌, ◌+◌, ◌-◌, ◌^◌, ◌<◌, ◌≤◌, ℕ, Bool, [], MatchOption, IfSome, drop, length};
+ghost use Rattle.address_space.specs.Occurrence.{ordered_from};
 
+use crate::runs::values_by;
 use crate::scan::span;
-use crate::source::PieceKind;
 use crate::space::AddressSpace;
 use elf_view::accepted_segments_fit;
-
-/// Addresses with one deciding segment, which all have a value or none.
-#[derive(Clone, Copy, Debug)]
-pub(crate) struct Run<'a> {
-    /// The number of the segment.
-    pub number: Option<u64>,
-    /// How many addresses there are.
-    pub length: u64,
-    /// Their values.
-    pub bytes: Option<&'a [u8]>,
-}
 
 /// Where a search has come.
 #[derive(Clone, Copy, Debug)]
@@ -35,32 +20,6 @@ pub(crate) struct Cursor<'a> {
     pub here: &'a [u8],
     ghost fits: { at + left ≤ 2 ^ 64 },
     ghost within: { length here.now ≤ left },
-}
-
-/// The values of the addresses of a piece.
-fn bytes_of(kind: PieceKind) -> Option<&[u8]>
-    ensures { option_map (λ bytes. bytes.now) result ≡ bytes_in (kind_view kind.entry) }
-{
-    match kind {
-        PieceKind::Bytes(bytes) => Some(bytes),
-        PieceKind::FromFile(bytes) => Some(bytes),
-        PieceKind::NotDumped(_) => None,
-        PieceKind::Cut => None,
-        PieceKind::Unmapped => None,
-    }
-}
-
-/// The values of the addresses, where the segment of that number decides them.
-fn values_by<'a>(run: Run<'a>, number: u64) -> Option<&'a [u8]>
-    ensures { MatchOption result
-        ((run.entry.number ≡ Some number → option_map (λ bytes. bytes.now) run.entry.bytes ≡ None))
-        (λ b. (run.entry.number ≡ Some number) × (option_map (λ bytes. bytes.now) run.entry.bytes ≡ Some b.now)) }
-{
-    if run.number == Some(number) {
-        run.bytes
-    } else {
-        None
-    }
 }
 
 impl<'a> Cursor<'a> {
@@ -88,23 +47,8 @@ impl<'a> Cursor<'a> {
 }
 
 impl<'a> AddressSpace<'a> {
-    ghost use Rattle.address_space.specs.CursorWords.{IsPlaced, IsRun, WantsValue, to_come, work_left};
+    ghost use Rattle.address_space.specs.CursorWords.{IsPlaced, WantsValue, to_come, work_left};
     ghost use Rattle.address_space.specs.SpaceWords.{space_of};
-
-    /// The values of addresses from `at` on, if they have any.
-    pub(crate) fn run(&self, at: u64, limit: u64) -> Run<'a>
-        requires { 0 < limit }
-        ensures run { IsRun (space_of self.now) at limit result.length result.number
-            (option_map (λ bytes. bytes.now) result.bytes) }
-        ensures full { IfSome result.bytes (λ bytes. length bytes.now ≡ result.length) }
-    {
-        let located = self.locate(at, limit);
-        Run {
-            number: located.number,
-            length: located.length,
-            bytes: bytes_of(located.kind),
-        }
-    }
 
     /// There are fewer than 2^32 program headers. It does nothing.
     #[tactic(auto, unfolding(crate::specs::SpaceWords::space_of))]

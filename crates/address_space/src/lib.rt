@@ -7,6 +7,7 @@ mod laws;
 mod locate;
 mod mappings;
 mod pieces;
+mod runs;
 mod scan;
 mod source;
 mod space;

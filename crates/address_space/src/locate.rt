@@ -90,7 +90,7 @@ impl<'a> AddressSpace<'a> {
 
     /// The segment that decides the address `at`, and how many addresses of the `limit` from there on it decides too.
     #[tactic(auto, unfolding(crate::specs::SpaceWords::space_of, crate::specs::Source::decider))]
-    fn decide(&self, at: u64, limit: u64) -> (Option<Decided<'a>>, u64)
+    pub(crate) fn decide(&self, at: u64, limit: u64) -> (Option<Decided<'a>>, u64)
         requires { 0 < limit }
         ensures first { option_map decided_view result.0 ≡ source.decider (space_of self.now) at }
         ensures alike { IsAlike (source.decider (space_of self.now)) at limit result.1 }
