@@ -71,19 +71,19 @@ retire_told (Ok d) is = decision_told d.dropped.items d.unmet is
 retire_told (Err f) is = told_as_disk f is
 
 -- a disk fault stops the archive
-finish_stops : (old new : Bare) (slot : ℕ) (r : Result ℕ ArchiveFault) → FinishStep old slot r new → IsDiskFault r → new.stopped ≡ true
+pub finish_stops : (old new : Bare) (slot : ℕ) (r : Result ℕ ArchiveFault) → FinishStep old slot r new → IsDiskFault r → new.stopped ≡ true
 finish_stops old new slot (Ok seq) step is = absurd is
 finish_stops old new slot (Err f) step is = ap (λ (b : Bare). b.stopped) (subst (λ (x : ArchiveFault). FinishStep old slot (Err x) new) is step).2
 
-delete_stops : (old new : Bare) (seq : ℕ) (r : Result (Unit {0}) ArchiveFault) → DeleteStep old seq r new → IsDiskFault r → new.stopped ≡ true
+pub delete_stops : (old new : Bare) (seq : ℕ) (r : Result (Unit {0}) ArchiveFault) → DeleteStep old seq r new → IsDiskFault r → new.stopped ≡ true
 delete_stops old new seq (Ok u) step is = absurd is
 delete_stops old new seq (Err f) step is = ap (λ (b : Bare). b.stopped) (subst (λ (x : ArchiveFault). DeleteStep old seq (Err x) new) is step).4
 
-pin_stops : (old new : Bare) (seq : ℕ) (flag : Bool) (r : Result (Unit {0}) ArchiveFault) → PinStep old seq flag r new → IsDiskFault r → new.stopped ≡ true
+pub pin_stops : (old new : Bare) (seq : ℕ) (flag : Bool) (r : Result (Unit {0}) ArchiveFault) → PinStep old seq flag r new → IsDiskFault r → new.stopped ≡ true
 pin_stops old new seq flag (Ok u) step is = absurd is
 pin_stops old new seq flag (Err f) step is = ap (λ (b : Bare). b.stopped) (subst (λ (x : ArchiveFault). PinStep old seq flag (Err x) new) is step).4
 
-retire_stops : (old new : Bare) (policy : Policy) (r : Result Decision ArchiveFault) → RetireStep old policy r new → IsDiskFault r → new.stopped ≡ true
+pub retire_stops : (old new : Bare) (policy : Policy) (r : Result Decision ArchiveFault) → RetireStep old policy r new → IsDiskFault r → new.stopped ≡ true
 retire_stops old new policy (Ok d) step is = absurd is
 retire_stops old new policy (Err f) step is = ap (λ (b : Bare). b.stopped) (subst (λ (x : ArchiveFault). RetireStep old policy (Err x) new) is step).4
 
@@ -223,7 +223,7 @@ module _ {D : Type 0} (g : disk.Ghosts D) where
   still : (old new : Parts D) (what : Said) (reply : List ℕ) → ((x : Durable) → MayLeave g old what x → ⊥) → (old.stopped ≡ true → new.stopped ≡ true) → Halts old what reply new
   still old new what reply none stays = (stays, λ doubts told all. inl (no_doubts (MayLeave g old what) doubts none all))
 
-  line_halts : (naming : Naming) (old new : Parts D) (what : Said) (raw reply : List ℕ) → Replies g naming old what raw reply new → Halts old what reply new
+  pub line_halts : (naming : Naming) (old new : Parts D) (what : Said) (raw reply : List ℕ) → Replies g naming old what raw reply new → Halts old what reply new
   line_halts naming old new silence raw reply r = still old new silence reply (λ x none. none) (same_stops old new r.1)
   line_halts naming old new bad_line raw reply r = still old new bad_line reply (λ x none. none) (same_stops old new r.1)
   line_halts naming old new long_line raw reply r = still old new long_line reply (λ x none. none) (same_stops old new r.1)
@@ -260,7 +260,7 @@ module _ {D : Type 0} (g : disk.Ghosts D) where
   last_halts naming zero old new what reply r = line_halts naming old new what [] reply r
   last_halts naming (suc n) old new what reply r = cut_halts old new what [] reply r
 
-  end_halts : (naming : Naming) (old new : Parts D) (e : Ending) (reply : List ℕ) → EndReplies g naming old e reply new → Halts old (said_last e) reply new
+  pub end_halts : (naming : Naming) (old new : Parts D) (e : Ending) (reply : List ℕ) → EndReplies g naming old e reply new → Halts old (said_last e) reply new
   end_halts naming old new complete reply r = still old new silence reply (λ x none. none) (same_stops old new r.1)
   end_halts naming old new (last_line line) reply r = last_halts naming (raw_length (said line)) old new (said line) reply r
   end_halts naming old new (cut_part line raw) reply r = cut_halts old new (said line) raw reply r
@@ -269,12 +269,12 @@ module _ {D : Type 0} (g : disk.Ghosts D) where
   front_stays old new (part_of slot n) raw front = take_stays (bare_of old) (bare_of new) slot (length raw) front.0 front.1.step
   front_stays old new _ raw front = absurd front
 
-  broken_halts : (old new : Parts D) (rest : List ℕ) → BreaksOff g old rest new → Halts old silence [] new
+  pub broken_halts : (old new : Parts D) (rest : List ℕ) → BreaksOff g old rest new → Halts old silence [] new
   broken_halts old new rest broken =
       still old new silence [] (λ x none. none) (⊎_elim (λ none. same_stops old new none.1) (λ cut. front_stays old new (said cut.0) cut.1 cut.5) broken)
 
   -- a line leaves nothing in doubt, unless it stops the archive
-  clear_on : (old new : Stage D) (what : Said) (reply : List ℕ) → IsClear old → Halts old.archive what reply new.archive → Moves g old what reply new → IsClear new
+  pub clear_on : (old new : Stage D) (what : Said) (reply : List ℕ) → IsClear old → Halts old.archive what reply new.archive → Moves g old what reply new → IsClear new
   clear_on old new what reply clear halts moves runs =
       let wrong : new.archive.stopped ≡ true → ⊥ = λ stopped. false≢true (sym runs ∙ stopped) in
       let ran : old.archive.stopped ≡ false = ⊎_elim (λ stopped. absurd (wrong (halts.0 stopped))) (λ is. is) (cases_Bool old.archive.stopped) in

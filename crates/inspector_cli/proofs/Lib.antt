@@ -17,3 +17,8 @@ pub mod KeyLemmas
 pub mod CutLemmas
 pub mod ClearLemmas
 pub mod LifeLemmas
+pub mod ToldLemmas
+pub mod HeldLemmas
+pub mod KeptLemmas
+pub mod FoundLemmas
+pub mod MemoryLemmas

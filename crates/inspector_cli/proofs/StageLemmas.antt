@@ -47,7 +47,7 @@ pub begins_stays : {D : Type 0} (g : disk.Ghosts D) (old new : Parts D) (slot : 
 begins_stays g old new slot (Ok s) reply accepted begins = begins.1.stays
 begins_stays g old new slot (Err reason) reply accepted begins = stays_as g old new begins.1
 
-truncates_stays : {D : Type 0} (g : disk.Ghosts D) (old new : Parts D) (what : Said) (raw reply : List ℕ) → Truncates g old what raw reply new → Stays g old new
+pub truncates_stays : {D : Type 0} (g : disk.Ghosts D) (old new : Parts D) (what : Said) (raw reply : List ℕ) → Truncates g old what raw reply new → Stays g old new
 truncates_stays g old new (part_of slot n) raw reply cut = stays_then g old cut.0 new cut.3.stays cut.4.stays
 truncates_stays g old new _ raw reply cut = absurd cut
 

@@ -9,3 +9,6 @@ pub mod Storing
 pub mod Life
 pub mod Cuts
 pub mod Runs
+pub mod Told
+pub mod Stored
+pub mod Memory

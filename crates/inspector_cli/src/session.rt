@@ -36,3 +36,20 @@ pub enum LifeFault {
     #[error(transparent)]
     Session(SessionFault),
 }
+
+/// Why a session over a fresh archive in memory did not end with its script.
+#[derive(Clone, Copy, PartialEq, Eq, Debug, Error)]
+pub enum MemoryFault {
+    /// The shape is outside its limits.
+    #[error("the shape is outside its limits")]
+    BadShape,
+    /// There was no memory for the disk.
+    #[error("out of memory")]
+    OutOfMemory,
+    /// The disk found no memory for what it keeps of its writes while the archive was made.
+    #[error("the disk failed while the archive was made")]
+    Disk,
+    /// The archive could not be opened, or the session ended before its script.
+    #[error(transparent)]
+    Life(LifeFault),
+}

@@ -2,7 +2,7 @@
 use crate::asked::Place;
 use crate::failures::{Refusal, Word};
 use case_journal::format;
-use disk_model::{Disk, FileDisk, FileFault, MemDisk};
+use disk_model::{Disk, FileDisk, FileFault};
 use intake::{Archive, Settings};
 use journal_layout::Shape;
 use std::alloc::Global;
@@ -77,12 +77,4 @@ pub(crate) fn look_at<D: Disk + Drop>(alloc: Global, disk: D, limit: u64) -> Res
         Ok(_) => Ok(()),
         Err((fault, _)) => Err(Refusal::Open(fault)),
     }
-}
-
-// The disk of a fresh archive in memory.
-pub(crate) fn memory_disk(alloc: Global, shape: Shape) -> Result<MemDisk, Refusal> {
-    let length = shape.length()?;
-    let mut disk = MemDisk::new(alloc, length)?;
-    format(&mut disk, shape)?;
-    Ok(disk)
 }

@@ -4,7 +4,7 @@ ghost use Rattle.std.specs.Prelude.{◌≡◌, ◌≢◌, ◌≤◌};
 use case_journal::FormatFault;
 use clap::error::ErrorKind;
 use disk_model::FileFault;
-use inspector_cli::{LifeFault, SessionFault};
+use inspector_cli::{LifeFault, MemoryFault, SessionFault};
 use journal_layout::{BadShape, OpenFault};
 use name_template::TemplateFault;
 use script_streams::{Output, Reply};
@@ -80,6 +80,17 @@ impl From<LifeFault> for Failure {
     }
 }
 
+impl From<MemoryFault> for Failure {
+    fn from(fault: MemoryFault) -> Self {
+        match fault {
+            MemoryFault::BadShape => Failure::Refused(Refusal::BadShape),
+            MemoryFault::OutOfMemory => Failure::Refused(Refusal::OutOfMemory),
+            MemoryFault::Disk => Failure::Refused(Refusal::Disk),
+            MemoryFault::Life(fault) => Failure::from(fault),
+        }
+    }
+}
+
 impl From<AllocError> for Failure {
     fn from(_: AllocError) -> Self {
         Failure::Refused(Refusal::OutOfMemory)
@@ -107,12 +118,6 @@ impl From<FormatFault> for Refusal {
             FormatFault::BadShape => Refusal::BadShape,
             FormatFault::Disk => Refusal::Disk,
         }
-    }
-}
-
-impl From<AllocError> for Refusal {
-    fn from(_: AllocError) -> Self {
-        Refusal::OutOfMemory
     }
 }
 

@@ -1,12 +1,12 @@
 // The program: what its words ask for, and the status that it ends with.
 ghost use Rattle.std.specs.Prelude.{◌≡◌, ◌≤◌};
 
-use crate::archives::{look_at, make_archive, memory_disk, take_disk};
+use crate::archives::{look_at, make_archive, take_disk};
 use crate::asked::{Asked, Place, SessionWords, read_words};
 use crate::failures::{Failure, Refusal, Word, tell_failure};
 use crate::raw_words::words_of;
 use disk_model::{Disk, FileFault};
-use inspector_cli::{Naming, open_and_run, open_and_store};
+use inspector_cli::{Naming, memory_session, open_and_run, open_and_store};
 use intake::Settings;
 use journal_layout::Shape;
 use name_template::Template;
@@ -128,8 +128,16 @@ fn run_memory<R: AllocGlobal, I: Input, O: Output>(
     output: &mut O,
 ) -> Result<(), Failure> {
     let naming = naming_of(settings)?;
-    let disk = memory_disk(rt.alloc(), shape)?;
-    run_over(rt.alloc(), disk, settings.limit, &naming, input, output)
+    let limit = settings.limit;
+    let ended = memory_session(
+        rt.alloc(),
+        shape,
+        Settings { limit },
+        &naming,
+        input,
+        output,
+    );
+    Ok(ended?)
 }
 
 // Opens the archive on a disk and runs a script over it.

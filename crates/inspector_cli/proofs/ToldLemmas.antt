@@ -1,0 +1,72 @@
+-- A session's commands, each with its reply.
+use Rattle.std.proofs.Common.{◌≡◌, ◌⊎◌, inl, inr, ⊎_elim, ℕ, List, [], ◌∷◌, ◌++◌, map, refl, sym, ap, subst, ◌∙◌}
+use Rattle.std.proofs.lemmas.List.{append-nil}
+use Rattle.std.specs.List.{flat_map, AllByRecursion}
+use Rattle.disk_model.specs.declared.disk.Disk as disk
+use Rattle.intake.specs.Parts.{Parts}
+use Rattle.inspector_cli.specs.declared.session.Naming.{Naming}
+use Rattle.inspector_cli.specs.Said.{Said, silence}
+use Rattle.inspector_cli.specs.Stages.{Stage}
+use Rattle.inspector_cli.specs.Session.{Item, IsItem, spelled, Run, said_last, ending_text, AnswersAll, AnswersWhole, Closes}
+use Rattle.inspector_cli.specs.Stored.{IsToldAs}
+use Rattle.inspector_cli.specs.Told.{Answer, Answers, Session}
+
+module _ {D : Type 0} (g : disk.Ghosts D) (naming : Naming) where
+  abbrev Told : Stage D → List Item → List ℕ → List (Stage D) → Type 0
+  Told old is out ss =
+      (list : List Answer) × (map (λ (a : Answer). a.item) list ≡ is) × (flat_map (λ (a : Answer). a.reply) list ≡ out) × Answers g naming old list ss
+
+  told : (old : Stage D) (is : List Item) (out : List ℕ) (ss : List (Stage D)) → Run g naming old is out ss → Told old is out ss
+  told old [] out [] run = ([], refl, sym run, tt)
+  told old [] out (s ∷ ss) run = absurd run
+  told old (i ∷ is) out [] run = absurd run
+  told old (i ∷ is) out (s ∷ ss) run =
+      let more = told s is run.1 ss run.4 in (
+        record { item = i; reply = run.0 } ∷ more.0,
+        ap (λ (x : List Item). i ∷ x) more.1,
+        ap (λ (x : List ℕ). run.0 ++ x) more.2 ∙ sym run.5,
+        (run.2, run.3, more.3),
+      )
+
+  abbrev session_of : Stage D → List (Stage D) → Stage D → Parts D → List Answer → Said → List ℕ → Session D
+  session_of old stages end new answers last reply =
+      record { naming = naming; first = old; answers = answers; stages = stages; last = last; reply = reply; end = end; closed = new }
+
+  abbrev IsSome : List ℕ → List ℕ → Stage D → List (Stage D) → Stage D → Parts D → Type 0
+  IsSome read out old stages end new =
+      (answers : List Answer) × (last : Said) × (reply : List ℕ) × IsToldAs g read out (session_of old stages end new answers last reply)
+
+  all_told : (read out : List ℕ) (old : Stage D) (stages : List (Stage D)) (end : Stage D) (new : Parts D) → AnswersAll g naming read out old stages end → Closes g end.archive new → IsSome read out old stages end new
+  all_told read out old stages end new all closes =
+      let t = told old all.items all.replies stages all.run in (
+        t.0,
+        said_last all.ending,
+        all.last,
+        record {
+          had = record { answered = t.3; finishes = inl (all.ending, refl, all.final); moves = all.moves; closes = closes };
+          each = subst (λ (is : List Item). AllByRecursion IsItem is) (sym t.1) all.each;
+          rest = ending_text all.ending;
+          cut = all.cut ∙ ap (λ (is : List Item). flat_map spelled is ++ ending_text all.ending) (sym t.1);
+          text = all.text ∙ ap (λ (x : List ℕ). x ++ all.last) (sym t.2);
+        },
+      )
+
+  whole_told : (read out : List ℕ) (old : Stage D) (stages : List (Stage D)) (end : Stage D) (new : Parts D) → AnswersWhole g naming read out old stages end → Closes g end.archive new → IsSome read out old stages end new
+  whole_told read out old stages end new whole closes =
+      let t = told old whole.items out stages whole.run in (
+        t.0,
+        silence,
+        [],
+        record {
+          had = record { answered = t.3; finishes = inr (whole.rest, refl, refl, whole.broken); moves = whole.moves; closes = closes };
+          each = subst (λ (is : List Item). AllByRecursion IsItem is) (sym t.1) whole.each;
+          rest = whole.rest;
+          cut = whole.cut ∙ ap (λ (is : List Item). flat_map spelled is ++ whole.rest) (sym t.1);
+          text = sym t.2 ∙ sym (append-nil (flat_map (λ (a : Answer). a.reply) t.0));
+        },
+      )
+
+  pub session_told : (read out : List ℕ) (old : Stage D) (stages : List (Stage D)) (end : Stage D) (new : Parts D)
+      → AnswersAll g naming read out old stages end ⊎ AnswersWhole g naming read out old stages end → Closes g end.archive new → IsSome read out old stages end new
+  session_told read out old stages end new answers closes =
+      ⊎_elim (λ all. all_told read out old stages end new all closes) (λ whole. whole_told read out old stages end new whole closes) answers

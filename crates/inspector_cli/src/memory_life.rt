@@ -1,0 +1,70 @@
+// A session over an archive that is made for it, in memory.
+ghost use Rattle.std.specs.Prelude.{◌≡◌, IsTrue, IfOk};
+ghost use Rattle.journal_layout.specs.Layout.{IsWithinLimits};
+ghost use Rattle.journal_layout.specs.Standing.{fresh};
+ghost use Rattle.journal_layout.specs.Stands.{Stands};
+ghost use Rattle.inspector_cli.specs.Life.{Streams};
+ghost use Rattle.inspector_cli.specs.Memory.{MemoryEnds, NoDisk};
+
+use crate::life::open_and_run;
+use crate::session::{MemoryFault, Naming};
+use case_journal::format;
+use disk_model::{Disk, MemDisk};
+use intake::Settings;
+use journal_layout::{Half, Shape};
+use script_streams::{Input, Output};
+use std::alloc::Global;
+
+/// Makes an archive of this shape in memory, and runs a session over it, as `run_session` does: what is answered is the text of
+/// the script over an archive with no case, whatever the disk of it is. The archive is gone then.
+///
+/// # Errors
+///
+/// `BadShape` where the shape is outside its limits; `OutOfMemory` and `Disk` where there was no memory for the disk, or for
+/// what it keeps of its writes; `Life` with `Open` where there was none to open it. No stream is touched then. `Life` with
+/// `Session` as `run_session` ends.
+pub fn memory_session<I: Input, O: Output>(
+    alloc: Global,
+    shape: Shape,
+    settings: Settings,
+    naming: &Naming,
+    input: &mut I,
+    output: &mut O,
+) -> Result<(), MemoryFault>
+    ensures fresh { let streams : Streams = record {
+      input = I.remaining input.old;
+      input' = I.remaining input.new;
+      fails = I.failures input.old;
+      fails' = I.failures input.new;
+      taken = O.taken output.old;
+      taken' = O.taken output.new;
+      lost = O.failures output.old;
+      lost' = O.failures output.new;
+    } in MemoryEnds ⟦<MemDisk as Disk>⟧ shape settings.limit naming.now streams result }
+{
+    let disk = fresh_disk(alloc, shape)?;
+    let (ended, _) = open_and_run(alloc, disk, settings, naming, input, output);
+    match ended {
+        Ok(()) => Ok(()),
+        Err(fault) => Err(MemoryFault::Life(fault)),
+    }
+}
+
+// The disk of a fresh archive.
+fn fresh_disk(alloc: Global, shape: Shape) -> Result<MemDisk, MemoryFault>
+    ensures honest { IfOk result (λ d. IsTrue (⟦<MemDisk as Disk>⟧.is_honest d)) }
+    ensures made { IfOk result (λ d. Stands (⟦<MemDisk as Disk>⟧.seen d) (fresh shape Half.A 1 1)) }
+    ensures refused { NoDisk shape result }
+{
+    let Ok(length) = shape.length() else {
+        return Err(MemoryFault::BadShape);
+    };
+    let Ok(disk) = MemDisk::new(alloc, length) else {
+        return Err(MemoryFault::OutOfMemory);
+    };
+    let mut disk = disk;
+    match format(&mut disk, shape) {
+        Ok(()) => Ok(disk),
+        Err(_) => Err(MemoryFault::Disk),
+    }
+}
