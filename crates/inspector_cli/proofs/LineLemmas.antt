@@ -1,11 +1,17 @@
 -- How a line is answered, with what stands behind it.
-use Rattle.std.proofs.Common.{◌≡◌, inr, ℕ, zero, suc, true, false, Bool, List, [], ◌∷◌, ◌++◌, Option, Result, Ok, Err, refl, sym, subst, append_assoc}
+use Rattle.std.proofs.Common.{◌≡◌, inr, ℕ, zero, suc, true, false, Bool, List, [], ◌∷◌, ◌++◌, Option, Result, Ok, Err, refl, sym, subst, ◌∙◌, append_assoc}
 use Rattle.disk_model.specs.declared.disk.Disk as disk
 use Rattle.intake.specs.Parts.{Parts}
 use Rattle.script_streams.specs.Lines.{IsLine}
-use Rattle.script_streams.specs.Reading.{Gives}
+use Rattle.script_streams.specs.Reading.{Gives, Stops}
+use Rattle.script_streams.specs.Streams.{Rose}
+use Rattle.script_streams.specs.Telling.{Tells}
+use Rattle.script_streams.specs.declared.reply.Reply.{Reply}
 use Rattle.script_streams.specs.declared.reader.ScriptBuffer.{ScriptBuffer}
 use Rattle.script_streams.specs.declared.reader.ReadStop.{ReadStop}
+use Rattle.script_streams.specs.declared.reader.ReadStop.TheVariants.{ReadFailed, TooManyReads}
+use Rattle.inspector_cli.specs.declared.script.ScriptStop.{ScriptStop}
+use Rattle.inspector_cli.specs.declared.script.ScriptStop.TheVariants.{Read}
 use Rattle.inspector_cli.specs.declared.session.Naming.{Naming}
 use Rattle.inspector_cli.specs.Said.{Said, said, raw_length}
 use Rattle.inspector_cli.specs.Commands.{asked_by}
@@ -13,7 +19,8 @@ use Rattle.inspector_cli.specs.declared.command.Request.{Request}
 use Rattle.inspector_cli.specs.declared.command.Request.TheVariants.{Silence, BadLine, LineTooLong, BeginExec, BeginCore, End, Drop, Delete, Pin, Retire, ListCases, CountFree}
 use Rattle.inspector_cli.specs.Reply.{Replies}
 use Rattle.inspector_cli.specs.Session.{cut_part, LastReplies, Truncates}
-use Rattle.inspector_cli.specs.Answering.{Telling, AnswersTo, PartAnswers, CommandEnds}
+use Rattle.inspector_cli.specs.Answering.{Halts, Reading, Telling, AnswersTo, PartAnswers, CommandEnds}
+use Rattle.inspector_cli.proofs.TellLemmas.{tells_then}
 use Rattle.inspector_cli.proofs.GiveLemmas.{gives_nothing, gives_then, gives_as}
 
 pub last_whole : {D : Type 0} (g : disk.Ghosts D) (naming : Naming) (n : ℕ) (old new : Parts D) (what : Said) (reply : List ℕ) → n ≡ 0 → Replies g naming old what [] reply new → LastReplies g naming n old what reply new
@@ -38,6 +45,11 @@ no_raw (Retire policy) = refl
 no_raw ListCases = refl
 no_raw CountFree = refl
 
+-- the same answer of a script
+abbrev pub as_script : Result Bool ReadStop → Result Bool ScriptStop
+as_script (Ok more) = Ok more
+as_script (Err stop) = Err (Read stop)
+
 module _ {D : Type 0} (g : disk.Ghosts D) where
   pub plain_answers : (naming : Naming) (a : Option (List ℕ)) (b : ScriptBuffer) (t : Telling) (old new : Parts D) (r : Request) (what : Said) → asked_by r ≡ what → AnswersTo g naming t old (asked_by r) [] new
       → PartAnswers g naming (record { before = a; after = a; buffer = b; buffer' = b }) t old what new (Ok true)
@@ -53,7 +65,20 @@ module _ {D : Type 0} (g : disk.Ghosts D) where
         (gives_then a b c buf mid buf' (line ++ 10 ∷ []) raw gives more)
 
     pub line_answered : (r : Result Bool ReadStop) → PartAnswers g naming (record { before = b; after = c; buffer = mid; buffer' = buf' }) t old (said line) new r
-        → CommandEnds g naming (record { before = a; after = c; buffer = buf; buffer' = buf' }) t old new r
+        → CommandEnds g naming (record { before = a; after = c; buffer = buf; buffer' = buf' }) t old new (as_script r)
     line_answered (Ok true) p = (record { line = line; raw = p.0 }, record { line = one; raw = p.1 }, with_raw p.0 p.2, p.3)
     line_answered (Ok false) p = (cut_part line p.0, (one, p.1), with_raw p.0 p.2, p.3, p.4, p.5, p.6)
     line_answered (Err stop) p = (line ++ 10 ∷ p.0, with_raw p.0 p.2, p.3, inr (line, p.0, refl, one, p.1, p.4), p.5)
+
+-- a part that is answered behind nothing more told
+pub told_before : {D : Type 0} (g : disk.Ghosts D) (naming : Naming) (o p q : Option (List ℕ)) (f i h : ℕ) (u v w : Reply) (r : Reading) (old new : Parts D) (what : Said) (answer : Result Bool ReadStop) → Tells o p f i u v []
+    → PartAnswers g naming r (record { taken = p; taken' = q; failures = i; failures' = h; reply = v; reply' = w }) old what new answer
+    → PartAnswers g naming r (record { taken = o; taken' = q; failures = f; failures' = h; reply = u; reply' = w }) old what new answer
+told_before g naming o p q f i h u v w r old new what (Ok true) first a = (a.0, a.1, a.2, (a.3.0, a.3.1, tells_then o p q f i h u v w [] a.3.0 first a.3.2))
+told_before g naming o p q f i h u v w r old new what (Ok false) first a = (a.0, a.1, a.2, a.3, a.4, a.5, tells_then o p q f i h u v w [] a.4 first a.6)
+told_before g naming o p q f i h u v w r old new what (Err stop) first a = (a.0, a.1, a.2, a.3, a.4, tells_then o p q f i h u v w [] [] first a.5)
+
+-- why a script was not read on, told of the script
+pub halts_as : (before mid after : ℕ) (buffer : ScriptBuffer) (stop : ReadStop) → mid ≡ before → Stops {T = Bool} mid after buffer (Err stop) → Halts {T = Bool} before after buffer (Err (Read stop))
+halts_as before mid after buffer ReadFailed same stops = subst (λ (k : ℕ). Rose k after) same stops
+halts_as before mid after buffer TooManyReads same stops = (stops.0 ∙ same, stops.1)

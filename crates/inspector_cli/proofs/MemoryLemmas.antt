@@ -15,7 +15,8 @@ use Rattle.inspector_cli.specs.declared.session.LifeFault.{LifeFault}
 use Rattle.inspector_cli.specs.declared.session.LifeFault.TheVariants.{Open, Session}
 use Rattle.inspector_cli.specs.declared.session.MemoryFault.{MemoryFault}
 use Rattle.inspector_cli.specs.declared.session.MemoryFault.TheVariants.{Life}
-use Rattle.inspector_cli.specs.Life.{Lives, LifeEnds, RunsOver, Streams}
+use Rattle.inspector_cli.specs.Session.{Streams}
+use Rattle.inspector_cli.specs.Life.{Lives, LifeEnds, RunsOver}
 use Rattle.inspector_cli.specs.Memory.{OverFresh, MemoryEnds}
 
 abbrev bare_from : Standing → ℕ → List (Option StreamParts) → Bool → Bare

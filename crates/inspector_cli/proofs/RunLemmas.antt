@@ -1,5 +1,5 @@
 -- The commands of a script, one after the other.
-use Rattle.std.proofs.Common.{◌≡◌, ℕ, true, false, Bool, List, [], ◌∷◌, ◌++◌, Option, Result, Ok, Err, refl, sym, ap, subst, ◌∙◌, append_assoc}
+use Rattle.std.proofs.Common.{◌≡◌, inl, ℕ, true, false, Bool, List, [], ◌∷◌, ◌++◌, Option, Result, Ok, Err, refl, sym, ap, subst, ◌∙◌, append_assoc}
 use Rattle.std.proofs.lemmas.List.{append-nil}
 use Rattle.std.specs.List.{flat_map, AllByRecursion}
 use Rattle.disk_model.specs.declared.disk.Disk as disk
@@ -9,6 +9,9 @@ use Rattle.script_streams.specs.Telling.{Tells}
 use Rattle.script_streams.specs.declared.reader.ScriptBuffer.{ScriptBuffer}
 use Rattle.script_streams.specs.declared.reader.ReadStop.{ReadStop}
 use Rattle.script_streams.specs.declared.reply.Reply.{Reply}
+use Rattle.intake.specs.StayLaws.{stays_as}
+use Rattle.inspector_cli.specs.declared.script.ScriptStop.{ScriptStop}
+use Rattle.inspector_cli.specs.declared.script.ScriptStop.TheVariants.{Read, Unheard}
 use Rattle.inspector_cli.specs.declared.session.Naming.{Naming}
 use Rattle.inspector_cli.specs.Said.{said, silence}
 use Rattle.inspector_cli.specs.Stages.{Stage}
@@ -56,7 +59,7 @@ module _ {D : Type 0} (g : disk.Ghosts D) where
     abbrev here : Stage D
     here = last_stage old so_far.2
 
-    from_here : (r : Result Bool ReadStop) → CommandEnds g naming next_reading next_telling mid new r → CommandEnds g naming next_reading next_telling here.archive new r
+    from_here : (r : Result Bool ScriptStop) → CommandEnds g naming next_reading next_telling mid new r → CommandEnds g naming next_reading next_telling here.archive new r
     from_here r e = subst (λ (m : Parts D). CommandEnds g naming next_reading next_telling m new r) (sym so_far.6) e
 
     item_answered : CommandEnds g naming next_reading next_telling here.archive new (Ok true) → Along g naming all_reading all_telling old new true
@@ -104,7 +107,7 @@ module _ {D : Type 0} (g : disk.Ghosts D) where
     goes_along true e = item_answered (from_here (Ok true) e)
     goes_along false e = script_answered (from_here (Ok false) e)
 
-    stopped_here : (stop : ReadStop) → CommandEnds g naming next_reading next_telling here.archive new (Err stop) → ScriptEnds g naming all_reading all_telling old new (Err stop)
+    stopped_here : (stop : ReadStop) → CommandEnds g naming next_reading next_telling here.archive new (Err (Read stop)) → ScriptEnds g naming all_reading all_telling old new (Err (Read stop))
     stopped_here stop e =
         let m = still g laws here new silence [] (broken_stays g here.archive new e.0 e.3) in (
           flat_map spelled so_far.0 ++ e.0,
@@ -126,5 +129,33 @@ module _ {D : Type 0} (g : disk.Ghosts D) where
           tells_then o p q f i h u v w so_far.1 [] so_far.7 e.4,
         )
 
-    pub stops_along : (stop : ReadStop) → CommandEnds g naming next_reading next_telling mid new (Err stop) → ScriptEnds g naming all_reading all_telling old new (Err stop)
-    stops_along stop e = stopped_here stop (from_here (Err stop) e)
+    unheard_here : CommandEnds g naming next_reading next_telling here.archive new (Err Unheard) → ScriptEnds g naming all_reading all_telling old new (Err Unheard)
+    unheard_here e =
+        let m = still g laws here new silence [] (stays_as g here.archive new e.2) in (
+          flat_map spelled so_far.0,
+          e.0,
+          so_far.1 ++ [],
+          so_far.2,
+          stage_of new (m.0 ++ here.in_doubt),
+          gives_then a b c x y z (flat_map spelled so_far.0) e.0 so_far.4 e.1,
+          record {
+            items = so_far.0;
+            each = so_far.3;
+            rest = [];
+            cut = sym (append-nil (flat_map spelled so_far.0));
+            run = subst (λ (text : List ℕ). Run g naming old so_far.0 text so_far.2) (sym (append-nil so_far.1)) so_far.5;
+            broken = inl (tt, e.2);
+            moves = m.1;
+          },
+          refl,
+          refl,
+          e.3,
+          tells_then o p q f i h u v w so_far.1 [] so_far.7 e.4,
+        )
+
+    pub stops_along : (stop : ScriptStop) → CommandEnds g naming next_reading next_telling mid new (Err stop) → ScriptEnds g naming all_reading all_telling old new (Err stop)
+    stops_along (Read stop) e = stopped_here stop (from_here (Err (Read stop)) e)
+    stops_along Unheard e = unheard_here (from_here (Err Unheard) e)
+
+    pub stops_as : (stop other : ScriptStop) → other ≡ stop → CommandEnds g naming next_reading next_telling mid new (Err stop) → ScriptEnds g naming all_reading all_telling old new (Err other)
+    stops_as stop other is e = subst (λ (s : ScriptStop). ScriptEnds g naming all_reading all_telling old new (Err s)) (sym is) (stops_along stop e)

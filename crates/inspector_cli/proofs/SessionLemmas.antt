@@ -1,23 +1,26 @@
 -- How a session ends, from how its script was answered and what its output took.
-use Rattle.std.proofs.Common.{◌≡◌, inl, inr, ℕ, ◌^◌, ◌≤◌, List, [], ◌++◌, length, Option, Result, Ok, Err, sym, ap, subst, ◌∙◌, arith}
+use Rattle.std.proofs.Common.{◌≡◌, ◌⊎◌, inl, inr, false, refl, append_assoc, ℕ, ◌^◌, ◌≤◌, List, [], ◌++◌, length, Option, Result, Ok, Err, sym, ap, subst, ◌∙◌, arith}
+use Rattle.std.proofs.lemmas.Bool.{false≢true}
 use Rattle.std.proofs.lemmas.List.{append-nil}
 use Rattle.std.specs.Io.KnownBytes.{Consumes}
 use Rattle.disk_model.specs.declared.disk.Disk as disk
 use Rattle.intake.specs.Marks.{FoundAfterAStop}
 use Rattle.intake.specs.Parts.{Parts}
 use Rattle.script_streams.specs.Streams.{Rose}
-use Rattle.script_streams.specs.Reading.{Gives, held_bytes, reads_made, Stops}
-use Rattle.script_streams.specs.Telling.{Told, IsDelivered}
+use Rattle.script_streams.specs.Reading.{Gives, held_bytes, reads_made}
+use Rattle.script_streams.specs.Telling.{Told, IsDelivered, has_failed}
 use Rattle.script_streams.specs.declared.reader.ScriptBuffer.{ScriptBuffer}
 use Rattle.script_streams.specs.declared.reader.ReadStop.{ReadStop}
 use Rattle.script_streams.specs.declared.reader.ReadStop.TheVariants as stop
 use Rattle.script_streams.specs.declared.reply.Reply.{Reply}
 use Rattle.script_streams.specs.declared.streams.StreamFault.{StreamFault}
+use Rattle.inspector_cli.specs.declared.script.ScriptStop.{ScriptStop}
+use Rattle.inspector_cli.specs.declared.script.ScriptStop.TheVariants.{Read, Unheard}
 use Rattle.inspector_cli.specs.declared.session.SessionFault.TheVariants.{ReadFailed, WriteFailed, TooManyReads}
 use Rattle.inspector_cli.specs.declared.session.Naming.{Naming}
 use Rattle.inspector_cli.specs.Stages.{Stage, IsFoundAfterAStop}
-use Rattle.inspector_cli.specs.Session.{AnswersAll, AnswersWhole, Closes, SessionEnds}
-use Rattle.inspector_cli.specs.Answering.{Reading, Telling, ScriptEnds, session_fault}
+use Rattle.inspector_cli.specs.Session.{AnswersAll, AnswersWhole, Closes, Streams, SessionEnds}
+use Rattle.inspector_cli.specs.Answering.{Reading, Telling, Halts, ScriptEnds, session_fault}
 use Rattle.inspector_cli.proofs.StageLemmas.{Laws, found_after}
 
 same_bytes : (a b : Option (List ℕ)) (old new : ScriptBuffer) (given : List ℕ) → held_bytes old ≡ [] → held_bytes new ≡ [] → (gives : Gives a b old new given) → gives.read ≡ given
@@ -40,6 +43,9 @@ module _ {D : Type 0} (g : disk.Ghosts D) (laws : Laws g) (law : FoundAfterAStop
   abbrev pub telling : Telling
   telling = record { taken = o; taken' = p; failures = f; failures' = i; reply = u; reply' = v }
 
+  abbrev pub streams : Streams
+  streams = record { input = a; input' = b; fails = fails; fails' = fails'; taken = o; taken' = q; lost = f; lost' = h }
+
   -- what the output was told, it took, or a front of it
   abbrev pub Delivers : Result (Unit {0}) StreamFault → Type 0
   Delivers r = (start : Option (List ℕ)) (count : ℕ) (told : List ℕ) → Told start count p i v told → IsDelivered start count q h told r
@@ -55,7 +61,7 @@ module _ {D : Type 0} (g : disk.Ghosts D) (laws : Laws g) (law : FoundAfterAStop
   whole_found read out stages end is whole =
       found_after g laws law naming old whole.items out stages end new whole.run whole.moves.passes (closes_from end is).stays
 
-  pub ended : (s : Unit {0}) → ScriptEnds g naming reading telling old mid (Ok tt) → Delivers (Ok s) → SessionEnds g naming a b fails fails' o q f h old new (Ok tt)
+  pub ended : (s : Unit {0}) → ScriptEnds g naming reading telling old mid (Ok tt) → Delivers (Ok s) → SessionEnds g naming streams old new (Ok tt)
   ended s e d = (
     e.0,
     e.1,
@@ -69,7 +75,7 @@ module _ {D : Type 0} (g : disk.Ghosts D) (laws : Laws g) (law : FoundAfterAStop
     all_found e.0 e.1 e.2 e.3 e.7 e.6,
   )
 
-  read_failed : (s : Unit {0}) → ScriptEnds g naming reading telling old mid (Err stop.ReadFailed) → Delivers (Ok s) → Rose fails fails' → SessionEnds g naming a b fails fails' o q f h old new (Err ReadFailed)
+  read_failed : (s : Unit {0}) → ScriptEnds g naming reading telling old mid (Err (Read stop.ReadFailed)) → Delivers (Ok s) → Rose fails fails' → SessionEnds g naming streams old new (Err ReadFailed)
   read_failed s e d rose = (
     e.0,
     e.1,
@@ -83,8 +89,8 @@ module _ {D : Type 0} (g : disk.Ghosts D) (laws : Laws g) (law : FoundAfterAStop
     rose,
   )
 
-  too_many : (s : Unit {0}) → ScriptEnds g naming reading telling old mid (Err stop.TooManyReads) → Delivers (Ok s) → reads_made y ≡ 2 ^ 40
-      → SessionEnds g naming a b fails fails' o q f h old new (Err TooManyReads)
+  too_many : (s : Unit {0}) → ScriptEnds g naming reading telling old mid (Err (Read stop.TooManyReads)) → Delivers (Ok s) → reads_made y ≡ 2 ^ 40
+      → SessionEnds g naming streams old new (Err TooManyReads)
   too_many s e d most = (
     e.0,
     e.1,
@@ -98,38 +104,65 @@ module _ {D : Type 0} (g : disk.Ghosts D) (laws : Laws g) (law : FoundAfterAStop
     counted a b x y e.0 empty e.5 unread most e.4,
   )
 
-  pub write_failed : (fault : StreamFault) (r : Result (Unit {0}) ReadStop) → ScriptEnds g naming reading telling old mid r → Delivers (Err fault)
-      → SessionEnds g naming a b fails fails' o q f h old new (Err WriteFailed)
+  -- all that was taken from the input, where some of it is held
+  taken_from : (read more : List ℕ) → Gives a b x y (read ++ more) → Consumes a b (read ++ (more ++ held_bytes y))
+  taken_from read more gives =
+      subst (Consumes a b) (ap (λ (h : List ℕ). h ++ gives.read) (sym empty) ∙ gives.bytes ∙ append_assoc read more (held_bytes y)) gives.consumed
+
+  pub write_failed : (fault : StreamFault) (r : Result (Unit {0}) ScriptStop) → ScriptEnds g naming reading telling old mid r → Delivers (Err fault) → SessionEnds g naming streams old new (Err WriteFailed)
   write_failed fault (Ok s) e d =
       let t = d o f e.1 (e.8 o f [] begun) in (
         e.0,
+        [],
         t.0,
         t.1,
         e.2,
         e.3,
-        consumed a b x y e.0 empty e.5.1 e.4,
+        subst (Consumes a b) (sym (append-nil e.0)) (consumed a b x y e.0 empty e.5.1 e.4),
         t.3,
-        inl (subst (λ (z : List ℕ). AnswersAll g naming e.0 z old e.2 e.3) (sym t.2) e.6),
+        inl (subst (λ (z : List ℕ). AnswersAll g naming e.0 z old e.2 e.3) (sym t.2) e.6, refl),
         closes_from e.3 e.7,
         all_found e.0 e.1 e.2 e.3 e.7 e.6,
         t.4,
       )
-  write_failed fault (Err s) e d =
+  write_failed fault (Err (Read s)) e d =
       let t = d o f e.1 (e.8 o f [] begun) in (
         e.0,
+        [],
         t.0,
         t.1,
         e.2,
         e.3,
-        consumed a b x y e.0 empty e.5 e.4,
+        subst (Consumes a b) (sym (append-nil e.0)) (consumed a b x y e.0 empty e.5 e.4),
         t.3,
-        inr (subst (λ (z : List ℕ). AnswersWhole g naming e.0 z old e.2 e.3) (sym t.2) e.6),
+        inr (subst (λ (z : List ℕ). AnswersWhole g naming e.0 z old e.2 e.3) (sym t.2) e.6, inl refl),
         closes_from e.3 e.7,
         whole_found e.0 e.1 e.2 e.3 e.7 e.6,
         t.4,
       )
+  write_failed fault (Err Unheard) e d =
+      let t = d o f e.2 (e.10 o f [] begun) in (
+        e.0,
+        e.1 ++ held_bytes y,
+        t.0,
+        t.1,
+        e.3,
+        e.4,
+        taken_from e.0 e.1 e.5,
+        t.3,
+        inr (front_as e.0 e.2 (t.0 ++ t.1) e.3 e.4 (sym t.2) e.6 e.7),
+        closes_from e.4 e.8,
+        whole_found e.0 e.2 e.3 e.4 e.8 e.6,
+        t.4,
+      )
+    where
+      front_as : (read out text : List ℕ) (stages : List (Stage D)) (end : Stage D) → out ≡ text → (w : AnswersWhole g naming read out old stages end) → w.rest ≡ []
+          → (v : AnswersWhole g naming read text old stages end) × ((e.1 ++ held_bytes y ≡ []) ⊎ (v.rest ≡ []))
+      front_as read out text stages end is w none =
+          subst (λ (z : List ℕ). (v : AnswersWhole g naming read z old stages end) × ((e.1 ++ held_bytes y ≡ []) ⊎ (v.rest ≡ []))) is (w, inr none)
 
-  pub read_stopped : (s : Unit {0}) (why : ReadStop) → ScriptEnds g naming reading telling old mid (Err why) → Delivers (Ok s) → Stops {T = Unit {0}} fails fails' y (Err why)
-      → SessionEnds g naming a b fails fails' o q f h old new (Err (session_fault why))
-  read_stopped s stop.ReadFailed e d stops = read_failed s e d stops
-  read_stopped s stop.TooManyReads e d stops = too_many s e d stops.1
+  pub read_stopped : (s : Unit {0}) (why : ScriptStop) → has_failed v ≡ false → ScriptEnds g naming reading telling old mid (Err why) → Delivers (Ok s) → Halts {T = Unit {0}} fails fails' y (Err why)
+      → SessionEnds g naming streams old new (Err (session_fault why))
+  read_stopped s (Read stop.ReadFailed) running e d stops = read_failed s e d stops
+  read_stopped s (Read stop.TooManyReads) running e d stops = too_many s e d stops.1
+  read_stopped s Unheard running e d stops = absurd (false≢true (sym running ∙ e.9))

@@ -27,6 +27,7 @@ use Rattle.inspector_cli.specs.declared.store.TakeStop.{TakeStop}
 use Rattle.inspector_cli.specs.declared.store.TakeStop.TheVariants.{File, Refused}
 use Rattle.inspector_cli.specs.Answering.{Telling, TellsReply}
 use Rattle.inspector_cli.specs.Stages.{Stage, mark_at, marks_of}
+use Rattle.inspector_cli.specs.Session.{Streams}
 use Rattle.inspector_cli.specs.Storing.{first_stream, TakesFile, TakesMore, FileReplies, RestReplies, Stores, StoreStages, StoreEnds}
 use Rattle.intake.specs.StayLaws.{stays_none, stays_as, stays_then}
 use Rattle.inspector_cli.proofs.StageLemmas.{Laws, Reaches, stage_of, line_moves, still, begins_stays}
@@ -231,15 +232,18 @@ module _ {D : Type 0} (g : disk.Ghosts D) (laws : Laws g) (law : FoundAfterAStop
     (dropped : Result (Unit {0}) ArchiveFault) (begun : Told o f o f u [])
     (told : TellsReply (record { taken = o; taken' = p; failures = f; failures' = i; reply = u; reply' = v }) (λ text. Stores g naming file file' fails fails' old.archive line text end stored))
     (drops : AbandonCall g end 0 dropped new) where
+  abbrev pub streams : Streams
+  streams = record { input = file; input' = file'; fails = fails; fails' = fails'; taken = o; taken' = q; lost = f; lost' = h }
+
   abbrev pub WritesOut : Result (Unit {0}) StreamFault → Type 0
   WritesOut r = (start : Option (List ℕ)) (count : ℕ) (text : List ℕ) → Told start count p i v text → IsDelivered start count q h text r
 
-  pub store_written : (s : Unit {0}) → WritesOut (Ok s) → StoreEnds g naming file file' fails fails' o q f h old line new (Ok stored)
+  pub store_written : (s : Unit {0}) → WritesOut (Ok s) → StoreEnds g naming streams old line new (Ok stored)
   store_written s d =
       let stages = stages_of g laws law naming file file' fails fails' old line told.0 end stored new told.1 drops.stays in
       (told.0, stage_of end (stages.0 ++ old.in_doubt), dropped, told.1, drops, d o f told.0 (told.2 o f [] begun), stages.1)
 
-  pub store_failed : (fault : StreamFault) → WritesOut (Err fault) → StoreEnds g naming file file' fails fails' o q f h old line new (Err WriteFailed)
+  pub store_failed : (fault : StreamFault) → WritesOut (Err fault) → StoreEnds g naming streams old line new (Err WriteFailed)
   store_failed fault d =
       let t = d o f told.0 (told.2 o f [] begun) in
       let same = subst (λ (text : List ℕ). Stores g naming file file' fails fails' old.archive line text end stored) (sym t.2) told.1 in

@@ -3,14 +3,18 @@ use Rattle.std.specs.Prelude.{◌≡◌, ◌≢◌, ℕ, ◌+◌, ◌<◌, ◌�
 use Rattle.intake.specs.declared.faults.ArchiveFault.{ArchiveFault}
 use Rattle.disk_model.specs.declared.disk.Disk as disk
 use Rattle.intake.specs.Parts.{Parts}
-use Rattle.script_streams.specs.Reading.{Gives, IsUsedUp, held_bytes}
-use Rattle.script_streams.specs.Telling.{Tells}
+use Rattle.script_streams.specs.Reading.{Gives, IsUsedUp, Stops, held_bytes}
+use Rattle.script_streams.specs.Telling.{Tells, has_failed}
 use Rattle.script_streams.specs.declared.reader.ScriptBuffer.{ScriptBuffer}
 use Rattle.script_streams.specs.declared.reader.ReadStop.{ReadStop}
 use Rattle.script_streams.specs.declared.reader.ReadStop.TheVariants as stop
 use Rattle.script_streams.specs.declared.reply.Reply.{Reply}
+use Rattle.script_streams.specs.declared.streams.Input as input
+use Rattle.script_streams.specs.declared.streams.Output as output
 use Rattle.inspector_cli.specs.declared.session.SessionFault.{SessionFault}
 use Rattle.inspector_cli.specs.declared.session.SessionFault.TheVariants as fault
+use Rattle.inspector_cli.specs.declared.script.ScriptStop.{ScriptStop}
+use Rattle.inspector_cli.specs.declared.script.ScriptStop.TheVariants.{Read, Unheard}
 use Rattle.inspector_cli.specs.declared.session.Naming.{Naming}
 use Rattle.inspector_cli.specs.Said.{Said, said, raw_length}
 use Rattle.inspector_cli.specs.Reply.{Replies, Takes}
@@ -25,6 +29,17 @@ pub record Telling : Type 0 where
   pub failures' : ℕ
   pub reply : Reply
   pub reply' : Reply
+
+-- the same, told by the output's members and ends
+abbrev pub telling : {O : Type 0} → output.Ghosts O → O → O → Reply → Reply → Telling
+telling o output output' reply reply' = record {
+  taken = o.taken output;
+  taken' = o.taken output';
+  failures = o.failures output;
+  failures' = o.failures output';
+  reply = reply;
+  reply' = reply';
+}
 
 abbrev pub TellsText : Telling → List ℕ → Type 0
 TellsText t text = Tells t.taken t.taken' t.failures t.failures' t.reply t.reply' text
@@ -43,6 +58,10 @@ pub record Reading : Type 0 where
   pub after : Option (List ℕ)
   pub buffer : ScriptBuffer
   pub buffer' : ScriptBuffer
+
+-- the same, told by the input's members and ends
+abbrev pub reading : {I : Type 0} → input.Ghosts I → I → I → ScriptBuffer → ScriptBuffer → Reading
+reading i input input' buffer buffer' = record { before = i.remaining input; after = i.remaining input'; buffer = buffer; buffer' = buffer' }
 
 abbrev pub GivesBytes : Reading → List ℕ → Type 0
 GivesBytes r given = Gives r.before r.after r.buffer r.buffer' given
@@ -81,24 +100,37 @@ PartAnswers g naming r t old what new (Err stop) =
 abbrev pub LastAnswers : {D : Type 0} → disk.Ghosts D → Naming → Telling → Parts D → Said → Parts D → Type 0
 LastAnswers g naming t old what new = (reply : List ℕ) × LastReplies g naming (raw_length what) old what reply new × TellsText t reply
 
--- One command: an item is answered, or the script ends, or it can't be read on
-abbrev pub CommandEnds : {D : Type 0} → disk.Ghosts D → Naming → Reading → Telling → Parts D → Parts D → Result Bool ReadStop → Type 0
+-- One command: an item is answered, or the script ends, or it can't be read on, or the output has failed, and what was read is
+-- not carried out
+abbrev pub CommandEnds : {D : Type 0} → disk.Ghosts D → Naming → Reading → Telling → Parts D → Parts D → Result Bool ScriptStop → Type 0
 CommandEnds g naming r t old new (Ok true) = (i : Item) × IsItem i × GivesBytes r (spelled i) × AnswersTo g naming t old (said i.line) i.raw new
 CommandEnds g naming r t old new (Ok false) =
     (e : Ending) × IsEnding e × GivesBytes r (ending_text e) × IsReadUp r × (reply : List ℕ) × EndReplies g naming old e reply new × TellsText t reply
-CommandEnds g naming r t old new (Err stop) =
+CommandEnds g naming r t old new (Err (Read stop)) =
     (rest : List ℕ) × GivesBytes r rest × (held_bytes r.buffer' ≡ []) × BreaksOff g old rest new × TellsText t []
+CommandEnds g naming r t old new (Err Unheard) =
+    (rest : List ℕ) × GivesBytes r rest × (new ≡ old) × (has_failed t.reply' ≡ true) × TellsText t []
 
 -- all commands of a script, and how the archive stands behind each
-abbrev pub ScriptEnds : {D : Type 0} → disk.Ghosts D → Naming → Reading → Telling → Stage D → Parts D → Result (Unit {0}) ReadStop → Type 0
+abbrev pub ScriptEnds : {D : Type 0} → disk.Ghosts D → Naming → Reading → Telling → Stage D → Parts D → Result (Unit {0}) ScriptStop → Type 0
 ScriptEnds {D} g naming r t old new (Ok u) =
     (read : List ℕ) × (out : List ℕ) × (stages : List (Stage D)) × (end : Stage D) × GivesBytes r read × IsReadUp r × AnswersAll g naming read out old stages end
     × (end.archive ≡ new) × TellsText t out
-ScriptEnds {D} g naming r t old new (Err stop) =
+ScriptEnds {D} g naming r t old new (Err Unheard) =
+    (read : List ℕ) × (more : List ℕ) × (out : List ℕ) × (stages : List (Stage D)) × (end : Stage D) × GivesBytes r (read ++ more) × (w : AnswersWhole g naming read out old stages end) × (w.rest ≡ [])
+    × (end.archive ≡ new) × (has_failed t.reply' ≡ true) × TellsText t out
+ScriptEnds {D} g naming r t old new (Err (Read stop)) =
     (read : List ℕ) × (out : List ℕ) × (stages : List (Stage D)) × (end : Stage D) × GivesBytes r read × (held_bytes r.buffer' ≡ []) × AnswersWhole g naming read out old stages end
     × (end.archive ≡ new) × TellsText t out
 
--- what a session answers where its script could not be read on
-abbrev pub session_fault : ReadStop → SessionFault
-session_fault stop.ReadFailed = fault.ReadFailed
-session_fault stop.TooManyReads = fault.TooManyReads
+-- the input's failures, where reading stopped a script; else none
+abbrev pub Halts : {T : Type 0} → ℕ → ℕ → ScriptBuffer → Result T ScriptStop → Type 0
+Halts before after buffer (Ok x) = after ≡ before
+Halts before after buffer (Err (Read stop)) = Stops {T = Unit {0}} before after buffer (Err stop)
+Halts before after buffer (Err Unheard) = after ≡ before
+
+-- what a session answers where its script was not answered to its end
+abbrev pub session_fault : ScriptStop → SessionFault
+session_fault (Read stop.ReadFailed) = fault.ReadFailed
+session_fault (Read stop.TooManyReads) = fault.TooManyReads
+session_fault Unheard = fault.WriteFailed

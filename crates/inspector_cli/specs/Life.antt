@@ -11,19 +11,8 @@ use Rattle.inspector_cli.specs.declared.session.Naming.{Naming}
 use Rattle.inspector_cli.specs.declared.session.SessionFault.{SessionFault}
 use Rattle.inspector_cli.specs.declared.session.LifeFault.{LifeFault}
 use Rattle.inspector_cli.specs.declared.session.LifeFault.TheVariants.{Open, Session}
-use Rattle.inspector_cli.specs.Session.{SessionEnds}
+use Rattle.inspector_cli.specs.Session.{Streams, SessionEnds}
 use Rattle.inspector_cli.specs.Storing.{StoreEnds}
-
--- what the streams of a session are before and after it
-pub record Streams : Type 0 where
-  pub input : Option (List ℕ)
-  pub input' : Option (List ℕ)
-  pub fails : ℕ
-  pub fails' : ℕ
-  pub taken : Option (List ℕ)
-  pub taken' : Option (List ℕ)
-  pub lost : ℕ
-  pub lost' : ℕ
 
 -- The opening with all that it promises, of its moments too; and what was done over the archive that it answered.
 pub record Lives {D : Type 0} (g : disk.Ghosts D) (limit : ℕ) (before after : D) (Goes : Parts D → Parts D → Type 0) : Type 0 where
@@ -58,9 +47,9 @@ LifeEnds g limit t before (Err (Open f)) after Goes = IsRefused g limit before a
 -- a session over an archive behind which nothing is in doubt
 abbrev pub RunsOver : {D : Type 0} → disk.Ghosts D → Naming → Streams → Result (Unit {0}) SessionFault → Parts D → Parts D → Type 0
 RunsOver g naming t r opened closed =
-    SessionEnds g naming t.input t.input' t.fails t.fails' t.taken t.taken' t.lost t.lost' (record { archive = opened; in_doubt = [] }) closed r
+    SessionEnds g naming t (record { archive = opened; in_doubt = [] }) closed r
 
 -- the same of one stream that is stored from its own input
 abbrev pub StoresOver : {D : Type 0} → disk.Ghosts D → Naming → List ℕ → Streams → Result Bool SessionFault → Parts D → Parts D → Type 0
 StoresOver g naming line t r opened closed =
-    StoreEnds g naming t.input t.input' t.fails t.fails' t.taken t.taken' t.lost t.lost' (record { archive = opened; in_doubt = [] }) line closed r
+    StoreEnds g naming t (record { archive = opened; in_doubt = [] }) line closed r

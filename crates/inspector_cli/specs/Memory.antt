@@ -10,7 +10,8 @@ use Rattle.inspector_cli.specs.declared.session.Naming.{Naming}
 use Rattle.inspector_cli.specs.declared.session.LifeFault.TheVariants.{Open, Session}
 use Rattle.inspector_cli.specs.declared.session.MemoryFault.{MemoryFault}
 use Rattle.inspector_cli.specs.declared.session.MemoryFault.TheVariants.{BadShape, OutOfMemory, Disk, Life}
-use Rattle.inspector_cli.specs.Life.{Streams, IsUntouched, RunsOver}
+use Rattle.inspector_cli.specs.Session.{Streams}
+use Rattle.inspector_cli.specs.Life.{IsUntouched, RunsOver}
 
 -- an archive of this shape with no case, that has just been opened
 abbrev pub fresh_archive : Shape → ℕ → Bare

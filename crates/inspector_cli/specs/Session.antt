@@ -9,6 +9,8 @@ use Rattle.intake.specs.Parts.{Parts, bare_of}
 use Rattle.intake.specs.Slots.{stream_at}
 use Rattle.intake.specs.State.{Bare}
 use Rattle.script_streams.specs.Streams.{Rose}
+use Rattle.script_streams.specs.declared.streams.Input as input
+use Rattle.script_streams.specs.declared.streams.Output as output
 use Rattle.script_streams.specs.Lines.{IsLine}
 use Rattle.inspector_cli.specs.declared.session.Naming.{Naming}
 use Rattle.inspector_cli.specs.Said.{Said, silence, part_of, said, raw_length}
@@ -131,20 +133,46 @@ pub record Closes {D : Type 0} (g : disk.Ghosts D) (old new : Parts D) : Type 0 
   pub kept : bare_of new ≡ record (bare_of old) { streams = (bare_of new).streams }
   pub stays : Stays g old new
 
+-- what the streams of a session are before and after it
+pub record Streams : Type 0 where
+  pub input : Option (List ℕ)
+  pub input' : Option (List ℕ)
+  pub fails : ℕ
+  pub fails' : ℕ
+  pub taken : Option (List ℕ)
+  pub taken' : Option (List ℕ)
+  pub lost : ℕ
+  pub lost' : ℕ
+
+-- the same, told by an input's and an output's members and ends
+abbrev pub streams_of : {I : Type 0} {O : Type 0} → input.Ghosts I → output.Ghosts O → I → I → O → O → Streams
+streams_of i o input input' output output' = record {
+  input = i.remaining input;
+  input' = i.remaining input';
+  fails = i.failures input;
+  fails' = i.failures input';
+  taken = o.taken output;
+  taken' = o.taken output';
+  lost = o.failures output;
+  lost' = o.failures output';
+}
+
 -- Whether a session answered to the end, or why it did not: on Ok all that the input had was read and answered; where it
--- could not be read on, the commands that are whole in what was read were answered; where the output failed, it has a front
--- of that text. In each case what is found after a stop is told by the stages.
-abbrev pub SessionEnds : {D : Type 0} → disk.Ghosts D → Naming → Option (List ℕ) → Option (List ℕ) → ℕ → ℕ → Option (List ℕ) → Option (List ℕ) → ℕ → ℕ → Stage D → Parts D → Result (Unit {0}) SessionFault → Type 0
-SessionEnds {D} g naming input input' fails fails' taken taken' lost lost' old new (Ok u) =
-    (read : List ℕ) × (out : List ℕ) × (stages : List (Stage D)) × (end : Stage D) × Consumes input input' read × IsAtEnd input' × Appends taken taken' out
+-- could not be read on, the commands that are whole in what was read were answered; where the output failed, the commands of a
+-- front of what was read were answered, and no later one was carried out, and it has a front of their text. In each case what is found after a stop is told by the stages.
+abbrev pub SessionEnds : {D : Type 0} → disk.Ghosts D → Naming → Streams → Stage D → Parts D → Result (Unit {0}) SessionFault → Type 0
+SessionEnds {D} g naming t old new (Ok u) =
+    (read : List ℕ) × (out : List ℕ) × (stages : List (Stage D)) × (end : Stage D) × Consumes t.input t.input' read × IsAtEnd t.input' × Appends t.taken t.taken' out
     × AnswersAll g naming read out old stages end × Closes g end.archive new × IsFoundAfterAStop g old stages end new
-SessionEnds {D} g naming input input' fails fails' taken taken' lost lost' old new (Err ReadFailed) =
-    (read : List ℕ) × (out : List ℕ) × (stages : List (Stage D)) × (end : Stage D) × Consumes input input' read × Appends taken taken' out
-    × AnswersWhole g naming read out old stages end × Closes g end.archive new × IsFoundAfterAStop g old stages end new × Rose fails fails'
-SessionEnds {D} g naming input input' fails fails' taken taken' lost lost' old new (Err TooManyReads) =
-    (read : List ℕ) × (out : List ℕ) × (stages : List (Stage D)) × (end : Stage D) × Consumes input input' read × Appends taken taken' out
+SessionEnds {D} g naming t old new (Err ReadFailed) =
+    (read : List ℕ) × (out : List ℕ) × (stages : List (Stage D)) × (end : Stage D) × Consumes t.input t.input' read × Appends t.taken t.taken' out
+    × AnswersWhole g naming read out old stages end × Closes g end.archive new × IsFoundAfterAStop g old stages end new × Rose t.fails t.fails'
+SessionEnds {D} g naming t old new (Err TooManyReads) =
+    (read : List ℕ) × (out : List ℕ) × (stages : List (Stage D)) × (end : Stage D) × Consumes t.input t.input' read × Appends t.taken t.taken' out
     × AnswersWhole g naming read out old stages end × Closes g end.archive new × IsFoundAfterAStop g old stages end new × (2 ^ 40 ≤ length read)
-SessionEnds {D} g naming input input' fails fails' taken taken' lost lost' old new (Err WriteFailed) =
-    (read : List ℕ) × (out : List ℕ) × (rest : List ℕ) × (stages : List (Stage D)) × (end : Stage D) × Consumes input input' read × Appends taken taken' out
-    × (AnswersAll g naming read (out ++ rest) old stages end ⊎ AnswersWhole g naming read (out ++ rest) old stages end)
-    × Closes g end.archive new × IsFoundAfterAStop g old stages end new × Rose lost lost'
+SessionEnds {D} g naming t old new (Err WriteFailed) =
+    (read : List ℕ) × (more : List ℕ) × (out : List ℕ) × (rest : List ℕ) × (stages : List (Stage D)) × (end : Stage D)
+    × Consumes t.input t.input' (read ++ more) × Appends t.taken t.taken' out
+    × ((AnswersAll g naming read (out ++ rest) old stages end × (more ≡ []))
+    ⊎ ((w : AnswersWhole g naming read (out ++ rest) old stages end) × ((more ≡ []) ⊎ (w.rest ≡ []))))
+    × Closes g end.archive new × IsFoundAfterAStop g old stages end new × Rose t.lost t.lost'

@@ -14,6 +14,7 @@ use Rattle.inspector_cli.specs.declared.session.SessionFault.TheVariants.{ReadFa
 use Rattle.inspector_cli.specs.declared.store.TakeStop.{TakeStop}
 use Rattle.inspector_cli.specs.declared.store.TakeStop.TheVariants.{File, Refused}
 use Rattle.inspector_cli.specs.Said.{Said, begin_exec, begin_core, end_of, long_line, said}
+use Rattle.inspector_cli.specs.Session.{Streams}
 use Rattle.inspector_cli.specs.Stages.{Stage, Moves, IsFoundAfterAStop}
 use Rattle.inspector_cli.specs.Reply.{Begins, Ends, Takes, exec_stream, core_stream, no_reply, reason_of}
 
@@ -84,14 +85,14 @@ pub record StoreStages {D : Type 0} (g : disk.Ghosts D) (old : Stage D) (filled 
 
 -- Whether the case is stored, and the replies were written; or the output failed, and has a front of them. A stream that
 -- is left in slot 0 is dropped. In each case what is found after a stop is told by the stages.
-abbrev pub StoreEnds : {D : Type 0} → disk.Ghosts D → Naming → Option (List ℕ) → Option (List ℕ) → ℕ → ℕ → Option (List ℕ) → Option (List ℕ) → ℕ → ℕ → Stage D → List ℕ → Parts D → Result Bool SessionFault → Type 0
-StoreEnds {D} g naming file file' fails fails' taken taken' lost lost' old line new (Ok stored) =
+abbrev pub StoreEnds : {D : Type 0} → disk.Ghosts D → Naming → Streams → Stage D → List ℕ → Parts D → Result Bool SessionFault → Type 0
+StoreEnds {D} g naming t old line new (Ok stored) =
     (replies : List ℕ) × (end : Stage D) × (dropped : Result (Unit {0}) ArchiveFault)
-    × (s : Stores g naming file file' fails fails' old.archive line replies end.archive stored) × AbandonCall g end.archive 0 dropped new × Appends taken taken' replies
+    × (s : Stores g naming t.input t.input' t.fails t.fails' old.archive line replies end.archive stored) × AbandonCall g end.archive 0 dropped new × Appends t.taken t.taken' replies
     × StoreStages g old s.filled s.rest end new
-StoreEnds {D} g naming file file' fails fails' taken taken' lost lost' old line new (Err WriteFailed) =
+StoreEnds {D} g naming t old line new (Err WriteFailed) =
     (out : List ℕ) × (rest : List ℕ) × (end : Stage D) × (stored : Bool) × (dropped : Result (Unit {0}) ArchiveFault)
-    × (s : Stores g naming file file' fails fails' old.archive line (out ++ rest) end.archive stored) × AbandonCall g end.archive 0 dropped new × Appends taken taken' out × Rose lost lost'
+    × (s : Stores g naming t.input t.input' t.fails t.fails' old.archive line (out ++ rest) end.archive stored) × AbandonCall g end.archive 0 dropped new × Appends t.taken t.taken' out × Rose t.lost t.lost'
     × StoreStages g old s.filled s.rest end new
-StoreEnds g naming file file' fails fails' taken taken' lost lost' old line new (Err ReadFailed) = ⊥
-StoreEnds g naming file file' fails fails' taken taken' lost lost' old line new (Err TooManyReads) = ⊥
+StoreEnds g naming t old line new (Err ReadFailed) = ⊥
+StoreEnds g naming t old line new (Err TooManyReads) = ⊥

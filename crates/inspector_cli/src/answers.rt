@@ -3,7 +3,7 @@ ghost use Rattle.std.specs.Prelude.{◌≡◌, []};
 ghost use Rattle.intake.specs.Parts.{bare_of};
 ghost use Rattle.inspector_cli.specs.Commands.{asked_by};
 ghost use Rattle.inspector_cli.specs.Reply.{Ends, Drops, Deletes, Pins, Retires, Frees, list_reply};
-ghost use Rattle.inspector_cli.specs.Answering.{AnswersTo, TellsReply, TellsText};
+ghost use Rattle.inspector_cli.specs.Answering.{AnswersTo, TellsReply, TellsText, telling};
 
 use crate::begin::{answer_begin, core_stream, exec_stream};
 use crate::command::Request;
@@ -22,14 +22,7 @@ pub(crate) fn answer_plain<O: Output, D: Disk>(
     archive: &mut Archive<D>,
     naming: &Naming,
 )
-    ensures { AnswersTo D.Disk naming.now (record {
-      taken = O.taken output.old;
-      taken' = O.taken output.new;
-      failures = O.failures output.old;
-      failures' = O.failures output.new;
-      reply = reply.old;
-      reply' = reply.new;
-    }) archive.old (asked_by request) [] archive.new }
+    ensures { AnswersTo D.Disk naming.now (telling O.Output output.old output.new reply.old reply.new) archive.old (asked_by request) [] archive.new }
 {
     match request {
         Request::Silence => {}
@@ -61,14 +54,7 @@ pub(crate) fn answer_end<O: Output, D: Disk>(
     output: &mut O,
     archive: &mut Archive<D>,
 ) -> bool
-    ensures { TellsReply (record {
-      taken = O.taken output.old;
-      taken' = O.taken output.new;
-      failures = O.failures output.old;
-      failures' = O.failures output.new;
-      reply = reply.old;
-      reply' = reply.new;
-    }) (λ text. Ends D.Disk archive.old slot text archive.new result) }
+    ensures { TellsReply (telling O.Output output.old output.new reply.old reply.new) (λ text. Ends D.Disk archive.old slot text archive.new result) }
 {
     let outcome = archive.finish(slot);
     let is_stored = outcome.is_ok();
@@ -83,14 +69,7 @@ fn answer_drop<O: Output, D: Disk>(
     output: &mut O,
     archive: &mut Archive<D>,
 )
-    ensures { TellsReply (record {
-      taken = O.taken output.old;
-      taken' = O.taken output.new;
-      failures = O.failures output.old;
-      failures' = O.failures output.new;
-      reply = reply.old;
-      reply' = reply.new;
-    }) (λ text. Drops D.Disk archive.old slot text archive.new) }
+    ensures { TellsReply (telling O.Output output.old output.new reply.old reply.new) (λ text. Drops D.Disk archive.old slot text archive.new) }
 {
     let outcome = archive.abandon(slot);
     tell_outcome(reply, output, outcome);
@@ -103,14 +82,7 @@ fn answer_delete<O: Output, D: Disk>(
     output: &mut O,
     archive: &mut Archive<D>,
 )
-    ensures { TellsReply (record {
-      taken = O.taken output.old;
-      taken' = O.taken output.new;
-      failures = O.failures output.old;
-      failures' = O.failures output.new;
-      reply = reply.old;
-      reply' = reply.new;
-    }) (λ text. Deletes D.Disk archive.old seq text archive.new) }
+    ensures { TellsReply (telling O.Output output.old output.new reply.old reply.new) (λ text. Deletes D.Disk archive.old seq text archive.new) }
 {
     let outcome = archive.delete(seq);
     tell_outcome(reply, output, outcome);
@@ -124,14 +96,7 @@ fn answer_pin<O: Output, D: Disk>(
     output: &mut O,
     archive: &mut Archive<D>,
 )
-    ensures { TellsReply (record {
-      taken = O.taken output.old;
-      taken' = O.taken output.new;
-      failures = O.failures output.old;
-      failures' = O.failures output.new;
-      reply = reply.old;
-      reply' = reply.new;
-    }) (λ text. Pins D.Disk archive.old seq flag text archive.new) }
+    ensures { TellsReply (telling O.Output output.old output.new reply.old reply.new) (λ text. Pins D.Disk archive.old seq flag text archive.new) }
 {
     let outcome = archive.pin(seq, flag);
     tell_outcome(reply, output, outcome);
@@ -144,14 +109,7 @@ fn answer_retire<O: Output, D: Disk>(
     output: &mut O,
     archive: &mut Archive<D>,
 )
-    ensures { TellsReply (record {
-      taken = O.taken output.old;
-      taken' = O.taken output.new;
-      failures = O.failures output.old;
-      failures' = O.failures output.new;
-      reply = reply.old;
-      reply' = reply.new;
-    }) (λ text. Retires D.Disk archive.old policy text archive.new) }
+    ensures { TellsReply (telling O.Output output.old output.new reply.old reply.new) (λ text. Retires D.Disk archive.old policy text archive.new) }
 {
     let outcome = archive.retire(&policy);
     tell_retired(reply, output, outcome);
@@ -159,14 +117,7 @@ fn answer_retire<O: Output, D: Disk>(
 
 // Answers `list`.
 fn answer_list<O: Output, D: Disk>(reply: &mut Reply, output: &mut O, archive: &Archive<D>)
-    ensures { TellsText (record {
-      taken = O.taken output.old;
-      taken' = O.taken output.new;
-      failures = O.failures output.old;
-      failures' = O.failures output.new;
-      reply = reply.old;
-      reply' = reply.new;
-    }) (list_reply (bare_of archive.now).stopped (bare_of archive.now).cases) }
+    ensures { TellsText (telling O.Output output.old output.new reply.old reply.new) (list_reply (bare_of archive.now).stopped (bare_of archive.now).cases) }
 {
     match archive.cases() {
         Ok(cases) => tell_cases(reply, output, cases),
@@ -176,14 +127,7 @@ fn answer_list<O: Output, D: Disk>(reply: &mut Reply, output: &mut O, archive: &
 
 // Answers `free`.
 fn answer_free<O: Output, D: Disk>(reply: &mut Reply, output: &mut O, archive: &Archive<D>)
-    ensures { TellsReply (record {
-      taken = O.taken output.old;
-      taken' = O.taken output.new;
-      failures = O.failures output.old;
-      failures' = O.failures output.new;
-      reply = reply.old;
-      reply' = reply.new;
-    }) (λ text. Frees archive.now text archive.now) }
+    ensures { TellsReply (telling O.Output output.old output.new reply.old reply.new) (λ text. Frees archive.now text archive.now) }
 {
     tell_free(reply, output, archive.free_blocks());
 }

@@ -2,7 +2,7 @@
 ghost use Rattle.std.specs.Prelude.{◌≡◌, ◌≤◌, length, MatchResult, Ok, Err};
 ghost use Rattle.inspector_cli.specs.Reply.{Begins, exec_stream, core_name, core_stream, name_reason};
 ghost use Rattle.inspector_cli.specs.Commands.{name_text, process_of, stream_found};
-ghost use Rattle.inspector_cli.specs.Answering.{TellsReply};
+ghost use Rattle.inspector_cli.specs.Answering.{TellsReply, telling};
 
 use crate::names::{NameWord, NewStream, copied, has_nul};
 use crate::process::Process;
@@ -22,14 +22,7 @@ pub(crate) fn answer_begin<O: Output, D: Disk>(
     output: &mut O,
     archive: &mut Archive<D>,
 ) -> bool
-    ensures { TellsReply (record {
-      taken = O.taken output.old;
-      taken' = O.taken output.new;
-      failures = O.failures output.old;
-      failures' = O.failures output.new;
-      reply = reply.old;
-      reply' = reply.new;
-    }) (λ text. Begins D.Disk archive.old slot (stream_found found.entry) text archive.new result) }
+    ensures { TellsReply (telling O.Output output.old output.new reply.old reply.new) (λ text. Begins D.Disk archive.old slot (stream_found found.entry) text archive.new result) }
 {
     match found {
         Ok(stream) => begin_stream(slot, stream, reply, output, archive),
@@ -48,14 +41,7 @@ fn begin_stream<O: Output, D: Disk>(
     output: &mut O,
     archive: &mut Archive<D>,
 ) -> bool
-    ensures { TellsReply (record {
-      taken = O.taken output.old;
-      taken' = O.taken output.new;
-      failures = O.failures output.old;
-      failures' = O.failures output.new;
-      reply = reply.old;
-      reply' = reply.new;
-    }) (λ text. Begins D.Disk archive.old slot (stream_found (Ok stream)) text archive.new result) }
+    ensures { TellsReply (telling O.Output output.old output.new reply.old reply.new) (λ text. Begins D.Disk archive.old slot (stream_found (Ok stream)) text archive.new result) }
 {
     let NewStream {
         kind,

@@ -1,5 +1,6 @@
 // From the opening of an archive on.
-ghost use Rattle.inspector_cli.specs.Life.{LifeEnds, RunsOver, Streams};
+ghost use Rattle.inspector_cli.specs.Session.{streams_of};
+ghost use Rattle.inspector_cli.specs.Life.{LifeEnds, RunsOver};
 
 use crate::run::run_session;
 use crate::session::{LifeFault, Naming};
@@ -28,16 +29,7 @@ pub fn open_and_run<I: Input, O: Output, D: Disk>(
     input: &mut I,
     output: &mut O,
 ) -> (Result<(), LifeFault>, D)
-    ensures crash_safe { let streams : Streams = record {
-      input = I.remaining input.old;
-      input' = I.remaining input.new;
-      fails = I.failures input.old;
-      fails' = I.failures input.new;
-      taken = O.taken output.old;
-      taken' = O.taken output.new;
-      lost = O.failures output.old;
-      lost' = O.failures output.new;
-    } in LifeEnds D.Disk settings.limit streams disk result.0 result.1 (RunsOver D.Disk naming.now streams) }
+    ensures crash_safe { let streams = streams_of I.Input O.Output input.old input.new output.old output.new in LifeEnds D.Disk settings.limit streams disk result.0 result.1 (RunsOver D.Disk naming.now streams) }
 {
     match Archive::open(alloc, disk, settings) {
         Ok(archive) => {

@@ -3,7 +3,7 @@ ghost use Rattle.std.specs.Prelude.{◌≡◌, IsTrue, IfOk};
 ghost use Rattle.journal_layout.specs.Layout.{IsWithinLimits};
 ghost use Rattle.journal_layout.specs.Standing.{fresh};
 ghost use Rattle.journal_layout.specs.Stands.{Stands};
-ghost use Rattle.inspector_cli.specs.Life.{Streams};
+ghost use Rattle.inspector_cli.specs.Session.{streams_of};
 ghost use Rattle.inspector_cli.specs.Memory.{MemoryEnds, NoDisk};
 
 use crate::life::open_and_run;
@@ -31,16 +31,7 @@ pub fn memory_session<I: Input, O: Output>(
     input: &mut I,
     output: &mut O,
 ) -> Result<(), MemoryFault>
-    ensures fresh { let streams : Streams = record {
-      input = I.remaining input.old;
-      input' = I.remaining input.new;
-      fails = I.failures input.old;
-      fails' = I.failures input.new;
-      taken = O.taken output.old;
-      taken' = O.taken output.new;
-      lost = O.failures output.old;
-      lost' = O.failures output.new;
-    } in MemoryEnds ⟦<MemDisk as Disk>⟧ shape settings.limit naming.now streams result }
+    ensures fresh { let streams = streams_of I.Input O.Output input.old input.new output.old output.new in MemoryEnds ⟦<MemDisk as Disk>⟧ shape settings.limit naming.now streams result }
 {
     let disk = fresh_disk(alloc, shape)?;
     let (ended, _) = open_and_run(alloc, disk, settings, naming, input, output);

@@ -1,11 +1,11 @@
 // The bytes of a part.
-ghost use Rattle.std.specs.Prelude.{◌≡◌, ℕ, ◌<◌, ◌≤◌, List};
+ghost use Rattle.std.specs.Prelude.{◌≡◌, ℕ, ◌<◌, ◌≤◌, List, []};
 ghost use Rattle.intake.specs.Parts.{Parts};
 ghost use Rattle.inspector_cli.specs.Said.{part_of};
 ghost use Rattle.script_streams.specs.Reading.{Stops, steps_left};
 ghost use Rattle.inspector_cli.specs.Reply.{Takes};
 ghost use Rattle.inspector_cli.specs.declared.session.Naming.{Naming};
-ghost use Rattle.inspector_cli.specs.Answering.{PieceEnds, PartEnds, PartAnswers, SkipEnds};
+ghost use Rattle.inspector_cli.specs.Answering.{PieceEnds, PartEnds, PartAnswers, SkipEnds, TellsText, telling, reading};
 
 use crate::telling::{tell_no, tell_outcome};
 use disk_model::Disk;
@@ -23,26 +23,12 @@ pub(crate) fn answer_part<I: Input, O: Output, D: Disk>(
     archive: &mut Archive<D>,
 ) -> Result<bool, ReadStop>
     ensures answers { (naming : Naming) → PartAnswers D.Disk naming
-        (record {
-          before = I.remaining input.old;
-          after = I.remaining input.new;
-          buffer =
-              buffer.old;
-          buffer' = buffer.new;
-        })
-        (record {
-          taken = O.taken output.old;
-          taken' = O.taken output.new;
-          failures = O.failures
-              output.old;
-          failures' = O.failures output.new;
-          reply = reply.old;
-          reply' = reply.new;
-        })
+        (reading I.Input input.old input.new buffer.old buffer.new)
+        (telling O.Output output.old output.new reply.old reply.new)
         archive.old (part_of slot count) archive.new result }
     ensures stops { Stops (I.failures input.old) (I.failures input.new) buffer.new result }
 {
-    let (missing, verdict) = take_part(slot, count, buffer, input, archive)?;
+    let (missing, verdict) = take_part(slot, count, buffer, input, reply, output, archive)?;
     if missing == 0 {
         tell_outcome(reply, output, verdict);
         return Ok(true);
@@ -53,28 +39,26 @@ pub(crate) fn answer_part<I: Input, O: Output, D: Disk>(
 }
 
 // Takes the bytes of a part. Answers how many were missing where the input ended, and what the archive answers.
-fn take_part<I: Input, D: Disk>(
+fn take_part<I: Input, O: Output, D: Disk>(
     slot: u8,
     count: u32,
     buffer: &mut ScriptBuffer,
     input: &mut I,
+    reply: &mut Reply,
+    output: &mut O,
     archive: &mut Archive<D>,
 ) -> Result<(u32, Result<(), ArchiveFault>), ReadStop>
     ensures takes { PartEnds D.Disk
-        (record {
-          before = I.remaining input.old;
-          after = I.remaining input.new;
-          buffer =
-              buffer.old;
-          buffer' = buffer.new;
-        }) archive.old slot count
+        (reading I.Input input.old input.new buffer.old buffer.new) archive.old slot count
         archive.new result }
     ensures stops { Stops (I.failures input.old) (I.failures input.new) buffer.new result }
+    ensures tells { TellsText (telling O.Output output.old output.new reply.old reply.new) [] }
 {
     let mut verdict = archive.advance(slot, 0);
     let mut missing = count;
     while missing > 0 {
-        let (taken, answer) = take_piece(slot, missing, verdict, buffer, input, archive)?;
+        let (taken, answer) =
+            take_piece(slot, missing, verdict, buffer, input, reply, output, archive)?;
         verdict = answer;
         if taken == 0 {
             return Ok((missing, verdict));
@@ -85,72 +69,75 @@ fn take_part<I: Input, D: Disk>(
 }
 
 // Takes the next bytes of a part, or throws them away once it is refused.
-fn take_piece<I: Input, D: Disk>(
+fn take_piece<I: Input, O: Output, D: Disk>(
     slot: u8,
     most: u32,
     verdict: Result<(), ArchiveFault>,
     buffer: &mut ScriptBuffer,
     input: &mut I,
+    reply: &mut Reply,
+    output: &mut O,
     archive: &mut Archive<D>,
 ) -> Result<(u32, Result<(), ArchiveFault>), ReadStop>
     requires { 0 < most }
     ensures takes { (begun : Parts D) (so_far : List ℕ)
         → Takes D.Disk begun slot so_far verdict archive.old
-        → PieceEnds D.Disk (record { before = I.remaining input.old; after = I.remaining input.new; buffer = buffer.old; buffer' = buffer.new }) begun slot so_far most verdict archive.new result }
+        → PieceEnds D.Disk (reading I.Input input.old input.new buffer.old buffer.new) begun slot so_far most verdict archive.new result }
     ensures stops { Stops (I.failures input.old) (I.failures input.new) buffer.new result }
+    ensures tells { TellsText (telling O.Output output.old output.new reply.old reply.new) [] }
 {
     match verdict {
-        Ok(()) => fill_piece(slot, most, buffer, input, archive),
+        Ok(()) => fill_piece(slot, most, buffer, input, reply, output, archive),
         Err(fault) => {
-            let skipped = skip_piece(most, buffer, input)?;
+            let skipped = skip_piece(most, buffer, input, reply, output)?;
             Ok((skipped, Err(fault)))
         }
     }
 }
 
 // Takes the next bytes of a part into the free part of the stream's block.
-fn fill_piece<I: Input, D: Disk>(
+fn fill_piece<I: Input, O: Output, D: Disk>(
     slot: u8,
     most: u32,
     buffer: &mut ScriptBuffer,
     input: &mut I,
+    reply: &mut Reply,
+    output: &mut O,
     archive: &mut Archive<D>,
 ) -> Result<(u32, Result<(), ArchiveFault>), ReadStop>
     requires { 0 < most }
     ensures takes { (begun : Parts D) (so_far : List ℕ)
         → Takes D.Disk begun slot so_far (Ok tt) archive.old
-        → PieceEnds D.Disk (record { before = I.remaining input.old; after = I.remaining input.new; buffer = buffer.old; buffer' = buffer.new }) begun slot so_far most (Ok tt) archive.new result }
+        → PieceEnds D.Disk (reading I.Input input.old input.new buffer.old buffer.new) begun slot so_far most (Ok tt) archive.new result }
     ensures stops { Stops (I.failures input.old) (I.failures input.new) buffer.new result }
+    ensures tells { TellsText (telling O.Output output.old output.new reply.old reply.new) [] }
 {
     let (lent, room) = archive.room(slot);
     if let Err(fault) = lent {
         return Ok((0, Err(fault)));
     }
     let size = room.len().min(most as usize);
-    let taken = buffer.next_raw(input, &mut room[..size])?;
+    let taken = buffer.next_raw(input, &mut room[..size], reply, output)?;
     let answer = archive.advance(slot, taken);
     Ok((taken as u32, answer))
 }
 
 // Throws the next bytes of a part away.
-fn skip_piece<I: Input>(
+fn skip_piece<I: Input, O: Output>(
     most: u32,
     buffer: &mut ScriptBuffer,
     input: &mut I,
+    reply: &mut Reply,
+    output: &mut O,
 ) -> Result<u32, ReadStop>
     requires { 0 < most }
     ensures skips { SkipEnds
-        (record {
-          before = I.remaining input.old;
-          after = I.remaining input.new;
-          buffer =
-              buffer.old;
-          buffer' = buffer.new;
-        }) most result }
+        (reading I.Input input.old input.new buffer.old buffer.new) most result }
     ensures stops { Stops (I.failures input.old) (I.failures input.new) buffer.new result }
+    ensures tells { TellsText (telling O.Output output.old output.new reply.old reply.new) [] }
 {
     let mut scratch = [0u8; 4096];
     let size = scratch.len().min(most as usize);
-    let taken = buffer.next_raw(input, &mut scratch[..size])?;
+    let taken = buffer.next_raw(input, &mut scratch[..size], reply, output)?;
     Ok(taken as u32)
 }

@@ -1,10 +1,10 @@
 // A session from its first line to its end.
 ghost use Rattle.intake.specs.Durable.{Durable};
-ghost use Rattle.inspector_cli.specs.Session.{SessionEnds, Closes};
+ghost use Rattle.inspector_cli.specs.Session.{SessionEnds, Closes, streams_of};
 ghost use Rattle.inspector_cli.specs.Answering.{session_fault};
 ghost use Rattle.std.specs.Prelude.{◌≡◌, List};
 
-use crate::script::answer_script;
+use crate::script::{ScriptStop, answer_script};
 use crate::session::{Naming, SessionFault};
 use disk_model::Disk;
 use intake::{Archive, calls_lead_from_mark_to_mark, found_after_a_stop};
@@ -15,7 +15,8 @@ use script_streams::{Input, Output, ReadStop, Reply, ScriptBuffer};
 /// # Errors
 ///
 /// `ReadFailed` where the input failed, and `TooManyReads` where 2^40 reads were made and each gave a byte: the commands
-/// that are whole in what was read are answered. `WriteFailed` where the output failed: it has a front of the replies.
+/// that are whole in what was read are answered. `WriteFailed` where the output failed: it has a front of the replies. No
+/// line that was read after a write had failed is carried out, since its reply could not be seen.
 /// In each case no stream is open.
 pub fn run_session<I: Input, O: Output, D: Disk>(
     input: &mut I,
@@ -23,9 +24,8 @@ pub fn run_session<I: Input, O: Output, D: Disk>(
     archive: &mut Archive<D>,
     naming: &Naming,
 ) -> Result<(), SessionFault>
-    ensures { (before : List Durable) → SessionEnds D.Disk naming.now (I.remaining input.old) (I.remaining input.new) (I.failures input.old)
-        (I.failures input.new) (O.taken output.old) (O.taken output.new) (O.failures output.old)
-        (O.failures output.new) (record { archive = archive.old; in_doubt = before }) archive.new result }
+    ensures { (before : List Durable) → SessionEnds D.Disk naming.now (streams_of I.Input O.Output input.old input.new output.old output.new)
+        (record { archive = archive.old; in_doubt = before }) archive.new result }
 {
     calls_lead_from_mark_to_mark::<D>();
     found_after_a_stop::<D>();
@@ -42,13 +42,14 @@ pub fn run_session<I: Input, O: Output, D: Disk>(
     }
 }
 
-// What a session answers where its script could not be read on.
-fn session_fault(stop: ReadStop) -> SessionFault
+// What a session answers where its script was not answered to its end.
+fn session_fault(stop: ScriptStop) -> SessionFault
     ensures { result ≡ session_fault stop }
 {
     match stop {
-        ReadStop::ReadFailed => SessionFault::ReadFailed,
-        ReadStop::TooManyReads => SessionFault::TooManyReads,
+        ScriptStop::Read(ReadStop::ReadFailed) => SessionFault::ReadFailed,
+        ScriptStop::Read(ReadStop::TooManyReads) => SessionFault::TooManyReads,
+        ScriptStop::Unheard => SessionFault::WriteFailed,
     }
 }
 

@@ -1,11 +1,12 @@
 // The commands of a script, one after the other.
-ghost use Rattle.std.specs.Prelude.{◌≡◌, ℕ, ◌<◌, List, length};
+ghost use Rattle.std.specs.Prelude.{◌≡◌, true, ℕ, ◌<◌, List, length};
 ghost use Rattle.script_streams.specs.Lines.{IsLine, KeepsLine};
 ghost use Rattle.script_streams.specs.Reading.{Stops};
+ghost use Rattle.script_streams.specs.Telling.{has_failed};
 ghost use Rattle.intake.specs.Durable.{Durable};
 ghost use Rattle.inspector_cli.specs.Said.{said, part_of};
 ghost use Rattle.inspector_cli.specs.declared.session.Naming.{Naming};
-ghost use Rattle.inspector_cli.specs.Answering.{CommandEnds, ScriptEnds, PartAnswers, LastAnswers};
+ghost use Rattle.inspector_cli.specs.Answering.{CommandEnds, Halts, ScriptEnds, PartAnswers, LastAnswers, telling, reading};
 
 use crate::answers::answer_plain;
 use crate::command::{Command, parse_line};
@@ -16,7 +17,26 @@ use disk_model::Disk;
 use intake::{Archive, calls_lead_from_mark_to_mark};
 use script_streams::{Input, KeptLine, LineEnding, Output, ReadStop, Reply, ScriptBuffer};
 
-// Answers all commands of a script.
+/// Why a script was not answered to its end.
+#[derive(Clone, Copy)]
+pub(crate) enum ScriptStop {
+    /// It could not be read on.
+    Read(ReadStop),
+    /// The output has failed, so no reply can be seen.
+    Unheard,
+}
+
+impl From<ReadStop> for ScriptStop {
+    ghost use Rattle.inspector_cli.specs.declared.script.ScriptStop.TheVariants.{Read};
+
+    ghost from_gives = { λ stop r. r ≡ Read stop };
+
+    fn from(stop: ReadStop) -> Self {
+        ScriptStop::Read(stop)
+    }
+}
+
+// Answers all commands of a script, or those before the one at which it stopped.
 pub(crate) fn answer_script<I: Input, O: Output, D: Disk>(
     buffer: &mut ScriptBuffer,
     input: &mut I,
@@ -24,26 +44,12 @@ pub(crate) fn answer_script<I: Input, O: Output, D: Disk>(
     output: &mut O,
     archive: &mut Archive<D>,
     naming: &Naming,
-) -> Result<(), ReadStop>
+) -> Result<(), ScriptStop>
     ensures answers { (before : List Durable) → ScriptEnds D.Disk naming.now
-        (record {
-          before = I.remaining input.old;
-          after = I.remaining input.new;
-          buffer =
-              buffer.old;
-          buffer' = buffer.new;
-        })
-        (record {
-          taken = O.taken output.old;
-          taken' = O.taken output.new;
-          failures = O.failures
-              output.old;
-          failures' = O.failures output.new;
-          reply = reply.old;
-          reply' = reply.new;
-        })
+        (reading I.Input input.old input.new buffer.old buffer.new)
+        (telling O.Output output.old output.new reply.old reply.new)
         (record { archive = archive.old; in_doubt = before }) archive.new result }
-    ensures stops { Stops (I.failures input.old) (I.failures input.new) buffer.new result }
+    ensures stops { Halts (I.failures input.old) (I.failures input.new) buffer.new result }
 {
     calls_lead_from_mark_to_mark::<D>();
     let mut line = KeptLine::new();
@@ -54,7 +60,7 @@ pub(crate) fn answer_script<I: Input, O: Output, D: Disk>(
     Ok(())
 }
 
-// Reads the next command and answers it. Says whether the script may go on.
+// Reads the next command and answers it, unless its reply could not be seen. Says whether the script may go on.
 fn answer_command<I: Input, O: Output, D: Disk>(
     line: &mut KeptLine,
     buffer: &mut ScriptBuffer,
@@ -63,29 +69,23 @@ fn answer_command<I: Input, O: Output, D: Disk>(
     output: &mut O,
     archive: &mut Archive<D>,
     naming: &Naming,
-) -> Result<bool, ReadStop>
+) -> Result<bool, ScriptStop>
     ensures answers { CommandEnds D.Disk naming.now
-        (record {
-          before = I.remaining input.old;
-          after = I.remaining input.new;
-          buffer =
-              buffer.old;
-          buffer' = buffer.new;
-        })
-        (record {
-          taken = O.taken output.old;
-          taken' = O.taken output.new;
-          failures = O.failures
-              output.old;
-          failures' = O.failures output.new;
-          reply = reply.old;
-          reply' = reply.new;
-        })
+        (reading I.Input input.old input.new buffer.old buffer.new)
+        (telling O.Output output.old output.new reply.old reply.new)
         archive.old archive.new result }
-    ensures stops { Stops (I.failures input.old) (I.failures input.new) buffer.new result }
+    ensures unheard { has_failed reply.old ≡ true → archive.new ≡ archive.old }
+    ensures stops { Halts (I.failures input.old) (I.failures input.new) buffer.new result }
 {
-    match buffer.next_line(input, line)? {
-        LineEnding::Newline => answer_line(line, buffer, input, reply, output, archive, naming),
+    let ending = buffer.next_line(input, line, reply, output)?;
+    if reply.has_failed() {
+        return Err(ScriptStop::Unheard);
+    }
+    match ending {
+        LineEnding::Newline => {
+            let goes_on = answer_line(line, buffer, input, reply, output, archive, naming)?;
+            Ok(goes_on)
+        }
         LineEnding::EndOfInput => {
             answer_last(line, reply, output, archive, naming);
             Ok(false)
@@ -106,21 +106,8 @@ fn answer_line<I: Input, O: Output, D: Disk>(
 ) -> Result<bool, ReadStop>
     requires { (text : List ℕ) × KeepsLine text line.now }
     ensures answers { (text : List ℕ) → KeepsLine text line.now
-        → PartAnswers D.Disk naming.now (record {
-          before = I.remaining input.old;
-          after = I.remaining input.new;
-          buffer = buffer.old;
-          buffer' = buffer.new;
-        })
-        (record {
-          taken = O.taken output.old;
-          taken' = O.taken output.new;
-          failures = O.failures
-              output.old;
-          failures' = O.failures output.new;
-          reply = reply.old;
-          reply' = reply.new;
-        })
+        → PartAnswers D.Disk naming.now (reading I.Input input.old input.new buffer.old buffer.new)
+        (telling O.Output output.old output.new reply.old reply.new)
         archive.old (said text) archive.new result }
     ensures stops { Stops (I.failures input.old) (I.failures input.new) buffer.new result }
 {
@@ -145,16 +132,7 @@ fn answer_last<O: Output, D: Disk>(
 )
     requires { (text : List ℕ) × KeepsLine text line.now }
     ensures { (text : List ℕ) → KeepsLine text line.now
-        → LastAnswers D.Disk naming.now (record {
-          taken = O.taken output.old;
-          taken' = O.taken output.new;
-          failures
-              = O.failures output.old;
-          failures' = O.failures output.new;
-          reply = reply.old;
-          reply' =
-              reply.new;
-        }) archive.old (said text) archive.new }
+        → LastAnswers D.Disk naming.now (telling O.Output output.old output.new reply.old reply.new) archive.old (said text) archive.new }
 {
     match parse_line(line) {
         Command::Part { slot, count } => answer_cut(slot, count, reply, output, archive),
@@ -170,14 +148,7 @@ fn answer_cut<O: Output, D: Disk>(
     output: &mut O,
     archive: &mut Archive<D>,
 )
-    ensures { (naming : Naming) → LastAnswers D.Disk naming (record {
-      taken = O.taken output.old;
-      taken' = O.taken output.new;
-      failures = O.failures output.old;
-      failures' = O.failures output.new;
-      reply = reply.old;
-      reply' = reply.new;
-    }) archive.old (part_of slot count) archive.new }
+    ensures { (naming : Naming) → LastAnswers D.Disk naming (telling O.Output output.old output.new reply.old reply.new) archive.old (part_of slot count) archive.new }
 {
     let verdict = archive.advance(slot, 0);
     if count == 0 {

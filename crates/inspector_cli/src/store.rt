@@ -5,7 +5,8 @@ ghost use Rattle.intake.specs.Parts.{Parts, bare_of};
 ghost use Rattle.inspector_cli.specs.Said.{said};
 ghost use Rattle.inspector_cli.specs.Commands.{asked_by, said_by, stream_found};
 ghost use Rattle.inspector_cli.specs.Reply.{Begins, Takes};
-ghost use Rattle.inspector_cli.specs.Answering.{TellsReply};
+ghost use Rattle.inspector_cli.specs.Answering.{TellsReply, telling};
+ghost use Rattle.inspector_cli.specs.Session.{streams_of};
 ghost use Rattle.inspector_cli.specs.Storing.{StoreEnds, Stores, RestReplies, first_stream, TakesFile, TakesMore, IsSlotQuiet};
 
 use crate::answers::answer_end;
@@ -46,9 +47,8 @@ pub fn store_stream<I: Input, O: Output, D: Disk>(
     archive: &mut Archive<D>,
     naming: &Naming,
 ) -> Result<bool, SessionFault>
-    ensures ends { (before : List Durable) → StoreEnds D.Disk naming.now (I.remaining file.old) (I.remaining file.new) (I.failures file.old)
-        (I.failures file.new) (O.taken output.old) (O.taken output.new) (O.failures output.old)
-        (O.failures output.new) (record { archive = archive.old; in_doubt = before }) line.now archive.new result }
+    ensures ends { (before : List Durable) → StoreEnds D.Disk naming.now (streams_of I.Input O.Output file.old file.new output.old output.new)
+        (record { archive = archive.old; in_doubt = before }) line.now archive.new result }
     ensures quiet { IsSlotQuiet (bare_of archive.new) }
 {
     calls_lead_from_mark_to_mark::<D>();
@@ -71,14 +71,7 @@ fn answer_store<I: Input, O: Output, D: Disk>(
     archive: &mut Archive<D>,
     naming: &Naming,
 ) -> bool
-    ensures { TellsReply (record {
-      taken = O.taken output.old;
-      taken' = O.taken output.new;
-      failures = O.failures output.old;
-      failures' = O.failures output.new;
-      reply = reply.old;
-      reply' = reply.new;
-    }) (λ text. Stores D.Disk naming.now (I.remaining file.old) (I.remaining file.new) (I.failures file.old) (I.failures file.new)
+    ensures { TellsReply (telling O.Output output.old output.new reply.old reply.new) (λ text. Stores D.Disk naming.now (I.remaining file.old) (I.remaining file.new) (I.failures file.old) (I.failures file.new)
         archive.old line.now text archive.new result) }
 {
     let is_begun = answer_first(line, reply, output, archive, naming);
@@ -96,14 +89,7 @@ fn answer_first<O: Output, D: Disk>(
     archive: &mut Archive<D>,
     naming: &Naming,
 ) -> bool
-    ensures first { TellsReply (record {
-      taken = O.taken output.old;
-      taken' = O.taken output.new;
-      failures = O.failures output.old;
-      failures' = O.failures output.new;
-      reply = reply.old;
-      reply' = reply.new;
-    }) (λ text. Begins D.Disk archive.old 0 (first_stream naming.now (said line.now)) text archive.new result) }
+    ensures first { TellsReply (telling O.Output output.old output.new reply.old reply.new) (λ text. Begins D.Disk archive.old 0 (first_stream naming.now (said line.now)) text archive.new result) }
     ensures begun { result ≡ true → Takes D.Disk archive.new 0 [] (Ok tt) archive.new }
 {
     let found = first_stream(parse_text(line), naming);
@@ -157,14 +143,7 @@ fn answer_file<I: Input, O: Output, D: Disk>(
     archive: &mut Archive<D>,
 ) -> bool
     requires { Takes D.Disk archive.old 0 [] (Ok tt) archive.old }
-    ensures { TellsReply (record {
-      taken = O.taken output.old;
-      taken' = O.taken output.new;
-      failures = O.failures output.old;
-      failures' = O.failures output.new;
-      reply = reply.old;
-      reply' = reply.new;
-    }) (λ text. (filled : Parts D) × RestReplies D.Disk (I.remaining file.old) (I.remaining file.new) (I.failures file.old) (I.failures file.new)
+    ensures { TellsReply (telling O.Output output.old output.new reply.old reply.new) (λ text. (filled : Parts D) × RestReplies D.Disk (I.remaining file.old) (I.remaining file.new) (I.failures file.old) (I.failures file.new)
         archive.old true filled text archive.new result) }
 {
     match take_file(file, archive) {

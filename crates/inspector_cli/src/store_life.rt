@@ -1,5 +1,6 @@
 // One stream, stored from the opening of its archive on.
-ghost use Rattle.inspector_cli.specs.Life.{LifeEnds, StoresOver, Streams};
+ghost use Rattle.inspector_cli.specs.Session.{streams_of};
+ghost use Rattle.inspector_cli.specs.Life.{LifeEnds, StoresOver};
 
 use crate::session::{LifeFault, Naming};
 use crate::store::store_stream;
@@ -25,16 +26,7 @@ pub fn open_and_store<I: Input, O: Output, D: Disk>(
     file: &mut I,
     output: &mut O,
 ) -> (Result<bool, LifeFault>, D)
-    ensures crash_safe { let streams : Streams = record {
-      input = I.remaining file.old;
-      input' = I.remaining file.new;
-      fails = I.failures file.old;
-      fails' = I.failures file.new;
-      taken = O.taken output.old;
-      taken' = O.taken output.new;
-      lost = O.failures output.old;
-      lost' = O.failures output.new;
-    } in LifeEnds D.Disk settings.limit streams disk result.0 result.1 (StoresOver D.Disk naming.now line.now streams) }
+    ensures crash_safe { let streams = streams_of I.Input O.Output file.old file.new output.old output.new in LifeEnds D.Disk settings.limit streams disk result.0 result.1 (StoresOver D.Disk naming.now line.now streams) }
 {
     match Archive::open(alloc, disk, settings) {
         Ok(archive) => {

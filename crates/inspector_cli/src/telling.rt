@@ -4,7 +4,7 @@ ghost use Rattle.std.specs.List.{flat_map};
 ghost use Rattle.journal_layout.specs.Case.{case_of};
 ghost use Rattle.intake.specs.Parts.{bare_case};
 ghost use Rattle.inspector_cli.specs.Reply.{ok_reply, no_reply, reason_of, plain_reply, begin_reply, end_reply, retire_reply, dropped_line, free_reply, number_word, case_line, kind_name, pin_name};
-ghost use Rattle.inspector_cli.specs.Answering.{TellsText};
+ghost use Rattle.inspector_cli.specs.Answering.{TellsText, telling};
 
 use intake::ArchiveFault;
 use journal_layout::{Entry, Kind};
@@ -34,14 +34,7 @@ pub(crate) fn reason(fault: ArchiveFault) -> &'static [u8]
 
 // Tells a refusal.
 pub(crate) fn tell_no<O: Output>(reply: &mut Reply, output: &mut O, reason: &[u8])
-    ensures { TellsText (record {
-      taken = O.taken output.old;
-      taken' = O.taken output.new;
-      failures = O.failures output.old;
-      failures' = O.failures output.new;
-      reply = reply.old;
-      reply' = reply.new;
-    }) (no_reply reason.now) }
+    ensures { TellsText (telling O.Output output.old output.new reply.old reply.new) (no_reply reason.now) }
 {
     reply.tell(output, b"no ");
     reply.tell(output, reason);
@@ -54,14 +47,7 @@ pub(crate) fn tell_outcome<O: Output>(
     output: &mut O,
     outcome: Result<(), ArchiveFault>,
 )
-    ensures { TellsText (record {
-      taken = O.taken output.old;
-      taken' = O.taken output.new;
-      failures = O.failures output.old;
-      failures' = O.failures output.new;
-      reply = reply.old;
-      reply' = reply.new;
-    }) (plain_reply outcome) }
+    ensures { TellsText (telling O.Output output.old output.new reply.old reply.new) (plain_reply outcome) }
 {
     match outcome {
         Ok(()) => reply.tell(output, b"ok\n"),
@@ -76,14 +62,7 @@ pub(crate) fn tell_begun<O: Output>(
     name: &[u8],
     outcome: Result<(), ArchiveFault>,
 )
-    ensures { TellsText (record {
-      taken = O.taken output.old;
-      taken' = O.taken output.new;
-      failures = O.failures output.old;
-      failures' = O.failures output.new;
-      reply = reply.old;
-      reply' = reply.new;
-    }) (begin_reply name.now outcome) }
+    ensures { TellsText (telling O.Output output.old output.new reply.old reply.new) (begin_reply name.now outcome) }
 {
     match outcome {
         Ok(()) => {
@@ -102,14 +81,7 @@ pub(crate) fn tell_stored<O: Output>(
     output: &mut O,
     outcome: Result<u32, ArchiveFault>,
 )
-    ensures { TellsText (record {
-      taken = O.taken output.old;
-      taken' = O.taken output.new;
-      failures = O.failures output.old;
-      failures' = O.failures output.new;
-      reply = reply.old;
-      reply' = reply.new;
-    }) (end_reply outcome) }
+    ensures { TellsText (telling O.Output output.old output.new reply.old reply.new) (end_reply outcome) }
 {
     match outcome {
         Ok(seq) => {
@@ -128,14 +100,7 @@ pub(crate) fn tell_retired<O: Output>(
     output: &mut O,
     outcome: Result<Decision, ArchiveFault>,
 )
-    ensures { TellsText (record {
-      taken = O.taken output.old;
-      taken' = O.taken output.new;
-      failures = O.failures output.old;
-      failures' = O.failures output.new;
-      reply = reply.old;
-      reply' = reply.new;
-    }) (retire_reply outcome) }
+    ensures { TellsText (telling O.Output output.old output.new reply.old reply.new) (retire_reply outcome) }
 {
     match outcome {
         Ok(decision) => {
@@ -151,14 +116,7 @@ pub(crate) fn tell_retired<O: Output>(
 
 // Tells a line for each case that was dropped.
 fn tell_dropped<O: Output>(reply: &mut Reply, output: &mut O, dropped: &[u32])
-    ensures { TellsText (record {
-      taken = O.taken output.old;
-      taken' = O.taken output.new;
-      failures = O.failures output.old;
-      failures' = O.failures output.new;
-      reply = reply.old;
-      reply' = reply.new;
-    }) (flat_map dropped_line dropped.now) }
+    ensures { TellsText (telling O.Output output.old output.new reply.old reply.new) (flat_map dropped_line dropped.now) }
 {
     for seq in dropped {
         reply.tell(output, b"dropped ");
@@ -173,14 +131,7 @@ pub(crate) fn tell_free<O: Output>(
     output: &mut O,
     outcome: Result<(u32, u32), ArchiveFault>,
 )
-    ensures { TellsText (record {
-      taken = O.taken output.old;
-      taken' = O.taken output.new;
-      failures = O.failures output.old;
-      failures' = O.failures output.new;
-      reply = reply.old;
-      reply' = reply.new;
-    }) (free_reply outcome) }
+    ensures { TellsText (telling O.Output output.old output.new reply.old reply.new) (free_reply outcome) }
 {
     match outcome {
         Ok((free, all)) => {
@@ -197,14 +148,7 @@ pub(crate) fn tell_free<O: Output>(
 
 // Tells a line for each case.
 pub(crate) fn tell_cases<O: Output>(reply: &mut Reply, output: &mut O, cases: &[Entry])
-    ensures { TellsText (record {
-      taken = O.taken output.old;
-      taken' = O.taken output.new;
-      failures = O.failures output.old;
-      failures' = O.failures output.new;
-      reply = reply.old;
-      reply' = reply.new;
-    }) (flat_map case_line (map bare_case
+    ensures { TellsText (telling O.Output output.old output.new reply.old reply.new) (flat_map case_line (map bare_case
         (map case_of cases.now)) ++ ok_reply) }
 {
     for entry in cases {
@@ -215,14 +159,7 @@ pub(crate) fn tell_cases<O: Output>(reply: &mut Reply, output: &mut O, cases: &[
 
 // Tells the line of a case.
 fn tell_case<O: Output>(reply: &mut Reply, output: &mut O, entry: &Entry)
-    ensures { TellsText (record {
-      taken = O.taken output.old;
-      taken' = O.taken output.new;
-      failures = O.failures output.old;
-      failures' = O.failures output.new;
-      reply = reply.old;
-      reply' = reply.new;
-    }) (case_line (bare_case (case_of entry.now))) }
+    ensures { TellsText (telling O.Output output.old output.new reply.old reply.new) (case_line (bare_case (case_of entry.now))) }
 {
     tell_number(reply, output, entry.seq as u64);
     reply.tell(output, kind_word(entry.kind));
@@ -239,14 +176,7 @@ fn tell_case<O: Output>(reply: &mut Reply, output: &mut O, entry: &Entry)
 
 // Tells a number and a space.
 fn tell_number<O: Output>(reply: &mut Reply, output: &mut O, number: u64)
-    ensures { TellsText (record {
-      taken = O.taken output.old;
-      taken' = O.taken output.new;
-      failures = O.failures output.old;
-      failures' = O.failures output.new;
-      reply = reply.old;
-      reply' = reply.new;
-    }) (number_word number) }
+    ensures { TellsText (telling O.Output output.old output.new reply.old reply.new) (number_word number) }
 {
     reply.tell_decimal(output, u128::from(number));
     reply.tell(output, b" ");

@@ -18,9 +18,9 @@ held_bytes buffer = take (buffer.end - buffer.start) (drop buffer.start buffer.b
 abbrev pub reads_made : ScriptBuffer → ℕ
 reads_made buffer = buffer.reads
 
--- a bound on the bytes that can still be given: each read gives at most 4,096
+-- a bound on the bytes that can still be given: each read gives at most 65,536
 abbrev pub steps_left : ScriptBuffer → ℕ
-steps_left buffer = (2 ^ 40 - buffer.reads) * 4097 + (buffer.end - buffer.start)
+steps_left buffer = (2 ^ 40 - buffer.reads) * 65537 + (buffer.end - buffer.start)
 
 -- Between two moments of an input and of its buffer these bytes were given, in order, and no others were lost or made
 pub record Gives (before after : Option (List ℕ)) (old new : ScriptBuffer) (given : List ℕ) : Type 0 where

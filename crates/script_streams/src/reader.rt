@@ -1,8 +1,9 @@
 //! A script's input, by lines and parts.
-ghost use Rattle.std.specs.Prelude.{◌≡◌, ◌≢◌, ℕ, ◌+◌, ◌<◌, ◌≤◌, ◌^◌, List, [], ◌++◌, ◌∷◌, length, min, take, OnOk, OnErr, None};
+ghost use Rattle.std.specs.Prelude.{◌≡◌, ◌≢◌, true, ℕ, ◌+◌, ◌<◌, ◌≤◌, ◌^◌, List, [], ◌++◌, ◌∷◌, length, min, take, Option, OnOk, OnErr, None};
 
 use crate::kept_line::KeptLine;
-use crate::streams::Input;
+use crate::reply::Reply;
+use crate::streams::{Input, Output};
 use memchr::memchr;
 use thiserror::Error;
 
@@ -31,12 +32,12 @@ pub enum LineEnding {
 /// What was read of a script's input and not used yet. It is of a fixed size.
 #[derive(Drop)]
 pub struct ScriptBuffer {
-    bytes: [u8; 4096],
+    bytes: [u8; 65536],
     start: usize,
     end: usize,
     reads: u64,
     ghost ordered: { start ≤ end },
-    ghost within: { end ≤ 4096 },
+    ghost within: { end ≤ 65536 },
     ghost counted: { reads ≤ 1099511627776 },
 }
 
@@ -44,11 +45,12 @@ pub struct ScriptBuffer {
 const MOST_READS: u64 = 1 << 40;
 
 impl ScriptBuffer {
-    ghost use Rattle.script_streams.specs.Lines.{KeepsLine};
+    ghost use Rattle.script_streams.specs.Lines.{IsLine, KeepsLine};
     ghost use Rattle.std.specs.Bool.{OnFalse};
     ghost use Rattle.std.specs.Io.KnownBytes.{IsAtEnd};
     ghost use Rattle.script_streams.specs.Reading.{held_bytes, reads_made, steps_left, Gives, GivesLine, GivesRaw, Stops};
     ghost use Rattle.script_streams.specs.GoingOn.{TakesLine, GoesOn};
+    ghost use Rattle.script_streams.specs.Telling.{Tells, has_failed, held_text};
 
     /// A buffer that holds nothing, before the first read.
     pub fn new() -> Self
@@ -85,41 +87,74 @@ impl ScriptBuffer {
     }
 
     /// Reads the next line: all before the next newline, or all that is left where the input ends before one.
-    /// `line` then keeps it, whatever it kept before.
+    /// `line` then keeps it, whatever it kept before. What the output was told is written before the input is asked for more.
     ///
     /// # Errors
     ///
     /// `ReadFailed` where the input failed in this call, and `TooManyReads` where more bytes are wanted and 2^40 reads
     /// were made, each of which gave a byte. In both cases the bytes since the last newline are lost.
-    pub fn next_line<I: Input>(
+    pub fn next_line<I: Input, O: Output>(
         &mut self,
         input: &mut I,
         line: &mut KeptLine,
+        reply: &mut Reply,
+        output: &mut O,
     ) -> Result<LineEnding, ReadStop>
         ensures gives { GivesLine (I.remaining input.old) (I.remaining input.new) self.old self.new line.new result }
         ensures stops { Stops (I.failures input.old) (I.failures input.new) self.new result }
+        ensures tells { Tells (O.taken output.old) (O.taken output.new) (O.failures output.old) (O.failures output.new)
+            reply.old reply.new [] }
+        ensures failed { has_failed reply.old ≡ true → has_failed reply.new ≡ true }
     {
         line.clear();
-        loop {
-            if let Some(ending) = self.go_on(input, line)? {
-                return Ok(ending);
-            }
+        if self.take_line(line) {
+            return Ok(LineEnding::Newline);
         }
+        reply.flush(output);
+        self.finish_line(input, line, reply)
     }
 
     /// Reads the next bytes as they are, to the front of `into`, and answers how many: as many as are there, and at
-    /// least one unless the input has ended.
+    /// least one unless the input has ended. What the output was told is written before the input is asked for more.
     ///
     /// # Errors
     ///
     /// As for `next_line`, and no byte is lost.
-    pub fn next_raw<I: Input>(&mut self, input: &mut I, into: &mut [u8]) -> Result<usize, ReadStop>
+    pub fn next_raw<I: Input, O: Output>(
+        &mut self,
+        input: &mut I,
+        into: &mut [u8],
+        reply: &mut Reply,
+        output: &mut O,
+    ) -> Result<usize, ReadStop>
         requires { 0 < length into.old }
         ensures gives { GivesRaw (I.remaining input.old) (I.remaining input.new) self.old self.new into.new result }
         ensures stops { Stops (I.failures input.old) (I.failures input.new) self.new result }
+        ensures tells { Tells (O.taken output.old) (O.taken output.new) (O.failures output.old) (O.failures output.new)
+            reply.old reply.new [] }
     {
-        self.hold_some(input)?;
+        self.hold_some(input, reply, output)?;
         Ok(self.copy_held(into))
+    }
+
+    // Goes on with a line to its end.
+    fn finish_line<I: Input>(
+        &mut self,
+        input: &mut I,
+        line: &mut KeptLine,
+        reply: &Reply,
+    ) -> Result<LineEnding, ReadStop>
+        requires { held_text reply.now ≡ [] }
+        ensures gives { (start : ScriptBuffer) (a : Option (List ℕ)) (front : List ℕ) → IsLine front → KeepsLine front line.old
+            → Gives a (I.remaining input.old) start self.old front
+            → GivesLine a (I.remaining input.new) start self.new line.new result }
+        ensures stops { Stops (I.failures input.old) (I.failures input.new) self.new result }
+    {
+        loop {
+            if let Some(ending) = self.go_on(input, line, reply)? {
+                return Ok(ending);
+            }
+        }
     }
 
     // Goes on with a line: to its end, or to the next read.
@@ -127,7 +162,9 @@ impl ScriptBuffer {
         &mut self,
         input: &mut I,
         line: &mut KeptLine,
+        reply: &Reply,
     ) -> Result<Option<LineEnding>, ReadStop>
+        requires { held_text reply.now ≡ [] }
         ensures gives { (front : List ℕ) → KeepsLine front line.old
             → GoesOn front (I.remaining input.old) (I.remaining input.new) self.old self.new line.new result }
         ensures nearer { result ≡ Ok None → steps_left self.new < steps_left self.old }
@@ -136,7 +173,7 @@ impl ScriptBuffer {
         if self.take_line(line) {
             return Ok(Some(LineEnding::Newline));
         }
-        self.refill(input)?;
+        self.refill(input, reply)?;
         if !self.held().is_empty() {
             return Ok(None);
         }
@@ -184,21 +221,31 @@ impl ScriptBuffer {
     }
 
     // Reads once, unless something is held.
-    fn hold_some<I: Input>(&mut self, input: &mut I) -> Result<(), ReadStop>
+    fn hold_some<I: Input, O: Output>(
+        &mut self,
+        input: &mut I,
+        reply: &mut Reply,
+        output: &mut O,
+    ) -> Result<(), ReadStop>
         ensures gives { Gives (I.remaining input.old) (I.remaining input.new) self.old self.new [] }
         ensures end { OnOk result (held_bytes self.new ≡ [] → IsAtEnd (I.remaining input.new)) }
         ensures err { OnErr result (held_bytes self.new ≡ []) }
         ensures stops { Stops (I.failures input.old) (I.failures input.new) self.new result }
+        ensures tells { Tells (O.taken output.old) (O.taken output.new) (O.failures output.old) (O.failures output.new)
+            reply.old reply.new [] }
     {
         if self.held().is_empty() {
-            return self.refill(input);
+            reply.flush(output);
+            return self.refill(input, reply);
         }
         Ok(())
     }
 
-    // Reads once, where nothing is held.
-    fn refill<I: Input>(&mut self, input: &mut I) -> Result<(), ReadStop>
-        requires { held_bytes self.old ≡ [] }
+    // Asks the input for more, where nothing of it is held, and nothing of the replies is held back: so whoever gives the input
+    // sees each reply before the next line is waited for.
+    fn refill<I: Input>(&mut self, input: &mut I, reply: &Reply) -> Result<(), ReadStop>
+        requires empty { held_bytes self.old ≡ [] }
+        requires heard { held_text reply.now ≡ [] }
         ensures gives { Gives (I.remaining input.old) (I.remaining input.new) self.old self.new [] }
         ensures nearer { 0 < length (held_bytes self.new) → steps_left self.new < steps_left self.old }
         ensures end { OnOk result (held_bytes self.new ≡ [] → IsAtEnd (I.remaining input.new)) }
@@ -220,6 +267,6 @@ impl ScriptBuffer {
     }
 }
 
-fn zeros() -> [u8; 4096] {
-    [0; 4096]
+fn zeros() -> [u8; 65536] {
+    [0; 65536]
 }

@@ -1,5 +1,5 @@
 //! The text of replies, on its way to an output.
-ghost use Rattle.std.specs.Prelude.{◌≡◌, ℕ, ◌+◌, ◌≤◌, List, [], ◌++◌, length, Option, decimal};
+ghost use Rattle.std.specs.Prelude.{◌≡◌, true, false, OnOk, ℕ, ◌+◌, ◌≤◌, List, [], ◌++◌, length, Option, decimal};
 ghost use Rattle.std.specs.List.{flat_map};
 ghost use Rattle.std.specs.Fmt.{signed_decimal};
 ghost use Rattle.script_words.specs.Hex.{hex_of};
@@ -10,17 +10,20 @@ use crate::streams::{Output, StreamFault};
 use arrayvec::ArrayVec;
 use script_words::{print_byte, print_decimal, print_hex_pair, print_hexadecimal, print_signed};
 
+// How many bytes are held at most.
+const MOST_HELD: usize = 8192;
+
 /// Text that an output is told and has not taken yet, in a buffer of a fixed size. Once a write has failed no more is
 /// written, and `finish` says so: so replies are told with no look at each write.
 #[derive(Drop)]
 pub struct Reply {
-    held: ArrayVec<u8, 1024>,
+    held: ArrayVec<u8, 8192>,
     failed: bool,
 }
 
 impl Reply {
     ghost use Rattle.arrayvec.specs.ArrayVec.{array_vec_len};
-    ghost use Rattle.script_streams.specs.Telling.{Told, Tells, IsDelivered, held_text};
+    ghost use Rattle.script_streams.specs.Telling.{Told, Tells, IsDelivered, has_failed, held_text};
 
     /// Nothing was told yet.
     pub fn new() -> Self
@@ -39,8 +42,12 @@ impl Reply {
     {
         if text.len() <= self.held.remaining_capacity() {
             self.hold(text);
+            return;
+        }
+        self.flush(output);
+        if text.len() <= MOST_HELD {
+            self.hold(text);
         } else {
-            self.flush(output);
             self.write_behind(output, text);
         }
     }
@@ -102,6 +109,13 @@ impl Reply {
         self.tell(output, print_hexadecimal(number).as_slice());
     }
 
+    /// Whether a write has failed: then nothing more is written.
+    pub fn has_failed(&self) -> bool
+        ensures { result ≡ has_failed self.now }
+    {
+        self.failed
+    }
+
     /// Writes what was told and is not written yet.
     ///
     /// # Errors
@@ -113,6 +127,7 @@ impl Reply {
         ensures delivered { (start : Option (List ℕ)) (count : ℕ) (told : List ℕ)
             → Told start count (O.taken output.old) (O.failures output.old) self.old told
             → IsDelivered start count (O.taken output.new) (O.failures output.new) told result }
+        ensures unfailed { OnOk result (has_failed self.old ≡ false) }
     {
         self.flush(output);
         if self.failed {
@@ -124,17 +139,18 @@ impl Reply {
 
     // Holds a text, for which there is room.
     fn hold(&mut self, text: &[u8])
-        requires { length (held_text self.old) + length text.now ≤ 1024 }
+        requires { length (held_text self.old) + length text.now ≤ 8192 }
         ensures { (a : Option (List ℕ)) (n : ℕ) → Tells a a n n self.old self.new text.now }
     {
         let _ = self.held.try_extend_from_slice(text);
     }
 
     // Writes what is held.
-    fn flush<O: Output>(&mut self, output: &mut O)
+    pub(crate) fn flush<O: Output>(&mut self, output: &mut O)
         ensures tells { Tells (O.taken output.old) (O.taken output.new) (O.failures output.old) (O.failures output.new)
             self.old self.new [] }
         ensures emptied { held_text self.new ≡ [] }
+        ensures failed { has_failed self.old ≡ true → has_failed self.new ≡ true }
     {
         self.failed = pass_on(self.failed, output, self.held.as_slice());
         self.held.clear();

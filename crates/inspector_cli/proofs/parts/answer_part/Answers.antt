@@ -1,15 +1,15 @@
-use Rattle.std.proofs.Common.{◌≡◌, length, arith, refl}
+use Rattle.std.proofs.Common.{◌≡◌, [], length, arith, refl}
 use Rattle.std.proofs.lemmas.Result.{err_from_is_err_and}
 use Rattle.std.specs.Prelude.{codes}
 use Rattle.inspector_cli.specs.Reply.{plain_reply, no_reply}
-use Rattle.inspector_cli.proofs.TellLemmas.{tells_nothing}
+use Rattle.inspector_cli.proofs.TellLemmas.{tells_then}
 use Rattle.inspector_cli.proofs.parts.answer_part.Goals as goal
 
 pub returns-in_err-missing-clause-answers : goal.returns-in_err-missing-clause-answers
 returns-in_err-missing-clause-answers g c = λ naming.
     let p = err_from_is_err_and c.from_residual.result c.from_residual.ensures.1 in
     let ends = c.in_err-missing.ensures.takes in
-    rw p.1 (ends.0, ends.1, ends.2, ends.3, (ends.4, ends.5), tells_nothing _ _ _)
+    rw p.1 (ends.0, ends.1, ends.2, ends.3, (ends.4, ends.5), c.in_err-missing.ensures.tells)
 
 pub returns-then-missing-eq0-clause-answers : goal.returns-then-missing-eq0-clause-answers
 returns-then-missing-eq0-clause-answers g c = λ naming.
@@ -18,7 +18,7 @@ returns-then-missing-eq0-clause-answers g c = λ naming.
       ends.0,
       size,
       ends.2,
-      (plain_reply c.in_ok-missing.verdict, (c.in_ok-missing.verdict, ends.4, refl), c.tell_outcome.ensures),
+      (plain_reply c.in_ok-missing.verdict, (c.in_ok-missing.verdict, ends.4, refl), tells_then _ _ _ _ _ _ _ c.take_part.new.reply _ [] _ c.in_ok-missing.ensures.tells c.tell_outcome.ensures),
     )
 
 pub returns-clause-answers : goal.returns-clause-answers
@@ -38,5 +38,5 @@ returns-clause-answers g c = λ naming.
         c.abandon.ensures,
         refl,
       ),
-      c.tell_no.ensures,
+      tells_then _ _ _ _ _ _ _ c.take_part.new.reply _ [] _ c.in_ok-missing.ensures.tells c.tell_no.ensures,
     )

@@ -1,5 +1,6 @@
-use Rattle.std.proofs.Common.{◌≡◌, ℕ, ◌+◌, List, length}
+use Rattle.std.proofs.Common.{◌≡◌, ℕ, ◌+◌, List, [], length}
 use Rattle.script_streams.specs.Reading.{Gives}
+use Rattle.inspector_cli.specs.Answering.{TellsText, telling}
 use Rattle.inspector_cli.specs.Reply.{Takes}
 use Rattle.inspector_cli.proofs.parts.take_part.Given as goal
 
@@ -9,6 +10,7 @@ invariant-loop-missing g l = record {
   counted : length raw + l.missing ≡ l.fn.count;
   gives : Gives (g.I.Input.remaining l.initial.input) (g.I.Input.remaining l.input) l.initial.buffer l.buffer raw;
   takes : Takes g.D.Disk l.fn.archive l.slot raw l.verdict l.archive;
+  told : TellsText (telling g.O.Output l.initial.output l.output l.initial.reply l.reply) [];
   failures : g.I.Input.failures l.input ≡ g.I.Input.failures l.initial.input;
 }
 

@@ -1,5 +1,5 @@
 use Rattle.std.proofs.Common.{sym, subst, Err}
-use Rattle.inspector_cli.specs.Session.{SessionEnds}
+use Rattle.inspector_cli.specs.Session.{SessionEnds, streams_of}
 use Rattle.inspector_cli.specs.declared.session.SessionFault.{SessionFault}
 use Rattle.inspector_cli.proofs.SessionLemmas.{ended, read_stopped, write_failed}
 use Rattle.inspector_cli.proofs.StageLemmas.{laws_of, stage_of}
@@ -29,9 +29,7 @@ returns-in-Ok-answered g c = λ before.
 
 pub returns-in-Err : goal.returns-in-Err
 returns-in-Err g c = λ before.
-    subst (λ (x : SessionFault). SessionEnds g.D.Disk c.args.naming.now (g.I.Input.remaining c.args.input.now) (g.I.Input.remaining c.answer_script-answered.new.input)
-    (g.I.Input.failures c.args.input.now) (g.I.Input.failures c.answer_script-answered.new.input)
-    (g.O.Output.taken c.args.output.now) (g.O.Output.taken c.finish.new.output) (g.O.Output.failures c.args.output.now) (g.O.Output.failures c.finish.new.output)
+    subst (λ (x : SessionFault). SessionEnds g.D.Disk c.args.naming.now (streams_of g.I.Input g.O.Output c.args.input.now c.answer_script-answered.new.input c.args.output.now c.finish.new.output)
     (stage_of c.args.archive.now before) c.close_streams.new.archive (Err x))
     (sym c.session_fault.ensures)
     (read_stopped g.D.Disk (laws_of g.D.Disk c.calls_lead_from_mark_to_mark.ensures.stays c.calls_lead_from_mark_to_mark.ensures.finish c.calls_lead_from_mark_to_mark.ensures.delete c.calls_lead_from_mark_to_mark.ensures.pin c.calls_lead_from_mark_to_mark.ensures.retire) c.found_after_a_stop.ensures c.args.naming.now (g.I.Input.remaining c.args.input.now) (g.I.Input.remaining c.answer_script-answered.new.input)
@@ -41,4 +39,4 @@ returns-in-Err g c = λ before.
     c.new-reply.result c.answer_script-answered.new.reply
     (stage_of c.args.archive.now before) c.answer_script-answered.new.archive c.close_streams.new.archive
     c.new-buffer.ensures.empty c.new-buffer.ensures.unread (c.new-reply.ensures (g.O.Output.taken c.args.output.now) (g.O.Output.failures c.args.output.now)) c.close_streams.ensures
-    tt c.in-Err.stop (c.in-Err.ensures.answers before) c.in-Ok.ensures.delivered c.in-Err.ensures.stops)
+    tt c.in-Err.stop c.in-Ok.ensures.unfailed (c.in-Err.ensures.answers before) c.in-Ok.ensures.delivered c.in-Err.ensures.stops)

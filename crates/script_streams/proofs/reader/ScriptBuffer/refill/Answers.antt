@@ -5,4 +5,4 @@ use Rattle.script_streams.proofs.reader.ScriptBuffer.refill.Goals as goal
 
 pub returns-in_default-clause-gives : goal.returns-in_default-clause-gives
 returns-in_default-clause-gives g c =
-    gives_none _ _ _ _ c.in_default.ensures.bytes (c.requires ∙ sym (grind (arith, common_steps))) (omega arith) (omega arith)
+    gives_none _ _ _ _ c.in_default.ensures.bytes (c.requires.empty ∙ sym (grind (arith, common_steps))) (omega arith) (omega arith)
