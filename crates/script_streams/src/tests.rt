@@ -58,6 +58,15 @@ impl Output for Narrow {
     }
 }
 
+// An output that takes so many bytes.
+fn takes_at_most(left: u8) -> Narrow {
+    Narrow {
+        left,
+        last: 0,
+        failures: 0,
+    }
+}
+
 // Lines, a part, and a last line with no newline, from reads of so many bytes.
 fn reads_all(rt: &impl Abort, size: usize) -> Result<(), ReadStop> {
     let mut input = Pieces {
@@ -68,35 +77,37 @@ fn reads_all(rt: &impl Abort, size: usize) -> Result<(), ReadStop> {
     };
     let mut buffer = ScriptBuffer::new();
     let mut line = KeptLine::new();
+    let mut reply = Reply::new();
+    let mut output = takes_at_most(0);
     assert_eq!(rt;
-        buffer.next_line(&mut input, &mut line)?,
+        buffer.next_line(&mut input, &mut line, &mut reply, &mut output)?,
         LineEnding::Newline
     );
     assert_eq!(rt; line.text(), b"part 0 2".as_slice());
     let mut part = [0u8; 2];
-    let mut at = buffer.next_raw(&mut input, &mut part)?;
+    let mut at = buffer.next_raw(&mut input, &mut part, &mut reply, &mut output)?;
     if at == 1 {
-        at += buffer.next_raw(&mut input, &mut part[1..])?;
+        at += buffer.next_raw(&mut input, &mut part[1..], &mut reply, &mut output)?;
     }
     assert_eq!(rt; at, 2);
     assert_eq!(rt; part.as_slice(), b"he".as_slice());
     assert_eq!(rt;
-        buffer.next_line(&mut input, &mut line)?,
+        buffer.next_line(&mut input, &mut line, &mut reply, &mut output)?,
         LineEnding::Newline
     );
     assert_eq!(rt; line.text(), b"list".as_slice());
     assert_eq!(rt;
-        buffer.next_line(&mut input, &mut line)?,
+        buffer.next_line(&mut input, &mut line, &mut reply, &mut output)?,
         LineEnding::Newline
     );
     assert!(rt; line.is_blank_or_comment());
     assert_eq!(rt;
-        buffer.next_line(&mut input, &mut line)?,
+        buffer.next_line(&mut input, &mut line, &mut reply, &mut output)?,
         LineEnding::EndOfInput
     );
     assert_eq!(rt; line.text(), b"end".as_slice());
     assert_eq!(rt;
-        buffer.next_line(&mut input, &mut line)?,
+        buffer.next_line(&mut input, &mut line, &mut reply, &mut output)?,
         LineEnding::NothingLeft
     );
     Ok(())
@@ -120,7 +131,9 @@ fn long_line(byte: u8, count: usize) -> Result<KeptLine, ReadStop> {
     };
     let mut buffer = ScriptBuffer::new();
     let mut line = KeptLine::new();
-    buffer.next_line(&mut input, &mut line)?;
+    let mut reply = Reply::new();
+    let mut output = takes_at_most(0);
+    buffer.next_line(&mut input, &mut line, &mut reply, &mut output)?;
     Ok(line)
 }
 
@@ -147,18 +160,20 @@ fn input_that_fails(rt: HostRuntime) -> Result<(), Fail> {
     };
     let mut buffer = ScriptBuffer::new();
     let mut line = KeptLine::new();
+    let mut reply = Reply::new();
+    let mut output = takes_at_most(0);
     assert_eq!(rt;
-        buffer.next_line(&mut input, &mut line)?,
+        buffer.next_line(&mut input, &mut line, &mut reply, &mut output)?,
         LineEnding::Newline
     );
     assert_eq!(rt; line.text(), b"list".as_slice());
     assert_eq!(rt;
-        buffer.next_line(&mut input, &mut line),
+        buffer.next_line(&mut input, &mut line, &mut reply, &mut output),
         Err(ReadStop::ReadFailed)
     );
     let mut part = [0u8; 4];
     assert_eq!(rt;
-        buffer.next_raw(&mut input, &mut part),
+        buffer.next_raw(&mut input, &mut part, &mut reply, &mut output),
         Err(ReadStop::ReadFailed)
     );
     assert_eq!(rt; input.failures, 2);
@@ -185,12 +200,34 @@ fn output_that_fails(rt: HostRuntime) -> Result<(), Fail> {
 }
 
 #[test]
+fn replies_come_before_more_is_read(rt: HostRuntime) -> Result<(), Fail> {
+    let mut input = Pieces {
+        rest: b"list\nfree\n",
+        size: 5,
+        fails: false,
+        failures: 0,
+    };
+    let mut buffer = ScriptBuffer::new();
+    let mut line = KeptLine::new();
+    let mut reply = Reply::new();
+    let mut output = takes_at_most(3);
+    buffer.next_line(&mut input, &mut line, &mut reply, &mut output)?;
+    reply.tell(&mut output, b"ok\n");
+    let before = output.left;
+    buffer.next_line(&mut input, &mut line, &mut reply, &mut output)?;
+    assert_eq!(rt; (before, output.left, output.last), (3, 0, b'\n'));
+    Ok(())
+}
+
+#[test]
 fn adapters(rt: HostRuntime) -> Result<(), Fail> {
     let mut input = ReadInput::new(b"free".as_slice());
     let mut buffer = ScriptBuffer::new();
     let mut line = KeptLine::new();
+    let mut reply = Reply::new();
+    let mut output = takes_at_most(0);
     assert_eq!(rt;
-        buffer.next_line(&mut input, &mut line)?,
+        buffer.next_line(&mut input, &mut line, &mut reply, &mut output)?,
         LineEnding::EndOfInput
     );
     let mut output = WriteOutput::new(Vec::new(rt.alloc()));
