@@ -25,6 +25,7 @@ use crate::opening::open_parts;
 use crate::reading::read_image;
 use crate::retiring::decide_for;
 use crate::slots::Slots;
+use crate::space::Space;
 use crate::stream::Stream;
 use case_journal::Journal;
 use disk_model::Disk;
@@ -116,13 +117,16 @@ impl<D: Disk> Archive<D> {
     }
 
     /// How many data blocks are free, and how many there are. Answers `Stopped` alone.
-    pub fn free_blocks(&self) -> Result<(u32, u32), ArchiveFault>
+    pub fn free_blocks(&self) -> Result<Space, ArchiveFault>
         ensures { FreeReply (bare_of self.now) result }
     {
         if self.stopped {
             return Err(ArchiveFault::Stopped);
         }
-        Ok((self.free.free(), self.journal.shape().data_blocks))
+        Ok(Space {
+            free: self.free.free(),
+            data_blocks: self.journal.shape().data_blocks,
+        })
     }
 
     // Whether a live case or an open stream has the name.

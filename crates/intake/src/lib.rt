@@ -11,6 +11,7 @@ mod opening;
 mod reading;
 mod retiring;
 mod slots;
+mod space;
 mod stream;
 
 pub use archive::{Archive, Settings};
@@ -20,3 +21,4 @@ pub use laws::{
     kept_over_many_stops, nothing_else_is_left, numbers_are_given_once, numbers_stay_given,
     the_next_number_is_above, what_calls_leave, what_stands_is_one,
 };
+pub use space::Space;
