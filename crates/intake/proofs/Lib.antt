@@ -27,3 +27,4 @@ pub mod LastingLemmas
 pub mod MarkLemmas
 pub mod LastsLemmas
 pub mod ChangeLemmas
+pub mod UntouchedLemmas

@@ -24,4 +24,5 @@ pub mod State
 pub mod StayLaws
 pub mod Step
 pub mod StreamView
+pub mod Untouched
 pub mod Lasts

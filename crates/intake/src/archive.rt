@@ -15,6 +15,7 @@ ghost use Rattle.intake.specs.Ending.{EndsStreams};
 ghost use Rattle.std.specs.List.{list_any};
 ghost use Rattle.std.specs.Str.{bytes_eq};
 ghost use Rattle.journal_layout.specs.Soundness.{IsName};
+ghost use Rattle.intake.specs.Untouched.{RefusalSpares};
 ghost use Rattle.journal_layout.specs.declared.entry.Entry.{Entry};
 
 use crate::ArchiveFault;
@@ -317,6 +318,7 @@ impl<D: Disk> Archive<D> {
             (contents_of D.seen self.new) }
         ensures changes { Changes (Unit {0}) D.Disk self.old result self.new
             (λ x. x ≡ without (durable_of D.seen self.old) seqs.now) }
+        ensures untouched { RefusalSpares result self.old.disk self.new.disk }
     {
         release_listed(&mut self.free, self.journal.entries(), seqs);
         let Err(fault) = self.journal.append_drop(&mut self.disk, seqs) else {
