@@ -12,7 +12,7 @@ use Rattle.case_journal.specs.Viewing.{ShowsOpening, Finds, IsQuiet}
 use Rattle.intake.specs.Closing.{FinishPads}
 use Rattle.intake.specs.Contents.{BeginBytes, AdvanceBytes, FinishBytes, AbandonBytes, PinBytes, DeleteBytes, RetireBytes, ImageBytes}
 use Rattle.intake.specs.Durable.{Durable, StandsFor, FindsAgain, durable_of, without, flagged}
-use Rattle.intake.specs.Guarding.{Leaves, MayBeStored, MayBeRetired}
+use Rattle.intake.specs.Guarding.{Leaves, StoresIn, MayBeRetired}
 use Rattle.intake.specs.Opened.{IsOpened, disk_in, journal_in}
 use Rattle.intake.specs.Parts.{Parts, bare_of, contents_of}
 use Rattle.intake.specs.Slots.{stream_at}
@@ -95,7 +95,9 @@ pub record AbandonCall {D : Type 0} (g : disk.Ghosts D) (old : Parts D) (slot : 
 pub record FinishCall {D : Type 0} (g : disk.Ghosts D) (old : Parts D) (slot : ℕ) (r : Result ℕ ArchiveFault) (new : Parts D) : Type 0 where
   pub step : FinishStep (bare_of old) slot r (bare_of new)
   pub bytes : IsTrue (g.is_honest old.disk) → FinishBytes (contents_of g.seen old) slot r (contents_of g.seen new)
-  pub changes : Changes ℕ g old r new (MayBeStored (bare_of old) (contents_of g.seen old) (durable_of g.seen old) slot)
+  -- the runs of blocks in which the image lies, or would lie had the disk not failed
+  pub runs : ℕ
+  pub changes : Changes ℕ g old r new (StoresIn runs (bare_of old) (contents_of g.seen old) (durable_of g.seen old) slot)
   -- nothing of what stood in the stream's block behind its bytes is on the disk
   pub padded : IsTrue (g.is_honest old.disk) → FinishPads g.seen old slot r new
   pub untouched : FinishSpares r old.disk new.disk

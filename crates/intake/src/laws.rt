@@ -1,7 +1,7 @@
 // What the definitions that the contracts cite say together. These functions do nothing.
 ghost use Rattle.std.specs.Prelude.{◌≡◌};
 ghost use Rattle.intake.specs.Durable.{durable_of, durable_part};
-ghost use Rattle.intake.specs.Lasting.{WhatStandsIsOne, NumbersAreAbove};
+ghost use Rattle.intake.specs.Lasting.{WhatStandsIsOne, NumbersAreAbove, ImagesAreWhole};
 ghost use Rattle.intake.specs.Lasts.{FinishLasts, DeleteLasts, PinLasts, RetireLasts, RefusalsLast};
 ghost use Rattle.intake.specs.Lives.{KeptOverManyStops, ACaseIsFound, NumbersStayGiven, NumbersAreGivenOnce};
 ghost use Rattle.intake.specs.Marks.{FoundAfterAStop, NothingElseIsLeft, StaysLead, FinishLeads, DeleteLeads, PinLeads, RetireLeads};
@@ -18,6 +18,13 @@ pub fn what_stands_is_one()
 /// The next number of what bytes stand for is above the number of each case, and the numbers rise.
 pub fn the_next_number_is_above()
     ensures { NumbersAreAbove }
+{
+    live_cases_are_sound();
+}
+
+/// Each image of what bytes stand for has its case's length, and lies in as many runs of blocks as an image of that length may.
+pub fn images_are_whole()
+    ensures { ImagesAreWhole }
 {
     live_cases_are_sound();
 }

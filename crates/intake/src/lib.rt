@@ -18,7 +18,7 @@ pub use archive::{Archive, Settings};
 pub use faults::ArchiveFault;
 pub use laws::{
     a_case_is_found, a_state_tells_what_lasts, calls_lead_from_mark_to_mark, found_after_a_stop,
-    kept_over_many_stops, nothing_else_is_left, numbers_are_given_once, numbers_stay_given,
+    images_are_whole, kept_over_many_stops, nothing_else_is_left, numbers_are_given_once, numbers_stay_given,
     the_next_number_is_above, what_calls_leave, what_stands_is_one,
 };
 pub use space::Space;
