@@ -28,3 +28,4 @@ pub mod MarkLemmas
 pub mod LastsLemmas
 pub mod ChangeLemmas
 pub mod UntouchedLemmas
+pub mod MakingLemmas

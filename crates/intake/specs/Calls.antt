@@ -132,3 +132,10 @@ pub record ImageCall {D : Type 0} (g : disk.Ghosts D) (old : Parts D) (seq : ℕ
   pub quiet : IsQuiet g old.disk new.disk
   pub stays : Stays g old new
   pub untouched : RefusalSpares {T = Vec ℕ Global} r old.disk new.disk
+
+-- close: the disk. Unless a disk fault has stopped the archive, what reads of it give and what a crash leaves is what the archive
+-- shows.
+pub record CloseCall {D : Type 0} (g : disk.Ghosts D) (old : Parts D) (let_go : D) : Type 0 where
+  pub disk : let_go ≡ old.disk
+  pub stands : old.stopped ≡ false → IsTrue (g.is_honest let_go) → StandsFor (g.seen let_go) (durable_of g.seen old)
+  pub left : old.stopped ≡ false → IsTrue (g.is_honest let_go) → (c : List ℕ) → g.may_leave let_go c → StandsFor c (durable_of g.seen old)

@@ -12,6 +12,7 @@ pub mod Lasting
 pub mod Lending
 pub mod Live
 pub mod Lives
+pub mod Making
 pub mod Marks
 pub mod Opened
 pub mod Parts

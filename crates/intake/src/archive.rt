@@ -82,7 +82,7 @@ impl<D: Disk> Archive<D> {
     ghost use Rattle.intake.specs.Step.{RoomReply, FreeReply, DropStep};
     ghost use Rattle.intake.specs.Contents.{DropBytes};
     ghost use Rattle.intake.specs.Opened.{CasesReply};
-    ghost use Rattle.intake.specs.Calls.{OpenCall, BeginCall, AdvanceCall, FinishCall, AbandonCall, PinCall, DeleteCall, RetireCall, ImageCall, Changes};
+    ghost use Rattle.intake.specs.Calls.{OpenCall, BeginCall, AdvanceCall, FinishCall, AbandonCall, PinCall, DeleteCall, RetireCall, ImageCall, CloseCall, Changes};
     ghost use Rattle.intake.specs.Room.{LendsRoom, room_of, FitsFree};
     ghost use Rattle.intake.specs.Slots.{stream_at};
     ghost use Rattle.std.specs.Borrow.{sem};
@@ -398,9 +398,9 @@ impl<D: Disk> Archive<D> {
         }
     }
 
-    /// Lets the disk go.
+    /// Lets the disk go. Unless a disk fault has stopped the archive, opening it again finds the cases that it showed.
     pub fn close(self) -> D
-        ensures { result ≡ self.disk }
+        ensures { CloseCall D.Disk self result }
     {
         let Archive { disk, .. } = self;
         disk
