@@ -29,3 +29,4 @@ pub mod LastsLemmas
 pub mod ChangeLemmas
 pub mod UntouchedLemmas
 pub mod MakingLemmas
+pub mod RunCountLemmas

@@ -1,7 +1,7 @@
 // What the definitions that the contracts cite say together. These functions do nothing.
 ghost use Rattle.std.specs.Prelude.{◌≡◌};
 ghost use Rattle.intake.specs.Durable.{durable_of, durable_part};
-ghost use Rattle.intake.specs.Lasting.{WhatStandsIsOne, NumbersAreAbove, ImagesAreWhole};
+ghost use Rattle.intake.specs.Lasting.{WhatStandsIsOne, NumbersAreAbove, ImagesAreWhole, RunsAreTheFewest};
 ghost use Rattle.intake.specs.Lasts.{FinishLasts, DeleteLasts, PinLasts, RetireLasts, RefusalsLast};
 ghost use Rattle.intake.specs.Lives.{KeptOverManyStops, ACaseIsFound, NumbersStayGiven, NumbersAreGivenOnce, WhatIsClosedIsFound};
 ghost use Rattle.intake.specs.Making.{CallsAreMarks, AnImageIsWhatWasTaken};
@@ -29,6 +29,12 @@ pub fn images_are_whole()
 {
     live_cases_are_sound();
 }
+
+/// A case's blocks lie in as few runs as they can: the runs that are kept have these blocks, and no list of runs that has them
+/// is shorter.
+pub fn runs_are_the_fewest()
+    ensures { RunsAreTheFewest }
+{}
 
 /// What outlives a stop is told by the state and its bytes: the cases, each with its image, and the next number.
 pub fn a_state_tells_what_lasts<D: Disk>()
