@@ -1,7 +1,7 @@
 // A disk that fails at the last sync of a call, and what crashes leave then.
 use crate::bench::{SHAPE, begin, crashed, formatted, has_image, opened, put, store};
 use disk_model::{Disk, MemDisk, OneFault, Pick};
-use intake::{Archive, ArchiveFault};
+use intake::{Archive, ArchiveFault, Space};
 use journal_layout::Kind;
 use std::alloc::Global;
 use std::process::Abort;
@@ -108,7 +108,11 @@ fn is_open(alloc: Global, disk: MemDisk) -> Result<bool, Fail> {
 
 // Whether there is no case, all blocks are free, and the next case has this number.
 fn goes_on<D: Disk>(archive: &mut Archive<D>, next: u32) -> Result<bool, Fail> {
-    let empty = is_empty(archive) && archive.free_blocks() == Ok((4, 4));
+    let space = Space {
+        free: 4,
+        data_blocks: 4,
+    };
+    let empty = is_empty(archive) && archive.free_blocks() == Ok(space);
     Ok(store(archive, b"n", 1, 0)? == Ok(next) && empty)
 }
 

@@ -1,6 +1,7 @@
 // Images are read as they were streamed.
-use crate::bench::{begin, formatted, has_image, has_runs, opened, put};
+use crate::bench::{begin, formatted, has_image, has_runs, is_image, opened, put, store};
 use disk_model::{Disk, MemDisk, OneFault};
+use extents::read_block;
 use intake::{Archive, ArchiveFault};
 use journal_layout::Shape;
 use std::process::Abort;
@@ -107,5 +108,26 @@ fn a_failing_read_stops_the_archive(rt: HostRuntime) -> Result<(), Fail> {
     for read in 1..3 {
         stops_at(&rt, before.saturating_add(read))?;
     }
+    Ok(())
+}
+
+// Whether the first data block of a disk holds five bytes of the image of this seed, and zeros behind them.
+fn is_padded<D: Disk>(disk: &mut D, seed: u8) -> bool {
+    let mut block = [0xff; 4096];
+    let start = SHAPE.data_start();
+    if start + 4096 > disk.length() || read_block(disk, start, &mut block).is_err() {
+        return false;
+    }
+    is_image(&block[..5], seed, 5) && block[5..].iter().all(|byte| *byte == 0)
+}
+
+// The free part that is lent is filled beyond the bytes that are taken; none of that is on the disk.
+#[test]
+fn nothing_stands_behind_an_image(rt: HostRuntime) -> Result<(), Fail> {
+    let alloc = rt.alloc();
+    let mut archive = opened(alloc, formatted(alloc, SHAPE)?)?;
+    assert_eq!(rt; store(&mut archive, b"x", 7, 5)?, Ok(1));
+    let mut disk = archive.close();
+    assert!(rt; is_padded(&mut disk, 7));
     Ok(())
 }

@@ -1,7 +1,7 @@
 // Calls in a row, each with what it is to answer.
 use crate::bench::{begin, has_image, has_runs, put, store};
 use disk_model::Disk;
-use intake::{Archive, ArchiveFault};
+use intake::{Archive, ArchiveFault, Space};
 use retention::Policy;
 use std::test::Fail;
 
@@ -92,6 +92,15 @@ fn has_cases<D: Disk>(archive: &Archive<D>, cases: &[(u32, bool)]) -> bool {
     true
 }
 
+// Whether so many blocks of four are free.
+fn is_free<D: Disk>(archive: &Archive<D>, free: u32) -> bool {
+    archive.free_blocks()
+        == Ok(Space {
+            free,
+            data_blocks: 4,
+        })
+}
+
 // Makes the call.
 fn make<D: Disk>(archive: &mut Archive<D>, call: &Call) -> Result<Result<(), ArchiveFault>, Fail> {
     match call {
@@ -105,7 +114,7 @@ fn make<D: Disk>(archive: &mut Archive<D>, call: &Call) -> Result<Result<(), Arc
         Call::Pin(seq, flag) => Ok(archive.pin(*seq, *flag)),
         Call::Delete(seq) => Ok(archive.delete(*seq)),
         Call::Keep(count, dropped, unmet) => keep(archive, *count, dropped, *unmet),
-        Call::Free(free) => seen(archive.free_blocks() == Ok((*free, 4))),
+        Call::Free(free) => seen(is_free(archive, *free)),
         Call::Runs(seq, runs) => seen(has_runs(archive, *seq, runs)),
         Call::Image(seq, seed, length) => seen(has_image(archive, *seq, *seed, *length)),
         Call::Cases(cases) => seen(has_cases(archive, cases)),

@@ -153,14 +153,14 @@ fn free_without(cases: &[(u32, Image, bool)]) -> u64 {
 
 // Whether the archive shows this state, where no stream is open.
 fn shows<D: Disk>(archive: &mut Archive<D>, state: &State) -> bool {
-    let Ok((free, all)) = archive.free_blocks() else {
+    let Ok(space) = archive.free_blocks() else {
         return false;
     };
     let Ok(entries) = archive.cases() else {
         return false;
     };
-    all == SHAPE.data_blocks
-        && u64::from(free) == free_without(state.cases)
+    space.data_blocks == SHAPE.data_blocks
+        && u64::from(space.free) == free_without(state.cases)
         && are_cases(entries, state.cases)
         && have_images(archive, state.cases)
 }

@@ -1,9 +1,11 @@
 -- What formatting writes opens as an archive with no case.
 use Rattle.std.proofs.Common.{◌≡◌, ℕ, ◌+◌, ◌≤◌, List, [], ◌∷◌, ◌++◌, length, take, get_or, refl, sym, ap, ◌∙◌, subst, arith, Ok, Err, Bool, true, false, cond, ◌&&◌, slice_index, ◌==◌, nat_le, rules}
 use Rattle.std.proofs.lemmas.Bool.{eq-eqb, le-ltb}
+use Rattle.std.proofs.Common.{drop, replicate, ◌-◌}
+use Rattle.std.proofs.lemmas.List.{drop-replicate, take_at}
 use Rattle.disk_model.specs.Places.{part, overwritten, SameOutside}
 use Rattle.disk_model.specs.PlaceLaws.{overwritten_outside, overwritten_length}
-use Rattle.disk_model.specs.PartLaws.{part_split, part_overwritten, part_within, part_before, part_after, part_place, part_length, place_after}
+use Rattle.disk_model.specs.PartLaws.{part_split, part_overwritten, part_before, part_after, part_place, part_length, place_after}
 use Rattle.byteorder.specs.Numbers.{little_number-reads_back}
 use Rattle.journal_layout.specs.declared.shape.Shape.{Shape}
 use Rattle.journal_layout.specs.declared.shape.Half.TheVariants.{A, B}
@@ -13,15 +15,15 @@ use Rattle.journal_layout.specs.Layout.{IsWithinLimits, superblock, half_header,
 use Rattle.journal_layout.specs.Front.{halves_opening, headers_opening, half_opening, header_of_half, shape_opening, is_archive, shape_at, is_shape_of, taken_half, header_at, is_open_at}
 use Rattle.journal_layout.specs.Stands.{Stands}
 use Rattle.journal_layout.specs.StandLaws.{stands_fresh}
-use Rattle.case_journal.specs.Formatted.{HasHeaders}
+use Rattle.case_journal.specs.Formatted.{HasFront, superblock_block, zeros}
 use Rattle.journal_layout.specs.Standing.{fresh}
 use Rattle.case_journal.proofs.PublishLemmas.{zero_is_closed}
 use Rattle.case_journal.proofs.StandLemmas.{front_part}
 
 -- three writes, in this order
 pub headers_stand : (s : Shape) (b block header b1 b2 b3 : List ℕ) → IsWithinLimits s → length b ≡ disk_length s
-    → length block ≡ 4096 → part block 0 24 ≡ 0 ∷ superblock s → header ≡ 165 ∷ half_header 1 1 ++ 0 ∷ [] → length header ≡ 33
-    → b1 ≡ overwritten b 0 block → b2 ≡ overwritten b1 4096 header → b3 ≡ overwritten b2 (half_start s B) (0 ∷ []) → HasHeaders s b3
+    → length block ≡ 4096 → block ≡ superblock_block 0 s → header ≡ 165 ∷ half_header 1 1 ++ 0 ∷ [] → length header ≡ 33
+    → b1 ≡ overwritten b 0 block → b2 ≡ overwritten b1 4096 header → b3 ≡ overwritten b2 (half_start s B) (0 ∷ []) → HasFront 0 s b3
 headers_stand s b block header b1 b2 b3 limits long size is head len e1 e2 e3 =
     let some = limits.some_half in
     let l1 : length b1 ≡ disk_length s = ap length e1 ∙ overwritten_length b 0 block (omega arith) ∙ long in
@@ -29,16 +31,33 @@ headers_stand s b block header b1 b2 b3 limits long size is head len e1 e2 e3 =
     let o2 : SameOutside 4096 (length header) b1 b2 = subst (SameOutside 4096 (length header) b1) (sym e2) (overwritten_outside b1 4096 header (omega arith)) in
     let o3 : SameOutside (half_start s B) 1 b2 b3 = subst (SameOutside (half_start s B) 1 b2) (sym e3) (overwritten_outside b2 (half_start s B) (0 ∷ []) (omega arith)) in
     record {
-      closed =
-          part_before (half_start s B) 1 b2 b3 o3 0 24 (omega arith) ∙ part_before 4096 (length header) b1 b2 o2 0 24 (omega arith)
-          ∙ ap (λ (x : List ℕ). part x 0 24) e1 ∙ part_within b 0 block 0 24 (omega arith) (omega arith) ∙ is;
-      first =
-          part_before (half_start s B) 1 b2 b3 o3 4096 33 (omega arith) ∙ ap (λ (x : List ℕ). part x 4096 33) e2
-          ∙ ap (λ (n : ℕ). part (overwritten b1 4096 header) 4096 n) (sym len) ∙ part_overwritten b1 4096 header (omega arith) ∙ head;
-      second =
-          sym (part_place b3 (half_start s B) 1 0 0 (omega arith) ∙ ap (λ (k : ℕ). get_or b3 k 0) (omega arith))
-          ∙ ap (λ (x : List ℕ). get_or x 0 0) (ap (λ (x : List ℕ). part x (half_start s B) 1) e3 ∙ part_overwritten b2 (half_start s B) (0 ∷ []) (omega arith));
+      superblock =
+          part_before (half_start s B) 1 b2 b3 o3 0 4096 (omega arith) ∙ part_before 4096 (length header) b1 b2 o2 0 4096 (omega arith)
+          ∙ ap (λ (x : List ℕ). part x 0 4096) e1
+          ∙ ap (λ (n : ℕ). part (overwritten b 0 block) 0 n) (sym size) ∙ part_overwritten b 0 block (omega arith) ∙ is;
+      halves = record {
+        first =
+            part_before (half_start s B) 1 b2 b3 o3 4096 33 (omega arith) ∙ ap (λ (x : List ℕ). part x 4096 33) e2
+            ∙ ap (λ (n : ℕ). part (overwritten b1 4096 header) 4096 n) (sym len) ∙ part_overwritten b1 4096 header (omega arith) ∙ head;
+        second =
+            sym (part_place b3 (half_start s B) 1 0 0 (omega arith) ∙ ap (λ (k : ℕ). get_or b3 k 0) (omega arith))
+            ∙ ap (λ (x : List ℕ). get_or x 0 0) (ap (λ (x : List ℕ). part x (half_start s B) 1) e3 ∙ part_overwritten b2 (half_start s B) (0 ∷ []) (omega arith));
+      };
     }
+
+-- the superblock's block, of what is looked at and a block of zeros
+front_length : (gate : ℕ) (s : Shape) → length (gate ∷ superblock s) ≡ 24
+unfolding superblock number_bytes
+front_length gate s = refl
+
+pub block_is : (s : Shape) (n : ℕ) (head block new : List ℕ) → n ≡ 4096 → head ≡ 0 ∷ superblock s → block ≡ replicate n 0 → new ≡ head ++ drop (length head) block → new ≡ superblock_block 0 s
+unfolding zeros
+block_is s n head block new long is filled put =
+    let left : n - length head ≡ 4072 = omega (arith, ap length is, front_length 0 s) in
+    put
+    ∙ ap (λ (l : List ℕ). head ++ drop (length head) l) filled
+    ∙ ap (λ (l : List ℕ). head ++ l) (drop-replicate (length head) n 0 ∙ ap (λ (k : ℕ). replicate k 0) left)
+    ∙ ap (λ (l : List ℕ). l ++ replicate 4072 0) is
 
 -- the superblock with its gate open tells its shape
 archive_is : (s : Shape) → is_archive (165 ∷ superblock s) ≡ true
@@ -111,8 +130,8 @@ last_gate = refl
 gate_at : (s : Shape) (b : List ℕ) → part b (half_start s A) 33 ≡ 165 ∷ half_header 1 1 ++ 0 ∷ [] → slice_index b (half_start s A + 32) ≡ 0
 gate_at s b is = sym (part_place b (half_start s A) 33 32 0 (omega arith)) ∙ ap (λ (l : List ℕ). get_or l 32 0) is ∙ last_gate
 
--- so the bytes stand for an archive with no case
-pub empty_stands : (s : Shape) (b : List ℕ) → IsWithinLimits s → length b ≡ disk_length s → part b 0 24 ≡ 165 ∷ superblock s
+-- these parts stand for an archive with no case
+empty_stands : (s : Shape) (b : List ℕ) → IsWithinLimits s → length b ≡ disk_length s → part b 0 24 ≡ 165 ∷ superblock s
     → part b (half_start s A) 33 ≡ 165 ∷ half_header 1 1 ++ 0 ∷ [] → slice_index b (half_start s B) ≡ 0 → Stands b (fresh s A 1 1)
 empty_stands s b limits long sb first second =
     let some = limits.some_half in
@@ -127,20 +146,34 @@ tail_of [] y z e l = absurd (omega (arith, l))
 tail_of (w ∷ []) y z e l = cc
 tail_of (w ∷ v ∷ x) y z e l = absurd (omega (arith, l))
 
--- the same of what formatting wrote, once the superblock's gate is open
-pub formatted_stands : (s : Shape) (b new : List ℕ) → IsWithinLimits s → length b ≡ disk_length s → HasHeaders s b → new ≡ overwritten b 0 (165 ∷ []) → Stands new (fresh s A 1 1)
-formatted_stands s b new limits long headers is =
+-- what formatting wrote, once the superblock's gate is open
+pub opened_front : (s : Shape) (b new : List ℕ) → IsWithinLimits s → length b ≡ disk_length s → HasFront 0 s b → new ≡ overwritten b 0 (165 ∷ []) → HasFront 165 s new
+opened_front s b new limits long front is =
     let some = limits.some_half in
     let same : SameOutside 0 1 b new = subst (SameOutside 0 1 b) (sym is) (overwritten_outside b 0 (165 ∷ []) (omega arith)) in
-    empty_stands s new limits (ap length is ∙ overwritten_length b 0 (165 ∷ []) (omega arith) ∙ long)
-    (part_split new 0 1 23
-    ∙ ap (λ (xs : List ℕ). xs ++ part new 1 23) (ap (λ (x : List ℕ). part x 0 1) is ∙ part_overwritten b 0 (165 ∷ []) (omega arith))
-    ∙ ap (λ (xs : List ℕ). 165 ∷ xs) (part_after 0 1 b new same 1 23 (omega arith) ∙ behind_closed))
-    (part_after 0 1 b new same (half_start s A) 33 (omega arith) ∙ headers.first)
-    (place_after 0 1 b new same (half_start s B) 0 (omega arith) ∙ headers.second)
+    record {
+      superblock =
+          part_split new 0 1 4095
+          ∙ ap (λ (xs : List ℕ). xs ++ part new 1 4095) (ap (λ (x : List ℕ). part x 0 1) is ∙ part_overwritten b 0 (165 ∷ []) (omega arith))
+          ∙ ap (λ (xs : List ℕ). 165 ∷ xs) (part_after 0 1 b new same 1 4095 (omega arith) ∙ behind_closed);
+      halves = record {
+        first = part_after 0 1 b new same (half_start s A) 33 (omega arith) ∙ front.halves.first;
+        second = place_after 0 1 b new same (half_start s B) 0 (omega arith) ∙ front.halves.second;
+      };
+    }
   where
-    behind_closed : part b 1 23 ≡ superblock s
-    behind_closed = tail_of (part b 0 1) (part b 1 23) (superblock s) (sym (part_split b 0 1 23) ∙ headers.closed) (part_length b 0 1 (let some = limits.some_half in omega arith))
+    behind_closed : part b 1 4095 ≡ superblock s ++ zeros 4072
+    behind_closed = tail_of (part b 0 1) (part b 1 4095) (superblock s ++ zeros 4072) (sym (part_split b 0 1 4095) ∙ front.superblock) (part_length b 0 1 (let some = limits.some_half in omega arith))
+
+-- so the bytes stand for an archive with no case
+pub front_stands : (s : Shape) (b : List ℕ) → IsWithinLimits s → length b ≡ disk_length s → HasFront 165 s b → Stands b (fresh s A 1 1)
+front_stands s b limits long front =
+    empty_stands s b limits long
+    (sym (front_part b 0 4096 24 (omega arith)) ∙ ap (take 24) front.superblock ∙ take_at (165 ∷ superblock s) (zeros 4072) 24 (front_length 165 s))
+    front.halves.first front.halves.second
+
+pub written_length : (s : Shape) (b new : List ℕ) → IsWithinLimits s → length b ≡ disk_length s → new ≡ overwritten b 0 (165 ∷ []) → length new ≡ disk_length s
+written_length s b new limits long is = let some = limits.some_half in ap length is ∙ overwritten_length b 0 (165 ∷ []) (omega arith) ∙ long
 
 -- what the test of a shape tells
 pub shape_tells : (s : Shape) (n : ℕ) → is_shape_of n s ≡ true → IsWithinLimits s × (disk_length s ≡ n)

@@ -1,12 +1,11 @@
 // Making an archive with no case.
-ghost use Rattle.std.specs.Prelude.{◌≡◌, ◌↔◌, ◌≤◌, false, ◌∷◌, ◌++◌, [], replicate, length, IsTrue, OnOk, Err};
-ghost use Rattle.disk_model.specs.Places.{part};
+ghost use Rattle.std.specs.Prelude.{◌≡◌, ◌↔◌, ◌≤◌, false, ◌∷◌, ◌++◌, [], drop, length, IsTrue, OnOk, Err};
 ghost use Rattle.disk_model.specs.Disk.{HasCause, HasRisen};
 ghost use Rattle.disk_model.specs.Moments.{IsSettled};
 ghost use Rattle.journal_layout.specs.Layout.{superblock, half_header, disk_length, IsWithinLimits};
 ghost use Rattle.journal_layout.specs.Front.{is_shape_of};
 ghost use Rattle.journal_layout.specs.Stands.{Stands};
-ghost use Rattle.case_journal.specs.Formatted.{HasHeaders};
+ghost use Rattle.case_journal.specs.Formatted.{HasFront, superblock_block};
 ghost use Rattle.journal_layout.specs.Standing.{fresh};
 
 use crate::FormatFault;
@@ -31,14 +30,14 @@ fn superblock_bytes(shape: Shape) -> [u8; 24]
 // Puts the bytes of head at the front of a block.
 fn put_front(block: &mut [u8], head: &[u8])
     requires { length head.now ≤ length block.old }
-    ensures { part block.new 0 (length head.now) ≡ head.now }
+    ensures { block.new ≡ head.now ++ drop (length head.now) block.old }
 {
     block[..head.len()].copy_from_slice(head);
 }
 
-// The superblock, its gate closed.
+// The superblock's block, its gate closed.
 fn superblock_block(shape: Shape) -> [u8; 4096]
-    ensures front { part result 0 24 ≡ 0 ∷ superblock shape }
+    ensures block { result ≡ superblock_block 0 shape }
     ensures size { length result ≡ 4096 }
 {
     let mut block = [0; 4096];
@@ -64,7 +63,7 @@ fn write_headers<D: Disk>(disk: &mut D, shape: Shape) -> Result<(), DiskFault>
     requires limits { IsWithinLimits shape }
     requires size { D.size disk.old ≡ disk_length shape }
     ensures headers { IsTrue (D.is_honest disk.old)
-        → OnOk result (HasHeaders shape (D.seen disk.new)) }
+        → OnOk result (HasFront 0 shape (D.seen disk.new)) }
     ensures cause { HasCause (D.failures disk.old) (D.failures disk.new) result }
     ensures honesty { D.is_honest disk.new ≡ D.is_honest disk.old }
     ensures size { D.size disk.new ≡ D.size disk.old }
@@ -85,6 +84,8 @@ pub fn format<D: Disk>(disk: &mut D, shape: Shape) -> Result<(), FormatFault>
     // On an honest disk, what stands there then is an archive with no case, and a crash leaves it so.
     ensures made { IsTrue (D.is_honest disk.old) → OnOk result (Stands (D.seen disk.new)
         (fresh shape Half.A 1 1)) }
+    // All that the layout fixes of it stands there: the superblock with zeros to its block's end, and the halves' headers.
+    ensures written { IsTrue (D.is_honest disk.old) → OnOk result (HasFront 165 shape (D.seen disk.new)) }
     ensures stable { IsTrue (D.is_honest disk.old) → OnOk result (IsSettled D.Disk disk.new) }
     ensures cause { result ≡ Err FormatFault.Disk
         → HasRisen (D.failures disk.old) (D.failures disk.new) }

@@ -1,5 +1,5 @@
 // An open journal, and its appends.
-ghost use Rattle.std.specs.Prelude.{◌≡◌, ◌+◌, ◌<◌, ◌≤◌, ◌^◌, false, Bool, ◌++◌, ◌∷◌, [], length, map, IsTrue, OnOk, IfOk, IfErr, Err, Ok, ℕ, vec_len, vec_capacity, option_map};
+ghost use Rattle.std.specs.Prelude.{◌≡◌, ◌≢◌, ◌+◌, ◌<◌, ◌≤◌, ◌^◌, false, Bool, ◌++◌, ◌∷◌, [], length, map, IsTrue, OnOk, IfOk, IfErr, Err, Ok, ℕ, vec_len, vec_capacity, option_map};
 ghost use Rattle.std.specs.Prelude.{◌==◌};
 ghost use Rattle.std.specs.List.{find};
 ghost use Rattle.journal_layout.specs.declared.entry.Entry.{Entry};
@@ -230,6 +230,7 @@ impl Journal {
         requires keeps { Keeps D.Disk disk.old self.old }
         requires pinnable { MayFollow self.old.standing (Pin seq flag) }
         ensures step { AppendStep self.old (Pin seq flag) result self.new }
+        ensures never { result ≢ Err JournalFault.OutOfMemory }
         ensures untouched { RefusalLeaves result disk.old disk.new }
         ensures any_moment { IsTrue (D.is_honest disk.old) → self.old.stopped ≡ false
             → LeavesEither D.Disk disk.old disk.new self.old.standing (Pin seq flag) }

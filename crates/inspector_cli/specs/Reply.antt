@@ -5,6 +5,7 @@ use Rattle.journal_layout.specs.declared.entry.Kind.{Kind}
 use Rattle.journal_layout.specs.declared.entry.Kind.TheVariants.{Core, Exec}
 use Rattle.script_words.specs.Printing.{shown}
 use Rattle.intake.specs.declared.faults.ArchiveFault.{ArchiveFault}
+use Rattle.intake.specs.declared.space.Space.{Space}
 use Rattle.intake.specs.declared.faults.ArchiveFault.TheVariants.{Stopped, BadSlot, SlotBusy, NameTaken, NoStream, TooLong, SpaceFull, NoCase, Pinned, JournalFull, NumbersSpent, OutOfMemory, Disk}
 use Rattle.disk_model.specs.declared.disk.Disk as disk
 use Rattle.intake.specs.Calls.{Stays, HasDiskCause, BeginCall, AbandonCall, FinishCall, DeleteCall, PinCall, RetireCall}
@@ -218,12 +219,12 @@ abbrev pub Retires : {D : Type 0} → disk.Ghosts D → Parts D → Policy → L
 Retires g old policy reply new = (result : Result Decision ArchiveFault) × RetireCall g old policy result new × (reply ≡ retire_reply result)
 
 -- `free F of N`
-abbrev pub free_reply : Result (ℕ × ℕ) ArchiveFault → List ℕ
-free_reply (Ok n) = (codes "free " ++ (decimal n.0 ++ (codes " of " ++ (decimal n.1 ++ 10 ∷ [])))) ++ ok_reply
+abbrev pub free_reply : Result Space ArchiveFault → List ℕ
+free_reply (Ok space) = (codes "free " ++ (decimal space.free ++ (codes " of " ++ (decimal space.data_blocks ++ 10 ∷ [])))) ++ ok_reply
 free_reply (Err fault) = no_reply (reason_of fault)
 
 abbrev pub Frees : {D : Type 0} → Parts D → List ℕ → Parts D → Type 0
-Frees old reply new = (result : Result (ℕ × ℕ) ArchiveFault) × FreeReply (bare_of old) result × (reply ≡ free_reply result) × (new ≡ old)
+Frees old reply new = (result : Result Space ArchiveFault) × FreeReply (bare_of old) result × (reply ≡ free_reply result) × (new ≡ old)
 
 abbrev pub kind_name : Kind → List ℕ
 kind_name Core = codes "core"

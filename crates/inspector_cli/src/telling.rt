@@ -6,7 +6,7 @@ ghost use Rattle.intake.specs.Parts.{bare_case};
 ghost use Rattle.inspector_cli.specs.Reply.{ok_reply, no_reply, reason_of, plain_reply, begin_reply, end_reply, retire_reply, dropped_line, free_reply, number_word, case_line, kind_name, pin_name};
 ghost use Rattle.inspector_cli.specs.Answering.{TellsText, telling};
 
-use intake::ArchiveFault;
+use intake::{ArchiveFault, Space};
 use journal_layout::{Entry, Kind};
 use retention::Decision;
 use script_streams::{Output, Reply};
@@ -129,16 +129,16 @@ fn tell_dropped<O: Output>(reply: &mut Reply, output: &mut O, dropped: &[u32])
 pub(crate) fn tell_free<O: Output>(
     reply: &mut Reply,
     output: &mut O,
-    outcome: Result<(u32, u32), ArchiveFault>,
+    outcome: Result<Space, ArchiveFault>,
 )
     ensures { TellsText (telling O.Output output.old output.new reply.old reply.new) (free_reply outcome) }
 {
     match outcome {
-        Ok((free, all)) => {
+        Ok(space) => {
             reply.tell(output, b"free ");
-            reply.tell_decimal(output, u128::from(free));
+            reply.tell_decimal(output, u128::from(space.free));
             reply.tell(output, b" of ");
-            reply.tell_decimal(output, u128::from(all));
+            reply.tell_decimal(output, u128::from(space.data_blocks));
             reply.tell(output, b"\n");
             reply.tell(output, b"ok\n");
         }

@@ -4,7 +4,7 @@ use Rattle.std.specs.Prelude.{IsTrue, Result, option_map}
 use Rattle.disk_model.specs.MomentLaws.{adds_nothing}
 use Rattle.disk_model.specs.declared.disk.Disk as disk
 use Rattle.case_journal.specs.Journaled.{Journaled}
-use Rattle.intake.specs.Calls.{Changes}
+use Rattle.intake.specs.Calls.{Changes, CloseCall}
 use Rattle.intake.specs.Durable.{Durable, StandsFor, durable_in, durable_of}
 use Rattle.intake.specs.Growth.{IsDiskFault}
 use Rattle.intake.specs.Guarding.{Leaves}
@@ -51,4 +51,13 @@ module _ {D : Type 0} (g : disk.Ghosts D) where
     crash = λ honest. adds_nothing g a.disk (Leaves (durable_of g.seen a) r (durable_of g.seen a) doubt);
     stands = subst (λ (x : Parts D). x.stopped ≡ false → IsTrue (g.is_honest x.disk) → (c : List ℕ) → g.may_leave x.disk c → StandsFor c (durable_of g.seen x)) is
         (sound_stands d j most flags streams stopped sound);
+  }
+
+  -- an archive that is closed
+  pub closes : (d : D) (j : Journaled) (most : ℕ) (flags : List Bool) (streams : List (Option StreamParts)) (stopped : Bool) → IsSound g d j most flags streams stopped → (IsTrue (g.is_honest d) → g.may_leave d (g.seen d))
+      → CloseCall g (record { disk = d; journal = j; limit = most; streams = streams; stopped = stopped }) d
+  closes d j most flags streams stopped sound may = record {
+    disk = refl;
+    stands = λ on honest. sound_stands d j most flags streams stopped sound on honest (g.seen d) (may honest);
+    left = sound_stands d j most flags streams stopped sound;
   }

@@ -1,5 +1,6 @@
 -- The bytes of a stream that is closed.
-use Rattle.std.proofs.Common.{◌≡◌, ℕ, suc, ◌+◌, ◌-◌, ◌*◌, ◌/◌, ◌%◌, ◌<◌, Bool, List, [], ◌∷◌, ◌++◌, length, take, replicate, refl, sym, ap, ◌∙◌, arith}
+use Rattle.std.proofs.Common.{◌≡◌, ◌≢◌, ℕ, suc, ◌+◌, ◌-◌, ◌*◌, ◌/◌, ◌%◌, ◌<◌, Bool, List, [], ◌∷◌, ◌++◌, length, take, replicate, refl, sym, ap, ◌∙◌, arith}
+use Rattle.std.proofs.Common.{append_assoc}
 use Rattle.std.proofs.lemmas.List.{take_at, take_all, length-take-le, length-append, append-nil}
 use Rattle.std.proofs.lemmas.List.Concat.{flat_map-append}
 use Rattle.disk_model.specs.PartLaws.{part_length}
@@ -10,8 +11,9 @@ use Rattle.std.specs.Prelude.{◌==◌}
 use Rattle.journal_layout.specs.declared.shape.Shape.{Shape}
 use Rattle.journal_layout.specs.Layout.{disk_length}
 use Rattle.intake.specs.Balance.{AreHeld}
-use Rattle.intake.specs.Blocks.{block_bytes, block_start, joined}
-use Rattle.intake.specs.Closing.{ClosesBytes}
+use Rattle.intake.specs.Blocks.{block_bytes, block_start, joined, padded}
+use Rattle.intake.specs.State.{blocks_for}
+use Rattle.intake.specs.Closing.{ClosesBytes, ClosesPadded}
 use Rattle.intake.specs.Growth.{Adds}
 use Rattle.intake.specs.Parts.{StreamParts}
 use Rattle.intake.proofs.BlockLemmas.{joined_other}
@@ -45,6 +47,46 @@ closed_whole shape flags a s map long are filled none =
     ∙ sym (append-nil (joined shape a s.blocks))
     ∙ ap (λ (k : ℕ). joined shape a s.blocks ++ take k s.block) (sym none)
 
+-- the blocks joined, with one more
+joined_more : (shape : Shape) (flags : List Bool) (a b bytes : List ℕ) (s : StreamParts) (blocks : List ℕ) → AreHeld flags s.blocks → Adds shape flags s.blocks blocks bytes a b
+    → joined shape b blocks ≡ joined shape a s.blocks ++ bytes
+joined_more shape flags a b bytes s blocks are adds =
+    ap (joined shape b) adds.blocks
+    ∙ flat_map-append (block_bytes shape b) s.blocks (adds.block ∷ [])
+    ∙ ap (λ (y : List ℕ). y ++ (block_bytes shape b adds.block ++ [])) (joined_other shape adds.block a b adds.others s.blocks (not_held flags s.blocks adds.block are adds.free))
+    ∙ ap (λ (y : List ℕ). joined shape a s.blocks ++ y) (append-nil (block_bytes shape b adds.block) ∙ adds.written)
+
+pads : (x : List ℕ) (n : ℕ) → 4096 * blocks_for (length x) - length x ≡ n → padded x ≡ x ++ replicate n 0
+pads x n is = ap (λ (k : ℕ). x ++ replicate k 0) is
+
+-- nothing is padded where no bytes are left over
+pub padded_whole : (shape : Shape) (flags : List Bool) (a : List ℕ) (s : StreamParts) → length flags ≡ shape.data_blocks → length a ≡ disk_length shape → AreHeld flags s.blocks
+    → s.len % 4096 ≡ 0 → ClosesPadded shape s s.blocks a a
+padded_whole shape flags a s map long are none =
+    let x = joined shape a s.blocks in
+    let l = length_joined shape flags a s.blocks map long are in
+    let full : x ++ take (s.len % 4096) s.block ≡ x = ap (λ (k : ℕ). x ++ take k s.block) none ∙ append-nil x in
+    sym (ap padded full ∙ pads x 0 (omega (arith, l)) ∙ append-nil x)
+
+-- what is left over is padded with zeros
+pub padded_part : (shape : Shape) (flags : List Bool) (a b bytes : List ℕ) (s : StreamParts) (blocks : List ℕ) → length flags ≡ shape.data_blocks → length a ≡ disk_length shape → AreHeld flags s.blocks
+    → s.len % 4096 ≢ 0 → length s.block ≡ 4096 → Adds shape flags s.blocks blocks bytes a b → bytes ≡ take (s.len % 4096) s.block ++ replicate (length s.block - s.len % 4096) 0 → ClosesPadded shape s blocks a b
+padded_part shape flags a b bytes s blocks map long are over size adds is =
+    let u = s.len % 4096 in
+    let x = joined shape a s.blocks in
+    let t = take u s.block in
+    let l = length_joined shape flags a s.blocks map long are in
+    let some = length-take-le u s.block (omega (arith, size)) in
+    let all = length-append x t in
+    let gap : 4096 * blocks_for (length (x ++ t)) - length (x ++ t) ≡ length s.block - u = gap_is (length s.blocks) u (length (x ++ t)) (length s.block) (omega (arith, l, some, all)) over (omega arith) size in
+    joined_more shape flags a b bytes s blocks are adds
+    ∙ ap (λ (y : List ℕ). x ++ y) is
+    ∙ sym (append_assoc x t (replicate (length s.block - u) 0))
+    ∙ sym (pads (x ++ t) (length s.block - u) gap)
+  where
+    gap_is : (m u n size : ℕ) → n ≡ 4096 * m + u → u ≢ 0 → u < 4096 → size ≡ 4096 → 4096 * blocks_for n - n ≡ size - u
+    gap_is m u n size is over below long = omega arith
+
 -- the last block holds what was left over, and zeros
 pub closed_part : (shape : Shape) (flags : List Bool) (a b bytes : List ℕ) (s : StreamParts) (blocks : List ℕ) → length flags ≡ shape.data_blocks → length a ≡ disk_length shape → AreHeld flags s.blocks
     → length s.blocks ≡ s.len / 4096 → length s.block ≡ 4096 → Adds shape flags s.blocks blocks bytes a b → bytes ≡ take (s.len % 4096) s.block ++ replicate (length s.block - s.len % 4096) 0 → ClosesBytes shape s blocks a b
@@ -52,12 +94,7 @@ closed_part shape flags a b bytes s blocks map long are filled size adds padded 
     let u = s.len % 4096 in
     let x = joined shape a s.blocks in
     let l = length_joined shape flags a s.blocks map long are in
-    let still : joined shape b s.blocks ≡ x = joined_other shape adds.block a b adds.others s.blocks (not_held flags s.blocks adds.block are adds.free) in
-    let all : joined shape b blocks ≡ x ++ bytes =
-    ap (joined shape b) adds.blocks
-    ∙ flat_map-append (block_bytes shape b) s.blocks (adds.block ∷ [])
-    ∙ ap (λ (y : List ℕ). y ++ (block_bytes shape b adds.block ++ [])) still
-    ∙ ap (λ (y : List ℕ). x ++ y) (append-nil (block_bytes shape b adds.block) ∙ adds.written) in
+    let all : joined shape b blocks ≡ x ++ bytes = joined_more shape flags a b bytes s blocks are adds in
     let e : s.len ≡ length x + u = omega (arith, l, filled) in
     ap (take s.len) all
     ∙ ap (λ (k : ℕ). take k (x ++ bytes)) e

@@ -130,7 +130,7 @@ module _ {D : Type 0} (g : disk.Ghosts D) (d d' : D) (j : Journaled) (most : ℕ
       })
 
   -- how many runs it may lie in
-  runs_may : (s' : StreamParts) (u : Unit {0}) → Closes (free_count flags) s (Ok u) s' → MayHaveRuns s.len (length (runs_of s'.blocks))
+  pub runs_may : (s' : StreamParts) (u : Unit {0}) → Closes (free_count flags) s (Ok u) s' → MayHaveRuns s.len (length (runs_of s'.blocks))
   runs_may s' u closes =
       let e = closed_enough s' u closes in (
         omega (arith, e, runs_no_more s'.blocks),

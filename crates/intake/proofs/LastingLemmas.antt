@@ -1,14 +1,23 @@
 -- What stands is one, and its numbers rise.
-use Rattle.std.proofs.Common.{◌≡◌, ℕ, ◌<◌, List, [], ◌∷◌, map, refl, sym, ap, ◌∙◌, subst}
+use Rattle.std.proofs.Common.{◌≡◌, ℕ, ◌<◌, ◌+◌, ◌*◌, Bool, cond, List, [], ◌∷◌, length, map, refl, sym, ap, ◌∙◌, subst, arith}
+use Rattle.std.proofs.lemmas.Bool.{eq-eqb}
+use Rattle.std.proofs.lemmas.List.{length-append, length-take-le}
+use Rattle.disk_model.specs.PartLaws.{part_length}
+use Rattle.extents.specs.RunLaws.{runs_no_more, runs_some}
+use Rattle.journal_layout.specs.Folding.{used_blocks}
+use Rattle.journal_layout.specs.Layout.{disk_length}
+use Rattle.journal_layout.specs.SpareLaws.{uses-append}
+use Rattle.journal_layout.specs.StandLaws.{stands_size}
 use Rattle.std.specs.List.{All}
 use Rattle.std.proofs.lemmas.List.Elements.{All-nil, All-cons, All-head, All-tail}
 use Rattle.journal_layout.specs.declared.shape.Shape.{Shape}
 use Rattle.journal_layout.specs.Case.{Case}
 use Rattle.journal_layout.specs.Live.{AreLive, IsWhole, seq_of_case}
 use Rattle.journal_layout.specs.ReadingLaws.{stands_once}
-use Rattle.journal_layout.specs.Soundness.{Rise}
+use Rattle.journal_layout.specs.Soundness.{Rise, uses}
+use Rattle.intake.specs.Blocks.{block_bytes, block_start, joined}
 use Rattle.intake.specs.Durable.{Durable, FoundCase, StandsFor, found_case, durable_in}
-use Rattle.intake.specs.Lasting.{HasNumbers, number_of}
+use Rattle.intake.specs.Lasting.{HasNumbers, IsWholeImage, number_of}
 
 pub one_stands : (bytes : List ℕ) (x y : Durable) → StandsFor bytes x → StandsFor bytes y → x ≡ y
 one_stands bytes x y a b = sym a.is ∙ ap (durable_in bytes) (stands_once bytes a.standing b.standing a.stands b.stands) ∙ b.is
@@ -30,3 +39,31 @@ numbers_above bytes x a live = subst HasNumbers a.is (record {
   least = live.some_next;
   greatest = live.numbers;
 })
+
+-- the bytes of blocks that lie on the disk
+length_below : (shape : Shape) (bytes : List ℕ) → length bytes ≡ disk_length shape → (blocks : List ℕ) → ((k : ℕ) → 0 < uses k blocks → k < shape.data_blocks) → length (joined shape bytes blocks) ≡ 4096 * length blocks
+length_below shape bytes long [] below = omega arith
+length_below shape bytes long (b ∷ rest) below =
+    let here : uses b (b ∷ rest) ≡ 1 + uses b rest = ap (λ (t : Bool). cond t 1 0 + uses b rest) (eq-eqb b b refl) in
+    let low = below b (omega (arith, here)) in
+    let one : length (block_bytes shape bytes b) ≡ 4096 = part_length bytes (block_start shape b) 4096 (omega (arith, long, low)) in
+    let more = length_below shape bytes long rest (λ k some. below k (omega (arith, some))) in
+    omega (arith, length-append (block_bytes shape bytes b) (joined shape bytes rest), one, more)
+
+found_whole : (shape : Shape) (bytes : List ℕ) (next : ℕ) → length bytes ≡ disk_length shape → (cases : List Case) → All (IsWhole next) cases → ((k : ℕ) → 0 < uses k (used_blocks cases) → k < shape.data_blocks)
+    → All IsWholeImage (map (found_case shape bytes) cases)
+found_whole shape bytes next long [] each below = All-nil IsWholeImage
+found_whole shape bytes next long (c ∷ rest) each below =
+    let enough = (All-head (IsWhole next) c rest each).enough in
+    let all = length_below shape bytes long c.blocks (λ k some. below k (omega (arith, some, uses-append k c.blocks (used_blocks rest)))) in
+    All-cons IsWholeImage (found_case shape bytes c) (map (found_case shape bytes) rest)
+    (record {
+      long = length-take-le c.len (joined shape bytes c.blocks) (omega (arith, all, enough));
+      runs = (omega (arith, enough, runs_no_more c.blocks), λ some. runs_some c.blocks (omega (arith, enough, some)));
+    })
+    (found_whole shape bytes next long rest (All-tail (IsWhole next) c rest each) (λ k some. below k (omega (arith, some, uses-append k c.blocks (used_blocks rest)))))
+
+pub images_whole : (bytes : List ℕ) (x : Durable) (a : StandsFor bytes x) → AreLive a.standing.shape.data_blocks a.standing.cases a.standing.next → All IsWholeImage x.cases
+images_whole bytes x a live =
+    subst (λ (y : Durable). All IsWholeImage y.cases) a.is
+    (found_whole a.standing.shape bytes a.standing.next (sym (stands_size bytes a.standing a.stands)) a.standing.cases live.each live.within)

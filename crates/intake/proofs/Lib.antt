@@ -27,3 +27,6 @@ pub mod LastingLemmas
 pub mod MarkLemmas
 pub mod LastsLemmas
 pub mod ChangeLemmas
+pub mod UntouchedLemmas
+pub mod MakingLemmas
+pub mod RunCountLemmas

@@ -1,11 +1,13 @@
 -- An archive over many stops, told by the marks of its lives.
 use Rattle.std.proofs.Common.{◌≡◌, ◌⊎◌, ℕ, ◌<◌, ◌≤◌, List, [], ◌∷◌, ◌++◌, Ok, refl, ap, sym, subst, ◌∙◌, ⊎_elim, inl, inr, arith}
 use Rattle.std.specs.List.{AllByRecursion}
-use Rattle.std.specs.Prelude.{IsTrue}
+use Rattle.std.specs.Prelude.{IsTrue, Result}
 use Rattle.disk_model.specs.declared.disk.Disk as disk
 use Rattle.intake.specs.Durable.{Durable, FoundCase, StandsFor}
-use Rattle.intake.specs.Calls.{FinishCall}
-use Rattle.intake.specs.Lives.{Life, IsLived, IsAmong, IsReached, BeginsClear, HoldsCase, AllHoldCase, AreLived, AreKept, last_acknowledged}
+use Rattle.intake.specs.Calls.{OpenCall, FinishCall}
+use Rattle.intake.specs.Opened.{disk_in}
+use Rattle.journal_layout.specs.declared.faults.OpenFault.{OpenFault}
+use Rattle.intake.specs.Lives.{Life, IsLived, IsAmong, IsReached, IsFollowed, IsTried, AreTried, Attempt, Restarts, disk_after, HoldsCase, AllHoldCase, AreLived, AreKept, last_acknowledged}
 use Rattle.intake.specs.Marks.{Mark, IsOneOf, Has, IsSettled, FindsOne, HasOne, Run, last_of, mark_of}
 use Rattle.intake.specs.Parts.{Parts, bare_of}
 use Rattle.intake.specs.State.{Bare}
@@ -28,7 +30,41 @@ run_on : {D : Type 0} (g : disk.Ghosts D) (m : Mark D) (ns later : List (Mark D)
 run_on g m [] later run more = more
 run_on g m (n ∷ ns) later run more = (run.0, run_on g n ns later run.1 more)
 
-module _ {D : Type 0} (g : disk.Ghosts D) (only : (d : D) (c : List ℕ) → g.left_since d (g.clock d) c → g.may_leave d c) where
+-- what is found stands for something
+one_stands_for : {D : Type 0} (m : Mark D) (ns : List (Mark D)) (c : List ℕ) → FindsOne c m ns → (x : Durable) × StandsFor c x
+one_stands_for m [] c found = (found.0, found.1)
+one_stands_for m (n ∷ ns) c found = ⊎_elim (λ here. (here.0, here.1)) (λ there. one_stands_for n ns c there) found
+
+begins_clear : {D : Type 0} {g : disk.Ghosts D} (l n : Life D) → IsFollowed g l n → n.first.in_doubt ≡ []
+begins_clear l n followed = ap (λ (m : Mark _). m.in_doubt) followed.first
+
+module _ {D : Type 0} (g : disk.Ghosts D) (counts : (d : D) (t : ℕ) (c : List ℕ) → t ≤ g.clock d → g.may_leave d c → g.left_since d t c) where
+  -- an opening leaves a disk that restarts
+  opened_restarts : (left : List ℕ) (d : D) (limit : ℕ) (r : Result (Parts D) (OpenFault × D)) → Restarts g left d → OpenCall g limit d r → Restarts g left (disk_in r)
+  opened_restarts left d limit r starts call = record {
+    honest = call.honesty ∙ starts.honest;
+    seen = call.seen starts.honest ∙ starts.seen;
+    settled = λ c may. (let quiet = call.any_moment starts.honest in starts.settled c (quiet.each c (counts (disk_in r) (g.clock d) c quiet.later may)));
+  }
+
+  tried_restarts : (left : List ℕ) (d : D) (t : Attempt D) → Restarts g left d → IsTried g d t → Restarts g left t.next
+  tried_restarts left d t starts tried =
+      ⊎_elim
+      (λ back. subst (Restarts g left) (sym back.1) (opened_restarts left d t.limit t.answer starts tried.0))
+      (λ stop. subst (λ (b : List ℕ). Restarts g b t.next) (starts.settled stop.0 ((tried.0.any_moment starts.honest).each stop.0 stop.1)) stop.2)
+      tried.1
+
+  all_restart : (left : List ℕ) (d : D) (ts : List (Attempt D)) → Restarts g left d → AreTried g d ts → Restarts g left (disk_after d ts)
+  all_restart left d [] starts tried = starts
+  all_restart left d (t ∷ ts) starts tried = all_restart left t.next ts (tried_restarts left d t starts tried.0) tried.1
+
+  -- a life begins with what the bytes stand for that were left
+  begins : (l n : Life D) (followed : IsFollowed g l n) (x : Durable) → StandsFor followed.left x → n.first.durable ≡ x
+  begins l n followed x stands =
+      let starts = all_restart followed.left followed.disk followed.attempts followed.restarts followed.tried in
+      ap (λ (m : Mark D). m.durable) followed.first ∙ followed.opening.found_again x starts.honest (subst (λ (b : List ℕ). StandsFor b x) (sym starts.seen) stands)
+
+module _ {D : Type 0} (g : disk.Ghosts D) (counts : (d : D) (t : ℕ) (c : List ℕ) → t ≤ g.clock d → g.may_leave d c → g.left_since d t c) (only : (d : D) (c : List ℕ) → g.left_since d (g.clock d) c → g.may_leave d c) where
   pub found_has : (m : Mark D) (ns : List (Mark D)) (c : List ℕ) (x : Durable) → IsTrue (g.is_honest m.disk) → IsSettled g m → Run g m ns
       → g.left_since (last_of m ns).disk (g.clock m.disk) c → StandsFor c x → HasOne m ns x
   found_has m ns c x honest settled run left stands = has_one c x m ns stands (found_from g only m ns honest settled run c left)
@@ -42,7 +78,8 @@ module _ {D : Type 0} (g : disk.Ghosts D) (only : (d : D) (c : List ℕ) → g.l
   kept l [] lived = tt
   kept l (n ∷ ns) lived =
       let end = run_settled l.first l.acknowledged lived.0.honest lived.0.settled lived.0.before in
-      (found_has (last_acknowledged l) l.later lived.1.left n.first.durable end.0 end.1 lived.0.after lived.1.stop lived.1.found, kept n ns lived.2)
+      let some = one_stands_for (last_acknowledged l) l.later lived.1.left (found_from g only (last_acknowledged l) l.later end.0 end.1 lived.0.after lived.1.left lived.1.stop) in
+      (subst (HasOne (last_acknowledged l) l.later) (sym (begins g counts l n lived.1 some.0 some.1)) (found_has (last_acknowledged l) l.later lived.1.left some.0 end.0 end.1 lived.0.after lived.1.stop some.1), kept n ns lived.2)
 
   all_hold : (c : FoundCase) (xs : List Durable) (x : Durable) → AllByRecursion (λ (y : Durable). IsAmong y.cases c) xs → IsOneOf xs x → IsAmong x.cases c
   all_hold c [] x all one = absurd one
@@ -101,15 +138,15 @@ module _ {D : Type 0} (g : disk.Ghosts D) (only : (d : D) (c : List ℕ) → g.l
   above_from m first (n ∷ ns) later x honest run more has (inr there) none = above_from m n ns later x (run.0.honesty ∙ honest) run.1 more has there none
 
   -- what each later life begins with does not have a lower next number than what the one before may leave
-  above_all : (k : ℕ) (l : Life D) (ls : List (Life D)) → AreLived g l ls → AllByRecursion BeginsClear ls → ((x : Durable) → HasOne (last_acknowledged l) l.later x → k ≤ x.next)
+  above_all : (k : ℕ) (l : Life D) (ls : List (Life D)) → AreLived g l ls → ((x : Durable) → HasOne (last_acknowledged l) l.later x → k ≤ x.next)
       → AllByRecursion (λ (n : Life D). k ≤ n.first.durable.next) ls
-  above_all k l [] lived clear above = tt
-  above_all k l (n ∷ ns) lived clear above =
+  above_all k l [] lived above = tt
+  above_all k l (n ∷ ns) lived above =
       let here = above n.first.durable (kept l (n ∷ ns) lived).0 in (
         here,
-        above_all k n ns lived.2 clear.1 (λ x has.
+        above_all k n ns lived.2 (λ x has.
             let life = first_life n ns lived.2 in
-            let a = above_here n.first n.acknowledged n.later x life.honest life.before life.after has clear.0 in
+            let a = above_here n.first n.acknowledged n.later x life.honest life.before life.after has (begins_clear l n lived.1) in
             omega (arith, here, a)),
       )
     where
@@ -124,10 +161,10 @@ module _ {D : Type 0} (g : disk.Ghosts D) (only : (d : D) (c : List ℕ) → g.l
   below_all seq k [] below all = tt
   below_all seq k (n ∷ ns) below all = (let a = all.0 in omega (arith, below, a), below_all seq k ns below all.1)
 
-  pub given_once : (l : Life D) (ls : List (Life D)) (old new : Parts D) (slot seq : ℕ) → AreLived g l ls → AllByRecursion BeginsClear ls → FinishCall g old slot (Ok seq) new
+  pub given_once : (l : Life D) (ls : List (Life D)) (old new : Parts D) (slot seq : ℕ) → AreLived g l ls → FinishCall g old slot (Ok seq) new
       → IsReached (mark_of g.seen new []) l.first l.acknowledged → AllByRecursion (λ (n : Life D). seq < n.first.durable.next) ls
-  given_once l [] old new slot seq lived clear finish is = tt
-  given_once l (n ∷ ns) old new slot seq lived clear finish is =
+  given_once l [] old new slot seq lived finish is = tt
+  given_once l (n ∷ ns) old new slot seq lived finish is =
       below_all seq (bare_of new).next (n ∷ ns) (next_given (bare_of old) (bare_of new) slot seq finish.step)
-      (above_all (bare_of new).next l (n ∷ ns) lived clear (λ x has.
+      (above_all (bare_of new).next l (n ∷ ns) lived (λ x has.
       above_from (mark_of g.seen new []) l.first l.acknowledged l.later x lived.0.honest lived.0.before lived.0.after has is refl))

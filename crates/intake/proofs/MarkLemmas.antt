@@ -9,12 +9,13 @@ use Rattle.intake.specs.Calls.{Stays, Changes, FinishCall, DeleteCall, PinCall, 
 use Rattle.intake.specs.Durable.{Durable, StandsFor, durable_of, durable_part, with_images, with_case, without, flagged}
 use Rattle.intake.specs.Contents.{Contents, Taken, FinishBytes, UnmovedBytes}
 use Rattle.intake.specs.Growth.{IsDiskFault}
-use Rattle.intake.specs.Guarding.{Leaves, LeavesNew, MayBeStored, MayBeRetired}
+use Rattle.std.specs.List.{AllByRecursion}
+use Rattle.intake.specs.Guarding.{Leaves, LeavesNew, StoresIn, MayBeStored, MayBeRetired}
 use Rattle.intake.specs.Marks.{Mark, IsOneOf, Finds, IsSettled, Passes, Run, last_of, FindsOne, IsFoundFrom, IsFoundSince, mark_of, doubted, Leads}
 use Rattle.intake.specs.Parts.{Parts, StreamParts, bare_of, bare_stream, contents_of, taken_in}
 use Rattle.intake.specs.Slots.{stream_at}
-use Rattle.intake.specs.State.{Bare, BareCase, BareStream}
-use Rattle.intake.specs.Step.{FinishStep, DeleteStep, PinStep, RetireStep, brief_of, stored, halted, without_cases, with_flag}
+use Rattle.intake.specs.State.{Bare, BareCase, BareStream, blocks_for}
+use Rattle.intake.specs.Step.{MayHaveRuns, FinishStep, DeleteStep, PinStep, RetireStep, brief_of, stored, halted, without_cases, with_flag}
 use Rattle.intake.specs.declared.faults.ArchiveFault.{ArchiveFault}
 use Rattle.intake.specs.declared.faults.ArchiveFault.TheVariants as fault
 use Rattle.intake.proofs.DurableLemmas.{durable_is}
@@ -133,6 +134,11 @@ module _ {D : Type 0} (T : Type 0) (g : disk.Ghosts D) (counts : (d : D) (t : �
       → (new.stopped ≡ true → IsTrue (g.is_honest old.disk) → durable_of g.seen new ≡ durable_of g.seen old) → Leads T g old r new doubt
   leads_plain not_disk changes number same before = ([], tt, change_passes before [] changes (λ is x may. absurd (not_disk is)) (λ x one. absurd one) number same)
 
+  -- a call that has none in doubt
+  leads_none : ((x : Durable) → doubt x → ⊥) → Changes T g old r new doubt → (durable_of g.seen old).next ≤ (durable_of g.seen new).next
+      → (new.stopped ≡ true → IsTrue (g.is_honest old.disk) → durable_of g.seen new ≡ durable_of g.seen old) → Leads T g old r new doubt
+  leads_none none changes number same before = ([], tt, change_passes before [] changes (λ is x may. absurd (none x may)) (λ x one. absurd one) number same)
+
   -- a call that has one archive in doubt
   leads_one : (x : Durable) → doubt x → ((y : Durable) → doubt y → y ≡ x) → (durable_of g.seen old).next ≤ x.next → Changes T g old r new doubt
       → (durable_of g.seen old).next ≤ (durable_of g.seen new).next
@@ -156,12 +162,34 @@ module _ {D : Type 0} (g : disk.Ghosts D) (counts : (d : D) (t : ℕ) (c : List 
           adds_weakened g old.disk new.disk (λ c. StandsFor c (durable_of g.seen old)) (λ c. Finds c (mark_of g.seen old before) ⊎ Finds c (mark_of g.seen new before))
           (λ c stands. inl (durable_of g.seen old, stands, inl refl)) (stays.crash honest)
 
+-- what is in doubt is told of other words for it
+all_weakened : (P Q : Durable → Type 0) → ((x : Durable) → P x → Q x) → (xs : List Durable) → AllByRecursion P xs → AllByRecursion Q xs
+all_weakened P Q implies [] all = tt
+all_weakened P Q implies (x ∷ xs) all = (implies x all.0, all_weakened P Q implies xs all.1)
+
+leads_weakened : {D : Type 0} (T : Type 0) (g : disk.Ghosts D) (old new : Parts D) (r : Result T ArchiveFault) (P Q : Durable → Type 0) → ((x : Durable) → P x → Q x) → Leads T g old r new P → Leads T g old r new Q
+leads_weakened T g old new r P Q implies leads before = let lead = leads before in (lead.0, all_weakened P Q implies lead.0 lead.1, lead.2)
+
+-- whether an image of so many bytes may lie in so many runs
+fits_or_not : (len runs : ℕ) → MayHaveRuns len runs ⊎ (MayHaveRuns len runs → ⊥)
+fits_or_not len runs =
+    elim (cases_lt (blocks_for len) runs) as (λ _. MayHaveRuns len runs ⊎ (MayHaveRuns len runs → ⊥)) [
+      | inl over ↦ inr (λ h. (let w = h.0 in absurd (omega (arith, over, w))))
+      | inr within ↦ elim (cases_lt 0 runs) as (λ _. MayHaveRuns len runs ⊎ (MayHaveRuns len runs → ⊥)) [
+        | inl some ↦ inl (within, λ _. some)
+        | inr none ↦ elim (cases_lt 0 len) as (λ _. MayHaveRuns len runs ⊎ (MayHaveRuns len runs → ⊥)) [
+          | inl bytes ↦ inr (λ h. (let w = h.1 bytes in absurd (omega (arith, none, w))))
+          | inr empty ↦ inl (within, λ bytes. absurd (omega (arith, empty, bytes)))
+        ]
+      ]
+    ]
+
 -- what a finish may leave is one
-one_stored : (s : Bare) (c : Contents) (old : Durable) (slot : ℕ) (x y : Durable) → MayBeStored s c old slot x → MayBeStored s c old slot y → y ≡ x
-one_stored s c old slot x y may may' =
+one_stored : (runs : ℕ) (s : Bare) (c : Contents) (old : Durable) (slot : ℕ) (x y : Durable) → StoresIn runs s c old slot x → StoresIn runs s c old slot y → y ≡ x
+one_stored runs s c old slot x y may may' =
     let stream : may'.0 ≡ may.0 = some_is may'.0 may.0 (sym may'.2 ∙ may.2) in
     let taken : may'.1 ≡ may.1 = some_is may'.1 may.1 (sym may'.3 ∙ may.3) in
-    may'.4 ∙ ap (λ (z : BareStream). with_case old z may'.1.bytes) stream ∙ ap (λ (z : Taken). with_case old may.0 z.bytes) taken ∙ sym may.4
+    may'.5 ∙ ap (λ (z : BareStream). with_case old z runs may'.1.bytes) stream ∙ ap (λ (z : Taken). with_case old may.0 runs z.bytes) taken ∙ sym may.5
 
 -- the rule has one answer
 no_fewer : (policy : Policy) (cases : List Brief) (a b : List ℕ) (u v : Bool) (d : IsDecision policy cases a u) (e : IsDecision policy cases b v) → d.count < e.count → ⊥
@@ -242,23 +270,35 @@ module _ {D : Type 0} (g : disk.Ghosts D) (counts : (d : D) (t : ℕ) (c : List 
   same_number : (b : Bare) → bare_of new ≡ b → b.next ≡ (bare_of old).next → (bare_of old).next ≤ (bare_of new).next
   same_number b is same = let e = ap (λ (z : Bare). z.next) is in omega (arith, e, same)
 
-  pub finish_leads : (slot : ℕ) (r : Result ℕ ArchiveFault) → FinishCall g old slot r new → Leads ℕ g old r new (MayBeStored (bare_of old) (contents_of g.seen old) (durable_of g.seen old) slot)
-  finish_leads slot (Ok seq) call =
-      leads_plain ℕ g counts only old new (Ok seq) (MayBeStored (bare_of old) (contents_of g.seen old) (durable_of g.seen old) slot) (λ is. is) call.changes (finish_number slot (Ok seq) call.step)
+  finish_leads_in : (slot : ℕ) (r : Result ℕ ArchiveFault) (call : FinishCall g old slot r new) → Leads ℕ g old r new (StoresIn call.runs (bare_of old) (contents_of g.seen old) (durable_of g.seen old) slot)
+  finish_leads_in slot (Ok seq) call =
+      leads_plain ℕ g counts only old new (Ok seq) (StoresIn call.runs (bare_of old) (contents_of g.seen old) (durable_of g.seen old) slot) (λ is. is) call.changes (finish_number slot (Ok seq) call.step)
       (λ stopped honest. absurd (goes_on new (stored (bare_of old) slot call.step.0 call.step.1) call.step.2.0 call.step.7 stopped))
-  finish_leads slot (Err f) call =
+  finish_leads_in slot (Err f) call =
       let same : new.stopped ≡ true → IsTrue (g.is_honest old.disk) → SameCases = λ stopped honest. finish_same slot f call.step (call.bytes honest) in
       ⊎_elim
       (λ is. (
       let step = subst (λ (z : ArchiveFault). FinishStep (bare_of old) slot (Err z) (bare_of new)) is call.step in
       let t = taken_there g.seen old slot step.0 step.1.1 in
-      let x = with_case (durable_of g.seen old) step.0 t.0.bytes in
-      let may : MayBeStored (bare_of old) (contents_of g.seen old) (durable_of g.seen old) slot x = (step.0, t.0, step.1.1, t.1, refl) in
-      leads_one ℕ g counts only old new (Err f) (MayBeStored (bare_of old) (contents_of g.seen old) (durable_of g.seen old) slot) x may
-      (λ y may'. one_stored (bare_of old) (contents_of g.seen old) (durable_of g.seen old) slot x y may may') (omega arith) call.changes (finish_number slot (Err f) call.step) same
+      let x = with_case (durable_of g.seen old) step.0 call.runs t.0.bytes in
+      ⊎_elim
+      (λ fits. (
+      let may : StoresIn call.runs (bare_of old) (contents_of g.seen old) (durable_of g.seen old) slot x = (step.0, t.0, step.1.1, t.1, fits, refl) in
+      leads_one ℕ g counts only old new (Err f) (StoresIn call.runs (bare_of old) (contents_of g.seen old) (durable_of g.seen old) slot) x may
+      (λ y may'. one_stored call.runs (bare_of old) (contents_of g.seen old) (durable_of g.seen old) slot x y may may') (omega arith) call.changes (finish_number slot (Err f) call.step) same
       ))
-      (λ not. leads_plain ℕ g counts only old new (Err f) (MayBeStored (bare_of old) (contents_of g.seen old) (durable_of g.seen old) slot) not call.changes (finish_number slot (Err f) call.step) same)
+      (λ none. leads_none ℕ g counts only old new (Err f) (StoresIn call.runs (bare_of old) (contents_of g.seen old) (durable_of g.seen old) slot)
+      (λ y may. none (subst (λ (z : BareStream). MayHaveRuns z.len call.runs) (some_is may.0 step.0 (sym may.2 ∙ step.1.1)) may.4)) call.changes (finish_number slot (Err f) call.step) same)
+      (fits_or_not step.0.len call.runs)
+      ))
+      (λ not. leads_plain ℕ g counts only old new (Err f) (StoresIn call.runs (bare_of old) (contents_of g.seen old) (durable_of g.seen old) slot) not call.changes (finish_number slot (Err f) call.step) same)
       (disk_or_not f)
+
+  pub finish_leads : (slot : ℕ) (r : Result ℕ ArchiveFault) → FinishCall g old slot r new → Leads ℕ g old r new (MayBeStored (bare_of old) (contents_of g.seen old) (durable_of g.seen old) slot)
+  finish_leads slot r call = leads_weakened ℕ g old new r (stores slot call.runs) (MayBeStored (bare_of old) (contents_of g.seen old) (durable_of g.seen old) slot) (λ x may. (call.runs, may)) (finish_leads_in slot r call)
+    where
+      stores : ℕ → ℕ → Durable → Type 0
+      stores slot' runs x = StoresIn runs (bare_of old) (contents_of g.seen old) (durable_of g.seen old) slot' x
 
   -- what a refusal leaves that drops no stream but where the disk failed
   unmoved : (f : ArchiveFault) (b : Bare) → durable_part b (contents_of g.seen old) ≡ durable_part (bare_of old) (contents_of g.seen old) → bare_of new ≡ b

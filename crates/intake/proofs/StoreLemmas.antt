@@ -18,7 +18,7 @@ use Rattle.case_journal.specs.declared.faults.JournalFault.TheVariants as journa
 use Rattle.intake.specs.declared.faults.ArchiveFault.{ArchiveFault}
 use Rattle.intake.specs.declared.faults.ArchiveFault.TheVariants as fault
 use Rattle.intake.specs.Blocks.{block_start, block_bytes, joined, image_in}
-use Rattle.intake.specs.Closing.{Appends, ClosesBytes}
+use Rattle.intake.specs.Closing.{Appends, ClosesBytes, ClosesPadded, FinishPads}
 use Rattle.intake.specs.Contents.{Taken, Contents, RefusedBytes, FinishBytes}
 use Rattle.intake.specs.Ending.{EndsStreams}
 use Rattle.intake.specs.Faults.{fault_of}
@@ -119,3 +119,20 @@ module _ {D : Type 0} (g : disk.Ghosts D) (d d1 d2 : D) (j j' : Journaled) (most
       taken_at [] i = refl
       taken_at (o ∷ rest) zero = refl
       taken_at (o ∷ rest) (suc i) = taken_at rest i
+
+  -- behind the bytes of the new case there are zeros
+  pub stored_padded : (s : StreamParts) (c : Case) (seq : ℕ) (streams' : List (Option StreamParts)) → stream_at streams slot ≡ Some s → j' ≡ goes_on j (store_of j.standing c)
+      → ClosesPadded j.standing.shape s c.blocks (g.seen d) (g.seen d1)
+      → FinishPads g.seen old slot (Ok seq) (record { disk = d2; journal = j'; limit = most; streams = streams'; stopped = b' })
+  stored_padded s c seq streams' is now closes = (
+    taken_in j (g.seen d) s,
+    numbered j.standing.next c,
+    at_slot streams slot ∙ ap (option_map (taken_in j (g.seen d))) is,
+    ap (λ (k : Journaled). k.standing.cases) now,
+    ap (λ (k : Journaled). joined k.standing.shape (g.seen d2) c.blocks) now ∙ joined_behind j (g.seen d1) (g.seen d2) outside c.blocks ∙ closes,
+  )
+    where
+      at_slot : (xs : List (Option StreamParts)) (i : ℕ) → stream_at (map (option_map (taken_in j (g.seen d))) xs) i ≡ option_map (taken_in j (g.seen d)) (stream_at xs i)
+      at_slot [] i = refl
+      at_slot (o ∷ rest) zero = refl
+      at_slot (o ∷ rest) (suc i) = at_slot rest i

@@ -1,5 +1,5 @@
 -- What a call promises as a whole: the state, the bytes, and what a crash at any moment of it leaves.
-use Rattle.std.specs.Prelude.{◌≡◌, ℕ, ◌≤◌, Bool, false, List, [], ◌∷◌, length, None, Some, Result, Err, IfOk, IsTrue, Vec, vec_len}
+use Rattle.std.specs.Prelude.{◌≡◌, ◌≢◌, ℕ, ◌≤◌, Bool, false, List, [], ◌∷◌, length, None, Some, Result, Err, IfOk, IsTrue, Vec, vec_len}
 use Rattle.std.specs.Global.{Global}
 use Rattle.disk_model.specs.Disk.{HasRisen}
 use Rattle.disk_model.specs.Moments.{AddsOnly, LeavesOnly}
@@ -9,16 +9,19 @@ use Rattle.journal_layout.specs.declared.faults.OpenFault.TheVariants as open_fa
 use Rattle.journal_layout.specs.Standing.{Standing}
 use Rattle.journal_layout.specs.Stands.{Stands}
 use Rattle.case_journal.specs.Viewing.{ShowsOpening, Finds, IsQuiet}
+use Rattle.intake.specs.Closing.{FinishPads}
 use Rattle.intake.specs.Contents.{BeginBytes, AdvanceBytes, FinishBytes, AbandonBytes, PinBytes, DeleteBytes, RetireBytes, ImageBytes}
 use Rattle.intake.specs.Durable.{Durable, StandsFor, FindsAgain, durable_of, without, flagged}
-use Rattle.intake.specs.Guarding.{Leaves, MayBeStored, MayBeRetired}
+use Rattle.intake.specs.Guarding.{Leaves, StoresIn, MayBeRetired}
 use Rattle.intake.specs.Opened.{IsOpened, disk_in, journal_in}
 use Rattle.intake.specs.Parts.{Parts, bare_of, contents_of}
 use Rattle.intake.specs.Slots.{stream_at}
 use Rattle.intake.specs.State.{BareCase, BareStream}
 use Rattle.intake.specs.Growth.{IsDiskFault}
 use Rattle.intake.specs.Step.{BeginStep, AdvanceStep, FinishStep, AbandonStep, PinStep, DeleteStep, RetireStep, ImageStep, case_at}
+use Rattle.intake.specs.Untouched.{RefusalSpares, AdvanceSpares, FinishSpares, PinSpares, RetireSpares}
 use Rattle.intake.specs.declared.faults.ArchiveFault.{ArchiveFault}
+use Rattle.intake.specs.declared.faults.ArchiveFault.TheVariants.{OutOfMemory}
 use Rattle.retention.specs.declared.Decision.{Decision}
 use Rattle.retention.specs.declared.Policy.{Policy}
 
@@ -78,6 +81,7 @@ pub record AdvanceCall {D : Type 0} (g : disk.Ghosts D) (old : Parts D) (slot n 
   pub bytes : IsTrue (g.is_honest old.disk) → AdvanceBytes (contents_of g.seen old) slot n r (contents_of g.seen new)
   pub cause : HasDiskCause g old r new
   pub stays : Stays g old new
+  pub untouched : AdvanceSpares (bare_of old) slot n r old.disk new.disk
 
 pub record AbandonCall {D : Type 0} (g : disk.Ghosts D) (old : Parts D) (slot : ℕ) (r : Result (Unit {0}) ArchiveFault) (new : Parts D) : Type 0 where
   pub step : AbandonStep (bare_of old) slot r (bare_of new)
@@ -91,22 +95,32 @@ pub record AbandonCall {D : Type 0} (g : disk.Ghosts D) (old : Parts D) (slot : 
 pub record FinishCall {D : Type 0} (g : disk.Ghosts D) (old : Parts D) (slot : ℕ) (r : Result ℕ ArchiveFault) (new : Parts D) : Type 0 where
   pub step : FinishStep (bare_of old) slot r (bare_of new)
   pub bytes : IsTrue (g.is_honest old.disk) → FinishBytes (contents_of g.seen old) slot r (contents_of g.seen new)
-  pub changes : Changes ℕ g old r new (MayBeStored (bare_of old) (contents_of g.seen old) (durable_of g.seen old) slot)
+  -- the runs of blocks in which the image lies, or would lie had the disk not failed
+  pub runs : ℕ
+  pub changes : Changes ℕ g old r new (StoresIn runs (bare_of old) (contents_of g.seen old) (durable_of g.seen old) slot)
+  -- nothing of what stood in the stream's block behind its bytes is on the disk
+  pub padded : IsTrue (g.is_honest old.disk) → FinishPads g.seen old slot r new
+  pub untouched : FinishSpares r old.disk new.disk
 
 pub record DeleteCall {D : Type 0} (g : disk.Ghosts D) (old : Parts D) (seq : ℕ) (r : Result (Unit {0}) ArchiveFault) (new : Parts D) : Type 0 where
   pub step : DeleteStep (bare_of old) seq r (bare_of new)
   pub bytes : IsTrue (g.is_honest old.disk) → DeleteBytes (bare_of old) (contents_of g.seen old) seq r (contents_of g.seen new)
   pub changes : Changes (Unit {0}) g old r new (λ x. x ≡ without (durable_of g.seen old) (seq ∷ []))
+  pub untouched : RefusalSpares {T = Unit {0}} r old.disk new.disk
 
 pub record PinCall {D : Type 0} (g : disk.Ghosts D) (old : Parts D) (seq : ℕ) (flag : Bool) (r : Result (Unit {0}) ArchiveFault) (new : Parts D) : Type 0 where
   pub step : PinStep (bare_of old) seq flag r (bare_of new)
   pub bytes : IsTrue (g.is_honest old.disk) → PinBytes (contents_of g.seen old) r (contents_of g.seen new)
   pub changes : Changes (Unit {0}) g old r new (λ x. x ≡ flagged (durable_of g.seen old) seq flag)
+  -- it takes no memory
+  pub never : r ≢ Err OutOfMemory
+  pub untouched : PinSpares (bare_of old) seq flag r old.disk new.disk
 
 pub record RetireCall {D : Type 0} (g : disk.Ghosts D) (old : Parts D) (policy : Policy) (r : Result Decision ArchiveFault) (new : Parts D) : Type 0 where
   pub step : RetireStep (bare_of old) policy r (bare_of new)
   pub bytes : IsTrue (g.is_honest old.disk) → RetireBytes (bare_of old) (contents_of g.seen old) r (contents_of g.seen new)
   pub changes : Changes Decision g old r new (λ x. MayBeRetired (bare_of old) policy (durable_of g.seen old) x)
+  pub untouched : RetireSpares r old.disk new.disk
 
 pub record ImageCall {D : Type 0} (g : disk.Ghosts D) (old : Parts D) (seq : ℕ) (r : Result (Vec ℕ Global) ArchiveFault) (new : Parts D) : Type 0 where
   pub step : ImageStep (bare_of old) seq r (bare_of new)
@@ -117,3 +131,11 @@ pub record ImageCall {D : Type 0} (g : disk.Ghosts D) (old : Parts D) (seq : ℕ
   -- reads give what they gave
   pub quiet : IsQuiet g old.disk new.disk
   pub stays : Stays g old new
+  pub untouched : RefusalSpares {T = Vec ℕ Global} r old.disk new.disk
+
+-- close: the disk. Unless a disk fault has stopped the archive, what reads of it give and what a crash leaves is what the archive
+-- shows.
+pub record CloseCall {D : Type 0} (g : disk.Ghosts D) (old : Parts D) (let_go : D) : Type 0 where
+  pub disk : let_go ≡ old.disk
+  pub stands : old.stopped ≡ false → IsTrue (g.is_honest let_go) → StandsFor (g.seen let_go) (durable_of g.seen old)
+  pub left : old.stopped ≡ false → IsTrue (g.is_honest let_go) → (c : List ℕ) → g.may_leave let_go c → StandsFor c (durable_of g.seen old)

@@ -1,5 +1,5 @@
 -- How a stream is closed: a block for the bytes that fill none, and the record of its case.
-use Rattle.std.specs.Prelude.{◌≡◌, ◌≢◌, ◌⊎◌, false, Bool, ℕ, ◌+◌, ◌%◌, ◌^◌, ◌<◌, List, [], ◌++◌, length, take, Result, Ok, Err}
+use Rattle.std.specs.Prelude.{◌≡◌, ◌≢◌, ◌⊎◌, false, Bool, ℕ, ◌+◌, ◌%◌, ◌^◌, ◌<◌, List, [], ◌∷◌, ◌++◌, length, take, Some, Result, Ok, Err}
 use Rattle.journal_layout.specs.declared.shape.Shape.{Shape}
 use Rattle.journal_layout.specs.Case.{Case}
 use Rattle.journal_layout.specs.Standing.{store_of}
@@ -10,8 +10,10 @@ use Rattle.intake.specs.Faults.{fault_of}
 use Rattle.intake.specs.declared.faults.ArchiveFault.{ArchiveFault}
 use Rattle.intake.specs.declared.faults.ArchiveFault.TheVariants.{SpaceFull, OutOfMemory, Disk}
 use Rattle.intake.specs.Balance.{Balances}
-use Rattle.intake.specs.Blocks.{joined, image_in}
-use Rattle.intake.specs.Parts.{StreamParts}
+use Rattle.intake.specs.Blocks.{joined, image_in, padded}
+use Rattle.intake.specs.Contents.{Taken}
+use Rattle.intake.specs.Parts.{Parts, StreamParts, contents_of}
+use Rattle.intake.specs.Slots.{stream_at}
 use Rattle.intake.specs.StreamView.{case_from_parts}
 
 -- the same stream, with these blocks
@@ -32,6 +34,18 @@ Closes free old (Err _) new = ⊥
 -- its blocks hold its bytes
 abbrev pub ClosesBytes : Shape → StreamParts → List ℕ → List ℕ → List ℕ → Type 0
 ClosesBytes shape old blocks a b = image_in shape b blocks old.len ≡ joined shape a old.blocks ++ take (old.len % 4096) old.block
+
+-- its blocks joined are its bytes, and zeros to the end of the last one
+abbrev pub ClosesPadded : Shape → StreamParts → List ℕ → List ℕ → List ℕ → Type 0
+ClosesPadded shape old blocks a b = joined shape b blocks ≡ padded (joined shape a old.blocks ++ take (old.len % 4096) old.block)
+
+-- A finish adds its case as the last one: the case's blocks joined are the bytes that the stream took, and zeros to the end of
+-- the last one.
+abbrev pub FinishPads : {D : Type 0} → (D → List ℕ) → Parts D → ℕ → Result ℕ ArchiveFault → Parts D → Type 0
+FinishPads seen old slot (Ok seq) new =
+    (t : Taken) × (c : Case) × (stream_at (contents_of seen old).taken slot ≡ Some t)
+    × (new.journal.standing.cases ≡ old.journal.standing.cases ++ c ∷ []) × (joined new.journal.standing.shape (seen new.disk) c.blocks ≡ padded t.bytes)
+FinishPads seen old slot (Err f) new = Unit {0}
 
 -- the record of a case is appended, or refused as the journal refuses it
 abbrev pub Appends : Journaled → Case → Result ℕ ArchiveFault → Journaled → Type 0

@@ -1,6 +1,7 @@
 -- What an archive holds that outlives a stop: its cases with their images, and the number of the next one.
-use Rattle.std.specs.Prelude.{◌≡◌, ◌⊎◌, ◌==◌, ℕ, ◌+◌, Bool, false, not, List, [], ◌∷◌, ◌++◌, map, Result, Ok, Err, if◌then◌else◌}
+use Rattle.std.specs.Prelude.{◌≡◌, ◌⊎◌, ◌==◌, ℕ, ◌+◌, Bool, false, not, List, [], ◌∷◌, ◌++◌, length, map, Result, Ok, Err, if◌then◌else◌}
 use Rattle.std.specs.List.{filter}
+use Rattle.extents.specs.Runs.{runs_of}
 use Rattle.journal_layout.specs.declared.entry.Kind.{Kind}
 use Rattle.journal_layout.specs.declared.faults.OpenFault.{OpenFault}
 use Rattle.journal_layout.specs.declared.faults.OpenFault.TheVariants as fault
@@ -25,6 +26,8 @@ pub record FoundCase : Type 0 where
   pub pinned : Bool
   pub len : ℕ
   pub image : List ℕ
+  -- in how many runs of blocks it lies
+  pub runs : ℕ
 
 pub record Durable : Type 0 where
   -- in the order of their numbers
@@ -43,6 +46,7 @@ found_with c image = record {
   pinned = c.pinned;
   len = c.len;
   image = image;
+  runs = length (runs_of c.blocks);
 }
 
 -- a case with the image that its blocks hold
@@ -77,15 +81,16 @@ with_images (c ∷ cases) (image ∷ images) = record {
   pinned = c.pinned;
   len = c.len;
   image = image;
+  runs = c.runs;
 } ∷ with_images cases images
 
 -- what a state and its bytes leave after a stop
 abbrev pub durable_part : Bare → Contents → Durable
 durable_part s c = record { cases = with_images s.cases c.images; next = s.next }
 
--- with the image of a stream as the last case
-abbrev pub with_case : Durable → BareStream → List ℕ → Durable
-with_case x s image = record {
+-- with the image of a stream as the last case, in so many runs of blocks
+abbrev pub with_case : Durable → BareStream → ℕ → List ℕ → Durable
+with_case x s runs image = record {
   cases = x.cases ++ record {
     seq = x.next;
     kind = s.kind;
@@ -96,6 +101,7 @@ with_case x s image = record {
     pinned = false;
     len = s.len;
     image = image;
+    runs = runs;
   } ∷ [];
   next = x.next + 1;
 }

@@ -7,7 +7,7 @@ use Rattle.case_journal.specs.Journaled.{Journaled}
 use Rattle.case_journal.specs.Keeping.{Keeps}
 use Rattle.intake.specs.Contents.{Contents, Taken}
 use Rattle.intake.specs.Durable.{Durable, StandsFor, durable_in, with_case, without}
-use Rattle.intake.specs.Step.{Retires}
+use Rattle.intake.specs.Step.{MayHaveRuns, Retires}
 use Rattle.retention.specs.declared.Policy.{Policy}
 use Rattle.intake.specs.Live.{case_uses}
 use Rattle.intake.specs.Slots.{stream_at}
@@ -44,11 +44,15 @@ Leaves old r new doubt c = StandsFor c old ⊎ LeavesNew r new doubt c
 abbrev pub LeavesStored : {T : Type 0} → Result T ArchiveFault → Durable → Durable → List ℕ → Type 0
 LeavesStored r old new c = Leaves old r new (λ x. x ≡ new) c
 
--- what a finish leaves that was not answered: the stream in the slot is the last case, with the bytes that it took
-abbrev pub MayBeStored : Bare → Contents → Durable → ℕ → Durable → Type 0
-MayBeStored s c old slot x =
+-- The stream in the slot is the last case, with the bytes that it took, in so many runs of blocks.
+abbrev pub StoresIn : ℕ → Bare → Contents → Durable → ℕ → Durable → Type 0
+StoresIn runs s c old slot x =
     (stream : BareStream) × (taken : Taken) × (stream_at s.streams slot ≡ Some stream) × (stream_at c.taken slot ≡ Some taken)
-    × (x ≡ with_case old stream taken.bytes)
+    × MayHaveRuns stream.len runs × (x ≡ with_case old stream runs taken.bytes)
+
+-- what a finish leaves that was not answered: the same in as many runs as an image of these bytes may have
+abbrev pub MayBeStored : Bare → Contents → Durable → ℕ → Durable → Type 0
+MayBeStored s c old slot x = (runs : ℕ) × StoresIn runs s c old slot x
 
 -- what a retirement leaves that was not answered: the cases that go by the rule are gone
 abbrev pub MayBeRetired : Bare → Policy → Durable → Durable → Type 0

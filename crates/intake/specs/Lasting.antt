@@ -1,8 +1,11 @@
 -- Laws of what outlives a stop.
-use Rattle.std.specs.Prelude.{◌≡◌, ℕ, ◌<◌, ◌≤◌, ◌^◌, List, map}
+use Rattle.std.specs.Prelude.{◌≡◌, ℕ, ◌<◌, ◌≤◌, ◌^◌, List, length, map}
 use Rattle.std.specs.List.{All}
+use Rattle.extents.specs.declared.run_list.Run.{Run}
+use Rattle.extents.specs.Runs.{blocks_of, runs_of}
 use Rattle.journal_layout.specs.Soundness.{Rise}
 use Rattle.intake.specs.Durable.{Durable, FoundCase, StandsFor}
+use Rattle.intake.specs.Step.{MayHaveRuns}
 
 -- bytes stand for one archive at most
 abbrev pub WhatStandsIsOne : Type 0
@@ -20,3 +23,15 @@ pub record HasNumbers (x : Durable) : Type 0 where
 
 abbrev pub NumbersAreAbove : Type 0
 NumbersAreAbove = (bytes : List ℕ) (x : Durable) → StandsFor bytes x → HasNumbers x
+
+-- A case's image has its length, and lies in as many runs of blocks as one of that length may.
+pub record IsWholeImage (c : FoundCase) : Type 0 where
+  pub long : length c.image ≡ c.len
+  pub runs : MayHaveRuns c.len c.runs
+
+abbrev pub ImagesAreWhole : Type 0
+ImagesAreWhole = (bytes : List ℕ) (x : Durable) → StandsFor bytes x → All IsWholeImage x.cases
+
+-- The runs that are kept of some blocks have these blocks, and no list of runs that has them is shorter.
+abbrev pub RunsAreTheFewest : Type 0
+RunsAreTheFewest = (blocks : List ℕ) → (blocks_of (runs_of blocks) ≡ blocks) × ((runs : List Run) → blocks_of runs ≡ blocks → length (runs_of blocks) ≤ length runs)

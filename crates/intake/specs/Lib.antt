@@ -12,6 +12,7 @@ pub mod Lasting
 pub mod Lending
 pub mod Live
 pub mod Lives
+pub mod Making
 pub mod Marks
 pub mod Opened
 pub mod Parts
@@ -24,4 +25,5 @@ pub mod State
 pub mod StayLaws
 pub mod Step
 pub mod StreamView
+pub mod Untouched
 pub mod Lasts

@@ -1,10 +1,13 @@
 -- An archive over many stops, and what follows for one case and for the numbers of the cases.
-use Rattle.std.specs.Prelude.{◌≡◌, ◌⊎◌, ℕ, ◌<◌, ◌≤◌, List, [], ◌∷◌, Ok, IsTrue}
+use Rattle.std.specs.Prelude.{◌≡◌, ◌⊎◌, ℕ, ◌<◌, ◌≤◌, false, List, [], ◌∷◌, Result, Ok, IsErr, IsTrue}
 use Rattle.std.specs.List.{AllByRecursion}
+use Rattle.disk_model.specs.Disk.{Only}
 use Rattle.disk_model.specs.declared.disk.Disk as disk
-use Rattle.intake.specs.Calls.{FinishCall}
-use Rattle.intake.specs.Durable.{Durable, FoundCase, StandsFor}
+use Rattle.journal_layout.specs.declared.faults.OpenFault.{OpenFault}
+use Rattle.intake.specs.Calls.{OpenCall, FinishCall, CloseCall}
+use Rattle.intake.specs.Durable.{Durable, FoundCase, StandsFor, FindsAgain, durable_of}
 use Rattle.intake.specs.Marks.{Mark, IsSettled, Run, HasOne, last_of, mark_of}
+use Rattle.intake.specs.Opened.{disk_in}
 use Rattle.intake.specs.Parts.{Parts}
 
 -- One life of an archive, from its opening to a stop: a mark behind each call that was answered; of these the first ones
@@ -25,12 +28,47 @@ pub record IsLived {D : Type 0} (g : disk.Ghosts D) (l : Life D) : Type 0 where
   pub before : Run g l.first l.acknowledged
   pub after : Run g (last_acknowledged l) l.later
 
--- The machine stops at any moment since the last acknowledgement, and the next life begins with what an opening finds of what
--- is left then.
+-- A disk after a stop that left these bytes: reads give them, and until something is written a crash leaves them.
+pub record Restarts {D : Type 0} (g : disk.Ghosts D) (left : List ℕ) (d : D) : Type 0 where
+  pub honest : IsTrue (g.is_honest d)
+  pub seen : g.seen d ≡ left
+  pub settled : Only left (g.may_leave d)
+
+-- An opening that began no life: what it answered, and the disk that the next one is tried on.
+pub record Attempt (D : Type 0) : Type 0 where
+  pub limit : ℕ
+  pub answer : Result (Parts D) (OpenFault × D)
+  pub next : D
+
+-- It was refused, and the next one is tried on the disk that it handed back; or the machine stopped within it or behind it, and
+-- the disk restarts.
+abbrev pub IsTried : {D : Type 0} → disk.Ghosts D → D → Attempt D → Type 0
+IsTried g d t =
+    OpenCall g t.limit d t.answer
+    × ((IsErr t.answer × (t.next ≡ disk_in t.answer)) ⊎ ((left : List ℕ) × g.left_since (disk_in t.answer) (g.clock d) left × Restarts g left t.next))
+
+abbrev pub AreTried : {D : Type 0} → disk.Ghosts D → D → List (Attempt D) → Type 0
+AreTried g d [] = Unit {0}
+AreTried g d (t ∷ ts) = IsTried g d t × AreTried g t.next ts
+
+-- the disk behind them
+abbrev pub disk_after : {D : Type 0} → D → List (Attempt D) → D
+disk_after d [] = d
+disk_after d (t ∷ ts) = disk_after t.next ts
+
+-- The machine stops at any moment since the last acknowledgement. Openings may fail then, and stops within openings, as many as
+-- there are; the next life begins with the archive that an opening answers at last, and nothing is in doubt there.
 pub record IsFollowed {D : Type 0} (g : disk.Ghosts D) (l next : Life D) : Type 0 where
   pub left : List ℕ
   pub stop : g.left_since (last_of (last_acknowledged l) l.later).disk (g.clock (last_acknowledged l).disk) left
-  pub found : StandsFor left next.first.durable
+  pub disk : D
+  pub restarts : Restarts g left disk
+  pub attempts : List (Attempt D)
+  pub tried : AreTried g disk attempts
+  pub limit : ℕ
+  pub archive : Parts D
+  pub opening : OpenCall g limit (disk_after disk attempts) (Ok archive)
+  pub first : next.first ≡ mark_of g.seen archive []
 
 abbrev pub AreLived : {D : Type 0} → disk.Ghosts D → Life D → List (Life D) → Type 0
 AreLived g l [] = IsLived g l
@@ -73,13 +111,15 @@ abbrev pub IsReached : {D : Type 0} → Mark D → Mark D → List (Mark D) → 
 IsReached m first [] = m ≡ first
 IsReached m first (n ∷ ns) = (m ≡ first) ⊎ IsReached m n ns
 
--- nothing is in doubt when the archive has been opened
-abbrev pub BeginsClear : {D : Type 0} → Life D → Type 0
-BeginsClear l = l.first.in_doubt ≡ []
-
 -- A number that was given and acknowledged in one life is below the next number that each later life finds: no number is given
 -- twice, over however many stops.
 abbrev pub NumbersAreGivenOnce : {D : Type 0} → disk.Ghosts D → Type 0
-NumbersAreGivenOnce {D} g = (l : Life D) (ls : List (Life D)) (old new : Parts D) (slot seq : ℕ) → AreLived g l ls → AllByRecursion BeginsClear ls
+NumbersAreGivenOnce {D} g = (l : Life D) (ls : List (Life D)) (old new : Parts D) (slot seq : ℕ) → AreLived g l ls
     → FinishCall g old slot (Ok seq) new → IsReached (mark_of g.seen new []) l.first l.acknowledged
     → AllByRecursion (λ (n : Life D). seq < n.first.durable.next) ls
+
+-- An archive that is closed, and that no disk fault has stopped, is found again by the next opening, which only the disk and the
+-- memory refuse.
+abbrev pub WhatIsClosedIsFound : {D : Type 0} → disk.Ghosts D → Type 0
+WhatIsClosedIsFound {D} g = (a : Parts D) (d : D) (limit : ℕ) (r : Result (Parts D) (OpenFault × D)) → IsTrue (g.is_honest d) → a.stopped ≡ false
+    → CloseCall g a d → OpenCall g limit d r → FindsAgain g.seen r (durable_of g.seen a)

@@ -11,6 +11,7 @@ use Rattle.retention.specs.declared.Brief.{Brief}
 use Rattle.retention.specs.declared.Policy.{Policy}
 use Rattle.retention.specs.declared.Decision.{Decision}
 use Rattle.intake.specs.declared.faults.ArchiveFault.{ArchiveFault}
+use Rattle.intake.specs.declared.space.Space.{Space}
 use Rattle.intake.specs.declared.faults.ArchiveFault.TheVariants.{Stopped, BadSlot, SlotBusy, NameTaken, NoStream, TooLong, SpaceFull, NoCase, Pinned, JournalFull, NumbersSpent, OutOfMemory, Disk}
 use Rattle.intake.specs.Slots.{stream_at, closed}
 use Rattle.intake.specs.State.{Bare, BareCase, BareStream, blocks_for, blocks_in}
@@ -151,8 +152,9 @@ AbandonStep old slot (Err NoStream) new = (old.stopped ≡ false) × (stream_at 
 AbandonStep old slot (Err _) new = ⊥
 
 -- free_blocks: the free data blocks, and all of them
-abbrev pub FreeReply : Bare → Result (ℕ × ℕ) ArchiveFault → Type 0
-FreeReply old (Ok n) = (old.stopped ≡ false) × (n.0 + blocks_in old ≡ old.shape.data_blocks) × (n.1 ≡ old.shape.data_blocks)
+abbrev pub FreeReply : Bare → Result Space ArchiveFault → Type 0
+FreeReply old (Ok space) =
+    (old.stopped ≡ false) × (space.free + blocks_in old ≡ old.shape.data_blocks) × (space.data_blocks ≡ old.shape.data_blocks)
 FreeReply old (Err Stopped) = old.stopped ≡ true
 FreeReply old (Err _) = ⊥
 

@@ -15,6 +15,7 @@ ghost use Rattle.intake.specs.Ending.{EndsStreams};
 ghost use Rattle.std.specs.List.{list_any};
 ghost use Rattle.std.specs.Str.{bytes_eq};
 ghost use Rattle.journal_layout.specs.Soundness.{IsName};
+ghost use Rattle.intake.specs.Untouched.{RefusalSpares};
 ghost use Rattle.journal_layout.specs.declared.entry.Entry.{Entry};
 
 use crate::ArchiveFault;
@@ -25,6 +26,7 @@ use crate::opening::open_parts;
 use crate::reading::read_image;
 use crate::retiring::decide_for;
 use crate::slots::Slots;
+use crate::space::Space;
 use crate::stream::Stream;
 use case_journal::Journal;
 use disk_model::Disk;
@@ -80,7 +82,7 @@ impl<D: Disk> Archive<D> {
     ghost use Rattle.intake.specs.Step.{RoomReply, FreeReply, DropStep};
     ghost use Rattle.intake.specs.Contents.{DropBytes};
     ghost use Rattle.intake.specs.Opened.{CasesReply};
-    ghost use Rattle.intake.specs.Calls.{OpenCall, BeginCall, AdvanceCall, FinishCall, AbandonCall, PinCall, DeleteCall, RetireCall, ImageCall, Changes};
+    ghost use Rattle.intake.specs.Calls.{OpenCall, BeginCall, AdvanceCall, FinishCall, AbandonCall, PinCall, DeleteCall, RetireCall, ImageCall, CloseCall, Changes};
     ghost use Rattle.intake.specs.Room.{LendsRoom, room_of, FitsFree};
     ghost use Rattle.intake.specs.Slots.{stream_at};
     ghost use Rattle.std.specs.Borrow.{sem};
@@ -116,13 +118,16 @@ impl<D: Disk> Archive<D> {
     }
 
     /// How many data blocks are free, and how many there are. Answers `Stopped` alone.
-    pub fn free_blocks(&self) -> Result<(u32, u32), ArchiveFault>
+    pub fn free_blocks(&self) -> Result<Space, ArchiveFault>
         ensures { FreeReply (bare_of self.now) result }
     {
         if self.stopped {
             return Err(ArchiveFault::Stopped);
         }
-        Ok((self.free.free(), self.journal.shape().data_blocks))
+        Ok(Space {
+            free: self.free.free(),
+            data_blocks: self.journal.shape().data_blocks,
+        })
     }
 
     // Whether a live case or an open stream has the name.
@@ -313,6 +318,7 @@ impl<D: Disk> Archive<D> {
             (contents_of D.seen self.new) }
         ensures changes { Changes (Unit {0}) D.Disk self.old result self.new
             (λ x. x ≡ without (durable_of D.seen self.old) seqs.now) }
+        ensures untouched { RefusalSpares result self.old.disk self.new.disk }
     {
         release_listed(&mut self.free, self.journal.entries(), seqs);
         let Err(fault) = self.journal.append_drop(&mut self.disk, seqs) else {
@@ -392,9 +398,9 @@ impl<D: Disk> Archive<D> {
         }
     }
 
-    /// Lets the disk go.
+    /// Lets the disk go. Unless a disk fault has stopped the archive, opening it again finds the cases that it showed.
     pub fn close(self) -> D
-        ensures { result ≡ self.disk }
+        ensures { CloseCall D.Disk self result }
     {
         let Archive { disk, .. } = self;
         disk

@@ -13,12 +13,13 @@ ghost use Rattle.journal_layout.specs.Standing.{appended, store_of};
 ghost use Rattle.std.specs.Prelude.{false};
 ghost use Rattle.intake.specs.Balance.{AreFree, AreHeld, Balances};
 ghost use Rattle.intake.specs.Blocks.{block_start, block_bytes};
-ghost use Rattle.intake.specs.Growth.{DiskReply, BlockReply, IsDiskFault, ChangesFree, Adds, Grows, GrowsBytes, stops_at};
+ghost use Rattle.intake.specs.Growth.{DiskReply, BlockReply, IsDiskFault, ChangesFree, Adds, Grows, GrowsBytes, NeedsBlock, stops_at};
 ghost use Rattle.case_journal.specs.Append.{MayStore};
 ghost use Rattle.journal_layout.specs.Case.{case_of};
-ghost use Rattle.intake.specs.Closing.{Closes, ClosesBytes, Appends, GivesBack};
+ghost use Rattle.intake.specs.Closing.{Closes, ClosesBytes, ClosesPadded, Appends, GivesBack};
 ghost use Rattle.intake.specs.Sound.{IsFine};
 ghost use Rattle.intake.specs.StreamView.{parts_of};
+ghost use Rattle.intake.specs.Untouched.{RefusalSpares};
 
 use crate::ArchiveFault;
 use crate::buffer::Buffer;
@@ -83,6 +84,7 @@ pub(crate) fn add_block<D: Disk>(
     ensures reply { BlockReply (free_count free.old) result }
     ensures balance { Balances free.old runs.old free.new runs.new }
     ensures more { OnOk result (length runs.new ≡ length runs.old + 1) }
+    ensures untouched { RefusalSpares result disk.old disk.new }
     ensures added { IsTrue (D.is_honest disk.old)
         → OnOk result (Adds shape free.old runs.old runs.new bytes.now (D.seen disk.old) (D.seen disk.new)) }
     ensures others { IsTrue (D.is_honest disk.old)
@@ -130,6 +132,9 @@ pub(crate) fn grow<D: Disk>(
     ensures step { Grows (free_count free.old) limit (parts_of block.old stream.old) n result
         (parts_of block.new stream.new) }
     ensures small { OnOk result (stream.old.length + n < 2 ^ 64) }
+    ensures untouched { RefusalSpares result disk.old disk.new }
+    // Bytes that fill no block leave the disk as it is.
+    ensures idle { OnOk result ((NeedsBlock stream.old.length n → ⊥) → disk.new ≡ disk.old) }
     ensures balance { Balances free.old stream.old.runs free.new stream.new.runs }
     ensures bytes { IsTrue (D.is_honest disk.old) → OnOk result (GrowsBytes shape (parts_of block.old stream.old) n
         (parts_of block.new stream.new) (D.seen disk.old) (D.seen disk.new)) }
@@ -174,6 +179,9 @@ fn last_block<D: Disk>(
     ensures balance { Balances free.old stream.old.runs free.new stream.new.runs }
     ensures bytes { IsTrue (D.is_honest disk.old) → OnOk result (ClosesBytes shape (parts_of block.old stream.old)
         stream.new.runs (D.seen disk.old) (D.seen disk.new)) }
+    ensures padded { IsTrue (D.is_honest disk.old) → OnOk result (ClosesPadded shape (parts_of block.old stream.old)
+        stream.new.runs (D.seen disk.old) (D.seen disk.new)) }
+    ensures untouched { RefusalSpares result disk.old disk.new }
     ensures others { IsTrue (D.is_honest disk.old)
         → ChangesFree shape free.old (D.seen disk.old) (D.seen disk.new) }
     ensures rests { (j : Journaled) → j.standing.shape ≡ shape → Spares free.old j
@@ -212,6 +220,9 @@ pub(crate) fn seal<D: Disk>(
     ensures balance { Balances free.old stream.old.runs free.new stream.new.runs }
     ensures bytes { IsTrue (D.is_honest disk.old) → OnOk result (ClosesBytes shape (parts_of block.old stream.old)
         stream.new.runs (D.seen disk.old) (D.seen disk.new)) }
+    ensures padded { IsTrue (D.is_honest disk.old) → OnOk result (ClosesPadded shape (parts_of block.old stream.old)
+        stream.new.runs (D.seen disk.old) (D.seen disk.new)) }
+    ensures untouched { RefusalSpares result disk.old disk.new }
     ensures others { IsTrue (D.is_honest disk.old)
         → ChangesFree shape free.old (D.seen disk.old) (D.seen disk.new) }
     ensures rests { (j : Journaled) → j.standing.shape ≡ shape → Spares free.old j

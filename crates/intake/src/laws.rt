@@ -1,9 +1,10 @@
 // What the definitions that the contracts cite say together. These functions do nothing.
 ghost use Rattle.std.specs.Prelude.{◌≡◌};
 ghost use Rattle.intake.specs.Durable.{durable_of, durable_part};
-ghost use Rattle.intake.specs.Lasting.{WhatStandsIsOne, NumbersAreAbove};
+ghost use Rattle.intake.specs.Lasting.{WhatStandsIsOne, NumbersAreAbove, ImagesAreWhole, RunsAreTheFewest};
 ghost use Rattle.intake.specs.Lasts.{FinishLasts, DeleteLasts, PinLasts, RetireLasts, RefusalsLast};
-ghost use Rattle.intake.specs.Lives.{KeptOverManyStops, ACaseIsFound, NumbersStayGiven, NumbersAreGivenOnce};
+ghost use Rattle.intake.specs.Lives.{KeptOverManyStops, ACaseIsFound, NumbersStayGiven, NumbersAreGivenOnce, WhatIsClosedIsFound};
+ghost use Rattle.intake.specs.Making.{CallsAreMarks, AnImageIsWhatWasTaken};
 ghost use Rattle.intake.specs.Marks.{FoundAfterAStop, NothingElseIsLeft, StaysLead, FinishLeads, DeleteLeads, PinLeads, RetireLeads};
 ghost use Rattle.intake.specs.Parts.{Parts, bare_of, contents_of};
 
@@ -21,6 +22,19 @@ pub fn the_next_number_is_above()
 {
     live_cases_are_sound();
 }
+
+/// Each image of what bytes stand for has its case's length, and lies in as many runs of blocks as an image of that length may.
+pub fn images_are_whole()
+    ensures { ImagesAreWhole }
+{
+    live_cases_are_sound();
+}
+
+/// A case's blocks lie in as few runs as they can: the runs that are kept have these blocks, and no list of runs that has them
+/// is shorter.
+pub fn runs_are_the_fewest()
+    ensures { RunsAreTheFewest }
+{}
 
 /// What outlives a stop is told by the state and its bytes: the cases, each with its image, and the next number.
 pub fn a_state_tells_what_lasts<D: Disk>()
@@ -60,8 +74,24 @@ pub fn calls_lead_from_mark_to_mark<D: Disk>()
     ensures retire { RetireLeads D.Disk }
 {}
 
+/// Calls of an open archive, one after the other, are a run of marks, one behind each call.
+pub fn calls_are_marks<D: Disk>()
+    ensures { CallsAreMarks D.Disk }
+{}
+
+/// A case's image is what its own stream's calls took, from its begin to its finish, whatever other calls were made between.
+pub fn an_image_is_what_was_taken<D: Disk>()
+    ensures { AnImageIsWhatWasTaken D.Disk }
+{}
+
+/// An archive that is closed, and that no disk fault has stopped, is found again by the next opening, which only the disk and the
+/// memory refuse.
+pub fn what_is_closed_is_found<D: Disk>()
+    ensures { WhatIsClosedIsFound D.Disk }
+{}
+
 /// Crash safety over many stops: each life of an archive begins with what the last acknowledged mark of the life before has, or
-/// a later one.
+/// a later one, however many openings fail between, and however often the machine stops within one.
 pub fn kept_over_many_stops<D: Disk>()
     ensures { KeptOverManyStops D.Disk }
 {}

@@ -7,6 +7,7 @@ ghost use Rattle.case_journal.specs.Viewing.{IsQuiet};
 ghost use Rattle.intake.specs.Blocks.{joined, image_in};
 ghost use Rattle.intake.specs.Growth.{DiskReply, IsDiskFault};
 ghost use Rattle.intake.specs.Reading.{LieWithin, LiesIn, IsReadFault};
+ghost use Rattle.intake.specs.Untouched.{RefusalSpares};
 
 use crate::ArchiveFault;
 use disk_model::Disk;
@@ -81,6 +82,7 @@ pub(crate) fn read_image<D: Disk>(
     ensures bytes { IsTrue (D.is_honest disk.old)
         → IfOk result (λ v. v.items ≡ image_in shape (D.seen disk.old) entry.now.runs entry.now.length) }
     ensures long { IfOk result (λ v. vec_len v ≡ entry.now.length) }
+    ensures untouched { RefusalSpares result disk.old disk.new }
     ensures quiet { IsQuiet D.Disk disk.old disk.new }
     ensures cause { IsDiskFault result → HasRisen (D.failures disk.old) (D.failures disk.new) }
     ensures later { D.failures disk.old ≤ D.failures disk.new }

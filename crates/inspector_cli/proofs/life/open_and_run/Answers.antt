@@ -9,7 +9,7 @@ returns-in-Ok-ended g c = record {
     opening = c.in-Ok.ensures;
     settled = λ honest b may. (durable_of g.D.Disk.seen c.in-Ok.archive, c.in-Ok.ensures.settled honest b may, inl refl);
     closed = c.run_session-ended.new.archive;
-    disk = c.close-disk.ensures;
+    disk = c.close-disk.ensures.disk;
     goes = c.in-Ok-ended.ensures [];
   };
 }
@@ -21,7 +21,7 @@ returns-in-Err-ended g c = record {
     opening = c.in-Ok.ensures;
     settled = λ honest b may. (durable_of g.D.Disk.seen c.in-Ok.archive, c.in-Ok.ensures.settled honest b may, inl refl);
     closed = c.run_session-ended.new.archive;
-    disk = c.close-disk.ensures;
+    disk = c.close-disk.ensures.disk;
     goes = c.in-Err-ended.ensures [];
   };
 }

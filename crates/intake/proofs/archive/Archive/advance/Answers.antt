@@ -7,7 +7,8 @@ use Rattle.intake.specs.StreamView.{parts_of}
 use Rattle.intake.proofs.CountLemmas.{still_held, balance_then}
 use Rattle.intake.proofs.SoundLemmas.{stream_held}
 use Rattle.intake.proofs.AdvanceLemmas.{none_set, sound_refused, refused_bytes, sound_grown, advance_ok, advance_ok_bytes, advance_err, not_stopped, not_missing, fits_in}
-use Rattle.intake.proofs.CrashLemmas.{grow_rests}
+use Rattle.intake.proofs.CrashLemmas.{grow_rests, grow_moments, grow_durable}
+use Rattle.intake.proofs.UntouchedLemmas.{needs_none}
 use Rattle.std.proofs.lemmas.Grind.{common_steps}
 use Rattle.intake.proofs.archive.Archive.advance.Goals as goal
 
@@ -50,6 +51,7 @@ returns-in_default g c = record {
       (c.in_default.ensures.slots ∙ none_set c.self.inside.slots c.args.slot (sym c.in_default.ensures.stream)));
   cause = search rules;
   stays = record { honesty = search rules; later = search rules; size = search rules; crash = search rules; durable = search rules };
+  untouched = search rules;
 }
 
 pub returns-in-Err : goal.returns-in-Err
@@ -73,6 +75,7 @@ returns-in-Err g c = record {
       (not_missing g.D.Disk c.self.inside.disk c.grow-grown.new.disk c.self.inside.journal c.self.inside.settings.limit c.self.inside.free c.self.inside.slots c.args.slot c.args.n (parts_of c.in-Some.block c.in-Some.stream) c.self.inside.stopped running c.if-self.false (sym c.in-Some.ensures.stream) _ c.in-Err.fault c.in-Err.ensures.step));
   cause = search rules;
   stays = record { honesty = search rules; later = search rules; size = search rules; crash = search rules; durable = search rules };
+  untouched = rw (← c.self.view_is) c.in-Err.ensures.untouched;
 }
 
 pub returns : goal.returns
@@ -93,5 +96,19 @@ returns g c = record {
       c.in-Some.ensures.slots c.put.ensures
       (c.in_default-grown.ensures.bytes real c.self.inside.journal (sym c.shape-shape.ensures)));
   cause = search rules;
-  stays = record { honesty = search rules; later = search rules; size = search rules; crash = search rules; durable = search rules };
+  stays = record {
+    honesty = search rules;
+    later = search rules;
+    size = search rules;
+    crash = λ honest.
+        let real = rw (← c.self.view_is) at honest in
+        rw (← c.self.view_is)
+        (grow_moments g.D.Disk c.self.inside.disk c.grow-grown.new.disk c.self.inside.journal c.self.inside.settings.limit c.self.inside.free c.self.inside.slots (c.self.invariant.runs c.if-self.false) (c.in_default-grown.ensures.rests c.self.inside.journal (sym c.shape-shape.ensures)) real);
+    durable = λ honest.
+        let real = rw (← c.self.view_is) at honest in
+        rw (← c.self.view_is)
+        (grow_durable g.D.Disk c.self.inside.disk c.grow-grown.new.disk c.self.inside.journal c.self.inside.settings.limit c.self.inside.free c.self.inside.slots (c.self.invariant.runs c.if-self.false) (c.in_default-grown.ensures.rests c.self.inside.journal (sym c.shape-shape.ensures)) real);
+  };
+  untouched = rw (← c.self.view_is)
+      (λ t is none. c.in_default-grown.ensures.idle (needs_none c.self.inside.slots c.args.slot c.args.n (parts_of c.in-Some.block c.in-Some.stream) t (sym c.in-Some.ensures.stream) is none));
 }

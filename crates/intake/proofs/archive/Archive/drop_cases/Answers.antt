@@ -18,6 +18,7 @@ use Rattle.intake.proofs.DurableLemmas.{durable_dropped}
 use Rattle.intake.proofs.LeaveLemmas.{done_guards, refusal_guards, whole_dropped}
 use Rattle.intake.specs.Durable.{durable_in, without}
 use Rattle.intake.proofs.ChangeLemmas.{sound_stands}
+use Rattle.intake.proofs.UntouchedLemmas.{journal_spares}
 use Rattle.intake.proofs.archive.Archive.drop_cases.Goals as goal
 
 pub release_listed-requires-clause-held : goal.release_listed-requires-clause-held
@@ -113,3 +114,6 @@ returns-clause-changes g c =
           (λ z. z ≡ without (durable_in (g.D.Disk.seen c.self.inside.disk) c.self.inside.journal.standing) c.args.seqs.now) c.in-Err.fault _ _ c.from-fault.ensures c.in-Err.ensures.untouched (durable_dropped c.self.inside.journal.standing c.args.seqs.now (g.D.Disk.seen c.self.inside.disk)) (g.met.D.Disk.only_now c.self.inside.disk));
       stands = sound_stands g.D.Disk c.append_drop.new.disk c.append_drop.new.self c.self.inside.settings.limit c.hold_listed.new.free c.end_streams-self-inside.new.slots c.end_streams-self-inside.result (invariant_of-self-2 g c);
     }
+
+pub returns-clause-untouched : goal.returns-clause-untouched
+returns-clause-untouched g c = rw (← c.self.view_is) (journal_spares (Unit {0}) c.in-Err.fault _ _ _ c.from-fault.ensures c.in-Err.ensures.untouched)

@@ -1,15 +1,19 @@
 use Rattle.std.proofs.Common.{rules, arith, ◌∙◌, ap, sym, subst, Option, Err, List, ℕ, []}
 use Rattle.intake.specs.Parts.{Parts, StreamParts, bare_of, contents_of}
 use Rattle.intake.specs.StreamView.{parts_of}
+use Rattle.extents.specs.FreeSet.{free_count}
 use Rattle.intake.specs.Balance.{AreHeld, Balances}
 use Rattle.intake.specs.Growth.{ChangesFree}
 use Rattle.intake.specs.Step.{FinishStep}
 use Rattle.journal_layout.specs.Case.{Case, case_of}
 use Rattle.journal_layout.specs.Soundness.{IsStorable}
 use Rattle.journal_layout.specs.declared.shape.Shape.{Shape}
-use Rattle.intake.proofs.FinishLemmas.{seal_err, seal_not_stopped, seal_not_missing, storable, sound_not_stored, refused_step, stored_step, sound_with_case, closed_case}
-use Rattle.intake.specs.Closing.{ClosesBytes}
-use Rattle.intake.proofs.StoreLemmas.{unstored_bytes, stored_bytes}
+use Rattle.extents.specs.Runs.{runs_of}
+use Rattle.std.proofs.Common.{length}
+use Rattle.intake.proofs.FinishLemmas.{runs_may, seal_err, seal_not_stopped, seal_not_missing, storable, sound_not_stored, refused_step, stored_step, sound_with_case, closed_case}
+use Rattle.intake.specs.Closing.{ClosesBytes, ClosesPadded}
+use Rattle.intake.proofs.UntouchedLemmas.{seal_spares, append_spares, never_stopped}
+use Rattle.intake.proofs.StoreLemmas.{unstored_bytes, stored_bytes, stored_padded}
 use Rattle.intake.proofs.CountLemmas.{still_held, balance_then}
 use Rattle.intake.proofs.SoundLemmas.{stream_held}
 use Rattle.intake.proofs.AdvanceLemmas.{none_set, sound_refused, refused_bytes}
@@ -70,7 +74,10 @@ pub returns-then-self : goal.returns-then-self
 returns-then-self g c = record {
   step = search rules;
   bytes = search rules;
+  runs = 0;
   changes = changes_none g.D.Disk ℕ c.self.inside.disk c.self.inside.journal c.self.inside.settings.limit c.self.inside.free c.self.inside.slots c.self.inside.stopped _ _ _ c.self.invariant c.self.view_is (λ fault. cc);
+  padded = λ honest. tt;
+  untouched = search rules;
 }
 
 pub returns-in_default : goal.returns-in_default
@@ -86,7 +93,10 @@ returns-in_default g c = record {
         stopped = c.self.inside.stopped;
       }))
       (c.in_default.ensures.slots ∙ none_set c.self.inside.slots c.args.slot (sym c.in_default.ensures.stream)));
+  runs = 0;
   changes = record { honesty = search rules; later = search rules; size = search rules; cause = search rules; crash = search rules; stands = search rules };
+  padded = λ honest. tt;
+  untouched = search rules;
 }
 
 pub returns-in-Err : goal.returns-in-Err
@@ -110,6 +120,7 @@ returns-in-Err g c = record {
       (c.self.invariant.runs c.if-self.false) c.if-self.false (sym c.in-Some.ensures.stream) (parts_of c.seal-sealed.new.block c.seal-sealed.new.stream) c.in-Err.fault c.in-Err.ensures.step)
       (seal_not_missing g.D.Disk c.self.inside.disk c.seal-sealed.new.disk c.self.inside.journal c.self.inside.settings.limit c.self.inside.free c.self.inside.slots c.args.slot (parts_of c.in-Some.block c.in-Some.stream) c.self.inside.stopped
       (c.self.invariant.runs c.if-self.false) c.if-self.false (sym c.in-Some.ensures.stream) (parts_of c.seal-sealed.new.block c.seal-sealed.new.stream) c.in-Err.fault c.in-Err.ensures.step));
+  runs = 0;
   changes = record {
     honesty = search rules;
     later = search rules;
@@ -122,6 +133,8 @@ returns-in-Err g c = record {
         (grow_rests g.D.Disk c.self.inside.disk c.seal-sealed.new.disk c.self.inside.journal c.self.inside.settings.limit c.self.inside.free c.self.inside.slots (c.self.invariant.runs c.if-self.false) (c.in-Err.ensures.rests c.self.inside.journal (sym c.shape-shape.ensures))) real);
     stands = sound_stands g.D.Disk c.seal-sealed.new.disk c.self.inside.journal c.self.inside.settings.limit c.release.new.free c.end_streams-self-inside.new.slots c.end_streams-self-inside.result (invariant_of-self-in-Err g c);
   };
+  padded = λ honest. tt;
+  untouched = rw (← c.self.view_is) (seal_spares (free_count c.self.inside.free) (parts_of c.in-Some.block c.in-Some.stream) (parts_of c.seal-sealed.new.block c.seal-sealed.new.stream) c.in-Err.fault _ _ c.in-Err.ensures.step c.in-Err.ensures.untouched);
 }
 
 pub returns : goal.returns
@@ -140,6 +153,7 @@ returns g c = record {
       (unstored_bytes g.D.Disk c.self.inside.disk c.seal-sealed.new.disk c.append_case.new.disk c.self.inside.journal c.append_case.new.journal c.self.inside.settings.limit c.self.inside.free c.self.inside.slots c.args.slot c.self.inside.stopped c.end_streams-self-inside-in-Err-append_case.result
       (c.self.invariant.runs c.if-self.false) (subst (λ (x : Shape). ChangesFree x c.self.inside.free (g.D.Disk.seen c.self.inside.disk) (g.D.Disk.seen c.seal-sealed.new.disk)) c.shape-shape.ensures (c.in_default-sealed.ensures.others real)) (c.in-Err-append_case.ensures.outside still)
       c.in-Err-append_case.fault (case_of c.into_entry-entry.result) c.take.new.self c.end_streams-self-inside-in-Err-append_case.new.slots c.in-Some.ensures.slots c.end_streams-self-inside-in-Err-append_case.ensures c.in-Err-append_case.ensures.step);
+  runs = length (runs_of c.seal-sealed.new.stream.runs);
   changes = record {
     honesty = search rules;
     later = search rules;
@@ -155,7 +169,8 @@ returns g c = record {
         let y : Durable = durable_in (g.D.Disk.seen c.seal-sealed.new.disk) (appended j.standing (store_of j.standing (case_of c.into_entry-entry.result))) in
         rw (← c.self.view_is)
         (unstored_adds g.D.Disk c.self.inside.disk c.seal-sealed.new.disk c.append_case.new.disk j running.journal rests real y _ _ c.in-Err-append_case.fault
-        (stored_doubt g.D.Disk c.self.inside.disk j c.self.inside.settings.limit c.self.inside.slots c.self.inside.stopped c.args.slot s y (sym c.in-Some.ensures.stream)
+        (stored_doubt g.D.Disk c.self.inside.disk j c.self.inside.settings.limit c.self.inside.slots c.self.inside.stopped c.args.slot s (length (runs_of c.seal-sealed.new.stream.runs)) y (sym c.in-Some.ensures.stream)
+        (runs_may g.D.Disk c.self.inside.disk c.append_case.new.disk j c.self.inside.settings.limit c.self.inside.free c.self.inside.slots c.args.slot s c.self.inside.stopped running c.if-self.false (sym c.in-Some.ensures.stream) (parts_of c.seal-sealed.new.block c.seal-sealed.new.stream) c.in_default-sealed.field-0 c.in_default-sealed.ensures.step)
         (stored_is g.D.Disk c.self.inside.disk c.seal-sealed.new.disk j s c.seal-sealed.new.stream.runs (case_of c.into_entry-entry.result)
         (c.into_entry-entry.ensures ∙ closed_case g.D.Disk c.self.inside.disk c.append_case.new.disk j c.self.inside.settings.limit c.self.inside.free c.self.inside.slots c.args.slot s c.self.inside.stopped running c.if-self.false (sym c.in-Some.ensures.stream) (parts_of c.seal-sealed.new.block c.seal-sealed.new.stream) c.in_default-sealed.field-0 c.in_default-sealed.ensures.step)
         (subst (λ (x : Shape). ClosesBytes x s c.seal-sealed.new.stream.runs (g.D.Disk.seen c.self.inside.disk) (g.D.Disk.seen c.seal-sealed.new.disk)) c.shape-shape.ensures (c.in_default-sealed.ensures.bytes real))
@@ -168,6 +183,8 @@ returns g c = record {
         (balance_then c.self.inside.free c.seal-sealed.new.free c.append_case.new.free c.in-Some.stream.runs c.seal-sealed.new.stream.runs _ c.in_default-sealed.ensures.balance
         (subst (λ (x : List ℕ). Balances c.seal-sealed.new.free x c.append_case.new.free []) (ap (λ (x : Case). x.blocks) c.into_entry-entry.ensures) c.in-Err-append_case.ensures.free)));
   };
+  padded = λ honest. tt;
+  untouched = append_spares c.in-Err-append_case.ensures.step.0 c.in-Err-append_case.fault _ _ c.in-Err-append_case.ensures.step.1 (never_stopped c.self.inside.journal (case_of c.into_entry-entry.result) c.in-Err-append_case.ensures.step.0 c.append_case.new.journal (c.self.invariant.runs c.if-self.false).journal c.in-Err-append_case.ensures.step.2);
 }
 
 pub returns-in-Ok : goal.returns-in-Ok
@@ -188,6 +205,7 @@ returns-in-Ok g c = record {
       (ap (λ (x : Case). x.len) (is_case ∙ closed_case g.D.Disk c.self.inside.disk c.append_case.new.disk c.self.inside.journal c.self.inside.settings.limit c.self.inside.free c.self.inside.slots c.args.slot (parts_of c.in-Some.block c.in-Some.stream) c.self.inside.stopped (c.self.invariant.runs c.if-self.false) c.if-self.false (sym c.in-Some.ensures.stream) (parts_of c.seal-sealed.new.block c.seal-sealed.new.stream) c.in_default-sealed.field-0 c.in_default-sealed.ensures.step))
       (subst (λ (x : Shape). ClosesBytes x (parts_of c.in-Some.block c.in-Some.stream) (case_of c.into_entry-entry.result).blocks (g.D.Disk.seen c.self.inside.disk) (g.D.Disk.seen c.seal-sealed.new.disk)) c.shape-shape.ensures
       (subst (λ (x : List ℕ). ClosesBytes c.shape-shape.result (parts_of c.in-Some.block c.in-Some.stream) x (g.D.Disk.seen c.self.inside.disk) (g.D.Disk.seen c.seal-sealed.new.disk)) (sym (ap (λ (x : Case). x.blocks) is_case)) (c.in_default-sealed.ensures.bytes real))));
+  runs = length (runs_of c.seal-sealed.new.stream.runs);
   changes = record {
     honesty = search rules;
     later = search rules;
@@ -207,4 +225,14 @@ returns-in-Ok g c = record {
         (c.in-Ok.ensures.any_moment still));
     stands = sound_stands g.D.Disk c.append_case.new.disk c.append_case.new.journal c.self.inside.settings.limit c.append_case.new.free c.take.new.self c.self.inside.stopped (invariant_of-self-in-Ok g c);
   };
+  padded = λ honest.
+      let real = rw (← c.self.view_is) at honest in
+      let still = c.in_default-sealed.ensures.honesty ∙ real in
+      rw (← c.self.view_is)
+      (stored_padded g.D.Disk c.self.inside.disk c.seal-sealed.new.disk c.append_case.new.disk c.self.inside.journal c.append_case.new.journal c.self.inside.settings.limit c.self.inside.free c.self.inside.slots c.args.slot c.self.inside.stopped c.self.inside.stopped
+      (c.self.invariant.runs c.if-self.false) (subst (λ (x : Shape). ChangesFree x c.self.inside.free (g.D.Disk.seen c.self.inside.disk) (g.D.Disk.seen c.seal-sealed.new.disk)) c.shape-shape.ensures (c.in_default-sealed.ensures.others real)) (c.in-Ok.ensures.outside still)
+      (parts_of c.in-Some.block c.in-Some.stream) (case_of c.into_entry-entry.result) c.in-Ok.seq c.take.new.self (sym c.in-Some.ensures.stream) c.in-Ok.ensures.step.4
+      (subst (λ (x : Shape). ClosesPadded x (parts_of c.in-Some.block c.in-Some.stream) (case_of c.into_entry-entry.result).blocks (g.D.Disk.seen c.self.inside.disk) (g.D.Disk.seen c.seal-sealed.new.disk)) c.shape-shape.ensures
+      (subst (λ (x : List ℕ). ClosesPadded c.shape-shape.result (parts_of c.in-Some.block c.in-Some.stream) x (g.D.Disk.seen c.self.inside.disk) (g.D.Disk.seen c.seal-sealed.new.disk)) (sym (ap (λ (x : Case). x.blocks) c.into_entry-entry.ensures)) (c.in_default-sealed.ensures.padded real))));
+  untouched = tt;
 }

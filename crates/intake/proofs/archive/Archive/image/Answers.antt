@@ -37,6 +37,7 @@ returns-in_default g c = record {
   long = search rules;
   quiet = search rules;
   stays = record { honesty = search rules; later = search rules; size = search rules; crash = search rules; durable = search rules };
+  untouched = search rules;
 }
 
 pub returns-in-Ok : goal.returns-in-Ok
@@ -73,6 +74,7 @@ returns-in-Ok g c = record {
         rw (← c.self.view_is) (read_moments g.D.Disk c.self.inside.disk c.read_image.new.disk c.self.inside.journal running.keeps running.journal real c.read_image.ensures.quiet);
     durable = search rules;
   };
+  untouched = tt;
 }
 
 pub returns-in-Err : goal.returns-in-Err
@@ -102,4 +104,5 @@ returns-in-Err g c = record {
         rw (← c.self.view_is) (read_moments g.D.Disk c.self.inside.disk c.read_image.new.disk c.self.inside.journal running.keeps running.journal real c.read_image.ensures.quiet);
     durable = search rules;
   };
+  untouched = rw (← c.self.view_is) c.in-Err.ensures.untouched;
 }

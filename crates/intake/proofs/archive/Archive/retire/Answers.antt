@@ -13,6 +13,7 @@ use Rattle.intake.specs.Step.{Retires}
 use Rattle.retention.specs.declared.Decision.{Decision}
 use Rattle.intake.proofs.CrashLemmas.{leaves_of}
 use Rattle.intake.proofs.ChangeLemmas.{changes_none}
+use Rattle.intake.proofs.UntouchedLemmas.{other_spares}
 use Rattle.intake.proofs.archive.Archive.retire.Goals as goal
 
 pub decide_for-requires : goal.decide_for-requires
@@ -32,6 +33,7 @@ returns-then-self g c = record {
   step = search rules;
   bytes = search rules;
   changes = changes_none g.D.Disk Decision c.self.inside.disk c.self.inside.journal c.self.inside.settings.limit c.self.inside.free c.self.inside.slots c.self.inside.stopped _ _ _ c.self.invariant c.self.view_is (λ fault. cc);
+  untouched = search rules;
 }
 
 pub returns-in_default : goal.returns-in_default
@@ -39,6 +41,7 @@ returns-in_default g c = record {
   step = search rules;
   bytes = search rules;
   changes = changes_none g.D.Disk Decision c.self.inside.disk c.self.inside.journal c.self.inside.settings.limit c.self.inside.free c.self.inside.slots c.self.inside.stopped _ _ _ c.self.invariant c.self.view_is (λ fault. cc);
+  untouched = search rules;
 }
 
 pub returns-then-is_empty : goal.returns-then-is_empty
@@ -50,6 +53,7 @@ returns-then-is_empty g c = record {
       rw none (ap (λ (x : List (List ℕ)). record (contents_of g.D.Disk.seen c.args.self.now) { images = x })
       (sym (all_stay (λ (x : Case). image_in c.args.self.now.journal.standing.shape (g.D.Disk.seen c.args.self.now.disk) x.blocks x.len) c.args.self.now.journal.standing.cases)));
   changes = changes_none g.D.Disk Decision c.self.inside.disk c.self.inside.journal c.self.inside.settings.limit c.self.inside.free c.self.inside.slots c.self.inside.stopped _ _ _ c.self.invariant c.self.view_is (λ fault. fault);
+  untouched = λ none. search rules;
 }
 
 pub returns-in-Err : goal.returns-in-Err
@@ -78,6 +82,7 @@ returns-in-Err g c = record {
         (c.in-Err.ensures.changes.crash honest);
     stands = c.in-Err.ensures.changes.stands;
   };
+  untouched = other_spares (Unit {0}) Decision c.in-Err.fault _ _ c.in-Err.ensures.untouched;
 }
 
 pub returns : goal.returns
@@ -97,4 +102,5 @@ returns g c = record {
     crash = search rules;
     stands = c.in_default-drop_cases.ensures.changes.stands;
   };
+  untouched = λ none. (let some : c.in-Ok.decision.dropped.items ≢ [] = search rules in absurd (some none));
 }
