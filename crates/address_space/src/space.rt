@@ -1,9 +1,18 @@
 // The address space of a core.
+ghost use Rattle.std.specs.Prelude.{map};
+ghost use Rattle.std.specs.List.Sorted.{IsPermutation};
+ghost use Rattle.std.specs.Option.{ForSome};
+ghost use Rattle.elf_view.specs.Header.{segments_of};
+ghost use Rattle.elf_view.specs.ViewWords.{image_of};
+ghost use Rattle.address_space.specs.Disjoint.{taking_from};
+ghost use Rattle.address_space.specs.ScanWords.{decided_view};
+
 use crate::find::Matches;
 use crate::mappings::Mappings;
 use crate::pieces::Pieces;
 use crate::source::{PieceKind, Source};
 use crate::strings::Strings;
+use crate::table::Table;
 use core_notes::Files;
 use elf_view::Elf;
 use std::alloc::{AllocError, Global};
@@ -21,12 +30,15 @@ pub struct AddressSpace<'a> {
     pub(crate) elf: Elf<'a>,
     pub(crate) files: Option<Files<'a>>,
     pub(crate) executables: Vec<Executable<'a>>,
+    pub(crate) table: Option<Table<'a>>,
+    ghost whole: { ForSome table (λ t. ∥ IsPermutation (taking_from 0 (segments_of (image_of elf))) (map decided_view t.rows.items) ∥₁) },
 }
 
 impl<'a> AddressSpace<'a> {
-    ghost use Rattle.std.specs.Prelude.{◌≡◌, ◌+◌, ◌^◌, ◌<◌, ◌≤◌, [], OnErr, OnOk, length};
+    ghost use Rattle.std.specs.Prelude.{◌≡◌, ◌+◌, ◌^◌, ◌<◌, ◌≤◌, [], IfOk, IsTrue, OnErr, OnOk, length};
     ghost use Rattle.address_space.specs.Source.{source_at, mappings_of, with_executable};
-    ghost use Rattle.elf_view.specs.ViewWords.{image_of};
+    ghost use Rattle.address_space.specs.Disjoint.{AreDisjoint};
+    ghost use Rattle.address_space.specs.TableWords.{has_table};
     ghost use Rattle.address_space.specs.Pieces.{pieces_of};
     ghost use Rattle.address_space.specs.Occurrence.{occurrences, strings_of};
     ghost use Rattle.address_space.specs.SourceWords.{source_view};
@@ -45,7 +57,29 @@ impl<'a> AddressSpace<'a> {
             elf: *elf,
             files,
             executables: Vec::new(alloc),
+            table: None,
         }
+    }
+
+    /// The same, with a table of the segments sorted by address, in which an address is found in the logarithm of their
+    /// number of steps, where no two of those that are loaded have an address in common. Where two have, it is as `new`
+    /// makes it. Where there is no memory for the table none is made.
+    #[tactic(auto, unfolding(crate::specs::SpaceWords::space_of))]
+    pub fn indexed(
+        alloc: Global,
+        elf: &Elf<'a>,
+        files: Option<Files<'a>>,
+    ) -> Result<AddressSpace<'a>, AllocError>
+        ensures same { IfOk result (λ space. space_of space ≡ space_view elf.now files.entry []) }
+        ensures table { IfOk result (λ space. AreDisjoint (segments_of (image_of elf.now)) → IsTrue (has_table space)) }
+    {
+        let table = Table::of(alloc, elf)?;
+        Ok(AddressSpace {
+            elf: *elf,
+            files,
+            executables: Vec::new(alloc),
+            table,
+        })
     }
 
     /// Lets an executable stand for the mapped file of that path, where the core has no bytes. Of two with one path the
