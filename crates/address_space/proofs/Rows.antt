@@ -7,6 +7,7 @@ use Rattle.std.proofs.lemmas.List as lists
 use Rattle.std.proofs.lemmas.List.{get_or_default, length-map}
 use Rattle.std.proofs.lemmas.List.Elements.{All-nil, All-cons, All-filter, All-contains, All-map, All-weaker, Contains-append_right, Contains-get_or, at_from_Contains, filter_passes}
 use Rattle.std.proofs.lemmas.List.Sorted.{Contains-permutation, All-permutation}
+use Rattle.std.proofs.lemmas.List.FromFn.{length-enumerate_from, get_or-enumerate_from}
 use Rattle.std.proofs.lemmas.Option.{same_Some, none-some}
 use Rattle.std.proofs.Math.ListN.{get_or-map}
 use Rattle.address_space.specs.Source.{first_from}
@@ -132,6 +133,24 @@ module _ {A : Type 0} (low past : A → ℕ) (takes : ℕ × A → Bool) (taken 
       decided (Some e) h =
           absurd (true≢false (sym (passes (has low past b) 0 ws e h) ∙ All-contains (λ (d : ℕ × A). has low past b d.1 ≡ false) table e none (found_in b e h)))
 
+  -- an item that has an address stands in the table with its number
+  stands_in : (b k : ℕ) (d : A) → k < length ws → has low past b (get_or ws k d) ≡ true → Contains table (k, get_or ws k d)
+  stands_in b k d h has_it =
+      let item : ℕ × A = (k, get_or ws k d) in
+      let long = length-enumerate_from 0 ws in
+      let zero : 0 + k ≡ k = omega arith in
+      let there : get_or (enumerate_from 0 ws) k item ≡ item = get_or-enumerate_from 0 ws k item h ∙ ap {B = ℕ × A} (λ n. (n, get_or ws k (get_or ws k d))) zero ∙ ap {B = ℕ × A} (λ x. (k, x)) (get_or_default ws k (get_or ws k d) d h) in
+      Contains-permutation (filter takes (enumerate_from 0 ws)) table item moved (kept_at takes (enumerate_from 0 ws) item k (omega arith) there (taken item b has_it))
+
+  -- so no two items have one
+  pub never_both : (i j : ℕ) (d : A) (b : ℕ) → i < j → j < length ws → has low past b (get_or ws i d) ≡ true → has low past b (get_or ws j d) ≡ true → ⊥
+  never_both i j d b less h p q =
+      let first = and_parts (leb (low (get_or ws i d)) b) (ltb b (past (get_or ws i d))) p in
+      let second = and_parts (leb (low (get_or ws j d)) b) (ltb b (past (get_or ws j d))) q in
+      let same = one b (i, get_or ws i d) (j, get_or ws j d) (stands_in b i d (omega arith) p) (stands_in b j d h q) (leb-true _ b first.0) (ltb-true b _ first.1) (leb-true _ b second.0) (ltb-true b _ second.1) in
+      let number : i ≡ j = ap (λ (e : ℕ × A). e.0) same in
+      omega arith
+
   -- behind the end of one there is another number
   other_number : (a b : ℕ) (d e : ℕ × A) → answer a ≡ Some d → answer b ≡ Some e → past d.1 ≤ b → d.0 ≡ e.0 → ⊥
   other_number a b d e h g behind_it same =
@@ -180,6 +199,10 @@ module _ {A X : Type 0} (low past : A → ℕ) (takes : ℕ × A → Bool) (take
     where
       get_or_map : (zs : List X) (k : ℕ) (z : X) (d : ℕ × A) → k < length zs → get_or (map view zs) k d ≡ view (get_or zs k z)
       get_or_map zs k z d h = lists.get_or-map view zs k z d h
+
+  pub never_two : (i j : ℕ) (d : A) → i < j → j < length ws → (b : ℕ) → has low past b (get_or ws i d) ≡ true → has low past b (get_or ws j d) ≡ true → ⊥
+  never_two i j d less h b p q =
+      never_both low past takes taken ws (map view rows) moved (viewed rows apart) i j d b less h p q
 
   pub row_found : (a limit m : ℕ) (x : X) → 0 < limit → Contains rows x → first_of x ≤ a → a < end_of x → m ≡ min limit (end_of x - a) → (reply a ≡ Some (view x)) × IsAlike reply a limit m
   row_found a limit m x positive c p q is =

@@ -16,7 +16,7 @@ use Rattle.address_space.specs.Ranges.{IsAlike}
 use Rattle.address_space.specs.ScanWords.{decided_view, past_of}
 use Rattle.address_space.specs.declared.scan.Decided.{Decided}
 use Rattle.address_space.proofs.Pairs.{pairs_kept, pairs_enumerated}
-use Rattle.address_space.proofs.Rows.{row_found, row_missed, some, element}
+use Rattle.address_space.proofs.Rows.{row_found, row_missed, never_two, some, element}
 use Rattle.address_space.proofs.Scanning.{has, has_yes}
 
 abbrev low : SegmentView → ℕ
@@ -50,6 +50,11 @@ module _ (rows : List Decided) (rising : IsNonDecreasingBy (λ (d : Decided). d.
     pub missed : ∥ IsPermutation (taking_from 0 ws) (map decided_view rows) ∥₁ → (a limit m n : ℕ) → 0 < limit → ((k : ℕ) (d : Decided) → k < n → past_of (get_or rows k d) ≤ a) → ((k : ℕ) (d : Decided) → n ≤ k → k < length rows → a < (get_or rows k d).segment.vaddr) → ((d : Decided) → n < length rows → m ≡ min limit ((get_or rows n d).segment.vaddr - a)) → (length rows ≤ n → m ≡ limit) → (first_from (is_covering a) 0 ws ≡ None) × IsAlike (λ b. first_from (is_covering b) 0 ws) a limit m
     missed moved a limit m n positive ended begins before all =
         ∥∥₁_elim moved (hlevel props) (λ l. row_missed low past takes_addresses taken each ws decided_view rows l far a limit n positive ended begins rising m before all)
+
+    -- no two of the program headers cover one address
+    pub disjoint : IsPermutation (taking_from 0 ws) (map decided_view rows) → AreDisjoint ws
+    disjoint moved =
+        never_two low past takes_addresses taken each ws decided_view rows moved far
 
   -- one that begins before the end of the one before
   pub overlapping : (ws : List SegmentView) → IsPermutation (taking_from 0 ws) (map decided_view rows) → (k : ℕ) → k + 1 < length rows → ((d : Decided) → (get_or rows (k + 1) d).segment.vaddr < past_of (get_or rows k d)) → AreDisjoint ws → ⊥

@@ -35,7 +35,7 @@ pub struct AddressSpace<'a> {
 }
 
 impl<'a> AddressSpace<'a> {
-    ghost use Rattle.std.specs.Prelude.{◌≡◌, ◌+◌, ◌^◌, ◌<◌, ◌≤◌, [], IfOk, IsTrue, OnErr, OnOk, length};
+    ghost use Rattle.std.specs.Prelude.{◌≡◌, ◌+◌, ◌^◌, ◌<◌, ◌≤◌, ◌↔◌, [], IfOk, IsTrue, OnErr, OnOk, length};
     ghost use Rattle.address_space.specs.Source.{source_at, mappings_of, with_executable};
     ghost use Rattle.address_space.specs.Disjoint.{AreDisjoint};
     ghost use Rattle.address_space.specs.TableWords.{has_table};
@@ -61,9 +61,10 @@ impl<'a> AddressSpace<'a> {
         }
     }
 
-    /// The same, with a table of the segments sorted by address, in which an address is found in the logarithm of their
-    /// number of steps, where no two of those that are loaded have an address in common. Where two have, it is as `new`
-    /// makes it. Where there is no memory for the table none is made.
+    /// What `new` makes, with a table of the segments, sorted by address, where no two PT_LOADs have an address in common:
+    /// by it the segment of an address is found in a number of steps that is the logarithm of theirs. Where two have one
+    /// in common there is none, and segments are found by a scan, as with `new`. The error is that there is no memory for
+    /// the table.
     #[tactic(auto, unfolding(crate::specs::SpaceWords::space_of))]
     pub fn indexed(
         alloc: Global,
@@ -71,7 +72,7 @@ impl<'a> AddressSpace<'a> {
         files: Option<Files<'a>>,
     ) -> Result<AddressSpace<'a>, AllocError>
         ensures same { IfOk result (λ space. space_of space ≡ space_view elf.now files.entry []) }
-        ensures table { IfOk result (λ space. AreDisjoint (segments_of (image_of elf.now)) → IsTrue (has_table space)) }
+        ensures table { IfOk result (λ space. IsTrue (has_table space) ↔ AreDisjoint (segments_of (image_of elf.now))) }
     {
         let table = Table::of(alloc, elf)?;
         Ok(AddressSpace {
@@ -89,6 +90,7 @@ impl<'a> AddressSpace<'a> {
         ensures ok { OnOk result (space_of self.new
             ≡ with_executable (space_of self.old) path.entry.now (image_of elf.entry)) }
         ensures err { OnErr result (space_of self.new ≡ space_of self.old) }
+        ensures table { has_table self.new ≡ has_table self.old }
     {
         self.executables.push(Executable {
             path,

@@ -1,5 +1,5 @@
 // The segments sorted by address, where no two of them have an address in common.
-ghost use Rattle.std.specs.Prelude.{◌≡◌, ◌+◌, ◌-◌, ◌^◌, ◌<◌, ◌≤◌, ℕ, List, [], ◌++◌, ◌∷◌, map, filter, length, min, slice_index_or, Contains, IfOk, OnOk, IfSome, MatchBool, MatchOption, IsSome};
+ghost use Rattle.std.specs.Prelude.{◌≡◌, ◌+◌, ◌-◌, ◌^◌, ◌<◌, ◌≤◌, ◌↔◌, ℕ, List, [], ◌++◌, ◌∷◌, map, filter, length, min, slice_index_or, Contains, IfOk, OnOk, IfSome, MatchBool, MatchOption, IsSome};
 ghost use Rattle.std.specs.List.{AllAdjacentBelow};
 ghost use Rattle.std.specs.List.Sorted.{IsNonDecreasingBy, IsPermutation};
 ghost use Rattle.std.specs.Option.{option_map, ForSome};
@@ -79,11 +79,12 @@ fn are_apart(rows: &[Decided]) -> bool
 }
 
 impl<'a> Table<'a> {
-    /// The table of an image's segments. There is none where two of them have an address in common.
+    /// The table of an image's segments. There is none where two of them have an address in common. The error is that there
+    /// is no memory for it.
     pub(crate) fn of(alloc: Global, elf: &Elf<'a>) -> Result<Option<Table<'a>>, AllocError>
         ensures whole { IfOk result (λ t. ForSome t (λ t. ∥ IsPermutation (taking_from 0 (segments_of (image_of elf.now)))
             (map decided_view t.rows.items) ∥₁)) }
-        ensures there { IfOk result (λ t. AreDisjoint (segments_of (image_of elf.now)) → IsSome t) }
+        ensures there { IfOk result (λ t. IsSome t ↔ AreDisjoint (segments_of (image_of elf.now))) }
     {
         let rows = sorted(alloc, elf.segments())?;
         if are_apart(&rows) {
