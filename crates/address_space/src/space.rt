@@ -31,7 +31,9 @@ pub struct AddressSpace<'a> {
     pub(crate) files: Option<Files<'a>>,
     pub(crate) executables: Vec<Executable<'a>>,
     pub(crate) table: Option<Table<'a>>,
-    ghost whole: { ForSome table (λ t. ∥ IsPermutation (taking_from 0 (segments_of (image_of elf))) (map decided_view t.rows.items) ∥₁) },
+    /// Its rows are the program headers that take addresses.
+    ghost whole: { ForSome table (λ t. ∥ IsPermutation (taking_from 0 (segments_of (image_of elf)))
+        (map decided_view t.rows.items) ∥₁) },
 }
 
 impl<'a> AddressSpace<'a> {

@@ -20,7 +20,9 @@ use std::alloc::{AllocError, Global};
 #[derive(Debug, Drop)]
 pub(crate) struct Table<'a> {
     pub(crate) rows: Vec<Decided<'a>>,
+    /// They are sorted by address.
     ghost rising: { IsNonDecreasingBy (λ d. d.segment.vaddr) rows.items },
+    /// Each ends before the next begins.
     ghost apart: { AllAdjacentBelow (λ d e. past_of d ≤ e.segment.vaddr) rows.items (length rows.items) },
 }
 
@@ -66,8 +68,8 @@ fn are_apart(rows: &[Decided]) -> bool
     requires { IsNonDecreasingBy (λ d. d.segment.vaddr) rows.now }
     ensures { MatchBool result
         (AllAdjacentBelow (λ d e. past_of d ≤ e.segment.vaddr) rows.now (length rows.now))
-        ((k : ℕ) × (k + 1 < length rows.now) × ((d : scanned.Decided) → (slice_index_or rows.now (k + 1) d).segment.vaddr
-        < past_of (slice_index_or rows.now k d))) }
+        ((k : ℕ) × (k + 1 < length rows.now) × ((d : scanned.Decided)
+        → (slice_index_or rows.now (k + 1) d).segment.vaddr < past_of (slice_index_or rows.now k d))) }
 {
     for next in 1..rows.len() {
         let row = rows[next - 1];
@@ -79,8 +81,8 @@ fn are_apart(rows: &[Decided]) -> bool
 }
 
 impl<'a> Table<'a> {
-    /// The table of an image's segments. There is none where two of them have an address in common. The error is that there
-    /// is no memory for it.
+    /// The table of an image's segments. There is none where two of them have an address in common. The error is that
+    /// there is no memory for it.
     pub(crate) fn of(alloc: Global, elf: &Elf<'a>) -> Result<Option<Table<'a>>, AllocError>
         ensures whole { IfOk result (λ t. ForSome t (λ t. ∥ IsPermutation (taking_from 0 (segments_of (image_of elf.now)))
             (map decided_view t.rows.items) ∥₁)) }
@@ -96,7 +98,8 @@ impl<'a> Table<'a> {
     /// How many of them begin at an address or below it.
     fn count_to(&self, at: u64) -> usize
         ensures within { result ≤ length self.now.rows.items }
-        ensures below { (k : ℕ) (d : scanned.Decided) → k < result → (slice_index_or self.now.rows.items k d).segment.vaddr ≤ at }
+        ensures below { (k : ℕ) (d : scanned.Decided) → k < result
+            → (slice_index_or self.now.rows.items k d).segment.vaddr ≤ at }
         ensures above { (k : ℕ) (d : scanned.Decided) → result ≤ k → k < length self.now.rows.items
             → at < (slice_index_or self.now.rows.items k d).segment.vaddr }
     {
