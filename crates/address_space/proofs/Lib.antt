@@ -9,3 +9,6 @@ pub mod Finding
 pub mod Numbers
 pub mod Texts
 pub mod Coverings
+pub mod Rows
+pub mod Pairs
+pub mod Sorting

@@ -1,10 +1,12 @@
 pub mod Source
+pub mod Disjoint
 pub mod Pieces
 pub mod Occurrence
 pub mod Ranges
 pub mod ScanWords
 pub mod SourceWords
 pub mod SpaceWords
+pub mod TableWords
 pub mod PieceWords
 pub mod CursorWords
 pub mod FindWords

@@ -12,6 +12,7 @@ mod scan;
 mod source;
 mod space;
 mod strings;
+mod table;
 mod words;
 
 pub use find::Matches;

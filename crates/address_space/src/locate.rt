@@ -96,7 +96,10 @@ impl<'a> AddressSpace<'a> {
         ensures alike { IsAlike (source.decider (space_of self.now)) at limit result.1 }
         ensures covers { IfSome result.0 (λ d. d.segment.vaddr ≤ at) }
     {
-        first_segment(self.elf.segments(), at, limit)
+        match &self.table {
+            Some(table) => table.decide(at, limit),
+            None => first_segment(self.elf.segments(), at, limit),
+        }
     }
 
     /// What stands at addresses of a segment that has no bytes for them, and how many of the `limit` are of one place.

@@ -1,9 +1,18 @@
 // The address space of a core.
+ghost use Rattle.std.specs.Prelude.{map};
+ghost use Rattle.std.specs.List.Sorted.{IsPermutation};
+ghost use Rattle.std.specs.Option.{ForSome};
+ghost use Rattle.elf_view.specs.Header.{segments_of};
+ghost use Rattle.elf_view.specs.ViewWords.{image_of};
+ghost use Rattle.address_space.specs.Disjoint.{taking_from};
+ghost use Rattle.address_space.specs.ScanWords.{decided_view};
+
 use crate::find::Matches;
 use crate::mappings::Mappings;
 use crate::pieces::Pieces;
 use crate::source::{PieceKind, Source};
 use crate::strings::Strings;
+use crate::table::Table;
 use core_notes::Files;
 use elf_view::Elf;
 use std::alloc::{AllocError, Global};
@@ -21,12 +30,17 @@ pub struct AddressSpace<'a> {
     pub(crate) elf: Elf<'a>,
     pub(crate) files: Option<Files<'a>>,
     pub(crate) executables: Vec<Executable<'a>>,
+    pub(crate) table: Option<Table<'a>>,
+    /// Its rows are the program headers that take addresses.
+    ghost whole: { ForSome table (λ t. ∥ IsPermutation (taking_from 0 (segments_of (image_of elf)))
+        (map decided_view t.rows.items) ∥₁) },
 }
 
 impl<'a> AddressSpace<'a> {
-    ghost use Rattle.std.specs.Prelude.{◌≡◌, ◌+◌, ◌^◌, ◌<◌, ◌≤◌, [], OnErr, OnOk, length};
+    ghost use Rattle.std.specs.Prelude.{◌≡◌, ◌+◌, ◌^◌, ◌<◌, ◌≤◌, ◌↔◌, [], IfOk, IsTrue, OnErr, OnOk, length};
     ghost use Rattle.address_space.specs.Source.{source_at, mappings_of, with_executable};
-    ghost use Rattle.elf_view.specs.ViewWords.{image_of};
+    ghost use Rattle.address_space.specs.Disjoint.{AreDisjoint};
+    ghost use Rattle.address_space.specs.TableWords.{has_table};
     ghost use Rattle.address_space.specs.Pieces.{pieces_of};
     ghost use Rattle.address_space.specs.Occurrence.{occurrences, strings_of};
     ghost use Rattle.address_space.specs.SourceWords.{source_view};
@@ -45,7 +59,30 @@ impl<'a> AddressSpace<'a> {
             elf: *elf,
             files,
             executables: Vec::new(alloc),
+            table: None,
         }
+    }
+
+    /// What `new` makes, with a table of the segments, sorted by address, where no two PT_LOADs have an address in common:
+    /// by it the segment of an address is found in a number of steps that is the logarithm of theirs. Where two have one
+    /// in common there is none, and segments are found by a scan, as with `new`. The error is that there is no memory for
+    /// the table.
+    #[tactic(auto, unfolding(crate::specs::SpaceWords::space_of))]
+    pub fn indexed(
+        alloc: Global,
+        elf: &Elf<'a>,
+        files: Option<Files<'a>>,
+    ) -> Result<AddressSpace<'a>, AllocError>
+        ensures same { IfOk result (λ space. space_of space ≡ space_view elf.now files.entry []) }
+        ensures table { IfOk result (λ space. IsTrue (has_table space) ↔ AreDisjoint (segments_of (image_of elf.now))) }
+    {
+        let table = Table::of(alloc, elf)?;
+        Ok(AddressSpace {
+            elf: *elf,
+            files,
+            executables: Vec::new(alloc),
+            table,
+        })
     }
 
     /// Lets an executable stand for the mapped file of that path, where the core has no bytes. Of two with one path the
@@ -55,6 +92,7 @@ impl<'a> AddressSpace<'a> {
         ensures ok { OnOk result (space_of self.new
             ≡ with_executable (space_of self.old) path.entry.now (image_of elf.entry)) }
         ensures err { OnErr result (space_of self.new ≡ space_of self.old) }
+        ensures table { has_table self.new ≡ has_table self.old }
     {
         self.executables.push(Executable {
             path,

@@ -2,6 +2,12 @@
 #![tactic(auto)]
 
 #[cfg(test)]
+mod attached;
+#[cfg(test)]
 mod memory;
+#[cfg(test)]
+mod refused;
+#[cfg(test)]
+mod shown;
 #[cfg(test)]
 mod small;

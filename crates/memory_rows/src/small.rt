@@ -1,4 +1,4 @@
-//! Every core of at most three segments with bounds among 0 to 4.
+//! Every core of at most three segments with bounds among 0 to 4, with and without a table of the segments.
 use address_space::{AddressSpace, Source};
 use elf_view::sample::{LoadPart, core_image};
 use elf_view::{Elf, Want};
@@ -63,11 +63,13 @@ fn the_first_segment_decides_in_each_small_core(rt: HostRuntime) -> Result<(), F
         ];
         let image = core_image(rt.alloc(), &[], &loads)?;
         let elf = Elf::read(&image, Want::Core).ok().ok_or("refused")?;
-        let space = AddressSpace::new(rt.alloc(), &elf, None);
+        let plain = AddressSpace::new(rt.alloc(), &elf, None);
+        let indexed = AddressSpace::indexed(rt.alloc(), &elf, None)?;
         for address in 0..6 {
+            let want = wanted(first, second, third, address);
             assert_eq!(rt;
-                found(&space, address),
-                wanted(first, second, third, address),
+                (found(&plain, address), found(&indexed, address)),
+                (want, want),
                 "core {number}"
             );
         }

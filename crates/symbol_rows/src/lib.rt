@@ -7,3 +7,5 @@ mod faults;
 mod lookups;
 #[cfg(test)]
 mod real;
+#[cfg(test)]
+mod refused;

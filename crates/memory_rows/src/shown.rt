@@ -1,0 +1,108 @@
+//! What tests compare of an address space.
+use address_space::{AddressSpace, FileSpot, Mapping, Piece, PieceKind, Source};
+use elf_view::{Elf, Want};
+
+/// How many addresses there are.
+const ADDRESSES: u128 = 0x1_0000_0000_0000_0000;
+
+/// A piece: its kind, first address and length; its bytes or the name of the file that is mapped there; its place in the
+/// file.
+pub(crate) type Shown<'a> = (&'static str, u64, u64, &'a [u8], u64);
+
+/// What stands at a piece.
+fn shown(piece: Piece<'_>) -> Shown<'_> {
+    let (kind, bytes, offset): (&str, &[u8], u64) = match piece.kind {
+        PieceKind::Bytes(bytes) => ("held", bytes, 0),
+        PieceKind::FromFile(bytes) => ("from a file", bytes, 0),
+        PieceKind::NotDumped(Some(FileSpot { name, offset })) => ("not dumped", name, offset),
+        PieceKind::NotDumped(None) => ("not dumped", &[], 0),
+        PieceKind::Cut => ("cut", &[], 0),
+        PieceKind::Unmapped => ("unmapped", &[], 0),
+    };
+    (kind, piece.first, piece.length, bytes, offset)
+}
+
+/// The first three pieces of a range, or none where it goes past the last address.
+pub(crate) fn pieces_of<'a>(
+    space: &AddressSpace<'a>,
+    first: u64,
+    length: u64,
+) -> [Option<Shown<'a>>; 3] {
+    if u128::from(first) + u128::from(length) > ADDRESSES {
+        return [None; 3];
+    }
+    let mut pieces = space.pieces(first, length);
+    [
+        pieces.next().map(shown),
+        pieces.next().map(shown),
+        pieces.next().map(shown),
+    ]
+}
+
+/// The first four places of a needle, which is not empty.
+pub(crate) fn found(space: &AddressSpace<'_>, needle: &[u8]) -> [Option<u64>; 4] {
+    if needle.is_empty() {
+        return [None; 4];
+    }
+    let mut matches = space.find(needle);
+    [
+        matches.next(),
+        matches.next(),
+        matches.next(),
+        matches.next(),
+    ]
+}
+
+/// The first four texts of at least that length.
+pub(crate) fn texts(space: &AddressSpace<'_>, least: u64) -> [Option<(u64, u128)>; 4] {
+    let mut texts = space.strings(least);
+    [texts.next(), texts.next(), texts.next(), texts.next()]
+}
+
+/// What stands at an address: its byte, or a word.
+pub(crate) fn source_of(space: &AddressSpace<'_>, address: u64) -> (&'static str, u8) {
+    match space.at(address) {
+        Source::Byte(byte) => ("byte", byte),
+        Source::FromFile(byte) => ("from a file", byte),
+        Source::NotDumped(_) => ("not dumped", 0),
+        Source::Cut => ("cut", 0),
+        Source::Unmapped => ("unmapped", 0),
+    }
+}
+
+/// A mapping: where it begins, how many addresses it has, its flags and how many bytes it is to have; the name of its file
+/// and its place there.
+pub(crate) type Told<'a> = (u64, u64, u32, u64, Option<(&'a [u8], u64)>);
+
+/// What a mapping tells.
+fn told(mapping: Mapping<'_>) -> Told<'_> {
+    let spot = match mapping.spot {
+        Some(FileSpot { name, offset }) => Some((name, offset)),
+        None => None,
+    };
+    (
+        mapping.start,
+        mapping.memsz,
+        mapping.flags,
+        mapping.filesz,
+        spot,
+    )
+}
+
+/// The first three mappings.
+pub(crate) fn mappings_of<'a>(space: &AddressSpace<'a>) -> [Option<Told<'a>>; 3] {
+    let mut mappings = space.mappings();
+    [
+        mappings.next().map(told),
+        mappings.next().map(told),
+        mappings.next().map(told),
+    ]
+}
+
+/// Attaches an executable as `/bin/cat`, and says whether there was memory for it.
+pub(crate) fn attach_cat<'a>(space: &mut AddressSpace<'a>, file: &'a [u8]) -> bool {
+    match Elf::read(file, Want::Exec) {
+        Ok(exec) => space.attach(b"/bin/cat", exec).is_ok(),
+        Err(_) => false,
+    }
+}
