@@ -9,8 +9,8 @@ use Rattle.disk_model.specs.declared.disk.Disk as disk
 use Rattle.intake.specs.Contents.{Taken}
 use Rattle.intake.specs.Durable.{Durable, StandsFor, durable_of}
 use Rattle.intake.specs.Lasting.{WhatStandsIsOne}
-use Rattle.intake.specs.Lives.{Life, IsLived, AreLived, last_acknowledged}
-use Rattle.intake.specs.Marks.{Mark, IsOneOf, Has, FindsOne, Run, IsSettled, FoundAfterAStop, last_of}
+use Rattle.intake.specs.Lives.{KeptOverManyStops, Life, IsLived, AreLived, last_acknowledged}
+use Rattle.intake.specs.Marks.{Mark, IsOneOf, Has, FindsOne, HasOne, Run, IsSettled, FoundAfterAStop, last_of}
 use Rattle.intake.specs.State.{Bare}
 use Rattle.inspector_cli.specs.declared.session.Naming.{Naming}
 use Rattle.inspector_cli.specs.Said.{Said, end_of}
@@ -112,12 +112,12 @@ module _ {D : Type 0} (g : disk.Ghosts D) (naming : Naming) where
         let m = lasts.finish old.archive new.archive slot seq stands.honest call in
         let runs : old.archive.stopped ≡ false = call.step.2.0 in
         let same : seq ≡ n = told_once seq n (let below = call.step.5 in let at = call.step.6 in omega (arith, below, at)) number (sym answered ∙ told) in
-        let taken : taken_at g slot old.archive ≡ Some m.1.bytes = ap (option_map (λ (t : Taken). t.bytes)) m.3 in
+        let taken : taken_at g slot old.archive ≡ Some m.1.1.bytes = ap (option_map (λ (t : Taken). t.bytes)) m.1.3 in
         let halts = line_halts g naming old.archive new.archive (end_of slot) raw reply (stored, (Ok seq, call, answered, is)) in
         record {
-          bytes = m.1.bytes;
+          bytes = m.1.1.bytes;
           is = ⊎_elim (λ stopped. absurd (false≢true (sym runs ∙ stopped))) (λ holds. sym holds ∙ taken) stands.has;
-          has = subst (HasImage n m.1.bytes) (sym m.4) (_, among_last (durable_of g.seen old.archive).cases _, sym call.step.6 ∙ same, refl);
+          has = subst (HasImage n m.1.1.bytes) (sym m.1.5) (_, among_last (durable_of g.seen old.archive).cases _, sym call.step.6 ∙ same, refl);
           none = clear_on g old new (end_of slot) reply stands.clear halts moves (ap (λ (b : Bare). b.stopped) call.step.7 ∙ runs);
         }
 
@@ -146,7 +146,7 @@ length_mapped : {X Y : Type 0} (f : X → Y) (xs : List X) → length (map f xs)
 length_mapped f [] = refl
 length_mapped f (x ∷ xs) = ap suc (length_mapped f xs)
 
-module _ {D : Type 0} (g : disk.Ghosts D) (lasts : Lasts g) (law : FoundAfterAStop g) (one : WhatStandsIsOne) (n : ℕ) (bytes : List ℕ) where
+module _ {D : Type 0} (g : disk.Ghosts D) (lasts : Lasts g) (law : FoundAfterAStop g) (one : WhatStandsIsOne) (kept : KeptOverManyStops g) (n : ℕ) (bytes : List ℕ) where
   abbrev HoldsIt : Mark D → Type 0
   HoldsIt m = HasImage n bytes m.durable × AllByRecursion (HasImage n bytes) m.in_doubt
 
@@ -154,9 +154,11 @@ module _ {D : Type 0} (g : disk.Ghosts D) (lasts : Lasts g) (law : FoundAfterASt
   doubt_has [] x all is = absurd is
   doubt_has (y ∷ ys) x all is = ⊎_elim (λ same. subst (HasImage n bytes) (sym same) all.0) (λ there. doubt_has ys x all.1 there) is
 
+  at_mark : (m : Mark D) (x : Durable) → HoldsIt m → Has m x → HasImage n bytes x
+  at_mark m x holds has = ⊎_elim (λ is. subst (HasImage n bytes) (sym is) holds.0) (λ is. doubt_has m.in_doubt x holds.1 is) has
+
   mark_has : (m : Mark D) (c : List ℕ) (x : Durable) → HoldsIt m → StandsFor c x → (y : Durable) × StandsFor c y × Has m y → HasImage n bytes x
-  mark_has m c x holds stands (y, found, has) =
-      subst (HasImage n bytes) (one c y x found stands) (⊎_elim (λ is. subst (HasImage n bytes) (sym is) holds.0) (λ is. doubt_has m.in_doubt y holds.1 is) has)
+  mark_has m c x holds stands (y, found, has) = subst (HasImage n bytes) (one c y x found stands) (at_mark m y holds has)
 
   marks_have : (m : Mark D) (ns : List (Mark D)) (c : List ℕ) (x : Durable) → HoldsIt m → AllByRecursion HoldsIt ns → StandsFor c x → FindsOne c m ns → HasImage n bytes x
   marks_have m [] c x holds all stands found = mark_has m c x holds stands found
@@ -180,23 +182,29 @@ module _ {D : Type 0} (g : disk.Ghosts D) (lasts : Lasts g) (law : FoundAfterASt
   first_life l [] lived = lived
   first_life l (k ∷ ks) lived = lived.0
 
-  later_find : (l : Life D) (ls : List (Life D)) (ss : List (Session D)) → AreLived g l ls → FindsImage g n bytes l → Spared g n ss ls → AllByRecursion (FindsImage g n bytes) (l ∷ ls)
-  later_find l [] [] lived finds spared = (finds, tt)
-  later_find l [] (s ∷ ss) lived finds spared = absurd spared
-  later_find l (k ∷ ks) [] lived finds spared = absurd spared
-  later_find l (k ∷ ks) (s ∷ ss) lived finds spared =
+  -- what a life begins with is what one of these marks has
+  begins_with : (m : Mark D) (ns : List (Mark D)) (x : Durable) → HoldsIt m → AllByRecursion HoldsIt ns → HasOne m ns x → HasImage n bytes x
+  begins_with m [] x holds all has = at_mark m x holds has
+  begins_with m (k ∷ ks) x holds all has = ⊎_elim (λ here. at_mark m x holds here) (λ there. begins_with k ks x all.0 all.1 there) has
+
+  later_find : (l : Life D) (ls : List (Life D)) (ss : List (Session D)) → AreLived g l ls → HoldsIt (last_acknowledged l) → AllByRecursion HoldsIt l.later → Spared g n ss ls → AllByRecursion (FindsImage g n bytes) (l ∷ ls)
+  later_find l [] [] lived holds all spared = (life_finds l lived holds all, tt)
+  later_find l [] (s ∷ ss) lived holds all spared = absurd spared
+  later_find l (k ∷ ks) [] lived holds all spared = absurd spared
+  later_find l (k ∷ ks) (s ∷ ss) lived holds all spared =
       let life = first_life k ks lived.2 in
-      let is = spared.3.0 in
-      let has : HasImage n bytes k.first.durable = finds lived.1.left k.first.durable lived.1.stop lived.1.found in
+      let is = spared.2.0 in
+      let has : HasImage n bytes k.first.durable = begins_with (last_acknowledged l) l.later k.first.durable holds all (kept l (k ∷ ks) lived).0 in
+      let clear : s.first.in_doubt ≡ [] = ap (λ (m : Mark D). m.in_doubt) (sym is ∙ lived.1.first) in
       let begins : HoldsIt (mark_at g.seen s.first) = (
         subst (λ (m : Mark D). HasImage n bytes m.durable) is has,
-        subst (AllByRecursion (HasImage n bytes)) (sym spared.1) tt,
+        subst (AllByRecursion (HasImage n bytes)) (sym clear) tt,
       ) in
       let honest : IsTrue (g.is_honest s.first.archive.disk) = subst (λ (m : Mark D). IsTrue (g.is_honest m.disk)) is life.honest in
-      let all = rest_keeps n bytes g lasts s s.first s.answers s.stages spared.0.answered spared.2 (honest, begins) spared.0.finishes spared.0.moves spared.0.closes.stays in
-      let marks : AllByRecursion HoldsIt (k.acknowledged ++ k.later) = subst (AllByRecursion HoldsIt) (sym spared.3.1) all in
+      let rest = rest_keeps n bytes g lasts s s.first s.answers s.stages spared.0.answered spared.1 (honest, begins) spared.0.finishes spared.0.moves spared.0.closes.stays in
+      let marks : AllByRecursion HoldsIt (k.acknowledged ++ k.later) = subst (AllByRecursion HoldsIt) (sym spared.2.1) rest in
       let parts = split HoldsIt k.first k.acknowledged k.later (subst HoldsIt (sym is) begins) marks in
-      (finds, later_find k ks ss lived.2 (life_finds k life parts.0 parts.1) spared.4)
+      (life_finds l lived.0 holds all, later_find k ks ss lived.2 parts.0 parts.1 spared.3)
 
 -- the session in which the case is stored
 module _ {D : Type 0} (g : disk.Ghosts D) (lasts : Lasts g) (s : Session D) (n : ℕ) (honest : IsTrue (g.is_honest s.first.archive.disk)) (had : IsHad g s) (fresh : IsFresh s) (t : Stored s n) where
@@ -225,9 +233,9 @@ module _ {D : Type 0} (g : disk.Ghosts D) (lasts : Lasts g) (s : Session D) (n :
   pub has_parts : (bytes : List ℕ) × (parts_in t.slot t.before ≡ Some bytes)
   has_parts = (added.bytes, added.is)
 
-  module _ (law : FoundAfterAStop g) (one : WhatStandsIsOne) (bytes : List ℕ) (are : parts_in t.slot t.before ≡ Some bytes) (spares : Spares s n t.after) (l : Life D) (is : IsLifeOf g.seen s.first s.stages s.end s.closed l)
+  module _ (law : FoundAfterAStop g) (one : WhatStandsIsOne) (kept : KeptOverManyStops g) (bytes : List ℕ) (are : parts_in t.slot t.before ≡ Some bytes) (spares : Spares s n t.after) (l : Life D) (is : IsLifeOf g.seen s.first s.stages s.end s.closed l)
       (answered : length t.before < length l.acknowledged) where
-    here_holds : HoldsIt g lasts law one n bytes (mark_at g.seen cut.here)
+    here_holds : HoldsIt g lasts law one kept n bytes (mark_at g.seen cut.here)
     here_holds = (
       subst (λ (b : List ℕ). HasImage n b (durable_of g.seen cut.here.archive)) (some_is added.bytes bytes (sym added.is ∙ are)) added.has,
       subst (AllByRecursion (HasImage n bytes)) (sym added.none) tt,
@@ -239,7 +247,7 @@ module _ {D : Type 0} (g : disk.Ghosts D) (lasts : Lasts g) (s : Session D) (n :
     marks_cut : l.acknowledged ++ l.later ≡ map (mark_at g.seen) cut.front ++ back
     marks_cut = is.1 ∙ ap (λ (x : List (Stage D)). marks_of g.seen x s.end s.closed) cut.is ∙ mapped_cut (mark_at g.seen) cut.front (cut.here ∷ cut.rest) (marks_of g.seen [] s.end s.closed)
 
-    all_hold : AllByRecursion (HoldsIt g lasts law one n bytes) back
+    all_hold : AllByRecursion (HoldsIt g lasts law one kept n bytes) back
     all_hold =
         let ends : last_stage s.first s.stages ≡ last_stage cut.here cut.rest = ap (last_stage s.first) cut.is ∙ last_cut g s.naming s.first cut.front cut.here cut.rest in
         let honest_here : IsTrue (g.is_honest cut.here.archive.disk) = cut.moves.passes.honesty ∙ stands.honest in (
@@ -249,16 +257,16 @@ module _ {D : Type 0} (g : disk.Ghosts D) (lasts : Lasts g) (s : Session D) (n :
               (subst (λ (x : Stage D). Moves g x s.last s.reply s.end) ends had.moves) had.closes.stays,
         )
 
-    pub stored_finds : IsLived g l → FindsImage g n bytes l
-    stored_finds lived =
+    pub stored_holds : HoldsIt g lasts law one kept n bytes (last_acknowledged l) × AllByRecursion (HoldsIt g lasts law one kept n bytes) l.later
+    stored_holds =
         let long : length (map (mark_at g.seen) cut.front) ≡ length t.before = length_mapped (mark_at g.seen) cut.front ∙ cut.long in
-        let parts = behind (HoldsIt g lasts law one n bytes) l.first (map (mark_at g.seen) cut.front) back l.acknowledged l.later marks_cut (omega (arith, long, answered)) all_hold in
-        life_finds g lasts law one n bytes l lived parts.0 parts.1
+        behind (HoldsIt g lasts law one kept n bytes) l.first (map (mark_at g.seen) cut.front) back l.acknowledged l.later marks_cut (omega (arith, long, answered)) all_hold
 
-pub stored_found : {D : Type 0} (g : disk.Ghosts D) (lasts : Lasts g) (law : FoundAfterAStop g) (one : WhatStandsIsOne) (s : Session D) (later : List (Session D)) (l : Life D) (ls : List (Life D)) (n : ℕ) (bytes : List ℕ) (t : Stored s n)
+pub stored_found : {D : Type 0} (g : disk.Ghosts D) (lasts : Lasts g) (law : FoundAfterAStop g) (one : WhatStandsIsOne) (kept : KeptOverManyStops g) (s : Session D) (later : List (Session D)) (l : Life D) (ls : List (Life D)) (n : ℕ) (bytes : List ℕ) (t : Stored s n)
     → IsHad g s → IsFresh s → Spares s n t.after → parts_in t.slot t.before ≡ Some bytes → IsLifeOf g.seen s.first s.stages s.end s.closed l → length t.before < length l.acknowledged
     → Spared g n later ls → AreLived g l ls → AllByRecursion (FindsImage g n bytes) (l ∷ ls)
-stored_found {D} g lasts law one s later l ls n bytes t had fresh spares are is answered spared lived =
-    let life = first_life g lasts law one n bytes l ls lived in
-    let honest : IsTrue (g.is_honest s.first.archive.disk) = subst (λ (m : Mark D). IsTrue (g.is_honest m.disk)) is.0 life.honest in
-    later_find g lasts law one n bytes l ls later lived (stored_finds g lasts s n honest had fresh t law one bytes are spares l is answered life) spared
+stored_found g lasts law one kept s later l ls n bytes t had fresh spares are is answered spared lived =
+    let life = first_life g lasts law one kept n bytes l ls lived in
+    let honest : IsTrue (g.is_honest s.first.archive.disk) = subst (λ (m : Mark _). IsTrue (g.is_honest m.disk)) is.0 life.honest in
+    let holds = stored_holds g lasts s n honest had fresh t law one kept bytes are spares l is answered in
+    later_find g lasts law one kept n bytes l ls later lived holds.0 holds.1 spared

@@ -87,8 +87,8 @@ has_line n (seq ∷ seqs) rest among =
     (eqb_tells n seq)
 
 module _ (n : ℕ) (bytes : List ℕ) where
-  pub with_case_keeps : (x : Durable) (s : BareStream) (image : List ℕ) → HasImage n bytes x → HasImage n bytes (with_case x s image)
-  with_case_keeps x s image (c, among, seq, is) = (c, among_more x.cases _ c among, seq, is)
+  pub with_case_keeps : (x : Durable) (s : BareStream) (runs : ℕ) (image : List ℕ) → HasImage n bytes x → HasImage n bytes (with_case x s runs image)
+  with_case_keeps x s runs image (c, among, seq, is) = (c, among_more x.cases _ c among, seq, is)
 
   without_keeps : (x : Durable) (seqs : List ℕ) → is_among seqs n ≡ false → HasImage n bytes x → HasImage n bytes (without x seqs)
   without_keeps x seqs apart (c, among, seq, is) =
@@ -126,7 +126,7 @@ module _ (n : ℕ) (bytes : List ℕ) where
     line_keeps old new (part_of slot k) raw reply honest r spares has = stays_keeps old new honest r.1.stays has
     line_keeps old new (end_of slot) raw reply honest (stored, (Ok seq, call, told, is)) spares has =
         let m = lasts.finish old new slot seq honest call in
-        subst (HasImage n bytes) (sym m.4) (with_case_keeps (durable_of g.seen old) m.0 m.1.bytes has)
+        subst (HasImage n bytes) (sym m.1.5) (with_case_keeps (durable_of g.seen old) m.1.0 m.0 m.1.1.bytes has)
     line_keeps old new (end_of slot) raw reply honest (stored, (Err f, call, told, is)) spares has = same_keeps old new (lasts.refusals old new f honest (inl (slot, call))) has
     line_keeps old new (drop_of slot) raw reply honest r spares has = stays_keeps old new honest r.1.stays has
     line_keeps old new (delete_of seq) raw reply honest (Ok u, call, told) spares has =
@@ -157,7 +157,7 @@ module _ (n : ℕ) (bytes : List ℕ) where
     doubt_keeps old (begin_exec slot name) reply x told spares has may = absurd may
     doubt_keeps old (begin_core slot process) reply x told spares has may = absurd may
     doubt_keeps old (part_of slot k) reply x told spares has may = absurd may
-    doubt_keeps old (end_of slot) reply x told spares has may = subst (HasImage n bytes) (sym may.4) (with_case_keeps (durable_of g.seen old) may.0 may.1.bytes has)
+    doubt_keeps old (end_of slot) reply x told spares has may = subst (HasImage n bytes) (sym may.1.5) (with_case_keeps (durable_of g.seen old) may.1.0 may.0 may.1.1.bytes has)
     doubt_keeps old (drop_of slot) reply x told spares has may = absurd may
     doubt_keeps old (delete_of seq) reply x told spares has may =
         subst (HasImage n bytes) (sym may) (without_keeps (durable_of g.seen old) (seq ∷ []) (one_apart seq n (λ is. spares (is, inr told))) has)

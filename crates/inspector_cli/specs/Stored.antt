@@ -64,7 +64,7 @@ Spared g n [] [] = Unit {0}
 Spared g n [] (l ∷ ls) = ⊥
 Spared g n (s ∷ ss) [] = ⊥
 Spared g n (s ∷ ss) (l ∷ ls) =
-    IsHad g s × (s.first.in_doubt ≡ []) × Spares s n s.answers × IsLifeOf g.seen s.first s.stages s.end s.closed l × Spared g n ss ls
+    IsHad g s × Spares s n s.answers × IsLifeOf g.seen s.first s.stages s.end s.closed l × Spared g n ss ls
 
 -- Whenever the machine stops in this life, since its last acknowledgement, an opening of what is left finds the case with these
 -- bytes.

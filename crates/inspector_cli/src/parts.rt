@@ -57,8 +57,9 @@ fn take_part<I: Input, O: Output, D: Disk>(
     let mut verdict = archive.advance(slot, 0);
     let mut missing = count;
     while missing > 0 {
-        let (taken, answer) =
-            take_piece(slot, missing, verdict, buffer, input, reply, output, archive)?;
+        let (taken, answer) = take_piece(
+            slot, missing, verdict, buffer, input, reply, output, archive,
+        )?;
         verdict = answer;
         if taken == 0 {
             return Ok((missing, verdict));

@@ -112,6 +112,12 @@ impl From<BadShape> for Refusal {
     }
 }
 
+impl From<AllocError> for Refusal {
+    fn from(_: AllocError) -> Self {
+        Refusal::OutOfMemory
+    }
+}
+
 impl From<FormatFault> for Refusal {
     fn from(fault: FormatFault) -> Self {
         match fault {
