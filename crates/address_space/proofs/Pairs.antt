@@ -15,6 +15,7 @@ AnyTwo {X} R xs = (i j : ℕ) (d : X) → i < length xs → j < length xs → (i
 abbrev IsFrom : ℕ → ℕ → ℕ → ℕ → Type 0
 IsFrom a b i s = (i ≡ a → s ≡ b) × (i ≡ b → s ≡ a) × ((i ≡ a → ⊥) → (i ≡ b → ⊥) → s ≡ i)
 
+-- two places come from two
 still_two : (a b i j s t : ℕ) → (i ≡ j → ⊥) → IsFrom a b i s → IsFrom a b j t → s ≡ t → ⊥
 still_two a b i j s t ne p q e =
     let p0 = p.0 in
@@ -26,6 +27,7 @@ still_two a b i j s t ne p q e =
     grind arith
 
 module _ {X : Type 0} (R : X → X → Type 0) (flips : (x y : X) → R x y → R y x) where
+  -- where it does not matter which of two is first
   any_two : (xs : List X) → AllPairs R xs → AnyTwo R xs
   any_two xs all i j d p q ne = elim (cases_lt i j) as (λ _. R (get_or xs i d) (get_or xs j d)) [
     | inl less ↦ all i j d less q
@@ -44,6 +46,7 @@ module _ {X : Type 0} (R : X → X → Type 0) (flips : (x y : X) → R x y → 
         ]
       ]
 
+  -- it holds still when two change places
   swapped : (xs : List X) (a b : ℕ) → a < length xs → b < length xs → AnyTwo R xs → AnyTwo R (swap xs a b)
   swapped xs a b p q all i j d h g ne =
       let long = length-swap xs a b in
@@ -52,11 +55,13 @@ module _ {X : Type 0} (R : X → X → Type 0) (flips : (x y : X) → R x y → 
       let two = all s.0 t.0 d s.1 t.1 (still_two a b i j s.0 t.0 ne s.3 t.3) in
       subst (λ x. R x (get_or (swap xs a b) j d)) (sym s.2) (subst (λ y. R (get_or xs s.0 d) y) (sym t.2) two)
 
+  -- and in any other order
   pub pairs_kept : (xs ys : List X) → IsPermutation xs ys → AllPairs R xs → AllPairs R ys
   pairs_kept xs ys moved all =
       let two = IsPermutation-keeps xs (AnyTwo R) (any_two xs all) (λ l a b p q h. swapped l a b p q h) ys moved in
       λ i j d less h. two i j d (omega arith) h (λ e. omega arith)
 
+-- and of the elements with their numbers
 pub pairs_enumerated : {X : Type 0} (R : X → X → Type 0) (n : ℕ) (xs : List X) → AllPairs R xs → AllPairs (λ (d e : ℕ × X). R d.1 e.1) (enumerate_from n xs)
 pairs_enumerated {X = X} R n xs all i j d less h =
     let long = length-enumerate_from n xs in

@@ -37,6 +37,7 @@ numbered {A = A} test i (x ∷ xs) d h = elim (cases_Bool (test x)) as (λ _. (i
       (omega arith, λ z. ap (λ k. get_or (x ∷ xs) k z) up ∙ rest.1 z)
 ]
 
+-- it is one of the items, with its number
 listed : {A : Type 0} (test : A → Bool) (i : ℕ) (xs : List A) (d : ℕ × A) → first_from test i xs ≡ Some d → Contains (enumerate_from i xs) d
 listed test i [] d h = absurd (none-some d h)
 listed {A = A} test i (x ∷ xs) d h = elim (cases_Bool (test x)) as (λ _. Contains (enumerate_from i (x ∷ xs)) d) [
@@ -44,6 +45,7 @@ listed {A = A} test i (x ∷ xs) d h = elim (cases_Bool (test x)) as (λ _. Cont
   | inr fails ↦ Contains-append_right ((i, x) ∷ []) (enumerate_from (i + 1) xs) d (listed test (i + 1) xs d (sym (first_no test i x xs fails) ∙ h))
 ]
 
+-- where nothing is found none passes
 none_passes : {A : Type 0} (test : A → Bool) (i : ℕ) (xs : List A) → first_from test i xs ≡ None → All (λ (d : ℕ × A). test d.1 ≡ false) (enumerate_from i xs)
 none_passes {A = A} test i [] h = All-nil (λ (d : ℕ × A). test d.1 ≡ false)
 none_passes {A = A} test i (x ∷ xs) h = elim (cases_Bool (test x)) as (λ _. All (λ (d : ℕ × A). test d.1 ≡ false) (enumerate_from i (x ∷ xs))) [
@@ -63,6 +65,7 @@ kept_at p (y ∷ ys) x (suc k) h e t =
       | false ↦ rest
     ]
 
+-- what an element stands for is among what all stand for
 contains_map : {X Y : Type 0} (view : X → Y) (xs : List X) (x : X) → Contains xs x → Contains (map view xs) (view x)
 contains_map view xs x c = (c.0, rw length-map c.1, get_or-map view xs c.0 x ∙ ap view c.2)
 
@@ -82,11 +85,13 @@ module _ {A : Type 0} (low past : A → ℕ) (takes : ℕ × A → Bool) (taken 
   abbrev answer : ℕ → Option (ℕ × A)
   answer b = first_from (has low past b) 0 ws
 
+  -- what a scan finds stands in the table
   found_in : (b : ℕ) (d : ℕ × A) → answer b ≡ Some d → Contains table d
   found_in b d h =
       let c = listed (has low past b) 0 ws d h in
       Contains-permutation (filter takes (enumerate_from 0 ws)) table d moved (kept_at takes (enumerate_from 0 ws) d c.0 c.1 c.2 (taken d b (passes (has low past b) 0 ws d h)))
 
+  -- one does not begin at an address that an earlier one still has
   behind : (b i j : ℕ) (d e : ℕ × A) → get_or table i d ≡ d → get_or table j d ≡ e → i < j → j < length table → b < past d.1 → low e.1 ≤ b → ⊥
   behind b i j d e p q less within end begin =
       let ends = subst (λ (x : ℕ × A). past x.1 ≤ low (get_or table j d).1) p (apart i j d less within) in
@@ -106,6 +111,7 @@ module _ {A : Type 0} (low past : A → ℕ) (takes : ℕ × A → Bool) (taken 
         ]
       ]
 
+  -- what is found has the address
   within : (b : ℕ) (d : ℕ × A) → answer b ≡ Some d → (low d.1 ≤ b) × (b < past d.1)
   within b d h =
       let yes = and_parts (leb (low d.1) b) (ltb b (past d.1)) (passes (has low past b) 0 ws d h) in
@@ -161,6 +167,7 @@ module _ {A : Type 0} (low past : A → ℕ) (takes : ℕ × A → Bool) (taken 
       let end : past d.1 ≡ past e.1 = ap past item in
       omega arith
 
+  -- so the answer there is another
   other_behind : (a b : ℕ) (d : ℕ × A) → answer a ≡ Some d → past d.1 ≤ b → (o : Option (ℕ × A)) → answer b ≡ o → same_number (Some d) o ≡ false
   other_behind a b d h behind_it None g = refl
   other_behind a b d h behind_it (Some e) g = ne_eqb d.0 e.0 (other_number a b d e h g behind_it)
@@ -189,6 +196,7 @@ module _ {A X : Type 0} (low past : A → ℕ) (takes : ℕ × A → Bool) (take
   abbrev end_of : X → ℕ
   end_of x = past (view x).1
 
+  -- what holds of the elements holds of what they stand for
   viewed : (zs : List X) → ((i j : ℕ) (d : X) → i < j → j < length zs → end_of (get_or zs i d) ≤ first_of (get_or zs j d)) → (i j : ℕ) (d : ℕ × A) → i < j → j < length (map view zs) → past (get_or (map view zs) i d).1 ≤ low (get_or (map view zs) j d).1
   viewed [] h i j d less inside = absurd (omega arith)
   viewed (x ∷ xs) h i j d less inside =
@@ -200,14 +208,17 @@ module _ {A X : Type 0} (low past : A → ℕ) (takes : ℕ × A → Bool) (take
       get_or_map : (zs : List X) (k : ℕ) (z : X) (d : ℕ × A) → k < length zs → get_or (map view zs) k d ≡ view (get_or zs k z)
       get_or_map zs k z d h = lists.get_or-map view zs k z d h
 
+  -- no two items have one address
   pub never_two : (i j : ℕ) (d : A) → i < j → j < length ws → (b : ℕ) → has low past b (get_or ws i d) ≡ true → has low past b (get_or ws j d) ≡ true → ⊥
   never_two i j d less h b p q =
       never_both low past takes taken ws (map view rows) moved (viewed rows apart) i j d b less h p q
 
+  -- an element has the address
   pub row_found : (a limit m : ℕ) (x : X) → 0 < limit → Contains rows x → first_of x ≤ a → a < end_of x → m ≡ min limit (end_of x - a) → (reply a ≡ Some (view x)) × IsAlike reply a limit m
   row_found a limit m x positive c p q is =
       held_on low past takes taken ws (map view rows) moved (viewed rows apart) a limit m (view x) positive (contains_map view rows x c) p q is
 
+  -- no element has it: those before number n end before it, the others begin above it
   nowhere_in : (b n : ℕ) → ((k : ℕ) (d : X) → k < n → end_of (get_or rows k d) ≤ b) → ((k : ℕ) (d : X) → n ≤ k → k < length rows → b < first_of (get_or rows k d)) → reply b ≡ None
   nowhere_in b n ended begins =
       missed low past takes taken ws (map view rows) moved (viewed rows apart) b (All-map (λ (d : ℕ × A). has low past b d.1 ≡ false) view rows (λ k d h. elim (cases_lt k n) as (λ _. has low past b (view (get_or rows k d)).1 ≡ false) [
@@ -215,15 +226,18 @@ module _ {A X : Type 0} (low past : A → ℕ) (takes : ℕ × A → Bool) (take
         | inr after ↦ has_below low past b (view (get_or rows k d)).1 (begins k d (omega arith) h)
       ]))
 
+  -- each has an address
   takes_some : (x : X) → Contains rows x → first_of x < end_of x
   takes_some x c =
       All-contains (λ (d : ℕ × A). low d.1 < past d.1) (map view rows) (view x) (some low past takes each ws (map view rows) moved) (contains_map view rows x c)
 
   -- all before number n end at a or below, and those from there on begin above
   module _ (a limit n : ℕ) (positive : 0 < limit) (ended : (k : ℕ) (d : X) → k < n → end_of (get_or rows k d) ≤ a) (begins : (k : ℕ) (d : X) → n ≤ k → k < length rows → a < first_of (get_or rows k d)) where
+    -- so it is further on
     ended_on : (b : ℕ) → a ≤ b → (k : ℕ) (d : X) → k < n → end_of (get_or rows k d) ≤ b
     ended_on b up k d h = let e = ended k d h in omega arith
 
+    -- there is none from there on
     none_left : length rows ≤ n → (reply a ≡ None) × IsAlike reply a limit limit
     none_left all =
         let here = nowhere_in a n ended begins in (
@@ -237,12 +251,14 @@ module _ {A X : Type 0} (low past : A → ℕ) (takes : ℕ × A → Bool) (take
         )
 
     module _ (rising : (i j : ℕ) (d : X) → i ≤ j → j < length rows → first_of (get_or rows i d) ≤ first_of (get_or rows j d)) (z : X) (more : n < length rows) where
+      -- the others begin above what is below the first of them
       begins_on : (b : ℕ) → b < first_of (get_or rows n z) → (k : ℕ) (d : X) → n ≤ k → k < length rows → b < first_of (get_or rows k d)
       begins_on b below k d l u =
           let up = rising n k d l u in
           let same : first_of (get_or rows n d) ≡ first_of (get_or rows n z) = ap first_of (get_or_default rows n d z more) in
           omega arith
 
+      -- how far it is to that one
       one_left : (m : ℕ) → m ≡ min limit (first_of (get_or rows n z) - a) → (reply a ≡ None) × IsAlike reply a limit m
       one_left m is =
           let above = begins n z (omega arith) more in
@@ -258,6 +274,7 @@ module _ {A X : Type 0} (low past : A → ℕ) (takes : ℕ × A → Bool) (take
             },
           )
 
+    -- how far no item has an address
     pub row_missed : (rising : (i j : ℕ) (d : X) → i ≤ j → j < length rows → first_of (get_or rows i d) ≤ first_of (get_or rows j d)) (m : ℕ) → ((d : X) → n < length rows → m ≡ min limit (first_of (get_or rows n d) - a)) → (length rows ≤ n → m ≡ limit) → (reply a ≡ None) × IsAlike reply a limit m
     row_missed rising m before all = elim (cases_lt n (length rows)) as (λ _. (reply a ≡ None) × IsAlike reply a limit m) [
       | inl more ↦

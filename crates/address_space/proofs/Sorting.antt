@@ -25,6 +25,7 @@ low s = s.vaddr
 abbrev past : SegmentView → ℕ
 past s = s.vaddr + span s
 
+-- a program header that has an address takes addresses
 taken : (d : ℕ × SegmentView) (b : ℕ) → has low past b d.1 ≡ true → takes_addresses d ≡ true
 taken d b h =
     let parts = and_parts (leb d.1.vaddr b) (ltb b (d.1.vaddr + span d.1)) h in
@@ -32,21 +33,25 @@ taken d b h =
     let above = ltb-true b (d.1.vaddr + span d.1) parts.1 in
     lt-ltb 0 (span d.1) (omega arith)
 
+-- one that takes addresses ends above its first
 each : (d : ℕ × SegmentView) → takes_addresses d ≡ true → low d.1 < past d.1
 each d h = let some_there = ltb-true 0 (span d.1) h in omega arith
 
 module _ (rows : List Decided) (rising : IsNonDecreasingBy (λ (d : Decided). d.segment.vaddr) rows) where
   module _ (apart : AllAdjacentBelow (λ (d e : Decided). past_of d ≤ e.segment.vaddr) rows (length rows)) (ws : List SegmentView) where
+    -- each row ends before every later one begins
     far : (i j : ℕ) (d : Decided) → i < j → j < length rows → past_of (get_or rows i d) ≤ (get_or rows j d).segment.vaddr
     far i j d less h =
         let next = apart i d (omega arith) in
         let up = rising (i + 1) j d (omega arith) h in
         omega arith
 
+    -- a row has the address
     pub found : ∥ IsPermutation (taking_from 0 ws) (map decided_view rows) ∥₁ → (a limit m : ℕ) (row : Decided) → 0 < limit → Contains rows row → row.segment.vaddr ≤ a → a < past_of row → m ≡ min limit (past_of row - a) → (first_from (is_covering a) 0 ws ≡ Some (decided_view row)) × IsAlike (λ b. first_from (is_covering b) 0 ws) a limit m
     found moved a limit m row positive c p q is =
         ∥∥₁_elim moved (hlevel props) (λ l. row_found low past takes_addresses taken each ws decided_view rows l far a limit m row positive c p q is)
 
+    -- no row has it
     pub missed : ∥ IsPermutation (taking_from 0 ws) (map decided_view rows) ∥₁ → (a limit m n : ℕ) → 0 < limit → ((k : ℕ) (d : Decided) → k < n → past_of (get_or rows k d) ≤ a) → ((k : ℕ) (d : Decided) → n ≤ k → k < length rows → a < (get_or rows k d).segment.vaddr) → ((d : Decided) → n < length rows → m ≡ min limit ((get_or rows n d).segment.vaddr - a)) → (length rows ≤ n → m ≡ limit) → (first_from (is_covering a) 0 ws ≡ None) × IsAlike (λ b. first_from (is_covering b) 0 ws) a limit m
     missed moved a limit m n positive ended begins before all =
         ∥∥₁_elim moved (hlevel props) (λ l. row_missed low past takes_addresses taken each ws decided_view rows l far a limit n positive ended begins rising m before all)

@@ -1,4 +1,4 @@
-//! Calls that answer for want of memory. Run as they are these tests meet no refusal; `scripts/fail-alloc memory_rows refused`
+//! Calls that answer for want of memory. Run as they are these tests meet no refusal; `scripts/fail-alloc memory_rows refused::`
 //! refuses each allocation in turn, and then a test that has met one ends in an error of its own.
 use crate::shown::{attach_cat, found, source_of};
 use address_space::AddressSpace;
