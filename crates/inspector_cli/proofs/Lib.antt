@@ -22,3 +22,4 @@ pub mod HeldLemmas
 pub mod KeptLemmas
 pub mod FoundLemmas
 pub mod MemoryLemmas
+pub mod ExtractLemmas

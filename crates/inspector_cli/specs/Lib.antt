@@ -12,3 +12,4 @@ pub mod Runs
 pub mod Told
 pub mod Stored
 pub mod Memory
+pub mod Extracting

@@ -5,6 +5,7 @@ ghost use Rattle.script_words.specs.WordsLeft.{words_left};
 ghost use Rattle.script_words.specs.Text.{text_of};
 ghost use Rattle.inspector_cli.specs.Said.{said, begin_said, exec_said, core_said, part_said, slot_alone, case_alone, pins, retire_said, list_said, free_said, case_words_said, words_said, short_line_said};
 ghost use Rattle.inspector_cli.specs.Commands.{said_by, asked_by, name_text, AreWords};
+ghost use Rattle.inspector_cli.specs.Extracting.{is_question};
 ghost use Rattle.script_streams.specs.Lines.{KeepsLine};
 
 use crate::keys::{Keys, are_pairs, large_at};
@@ -287,4 +288,34 @@ fn parse_free(words: Words<'_>) -> Option<Request>
         return None;
     }
     Some(Request::CountFree)
+}
+
+/// Whether a line asks for something that one line can do: `delete`, `pin`, `unpin`, `retire`, `list` and `free` do; a line that
+/// begins, feeds, ends or drops a stream doesn't, nor does one outside the grammar, or with no reply.
+pub fn is_question(line: &[u8]) -> bool
+    ensures { result ≡ is_question (said line.now) }
+{
+    match parse_text(line) {
+        Command::Part { .. } => false,
+        Command::Plain(request) => is_asked(&request),
+    }
+}
+
+fn is_asked(request: &Request) -> bool
+    ensures { result ≡ is_question (asked_by request.now) }
+{
+    match request {
+        Request::Delete { .. } => true,
+        Request::Pin { .. } => true,
+        Request::Retire { .. } => true,
+        Request::ListCases => true,
+        Request::CountFree => true,
+        Request::Silence => false,
+        Request::BadLine => false,
+        Request::LineTooLong => false,
+        Request::BeginExec { .. } => false,
+        Request::BeginCore { .. } => false,
+        Request::End { .. } => false,
+        Request::Drop { .. } => false,
+    }
 }

@@ -4,6 +4,7 @@
 mod answers;
 mod begin;
 mod command;
+mod extract;
 mod keys;
 mod laws;
 mod life;
@@ -19,6 +20,8 @@ mod store_life;
 mod stored;
 mod telling;
 
+pub use command::is_question;
+pub use extract::{ExtractFault, extract_image};
 pub use laws::{a_script_has_one_cut, sessions_are_runs};
 pub use life::open_and_run;
 pub use memory_life::memory_session;
@@ -27,4 +30,5 @@ pub use script_streams::{Input, Output, ReadInput, StreamFault, WriteOutput};
 pub use session::{LifeFault, MemoryFault, Naming, SessionFault};
 pub use store::store_stream;
 pub use store_life::open_and_store;
+pub use telling::reason;
 pub use stored::a_stored_case_is_found;

@@ -11,8 +11,8 @@ use journal_layout::{Entry, Kind};
 use retention::Decision;
 use script_streams::{Output, Reply};
 
-// The name that a refusal is told by.
-pub(crate) fn reason(fault: ArchiveFault) -> &'static [u8]
+/// The name that a refusal is told by, as a reply has it behind `no `.
+pub fn reason(fault: ArchiveFault) -> &'static [u8]
     ensures { result.now ≡ reason_of fault }
 {
     match fault {

@@ -32,6 +32,17 @@ pub(crate) enum Asked<'a> {
         line: Vec<u8>,
         settings: SessionWords<'a>,
     },
+    // The image of a case, in a new file or on the output.
+    Extract {
+        archive: Place<'a>,
+        case: &'a str,
+        file: Option<&'a str>,
+    },
+    // One line of a script, and its reply.
+    Ask {
+        archive: Place<'a>,
+        line: Vec<u8>,
+    },
     // Nothing.
     Nothing,
 }
@@ -74,6 +85,19 @@ pub(crate) fn read_words<'a>(alloc: Global, words: &'a [String]) -> Result<Asked
             file: text_of(found, "file")?,
             line: first_line(alloc, found)?,
             settings: settings_of(found)?,
+        }),
+        Some(("extract", found)) => Ok(Asked::Extract {
+            archive: place_of(found)?,
+            case: text_of(found, "case")?,
+            file: found.get_str("file").map(checked).transpose()?,
+        }),
+        Some(("list", found)) => Ok(Asked::Ask {
+            archive: place_of(found)?,
+            line: b"list".to_vec(alloc)?,
+        }),
+        Some(("ask", found)) => Ok(Asked::Ask {
+            archive: place_of(found)?,
+            line: asked_line(alloc, found)?,
         }),
         _ => Ok(Asked::Nothing),
     }
@@ -125,6 +149,18 @@ fn first_line(alloc: Global, found: &ArgMatches<'_>) -> Result<Vec<u8>, Refusal>
         Some(name) if pairs.is_empty() => exec_line(alloc, name, escapes),
         Some(_) => Err(Refusal::BadLine),
     }
+}
+
+// The line of a script that these words are.
+fn asked_line(alloc: Global, found: &ArgMatches<'_>) -> Result<Vec<u8>, Refusal> {
+    let mut line = Vec::new(alloc);
+    for word in found.get_strs("words").unwrap_or(&[]) {
+        if !line.is_empty() {
+            push_text(&mut line, " ")?;
+        }
+        push_text(&mut line, checked(word)?)?;
+    }
+    Ok(line)
 }
 
 // The line that begins a core, with a space before each of its pairs.

@@ -4,7 +4,8 @@ ghost use Rattle.std.specs.Prelude.{◌≡◌, ◌≢◌, ◌≤◌};
 use case_journal::FormatFault;
 use clap::error::ErrorKind;
 use disk_model::FileFault;
-use inspector_cli::{LifeFault, MemoryFault, SessionFault};
+use inspector_cli::{ExtractFault, LifeFault, MemoryFault, SessionFault, reason};
+use intake::ArchiveFault;
 use journal_layout::{BadShape, OpenFault};
 use name_template::TemplateFault;
 use script_streams::{Output, Reply};
@@ -17,6 +18,8 @@ pub(crate) enum Failure {
     Words(clap::Error),
     // It was refused.
     Refused(Refusal),
+    // It was refused, and the output is that of an image, so this is told beside it.
+    Aside(Refusal),
     // The session ended before its script.
     Faulted(SessionFault),
     // A step was refused, and its reply has said so.
@@ -51,6 +54,8 @@ pub(crate) enum Refusal {
     Disk,
     // The archive could not be opened.
     Open(OpenFault),
+    // The archive refused a call.
+    Call(ArchiveFault),
 }
 
 impl From<clap::Error> for Failure {
@@ -76,6 +81,16 @@ impl From<LifeFault> for Failure {
         match fault {
             LifeFault::Open(fault) => Failure::Refused(Refusal::Open(fault)),
             LifeFault::Session(fault) => Failure::Faulted(fault),
+        }
+    }
+}
+
+impl From<ExtractFault> for Failure {
+    fn from(fault: ExtractFault) -> Self {
+        match fault {
+            ExtractFault::Open(fault) => Failure::Aside(Refusal::Open(fault)),
+            ExtractFault::Archive(fault) => Failure::Aside(Refusal::Call(fault)),
+            ExtractFault::WriteFailed => Failure::Faulted(SessionFault::WriteFailed),
         }
     }
 }
@@ -142,6 +157,10 @@ pub(crate) fn tell_failure<O: Output, E: Output>(
         Failure::Refused(refusal) => {
             tell_in_words(alloc, *refusal, errors);
             tell_refusal(*refusal, output)
+        }
+        Failure::Aside(refusal) => {
+            tell_in_words(alloc, *refusal, errors);
+            tell_refusal(*refusal, errors)
         }
         Failure::Faulted(fault) => tell_fault(*fault, errors),
         Failure::Told => 1,
@@ -212,6 +231,7 @@ fn tell_refusal<O: Output>(refusal: Refusal, output: &mut O) -> u8
         Refusal::OutOfMemory => reply.tell(output, b"OutOfMemory"),
         Refusal::Disk => reply.tell(output, b"Disk"),
         Refusal::Open(fault) => tell_open_fault(&mut reply, output, fault),
+        Refusal::Call(fault) => reply.tell(output, reason(fault)),
     }
     reply.tell(output, b"\n");
     let _ = reply.finish(output);

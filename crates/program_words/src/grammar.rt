@@ -17,6 +17,9 @@ pub(crate) fn program<'a>(alloc: Global) -> Result<Command<'a>, Error> {
         .subcommand(format_command(alloc)?)?
         .subcommand(run_command(alloc)?)?
         .subcommand(store_command(alloc)?)?
+        .subcommand(list_command(alloc)?)?
+        .subcommand(ask_command(alloc)?)?
+        .subcommand(extract_command(alloc)?)?
         .subcommand(memory_command(alloc)?)?;
     Ok(command)
 }
@@ -65,6 +68,55 @@ fn store_command<'a>(alloc: Global) -> Result<Command<'a>, Error> {
     let command = with_stored(alloc, command)?;
     let command = with_facts(alloc, command)?;
     with_session(alloc, command.arg(no_wait(alloc))?)
+}
+
+// `list` and its words.
+fn list_command<'a>(alloc: Global) -> Result<Command<'a>, Error> {
+    let command = Command::new(alloc, "list").about("lists the cases of an archive");
+    Ok(command.arg(archive_word(alloc))?.arg(no_wait(alloc))?)
+}
+
+// `ask` and its words.
+fn ask_command<'a>(alloc: Global) -> Result<Command<'a>, Error> {
+    let words = Arg::new(alloc, "words")
+        .value_name("WORD")
+        .help("the line, as `delete 3`, `pin 3`, `retire keep=10` or `free`")
+        .num_args(1..)
+        .required(true)
+        .action(ArgAction::Append);
+    let command = Command::new(alloc, "ask").about(
+        "carries out one line of a script over an archive, and writes its reply; the status is 1 where it is refused",
+    );
+    Ok(
+        command
+            .arg(archive_word(alloc))?
+            .arg(words)?
+            .arg(no_wait(alloc))?,
+    )
+}
+
+// `extract` and its words.
+fn extract_command<'a>(alloc: Global) -> Result<Command<'a>, Error> {
+    let case = file_word(alloc, "case", "N").help("the case's number");
+    let file = Arg::new(alloc, "file")
+        .value_name("FILE")
+        .help("a new file for the image, which goes to standard output where this is left out")
+        .action(ArgAction::Set);
+    let command = Command::new(alloc, "extract").about(
+        "writes the image of a case, byte for byte, and nothing else; what is refused is told on standard error",
+    );
+    Ok(
+        command
+            .arg(archive_word(alloc))?
+            .arg(case)?
+            .arg(file)?
+            .arg(no_wait(alloc))?,
+    )
+}
+
+// The archive's file.
+fn archive_word<'a>(alloc: Global) -> Arg<'a> {
+    file_word(alloc, "archive", "ARCHIVE").help("the archive's file")
 }
 
 // A command that takes an archive and what is stored in it.

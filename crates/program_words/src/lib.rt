@@ -6,6 +6,7 @@ mod asked;
 mod failures;
 mod grammar;
 mod raw_words;
+mod single;
 mod words;
 
 pub use words::{run_program, run_words};

@@ -5,6 +5,7 @@ use crate::archives::{look_at, make_archive, take_disk};
 use crate::asked::{Asked, Place, SessionWords, read_words};
 use crate::failures::{Failure, Refusal, Word, tell_failure};
 use crate::raw_words::words_of;
+use crate::single::{ask, extract};
 use disk_model::{Disk, FileFault};
 use inspector_cli::{Naming, memory_session, open_and_run, open_and_store};
 use intake::Settings;
@@ -102,6 +103,12 @@ fn answer_words<R: AllocGlobal + Files<File = File>, I: Input, O: Output>(
             };
             store(rt, file, stored, input, output)
         }
+        Asked::Extract {
+            archive,
+            case,
+            file,
+        } => extract(rt, archive, case, file, output),
+        Asked::Ask { archive, line } => ask(rt, archive, line, output),
         Asked::Nothing => Ok(()),
     }
 }

@@ -1,0 +1,140 @@
+// What needs no script: an image out of its archive, and one line with its reply.
+use crate::archives::take_disk;
+use crate::asked::Place;
+use crate::failures::{Failure, Refusal, Word};
+use disk_model::FileFault;
+use inspector_cli::{Naming, SessionFault, extract_image, is_question, open_and_run};
+use intake::Settings;
+use name_template::Template;
+use script_streams::{Output, ReadInput, Reply, WriteOutput};
+use script_words::parse_case_number;
+use std::fs;
+use std::fs::{File, Permissions};
+use std::os::unix::fs::{OpenOptionsExt, PermissionsExt};
+use std::rt::Files;
+
+// Its owner may read and write a file, and nobody else.
+const OWNER_ALONE: u32 = 0o600;
+
+// Writes the image of a case to the output, or to a new file, which is durable then.
+pub(crate) fn extract<R: AllocGlobal + Files<File = File>, O: Output>(
+    rt: &R,
+    place: Place<'_>,
+    case: &str,
+    file: Option<&str>,
+    output: &mut O,
+) -> Result<(), Failure> {
+    let Some(seq) = parse_case_number(case.as_bytes()) else {
+        return Err(Failure::Aside(Refusal::BadLine));
+    };
+    match file {
+        None => extract_to(rt, place, seq, output),
+        Some(path) => extract_to_file(rt, place, seq, path),
+    }
+}
+
+fn extract_to<R: AllocGlobal + Files<File = File>, O: Output>(
+    rt: &R,
+    place: Place<'_>,
+    seq: u32,
+    output: &mut O,
+) -> Result<(), Failure> {
+    let disk = take_disk(rt, place).map_err(|refusal| Failure::Aside(refusal))?;
+    Ok(extract_image(rt.alloc(), disk, Settings { limit: 0 }, seq, output)?)
+}
+
+// A file that was made stays where it was half written, and goes where nothing was.
+fn extract_to_file<R: AllocGlobal + Files<File = File>>(
+    rt: &R,
+    place: Place<'_>,
+    seq: u32,
+    path: &str,
+) -> Result<(), Failure> {
+    let file = new_file(rt, path).map_err(|fault| Failure::Aside(Refusal::File(
+        Word::File,
+        fault,
+    )))?;
+    let mut output = WriteOutput::new(file);
+    let done = extract_to(rt, place, seq, &mut output);
+    let file = output.into_inner();
+    match done {
+        Ok(()) => file
+            .sync_all()
+            .map_err(|_| Failure::Faulted(SessionFault::WriteFailed)),
+        Err(Failure::Aside(refusal)) => {
+            let _ = fs::remove_file(rt, path);
+            Err(Failure::Aside(refusal))
+        }
+        Err(failure) => Err(failure),
+    }
+}
+
+// A new file, for its owner alone, whatever the process masks.
+fn new_file<R: Files<File = File>>(rt: &R, path: &str) -> Result<File, FileFault> {
+    let file = File::options()
+        .write(true)
+        .create_new(true)
+        .mode(OWNER_ALONE)
+        .open(rt, path)?;
+    file.set_permissions(Permissions::from_mode(OWNER_ALONE))?;
+    Ok(file)
+}
+
+// Carries out one line of a script, and writes its reply.
+pub(crate) fn ask<R: AllocGlobal + Files<File = File>, O: Output>(
+    rt: &R,
+    place: Place<'_>,
+    line: Vec<u8>,
+    output: &mut O,
+) -> Result<(), Failure> {
+    if !is_question(&line) {
+        return Err(Failure::Refused(Refusal::BadLine));
+    }
+    let disk = take_disk(rt, place)?;
+    let mut script = line;
+    script.extend_from_slice(b"\n")?;
+    let naming = no_naming()?;
+    let mut text = Vec::new(rt.alloc());
+    let mut replies = WriteOutput::new(&mut text);
+    let mut input = ReadInput::new(script.as_slice());
+    let settings = Settings { limit: 0 };
+    let (ended, _) = open_and_run(
+        rt.alloc(),
+        disk,
+        settings,
+        &naming,
+        &mut input,
+        &mut replies,
+    );
+    ended?;
+    write_text(&text, output)?;
+    if is_refused(&text) {
+        return Err(Failure::Told);
+    }
+    Ok(())
+}
+
+// No core is named by one line.
+fn no_naming() -> Result<Naming, Refusal> {
+    let template = Template::parse(b"core")?;
+    Ok(Naming {
+        template,
+        uses_pid: false,
+    })
+}
+
+fn write_text<O: Output>(text: &[u8], output: &mut O) -> Result<(), Failure> {
+    let mut reply = Reply::new();
+    reply.tell(output, text);
+    match reply.finish(output) {
+        Ok(()) => Ok(()),
+        Err(_) => Err(Failure::Faulted(SessionFault::WriteFailed)),
+    }
+}
+
+// Whether the last line of a text is `no REASON`.
+fn is_refused(text: &[u8]) -> bool {
+    let lines = text.strip_suffix(b"\n").unwrap_or(text);
+    let last = lines.rsplit(|byte| *byte == b'\n').next().unwrap_or(lines);
+    last.starts_with(b"no ")
+}
