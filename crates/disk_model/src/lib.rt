@@ -19,6 +19,3 @@ pub use fuse::Fuse;
 pub use mem_disk::MemDisk;
 pub use one_fault::OneFault;
 pub use stable::write_stable;
-
-#[cfg(test)]
-mod tests;

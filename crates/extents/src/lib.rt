@@ -8,6 +8,3 @@ mod run_list;
 pub use block::{read_block, write_block};
 pub use free_map::{FreeMap, UseFault};
 pub use run_list::{Run, RunList};
-
-#[cfg(test)]
-mod tests;

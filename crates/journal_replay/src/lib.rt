@@ -10,8 +10,6 @@ mod next;
 mod padding;
 mod pin;
 mod reading;
-#[cfg(test)]
-mod readings;
 mod runs;
 mod store;
 

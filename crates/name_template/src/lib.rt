@@ -11,6 +11,3 @@ pub use facts::Facts;
 pub use laws::a_template_has_one_cut;
 pub use part::Part;
 pub use template::{Name, NameFault, Template, TemplateFault};
-
-#[cfg(test)]
-mod tests;

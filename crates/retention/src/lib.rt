@@ -39,6 +39,3 @@ pub struct Decision {
     /// `keep` or `bytes` does not hold even when all of them are gone.
     pub unmet: bool,
 }
-
-#[cfg(test)]
-mod tests;

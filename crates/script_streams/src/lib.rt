@@ -12,6 +12,3 @@ pub use laws::{lines_are_cut_one_way, reading_adds_up, telling_adds_up};
 pub use reader::{LineEnding, ReadStop, ScriptBuffer};
 pub use reply::Reply;
 pub use streams::{Input, Output, ReadInput, StreamFault, WriteOutput};
-
-#[cfg(test)]
-mod tests;

@@ -16,6 +16,3 @@ pub use numbers::{
 };
 pub use printing::{print_byte, print_decimal, print_hex_pair, print_hexadecimal, print_signed};
 pub use texts::{decode_hex, decode_text, split_pair};
-
-#[cfg(test)]
-mod tests;

@@ -1,8 +1,9 @@
-//! Archives of three cases.
+//! Policies on archives of three cases.
 ghost use Rattle.std.specs.Prelude.{◌≡◌, ◌<◌};
 
-use crate::*;
+use retention::{Brief, Decision, Policy, decide};
 use std::alloc::{AllocError, Global};
+use std::process::Abort;
 use std::test::Fail;
 
 // A case of 10 bytes for each second of its time.
@@ -38,18 +39,21 @@ fn policy(keep: Option<u64>, bytes: Option<u64>, before: Option<u64>) -> Policy 
     }
 }
 
+// These cases go, and the policy is met or not.
+fn drops(rt: &impl Abort, decision: &Decision, dropped: &[u32], unmet: bool) {
+    assert_eq!(rt; decision.dropped.as_slice(), dropped);
+    assert_eq!(rt; decision.unmet, unmet);
+}
+
 #[test]
 fn the_first_is_pinned(rt: HostRuntime) -> Result<(), Fail> {
     let cases = (case(1, 1, true), case(2, 2, false), case(3, 3, false));
     let kept = decided(rt.alloc(), cases, &policy(Some(1), None, None))?;
-    assert_eq!(rt; kept.dropped.as_slice(), [2, 3].as_slice());
-    assert!(rt; !kept.unmet);
+    drops(&rt, &kept, &[2, 3], false);
     let none = decided(rt.alloc(), cases, &policy(Some(0), None, None))?;
-    assert_eq!(rt; none.dropped.as_slice(), [2, 3].as_slice());
-    assert!(rt; none.unmet);
+    drops(&rt, &none, &[2, 3], true);
     let all = decided(rt.alloc(), cases, &policy(None, None, None))?;
-    assert!(rt; all.dropped.is_empty());
-    assert!(rt; !all.unmet);
+    drops(&rt, &all, &[], false);
     Ok(())
 }
 
@@ -61,8 +65,7 @@ fn the_last_is_pinned(rt: HostRuntime) -> Result<(), Fail> {
     let bytes = decided(rt.alloc(), cases, &policy(None, Some(50), None))?;
     assert_eq!(rt; bytes.dropped.as_slice(), [4].as_slice());
     let both = decided(rt.alloc(), cases, &policy(Some(3), Some(29), Some(2)))?;
-    assert_eq!(rt; both.dropped.as_slice(), [4, 7].as_slice());
-    assert!(rt; both.unmet);
+    drops(&rt, &both, &[4, 7], true);
     Ok(())
 }
 
@@ -70,7 +73,6 @@ fn the_last_is_pinned(rt: HostRuntime) -> Result<(), Fail> {
 fn all_are_pinned(rt: HostRuntime) -> Result<(), Fail> {
     let cases = (case(1, 1, true), case(2, 2, true), case(3, 3, true));
     let decision = decided(rt.alloc(), cases, &policy(Some(2), None, Some(9)))?;
-    assert!(rt; decision.dropped.is_empty());
-    assert!(rt; decision.unmet);
+    drops(&rt, &decision, &[], true);
     Ok(())
 }

@@ -1,5 +1,5 @@
 use Rattle.std.proofs.Common.{ℕ, zero, suc, ◌+◌, ◌<◌, [], ◌∷◌, get_or, arith}
-use Rattle.retention.proofs.tests.decided.Goals as goal
+use Rattle.word_rows.proofs.policies.decided.Goals as goal
 
 three : (x y z : ℕ) → x < y → y < z → (k : ℕ) → k + 1 < 3 → get_or (x ∷ y ∷ z ∷ []) k 0 < get_or (x ∷ y ∷ z ∷ []) (k + 1) 0
 three x y z first second zero lt = first

@@ -1,0 +1,11 @@
+//! Tests of the words, numbers and texts of a script, its streams, the names of cores, and policies.
+#![tactic(auto)]
+
+#[cfg(test)]
+mod lines;
+#[cfg(test)]
+mod names;
+#[cfg(test)]
+mod policies;
+#[cfg(test)]
+mod streams;
