@@ -1,6 +1,6 @@
 // What appends leave on the disk, and what the journal shows once it is opened again.
 use crate::bench::{Bench, SHAPE, cat, formatted};
-use crate::states::{SCRIPT, STATES, State, shows};
+use crate::states::{State, script, shows, states};
 use case_journal::{Journal, JournalFault};
 use disk_model::{Disk, MemDisk};
 use journal_layout::{Entry, Kind};
@@ -29,23 +29,29 @@ fn is_fresh(rt: &impl Abort, journal: &Journal) {
     assert_eq!(rt; journal.shape(), SHAPE);
 }
 
-// The superblock's front, and half A's header.
-fn has_headers(rt: &impl Abort, bytes: &[u8]) {
-    assert!(rt; bytes.len() == 28_672);
-    assert_eq!(rt; &bytes[..8], [0xa5, 0, 0, 0, 0, 0, 0, 0].as_slice());
-    assert_eq!(rt; &bytes[8..16], b"COREKEEP".as_slice());
-    assert_eq!(rt; &bytes[16..24], [1, 0, 0, 0, 4, 0, 0, 0].as_slice());
-    assert_eq!(rt;
-        &bytes[4096..4112],
-        [0xa5, 0, 0, 0, 1, 0, 0, 0, 1, 0, 0, 0, 0, 0, 0, 0].as_slice()
-    );
+// From this place on the disk has these bytes.
+fn holds(rt: &impl Abort, bytes: &[u8], at: usize, wanted: &[u8]) {
+    let found = bytes.get(at..at.saturating_add(wanted.len()));
+    assert_eq!(rt; found, Some(wanted), "at {at}");
 }
 
-// The first record, a closed gate behind it, and half B's.
+// The superblock's front and half A's header; the first record, a closed gate behind it, and half B's.
+static BYTES: [(usize, &[u8]); 7] = [
+    (0, &[0xa5, 0, 0, 0, 0, 0, 0, 0]),
+    (8, b"COREKEEP"),
+    (16, &[1, 0, 0, 0, 4, 0, 0, 0]),
+    (4096, &[0xa5, 0, 0, 0, 1, 0, 0, 0, 1, 0, 0, 0, 0, 0, 0, 0]),
+    (4128, &STORE),
+    (4192, &[0]),
+    (8192, &[0]),
+];
+
+// The bytes of a disk with that record, as many as an archive of that shape has.
 fn has_record(rt: &impl Abort, bytes: &[u8]) {
-    assert!(rt; bytes.len() == 28_672);
-    assert_eq!(rt; &bytes[4128..4192], STORE.as_slice());
-    assert_eq!(rt; (bytes[4192], bytes[8192]), (0, 0));
+    assert_eq!(rt; bytes.len(), 28_672);
+    for (at, wanted) in &BYTES {
+        holds(rt, bytes, *at, wanted);
+    }
 }
 
 #[test]
@@ -57,7 +63,6 @@ fn the_first_record_stands_byte_for_byte(rt: HostRuntime) -> Result<(), Fail> {
         return Err(Fail::from("the case was not stored"));
     };
     assert_eq!(rt; seq, 1);
-    has_headers(&rt, bench.disk().bytes());
     has_record(&rt, bench.disk().bytes());
     Ok(())
 }
@@ -127,7 +132,7 @@ fn the_numbers_are_spent(rt: HostRuntime) -> Result<(), Fail> {
     let mut bench = spent(&rt)?;
     assert_eq!(rt; bench.journal().next_seq(), 4_294_967_296);
     hands_back(&rt, &mut bench)?;
-    assert_eq!(rt; sizes(bench.journal()), (0, 48));
+    has_sizes(&rt, bench.journal(), 0, 48);
     Ok(())
 }
 
@@ -142,9 +147,12 @@ fn stores<D: Disk + Drop>(
     Ok(())
 }
 
-// How many cases the journal shows, and the bytes of the half that are used.
-fn sizes(journal: &Journal) -> (usize, u64) {
-    (journal.entries().len(), journal.use_bytes())
+// So many cases the journal shows, and so many bytes of the half are used.
+fn has_sizes(rt: &impl Abort, journal: &Journal, cases: usize, bytes: u64) {
+    assert_eq!(rt;
+        (journal.entries().len(), journal.use_bytes()),
+        (cases, bytes)
+    );
 }
 
 // A full journal takes no further case.
@@ -152,19 +160,17 @@ fn is_full<D: Disk + Drop>(
     rt: &(impl AllocGlobal + Abort),
     bench: &mut Bench<D>,
 ) -> Result<(), Fail> {
-    assert_eq!(rt; bench.journal().use_bytes(), 4064);
-    assert_eq!(rt;
-        bench.store(rt.alloc(), b"n64")?,
-        Err(JournalFault::JournalFull)
-    );
-    assert_eq!(rt; bench.journal().entries().len(), 63);
+    has_sizes(rt, bench.journal(), 63, 4064);
+    let stored = bench.store(rt.alloc(), b"n64")?;
+    assert_eq!(rt; stored, Err(JournalFault::JournalFull));
+    has_sizes(rt, bench.journal(), 63, 4064);
     Ok(())
 }
 
 // It takes the end of one.
 fn takes_an_end<D: Disk + Drop>(rt: &impl Abort, bench: &mut Bench<D>) -> Result<(), Fail> {
     assert_eq!(rt; bench.end(1)?, Ok(()));
-    assert_eq!(rt; sizes(bench.journal()), (62, 4080));
+    has_sizes(rt, bench.journal(), 62, 4080);
     Ok(())
 }
 
@@ -188,7 +194,7 @@ fn each_append_is_there_again(rt: HostRuntime) -> Result<(), Fail> {
     let alloc = rt.alloc();
     let mut bench = fresh(alloc)?;
     let used: [u64; 7] = [96, 160, 176, 192, 256, 272, 288];
-    for (step, (state, used)) in SCRIPT.iter().zip(STATES.iter().skip(1).zip(used)) {
+    for (step, (state, used)) in script().iter().zip(states().iter().skip(1).zip(used)) {
         assert_eq!(rt; bench.take(alloc, *step)?, Ok(()), "{step:?}");
         assert!(rt; has_used(bench.journal(), state, used), "{step:?}");
         bench = bench.reopened(alloc)?;

@@ -50,11 +50,18 @@ fn name_of(bytes: &[u8]) -> Result<Name, Fail>
     Ok(name)
 }
 
+// Whether the entry has the name.
+fn has_name(entry: &Entry, name: &[u8]) -> bool
+    ensures { result ≡ bytes_eq entry.now.name.items name.now }
+{
+    entry.name.as_slice() == name
+}
+
 // Whether one of the entries has the name.
 fn has_entry(entries: &[Entry], name: &[u8]) -> bool
     ensures { result ≡ list_any (λ (e : Entry). bytes_eq e.name.items name.now) entries.now }
 {
-    entries.iter().any(|entry| entry.name.as_slice() == name)
+    entries.iter().any(|entry| has_name(entry, name))
 }
 
 // The same, of the cases of a journal.

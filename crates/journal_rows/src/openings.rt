@@ -54,68 +54,80 @@ fn opens(
     Ok(())
 }
 
-fn damaged(at: u64, field: Field) -> Option<OpenFault> {
-    Some(OpenFault::Damaged { at, field })
+// Opening names this field at this place.
+fn is_damaged(
+    rt: &(impl AllocGlobal + Abort),
+    writes: &[(u64, &[u8])],
+    at: u64,
+    field: Field,
+) -> Result<(), Fail> {
+    opens(rt, writes, Some(OpenFault::Damaged { at, field }))
 }
 
-#[test]
-fn the_superblock_is_checked(rt: HostRuntime) -> Result<(), Fail> {
-    opens(&rt, &[], None)?;
-    opens(&rt, &[(0, &[0])], Some(OpenFault::NotAnArchive))?;
-    opens(&rt, &[(15, b"Q")], Some(OpenFault::NotAnArchive))?;
-    opens(&rt, &[(16, &[0])], damaged(16, Field::Shape))?;
-    opens(&rt, &[(20, &[5])], damaged(16, Field::Shape))?;
+// Bytes that are written over what stands there, and the place and the field that opening names then.
+type Damage = (u64, &'static [u8], u64, Field);
+
+// The same of each of these, written behind other bytes.
+fn are_damaged(
+    rt: &(impl AllocGlobal + Abort),
+    base: &[u8],
+    damages: &[Damage],
+) -> Result<(), Fail> {
+    for (at, bytes, place, field) in damages {
+        is_damaged(rt, &[(4128, base), (*at, bytes)], *place, *field)?;
+    }
     Ok(())
 }
 
+static HEADERS: [Damage; 5] = [
+    (16, &[0], 16, Field::Shape),
+    (20, &[5], 16, Field::Shape),
+    (4096, &[0], 4096, Field::Gate),
+    (4104, &[0; 8], 4104, Field::Generation),
+    (8192, &[0xa5], 8200, Field::Generation),
+];
+
 #[test]
-fn the_headers_of_the_halves_are_checked(rt: HostRuntime) -> Result<(), Fail> {
-    let zeros = [0; 8];
-    opens(&rt, &[(4096, &[0])], damaged(4096, Field::Gate))?;
-    opens(&rt, &[(4104, &zeros)], damaged(4104, Field::Generation))?;
-    opens(&rt, &[(8192, &[0xa5])], damaged(8200, Field::Generation))?;
-    opens(
+fn the_superblock_and_the_headers_are_checked(rt: HostRuntime) -> Result<(), Fail> {
+    opens(&rt, &[], None)?;
+    are_damaged(&rt, &[], &HEADERS)?;
+    is_damaged(
         &rt,
         &[(8192, &[0xa5]), (8200, &[1])],
-        damaged(8200, Field::Generation),
-    )?;
+        8200,
+        Field::Generation,
+    )
+}
+
+#[test]
+fn no_archive_and_other_versions_are_told(rt: HostRuntime) -> Result<(), Fail> {
+    opens(&rt, &[(0, &[0])], Some(OpenFault::NotAnArchive))?;
+    opens(&rt, &[(15, b"Q")], Some(OpenFault::NotAnArchive))?;
     opens(&rt, &[(4100, &[7])], Some(OpenFault::UnknownVersion(7)))?;
     // The half with the greater generation is taken, and its version is looked at.
     opens(
         &rt,
         &[(8192, &[0xa5]), (8196, &[9]), (8200, &[2])],
         Some(OpenFault::UnknownVersion(9)),
-    )?;
-    Ok(())
+    )
 }
+
+static BEGINNINGS: [Damage; 10] = [
+    (4129, &[0], 4129, Field::Kind),
+    (4129, &[5], 4129, Field::Kind),
+    (4129, &[9], 4129, Field::Kind),
+    (4130, &[1], 4130, Field::Reserved),
+    (4131, &[1], 4130, Field::Reserved),
+    (4132, &[0, 0], 4132, Field::Length),
+    (4132, &[8, 0], 4132, Field::Length),
+    (4132, &[65, 0], 4132, Field::Length),
+    (4132, &[0xe0, 15], 4132, Field::Length),
+    (4132, &[0xf0, 15], 4132, Field::Length),
+];
 
 #[test]
 fn what_each_record_begins_with_is_checked(rt: HostRuntime) -> Result<(), Fail> {
-    for kind in [0, 5, 9] {
-        opens(
-            &rt,
-            &[(4128, &STORE), (4129, &[kind])],
-            damaged(4129, Field::Kind),
-        )?;
-    }
-    opens(
-        &rt,
-        &[(4128, &STORE), (4130, &[1])],
-        damaged(4130, Field::Reserved),
-    )?;
-    opens(
-        &rt,
-        &[(4128, &STORE), (4131, &[1])],
-        damaged(4130, Field::Reserved),
-    )?;
-    for length in [[0, 0], [8, 0], [65, 0], [0xe0, 15], [0xf0, 15]] {
-        opens(
-            &rt,
-            &[(4128, &STORE), (4132, &length)],
-            damaged(4132, Field::Length),
-        )?;
-    }
-    Ok(())
+    are_damaged(&rt, &STORE, &BEGINNINGS)
 }
 
 // Records of 16 bytes up to the last 16 bytes of the half: there 17 bytes are not left for one.
@@ -127,168 +139,161 @@ fn a_record_at_the_very_end_has_no_room(rt: HostRuntime) -> Result<(), Fail> {
     }
     opens(&rt, &[(4128, &half)], None)?;
     half[4048] = 0xa5;
-    opens(&rt, &[(4128, &half)], damaged(8180, Field::Length))?;
-    Ok(())
+    is_damaged(&rt, &[(4128, &half)], 8180, Field::Length)
 }
+
+// The last is a name of seven bytes, which leaves a byte that fills the record up.
+static FACTS: [Damage; 13] = [
+    (4136, &[0], 4136, Field::Seq),
+    (4140, &[0], 4140, Field::CaseKind),
+    (4140, &[3], 4140, Field::CaseKind),
+    (4141, &[2], 4141, Field::Pinned),
+    (4142, &[0], 4142, Field::NameLength),
+    (4142, &[129], 4142, Field::NameLength),
+    (4168, &[2], 4168, Field::Runs),
+    (4172, &[1], 4172, Field::Reserved),
+    (4180, &[0], 4176, Field::Run),
+    (4176, &[4], 4176, Field::Run),
+    (4161, &[16], 4160, Field::ImageLength),
+    (4184, &[0], 4184, Field::Name),
+    (4142, &[7], 4191, Field::Padding),
+];
 
 #[test]
 fn the_facts_of_a_store_record_are_checked(rt: HostRuntime) -> Result<(), Fail> {
     opens(&rt, &[(4128, &STORE)], None)?;
-    let table: [(u64, u8, u64, Field); 12] = [
-        (4136, 0, 4136, Field::Seq),
-        (4140, 0, 4140, Field::CaseKind),
-        (4140, 3, 4140, Field::CaseKind),
-        (4141, 2, 4141, Field::Pinned),
-        (4142, 0, 4142, Field::NameLength),
-        (4142, 129, 4142, Field::NameLength),
-        (4168, 2, 4168, Field::Runs),
-        (4172, 1, 4172, Field::Reserved),
-        (4180, 0, 4176, Field::Run),
-        (4176, 4, 4176, Field::Run),
-        (4161, 16, 4160, Field::ImageLength),
-        (4184, 0, 4184, Field::Name),
-    ];
-    for (at, byte, place, field) in table {
-        opens(&rt, &[(4128, &STORE), (at, &[byte])], damaged(place, field))?;
-    }
-    // A name of seven bytes leaves a byte that fills the record up.
-    opens(
-        &rt,
-        &[(4128, &STORE), (4142, &[7])],
-        damaged(4191, Field::Padding),
-    )?;
-    Ok(())
+    are_damaged(&rt, &STORE, &FACTS)
 }
+
+// What is written behind the record of case 1 for the record of another: its number, its block and its name.
+const SECOND: [(u64, &[u8]); 5] = [
+    (4128, &STORE),
+    (4192, &STORE),
+    (4200, &[2]),
+    (4240, &[1]),
+    (4255, b"p"),
+];
 
 #[test]
 fn a_store_record_goes_with_those_before_it(rt: HostRuntime) -> Result<(), Fail> {
-    let both: [(u64, &[u8]); 2] = [(4128, &STORE), (4192, &STORE)];
-    opens(&rt, &both, damaged(4200, Field::Seq))?;
-    let second = [(4128, STORE.as_slice()), (4192, &STORE), (4200, &[2])];
-    opens(&rt, &second, damaged(4240, Field::Run))?;
-    let third = [
-        (4128, STORE.as_slice()),
-        (4192, &STORE),
-        (4200, &[2]),
-        (4240, &[1]),
-    ];
-    opens(&rt, &third, damaged(4248, Field::Name))?;
-    let fourth = [
-        (4128, STORE.as_slice()),
-        (4192, &STORE),
-        (4200, &[2]),
-        (4240, &[1]),
-        (4255, b"p"),
-    ];
-    opens(&rt, &fourth, None)?;
-    Ok(())
+    for (writes, at, field) in [
+        (&SECOND[..2], 4200, Field::Seq),
+        (&SECOND[..3], 4240, Field::Run),
+        (&SECOND[..4], 4248, Field::Name),
+    ] {
+        is_damaged(&rt, writes, at, field)?;
+    }
+    opens(&rt, &SECOND, None)
 }
 
-// A record of two runs, with a name of eight bytes.
-#[test]
-fn the_runs_of_a_store_record_are_checked(rt: HostRuntime) -> Result<(), Fail> {
+// A record of two runs, with a name of eight bytes. The second run is of so many blocks from there on.
+fn two_runs(start: u8, count: u8) -> [u8; 80] {
     let mut record = [0; 80];
     record[..56].copy_from_slice(&STORE[..56]);
     record[4] = 80;
     record[32] = 1;
     record[33] = 16;
     record[40] = 2;
+    record[56] = start;
+    record[60] = count;
     record[64..72].copy_from_slice(b"/bin/cat");
-    for (start, fault) in [
-        (2, None),
-        (1, damaged(4184, Field::Run)),
-        (0, damaged(4184, Field::Run)),
-        (3, None),
-        (4, damaged(4184, Field::Run)),
-    ] {
-        record[56] = start;
-        record[60] = 1;
-        opens(&rt, &[(4128, &record)], fault)?;
+    record
+}
+
+#[test]
+fn the_runs_of_a_store_record_are_checked(rt: HostRuntime) -> Result<(), Fail> {
+    for start in [2, 3] {
+        opens(&rt, &[(4128, &two_runs(start, 1))], None)?;
     }
-    record[56] = 2;
-    record[60] = 0;
-    opens(&rt, &[(4128, &record)], damaged(4184, Field::Run))?;
+    for (start, count) in [(1, 1), (0, 1), (4, 1), (2, 0)] {
+        is_damaged(&rt, &[(4128, &two_runs(start, count))], 4184, Field::Run)?;
+    }
     Ok(())
 }
+
+// The record of case 1, and one of 16 bytes.
+fn with_record(record: &[u8; 16]) -> [u8; 80] {
+    let mut both = [0; 80];
+    both[..64].copy_from_slice(&STORE);
+    both[64..].copy_from_slice(record);
+    both
+}
+
+static DROPS: [Damage; 4] = [
+    (4200, &[0], 4200, Field::Count),
+    (4200, &[2], 4200, Field::Count),
+    (4204, &[2], 4204, Field::Seq),
+    // A case that is pinned.
+    (4141, &[1], 4204, Field::Seq),
+];
 
 #[test]
 fn drop_records_are_checked(rt: HostRuntime) -> Result<(), Fail> {
-    opens(&rt, &[(4128, &STORE), (4192, &DROP)], None)?;
-    opens(
-        &rt,
-        &[(4128, &STORE), (4192, &DROP), (4200, &[0])],
-        damaged(4200, Field::Count),
-    )?;
-    opens(
-        &rt,
-        &[(4128, &STORE), (4192, &DROP), (4200, &[2])],
-        damaged(4200, Field::Count),
-    )?;
-    opens(
-        &rt,
-        &[(4128, &STORE), (4192, &DROP), (4204, &[2])],
-        damaged(4204, Field::Seq),
-    )?;
-    opens(
-        &rt,
-        &[(4128, &STORE), (4141, &[1]), (4192, &DROP)],
-        damaged(4204, Field::Seq),
-    )?;
-    Ok(())
+    let both = with_record(&DROP);
+    opens(&rt, &[(4128, &both)], None)?;
+    are_damaged(&rt, &both, &DROPS)
 }
 
-// Two numbers, of which the second does not rise, and zeros that fill the record up.
-#[test]
-fn drop_records_of_two_cases_are_checked(rt: HostRuntime) -> Result<(), Fail> {
-    let mut two = [0; 32];
-    two[..16].copy_from_slice(&DROP);
-    two[4] = 32;
-    two[8] = 2;
-    two[16] = 1;
-    opens(
-        &rt,
-        &[(4128, &STORE), (4192, &two)],
-        damaged(4208, Field::Seq),
-    )?;
+// The number of a second case, its block and the last byte of its name.
+fn another() -> [u8; 64] {
     let mut other = STORE;
     other[8] = 2;
     other[48] = 1;
     other[63] = b'p';
-    two[16] = 2;
-    opens(&rt, &[(4128, &STORE), (4192, &other), (4256, &two)], None)?;
-    two[31] = 1;
-    opens(
-        &rt,
-        &[(4128, &STORE), (4192, &other), (4256, &two)],
-        damaged(4287, Field::Padding),
-    )?;
-    Ok(())
+    other
+}
+
+// Two numbers, of which the second is this one, and zeros but for the last byte that fill the record up.
+fn drop_of_two(second: u8, last: u8) -> [u8; 32] {
+    let mut two = [0; 32];
+    two[..16].copy_from_slice(&DROP);
+    two[4] = 32;
+    two[8] = 2;
+    two[16] = second;
+    two[31] = last;
+    two
 }
 
 #[test]
-fn pin_and_next_records_are_checked(rt: HostRuntime) -> Result<(), Fail> {
-    opens(&rt, &[(4128, &STORE), (4192, &PIN)], None)?;
-    for (at, byte, place, field) in [
-        (4196, 32, 4196, Field::Length),
-        (4200, 2, 4200, Field::Seq),
-        (4204, 2, 4204, Field::Flag),
-        (4206, 1, 4206, Field::Padding),
-    ] {
-        opens(
-            &rt,
-            &[(4128, &STORE), (4192, &PIN), (at, &[byte])],
-            damaged(place, field),
-        )?;
-    }
+fn drop_records_of_two_cases_are_checked(rt: HostRuntime) -> Result<(), Fail> {
+    let two = drop_of_two(1, 0);
+    is_damaged(&rt, &[(4128, &STORE), (4192, &two)], 4208, Field::Seq)?;
+    let other = another();
+    let two = drop_of_two(2, 0);
+    opens(&rt, &[(4128, &STORE), (4192, &other), (4256, &two)], None)?;
+    let two = drop_of_two(2, 1);
+    is_damaged(
+        &rt,
+        &[(4128, &STORE), (4192, &other), (4256, &two)],
+        4287,
+        Field::Padding,
+    )
+}
+
+static PINS: [Damage; 4] = [
+    (4196, &[32], 4196, Field::Length),
+    (4200, &[2], 4200, Field::Seq),
+    (4204, &[2], 4204, Field::Flag),
+    (4206, &[1], 4206, Field::Padding),
+];
+
+#[test]
+fn pin_records_are_checked(rt: HostRuntime) -> Result<(), Fail> {
+    let both = with_record(&PIN);
+    opens(&rt, &[(4128, &both)], None)?;
+    are_damaged(&rt, &both, &PINS)
+}
+
+static NEXTS: [Damage; 3] = [
+    (4132, &[32], 4132, Field::Length),
+    (4136, &[0], 4136, Field::Next),
+    (4140, &[1], 4136, Field::Next),
+];
+
+#[test]
+fn next_records_are_checked(rt: HostRuntime) -> Result<(), Fail> {
     opens(&rt, &[(4128, &NEXT)], None)?;
-    for (at, byte, place, field) in [
-        (4132, 32, 4132, Field::Length),
-        (4136, 0, 4136, Field::Next),
-        (4140, 1, 4136, Field::Next),
-    ] {
-        opens(&rt, &[(4128, &NEXT), (at, &[byte])], damaged(place, field))?;
-    }
+    are_damaged(&rt, &NEXT, &NEXTS)?;
     // The greatest next number.
-    opens(&rt, &[(4128, &NEXT), (4136, &[0, 0, 0, 0, 1])], None)?;
-    Ok(())
+    opens(&rt, &[(4128, &NEXT), (4136, &[0, 0, 0, 0, 1])], None)
 }

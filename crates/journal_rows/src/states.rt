@@ -3,8 +3,7 @@ use crate::bench::Step;
 use case_journal::Journal;
 use journal_layout::Entry;
 
-/// The script.
-pub const SCRIPT: [Step; 7] = [
+static SCRIPT: [Step; 7] = [
     Step::Store(b"a"),
     Step::Store(b"b"),
     Step::Pin(1, true),
@@ -14,14 +13,18 @@ pub const SCRIPT: [Step; 7] = [
     Step::End(1),
 ];
 
+/// The script.
+pub fn script() -> &'static [Step; 7] {
+    &SCRIPT
+}
+
 /// The number, the name and the pin of each case, and the number of the next one.
 pub struct State {
     pub cases: &'static [(u32, &'static [u8], bool)],
     pub next: u64,
 }
 
-/// Before the script, and after each of its appends.
-pub const STATES: [State; 8] = [
+static STATES: [State; 8] = [
     State {
         cases: &[],
         next: 1,
@@ -55,6 +58,11 @@ pub const STATES: [State; 8] = [
         next: 4,
     },
 ];
+
+/// The states before the script, and after each of its appends.
+pub fn states() -> &'static [State; 8] {
+    &STATES
+}
 
 /// Whether these are the cases.
 pub fn are_cases(entries: &[Entry], cases: &[(u32, &[u8], bool)]) -> bool {

@@ -2,7 +2,7 @@
 ghost use Rattle.std.specs.Prelude.{◌≤◌, IfOk};
 
 use crate::bench::{Bench, formatted};
-use crate::states::{SCRIPT, STATES, shows};
+use crate::states::{script, shows, states};
 use case_journal::{Journal, JournalFault};
 use disk_model::{Disk, Fuse, MemDisk, OneFault, Pick};
 use journal_layout::OpenFault;
@@ -24,17 +24,17 @@ fn run<D: Disk + Drop>(
 ) -> Result<(usize, Option<JournalFault>), Fail>
     ensures { IfOk result (λ r. r.0 ≤ 7) }
 {
-    for (done, step) in SCRIPT.iter().enumerate() {
+    for (done, step) in script().iter().enumerate() {
         if let Err(fault) = bench.take(alloc, *step)? {
             return Ok((done, Some(fault)));
         }
     }
-    Ok((SCRIPT.len(), None))
+    Ok((script().len(), None))
 }
 
 // Whether the journal shows the state after so many appends.
 fn shows_after(journal: &Journal, done: usize) -> bool {
-    match STATES.get(done) {
+    match states().get(done) {
         Some(state) => shows(journal, state),
         None => false,
     }
