@@ -59,37 +59,55 @@ fn memory_command<'a>(alloc: Global) -> Result<Command<'a>, Error> {
 
 // `store` and its words.
 fn store_command<'a>(alloc: Global) -> Result<Command<'a>, Error> {
+    let command = Command::new(alloc, "store").about(
+        "stores a core file as a case of an archive, named by the template, or an executable",
+    );
+    let command = with_stored(alloc, command)?;
+    let command = with_facts(alloc, command)?;
+    with_session(alloc, command.arg(no_wait(alloc))?)
+}
+
+// A command that takes an archive and what is stored in it.
+fn with_stored<'a>(alloc: Global, command: Command<'a>) -> Result<Command<'a>, Error> {
     let archive = file_word(alloc, "archive", "ARCHIVE").help("the archive's file");
     let file = file_word(alloc, "file", "FILE").help(
         "what to store: a file or a pipe, or - for standard input",
     );
-    let pairs = Arg::new(alloc, "pairs")
+    Ok(command.arg(archive)?.arg(file)?)
+}
+
+// A command that takes what is known of an image.
+fn with_facts<'a>(alloc: Global, command: Command<'a>) -> Result<Command<'a>, Error> {
+    let escape = flag(alloc, "escape").help(
+        "takes the bytes of each VALUE and of NAME as they are, whatever they are, as a process may call itself anything",
+    );
+    Ok(
+        command
+            .arg(pair_words(alloc))?
+            .arg(exec_word(alloc))?
+            .arg(escape)?,
+    )
+}
+
+// What is known of a core.
+fn pair_words<'a>(alloc: Global) -> Arg<'a> {
+    Arg::new(alloc, "pairs")
         .value_name("KEY=VALUE")
         .help(
             "what is known of the core; KEY is comm, exe, host, pid, tid, sig, uid, gid, mode, time or limit, and a byte \
              of a text outside 0x21 to 0x7e, or a backslash, is \\xHH, unless --escape is there",
         )
         .num_args(0..)
-        .action(ArgAction::Append);
-    let exec = Arg::new(alloc, "exec")
+        .action(ArgAction::Append)
+}
+
+// The name of an executable.
+fn exec_word<'a>(alloc: Global) -> Arg<'a> {
+    Arg::new(alloc, "exec")
         .long("exec")
         .value_name("NAME")
         .help("stores an executable of this name in place of a core")
-        .action(ArgAction::Set);
-    let escape = flag(alloc, "escape").help(
-        "takes the bytes of each VALUE and of NAME as they are, whatever they are, as a process may call itself anything",
-    );
-    let command = Command::new(alloc, "store")
-        .about(
-            "stores a core file as a case of an archive, named by the template, or an executable",
-        )
-        .arg(archive)?
-        .arg(file)?
-        .arg(pairs)?
-        .arg(exec)?
-        .arg(escape)?
-        .arg(no_wait(alloc))?;
-    with_session(alloc, command)
+        .action(ArgAction::Set)
 }
 
 // A word that names a file.
@@ -114,40 +132,55 @@ fn no_wait<'a>(alloc: Global) -> Arg<'a> {
 
 // A command that takes the shape of an archive.
 fn with_shape<'a>(alloc: Global, command: Command<'a>) -> Result<Command<'a>, Error> {
-    let half = Arg::new(alloc, "half")
-        .long("half")
-        .value_name("N")
-        .help("blocks of 4096 bytes in each half of the journal, 1 to 4096")
-        .required(true)
-        .action(ArgAction::Set)
-        .value_parser(value_parser!(u32));
-    let blocks = Arg::new(alloc, "data")
-        .long("data")
-        .value_name("N")
-        .help("data blocks of 4096 bytes, 1 to 16777216")
-        .required(true)
-        .action(ArgAction::Set)
-        .value_parser(value_parser!(u32));
+    let half = count_word(alloc, "half").help(
+        "blocks of 4096 bytes in each half of the journal, 1 to 4096",
+    );
+    let blocks = count_word(alloc, "data").help("data blocks of 4096 bytes, 1 to 16777216");
     Ok(command.arg(half)?.arg(blocks)?)
+}
+
+// A number of blocks, which has to be there.
+fn count_word<'a>(alloc: Global, name: &'a str) -> Arg<'a> {
+    number_word(alloc, name)
+        .required(true)
+        .value_parser(value_parser!(u32))
+}
+
+// A number.
+fn number_word<'a>(alloc: Global, name: &'a str) -> Arg<'a> {
+    Arg::new(alloc, name)
+        .long(name)
+        .value_name("N")
+        .action(ArgAction::Set)
 }
 
 // A command that takes what a session goes by.
 fn with_session<'a>(alloc: Global, command: Command<'a>) -> Result<Command<'a>, Error> {
-    let template = Arg::new(alloc, "template")
+    let uses_pid = flag(alloc, "uses-pid").help(
+        "adds a dot and the process to names whose template has no %p",
+    );
+    Ok(
+        command
+            .arg(template_word(alloc))?
+            .arg(uses_pid)?
+            .arg(limit_word(alloc))?,
+    )
+}
+
+// How cores are named.
+fn template_word<'a>(alloc: Global) -> Arg<'a> {
+    Arg::new(alloc, "template")
         .long("template")
         .value_name("T")
         .help("how core files are named, a template of core(5)")
         .default_value("core.%e.%p")
-        .action(ArgAction::Set);
-    let uses_pid = flag(alloc, "uses-pid").help(
-        "adds a dot and the process to names whose template has no %p",
-    );
-    let limit = Arg::new(alloc, "limit")
-        .long("limit")
-        .value_name("N")
+        .action(ArgAction::Set)
+}
+
+// The most bytes of an image.
+fn limit_word<'a>(alloc: Global) -> Arg<'a> {
+    number_word(alloc, "limit")
         .help("the most bytes that an image may have")
         .default_value("1073741824")
-        .action(ArgAction::Set)
-        .value_parser(value_parser!(u64));
-    Ok(command.arg(template)?.arg(uses_pid)?.arg(limit)?)
+        .value_parser(value_parser!(u64))
 }
