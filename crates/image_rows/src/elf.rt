@@ -261,32 +261,41 @@ fn memory_may_be_cut(rt: HostRuntime) -> Result<(), Fail> {
     Ok(())
 }
 
+/// A place of a core, what is written there, and the field that is named then, with its index.
+static FAULTS: [(usize, &[u8], ElfField, u64); 15] = [
+    (3, b"f", ElfField::Magic, 0),
+    (4, &[1], ElfField::EiClass, 0),
+    (6, &[0], ElfField::EiVersion, 0),
+    (16, &[3], ElfField::EType, 0),
+    (18, &[62], ElfField::EMachine, 0),
+    (20, &[2], ElfField::EVersion, 0),
+    (54, &[55], ElfField::EPhentsize, 0),
+    (56, &[0xff, 0xff], ElfField::EShoff, 0),
+    (39, &[1], ElfField::EPhoff, 0),
+    (152, &[1], ElfField::PFilesz, 1),
+    (136, &[0xff; 8], ElfField::PMemsz, 1),
+    (72, &[0xff; 8], ElfField::POffset, 0),
+    (176, &[0xff; 4], ElfField::NNamesz, 0),
+    (180, &[0xff; 4], ElfField::NDescsz, 0),
+    (176 + 396 + 4, &[0xff; 4], ElfField::NDescsz, 1),
+];
+
+/// Each of these is refused by its field.
+fn each_is_refused(rt: &(impl AllocGlobal + Abort), core: &[u8]) -> Result<(), Fail> {
+    for (at, bytes, field, index) in &FAULTS {
+        is_refused(rt, core, *at, bytes, *field, *index)?;
+    }
+    Ok(())
+}
+
 #[test]
 fn the_first_faulty_field_is_named(rt: HostRuntime) -> Result<(), Fail> {
     let core = stack_core(rt.alloc())?;
     let ident = patched(rt.alloc(), &core, 18, &[62])?;
     is_refused(&rt, &ident, 5, &[2], ElfField::EiData, 0)?;
-    let cases: [(usize, &[u8], ElfField, u64); 14] = [
-        (3, b"f", ElfField::Magic, 0),
-        (4, &[1], ElfField::EiClass, 0),
-        (6, &[0], ElfField::EiVersion, 0),
-        (16, &[3], ElfField::EType, 0),
-        (18, &[62], ElfField::EMachine, 0),
-        (20, &[2], ElfField::EVersion, 0),
-        (54, &[55], ElfField::EPhentsize, 0),
-        (56, &[0xff, 0xff], ElfField::EShoff, 0),
-        (39, &[1], ElfField::EPhoff, 0),
-        (152, &[1], ElfField::PFilesz, 1),
-        (136, &[0xff; 8], ElfField::PMemsz, 1),
-        (72, &[0xff; 8], ElfField::POffset, 0),
-        (176, &[0xff; 4], ElfField::NNamesz, 0),
-        (180, &[0xff; 4], ElfField::NDescsz, 0),
-    ];
-    for (at, bytes, field, index) in cases {
-        is_refused(&rt, &core, at, bytes, field, index)?;
-    }
+    each_is_refused(&rt, &core)?;
     assert_eq!(rt; fault_of(&core, Want::Exec), fault(ElfField::EType, 0));
-    is_refused(&rt, &core, 176 + 396 + 4, &[0xff; 4], ElfField::NDescsz, 1)
+    Ok(())
 }
 
 #[test]

@@ -188,36 +188,50 @@ fn process_fields_stand_at_their_places(rt: HostRuntime) -> Result<(), Fail> {
     Ok(())
 }
 
+/// The descriptor of a signal, with 16 where its sender may stand, and 7 behind it.
+fn signal_of(signo: i32, code: i32) -> [u8; 24] {
+    let mut desc = [0u8; 24];
+    desc[..4].copy_from_slice(&signo.to_le_bytes());
+    desc[8..12].copy_from_slice(&code.to_le_bytes());
+    desc[16] = 16;
+    desc[20] = 7;
+    desc
+}
+
+/// A signal and its code, the process and the user that sent it, and its address.
+type Signal = (i32, i32, Option<i32>, Option<u32>, Option<u64>);
+
+/// The signal shows its sender, its address or neither.
+fn shows(rt: &impl Abort, wanted: Signal) -> Result<(), Fail> {
+    let (signo, code, ..) = wanted;
+    let desc = signal_of(signo, code);
+    let signal = descriptors::siginfo(&note_of(&desc)).ok().ok_or("size")?;
+    let found = (
+        signal.si_signo(),
+        signal.si_code(),
+        signal.si_pid(),
+        signal.si_uid(),
+        signal.si_addr(),
+    );
+    assert_eq!(rt; found, wanted);
+    assert_eq!(rt; signal.si_errno(), 0);
+    Ok(())
+}
+
+static SIGNALS: [Signal; 7] = [
+    (11, 1, None, None, Some(0x7_0000_0010)),
+    (11, 0, Some(16), Some(7), None),
+    (6, -6, Some(16), Some(7), None),
+    (10, -1, Some(16), Some(7), None),
+    (7, 2, None, None, Some(0x7_0000_0010)),
+    (9, 1, None, None, None),
+    (5, -2, None, None, Some(0x7_0000_0010)),
+];
+
 #[test]
 fn a_signal_shows_its_sender_or_its_address(rt: HostRuntime) -> Result<(), Fail> {
-    let cases: [(i32, i32, Option<i32>, Option<u64>); 7] = [
-        (11, 1, None, Some(0x7_0000_0010)),
-        (11, 0, Some(16), None),
-        (6, -6, Some(16), None),
-        (10, -1, Some(16), None),
-        (7, 2, None, Some(0x7_0000_0010)),
-        (9, 1, None, None),
-        (5, -2, None, Some(0x7_0000_0010)),
-    ];
-    for (signo, code, pid, addr) in cases {
-        let mut desc = [0u8; 24];
-        desc[..4].copy_from_slice(&signo.to_le_bytes());
-        desc[8..12].copy_from_slice(&code.to_le_bytes());
-        desc[16] = 16;
-        desc[20] = 7;
-        let signal = descriptors::siginfo(&note_of(&desc)).ok().ok_or("size")?;
-        assert_eq!(rt;
-            (
-                signal.si_signo(),
-                signal.si_errno(),
-                signal.si_code(),
-                signal.si_pid(),
-                signal.si_uid(),
-                signal.si_addr(),
-            ),
-            (signo, 0, code, pid, pid.map(|_| 7), addr),
-            "signal {signo} code {code}"
-        );
+    for signal in &SIGNALS {
+        shows(&rt, *signal)?;
     }
     Ok(())
 }

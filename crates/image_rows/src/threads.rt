@@ -8,7 +8,7 @@ use std::test::Fail;
 use thread_regs::{Reg, Thread, signal_name, threads};
 
 /// Each register's name with another, and what it holds in the sample.
-const REGISTERS: [(&[u8], &[u8], u64); 33] = [
+static REGISTERS: [(&[u8], &[u8], u64); 33] = [
     (b"pc", b"pc", 0x10400),
     (b"zero", b"x0", 0),
     (b"ra", b"x1", 0x10500),
@@ -86,8 +86,8 @@ fn names_are_known(rt: &impl Abort) -> Result<(), Fail> {
 fn has_thread(rt: &impl Abort, notes: &CoreNotes<'_>) -> Result<(), Fail> {
     let thread = threads(notes).thread(0).ok_or("no thread")?;
     assert_eq!(rt; (thread.tid(), thread.signal()), (4242, 11));
-    for (name, other, value) in REGISTERS {
-        holds(rt, &thread, name, other, value)?;
+    for (name, other, value) in &REGISTERS {
+        holds(rt, &thread, name, other, *value)?;
     }
     Ok(())
 }
