@@ -119,7 +119,9 @@ fn put_stable<D: Disk>(disk: &mut D, at: u64, bytes: &[u8]) -> Result<Result<(),
 fn a_stable_write_outlives_a_crash(rt: HostRuntime) -> Result<(), Fail> {
     let mut disk = Fuse::new(MemDisk::new(rt.alloc(), 4)?, 3);
     put_stable(&mut disk, 1, &[5, 6])??;
-    assert_eq!(rt; put_stable(&mut disk, 0, &[7, 7])?, SYNC);
+    if put_stable(&mut disk, 0, &[7, 7])? != SYNC {
+        Err("the second write ended otherwise")?;
+    }
     let disk = disk.into_inner();
     assert_eq!(rt; disk.bytes(), [7, 7, 6, 0].as_slice());
     leaves(&rt, &disk, Pick::Nothing, &[0, 5, 6, 0])
@@ -145,7 +147,9 @@ fn a_fuse_fails_all_calls_behind_its_limit(rt: HostRuntime) -> Result<(), Fail> 
     ];
     for (limit, outcomes, bytes) in limits {
         let mut disk = Fuse::new(MemDisk::new(rt.alloc(), 4)?, limit);
-        assert_eq!(rt; three_calls(&mut disk)?, outcomes, "limit {limit}");
+        if three_calls(&mut disk)? != outcomes {
+            Err("another call fails")?;
+        }
         assert_eq!(rt; disk.calls(), 3, "limit {limit}");
         assert_eq!(rt;
             disk.into_inner().bytes(),
@@ -167,7 +171,9 @@ fn one_fault_fails_one_call(rt: HostRuntime) -> Result<(), Fail> {
     ];
     for (at, outcomes, bytes) in calls {
         let mut disk = OneFault::new(MemDisk::new(rt.alloc(), 4)?, at);
-        assert_eq!(rt; three_calls(&mut disk)?, outcomes, "call {at}");
+        if three_calls(&mut disk)? != outcomes {
+            Err("another call fails")?;
+        }
         assert_eq!(rt; disk.calls(), 3, "call {at}");
         assert_eq!(rt; disk.into_inner().bytes(), bytes.as_slice(), "call {at}");
     }

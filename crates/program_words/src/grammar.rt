@@ -78,30 +78,30 @@ fn list_command<'a>(alloc: Global) -> Result<Command<'a>, Error> {
 
 // `ask` and its words.
 fn ask_command<'a>(alloc: Global) -> Result<Command<'a>, Error> {
-    let words = Arg::new(alloc, "words")
-        .value_name("WORD")
-        .help("the line, as `delete 3`, `pin 3`, `retire keep=10` or `free`")
-        .num_args(1..)
-        .required(true)
-        .action(ArgAction::Append);
     let command = Command::new(alloc, "ask").about(
         "carries out one line of a script over an archive, and writes its reply; the status is 1 where it is refused",
     );
     Ok(
         command
             .arg(archive_word(alloc))?
-            .arg(words)?
+            .arg(line_words(alloc))?
             .arg(no_wait(alloc))?,
     )
+}
+
+// The words of a line.
+fn line_words<'a>(alloc: Global) -> Arg<'a> {
+    Arg::new(alloc, "words")
+        .value_name("WORD")
+        .help("the line, as `delete 3`, `pin 3`, `retire keep=10` or `free`")
+        .num_args(1..)
+        .required(true)
+        .action(ArgAction::Append)
 }
 
 // `extract` and its words.
 fn extract_command<'a>(alloc: Global) -> Result<Command<'a>, Error> {
     let case = file_word(alloc, "case", "N").help("the case's number");
-    let file = Arg::new(alloc, "file")
-        .value_name("FILE")
-        .help("a new file for the image, which goes to standard output where this is left out")
-        .action(ArgAction::Set);
     let command = Command::new(alloc, "extract").about(
         "writes the image of a case, byte for byte, and nothing else; what is refused is told on standard error",
     );
@@ -109,9 +109,17 @@ fn extract_command<'a>(alloc: Global) -> Result<Command<'a>, Error> {
         command
             .arg(archive_word(alloc))?
             .arg(case)?
-            .arg(file)?
+            .arg(new_file_word(alloc))?
             .arg(no_wait(alloc))?,
     )
+}
+
+// A new file for an image.
+fn new_file_word<'a>(alloc: Global) -> Arg<'a> {
+    Arg::new(alloc, "file")
+        .value_name("FILE")
+        .help("a new file for the image, which goes to standard output where this is left out")
+        .action(ArgAction::Set)
 }
 
 // The archive's file.
