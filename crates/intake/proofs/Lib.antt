@@ -30,3 +30,4 @@ pub mod ChangeLemmas
 pub mod UntouchedLemmas
 pub mod MakingLemmas
 pub mod RunCountLemmas
+pub mod AnswerLemmas

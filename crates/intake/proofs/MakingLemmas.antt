@@ -28,7 +28,7 @@ room_disk : {D : Type 0} (a : Parts D) (slot : ℕ) (r : Result (Unit {0}) Archi
 room_disk a slot (Ok u) left = refl
 room_disk a slot (Err f) left = refl
 
-room_durable : {D : Type 0} (seen : D → List ℕ) (a : Parts D) (slot : ℕ) (r : Result (Unit {0}) ArchiveFault) (left : List ℕ) → durable_of seen (room_left a slot r left) ≡ durable_of seen a
+pub room_durable : {D : Type 0} (seen : D → List ℕ) (a : Parts D) (slot : ℕ) (r : Result (Unit {0}) ArchiveFault) (left : List ℕ) → durable_of seen (room_left a slot r left) ≡ durable_of seen a
 room_durable seen a slot (Ok u) left = refl
 room_durable seen a slot (Err f) left = refl
 
@@ -118,7 +118,7 @@ with_room_bytes : {D : Type 0} (seen : D → List ℕ) (a : Parts D) (s : Stream
     → (taken_in a.journal (seen a.disk) (with_room left s)).bytes ≡ (taken_in a.journal (seen a.disk) s).bytes
 with_room_bytes seen a s left = ap (λ (x : List ℕ). joined a.journal.standing.shape (seen a.disk) s.blocks ++ x) (take_kept (s.len % 4096) s.block (left ++ drop (length left) (drop (s.len % 4096) s.block)))
 
--- What a call makes of a stream that is stays before it and behind it.
+-- What a call makes of a stream that is open before it and behind it.
 abbrev Keeps : Contents → Contents → ℕ → Taken → List ℕ → Type 0
 Keeps old new slot t more = (t' : Taken) × (stream_at new.taken slot ≡ Some t') × (t'.bytes ≡ t.bytes ++ more)
 
@@ -206,13 +206,13 @@ module _ {D : Type 0} (g : disk.Ghosts D) where
           with_room_bytes g.seen old there.0 left ∙ ap (λ (x : Taken). x.bytes) there.2 ∙ sym (append-nil t.bytes),
         )
         | inr ne ↦ kept_as (contents_of g.seen old) (contents_of g.seen new) slot t
-        (ap (λ (a : Parts D). stream_at (contents_of g.seen a).taken slot) now
-        ∙ at_map (taken_in old.journal (g.seen old.disk)) (slice_set old.streams at (option_map (with_room left) (stream_at old.streams at))) slot
-        ∙ ap (option_map (taken_in old.journal (g.seen old.disk))) (set_elsewhere old.streams at slot (option_map (with_room left) (stream_at old.streams at)) ne ∙ there.1)
-        ∙ ap (λ (x : Taken). Some x) there.2)
+            (ap (λ (a : Parts D). stream_at (contents_of g.seen a).taken slot) now
+            ∙ at_map (taken_in old.journal (g.seen old.disk)) (slice_set old.streams at (option_map (with_room left) (stream_at old.streams at))) slot
+            ∙ ap (option_map (taken_in old.journal (g.seen old.disk))) (set_elsewhere old.streams at slot (option_map (with_room left) (stream_at old.streams at)) ne ∙ there.1)
+            ∙ ap (λ (x : Taken). Some x) there.2)
       ]
 
-  -- a stream that is stays before a call and behind it has taken what the call took
+  -- a stream that is open before a call and behind it has taken what the call took
   kept_over : (old new : Parts D) (call : Call) (r : ReplyTo call) (slot : ℕ) (t : Taken) → IsTrue (g.is_honest old.disk) → Makes g old call r new → stream_at (contents_of g.seen old).taken slot ≡ Some t
       → (stream_at (bare_of new).streams slot ≡ None → ⊥) → Keeps (contents_of g.seen old) (contents_of g.seen new) slot t (taken_by g.seen slot old call r)
   kept_over old new (begin_in at s) (Ok u) slot t honest made is stays =
@@ -251,7 +251,7 @@ module _ {D : Type 0} (g : disk.Ghosts D) where
   kept_over old new ask_stopped r slot t honest made is stays = kept_same (contents_of g.seen old) (contents_of g.seen new) slot t is (ap (contents_of g.seen) made.1)
 
   -- each call keeps honesty
-  still_honest : (old new : Parts D) (call : Call) (r : ReplyTo call) → Makes g old call r new → g.is_honest new.disk ≡ g.is_honest old.disk
+  pub still_honest : (old new : Parts D) (call : Call) (r : ReplyTo call) → Makes g old call r new → g.is_honest new.disk ≡ g.is_honest old.disk
   still_honest old new (begin_in slot s) r made = made.stays.honesty
   still_honest old new (lend_of slot left) r made = ap (λ (a : Parts D). g.is_honest a.disk) made.2 ∙ ap g.is_honest (room_disk old slot r left)
   still_honest old new (advance_by slot n) r made = made.stays.honesty
@@ -265,7 +265,7 @@ module _ {D : Type 0} (g : disk.Ghosts D) where
   still_honest old new count_free r made = ap (λ (a : Parts D). g.is_honest a.disk) made.1
   still_honest old new ask_stopped r made = ap (λ (a : Parts D). g.is_honest a.disk) made.1
 
-  -- a stream that stays stays has taken what its calls took
+  -- a stream that stays open has taken what its calls took
   taken_all : (a : Parts D) (slot : ℕ) (t : Taken) (made : List (Made D)) → IsTrue (g.is_honest a.disk) → AreMade g a made → stream_at (contents_of g.seen a).taken slot ≡ Some t → StaysOpen slot made
       → (t' : Taken) × (stream_at (contents_of g.seen (archive_after a made)).taken slot ≡ Some t') × (t'.bytes ≡ t.bytes ++ taken_over g.seen slot a made) × IsTrue (g.is_honest (archive_after a made).disk)
   taken_all a slot t [] honest all is stays = (t, is, sym (append-nil t.bytes), honest)

@@ -147,3 +147,9 @@ AnImageIsWhatWasTaken {D} g = (old begun : Parts D) (slot : ℕ) (s : BareStream
     → Makes g old (begin_in slot s) (Ok u) begun → AreMade g begun made → StaysOpen slot made → Makes g (archive_after begun made) (finish_of slot) (Ok seq) new
     → (c : FoundCase) × (c.seq ≡ seq) × (c.image ≡ taken_over g.seen slot begun made)
     × ((durable_of g.seen new).cases ≡ (durable_of g.seen (archive_after begun made)).cases ++ c ∷ [])
+
+-- What is answered of a case's image is that too, whatever calls are made behind its finish.
+abbrev pub AnImageIsAnsweredAsItWasTaken : {D : Type 0} → disk.Ghosts D → Type 0
+AnImageIsAnsweredAsItWasTaken {D} g = (old begun : Parts D) (slot : ℕ) (s : BareStream) (u : Unit {0}) (made : List (Made D)) (stored : Parts D) (seq : ℕ) (later : List (Made D)) (image : Vec ℕ Global) (last : Parts D)
+    → IsTrue (g.is_honest old.disk) → Makes g old (begin_in slot s) (Ok u) begun → AreMade g begun made → StaysOpen slot made → Makes g (archive_after begun made) (finish_of slot) (Ok seq) stored
+    → AreMade g stored later → Makes g (archive_after stored later) (image_of seq) (Ok image) last → image.items ≡ taken_over g.seen slot begun made
