@@ -3,7 +3,7 @@ ghost use Rattle.std.specs.Prelude.{◌≡◌};
 ghost use Rattle.intake.specs.Durable.{durable_of, durable_part};
 ghost use Rattle.intake.specs.Lasting.{WhatStandsIsOne, NumbersAreAbove, ImagesAreWhole, RunsAreTheFewest};
 ghost use Rattle.intake.specs.Lasts.{FinishLasts, DeleteLasts, PinLasts, RetireLasts, RefusalsLast};
-ghost use Rattle.intake.specs.Lives.{KeptOverManyStops, ACaseIsFound, NumbersStayGiven, NumbersAreGivenOnce, WhatIsClosedIsFound};
+ghost use Rattle.intake.specs.Lives.{KeptOverAStop, KeptOverManyStops, ACaseIsFound, NumbersStayGiven, NumbersAreGivenOnce, WhatIsClosedIsFound};
 ghost use Rattle.intake.specs.Making.{CallsAreMarks, AnImageIsWhatWasTaken, AnImageIsAnsweredAsItWasTaken};
 ghost use Rattle.intake.specs.Marks.{FoundAfterAStop, NothingElseIsLeft, StaysLead, FinishLeads, DeleteLeads, PinLeads, RetireLeads};
 ghost use Rattle.intake.specs.Parts.{Parts, bare_of, contents_of};
@@ -97,7 +97,8 @@ pub fn what_is_closed_is_found<D: Disk>()
 /// Crash safety over many stops: each life of an archive begins with what the last acknowledged mark of the life before has, or
 /// a later one, however many openings fail between, and however often the machine stops within one.
 pub fn kept_over_many_stops<D: Disk>()
-    ensures { KeptOverManyStops D.Disk }
+    ensures one { KeptOverAStop D.Disk }
+    ensures many { KeptOverManyStops D.Disk }
 {}
 
 /// What crash safety means for one case: where it stands behind a call and no later call drops it, it is found after a stop,
