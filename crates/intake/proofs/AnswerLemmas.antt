@@ -19,7 +19,8 @@ use Rattle.intake.specs.Contents.{image_at}
 use Rattle.intake.proofs.ImageLemmas.{image_found}
 use Rattle.intake.proofs.LastingLemmas.{numbers_above}
 use Rattle.intake.proofs.LastsLemmas.{finish_lasts, delete_lasts, pin_lasts, retire_lasts, refusals_last}
-use Rattle.intake.proofs.MakingLemmas.{image_taken, room_durable, still_honest}
+use Rattle.intake.proofs.FactLemmas.{image_taken}
+use Rattle.intake.proofs.MakingLemmas.{room_durable, still_honest}
 
 -- the image of the case of this number
 abbrev found_image : ℕ → List FoundCase → Option (List ℕ)
@@ -201,7 +202,7 @@ module _ {D : Type 0} (g : disk.Ghosts D) (counts : (d : D) (t : ℕ) (c : List 
   image_answered old begun slot s u made stored seq later image last honest begin all stays finish then answer =
       let there = all_honest begun made (begin.stays.honesty ∙ honest) all in
       let taken = image_taken g old begun slot s u made stored seq honest begin all stays finish in
-      let first = just_stored (archive_after begun made) stored slot seq taken.0 there finish taken.1 taken.3 in
+      let first = just_stored (archive_after begun made) stored slot seq taken.0 there finish taken.1.number taken.2 in
       let goes = goes_all g counts only seq taken.0.image stored later (finish.changes.honesty ∙ there) then first in
       let is = answer.bytes goes.1 in
-      one_or_none (found_image seq (durable_of g.seen (archive_after stored later)).cases) taken.0.image image.items goes.0.1 (sym (image_of_case g.seen (archive_after stored later) seq) ∙ is.0) ∙ taken.2
+      one_or_none (found_image seq (durable_of g.seen (archive_after stored later)).cases) taken.0.image image.items goes.0.1 (sym (image_of_case g.seen (archive_after stored later) seq) ∙ is.0) ∙ taken.1.image

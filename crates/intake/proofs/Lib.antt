@@ -31,3 +31,4 @@ pub mod UntouchedLemmas
 pub mod MakingLemmas
 pub mod RunCountLemmas
 pub mod AnswerLemmas
+pub mod FactLemmas

@@ -79,8 +79,8 @@ pub fn calls_are_marks<D: Disk>()
     ensures { CallsAreMarks D.Disk }
 {}
 
-/// A case's image is what its own stream's calls took, from its begin to its finish, whatever other calls were made between;
-/// and so is what is answered of it, whatever calls were made behind.
+/// A case is what its own stream began as, and its image is what that stream's calls took, from its begin to its finish, whatever
+/// other calls were made between; and so is what is answered of it, whatever calls were made behind.
 pub fn an_image_is_what_was_taken<D: Disk>()
     ensures stored { AnImageIsWhatWasTaken D.Disk }
     ensures answered { AnImageIsAnsweredAsItWasTaken D.Disk }

@@ -1,5 +1,5 @@
 use Rattle.intake.proofs.AnswerLemmas.{image_answered}
-use Rattle.intake.proofs.MakingLemmas.{image_taken}
+use Rattle.intake.proofs.FactLemmas.{image_taken}
 use Rattle.intake.proofs.laws.an_image_is_what_was_taken.Goals as goal
 
 pub returns-clause-stored : goal.returns-clause-stored
