@@ -92,7 +92,7 @@ impl Journal {
     /// crash left what stands for some cases, none does. It reads each half's header, and the rest of the half that is
     /// taken in one read. `Disk`: the disk failed. `OutOfMemory`: there was no memory. Both may be met before a check.
     pub fn open<D: Disk>(alloc: Global, disk: &mut D) -> Result<Journal, OpenFault>
-        // The answer is the opening of some bytes that reads gave, on an honest disk of its bytes.
+        // The answer is the opening of some list of bytes as long as the disk, on an honest disk of its bytes.
         ensures gives { ShowsOpening D.Disk disk.old result }
         // What the disk stands for is found, and nothing but the disk and the memory refuses it.
         ensures found { (s : Standing) → IsTrue (D.is_honest disk.old) → Stands (D.seen disk.old) s → Finds result s }

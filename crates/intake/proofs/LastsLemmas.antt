@@ -89,17 +89,19 @@ module _ {D : Type 0} (g : disk.Ghosts D) (old new : Parts D) (honest : IsTrue (
   finish_lasts slot seq call =
       let step = call.step in
       let bytes = call.bytes honest in
-      let case : BareCase = case_from step.0 (bare_of old).next step.1 in
-      (step.1, (
-        step.0,
-        bytes.0,
-        step.2.1,
-        bytes.1,
-        step.3,
-        lasts (stored (bare_of old) slot step.0 step.1) _ step.7 bytes.2
-            ∙ ap (λ (l : List FoundCase). record { cases = l; next = (bare_of old).next + 1 })
-            (zipped_then image_of old.journal.standing.cases case bytes.0.bytes ∙ ap (λ (l : List FoundCase). l ++ with_image case bytes.0.bytes ∷ []) found_before),
-      ))
+      let case : BareCase = case_from step.0 (bare_of old).next step.1 in (
+        step.1,
+        (
+          step.0,
+          bytes.0,
+          step.2.1,
+          bytes.1,
+          step.3,
+          lasts (stored (bare_of old) slot step.0 step.1) _ step.7 bytes.2
+              ∙ ap (λ (l : List FoundCase). record { cases = l; next = (bare_of old).next + 1 })
+              (zipped_then image_of old.journal.standing.cases case bytes.0.bytes ∙ ap (λ (l : List FoundCase). l ++ with_image case bytes.0.bytes ∷ []) found_before),
+        ),
+      )
 
   left : (seqs : List ℕ) → record { cases = with_images (without_cases (bare_of old) seqs).cases (images_without seqs (bare_of old).cases (contents_of g.seen old).images); next = (bare_of old).next } ≡ without (durable_of g.seen old) seqs
   left seqs =

@@ -30,3 +30,5 @@ pub mod ChangeLemmas
 pub mod UntouchedLemmas
 pub mod MakingLemmas
 pub mod RunCountLemmas
+pub mod AnswerLemmas
+pub mod FactLemmas

@@ -74,6 +74,12 @@ module _ {D : Type 0} (g : disk.Ghosts D) (counts : (d : D) (t : ℕ) (c : List 
   run_settled m [] honest settled run = (honest, settled)
   run_settled m (n ∷ ns) honest settled run = run_settled n ns (run.0.honesty ∙ honest) (run.0.settled honest settled) run.1
 
+  pub kept_once : (l : Life D) (left : List ℕ) (x : Durable) → IsLived g l → g.left_since (last_of (last_acknowledged l) l.later).disk (g.clock (last_acknowledged l).disk) left
+      → StandsFor left x → HasOne (last_acknowledged l) l.later x
+  kept_once l left x lived was stands =
+      let end = run_settled l.first l.acknowledged lived.honest lived.settled lived.before in
+      found_has (last_acknowledged l) l.later left x end.0 end.1 lived.after was stands
+
   pub kept : (l : Life D) (ls : List (Life D)) → AreLived g l ls → AreKept l ls
   kept l [] lived = tt
   kept l (n ∷ ns) lived =

@@ -1,15 +1,15 @@
 -- Runs of calls, and what they take.
-use Rattle.std.proofs.Common.{◌≡◌, ◌≢◌, ℕ, zero, suc, ◌%◌, ◌≤◌, ◌==◌, Bool, false, cond, List, [], ◌∷◌, ◌++◌, length, take, drop, map, refl, sym, ap, subst, ◌∙◌, inl, inr, arith, Option, None, Some, Result, Ok, Err}
+use Rattle.std.proofs.Common.{◌≡◌, ◌≢◌, ℕ, zero, suc, ◌%◌, ◌≤◌, ◌==◌, Bool, cond, List, [], ◌∷◌, ◌++◌, length, take, drop, map, refl, sym, ap, subst, ◌∙◌, inl, inr, arith, Option, None, Some, Result, Ok, Err}
 use Rattle.std.specs.List.{AllByRecursion}
 use Rattle.std.specs.Prelude.{IsTrue, option_map, slice_set}
 use Rattle.std.proofs.lemmas.Bool.{cases_eq, eq-eqb, ne_eqb}
 use Rattle.std.proofs.Common.{append_assoc}
 use Rattle.std.proofs.Common.{◌<◌}
-use Rattle.std.proofs.lemmas.List.{append-nil, length-map}
+use Rattle.std.proofs.lemmas.List.{append-nil}
 use Rattle.disk_model.specs.declared.disk.Disk as disk
 use Rattle.intake.specs.Blocks.{joined}
 use Rattle.intake.specs.Contents.{Contents, Taken, RefusedBytes, UnmovedBytes, advanced, empty_taken}
-use Rattle.intake.specs.Durable.{Durable, FoundCase, durable_of}
+use Rattle.intake.specs.Durable.{Durable, durable_of}
 use Rattle.intake.specs.Lending.{with_room}
 use Rattle.intake.specs.Making.{Call, ReplyTo, Makes, Made, AreMade, AreMarks, WouldLeave, archive_after, free_bytes, newly_doubted, taken_by, taken_over, StaysOpen, begin_in, lend_of, advance_by, finish_of, abandon_of, delete_of, pin_of, retire_by, image_of, list_cases, count_free, ask_stopped}
 use Rattle.intake.specs.Marks.{Mark, Passes, Run, mark_of}
@@ -17,10 +17,8 @@ use Rattle.intake.specs.Parts.{Parts, StreamParts, bare_of, bare_stream, content
 use Rattle.intake.specs.Room.{room_left}
 use Rattle.intake.specs.Slots.{stream_at, closed}
 use Rattle.intake.specs.StayLaws.{stays_still, stays_as}
-use Rattle.intake.specs.State.{BareStream}
 use Rattle.intake.specs.declared.faults.ArchiveFault.{ArchiveFault}
 use Rattle.intake.specs.declared.faults.ArchiveFault.TheVariants as fault
-use Rattle.intake.proofs.LastsLemmas.{finish_lasts}
 use Rattle.intake.proofs.MarkLemmas.{stays_lead, finish_leads, delete_leads, pin_leads, retire_leads}
 
 -- what a lent part leaves of an archive that is no stream's
@@ -28,7 +26,7 @@ room_disk : {D : Type 0} (a : Parts D) (slot : ℕ) (r : Result (Unit {0}) Archi
 room_disk a slot (Ok u) left = refl
 room_disk a slot (Err f) left = refl
 
-room_durable : {D : Type 0} (seen : D → List ℕ) (a : Parts D) (slot : ℕ) (r : Result (Unit {0}) ArchiveFault) (left : List ℕ) → durable_of seen (room_left a slot r left) ≡ durable_of seen a
+pub room_durable : {D : Type 0} (seen : D → List ℕ) (a : Parts D) (slot : ℕ) (r : Result (Unit {0}) ArchiveFault) (left : List ℕ) → durable_of seen (room_left a slot r left) ≡ durable_of seen a
 room_durable seen a slot (Ok u) left = refl
 room_durable seen a slot (Err f) left = refl
 
@@ -68,24 +66,24 @@ module _ {D : Type 0} (g : disk.Ghosts D) (counts : (d : D) (t : ℕ) (c : List 
       (mark_of g.seen m.archive doubts ∷ rest.0, (here.0, here.1, refl, rest.1), (here.2, rest.2))
 
 -- What stands in a slot.
-set_there : {X : Type 0} (xs : List (Option X)) (slot : ℕ) (o : Option X) (x : X) → stream_at xs slot ≡ Some x → stream_at (slice_set xs slot o) slot ≡ o
+pub set_there : {X : Type 0} (xs : List (Option X)) (slot : ℕ) (o : Option X) (x : X) → stream_at xs slot ≡ Some x → stream_at (slice_set xs slot o) slot ≡ o
 set_there [] slot o x is = let e : None ≡ Some x = is in cc
 set_there (y ∷ ys) zero o x is = refl
 set_there (y ∷ ys) (suc slot) o x is = set_there ys slot o x is
 
-set_elsewhere : {X : Type 0} (xs : List (Option X)) (at slot : ℕ) (o : Option X) → at ≢ slot → stream_at (slice_set xs at o) slot ≡ stream_at xs slot
+pub set_elsewhere : {X : Type 0} (xs : List (Option X)) (at slot : ℕ) (o : Option X) → at ≢ slot → stream_at (slice_set xs at o) slot ≡ stream_at xs slot
 set_elsewhere [] at slot o ne = refl
 set_elsewhere (y ∷ ys) zero zero o ne = absurd (ne refl)
 set_elsewhere (y ∷ ys) zero (suc slot) o ne = refl
 set_elsewhere (y ∷ ys) (suc at) zero o ne = refl
 set_elsewhere (y ∷ ys) (suc at) (suc slot) o ne = set_elsewhere ys at slot o (λ e. ne (ap suc e))
 
-none_closed : {X : Type 0} (xs : List (Option X)) (slot : ℕ) → stream_at (closed xs) slot ≡ None
+pub none_closed : {X : Type 0} (xs : List (Option X)) (slot : ℕ) → stream_at (closed xs) slot ≡ None
 none_closed [] slot = refl
 none_closed (y ∷ ys) zero = refl
 none_closed (y ∷ ys) (suc slot) = none_closed ys slot
 
-at_map : {X Y : Type 0} (f : X → Y) (xs : List (Option X)) (slot : ℕ) → stream_at (map (option_map f) xs) slot ≡ option_map f (stream_at xs slot)
+pub at_map : {X Y : Type 0} (f : X → Y) (xs : List (Option X)) (slot : ℕ) → stream_at (map (option_map f) xs) slot ≡ option_map f (stream_at xs slot)
 at_map f [] slot = refl
 at_map f (y ∷ ys) zero = refl
 at_map f (y ∷ ys) (suc slot) = at_map f ys slot
@@ -94,14 +92,14 @@ none_is : {X Y : Type 0} (f : X → Y) (o : Option X) → option_map f o ≡ Non
 none_is f None is = refl
 none_is f (Some x) is = let e : Some (f x) ≡ None = is in cc
 
-some_of : {X Y : Type 0} (f : X → Y) (o : Option X) (y : Y) → option_map f o ≡ Some y → (x : X) × (o ≡ Some x) × (f x ≡ y)
+pub some_of : {X Y : Type 0} (f : X → Y) (o : Option X) (y : Y) → option_map f o ≡ Some y → (x : X) × (o ≡ Some x) × (f x ≡ y)
 some_of f None y is = let e : None ≡ Some y = is in cc
 some_of f (Some x) y is = (x, refl, inside is)
   where
     inside : Some (f x) ≡ Some y → f x ≡ y
     inside e = cc
 
-some_is : {X : Type 0} (x y : X) → Some x ≡ Some y → x ≡ y
+pub some_is : {X : Type 0} (x y : X) → Some x ≡ Some y → x ≡ y
 some_is x y e = cc
 
 -- the first bytes of a block stay when the rest is lent
@@ -118,7 +116,7 @@ with_room_bytes : {D : Type 0} (seen : D → List ℕ) (a : Parts D) (s : Stream
     → (taken_in a.journal (seen a.disk) (with_room left s)).bytes ≡ (taken_in a.journal (seen a.disk) s).bytes
 with_room_bytes seen a s left = ap (λ (x : List ℕ). joined a.journal.standing.shape (seen a.disk) s.blocks ++ x) (take_kept (s.len % 4096) s.block (left ++ drop (length left) (drop (s.len % 4096) s.block)))
 
--- What a call makes of a stream that is stays before it and behind it.
+-- What a call makes of a stream that is open before it and behind it.
 abbrev Keeps : Contents → Contents → ℕ → Taken → List ℕ → Type 0
 Keeps old new slot t more = (t' : Taken) × (stream_at new.taken slot ≡ Some t') × (t'.bytes ≡ t.bytes ++ more)
 
@@ -206,13 +204,13 @@ module _ {D : Type 0} (g : disk.Ghosts D) where
           with_room_bytes g.seen old there.0 left ∙ ap (λ (x : Taken). x.bytes) there.2 ∙ sym (append-nil t.bytes),
         )
         | inr ne ↦ kept_as (contents_of g.seen old) (contents_of g.seen new) slot t
-        (ap (λ (a : Parts D). stream_at (contents_of g.seen a).taken slot) now
-        ∙ at_map (taken_in old.journal (g.seen old.disk)) (slice_set old.streams at (option_map (with_room left) (stream_at old.streams at))) slot
-        ∙ ap (option_map (taken_in old.journal (g.seen old.disk))) (set_elsewhere old.streams at slot (option_map (with_room left) (stream_at old.streams at)) ne ∙ there.1)
-        ∙ ap (λ (x : Taken). Some x) there.2)
+            (ap (λ (a : Parts D). stream_at (contents_of g.seen a).taken slot) now
+            ∙ at_map (taken_in old.journal (g.seen old.disk)) (slice_set old.streams at (option_map (with_room left) (stream_at old.streams at))) slot
+            ∙ ap (option_map (taken_in old.journal (g.seen old.disk))) (set_elsewhere old.streams at slot (option_map (with_room left) (stream_at old.streams at)) ne ∙ there.1)
+            ∙ ap (λ (x : Taken). Some x) there.2)
       ]
 
-  -- a stream that is stays before a call and behind it has taken what the call took
+  -- a stream that is open before a call and behind it has taken what the call took
   kept_over : (old new : Parts D) (call : Call) (r : ReplyTo call) (slot : ℕ) (t : Taken) → IsTrue (g.is_honest old.disk) → Makes g old call r new → stream_at (contents_of g.seen old).taken slot ≡ Some t
       → (stream_at (bare_of new).streams slot ≡ None → ⊥) → Keeps (contents_of g.seen old) (contents_of g.seen new) slot t (taken_by g.seen slot old call r)
   kept_over old new (begin_in at s) (Ok u) slot t honest made is stays =
@@ -251,7 +249,7 @@ module _ {D : Type 0} (g : disk.Ghosts D) where
   kept_over old new ask_stopped r slot t honest made is stays = kept_same (contents_of g.seen old) (contents_of g.seen new) slot t is (ap (contents_of g.seen) made.1)
 
   -- each call keeps honesty
-  still_honest : (old new : Parts D) (call : Call) (r : ReplyTo call) → Makes g old call r new → g.is_honest new.disk ≡ g.is_honest old.disk
+  pub still_honest : (old new : Parts D) (call : Call) (r : ReplyTo call) → Makes g old call r new → g.is_honest new.disk ≡ g.is_honest old.disk
   still_honest old new (begin_in slot s) r made = made.stays.honesty
   still_honest old new (lend_of slot left) r made = ap (λ (a : Parts D). g.is_honest a.disk) made.2 ∙ ap g.is_honest (room_disk old slot r left)
   still_honest old new (advance_by slot n) r made = made.stays.honesty
@@ -265,8 +263,8 @@ module _ {D : Type 0} (g : disk.Ghosts D) where
   still_honest old new count_free r made = ap (λ (a : Parts D). g.is_honest a.disk) made.1
   still_honest old new ask_stopped r made = ap (λ (a : Parts D). g.is_honest a.disk) made.1
 
-  -- a stream that stays stays has taken what its calls took
-  taken_all : (a : Parts D) (slot : ℕ) (t : Taken) (made : List (Made D)) → IsTrue (g.is_honest a.disk) → AreMade g a made → stream_at (contents_of g.seen a).taken slot ≡ Some t → StaysOpen slot made
+  -- a stream that stays open has taken what its calls took
+  pub taken_all : (a : Parts D) (slot : ℕ) (t : Taken) (made : List (Made D)) → IsTrue (g.is_honest a.disk) → AreMade g a made → stream_at (contents_of g.seen a).taken slot ≡ Some t → StaysOpen slot made
       → (t' : Taken) × (stream_at (contents_of g.seen (archive_after a made)).taken slot ≡ Some t') × (t'.bytes ≡ t.bytes ++ taken_over g.seen slot a made) × IsTrue (g.is_honest (archive_after a made).disk)
   taken_all a slot t [] honest all is stays = (t, is, sym (append-nil t.bytes), honest)
   taken_all a slot t (m ∷ ms) honest all is stays =
@@ -274,37 +272,7 @@ module _ {D : Type 0} (g : disk.Ghosts D) where
       let rest = taken_all m.archive slot here.0 ms (still_honest a m.archive m.call m.reply all.0 ∙ honest) all.1 here.1 stays.1 in
       (rest.0, rest.1, rest.2 ∙ ap (λ (x : List ℕ). x ++ taken_over g.seen slot m.archive ms) here.2 ∙ append_assoc t.bytes (taken_by g.seen slot a m.call m.reply) (taken_over g.seen slot m.archive ms), rest.3)
 
-  set_within : {X : Type 0} (xs : List (Option X)) (slot : ℕ) (o : Option X) → slot < length xs → stream_at (slice_set xs slot o) slot ≡ o
+  pub set_within : {X : Type 0} (xs : List (Option X)) (slot : ℕ) (o : Option X) → slot < length xs → stream_at (slice_set xs slot o) slot ≡ o
   set_within [] slot o below = absurd (omega arith)
   set_within (y ∷ ys) zero o below = refl
   set_within (y ∷ ys) (suc slot) o below = set_within ys slot o (omega arith)
-
-  -- the image of a case is what its stream took
-  pub image_taken : (old begun : Parts D) (slot : ℕ) (s : BareStream) (u : Unit {0}) (made : List (Made D)) (new : Parts D) (seq : ℕ) → IsTrue (g.is_honest old.disk)
-      → Makes g old (begin_in slot s) (Ok u) begun → AreMade g begun made → StaysOpen slot made → Makes g (archive_after begun made) (finish_of slot) (Ok seq) new
-      → (c : FoundCase) × (c.seq ≡ seq) × (c.image ≡ taken_over g.seen slot begun made) × ((durable_of g.seen new).cases ≡ (durable_of g.seen (archive_after begun made)).cases ++ c ∷ [])
-  image_taken old begun slot s u made new seq honest begin all stays finish =
-      let last : Parts D = archive_after begun made in
-      let below : slot < length (contents_of g.seen old).taken =
-      (let low = begin.step.0.1 in omega (arith, low, length-map old.streams (option_map bare_stream), length-map old.streams (option_map (taken_in old.journal (g.seen old.disk))))) in
-      let first : stream_at (contents_of g.seen begun).taken slot ≡ Some empty_taken =
-      ap (λ (c : Contents). stream_at c.taken slot) begin.bytes ∙ set_within (contents_of g.seen old).taken slot (Some empty_taken) below in
-      let taken = taken_all begun slot empty_taken made (begin.stays.honesty ∙ honest) all first stays in
-      let lasts = finish_lasts g last new taken.3 slot seq finish in
-      let same : lasts.1.1 ≡ taken.0 = some_is lasts.1.1 taken.0 (sym lasts.1.3 ∙ taken.1) in (
-        record {
-          seq = (durable_of g.seen last).next;
-          kind = lasts.1.0.kind;
-          name = lasts.1.0.name;
-          pid = lasts.1.0.pid;
-          signal = lasts.1.0.signal;
-          time = lasts.1.0.time;
-          pinned = false;
-          len = lasts.1.0.len;
-          image = lasts.1.1.bytes;
-          runs = lasts.0;
-        },
-        sym finish.step.6,
-        ap (λ (x : Taken). x.bytes) same ∙ taken.2,
-        ap (λ (x : Durable). x.cases) lasts.1.5,
-      )

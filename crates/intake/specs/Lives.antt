@@ -79,6 +79,11 @@ abbrev pub AreKept : {D : Type 0} → Life D → List (Life D) → Type 0
 AreKept l [] = Unit {0}
 AreKept l (n ∷ ns) = HasOne (last_acknowledged l) l.later n.first.durable × AreKept n ns
 
+-- Whatever bytes a stop leaves of a life, what they stand for is what its last acknowledged mark has, or a later one.
+abbrev pub KeptOverAStop : {D : Type 0} → disk.Ghosts D → Type 0
+KeptOverAStop {D} g = (l : Life D) (left : List ℕ) (x : Durable) → IsLived g l → g.left_since (last_of (last_acknowledged l) l.later).disk (g.clock (last_acknowledged l).disk) left
+    → StandsFor left x → HasOne (last_acknowledged l) l.later x
+
 abbrev pub KeptOverManyStops : {D : Type 0} → disk.Ghosts D → Type 0
 KeptOverManyStops {D} g = (l : Life D) (ls : List (Life D)) → AreLived g l ls → AreKept l ls
 

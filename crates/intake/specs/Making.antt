@@ -1,5 +1,5 @@
 -- The calls of an open archive as one relation, and runs of them.
-use Rattle.std.specs.Prelude.{◌≡◌, ◌≢◌, ◌==◌, ℕ, Bool, List, [], ◌∷◌, ◌++◌, length, take, Option, None, Some, Result, Ok, Err, IsTrue, Vec, if◌then◌else◌}
+use Rattle.std.specs.Prelude.{◌≡◌, ◌≢◌, ◌==◌, ℕ, Bool, false, List, [], ◌∷◌, ◌++◌, length, take, Option, None, Some, Result, Ok, Err, IsTrue, Vec, if◌then◌else◌}
 use Rattle.std.specs.Global.{Global}
 use Rattle.std.specs.Borrow.{Bor}
 use Rattle.std.specs.List.{AllByRecursion}
@@ -141,9 +141,27 @@ abbrev pub StaysOpen : {D : Type 0} → ℕ → List (Made D) → Type 0
 StaysOpen slot [] = Unit {0}
 StaysOpen slot (m ∷ ms) = (stream_at (bare_of m.archive).streams slot ≢ None) × StaysOpen slot ms
 
--- A case's image is what its own stream's calls took, from its begin to its finish, whatever other calls were made between.
+-- The case of a stream that began so, under this number, with these bytes as its image.
+pub record IsCaseOf (s : BareStream) (seq : ℕ) (bytes : List ℕ) (c : FoundCase) : Type 0 where
+  pub number : c.seq ≡ seq
+  pub kind : c.kind ≡ s.kind
+  pub name : c.name ≡ s.name
+  pub pid : c.pid ≡ s.pid
+  pub signal : c.signal ≡ s.signal
+  pub time : c.time ≡ s.time
+  pub unpinned : c.pinned ≡ false
+  pub image : c.image ≡ bytes
+
+-- A case is what its own stream began as, and its image is what its calls took, from its begin to its finish, whatever other
+-- calls were made between.
 abbrev pub AnImageIsWhatWasTaken : {D : Type 0} → disk.Ghosts D → Type 0
 AnImageIsWhatWasTaken {D} g = (old begun : Parts D) (slot : ℕ) (s : BareStream) (u : Unit {0}) (made : List (Made D)) (new : Parts D) (seq : ℕ) → IsTrue (g.is_honest old.disk)
     → Makes g old (begin_in slot s) (Ok u) begun → AreMade g begun made → StaysOpen slot made → Makes g (archive_after begun made) (finish_of slot) (Ok seq) new
-    → (c : FoundCase) × (c.seq ≡ seq) × (c.image ≡ taken_over g.seen slot begun made)
+    → (c : FoundCase) × IsCaseOf s seq (taken_over g.seen slot begun made) c
     × ((durable_of g.seen new).cases ≡ (durable_of g.seen (archive_after begun made)).cases ++ c ∷ [])
+
+-- What is answered of a case's image is that too, whatever calls are made behind its finish.
+abbrev pub AnImageIsAnsweredAsItWasTaken : {D : Type 0} → disk.Ghosts D → Type 0
+AnImageIsAnsweredAsItWasTaken {D} g = (old begun : Parts D) (slot : ℕ) (s : BareStream) (u : Unit {0}) (made : List (Made D)) (stored : Parts D) (seq : ℕ) (later : List (Made D)) (image : Vec ℕ Global) (last : Parts D)
+    → IsTrue (g.is_honest old.disk) → Makes g old (begin_in slot s) (Ok u) begun → AreMade g begun made → StaysOpen slot made → Makes g (archive_after begun made) (finish_of slot) (Ok seq) stored
+    → AreMade g stored later → Makes g (archive_after stored later) (image_of seq) (Ok image) last → image.items ≡ taken_over g.seen slot begun made

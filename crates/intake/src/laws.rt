@@ -3,8 +3,8 @@ ghost use Rattle.std.specs.Prelude.{◌≡◌};
 ghost use Rattle.intake.specs.Durable.{durable_of, durable_part};
 ghost use Rattle.intake.specs.Lasting.{WhatStandsIsOne, NumbersAreAbove, ImagesAreWhole, RunsAreTheFewest};
 ghost use Rattle.intake.specs.Lasts.{FinishLasts, DeleteLasts, PinLasts, RetireLasts, RefusalsLast};
-ghost use Rattle.intake.specs.Lives.{KeptOverManyStops, ACaseIsFound, NumbersStayGiven, NumbersAreGivenOnce, WhatIsClosedIsFound};
-ghost use Rattle.intake.specs.Making.{CallsAreMarks, AnImageIsWhatWasTaken};
+ghost use Rattle.intake.specs.Lives.{KeptOverAStop, KeptOverManyStops, ACaseIsFound, NumbersStayGiven, NumbersAreGivenOnce, WhatIsClosedIsFound};
+ghost use Rattle.intake.specs.Making.{CallsAreMarks, AnImageIsWhatWasTaken, AnImageIsAnsweredAsItWasTaken};
 ghost use Rattle.intake.specs.Marks.{FoundAfterAStop, NothingElseIsLeft, StaysLead, FinishLeads, DeleteLeads, PinLeads, RetireLeads};
 ghost use Rattle.intake.specs.Parts.{Parts, bare_of, contents_of};
 
@@ -79,10 +79,14 @@ pub fn calls_are_marks<D: Disk>()
     ensures { CallsAreMarks D.Disk }
 {}
 
-/// A case's image is what its own stream's calls took, from its begin to its finish, whatever other calls were made between.
+/// A case is what its own stream began as, and its image is what that stream's calls took, from its begin to its finish, whatever
+/// other calls were made between; and so is what is answered of it, whatever calls were made behind.
 pub fn an_image_is_what_was_taken<D: Disk>()
-    ensures { AnImageIsWhatWasTaken D.Disk }
-{}
+    ensures stored { AnImageIsWhatWasTaken D.Disk }
+    ensures answered { AnImageIsAnsweredAsItWasTaken D.Disk }
+{
+    live_cases_are_sound();
+}
 
 /// An archive that is closed, and that no disk fault has stopped, is found again by the next opening, which only the disk and the
 /// memory refuse.
@@ -93,7 +97,8 @@ pub fn what_is_closed_is_found<D: Disk>()
 /// Crash safety over many stops: each life of an archive begins with what the last acknowledged mark of the life before has, or
 /// a later one, however many openings fail between, and however often the machine stops within one.
 pub fn kept_over_many_stops<D: Disk>()
-    ensures { KeptOverManyStops D.Disk }
+    ensures one { KeptOverAStop D.Disk }
+    ensures many { KeptOverManyStops D.Disk }
 {}
 
 /// What crash safety means for one case: where it stands behind a call and no later call drops it, it is found after a stop,
