@@ -30,5 +30,5 @@ pub use script_streams::{Input, Output, ReadInput, StreamFault, WriteOutput};
 pub use session::{LifeFault, MemoryFault, Naming, SessionFault};
 pub use store::store_stream;
 pub use store_life::open_and_store;
-pub use telling::reason;
 pub use stored::a_stored_case_is_found;
+pub use telling::reason;

@@ -8,9 +8,9 @@ pub(crate) fn program<'a>(alloc: Global) -> Result<Command<'a>, Error> {
         .bin_name("corekeep")?
         .about("keeps images of programs and their memory as numbered cases in an archive")
         .after_help(
-            "Statuses: 0; 1 where an archive, a file, a shape, a template or a step of `store` is refused (`no REASON` on \
-             standard output) or a session ends before its script (`fault NAME` on standard error); 2 where these words \
-             are refused.",
+            "Statuses: 0; 1 where an archive, a file, a shape, a template, a line of `ask` or a step of `store` is refused \
+             (`no REASON` on standard output, of `extract` on standard error) or a session ends before its script \
+             (`fault NAME` on standard error); 2 where these words are refused.",
         )
         .no_binary_name(true)
         .subcommand_required(true)

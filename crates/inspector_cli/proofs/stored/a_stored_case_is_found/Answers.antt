@@ -17,4 +17,4 @@ returns-clause-parts g c s n honest had fresh t =
 pub returns-clause-found : goal.returns-clause-found
 returns-clause-found g c s later l ls n bytes t had fresh spares are is answered spared lived =
     let k = c.what_calls_leave.ensures in
-    stored_found g.D.Disk (lasts_of g.D.Disk k.finish k.delete k.pin k.retire k.refusals) c.found_after_a_stop.ensures c.what_stands_is_one.ensures c.kept_over_many_stops.ensures s later l ls n bytes t had fresh spares are is answered spared lived
+    stored_found g.D.Disk (lasts_of g.D.Disk k.finish k.delete k.pin k.retire k.refusals) c.found_after_a_stop.ensures c.what_stands_is_one.ensures c.kept_over_many_stops.ensures.many s later l ls n bytes t had fresh spares are is answered spared lived
