@@ -67,11 +67,24 @@ struct Script<'a> {
     input: Pieces<'a>,
     buffer: ScriptBuffer,
     line: KeptLine,
+    reply: Reply,
+    output: Narrow,
 }
 
 // The next line, which is kept.
 fn next_line(script: &mut Script<'_>) -> Result<LineEnding, ReadStop> {
-    script.buffer.next_line(&mut script.input, &mut script.line)
+    let (line, reply) = (&mut script.line, &mut script.reply);
+    script
+        .buffer
+        .next_line(&mut script.input, line, reply, &mut script.output)
+}
+
+// The next bytes of a part, and how many there are.
+fn next_bytes(script: &mut Script<'_>, into: &mut [u8]) -> Result<usize, ReadStop> {
+    let reply = &mut script.reply;
+    script
+        .buffer
+        .next_raw(&mut script.input, into, reply, &mut script.output)
 }
 
 // The next line ends so, and has this text.
@@ -89,9 +102,9 @@ fn line_is(
 // The next two bytes of a part are these.
 fn part_is(rt: &impl Abort, script: &mut Script<'_>, bytes: &[u8]) -> Result<(), ReadStop> {
     let mut part = [0u8; 2];
-    let mut at = script.buffer.next_raw(&mut script.input, &mut part)?;
+    let mut at = next_bytes(script, &mut part)?;
     if at == 1 {
-        at += script.buffer.next_raw(&mut script.input, &mut part[1..])?;
+        at += next_bytes(script, &mut part[1..])?;
     }
     assert_eq!(rt; at, 2);
     assert_eq!(rt; part.as_slice(), bytes);
@@ -108,6 +121,8 @@ fn script_of(rest: &[u8], size: usize, fails: bool) -> Script<'_> {
         },
         buffer: ScriptBuffer::new(),
         line: KeptLine::new(),
+        reply: Reply::new(),
+        output: takes_at_most(0),
     }
 }
 
@@ -161,7 +176,7 @@ fn long_lines(rt: HostRuntime) -> Result<(), Fail> {
 // How many bytes of a part of four come next.
 fn next_part(script: &mut Script<'_>) -> Result<usize, ReadStop> {
     let mut part = [0u8; 4];
-    script.buffer.next_raw(&mut script.input, &mut part)
+    next_bytes(script, &mut part)
 }
 
 #[test]
@@ -199,6 +214,21 @@ fn tell_values<O: Output>(reply: &mut Reply, output: &mut O) {
     reply.tell_decimal(output, 4);
     reply.tell_signed(output, -1);
     reply.tell_hex(output, b"\x0a\xbb");
+}
+
+#[test]
+fn replies_come_before_more_is_read(rt: HostRuntime) -> Result<(), Fail> {
+    let mut script = script_of(b"list\nfree\n", 5, false);
+    script.output = takes_at_most(3);
+    next_line(&mut script)?;
+    script.reply.tell(&mut script.output, b"ok\n");
+    let before = script.output.left;
+    next_line(&mut script)?;
+    assert_eq!(rt;
+        (before, script.output.left, script.output.last),
+        (3, 0, b'\n')
+    );
+    Ok(())
 }
 
 #[test]
