@@ -29,7 +29,8 @@ fn core_of(alloc: Global, vaddr: u64, bytes: &[u8]) -> Result<Vec<u8>, AllocErro
     core_image(alloc, &[], &[load])
 }
 
-/// Checks the frames of a core from a pc and a frame pointer on, by pc and frame pointer, and why they end.
+/// Checks the frames of a core from a pc and a frame pointer on, by pc and frame pointer, and why they end: by a scan of its
+/// segments, and by a table of them.
 fn check(
     rt: &impl Abort,
     alloc: Global,
@@ -39,8 +40,19 @@ fn check(
     stop: Stop,
 ) -> Result<(), Fail> {
     let elf = Elf::read(core, Want::Core).ok().ok_or("refused")?;
-    let space = AddressSpace::new(alloc, &elf, None);
-    let mut frames = Frames::new(&space, 0x10400, fp);
+    check_over(rt, &AddressSpace::new(alloc, &elf, None), fp, wanted, stop)?;
+    check_over(rt, &AddressSpace::indexed(alloc, &elf, None)?, fp, wanted, stop)
+}
+
+/// The same over one address space.
+fn check_over(
+    rt: &impl Abort,
+    space: &AddressSpace<'_>,
+    fp: u64,
+    wanted: &[(u64, u64)],
+    stop: Stop,
+) -> Result<(), Fail> {
+    let mut frames = Frames::new(space, 0x10400, fp);
     let mut index = 0u64;
     for (pc, fp) in wanted {
         assert!(rt; frames.stop().is_none());

@@ -1,4 +1,6 @@
 //! Lines and parts in pieces of any size, and streams that fail.
+ghost use Rattle.std.specs.Prelude.{◌<◌, length};
+
 use script_streams::{
     Input, KeptLine, LineEnding, Output, ReadInput, ReadStop, Reply, ScriptBuffer, StreamFault,
     WriteOutput,
@@ -80,7 +82,9 @@ fn next_line(script: &mut Script<'_>) -> Result<LineEnding, ReadStop> {
 }
 
 // The next bytes of a part, and how many there are.
-fn next_bytes(script: &mut Script<'_>, into: &mut [u8]) -> Result<usize, ReadStop> {
+fn next_bytes(script: &mut Script<'_>, into: &mut [u8]) -> Result<usize, ReadStop>
+    requires { 0 < length into.old }
+{
     let reply = &mut script.reply;
     script
         .buffer
@@ -104,7 +108,7 @@ fn part_is(rt: &impl Abort, script: &mut Script<'_>, bytes: &[u8]) -> Result<(),
     let mut part = [0u8; 2];
     let mut at = next_bytes(script, &mut part)?;
     if at == 1 {
-        at += next_bytes(script, &mut part[1..])?;
+        at = at.saturating_add(next_bytes(script, &mut part[1..])?);
     }
     assert_eq!(rt; at, 2);
     assert_eq!(rt; part.as_slice(), bytes);
@@ -216,12 +220,18 @@ fn tell_values<O: Output>(reply: &mut Reply, output: &mut O) {
     reply.tell_hex(output, b"\x0a\xbb");
 }
 
+// Tells the script's output a text.
+fn tell(script: &mut Script<'_>, text: &[u8]) {
+    let reply = &mut script.reply;
+    reply.tell(&mut script.output, text);
+}
+
 #[test]
 fn replies_come_before_more_is_read(rt: HostRuntime) -> Result<(), Fail> {
     let mut script = script_of(b"list\nfree\n", 5, false);
     script.output = takes_at_most(3);
     next_line(&mut script)?;
-    script.reply.tell(&mut script.output, b"ok\n");
+    tell(&mut script, b"ok\n");
     let before = script.output.left;
     next_line(&mut script)?;
     assert_eq!(rt;
