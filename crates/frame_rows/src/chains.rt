@@ -41,7 +41,13 @@ fn check(
 ) -> Result<(), Fail> {
     let elf = Elf::read(core, Want::Core).ok().ok_or("refused")?;
     check_over(rt, &AddressSpace::new(alloc, &elf, None), fp, wanted, stop)?;
-    check_over(rt, &AddressSpace::indexed(alloc, &elf, None)?, fp, wanted, stop)
+    check_over(
+        rt,
+        &AddressSpace::indexed(alloc, &elf, None)?,
+        fp,
+        wanted,
+        stop,
+    )
 }
 
 /// The same over one address space.
