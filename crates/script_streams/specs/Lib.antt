@@ -4,3 +4,4 @@ pub mod Reading
 pub mod GoingOn
 pub mod Telling
 pub mod Writing
+pub mod Replies

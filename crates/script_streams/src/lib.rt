@@ -4,11 +4,13 @@
 mod kept_line;
 mod laws;
 mod reader;
+mod replies;
 mod reply;
 mod streams;
 
 pub use kept_line::KeptLine;
 pub use laws::{lines_are_cut_one_way, reading_adds_up, telling_adds_up};
 pub use reader::{LineEnding, ReadStop, ScriptBuffer};
+pub use replies::{tell_no, tell_ok};
 pub use reply::Reply;
 pub use streams::{Input, Output, ReadInput, StreamFault, WriteOutput};
