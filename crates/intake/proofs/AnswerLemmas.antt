@@ -12,7 +12,7 @@ use Rattle.intake.specs.Blocks.{image_in}
 use Rattle.intake.specs.Calls.{FinishCall}
 use Rattle.intake.specs.Durable.{Durable, FoundCase, durable_of, found_case, without, flagged}
 use Rattle.intake.specs.Lasting.{number_of}
-use Rattle.intake.specs.Making.{Call, ReplyTo, Makes, Made, AreMade, StaysOpen, archive_after, taken_over, begin_in, lend_of, advance_by, finish_of, abandon_of, delete_of, pin_of, retire_by, image_of, list_cases, count_free, ask_stopped}
+use Rattle.intake.specs.Making.{Call, ReplyTo, Makes, Made, AreMade, StaysOpen, archive_after, taken_over, begin_in, lend_of, advance_by, finish_of, abandon_of, delete_of, pin_of, retire_by, image_of, find_case, list_cases, count_free, ask_stopped}
 use Rattle.intake.specs.Parts.{Parts, bare_of, contents_of}
 use Rattle.intake.specs.State.{Bare, BareStream}
 use Rattle.intake.specs.Contents.{image_at}
@@ -130,6 +130,7 @@ module _ {D : Type 0} (g : disk.Ghosts D) (counts : (d : D) (t : ℕ) (c : List 
   goes_over seq image old new (retire_by policy) (Ok d) honest made was = goes_without seq image _ _ d.dropped.items (retire_lasts g old new honest policy d made) was
   goes_over seq image old new (retire_by policy) (Err f) honest made was = goes_as seq image _ _ (refusals_last g counts only old new f honest (inr (inr (inr (policy, made))))) was
   goes_over seq image old new (image_of at) r honest made was = goes_as seq image _ _ (made.stays.durable honest) was
+  goes_over seq image old new (find_case at) r honest made was = goes_as seq image _ _ (ap (durable_of g.seen) made.1) was
   goes_over seq image old new list_cases r honest made was = goes_as seq image _ _ (ap (durable_of g.seen) made.1) was
   goes_over seq image old new count_free r honest made was = goes_as seq image _ _ (ap (durable_of g.seen) made.1) was
   goes_over seq image old new ask_stopped r honest made was = goes_as seq image _ _ (ap (durable_of g.seen) made.1) was

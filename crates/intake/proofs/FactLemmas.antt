@@ -7,7 +7,7 @@ use Rattle.disk_model.specs.declared.disk.Disk as disk
 use Rattle.intake.specs.Contents.{Contents, Taken, empty_taken}
 use Rattle.intake.specs.Durable.{Durable, FoundCase, durable_of}
 use Rattle.intake.specs.Lending.{with_room}
-use Rattle.intake.specs.Making.{Call, ReplyTo, Makes, Made, AreMade, StaysOpen, IsCaseOf, archive_after, taken_over, begin_in, lend_of, advance_by, finish_of, abandon_of, delete_of, pin_of, retire_by, image_of, list_cases, count_free, ask_stopped}
+use Rattle.intake.specs.Making.{Call, ReplyTo, Makes, Made, AreMade, StaysOpen, IsCaseOf, archive_after, taken_over, begin_in, lend_of, advance_by, finish_of, abandon_of, delete_of, pin_of, retire_by, image_of, find_case, list_cases, count_free, ask_stopped}
 use Rattle.intake.specs.Parts.{Parts, bare_of, bare_stream, contents_of, taken_in}
 use Rattle.intake.specs.Room.{room_left}
 use Rattle.intake.specs.Slots.{stream_at, closed}
@@ -140,6 +140,7 @@ module _ {D : Type 0} (g : disk.Ghosts D) where
   kept_facts old new (image_of seq) (Err fault.OutOfMemory) slot b made is there = kept_same (bare_of old) (bare_of new) slot b is (streams_are _ _ made.step.2)
   kept_facts old new (image_of seq) (Err fault.Disk) slot b made is there = kept_closed (bare_of old) (bare_of new) slot b is there (streams_are _ _ made.step.2)
   kept_facts old new (image_of seq) (Err _) slot b made is there = absurd made.step
+  kept_facts old new (find_case at) r slot b made is there = kept_same (bare_of old) (bare_of new) slot b is (ap (λ (a : Parts D). (bare_of a).streams) made.1)
   kept_facts old new list_cases r slot b made is there = kept_same (bare_of old) (bare_of new) slot b is (ap (λ (a : Parts D). (bare_of a).streams) made.1)
   kept_facts old new count_free r slot b made is there = kept_same (bare_of old) (bare_of new) slot b is (ap (λ (a : Parts D). (bare_of a).streams) made.1)
   kept_facts old new ask_stopped r slot b made is there = kept_same (bare_of old) (bare_of new) slot b is (ap (λ (a : Parts D). (bare_of a).streams) made.1)

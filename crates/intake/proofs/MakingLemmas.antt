@@ -11,7 +11,7 @@ use Rattle.intake.specs.Blocks.{joined}
 use Rattle.intake.specs.Contents.{Contents, Taken, RefusedBytes, UnmovedBytes, advanced, empty_taken}
 use Rattle.intake.specs.Durable.{Durable, durable_of}
 use Rattle.intake.specs.Lending.{with_room}
-use Rattle.intake.specs.Making.{Call, ReplyTo, Makes, Made, AreMade, AreMarks, WouldLeave, archive_after, free_bytes, newly_doubted, taken_by, taken_over, StaysOpen, begin_in, lend_of, advance_by, finish_of, abandon_of, delete_of, pin_of, retire_by, image_of, list_cases, count_free, ask_stopped}
+use Rattle.intake.specs.Making.{Call, ReplyTo, Makes, Made, AreMade, AreMarks, WouldLeave, archive_after, free_bytes, newly_doubted, taken_by, taken_over, StaysOpen, begin_in, lend_of, advance_by, finish_of, abandon_of, delete_of, pin_of, retire_by, image_of, find_case, list_cases, count_free, ask_stopped}
 use Rattle.intake.specs.Marks.{Mark, Passes, Run, mark_of}
 use Rattle.intake.specs.Parts.{Parts, StreamParts, bare_of, bare_stream, contents_of, taken_in}
 use Rattle.intake.specs.Room.{room_left}
@@ -52,6 +52,7 @@ module _ {D : Type 0} (g : disk.Ghosts D) (counts : (d : D) (t : ℕ) (c : List 
   one_mark old before (pin_of seq flag) r new made = pin_leads g counts only old new seq flag r made before
   one_mark old before (retire_by policy) r new made = retire_leads g counts only old new policy r made before
   one_mark old before (image_of seq) r new made = ([], tt, stays_lead g counts only old new before made.stays)
+  one_mark old before (find_case seq) r new made = ([], tt, stays_lead g counts only old new before (stays_as g old new made.1))
   one_mark old before list_cases r new made = ([], tt, stays_lead g counts only old new before (stays_as g old new made.1))
   one_mark old before count_free r new made = ([], tt, stays_lead g counts only old new before (stays_as g old new made.1))
   one_mark old before ask_stopped r new made = ([], tt, stays_lead g counts only old new before (stays_as g old new made.1))
@@ -244,6 +245,7 @@ module _ {D : Type 0} (g : disk.Ghosts D) where
   kept_over old new (image_of seq) (Ok v) slot t honest made is stays = kept_same (contents_of g.seen old) (contents_of g.seen new) slot t is (made.bytes honest).1
   kept_over old new (image_of seq) (Err f) slot t honest made is stays =
       kept_unmoved (contents_of g.seen old) (contents_of g.seen new) slot f t is (open_taken new slot stays) (made.bytes honest)
+  kept_over old new (find_case seq) r slot t honest made is stays = kept_same (contents_of g.seen old) (contents_of g.seen new) slot t is (ap (contents_of g.seen) made.1)
   kept_over old new list_cases r slot t honest made is stays = kept_same (contents_of g.seen old) (contents_of g.seen new) slot t is (ap (contents_of g.seen) made.1)
   kept_over old new count_free r slot t honest made is stays = kept_same (contents_of g.seen old) (contents_of g.seen new) slot t is (ap (contents_of g.seen) made.1)
   kept_over old new ask_stopped r slot t honest made is stays = kept_same (contents_of g.seen old) (contents_of g.seen new) slot t is (ap (contents_of g.seen) made.1)
@@ -259,6 +261,7 @@ module _ {D : Type 0} (g : disk.Ghosts D) where
   still_honest old new (pin_of seq flag) r made = made.changes.honesty
   still_honest old new (retire_by policy) r made = made.changes.honesty
   still_honest old new (image_of seq) r made = made.stays.honesty
+  still_honest old new (find_case seq) r made = ap (λ (a : Parts D). g.is_honest a.disk) made.1
   still_honest old new list_cases r made = ap (λ (a : Parts D). g.is_honest a.disk) made.1
   still_honest old new count_free r made = ap (λ (a : Parts D). g.is_honest a.disk) made.1
   still_honest old new ask_stopped r made = ap (λ (a : Parts D). g.is_honest a.disk) made.1

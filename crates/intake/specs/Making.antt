@@ -10,7 +10,7 @@ use Rattle.intake.specs.Contents.{Taken}
 use Rattle.intake.specs.Durable.{Durable, FoundCase, durable_of, without, flagged}
 use Rattle.intake.specs.Guarding.{MayBeStored, MayBeRetired}
 use Rattle.intake.specs.Marks.{Mark, Run, mark_of, doubted}
-use Rattle.intake.specs.Opened.{CasesReply}
+use Rattle.intake.specs.Opened.{CaseReply, CasesReply}
 use Rattle.intake.specs.Parts.{Parts, bare_of, contents_of}
 use Rattle.intake.specs.Room.{room_of, room_left}
 use Rattle.intake.specs.Slots.{stream_at}
@@ -41,6 +41,8 @@ pub data Call : Type 0 where
   retire_by : Policy → Call
   -- the bytes of a case's image
   image_of : ℕ → Call
+  -- the case of this number, without its image
+  find_case : ℕ → Call
   -- the cases
   list_cases : Call
   -- the free data blocks
@@ -53,6 +55,7 @@ abbrev pub ReplyTo : Call → Type 0
 ReplyTo (finish_of slot) = Result ℕ ArchiveFault
 ReplyTo (retire_by policy) = Result Decision ArchiveFault
 ReplyTo (image_of seq) = Result (Vec ℕ Global) ArchiveFault
+ReplyTo (find_case seq) = Result (Bor Entry) ArchiveFault
 ReplyTo list_cases = Result (Bor (List Entry)) ArchiveFault
 ReplyTo count_free = Result Space ArchiveFault
 ReplyTo ask_stopped = Bool
@@ -70,6 +73,7 @@ Makes g old (delete_of seq) r new = DeleteCall g old seq r new
 Makes g old (pin_of seq flag) r new = PinCall g old seq flag r new
 Makes g old (retire_by policy) r new = RetireCall g old policy r new
 Makes g old (image_of seq) r new = ImageCall g old seq r new
+Makes g old (find_case seq) r new = CaseReply old seq r × (new ≡ old)
 Makes g old list_cases r new = CasesReply old r × (new ≡ old)
 Makes g old count_free r new = FreeReply (bare_of old) r × (new ≡ old)
 Makes g old ask_stopped r new = (r ≡ old.stopped) × (new ≡ old)

@@ -7,7 +7,8 @@ use Rattle.journal_layout.specs.Case.{case_of}
 use Rattle.case_journal.specs.Journaled.{Journaled}
 use Rattle.intake.specs.declared.faults.ArchiveFault.{ArchiveFault}
 use Rattle.intake.specs.declared.faults.ArchiveFault.TheVariants as fault
-use Rattle.intake.specs.Parts.{Parts, StreamParts}
+use Rattle.intake.specs.Parts.{Parts, StreamParts, bare_case, bare_of}
+use Rattle.intake.specs.Step.{HasCase, case_at}
 
 -- the disk, whatever an opening answers
 abbrev pub disk_in : {D : Type 0} → Result (Parts D) (OpenFault × D) → D
@@ -33,3 +34,10 @@ pub record IsOpened {D : Type 0} (most : ℕ) (a : Parts D) : Type 0 where
 abbrev pub CasesReply : {D : Type 0} → Parts D → Result (Bor (List Entry)) ArchiveFault → Type 0
 CasesReply a (Ok cases) = (a.stopped ≡ false) × (map case_of cases.now ≡ a.journal.standing.cases)
 CasesReply a (Err f) = (a.stopped ≡ true) × (f ≡ fault.Stopped)
+
+-- the case of a number, without its image
+abbrev pub CaseReply : {D : Type 0} → Parts D → ℕ → Result (Bor Entry) ArchiveFault → Type 0
+CaseReply a seq (Ok entry) = HasCase (bare_of a) seq (bare_case (case_of entry.now))
+CaseReply a seq (Err fault.Stopped) = a.stopped ≡ true
+CaseReply a seq (Err fault.NoCase) = (a.stopped ≡ false) × (case_at seq (bare_of a).cases ≡ None)
+CaseReply a seq (Err _) = ⊥

@@ -81,7 +81,7 @@ impl<D: Disk> Archive<D> {
     ghost use Rattle.intake.specs.State.{Bare, BareStream};
     ghost use Rattle.intake.specs.Step.{RoomReply, FreeReply, DropStep};
     ghost use Rattle.intake.specs.Contents.{DropBytes};
-    ghost use Rattle.intake.specs.Opened.{CasesReply};
+    ghost use Rattle.intake.specs.Opened.{CaseReply, CasesReply};
     ghost use Rattle.intake.specs.Calls.{OpenCall, BeginCall, AdvanceCall, FinishCall, AbandonCall, PinCall, DeleteCall, RetireCall, ImageCall, CloseCall, Changes};
     ghost use Rattle.intake.specs.Room.{LendsRoom, room_of, FitsFree};
     ghost use Rattle.intake.specs.Slots.{stream_at};
@@ -115,6 +115,19 @@ impl<D: Disk> Archive<D> {
             return Err(ArchiveFault::Stopped);
         }
         Ok(self.journal.entries())
+    }
+
+    /// The case of a number, without its image. Answers `Stopped`; `NoCase`.
+    pub fn case(&self, seq: u32) -> Result<&Entry, ArchiveFault>
+        ensures { CaseReply self.now seq result }
+    {
+        if self.stopped {
+            return Err(ArchiveFault::Stopped);
+        }
+        match self.journal.entry(seq) {
+            Some(entry) => Ok(entry),
+            None => Err(ArchiveFault::NoCase),
+        }
     }
 
     /// How many data blocks are free, and how many there are. Answers `Stopped` alone.
