@@ -22,4 +22,3 @@ pub mod HeldLemmas
 pub mod KeptLemmas
 pub mod FoundLemmas
 pub mod MemoryLemmas
-pub mod ExtractLemmas

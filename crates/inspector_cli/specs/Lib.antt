@@ -12,4 +12,5 @@ pub mod Runs
 pub mod Told
 pub mod Stored
 pub mod Memory
+pub mod Seeing
 pub mod Extracting

@@ -5,6 +5,7 @@ mod answers;
 mod begin;
 mod command;
 mod extract;
+mod kept_image;
 mod keys;
 mod laws;
 mod life;
@@ -21,7 +22,7 @@ mod stored;
 mod telling;
 
 pub use command::is_question;
-pub use extract::{ExtractFault, extract_image};
+pub use extract::{ImageFault, read_image, write_image};
 pub use laws::{a_script_has_one_cut, sessions_are_runs};
 pub use life::open_and_run;
 pub use memory_life::memory_session;

@@ -4,7 +4,7 @@ ghost use Rattle.std.specs.Prelude.{◌≡◌, ◌≢◌, ◌≤◌};
 use case_journal::FormatFault;
 use clap::error::ErrorKind;
 use disk_model::FileFault;
-use inspector_cli::{ExtractFault, LifeFault, MemoryFault, SessionFault, reason};
+use inspector_cli::{ImageFault, LifeFault, MemoryFault, SessionFault, reason};
 use intake::ArchiveFault;
 use journal_layout::{BadShape, OpenFault};
 use name_template::TemplateFault;
@@ -85,12 +85,11 @@ impl From<LifeFault> for Failure {
     }
 }
 
-impl From<ExtractFault> for Failure {
-    fn from(fault: ExtractFault) -> Self {
+impl From<ImageFault> for Failure {
+    fn from(fault: ImageFault) -> Self {
         match fault {
-            ExtractFault::Open(fault) => Failure::Aside(Refusal::Open(fault)),
-            ExtractFault::Archive(fault) => Failure::Aside(Refusal::Call(fault)),
-            ExtractFault::WriteFailed => Failure::Faulted(SessionFault::WriteFailed),
+            ImageFault::Open(fault) => Failure::Aside(Refusal::Open(fault)),
+            ImageFault::Archive(fault) => Failure::Aside(Refusal::Call(fault)),
         }
     }
 }

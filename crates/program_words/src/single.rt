@@ -3,7 +3,7 @@ use crate::archives::take_disk;
 use crate::asked::Place;
 use crate::failures::{Failure, Refusal, Word};
 use disk_model::FileFault;
-use inspector_cli::{Naming, SessionFault, extract_image, is_question, open_and_run};
+use inspector_cli::{Naming, SessionFault, is_question, open_and_run, read_image, write_image};
 use intake::Settings;
 use name_template::Template;
 use script_streams::{Output, ReadInput, Reply, WriteOutput};
@@ -33,6 +33,7 @@ pub(crate) fn extract<R: AllocGlobal + Files<File = File>, O: Output>(
     }
 }
 
+// The archive is let go before the first byte is written.
 fn extract_to<R: AllocGlobal + Files<File = File>, O: Output>(
     rt: &R,
     place: Place<'_>,
@@ -40,7 +41,12 @@ fn extract_to<R: AllocGlobal + Files<File = File>, O: Output>(
     output: &mut O,
 ) -> Result<(), Failure> {
     let disk = take_disk(rt, place).map_err(|refusal| Failure::Aside(refusal))?;
-    Ok(extract_image(rt.alloc(), disk, Settings { limit: 0 }, seq, output)?)
+    let (read, disk) = read_image(rt.alloc(), disk, Settings { limit: 0 }, seq);
+    drop(disk);
+    match write_image(output, &read?) {
+        Ok(()) => Ok(()),
+        Err(_) => Err(Failure::Faulted(SessionFault::WriteFailed)),
+    }
 }
 
 // A file that was made stays where it was half written, and goes where nothing was.

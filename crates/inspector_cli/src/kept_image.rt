@@ -1,0 +1,41 @@
+// The image that the session read last.
+ghost use Rattle.std.specs.Prelude.{◌≡◌, Some, IfOk, IfSome};
+ghost use Rattle.inspector_cli.specs.Seeing.{IsKept, LooksAt, image_held};
+
+use disk_model::Disk;
+use intake::{Archive, ArchiveFault};
+
+// The image of a case, kept for the lines over the same case that come next.
+#[derive(Drop)]
+pub(crate) struct KeptImage {
+    pub(crate) seq: u32,
+    pub(crate) image: Vec<u8>,
+}
+
+// The image of a case: the one that is kept, where it is of that case; or else that one goes, and the case's is read.
+pub(crate) fn see_image<D: Disk>(
+    seq: u32,
+    kept: Option<KeptImage>,
+    archive: &mut Archive<D>,
+) -> Result<KeptImage, ArchiveFault>
+    requires { IsKept D.Disk archive.old kept }
+    ensures seen { LooksAt D.Disk archive.old seq (image_held result) archive.new }
+    ensures kept { IfOk result (λ k. IsKept D.Disk archive.new (Some k)) }
+{
+    if let Some(image) = of_case(seq, kept) {
+        return Ok(image);
+    }
+    let image = archive.image(seq)?;
+    Ok(KeptImage { seq, image })
+}
+
+// The image that is kept, where it is of that case.
+fn of_case(seq: u32, kept: Option<KeptImage>) -> Option<KeptImage>
+    ensures { IfSome result (λ k. (kept ≡ Some k) × (k.seq ≡ seq)) }
+{
+    let image = kept?;
+    if image.seq != seq {
+        return None;
+    }
+    Some(image)
+}
