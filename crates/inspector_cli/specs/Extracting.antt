@@ -1,5 +1,5 @@
--- An image, out of its archive; and which lines may be asked alone.
-use Rattle.std.specs.Prelude.{◌≡◌, ℕ, Bool, true, false, List, ◌++◌, Option, Result, Ok, Err, Vec}
+-- An image, out of its archive.
+use Rattle.std.specs.Prelude.{◌≡◌, ℕ, List, ◌++◌, Option, Result, Ok, Err, Vec}
 use Rattle.std.specs.Global.{Global}
 use Rattle.std.specs.Io.KnownBytes.{Appends}
 use Rattle.disk_model.specs.declared.disk.Disk as disk
@@ -10,7 +10,6 @@ use Rattle.script_streams.specs.declared.streams.Output as output
 use Rattle.inspector_cli.specs.declared.extract.ExtractFault.{ExtractFault}
 use Rattle.inspector_cli.specs.declared.extract.ExtractFault.TheVariants.{Open, Archive, WriteFailed}
 use Rattle.inspector_cli.specs.Life.{Lives, IsRefused}
-use Rattle.inspector_cli.specs.Said.{Said, delete_of, pin_of, retire_by, list_all_cases, count_free}
 
 -- what an output had taken before and after, and how often its calls had failed
 pub record Writing : Type 0 where
@@ -40,15 +39,6 @@ Extracts g limit seq before w (Err WriteFailed) =
     × (out : List ℕ) × (rest : List ℕ) × (out ++ rest ≡ image.items) × Appends w.taken w.taken' out × Rose w.lost w.lost'
 Extracts g limit seq before w (Err (Archive f)) = AnswersImage g limit seq before (Err f) × IsUnwritten w
 Extracts {D} g limit seq before w (Err (Open f)) = (after : D) × IsRefused g limit before after f × IsUnwritten w
-
--- The line asks for something that one line can do: it begins, feeds, ends and drops no stream, and is none that has no reply.
-abbrev pub is_question : Said → Bool
-is_question (delete_of seq) = true
-is_question (pin_of seq flag) = true
-is_question (retire_by policy) = true
-is_question list_all_cases = true
-is_question count_free = true
-is_question _ = false
 
 -- an image is read, or why not, and the disk is handed back
 abbrev pub ReadsImage : {D : Type 0} → disk.Ghosts D → ℕ → ℕ → D → Result (Vec ℕ Global) ExtractFault → D → Type 0
