@@ -15,8 +15,9 @@ use Rattle.intake.specs.Step.{BeginStep, AbandonStep, FinishStep, DeleteStep, Pi
 use Rattle.retention.specs.declared.Decision.{Decision}
 use Rattle.retention.specs.declared.Policy.{Policy}
 use Rattle.inspector_cli.specs.declared.session.Naming.{Naming}
-use Rattle.inspector_cli.specs.Said.{Said, silence, bad_line, long_line, begin_exec, begin_core, part_of, end_of, drop_of, delete_of, pin_of, retire_by, list_all_cases, count_free, said, raw_length}
-use Rattle.inspector_cli.specs.Reply.{Begins, Replies, TakeStep, no_reply, reason_of, end_reply, plain_reply, retire_reply, dropped_line, unmet_line, ok_reply, exec_stream, core_stream}
+use Rattle.script_lines.specs.Said.{Said, silence, bad_line, long_line, begin_exec, begin_core, part_of, end_of, drop_of, delete_of, pin_of, retire_by, list_all_cases, count_free, said, raw_length}
+use Rattle.script_streams.specs.Replies.{no_reply, ok_reply}
+use Rattle.inspector_cli.specs.Reply.{Begins, Replies, TakeStep, reason_of, end_reply, plain_reply, retire_reply, dropped_line, unmet_line, exec_stream, core_stream}
 use Rattle.inspector_cli.specs.Stages.{Stage, Moves, MayLeave}
 use Rattle.inspector_cli.specs.Session.{Item, Run, last_stage, Ending, complete, last_line, cut_part, said_last, EndReplies, LastReplies, Truncates, TakesFront, BreaksOff, AnswersAll, AnswersWhole}
 use Rattle.inspector_cli.specs.Runs.{IsClear}

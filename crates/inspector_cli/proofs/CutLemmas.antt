@@ -6,7 +6,7 @@ use Rattle.std.specs.Prelude.{take, drop}
 use Rattle.std.specs.List.{flat_map, AllByRecursion}
 use Rattle.script_streams.specs.Lines.{IsLine}
 use Rattle.inspector_cli.specs.Cuts.{IsBrokenOff}
-use Rattle.inspector_cli.specs.Said.{said, raw_length}
+use Rattle.script_lines.specs.Said.{said, raw_length}
 use Rattle.inspector_cli.specs.Session.{Item, IsItem, spelled, Ending, complete, last_line, cut_part, IsEnding, ending_text}
 
 tails : (c d : ℕ) (xs ys : List ℕ) → c ∷ xs ≡ d ∷ ys → xs ≡ ys

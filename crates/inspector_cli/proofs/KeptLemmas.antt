@@ -14,8 +14,9 @@ use Rattle.intake.specs.Marks.{Mark, mark_of}
 use Rattle.intake.specs.Parts.{Parts}
 use Rattle.intake.specs.State.{BareStream}
 use Rattle.inspector_cli.specs.declared.session.Naming.{Naming}
-use Rattle.inspector_cli.specs.Said.{Said, silence, bad_line, long_line, begin_exec, begin_core, part_of, end_of, drop_of, delete_of, pin_of, retire_by, list_all_cases, count_free, said, raw_length}
-use Rattle.inspector_cli.specs.Reply.{Replies, no_reply, dropped_line, unmet_line, ok_reply, exec_stream, core_stream}
+use Rattle.script_lines.specs.Said.{Said, silence, bad_line, long_line, begin_exec, begin_core, part_of, end_of, drop_of, delete_of, pin_of, retire_by, list_all_cases, count_free, said, raw_length}
+use Rattle.script_streams.specs.Replies.{no_reply, ok_reply}
+use Rattle.inspector_cli.specs.Reply.{Replies, dropped_line, unmet_line, exec_stream, core_stream}
 use Rattle.inspector_cli.specs.Session.{Ending, complete, last_line, cut_part, said_last, last_stage, LastReplies, EndReplies}
 use Rattle.inspector_cli.specs.Stages.{Stage, Moves, MayLeave, mark_at, marks_of}
 use Rattle.inspector_cli.specs.Stored.{HasImage, Spares}

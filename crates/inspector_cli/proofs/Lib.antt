@@ -1,4 +1,3 @@
-pub mod WordLemmas
 pub mod TellLemmas
 pub mod CaseLemmas
 pub mod SlotLemmas
@@ -13,7 +12,6 @@ pub mod NameLemmas
 pub mod StageLemmas
 pub mod FeedLemmas
 pub mod StoreLemmas
-pub mod KeyLemmas
 pub mod CutLemmas
 pub mod ClearLemmas
 pub mod LifeLemmas

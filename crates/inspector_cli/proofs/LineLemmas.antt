@@ -13,13 +13,14 @@ use Rattle.script_streams.specs.declared.reader.ReadStop.TheVariants.{ReadFailed
 use Rattle.inspector_cli.specs.declared.script.ScriptStop.{ScriptStop}
 use Rattle.inspector_cli.specs.declared.script.ScriptStop.TheVariants.{Read}
 use Rattle.inspector_cli.specs.declared.session.Naming.{Naming}
-use Rattle.inspector_cli.specs.Said.{Said, said, raw_length}
-use Rattle.inspector_cli.specs.Commands.{asked_by}
-use Rattle.inspector_cli.specs.declared.command.Request.{Request}
-use Rattle.inspector_cli.specs.declared.command.Request.TheVariants.{Silence, BadLine, LineTooLong, BeginExec, BeginCore, End, Drop, Delete, Pin, Retire, ListCases, CountFree}
+use Rattle.script_lines.specs.Said.{Said, said, raw_length}
+use Rattle.script_lines.specs.Commands.{asked_by}
+use Rattle.script_lines.specs.declared.command.Request.{Request}
+use Rattle.script_lines.specs.declared.command.Request.TheVariants.{Silence, BadLine, LineTooLong, BeginExec, BeginCore, End, Drop, Delete, Pin, Retire, ListCases, CountFree}
 use Rattle.inspector_cli.specs.Reply.{Replies}
 use Rattle.inspector_cli.specs.Session.{cut_part, LastReplies, Truncates}
-use Rattle.inspector_cli.specs.Answering.{Halts, Reading, Telling, AnswersTo, PartAnswers, CommandEnds}
+use Rattle.script_streams.specs.Replies.{Telling}
+use Rattle.inspector_cli.specs.Answering.{Halts, Reading, AnswersTo, PartAnswers, CommandEnds}
 use Rattle.inspector_cli.proofs.TellLemmas.{tells_then}
 use Rattle.inspector_cli.proofs.GiveLemmas.{gives_nothing, gives_then, gives_as}
 

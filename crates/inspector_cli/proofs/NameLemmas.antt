@@ -7,7 +7,7 @@ use Rattle.disk_model.specs.Places.{AreBytes}
 use Rattle.journal_layout.specs.Soundness.{IsName}
 use Rattle.name_template.specs.Expansion.{expansion, name_of}
 use Rattle.name_template.specs.declared.template.NameFault.{NameFault}
-use Rattle.inspector_cli.specs.Said.{ProcessSaid}
+use Rattle.script_lines.specs.Said.{ProcessSaid}
 use Rattle.inspector_cli.specs.Reply.{facts_of, lent}
 
 no_nul : (name : List ℕ) → list_any (λ c. c == 0) name ≡ false → AllByRecursion (λ (b : ℕ). b ≢ 0) name

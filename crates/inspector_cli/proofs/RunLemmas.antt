@@ -13,10 +13,11 @@ use Rattle.intake.specs.StayLaws.{stays_as}
 use Rattle.inspector_cli.specs.declared.script.ScriptStop.{ScriptStop}
 use Rattle.inspector_cli.specs.declared.script.ScriptStop.TheVariants.{Read, Unheard}
 use Rattle.inspector_cli.specs.declared.session.Naming.{Naming}
-use Rattle.inspector_cli.specs.Said.{said, silence}
+use Rattle.script_lines.specs.Said.{said, silence}
 use Rattle.inspector_cli.specs.Stages.{Stage}
 use Rattle.inspector_cli.specs.Session.{Item, IsItem, spelled, Run, last_stage, ending_text}
-use Rattle.inspector_cli.specs.Answering.{Reading, Telling, CommandEnds, ScriptEnds}
+use Rattle.script_streams.specs.Replies.{Telling}
+use Rattle.inspector_cli.specs.Answering.{Reading, CommandEnds, ScriptEnds}
 use Rattle.inspector_cli.proofs.GiveLemmas.{gives_nothing, gives_then, gives_as}
 use Rattle.inspector_cli.proofs.StageLemmas.{Laws, stage_of, line_moves, end_moves, still, broken_stays, run_then, last_then}
 use Rattle.inspector_cli.proofs.TellLemmas.{tells_nothing, tells_then}

@@ -10,7 +10,6 @@ use Rattle.script_streams.specs.Streams.{Rose}
 use Rattle.script_streams.specs.Reading.{Gives, held_bytes, reads_made}
 use Rattle.script_streams.specs.Telling.{Told, IsDelivered, has_failed}
 use Rattle.script_streams.specs.declared.reader.ScriptBuffer.{ScriptBuffer}
-use Rattle.script_streams.specs.declared.reader.ReadStop.{ReadStop}
 use Rattle.script_streams.specs.declared.reader.ReadStop.TheVariants as stop
 use Rattle.script_streams.specs.declared.reply.Reply.{Reply}
 use Rattle.script_streams.specs.declared.streams.StreamFault.{StreamFault}
@@ -20,7 +19,8 @@ use Rattle.inspector_cli.specs.declared.session.SessionFault.TheVariants.{ReadFa
 use Rattle.inspector_cli.specs.declared.session.Naming.{Naming}
 use Rattle.inspector_cli.specs.Stages.{Stage, IsFoundAfterAStop}
 use Rattle.inspector_cli.specs.Session.{AnswersAll, AnswersWhole, Closes, Streams, SessionEnds}
-use Rattle.inspector_cli.specs.Answering.{Reading, Telling, Halts, ScriptEnds, session_fault}
+use Rattle.script_streams.specs.Replies.{Telling}
+use Rattle.inspector_cli.specs.Answering.{Reading, Halts, ScriptEnds, session_fault}
 use Rattle.inspector_cli.proofs.StageLemmas.{Laws, found_after}
 
 same_bytes : (a b : Option (List ℕ)) (old new : ScriptBuffer) (given : List ℕ) → held_bytes old ≡ [] → held_bytes new ≡ [] → (gives : Gives a b old new given) → gives.read ≡ given

@@ -14,8 +14,9 @@ use Rattle.intake.specs.Parts.{Parts}
 use Rattle.intake.specs.State.{BareStream}
 use Rattle.retention.specs.declared.Decision.{Decision}
 use Rattle.inspector_cli.specs.declared.session.Naming.{Naming}
-use Rattle.inspector_cli.specs.Said.{Said, silence, bad_line, long_line, begin_exec, begin_core, part_of, end_of, drop_of, delete_of, pin_of, retire_by, list_all_cases, count_free, said, raw_length}
-use Rattle.inspector_cli.specs.Reply.{Begins, Replies, no_reply, reason_of, end_reply, plain_reply, retire_reply, exec_stream, core_stream}
+use Rattle.script_lines.specs.Said.{Said, silence, bad_line, long_line, begin_exec, begin_core, part_of, end_of, drop_of, delete_of, pin_of, retire_by, list_all_cases, count_free, said, raw_length}
+use Rattle.script_streams.specs.Replies.{no_reply}
+use Rattle.inspector_cli.specs.Reply.{Begins, Replies, reason_of, end_reply, plain_reply, retire_reply, exec_stream, core_stream}
 use Rattle.inspector_cli.specs.Stages.{Stage, Moves, MayLeave, mark_at, marks_of, IsFoundAfterAStop}
 use Rattle.inspector_cli.specs.Session.{Item, Run, last_stage, Ending, complete, last_line, cut_part, said_last, EndReplies, LastReplies, Truncates, TakesFront, BreaksOff}
 use Rattle.intake.specs.StayLaws.{stays_as, stays_then}

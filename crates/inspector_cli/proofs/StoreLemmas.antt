@@ -20,12 +20,12 @@ use Rattle.script_streams.specs.Telling.{Told, IsDelivered}
 use Rattle.script_streams.specs.declared.reply.Reply.{Reply}
 use Rattle.script_streams.specs.declared.streams.StreamFault.{StreamFault}
 use Rattle.inspector_cli.specs.declared.session.Naming.{Naming}
-use Rattle.inspector_cli.specs.Said.{Said, ProcessSaid, silence, bad_line, long_line, begin_exec, begin_core, part_of, end_of, drop_of, delete_of, pin_of, retire_by, list_all_cases, count_free, said}
+use Rattle.script_lines.specs.Said.{Said, ProcessSaid, silence, bad_line, long_line, begin_exec, begin_core, part_of, end_of, drop_of, delete_of, pin_of, retire_by, list_all_cases, count_free, said}
 use Rattle.inspector_cli.specs.Reply.{Begins, TakeStep, TakeBytes, Takes, exec_unless, exec_stream, core_unless, core_stream, name_fault, core_name}
 use Rattle.inspector_cli.specs.declared.session.SessionFault.TheVariants.{WriteFailed}
 use Rattle.inspector_cli.specs.declared.store.TakeStop.{TakeStop}
 use Rattle.inspector_cli.specs.declared.store.TakeStop.TheVariants.{File, Refused}
-use Rattle.inspector_cli.specs.Answering.{Telling, TellsReply}
+use Rattle.script_streams.specs.Replies.{Telling, TellsReply}
 use Rattle.inspector_cli.specs.Stages.{Stage, mark_at, marks_of}
 use Rattle.inspector_cli.specs.Session.{Streams}
 use Rattle.inspector_cli.specs.Storing.{first_stream, TakesFile, TakesMore, FileReplies, RestReplies, Stores, StoreStages, StoreEnds}

@@ -4,49 +4,21 @@ use Rattle.intake.specs.declared.faults.ArchiveFault.{ArchiveFault}
 use Rattle.disk_model.specs.declared.disk.Disk as disk
 use Rattle.intake.specs.Parts.{Parts}
 use Rattle.script_streams.specs.Reading.{Gives, IsUsedUp, Stops, held_bytes}
-use Rattle.script_streams.specs.Telling.{Tells, has_failed}
+use Rattle.script_streams.specs.Telling.{has_failed}
+use Rattle.script_streams.specs.Replies.{Telling, TellsText}
 use Rattle.script_streams.specs.declared.reader.ScriptBuffer.{ScriptBuffer}
 use Rattle.script_streams.specs.declared.reader.ReadStop.{ReadStop}
 use Rattle.script_streams.specs.declared.reader.ReadStop.TheVariants as stop
-use Rattle.script_streams.specs.declared.reply.Reply.{Reply}
 use Rattle.script_streams.specs.declared.streams.Input as input
-use Rattle.script_streams.specs.declared.streams.Output as output
 use Rattle.inspector_cli.specs.declared.session.SessionFault.{SessionFault}
 use Rattle.inspector_cli.specs.declared.session.SessionFault.TheVariants as fault
 use Rattle.inspector_cli.specs.declared.script.ScriptStop.{ScriptStop}
 use Rattle.inspector_cli.specs.declared.script.ScriptStop.TheVariants.{Read, Unheard}
 use Rattle.inspector_cli.specs.declared.session.Naming.{Naming}
-use Rattle.inspector_cli.specs.Said.{Said, said, raw_length}
+use Rattle.script_lines.specs.Said.{Said, said, raw_length}
 use Rattle.inspector_cli.specs.Reply.{Replies, Takes}
 use Rattle.inspector_cli.specs.Stages.{Stage}
 use Rattle.inspector_cli.specs.Session.{Item, IsItem, spelled, Ending, IsEnding, ending_text, EndReplies, BreaksOff, AnswersAll, AnswersWhole, Truncates, TakesFront, LastReplies}
-
--- an output before and after, with the text on its way to it
-pub record Telling : Type 0 where
-  pub taken : Option (List ℕ)
-  pub taken' : Option (List ℕ)
-  pub failures : ℕ
-  pub failures' : ℕ
-  pub reply : Reply
-  pub reply' : Reply
-
--- the same, told by the output's members and ends
-abbrev pub telling : {O : Type 0} → output.Ghosts O → O → O → Reply → Reply → Telling
-telling o output output' reply reply' = record {
-  taken = o.taken output;
-  taken' = o.taken output';
-  failures = o.failures output;
-  failures' = o.failures output';
-  reply = reply;
-  reply' = reply';
-}
-
-abbrev pub TellsText : Telling → List ℕ → Type 0
-TellsText t text = Tells t.taken t.taken' t.failures t.failures' t.reply t.reply' text
-
--- a text is told that is so
-abbrev pub TellsReply : Telling → (List ℕ → Type 0) → Type 0
-TellsReply t P = (text : List ℕ) × P text × TellsText t text
 
 -- a line with no bytes behind it is answered
 abbrev pub AnswersTo : {D : Type 0} → disk.Ghosts D → Naming → Telling → Parts D → Said → List ℕ → Parts D → Type 0

@@ -2,7 +2,7 @@
 use Rattle.std.specs.Prelude.{◌≡◌, ◌⊎◌, ℕ, ◌<◌, List, ◌∷◌, ◌++◌, length}
 use Rattle.std.specs.List.{flat_map, AllByRecursion}
 use Rattle.script_streams.specs.Lines.{IsLine}
-use Rattle.inspector_cli.specs.Said.{said, raw_length}
+use Rattle.script_lines.specs.Said.{said, raw_length}
 use Rattle.inspector_cli.specs.Session.{Item, IsItem, spelled, Ending, IsEnding, ending_text}
 
 -- A script has no other cut into whole items and an ending.

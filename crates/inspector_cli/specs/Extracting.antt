@@ -1,21 +1,11 @@
--- An image, out of its archive; and which lines may be asked alone.
-use Rattle.std.specs.Prelude.{ℕ, Bool, true, false, Result, Ok, Err, Vec}
+-- An image, out of its archive.
+use Rattle.std.specs.Prelude.{ℕ, Result, Ok, Err, Vec}
 use Rattle.std.specs.Global.{Global}
 use Rattle.disk_model.specs.declared.disk.Disk as disk
 use Rattle.intake.specs.Calls.{ImageCall}
 use Rattle.inspector_cli.specs.declared.extract.ImageFault.{ImageFault}
 use Rattle.inspector_cli.specs.declared.extract.ImageFault.TheVariants.{Open, Archive}
 use Rattle.inspector_cli.specs.Life.{Lives, IsRefused}
-use Rattle.inspector_cli.specs.Said.{Said, delete_of, pin_of, retire_by, list_all_cases, count_free}
-
--- The line asks for something that one line can do: it begins, feeds, ends and drops no stream, and is none that has no reply.
-abbrev pub is_question : Said → Bool
-is_question (delete_of seq) = true
-is_question (pin_of seq flag) = true
-is_question (retire_by policy) = true
-is_question list_all_cases = true
-is_question count_free = true
-is_question _ = false
 
 -- An archive is opened, and an image of it read, or why not; the disk that is handed back is the one behind that.
 abbrev pub ReadsImage : {D : Type 0} → disk.Ghosts D → ℕ → ℕ → D → Result (Vec ℕ Global) ImageFault → D → Type 0

@@ -1,5 +1,3 @@
-pub mod Keys
-pub mod Said
 pub mod Commands
 pub mod Reply
 pub mod Stages

@@ -4,6 +4,7 @@ use Rattle.std.specs.List.{flat_map, list_any}
 use Rattle.journal_layout.specs.declared.entry.Kind.{Kind}
 use Rattle.journal_layout.specs.declared.entry.Kind.TheVariants.{Core, Exec}
 use Rattle.script_words.specs.Printing.{shown}
+use Rattle.script_streams.specs.Replies.{ok_reply, no_reply}
 use Rattle.intake.specs.declared.faults.ArchiveFault.{ArchiveFault}
 use Rattle.intake.specs.declared.space.Space.{Space}
 use Rattle.intake.specs.declared.faults.ArchiveFault.TheVariants.{Stopped, BadSlot, SlotBusy, NameTaken, NoStream, TooLong, SpaceFull, NoCase, Pinned, JournalFull, NumbersSpent, OutOfMemory, Disk}
@@ -23,15 +24,7 @@ use Rattle.name_template.specs.declared.template.NameFault.{NameFault}
 use Rattle.name_template.specs.declared.template.NameFault.TheVariants as name
 use Rattle.std.specs.Borrow.{Bor}
 use Rattle.inspector_cli.specs.declared.session.Naming.{Naming}
-use Rattle.inspector_cli.specs.Said.{Said, ProcessSaid, silence, bad_line, long_line, begin_exec, begin_core, part_of, end_of, drop_of, delete_of, pin_of, retire_by, list_all_cases, count_free}
-
--- the reply to what was done
-abbrev pub ok_reply : List ℕ
-ok_reply = codes "ok" ++ 10 ∷ []
-
--- the reply to what was refused
-abbrev pub no_reply : List ℕ → List ℕ
-no_reply reason = (codes "no " ++ reason) ++ 10 ∷ []
+use Rattle.script_lines.specs.Said.{Said, ProcessSaid, silence, bad_line, long_line, begin_exec, begin_core, part_of, end_of, drop_of, delete_of, pin_of, retire_by, list_all_cases, count_free}
 
 -- the name that a refusal is told by
 abbrev pub reason_of : ArchiveFault → List ℕ

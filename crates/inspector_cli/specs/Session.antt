@@ -13,8 +13,9 @@ use Rattle.script_streams.specs.declared.streams.Input as input
 use Rattle.script_streams.specs.declared.streams.Output as output
 use Rattle.script_streams.specs.Lines.{IsLine}
 use Rattle.inspector_cli.specs.declared.session.Naming.{Naming}
-use Rattle.inspector_cli.specs.Said.{Said, silence, part_of, said, raw_length}
-use Rattle.inspector_cli.specs.Reply.{Replies, Takes, no_reply}
+use Rattle.script_lines.specs.Said.{Said, silence, part_of, said, raw_length}
+use Rattle.script_streams.specs.Replies.{no_reply}
+use Rattle.inspector_cli.specs.Reply.{Replies, Takes}
 use Rattle.inspector_cli.specs.Stages.{Stage, Moves, IsFoundAfterAStop}
 use Rattle.inspector_cli.specs.declared.session.SessionFault.{SessionFault}
 use Rattle.inspector_cli.specs.declared.session.SessionFault.TheVariants.{ReadFailed, WriteFailed, TooManyReads}

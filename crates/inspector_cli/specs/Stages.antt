@@ -6,8 +6,8 @@ use Rattle.intake.specs.Durable.{Durable, durable_of, without, flagged}
 use Rattle.intake.specs.Guarding.{MayBeStored, MayBeRetired}
 use Rattle.intake.specs.Marks.{Mark, Passes, IsSettled, IsFoundSince, mark_of}
 use Rattle.intake.specs.Parts.{Parts, bare_of, contents_of}
-use Rattle.inspector_cli.specs.Said.{Said, end_of, delete_of, pin_of, retire_by}
-use Rattle.inspector_cli.specs.Reply.{no_reply}
+use Rattle.script_lines.specs.Said.{Said, end_of, delete_of, pin_of, retire_by}
+use Rattle.script_streams.specs.Replies.{no_reply}
 
 -- how things stand when a line has been answered
 pub record Stage (D : Type 0) : Type 0 where

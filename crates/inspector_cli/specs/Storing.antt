@@ -13,10 +13,11 @@ use Rattle.inspector_cli.specs.declared.session.SessionFault.{SessionFault}
 use Rattle.inspector_cli.specs.declared.session.SessionFault.TheVariants.{ReadFailed, WriteFailed, TooManyReads}
 use Rattle.inspector_cli.specs.declared.store.TakeStop.{TakeStop}
 use Rattle.inspector_cli.specs.declared.store.TakeStop.TheVariants.{File, Refused}
-use Rattle.inspector_cli.specs.Said.{Said, begin_exec, begin_core, end_of, long_line, said}
+use Rattle.script_lines.specs.Said.{Said, begin_exec, begin_core, end_of, long_line, said}
 use Rattle.inspector_cli.specs.Session.{Streams}
 use Rattle.inspector_cli.specs.Stages.{Stage, Moves, IsFoundAfterAStop}
-use Rattle.inspector_cli.specs.Reply.{Begins, Ends, Takes, exec_stream, core_stream, no_reply, reason_of}
+use Rattle.script_streams.specs.Replies.{no_reply}
+use Rattle.inspector_cli.specs.Reply.{Begins, Ends, Takes, exec_stream, core_stream, reason_of}
 
 -- What the first line begins, or why it begins nothing: it begins a stream in slot 0. Any other line is none that is known.
 abbrev pub first_stream : Naming → Said → Result BareStream (List ℕ)

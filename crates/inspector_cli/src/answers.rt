@@ -1,18 +1,19 @@
 // The answers to lines that no bytes stand behind.
 ghost use Rattle.std.specs.Prelude.{◌≡◌, []};
 ghost use Rattle.intake.specs.Parts.{bare_of};
-ghost use Rattle.inspector_cli.specs.Commands.{asked_by};
+ghost use Rattle.script_lines.specs.Commands.{asked_by};
 ghost use Rattle.inspector_cli.specs.Reply.{Ends, Drops, Deletes, Pins, Retires, Frees, list_reply};
-ghost use Rattle.inspector_cli.specs.Answering.{AnswersTo, TellsReply, TellsText, telling};
+ghost use Rattle.script_streams.specs.Replies.{TellsReply, TellsText, telling};
+ghost use Rattle.inspector_cli.specs.Answering.{AnswersTo};
 
 use crate::begin::{answer_begin, core_stream, exec_stream};
-use crate::command::Request;
 use crate::session::Naming;
-use crate::telling::{tell_cases, tell_free, tell_no, tell_outcome, tell_retired, tell_stored};
+use crate::telling::{tell_cases, tell_free, tell_outcome, tell_retired, tell_stored};
 use disk_model::Disk;
 use intake::Archive;
 use retention::Policy;
-use script_streams::{Output, Reply};
+use script_lines::Request;
+use script_streams::{Output, Reply, tell_no};
 
 // Answers a line.
 pub(crate) fn answer_plain<O: Output, D: Disk>(

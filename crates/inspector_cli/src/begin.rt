@@ -1,18 +1,19 @@
 // The streams that lines begin.
 ghost use Rattle.std.specs.Prelude.{◌≡◌, ◌≤◌, length, MatchResult, Ok, Err};
 ghost use Rattle.inspector_cli.specs.Reply.{Begins, exec_stream, core_name, core_stream, name_reason};
-ghost use Rattle.inspector_cli.specs.Commands.{name_text, process_of, stream_found};
-ghost use Rattle.inspector_cli.specs.Answering.{TellsReply, telling};
+ghost use Rattle.script_lines.specs.Commands.{name_text, process_of};
+ghost use Rattle.inspector_cli.specs.Commands.{stream_found};
+ghost use Rattle.script_streams.specs.Replies.{TellsReply, telling};
 
-use crate::names::{NameWord, NewStream, copied, has_nul};
-use crate::process::Process;
+use crate::names::{NewStream, copied, has_nul};
 use crate::session::Naming;
-use crate::telling::{tell_begun, tell_no};
+use crate::telling::tell_begun;
 use disk_model::Disk;
 use intake::Archive;
 use journal_layout::{Kind, Name};
 use name_template::{Facts, NameFault};
-use script_streams::{Output, Reply};
+use script_lines::{NameWord, Process};
+use script_streams::{Output, Reply, tell_no};
 
 // Answers a line that begins this stream, or has this wrong with its name. Says whether the stream has begun.
 pub(crate) fn answer_begin<O: Output, D: Disk>(

@@ -3,16 +3,14 @@
 
 mod answers;
 mod begin;
-mod command;
 mod extract;
+mod inspect;
 mod kept_image;
-mod keys;
 mod laws;
 mod life;
 mod memory_life;
 mod names;
 mod parts;
-mod process;
 mod run;
 mod script;
 mod session;
@@ -21,12 +19,12 @@ mod store_life;
 mod stored;
 mod telling;
 
-pub use command::is_question;
 pub use extract::{ImageFault, read_image, write_image};
 pub use laws::{a_script_has_one_cut, sessions_are_runs};
 pub use life::open_and_run;
 pub use memory_life::memory_session;
 pub use run::run_session;
+pub use script_lines::is_question;
 pub use script_streams::{Input, Output, ReadInput, StreamFault, WriteOutput};
 pub use session::{LifeFault, MemoryFault, Naming, SessionFault};
 pub use store::store_stream;

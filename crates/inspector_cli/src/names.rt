@@ -1,17 +1,9 @@
-// The names that lines give, and the streams of these names.
+// The streams that lines begin, and their names.
 ghost use Rattle.std.specs.Prelude.{◌≡◌, ◌<◌, ◌≤◌, ◌==◌, false, length};
 ghost use Rattle.std.specs.List.{list_any};
 ghost use Rattle.disk_model.specs.Places.{AreBytes};
 
-use arrayvec::ArrayVec;
 use journal_layout::{Kind, Name};
-
-// A name that is the text of a word, and so is not empty.
-#[derive(Drop)]
-pub(crate) struct NameWord {
-    pub(crate) text: ArrayVec<u8, 1024>,
-    ghost some: { 0 < length text.items },
-}
 
 // A stream with no bytes yet.
 #[derive(Drop)]

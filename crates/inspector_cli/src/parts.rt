@@ -1,16 +1,17 @@
 // The bytes of a part.
 ghost use Rattle.std.specs.Prelude.{◌≡◌, ℕ, ◌<◌, ◌≤◌, List, []};
 ghost use Rattle.intake.specs.Parts.{Parts};
-ghost use Rattle.inspector_cli.specs.Said.{part_of};
+ghost use Rattle.script_lines.specs.Said.{part_of};
 ghost use Rattle.script_streams.specs.Reading.{Stops, steps_left};
 ghost use Rattle.inspector_cli.specs.Reply.{Takes};
 ghost use Rattle.inspector_cli.specs.declared.session.Naming.{Naming};
-ghost use Rattle.inspector_cli.specs.Answering.{PieceEnds, PartEnds, PartAnswers, SkipEnds, TellsText, telling, reading};
+ghost use Rattle.script_streams.specs.Replies.{TellsText, telling};
+ghost use Rattle.inspector_cli.specs.Answering.{PieceEnds, PartEnds, PartAnswers, SkipEnds, reading};
 
-use crate::telling::{tell_no, tell_outcome};
+use crate::telling::tell_outcome;
 use disk_model::Disk;
 use intake::{Archive, ArchiveFault};
-use script_streams::{Input, Output, ReadStop, Reply, ScriptBuffer};
+use script_streams::{Input, Output, ReadStop, Reply, ScriptBuffer, tell_no};
 
 // Answers a part. Says whether all of its bytes were there.
 pub(crate) fn answer_part<I: Input, O: Output, D: Disk>(

@@ -4,18 +4,19 @@ ghost use Rattle.script_streams.specs.Lines.{IsLine, KeepsLine};
 ghost use Rattle.script_streams.specs.Reading.{Stops};
 ghost use Rattle.script_streams.specs.Telling.{has_failed};
 ghost use Rattle.intake.specs.Durable.{Durable};
-ghost use Rattle.inspector_cli.specs.Said.{said, part_of};
+ghost use Rattle.script_lines.specs.Said.{said, part_of};
 ghost use Rattle.inspector_cli.specs.declared.session.Naming.{Naming};
-ghost use Rattle.inspector_cli.specs.Answering.{CommandEnds, Halts, ScriptEnds, PartAnswers, LastAnswers, telling, reading};
+ghost use Rattle.script_streams.specs.Replies.{telling};
+ghost use Rattle.inspector_cli.specs.Answering.{CommandEnds, Halts, ScriptEnds, PartAnswers, LastAnswers, reading};
 
 use crate::answers::answer_plain;
-use crate::command::{Command, parse_line};
 use crate::parts::answer_part;
 use crate::session::Naming;
-use crate::telling::{tell_no, tell_outcome};
+use crate::telling::tell_outcome;
 use disk_model::Disk;
 use intake::{Archive, calls_lead_from_mark_to_mark};
-use script_streams::{Input, KeptLine, LineEnding, Output, ReadStop, Reply, ScriptBuffer};
+use script_lines::{Command, parse_line};
+use script_streams::{Input, KeptLine, LineEnding, Output, ReadStop, Reply, ScriptBuffer, tell_no};
 
 /// Why a script was not answered to its end.
 #[derive(Clone, Copy)]

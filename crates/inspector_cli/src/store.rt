@@ -2,22 +2,23 @@
 ghost use Rattle.std.specs.Prelude.{◌≡◌, ℕ, true, List, [], Ok};
 ghost use Rattle.intake.specs.Durable.{Durable};
 ghost use Rattle.intake.specs.Parts.{Parts, bare_of};
-ghost use Rattle.inspector_cli.specs.Said.{said};
-ghost use Rattle.inspector_cli.specs.Commands.{asked_by, said_by, stream_found};
+ghost use Rattle.script_lines.specs.Said.{said};
+ghost use Rattle.script_lines.specs.Commands.{asked_by, said_by};
+ghost use Rattle.inspector_cli.specs.Commands.{stream_found};
 ghost use Rattle.inspector_cli.specs.Reply.{Begins, Takes};
-ghost use Rattle.inspector_cli.specs.Answering.{TellsReply, telling};
+ghost use Rattle.script_streams.specs.Replies.{TellsReply, telling};
 ghost use Rattle.inspector_cli.specs.Session.{streams_of};
 ghost use Rattle.inspector_cli.specs.Storing.{StoreEnds, Stores, RestReplies, first_stream, TakesFile, TakesMore, IsSlotQuiet};
 
 use crate::answers::answer_end;
 use crate::begin::{answer_begin, core_stream, exec_stream};
-use crate::command::{Command, Request, parse_text};
 use crate::names::NewStream;
 use crate::session::{Naming, SessionFault};
-use crate::telling::{reason, tell_no};
+use crate::telling::reason;
 use disk_model::Disk;
 use intake::{Archive, ArchiveFault, calls_lead_from_mark_to_mark, found_after_a_stop};
-use script_streams::{Input, Output, Reply};
+use script_lines::{Command, Request, parse_text};
+use script_streams::{Input, Output, Reply, tell_no};
 
 // How many reads a file may take.
 const MOST_READS: u64 = 1 << 40;

@@ -3,13 +3,13 @@ ghost use Rattle.std.specs.Prelude.{◌≡◌, ◌++◌, map};
 ghost use Rattle.std.specs.List.{flat_map};
 ghost use Rattle.journal_layout.specs.Case.{case_of};
 ghost use Rattle.intake.specs.Parts.{bare_case};
-ghost use Rattle.inspector_cli.specs.Reply.{ok_reply, no_reply, reason_of, plain_reply, begin_reply, end_reply, retire_reply, dropped_line, free_reply, number_word, case_line, kind_name, pin_name};
-ghost use Rattle.inspector_cli.specs.Answering.{TellsText, telling};
+ghost use Rattle.script_streams.specs.Replies.{ok_reply, no_reply, TellsText, telling};
+ghost use Rattle.inspector_cli.specs.Reply.{reason_of, plain_reply, begin_reply, end_reply, retire_reply, dropped_line, free_reply, number_word, case_line, kind_name, pin_name};
 
 use intake::{ArchiveFault, Space};
 use journal_layout::{Entry, Kind};
 use retention::Decision;
-use script_streams::{Output, Reply};
+use script_streams::{Output, Reply, tell_no, tell_ok};
 
 /// The name that a refusal is told by, as a reply has it behind `no `.
 pub fn reason(fault: ArchiveFault) -> &'static [u8]
@@ -32,15 +32,6 @@ pub fn reason(fault: ArchiveFault) -> &'static [u8]
     }
 }
 
-// Tells a refusal.
-pub(crate) fn tell_no<O: Output>(reply: &mut Reply, output: &mut O, reason: &[u8])
-    ensures { TellsText (telling O.Output output.old output.new reply.old reply.new) (no_reply reason.now) }
-{
-    reply.tell(output, b"no ");
-    reply.tell(output, reason);
-    reply.tell(output, b"\n");
-}
-
 // Tells a call's answer that has no lines.
 pub(crate) fn tell_outcome<O: Output>(
     reply: &mut Reply,
@@ -50,7 +41,7 @@ pub(crate) fn tell_outcome<O: Output>(
     ensures { TellsText (telling O.Output output.old output.new reply.old reply.new) (plain_reply outcome) }
 {
     match outcome {
-        Ok(()) => reply.tell(output, b"ok\n"),
+        Ok(()) => tell_ok(reply, output),
         Err(fault) => tell_no(reply, output, reason(fault)),
     }
 }
@@ -69,7 +60,7 @@ pub(crate) fn tell_begun<O: Output>(
             reply.tell(output, b"name ");
             reply.tell_text(output, name);
             reply.tell(output, b"\n");
-            reply.tell(output, b"ok\n");
+            tell_ok(reply, output);
         }
         Err(fault) => tell_no(reply, output, reason(fault)),
     }
@@ -88,7 +79,7 @@ pub(crate) fn tell_stored<O: Output>(
             reply.tell(output, b"stored ");
             reply.tell_decimal(output, u128::from(seq));
             reply.tell(output, b"\n");
-            reply.tell(output, b"ok\n");
+            tell_ok(reply, output);
         }
         Err(fault) => tell_no(reply, output, reason(fault)),
     }
@@ -108,7 +99,7 @@ pub(crate) fn tell_retired<O: Output>(
             if decision.unmet {
                 reply.tell(output, b"unmet\n");
             }
-            reply.tell(output, b"ok\n");
+            tell_ok(reply, output);
         }
         Err(fault) => tell_no(reply, output, reason(fault)),
     }
@@ -140,7 +131,7 @@ pub(crate) fn tell_free<O: Output>(
             reply.tell(output, b" of ");
             reply.tell_decimal(output, u128::from(space.data_blocks));
             reply.tell(output, b"\n");
-            reply.tell(output, b"ok\n");
+            tell_ok(reply, output);
         }
         Err(fault) => tell_no(reply, output, reason(fault)),
     }
@@ -154,7 +145,7 @@ pub(crate) fn tell_cases<O: Output>(reply: &mut Reply, output: &mut O, cases: &[
     for entry in cases {
         tell_case(reply, output, entry);
     }
-    reply.tell(output, b"ok\n");
+    tell_ok(reply, output);
 }
 
 // Tells the line of a case.

@@ -1,5 +1,5 @@
 use Rattle.std.proofs.Common.{refl}
-use Rattle.inspector_cli.specs.Reply.{no_reply}
+use Rattle.script_streams.specs.Replies.{no_reply}
 use Rattle.inspector_cli.proofs.begin.answer_begin.Goals as goal
 
 pub returns-in-Err : goal.returns-in-Err

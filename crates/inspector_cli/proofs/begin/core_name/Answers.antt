@@ -1,7 +1,7 @@
 use Rattle.std.proofs.Common.{◌≡◌, List, ℕ, MatchResult, Ok, Err, subst}
 use Rattle.name_template.specs.Expansion.{name_of}
 use Rattle.name_template.specs.Naming.{template_bytes}
-use Rattle.inspector_cli.specs.Commands.{process_of}
+use Rattle.script_lines.specs.Commands.{process_of}
 use Rattle.inspector_cli.proofs.NameLemmas.{expands_as}
 use Rattle.inspector_cli.proofs.begin.core_name.Goals as goal
 

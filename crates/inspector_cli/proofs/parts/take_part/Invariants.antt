@@ -1,6 +1,6 @@
 use Rattle.std.proofs.Common.{◌≡◌, ℕ, ◌+◌, List, [], length}
 use Rattle.script_streams.specs.Reading.{Gives}
-use Rattle.inspector_cli.specs.Answering.{TellsText, telling}
+use Rattle.script_streams.specs.Replies.{TellsText, telling}
 use Rattle.inspector_cli.specs.Reply.{Takes}
 use Rattle.inspector_cli.proofs.parts.take_part.Given as goal
 

@@ -1,6 +1,6 @@
 use Rattle.std.proofs.Common.{[], Ok, Err}
 use Rattle.std.proofs.lemmas.Result.{err_from_is_err_and}
-use Rattle.inspector_cli.specs.Said.{said}
+use Rattle.script_lines.specs.Said.{said}
 use Rattle.inspector_cli.specs.Session.{last_line}
 use Rattle.inspector_cli.proofs.LineLemmas.{halts_as, line_answered, told_before}
 use Rattle.inspector_cli.proofs.TellLemmas.{tells_then}

@@ -1,7 +1,8 @@
 use Rattle.std.proofs.Common.{refl}
 use Rattle.std.specs.Prelude.{codes}
-use Rattle.inspector_cli.specs.Reply.{plain_reply, no_reply}
-use Rattle.inspector_cli.specs.Said.{part_of}
+use Rattle.script_streams.specs.Replies.{no_reply}
+use Rattle.inspector_cli.specs.Reply.{plain_reply}
+use Rattle.script_lines.specs.Said.{part_of}
 use Rattle.inspector_cli.proofs.FeedLemmas.{fed_none}
 use Rattle.inspector_cli.proofs.LineLemmas.{last_whole, last_cut}
 use Rattle.inspector_cli.proofs.script.answer_cut.Goals as goal

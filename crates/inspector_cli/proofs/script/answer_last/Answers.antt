@@ -1,5 +1,5 @@
 use Rattle.std.proofs.Common.{subst}
-use Rattle.inspector_cli.specs.Said.{Said}
+use Rattle.script_lines.specs.Said.{Said}
 use Rattle.inspector_cli.specs.Answering.{LastAnswers}
 use Rattle.inspector_cli.proofs.script.answer_last.Goals as goal
 

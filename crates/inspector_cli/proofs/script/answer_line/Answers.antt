@@ -1,5 +1,5 @@
 use Rattle.std.proofs.Common.{subst}
-use Rattle.inspector_cli.specs.Said.{Said, said}
+use Rattle.script_lines.specs.Said.{Said, said}
 use Rattle.inspector_cli.specs.Answering.{PartAnswers}
 use Rattle.inspector_cli.proofs.LineLemmas.{plain_answers}
 use Rattle.inspector_cli.proofs.script.answer_line.Goals as goal

@@ -1,5 +1,5 @@
 use Rattle.std.proofs.Common.{Bool, subst}
-use Rattle.inspector_cli.specs.Said.{said}
+use Rattle.script_lines.specs.Said.{said}
 use Rattle.inspector_cli.specs.Reply.{Begins}
 use Rattle.inspector_cli.specs.Storing.{first_stream}
 use Rattle.inspector_cli.proofs.StoreLemmas.{stores, stores_none}

@@ -1,27 +1,38 @@
 // What a line tells of a process that dumped core.
 ghost use Rattle.std.specs.Prelude.{◌≡◌, option_map};
 ghost use Rattle.script_words.specs.WordsLeft.{words_left};
-ghost use Rattle.inspector_cli.specs.Said.{process_said};
-ghost use Rattle.inspector_cli.specs.Commands.{AreWords, process_of};
+ghost use Rattle.script_lines.specs.Said.{process_said};
+ghost use Rattle.script_lines.specs.Commands.{AreWords, process_of};
 
 use crate::keys::{Keys, are_pairs, large_at, small_at, text_at};
 use arrayvec::ArrayVec;
 use script_words::Words;
 
-// What is told of a process: what the line leaves out is empty or 0.
+/// What a line tells of a process that dumped core: what the line leaves out is empty or 0.
 #[derive(Drop)]
-pub(crate) struct Process {
-    pub(crate) comm: ArrayVec<u8, 1024>,
-    pub(crate) exe: ArrayVec<u8, 1024>,
-    pub(crate) host: ArrayVec<u8, 1024>,
-    pub(crate) pid: u32,
-    pub(crate) tid: u32,
-    pub(crate) signal: u32,
-    pub(crate) uid: u32,
-    pub(crate) gid: u32,
-    pub(crate) mode: u32,
-    pub(crate) time: u64,
-    pub(crate) limit: u64,
+pub struct Process {
+    /// The name of its command.
+    pub comm: ArrayVec<u8, 1024>,
+    /// The path of its executable.
+    pub exe: ArrayVec<u8, 1024>,
+    /// The name of its host.
+    pub host: ArrayVec<u8, 1024>,
+    /// The process.
+    pub pid: u32,
+    /// The thread that got the signal.
+    pub tid: u32,
+    /// The number of the signal.
+    pub signal: u32,
+    /// Its real user.
+    pub uid: u32,
+    /// Its real group.
+    pub gid: u32,
+    /// Its dump mode.
+    pub mode: u32,
+    /// When it dumped core, in seconds since the epoch.
+    pub time: u64,
+    /// Its limit on the size of a core file, in bytes.
+    pub limit: u64,
 }
 
 // What pairs tell of a process.

@@ -1,8 +1,8 @@
 use Rattle.std.proofs.Common.{◌≡◌}
 use Rattle.script_words.specs.WordsLeft.{words_left}
-use Rattle.inspector_cli.specs.Commands.{AreWords}
-use Rattle.inspector_cli.specs.Keys.{are_pairs}
-use Rattle.inspector_cli.proofs.keys.are_pairs.Given as goal
+use Rattle.script_lines.specs.Commands.{AreWords}
+use Rattle.script_lines.specs.Keys.{are_pairs}
+use Rattle.script_lines.proofs.keys.are_pairs.Given as goal
 
 abbrev pub invariant-loop-word : goal.invariant-loop-word
 invariant-loop-word l = record {

@@ -2,7 +2,7 @@
 use Rattle.std.proofs.Common.{ℕ, suc, ◌≤◌, List, [], ◌∷◌, length, filter, arith, ⊎_elim}
 use Rattle.std.proofs.lemmas.Bool.{cases_Bool}
 use Rattle.script_words.specs.Words.{is_space, with_first, pieces_of, is_word, words_of}
-use Rattle.inspector_cli.specs.Commands.{AreWords}
+use Rattle.script_lines.specs.Commands.{AreWords}
 
 abbrev AreWithin : ℕ → List (List ℕ) → Type 0
 AreWithin n [] = Unit {0}

@@ -4,10 +4,10 @@ use Rattle.std.specs.Str.{bytes_eq}
 use Rattle.script_words.specs.Number.{number_of, number_within}
 use Rattle.script_words.specs.Pairs.{pair_of}
 use Rattle.script_words.specs.Text.{text_of}
-use Rattle.inspector_cli.specs.declared.keys.Keys.{Keys}
-use Rattle.inspector_cli.specs.declared.keys.Keys.TheVariants.{Core, Retire}
-use Rattle.inspector_cli.specs.declared.keys.ValueKind.{ValueKind}
-use Rattle.inspector_cli.specs.declared.keys.ValueKind.TheVariants.{Text, Small, Large}
+use Rattle.script_lines.specs.declared.keys.Keys.{Keys}
+use Rattle.script_lines.specs.declared.keys.Keys.TheVariants.{Core, Retire}
+use Rattle.script_lines.specs.declared.keys.ValueKind.{ValueKind}
+use Rattle.script_lines.specs.declared.keys.ValueKind.TheVariants.{Text, Small, Large}
 
 -- the name of the command, the path of the executable and the name of the host are texts
 abbrev pub is_text_key : List ℕ → Bool

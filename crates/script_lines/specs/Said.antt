@@ -5,8 +5,8 @@ use Rattle.retention.specs.declared.Policy.{Policy}
 use Rattle.script_words.specs.Words.{words_of, is_plain_line, is_blank_or_comment_line}
 use Rattle.script_words.specs.Number.{number_within}
 use Rattle.script_words.specs.Text.{text_of}
-use Rattle.inspector_cli.specs.declared.keys.Keys.TheVariants.{Core, Retire}
-use Rattle.inspector_cli.specs.Keys.{are_pairs, text_at, small_at, large_at, number_or_zero}
+use Rattle.script_lines.specs.declared.keys.Keys.TheVariants.{Core, Retire}
+use Rattle.script_lines.specs.Keys.{are_pairs, text_at, small_at, large_at, number_or_zero}
 
 -- what a line tells of a process that dumped core: what it leaves out is empty or 0
 pub record ProcessSaid : Type 0 where
@@ -227,3 +227,12 @@ raw_length (pin_of seq flag) = 0
 raw_length (retire_by policy) = 0
 raw_length list_all_cases = 0
 raw_length count_free = 0
+
+-- The line asks for something that one line can do: it begins, feeds, ends and drops no stream, and is none that has no reply.
+abbrev pub is_question : Said → Bool
+is_question (delete_of seq) = true
+is_question (pin_of seq flag) = true
+is_question (retire_by policy) = true
+is_question list_all_cases = true
+is_question count_free = true
+is_question _ = false

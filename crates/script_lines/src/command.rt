@@ -3,9 +3,8 @@ ghost use Rattle.std.specs.Prelude.{◌≡◌, ◌<◌, ◌≤◌, ℕ, List, le
 ghost use Rattle.script_words.specs.Words.{words_of};
 ghost use Rattle.script_words.specs.WordsLeft.{words_left};
 ghost use Rattle.script_words.specs.Text.{text_of};
-ghost use Rattle.inspector_cli.specs.Said.{said, begin_said, exec_said, core_said, part_said, slot_alone, case_alone, pins, retire_said, list_said, free_said, case_words_said, words_said, short_line_said};
-ghost use Rattle.inspector_cli.specs.Commands.{said_by, asked_by, name_text, AreWords};
-ghost use Rattle.inspector_cli.specs.Extracting.{is_question};
+ghost use Rattle.script_lines.specs.Said.{said, is_question, begin_said, exec_said, core_said, part_said, slot_alone, case_alone, pins, retire_said, list_said, free_said, case_words_said, words_said, short_line_said};
+ghost use Rattle.script_lines.specs.Commands.{said_by, asked_by, name_text, AreWords};
 ghost use Rattle.script_streams.specs.Lines.{KeepsLine};
 
 use crate::keys::{Keys, are_pairs, large_at};
@@ -20,16 +19,21 @@ use script_words::{
 
 /// What a line asks for, or why it asks for nothing.
 #[derive(Drop)]
-pub(crate) enum Command {
-    /// So many bytes more, which stand behind the line.
-    Part { slot: u8, count: u32 },
+pub enum Command {
+    /// So many bytes more for a stream, which stand behind the line.
+    Part {
+        /// The slot of the stream, 0 to 7.
+        slot: u8,
+        /// How many bytes stand behind the line, 0 to 65,536.
+        count: u32,
+    },
     /// A line that stands alone.
     Plain(Request),
 }
 
 /// What a line says that no bytes stand behind.
 #[derive(Drop)]
-pub(crate) enum Request {
+pub enum Request {
     /// Nothing, and it has no reply.
     Silence,
     /// Nothing that is known.
@@ -37,27 +41,54 @@ pub(crate) enum Request {
     /// It has more than 1,024 bytes.
     LineTooLong,
     /// A stream of an executable of this name.
-    BeginExec { slot: u8, name: NameWord },
+    BeginExec {
+        /// The slot of the stream, 0 to 7.
+        slot: u8,
+        /// The path of the executable.
+        name: NameWord,
+    },
     /// A stream of the core of this process.
-    BeginCore { slot: u8, process: Process },
+    BeginCore {
+        /// The slot of the stream, 0 to 7.
+        slot: u8,
+        /// What is told of the process.
+        process: Process,
+    },
     /// The stream becomes a case.
-    End { slot: u8 },
+    End {
+        /// The slot of the stream, 0 to 7.
+        slot: u8,
+    },
     /// The stream is dropped.
-    Drop { slot: u8 },
+    Drop {
+        /// The slot of the stream, 0 to 7.
+        slot: u8,
+    },
     /// The case is dropped.
-    Delete { seq: u32 },
+    Delete {
+        /// The number of the case, from 1 on.
+        seq: u32,
+    },
     /// The case is kept from deletion, or no longer.
-    Pin { seq: u32, flag: bool },
+    Pin {
+        /// The number of the case, from 1 on.
+        seq: u32,
+        /// It is kept.
+        flag: bool,
+    },
     /// The cases that the rule drops are dropped.
-    Retire { policy: Policy },
+    Retire {
+        /// What the archive is to be brought down to.
+        policy: Policy,
+    },
     /// The cases.
     ListCases,
     /// The free data blocks.
     CountFree,
 }
 
-// What a line says.
-pub(crate) fn parse_line(line: &KeptLine) -> Command
+/// What a line says, which a reader of lines has kept.
+pub fn parse_line(line: &KeptLine) -> Command
     requires { (text : List ℕ) × KeepsLine text line.now }
     ensures { (text : List ℕ) → KeepsLine text line.now → said_by result ≡ said text }
 {
@@ -70,8 +101,8 @@ pub(crate) fn parse_line(line: &KeptLine) -> Command
     parse_short_line(line.text())
 }
 
-// What a line says that is at hand whole.
-pub(crate) fn parse_text(line: &[u8]) -> Command
+/// What a line says that is at hand whole, without its newline.
+pub fn parse_text(line: &[u8]) -> Command
     ensures { said_by result ≡ said line.now }
 {
     if is_blank_or_comment(line) {

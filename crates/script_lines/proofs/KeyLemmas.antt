@@ -4,8 +4,8 @@ use Rattle.std.proofs.lemmas.Bool.{cases_Bool}
 use Rattle.std.specs.Str.{bytes_eq}
 use Rattle.script_words.specs.Pairs.{pair_of, with_key_byte}
 use Rattle.script_words.specs.Text.{text_of, text_past, with_byte, after_escape, escape_of}
-use Rattle.inspector_cli.specs.Commands.{AreWords}
-use Rattle.inspector_cli.specs.Keys.{value_if, first_given, value_of}
+use Rattle.script_lines.specs.Commands.{AreWords}
+use Rattle.script_lines.specs.Keys.{value_if, first_given, value_of}
 
 -- the value of a pair has at most so many bytes
 abbrev pub IsWithin : ℕ → Option (List ℕ × List ℕ) → Type 0

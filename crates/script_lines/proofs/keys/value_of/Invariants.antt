@@ -1,7 +1,7 @@
 use Rattle.std.proofs.Common.{◌≡◌}
 use Rattle.script_words.specs.WordsLeft.{words_left}
-use Rattle.inspector_cli.specs.Keys.{value_of}
-use Rattle.inspector_cli.proofs.keys.value_of.Given as goal
+use Rattle.script_lines.specs.Keys.{value_of}
+use Rattle.script_lines.proofs.keys.value_of.Given as goal
 
 abbrev pub invariant-loop-word : goal.invariant-loop-word
 invariant-loop-word l = record {

@@ -1,0 +1,54 @@
+-- What the code's commands say.
+use Rattle.std.specs.Prelude.{ℕ, ◌<◌, ◌≤◌, List, [], ◌∷◌, length}
+use Rattle.script_lines.specs.Said.{Said, ProcessSaid, silence, bad_line, long_line, begin_exec, begin_core, part_of, end_of, drop_of, delete_of, pin_of, retire_by, list_all_cases, count_free}
+use Rattle.script_lines.specs.declared.process.Process.{Process}
+use Rattle.script_lines.specs.declared.command.Command.{Command}
+use Rattle.script_lines.specs.declared.names.NameWord.{NameWord}
+use Rattle.script_lines.specs.declared.command.Command.TheVariants.{Part, Plain}
+use Rattle.script_lines.specs.declared.command.Request.{Request}
+use Rattle.script_lines.specs.declared.command.Request.TheVariants.{Silence, BadLine, LineTooLong, BeginExec, BeginCore, End, Drop, Delete, Pin, Retire, ListCases, CountFree}
+
+-- what is told of a process
+abbrev pub process_of : Process → ProcessSaid
+process_of p = record {
+  comm = p.comm.items;
+  exe = p.exe.items;
+  host = p.host.items;
+  pid = p.pid;
+  tid = p.tid;
+  signal = p.signal;
+  uid = p.uid;
+  gid = p.gid;
+  mode = p.mode;
+  time = p.time;
+  limit = p.limit;
+}
+
+-- the text of a name
+abbrev pub name_text : NameWord → List ℕ
+name_text name = name.text.items
+
+-- what a request says
+abbrev pub asked_by : Request → Said
+asked_by Silence = silence
+asked_by BadLine = bad_line
+asked_by LineTooLong = long_line
+asked_by (BeginExec slot name) = begin_exec slot name.text.items
+asked_by (BeginCore slot process) = begin_core slot (process_of process)
+asked_by (End slot) = end_of slot
+asked_by (Drop slot) = drop_of slot
+asked_by (Delete seq) = delete_of seq
+asked_by (Pin seq flag) = pin_of seq flag
+asked_by (Retire policy) = retire_by policy
+asked_by ListCases = list_all_cases
+asked_by CountFree = count_free
+
+-- what a command says
+abbrev pub said_by : Command → Said
+said_by (Part slot count) = part_of slot count
+said_by (Plain request) = asked_by request
+
+-- no word is empty, or longer than a line
+abbrev pub AreWords : List (List ℕ) → Type 0
+AreWords [] = Unit {0}
+AreWords (word ∷ words) = (0 < length word) × (length word ≤ 1024) × AreWords words

@@ -1,0 +1,12 @@
+//! The names that lines give.
+ghost use Rattle.std.specs.Prelude.{◌<◌, length};
+
+use arrayvec::ArrayVec;
+
+/// A name that is the text of a word, and so is not empty.
+#[derive(Drop)]
+pub struct NameWord {
+    /// Its bytes: escapes are read.
+    pub text: ArrayVec<u8, 1024>,
+    ghost some: { 0 < length text.items },
+}
