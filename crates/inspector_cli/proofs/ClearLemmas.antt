@@ -15,12 +15,15 @@ use Rattle.intake.specs.Step.{BeginStep, AbandonStep, FinishStep, DeleteStep, Pi
 use Rattle.retention.specs.declared.Decision.{Decision}
 use Rattle.retention.specs.declared.Policy.{Policy}
 use Rattle.inspector_cli.specs.declared.session.Naming.{Naming}
-use Rattle.script_lines.specs.Said.{Said, silence, bad_line, long_line, begin_exec, begin_core, part_of, end_of, drop_of, delete_of, pin_of, retire_by, list_all_cases, count_free, said, raw_length}
+use Rattle.script_lines.specs.Said.{Said, silence, bad_line, long_line, begin_exec, begin_core, part_of, end_of, drop_of, delete_of, pin_of, retire_by, list_all_cases, count_free, inspect_of, said, raw_length}
 use Rattle.script_streams.specs.Replies.{no_reply, ok_reply}
-use Rattle.inspector_cli.specs.Reply.{Begins, Replies, TakeStep, reason_of, end_reply, plain_reply, retire_reply, dropped_line, unmet_line, exec_stream, core_stream}
+use Rattle.inspector_cli.specs.Reply.{Begins, Replies, TakeStep, end_reply, plain_reply, retire_reply, dropped_line, unmet_line, exec_stream, core_stream}
+use Rattle.inspector_cli.specs.Reasons.{reason_of}
 use Rattle.inspector_cli.specs.Stages.{Stage, Moves, MayLeave}
 use Rattle.inspector_cli.specs.Session.{Item, Run, last_stage, Ending, complete, last_line, cut_part, said_last, EndReplies, LastReplies, Truncates, TakesFront, BreaksOff, AnswersAll, AnswersWhole}
 use Rattle.inspector_cli.specs.Runs.{IsClear}
+use Rattle.inspector_cli.specs.Inspecting.{kind_asked}
+use Rattle.inspector_cli.proofs.InspectLemmas.{asks_halts}
 
 -- the first byte of a text, and its fourth
 abbrev first_of : List ℕ → ℕ
@@ -250,6 +253,7 @@ module _ {D : Type 0} (g : disk.Ghosts D) where
   )
   line_halts naming old new list_all_cases raw reply r = still old new list_all_cases reply (λ x none. none) (same_stops old new r.1)
   line_halts naming old new count_free raw reply r = still old new count_free reply (λ x none. none) (same_stops old new r.3)
+  line_halts naming old new (inspect_of seq query) raw reply r = still old new (inspect_of seq query) reply (λ x none. none) (asks_halts g old new seq query (kind_asked (bare_of old) seq query) reply r)
 
   cut_halts : (old new : Parts D) (what : Said) (raw reply : List ℕ) → Truncates g old what raw reply new → Halts old what reply new
   cut_halts old new (part_of slot n) raw reply cut =

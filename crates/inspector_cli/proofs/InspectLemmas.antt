@@ -1,5 +1,5 @@
 -- What a line that asks an image leaves of the archive.
-use Rattle.std.proofs.Common.{◌≡◌, ◌⊎◌, inl, inr, ℕ, true, List, Result, Ok, Err, Vec, Global, ap, ◌∙◌}
+use Rattle.std.proofs.Common.{◌≡◌, ◌⊎◌, inl, inr, ℕ, true, List, Result, Ok, Err, Vec, Global, ap, subst, ◌∙◌}
 use Rattle.std.specs.Prelude.{IsTrue}
 use Rattle.disk_model.specs.declared.disk.Disk as disk
 use Rattle.intake.specs.Calls.{Stays, ImageCall}
@@ -11,7 +11,7 @@ use Rattle.intake.specs.Step.{ImageStep}
 use Rattle.intake.specs.declared.faults.ArchiveFault.{ArchiveFault}
 use Rattle.intake.specs.declared.faults.ArchiveFault.TheVariants.{Stopped, BadSlot, SlotBusy, NameTaken, NoStream, TooLong, SpaceFull, NoCase, Pinned, JournalFull, NumbersSpent, OutOfMemory, Disk}
 use Rattle.journal_layout.specs.declared.entry.Kind.{Kind}
-use Rattle.script_lines.specs.declared.query.Query.{Query}
+use Rattle.script_lines.specs.Queries.{QuerySaid}
 use Rattle.inspector_cli.specs.Inspecting.{Asks}
 use Rattle.inspector_cli.specs.Seeing.{LooksAt}
 
@@ -49,15 +49,15 @@ module _ {D : Type 0} (g : disk.Ghosts D) (old new : Parts D) (seq : ℕ) where
   looks_bytes (Ok image) honest looks = inl (looks.contents honest)
   looks_bytes (Err f) honest looks = inr (f, looks.bytes honest, λ is. image_stops (bare_of old) (bare_of new) seq f looks.step is)
 
-  pub asks_stays : (q : Query) (k : Result Kind (List ℕ)) (reply : List ℕ) → Asks g old seq q k reply new → Stays g old new
+  pub asks_stays : (q : QuerySaid) (k : Result Kind (List ℕ)) (reply : List ℕ) → Asks g old seq q k reply new → Stays g old new
   asks_stays q (Ok kind) reply asks = looks_stays asks.0 asks.1
   asks_stays q (Err reason) reply asks = stays_as g old new asks.1
 
-  pub asks_halts : (q : Query) (k : Result Kind (List ℕ)) (reply : List ℕ) → Asks g old seq q k reply new → old.stopped ≡ true → new.stopped ≡ true
+  pub asks_halts : (q : QuerySaid) (k : Result Kind (List ℕ)) (reply : List ℕ) → Asks g old seq q k reply new → old.stopped ≡ true → new.stopped ≡ true
   asks_halts q (Ok kind) reply asks stopped = looks_halts asks.0 asks.1 stopped
   asks_halts q (Err reason) reply asks stopped = ap (λ (x : Parts D). x.stopped) asks.1 ∙ stopped
 
-  pub asks_bytes : (q : Query) (k : Result Kind (List ℕ)) (reply : List ℕ) → IsTrue (g.is_honest old.disk) → Asks g old seq q k reply new
+  pub asks_bytes : (q : QuerySaid) (k : Result Kind (List ℕ)) (reply : List ℕ) → IsTrue (g.is_honest old.disk) → Asks g old seq q k reply new
       → (contents_of g.seen new ≡ contents_of g.seen old) ⊎ ((f : ArchiveFault) × UnmovedBytes (contents_of g.seen old) f (contents_of g.seen new) × (f ≡ Disk → new.stopped ≡ true))
   asks_bytes q (Ok kind) reply honest asks = looks_bytes asks.0 honest asks.1
   asks_bytes q (Err reason) reply honest asks = inl (ap (contents_of g.seen) asks.1)

@@ -11,15 +11,17 @@ use Rattle.intake.specs.Durable.{Durable, FoundCase, durable_of, without, flagge
 use Rattle.intake.specs.Lasts.{FinishLasts, DeleteLasts, PinLasts, RetireLasts, RefusalsLast}
 use Rattle.intake.specs.Lives.{IsAmong}
 use Rattle.intake.specs.Marks.{Mark, mark_of}
-use Rattle.intake.specs.Parts.{Parts}
+use Rattle.intake.specs.Parts.{Parts, bare_of}
 use Rattle.intake.specs.State.{BareStream}
 use Rattle.inspector_cli.specs.declared.session.Naming.{Naming}
-use Rattle.script_lines.specs.Said.{Said, silence, bad_line, long_line, begin_exec, begin_core, part_of, end_of, drop_of, delete_of, pin_of, retire_by, list_all_cases, count_free, said, raw_length}
+use Rattle.script_lines.specs.Said.{Said, silence, bad_line, long_line, begin_exec, begin_core, part_of, end_of, drop_of, delete_of, pin_of, retire_by, list_all_cases, count_free, inspect_of, said, raw_length}
 use Rattle.script_streams.specs.Replies.{no_reply, ok_reply}
 use Rattle.inspector_cli.specs.Reply.{Replies, dropped_line, unmet_line, exec_stream, core_stream}
 use Rattle.inspector_cli.specs.Session.{Ending, complete, last_line, cut_part, said_last, last_stage, LastReplies, EndReplies}
 use Rattle.inspector_cli.specs.Stages.{Stage, Moves, MayLeave, mark_at, marks_of}
 use Rattle.inspector_cli.specs.Stored.{HasImage, Spares}
+use Rattle.inspector_cli.specs.Inspecting.{kind_asked}
+use Rattle.inspector_cli.proofs.InspectLemmas.{asks_stays}
 use Rattle.inspector_cli.specs.Told.{Answer, Answers, Session, Finishes, HasLine, MayDrop, Spare, what_of}
 use Rattle.inspector_cli.proofs.StageLemmas.{begins_stays, truncates_stays, broken_stays}
 
@@ -149,6 +151,7 @@ module _ (n : ℕ) (bytes : List ℕ) where
         same_keeps old new (lasts.refusals old new f honest (inr (inr (inr (policy, call))))) has
     line_keeps old new list_all_cases raw reply honest r spares has = as_it_was old new r.1 has
     line_keeps old new count_free raw reply honest r spares has = as_it_was old new r.3 has
+    line_keeps old new (inspect_of seq query) raw reply honest r spares has = stays_keeps old new honest (asks_stays g old new seq query (kind_asked (bare_of old) seq query) reply r) has
 
     -- what a line would have left, had the disk not failed, has the case
     doubt_keeps : (old : Parts D) (what : Said) (reply : List ℕ) (x : Durable) → reply ≡ no_reply (codes "Disk") → (MayDrop n what reply → ⊥) → Has old → MayLeave g old what x → HasImage n bytes x
@@ -166,6 +169,7 @@ module _ (n : ℕ) (bytes : List ℕ) where
     doubt_keeps old (retire_by policy) reply x told spares has may = absurd (spares (inr told))
     doubt_keeps old list_all_cases reply x told spares has may = absurd may
     doubt_keeps old count_free reply x told spares has may = absurd may
+    doubt_keeps old (inspect_of seq query) reply x told spares has may = absurd may
 
     -- all that a mark has holds the case
     abbrev pub Holds : Mark D → Type 0

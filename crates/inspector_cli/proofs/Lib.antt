@@ -4,6 +4,7 @@ pub mod SlotLemmas
 pub mod TakeLemmas
 pub mod RoomLemmas
 pub mod GiveLemmas
+pub mod InspectLemmas
 pub mod LineLemmas
 pub mod RunLemmas
 pub mod CloseLemmas

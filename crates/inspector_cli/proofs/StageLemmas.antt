@@ -10,16 +10,19 @@ use Rattle.intake.specs.Calls.{Stays}
 use Rattle.intake.specs.Durable.{Durable}
 use Rattle.intake.specs.Growth.{IsDiskFault}
 use Rattle.intake.specs.Marks.{Passes, Run as RunOfMarks, Leads, doubted, mark_of, FoundAfterAStop, StaysLead, FinishLeads, DeleteLeads, PinLeads, RetireLeads}
-use Rattle.intake.specs.Parts.{Parts}
+use Rattle.intake.specs.Parts.{Parts, bare_of}
 use Rattle.intake.specs.State.{BareStream}
 use Rattle.retention.specs.declared.Decision.{Decision}
 use Rattle.inspector_cli.specs.declared.session.Naming.{Naming}
-use Rattle.script_lines.specs.Said.{Said, silence, bad_line, long_line, begin_exec, begin_core, part_of, end_of, drop_of, delete_of, pin_of, retire_by, list_all_cases, count_free, said, raw_length}
+use Rattle.script_lines.specs.Said.{Said, silence, bad_line, long_line, begin_exec, begin_core, part_of, end_of, drop_of, delete_of, pin_of, retire_by, list_all_cases, count_free, inspect_of, said, raw_length}
 use Rattle.script_streams.specs.Replies.{no_reply}
-use Rattle.inspector_cli.specs.Reply.{Begins, Replies, reason_of, end_reply, plain_reply, retire_reply, exec_stream, core_stream}
+use Rattle.inspector_cli.specs.Reply.{Begins, Replies, end_reply, plain_reply, retire_reply, exec_stream, core_stream}
+use Rattle.inspector_cli.specs.Reasons.{reason_of}
 use Rattle.inspector_cli.specs.Stages.{Stage, Moves, MayLeave, mark_at, marks_of, IsFoundAfterAStop}
 use Rattle.inspector_cli.specs.Session.{Item, Run, last_stage, Ending, complete, last_line, cut_part, said_last, EndReplies, LastReplies, Truncates, TakesFront, BreaksOff}
 use Rattle.intake.specs.StayLaws.{stays_as, stays_then}
+use Rattle.inspector_cli.specs.Inspecting.{kind_asked}
+use Rattle.inspector_cli.proofs.InspectLemmas.{asks_stays}
 
 all_as : {P Q : Durable → Type 0} (xs : List Durable) → ((x : Durable) → P x → Q x) → AllByRecursion P xs → AllByRecursion Q xs
 all_as [] f all = tt
@@ -112,6 +115,7 @@ module _ {D : Type 0} (g : disk.Ghosts D) (laws : Laws g) (old : Stage D) (new :
       changed Decision (retire_by policy) reply r.0 _ (λ x may. may) (λ is. r.2 ∙ retire_disk r.0 is) (laws.retire old.archive new policy r.0 r.1)
   line_moves naming list_all_cases raw reply r = still list_all_cases reply (stays_as g old.archive new r.1)
   line_moves naming count_free raw reply r = still count_free reply (stays_as g old.archive new r.3)
+  line_moves naming (inspect_of seq query) raw reply r = still (inspect_of seq query) reply (asks_stays g old.archive new seq query (kind_asked (bare_of old.archive) seq query) reply r)
 
   last_moves : (naming : Naming) (n : ℕ) (what : Said) (reply : List ℕ) → LastReplies g naming n old.archive what reply new → Reaches what reply
   last_moves naming zero what reply r = line_moves naming what [] reply r

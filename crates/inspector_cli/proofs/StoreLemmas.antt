@@ -20,7 +20,7 @@ use Rattle.script_streams.specs.Telling.{Told, IsDelivered}
 use Rattle.script_streams.specs.declared.reply.Reply.{Reply}
 use Rattle.script_streams.specs.declared.streams.StreamFault.{StreamFault}
 use Rattle.inspector_cli.specs.declared.session.Naming.{Naming}
-use Rattle.script_lines.specs.Said.{Said, ProcessSaid, silence, bad_line, long_line, begin_exec, begin_core, part_of, end_of, drop_of, delete_of, pin_of, retire_by, list_all_cases, count_free, said}
+use Rattle.script_lines.specs.Said.{Said, ProcessSaid, silence, bad_line, long_line, begin_exec, begin_core, part_of, end_of, drop_of, delete_of, pin_of, retire_by, list_all_cases, count_free, inspect_of, said}
 use Rattle.inspector_cli.specs.Reply.{Begins, TakeStep, TakeBytes, Takes, exec_unless, exec_stream, core_unless, core_stream, name_fault, core_name}
 use Rattle.inspector_cli.specs.declared.session.SessionFault.TheVariants.{WriteFailed}
 use Rattle.inspector_cli.specs.declared.store.TakeStop.{TakeStop}
@@ -71,6 +71,7 @@ first_fresh naming (pin_of seq flag) = tt
 first_fresh naming (retire_by policy) = tt
 first_fresh naming list_all_cases = tt
 first_fresh naming count_free = tt
+first_fresh naming (inspect_of seq query) = tt
 
 set_there : {X : Type 0} (xs : List (Option X)) (slot : ℕ) (a : Option X) → slot < length xs → stream_at (slice_set xs slot a) slot ≡ a
 set_there [] slot a there = absurd (omega arith)

@@ -1,3 +1,6 @@
+pub mod Reasons
+pub mod Seeing
+pub mod Inspecting
 pub mod Commands
 pub mod Reply
 pub mod Stages
@@ -10,5 +13,4 @@ pub mod Runs
 pub mod Told
 pub mod Stored
 pub mod Memory
-pub mod Seeing
 pub mod Extracting

@@ -24,23 +24,9 @@ use Rattle.name_template.specs.declared.template.NameFault.{NameFault}
 use Rattle.name_template.specs.declared.template.NameFault.TheVariants as name
 use Rattle.std.specs.Borrow.{Bor}
 use Rattle.inspector_cli.specs.declared.session.Naming.{Naming}
-use Rattle.script_lines.specs.Said.{Said, ProcessSaid, silence, bad_line, long_line, begin_exec, begin_core, part_of, end_of, drop_of, delete_of, pin_of, retire_by, list_all_cases, count_free}
-
--- the name that a refusal is told by
-abbrev pub reason_of : ArchiveFault → List ℕ
-reason_of Stopped = codes "Stopped"
-reason_of BadSlot = codes "BadSlot"
-reason_of SlotBusy = codes "SlotBusy"
-reason_of NameTaken = codes "NameTaken"
-reason_of NoStream = codes "NoStream"
-reason_of TooLong = codes "TooLong"
-reason_of SpaceFull = codes "SpaceFull"
-reason_of NoCase = codes "NoCase"
-reason_of Pinned = codes "Pinned"
-reason_of JournalFull = codes "JournalFull"
-reason_of NumbersSpent = codes "NumbersSpent"
-reason_of OutOfMemory = codes "OutOfMemory"
-reason_of Disk = codes "Disk"
+use Rattle.inspector_cli.specs.Reasons.{reason_of}
+use Rattle.inspector_cli.specs.Inspecting.{Inspects}
+use Rattle.script_lines.specs.Said.{Said, ProcessSaid, silence, bad_line, long_line, begin_exec, begin_core, part_of, end_of, drop_of, delete_of, pin_of, retire_by, list_all_cases, count_free, inspect_of}
 
 -- the reply with no lines to a call's answer
 abbrev pub plain_reply : Result (Unit {0}) ArchiveFault → List ℕ
@@ -255,3 +241,4 @@ Replies g naming old (pin_of seq flag) raw reply new = Pins g old seq flag reply
 Replies g naming old (retire_by policy) raw reply new = Retires g old policy reply new
 Replies g naming old list_all_cases raw reply new = (reply ≡ list_reply (bare_of old).stopped (bare_of old).cases) × (new ≡ old)
 Replies g naming old count_free raw reply new = Frees old reply new
+Replies g naming old (inspect_of seq query) raw reply new = Inspects g old seq query reply new

@@ -17,7 +17,8 @@ use Rattle.script_lines.specs.Said.{Said, begin_exec, begin_core, end_of, long_l
 use Rattle.inspector_cli.specs.Session.{Streams}
 use Rattle.inspector_cli.specs.Stages.{Stage, Moves, IsFoundAfterAStop}
 use Rattle.script_streams.specs.Replies.{no_reply}
-use Rattle.inspector_cli.specs.Reply.{Begins, Ends, Takes, exec_stream, core_stream, reason_of}
+use Rattle.inspector_cli.specs.Reply.{Begins, Ends, Takes, exec_stream, core_stream}
+use Rattle.inspector_cli.specs.Reasons.{reason_of}
 
 -- What the first line begins, or why it begins nothing: it begins a stream in slot 0. Any other line is none that is known.
 abbrev pub first_stream : Naming → Said → Result BareStream (List ℕ)

@@ -2,6 +2,7 @@
 ghost use Rattle.std.specs.Prelude.{◌≡◌};
 ghost use Rattle.intake.specs.Parts.{bare_of};
 ghost use Rattle.script_streams.specs.Replies.{TellsReply, TellsText, telling, reply_of};
+ghost use Rattle.script_lines.specs.Queries.{query_of};
 ghost use Rattle.inspector_cli.specs.Inspecting.{Inspects, answer_of, asked_view, kind_asked, kind_for, want_of};
 ghost use Rattle.inspector_cli.specs.Seeing.{IsKept};
 
@@ -28,7 +29,7 @@ pub(crate) fn answer_query<O: Output, D: Disk>(
     archive: &mut Archive<D>,
 )
     requires { IsKept D.Disk archive.old kept.old }
-    ensures answers { TellsReply (telling O.Output output.old output.new reply.old reply.new) (λ text. Inspects D.Disk archive.old seq query.now text archive.new) }
+    ensures answers { TellsReply (telling O.Output output.old output.new reply.old reply.new) (λ text. Inspects D.Disk archive.old seq (query_of query.now) text archive.new) }
     ensures kept { IsKept D.Disk archive.new kept.new }
 {
     let kind = match kind_asked(seq, query, archive) {
@@ -53,7 +54,7 @@ fn kind_asked<D: Disk>(
     query: &Query,
     archive: &Archive<D>,
 ) -> Result<Kind, &'static [u8]>
-    ensures { asked_view result ≡ kind_asked (bare_of archive.now) seq query.now }
+    ensures { asked_view result ≡ kind_asked (bare_of archive.now) seq (query_of query.now) }
 {
     match archive.case(seq) {
         Ok(entry) => kind_for(query, entry.kind),
@@ -63,7 +64,7 @@ fn kind_asked<D: Disk>(
 
 // The kind of a case, where the line may ask one of that kind.
 fn kind_for(query: &Query, kind: Kind) -> Result<Kind, &'static [u8]>
-    ensures { asked_view result ≡ kind_for query.now kind }
+    ensures { asked_view result ≡ kind_for (query_of query.now) kind }
 {
     match (query, kind) {
         (Query::Header, _) => Ok(kind),
@@ -90,7 +91,7 @@ fn tell_answer<O: Output>(
     output: &mut O,
     image: &[u8],
 )
-    ensures { TellsText (telling O.Output output.old output.new reply.old reply.new) (reply_of (answer_of kind query.now image.now)) }
+    ensures { TellsText (telling O.Output output.old output.new reply.old reply.new) (reply_of (answer_of kind (query_of query.now) image.now)) }
 {
     match query {
         Query::Header => tell_header(reply, output, image, want_of(kind)),

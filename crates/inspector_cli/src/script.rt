@@ -7,9 +7,12 @@ ghost use Rattle.intake.specs.Durable.{Durable};
 ghost use Rattle.script_lines.specs.Said.{said, part_of};
 ghost use Rattle.inspector_cli.specs.declared.session.Naming.{Naming};
 ghost use Rattle.script_streams.specs.Replies.{telling};
+ghost use Rattle.inspector_cli.specs.Seeing.{IsKept};
 ghost use Rattle.inspector_cli.specs.Answering.{CommandEnds, Halts, ScriptEnds, PartAnswers, LastAnswers, reading};
 
 use crate::answers::answer_plain;
+use crate::inspect::answer_query;
+use crate::kept_image::KeptImage;
 use crate::parts::answer_part;
 use crate::session::Naming;
 use crate::telling::tell_outcome;
@@ -54,9 +57,19 @@ pub(crate) fn answer_script<I: Input, O: Output, D: Disk>(
 {
     calls_lead_from_mark_to_mark::<D>();
     let mut line = KeptLine::new();
+    let mut kept = None;
     let mut goes_on = true;
     while goes_on {
-        goes_on = answer_command(&mut line, buffer, input, reply, output, archive, naming)?;
+        goes_on = answer_command(
+            &mut line,
+            &mut kept,
+            buffer,
+            input,
+            reply,
+            output,
+            archive,
+            naming,
+        )?;
     }
     Ok(())
 }
@@ -64,6 +77,7 @@ pub(crate) fn answer_script<I: Input, O: Output, D: Disk>(
 // Reads the next command and answers it, unless its reply could not be seen. Says whether the script may go on.
 fn answer_command<I: Input, O: Output, D: Disk>(
     line: &mut KeptLine,
+    kept: &mut Option<KeptImage>,
     buffer: &mut ScriptBuffer,
     input: &mut I,
     reply: &mut Reply,
@@ -71,11 +85,13 @@ fn answer_command<I: Input, O: Output, D: Disk>(
     archive: &mut Archive<D>,
     naming: &Naming,
 ) -> Result<bool, ScriptStop>
+    requires kept { IsKept D.Disk archive.old kept.old }
     ensures answers { CommandEnds D.Disk naming.now
         (reading I.Input input.old input.new buffer.old buffer.new)
         (telling O.Output output.old output.new reply.old reply.new)
         archive.old archive.new result }
     ensures unheard { has_failed reply.old ≡ true → archive.new ≡ archive.old }
+    ensures kept { IsKept D.Disk archive.new kept.new }
     ensures stops { Halts (I.failures input.old) (I.failures input.new) buffer.new result }
 {
     let ending = buffer.next_line(input, line, reply, output)?;
@@ -84,11 +100,12 @@ fn answer_command<I: Input, O: Output, D: Disk>(
     }
     match ending {
         LineEnding::Newline => {
-            let goes_on = answer_line(line, buffer, input, reply, output, archive, naming)?;
+            let goes_on =
+                answer_line(line, kept, buffer, input, reply, output, archive, naming)?;
             Ok(goes_on)
         }
         LineEnding::EndOfInput => {
-            answer_last(line, reply, output, archive, naming);
+            answer_last(line, kept, reply, output, archive, naming);
             Ok(false)
         }
         LineEnding::NothingLeft => Ok(false),
@@ -98,6 +115,7 @@ fn answer_command<I: Input, O: Output, D: Disk>(
 // Answers a line, with the bytes behind its newline. Says whether they were all there.
 fn answer_line<I: Input, O: Output, D: Disk>(
     line: &KeptLine,
+    kept: &mut Option<KeptImage>,
     buffer: &mut ScriptBuffer,
     input: &mut I,
     reply: &mut Reply,
@@ -105,18 +123,26 @@ fn answer_line<I: Input, O: Output, D: Disk>(
     archive: &mut Archive<D>,
     naming: &Naming,
 ) -> Result<bool, ReadStop>
-    requires { (text : List ℕ) × KeepsLine text line.now }
+    requires line { (text : List ℕ) × KeepsLine text line.now }
+    requires kept { IsKept D.Disk archive.old kept.old }
     ensures answers { (text : List ℕ) → KeepsLine text line.now
         → PartAnswers D.Disk naming.now (reading I.Input input.old input.new buffer.old buffer.new)
         (telling O.Output output.old output.new reply.old reply.new)
         archive.old (said text) archive.new result }
     ensures stops { Stops (I.failures input.old) (I.failures input.new) buffer.new result }
+    ensures kept { IsKept D.Disk archive.new kept.new }
 {
     match parse_line(line) {
         Command::Part { slot, count } => {
+            *kept = None;
             answer_part(slot, count, buffer, input, reply, output, archive)
         }
+        Command::Inspect { seq, query } => {
+            answer_query(seq, &query, kept, reply, output, archive);
+            Ok(true)
+        }
         Command::Plain(request) => {
+            *kept = None;
             answer_plain(request, reply, output, archive, naming);
             Ok(true)
         }
@@ -126,18 +152,30 @@ fn answer_line<I: Input, O: Output, D: Disk>(
 // Answers a last line that no newline ends: no bytes stand behind it.
 fn answer_last<O: Output, D: Disk>(
     line: &KeptLine,
+    kept: &mut Option<KeptImage>,
     reply: &mut Reply,
     output: &mut O,
     archive: &mut Archive<D>,
     naming: &Naming,
 )
-    requires { (text : List ℕ) × KeepsLine text line.now }
-    ensures { (text : List ℕ) → KeepsLine text line.now
+    requires line { (text : List ℕ) × KeepsLine text line.now }
+    requires kept { IsKept D.Disk archive.old kept.old }
+    ensures answers { (text : List ℕ) → KeepsLine text line.now
         → LastAnswers D.Disk naming.now (telling O.Output output.old output.new reply.old reply.new) archive.old (said text) archive.new }
+    ensures kept { IsKept D.Disk archive.new kept.new }
 {
     match parse_line(line) {
-        Command::Part { slot, count } => answer_cut(slot, count, reply, output, archive),
-        Command::Plain(request) => answer_plain(request, reply, output, archive, naming),
+        Command::Part { slot, count } => {
+            *kept = None;
+            answer_cut(slot, count, reply, output, archive)
+        }
+        Command::Inspect { seq, query } => {
+            answer_query(seq, &query, kept, reply, output, archive)
+        }
+        Command::Plain(request) => {
+            *kept = None;
+            answer_plain(request, reply, output, archive, naming)
+        }
     }
 }
 

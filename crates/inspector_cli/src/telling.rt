@@ -4,7 +4,8 @@ ghost use Rattle.std.specs.List.{flat_map};
 ghost use Rattle.journal_layout.specs.Case.{case_of};
 ghost use Rattle.intake.specs.Parts.{bare_case};
 ghost use Rattle.script_streams.specs.Replies.{ok_reply, no_reply, TellsText, telling};
-ghost use Rattle.inspector_cli.specs.Reply.{reason_of, plain_reply, begin_reply, end_reply, retire_reply, dropped_line, free_reply, number_word, case_line, kind_name, pin_name};
+ghost use Rattle.inspector_cli.specs.Reply.{plain_reply, begin_reply, end_reply, retire_reply, dropped_line, free_reply, number_word, case_line, kind_name, pin_name};
+ghost use Rattle.inspector_cli.specs.Reasons.{reason_of};
 
 use intake::{ArchiveFault, Space};
 use journal_layout::{Entry, Kind};

@@ -3,8 +3,8 @@ use Rattle.script_lines.specs.Said.{Said}
 use Rattle.inspector_cli.specs.Answering.{LastAnswers}
 use Rattle.inspector_cli.proofs.script.answer_last.Goals as goal
 
-pub returns-in-Part : goal.returns-in-Part
-returns-in-Part g c = λ text keeps.
+pub returns-in-Part-clause-answers : goal.returns-in-Part-clause-answers
+returns-in-Part-clause-answers g c = λ text keeps.
     subst
     (λ (w : Said).
     LastAnswers g.D.Disk c.args.naming.now

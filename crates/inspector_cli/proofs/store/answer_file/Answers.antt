@@ -2,7 +2,7 @@ use Rattle.std.proofs.Common.{refl, Ok, Err, ap}
 use Rattle.std.specs.Prelude.{codes}
 use Rattle.inspector_cli.specs.declared.store.TakeStop.TheVariants.{File, Refused}
 use Rattle.script_streams.specs.Replies.{no_reply}
-use Rattle.inspector_cli.specs.Reply.{reason_of}
+use Rattle.inspector_cli.specs.Reasons.{reason_of}
 use Rattle.inspector_cli.proofs.TellLemmas.{tells_as}
 use Rattle.inspector_cli.proofs.store.answer_file.Goals as goal
 
