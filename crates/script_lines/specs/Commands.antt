@@ -1,12 +1,13 @@
 -- What the code's commands say.
 use Rattle.std.specs.Prelude.{ℕ, ◌<◌, ◌≤◌, List, [], ◌∷◌, length}
-use Rattle.script_lines.specs.Said.{Said, ProcessSaid, silence, bad_line, long_line, begin_exec, begin_core, part_of, end_of, drop_of, delete_of, pin_of, retire_by, list_all_cases, count_free}
+use Rattle.script_lines.specs.Said.{Said, ProcessSaid, silence, bad_line, long_line, begin_exec, begin_core, part_of, end_of, drop_of, delete_of, pin_of, retire_by, list_all_cases, count_free, inspect_of}
+use Rattle.script_lines.specs.Queries.{query_of}
 use Rattle.script_lines.specs.declared.process.Process.{Process}
 use Rattle.script_lines.specs.declared.command.Command.{Command}
 use Rattle.script_lines.specs.declared.names.NameWord.{NameWord}
 use Rattle.script_lines.specs.declared.command.Command.TheVariants.{Part, Plain}
 use Rattle.script_lines.specs.declared.command.Request.{Request}
-use Rattle.script_lines.specs.declared.command.Request.TheVariants.{Silence, BadLine, LineTooLong, BeginExec, BeginCore, End, Drop, Delete, Pin, Retire, ListCases, CountFree}
+use Rattle.script_lines.specs.declared.command.Request.TheVariants.{Silence, BadLine, LineTooLong, BeginExec, BeginCore, End, Drop, Delete, Pin, Retire, ListCases, CountFree, Inspect}
 
 -- what is told of a process
 abbrev pub process_of : Process → ProcessSaid
@@ -42,6 +43,7 @@ asked_by (Pin seq flag) = pin_of seq flag
 asked_by (Retire policy) = retire_by policy
 asked_by ListCases = list_all_cases
 asked_by CountFree = count_free
+asked_by (Inspect seq query) = inspect_of seq (query_of query)
 
 -- what a command says
 abbrev pub said_by : Command → Said

@@ -6,6 +6,7 @@ use Rattle.script_words.specs.Words.{words_of, is_plain_line, is_blank_or_commen
 use Rattle.script_words.specs.Number.{number_within}
 use Rattle.script_words.specs.Text.{text_of}
 use Rattle.script_lines.specs.declared.keys.Keys.TheVariants.{Core, Retire}
+use Rattle.script_lines.specs.Queries.{QuerySaid, query_rows, query_in}
 use Rattle.script_lines.specs.Keys.{are_pairs, text_at, small_at, large_at, number_or_zero}
 
 -- what a line tells of a process that dumped core: what it leaves out is empty or 0
@@ -50,6 +51,8 @@ pub data Said : Type 0 where
   list_all_cases : Said
   -- the free data blocks
   count_free : Said
+  -- this is asked of the image of the case of this number
+  inspect_of : ℕ → QuerySaid → Said
 
 -- what is said, if it is anything that is known
 abbrev pub known_or_bad : Option Said → Said
@@ -175,6 +178,17 @@ abbrev pub list_said : List (List ℕ) → Option Said
 list_said [] = Some list_all_cases
 list_said (more ∷ words) = None
 
+-- a case and a query
+abbrev pub inspects : Option ℕ → Option QuerySaid → Option Said
+inspects None query = None
+inspects (Some seq) None = None
+inspects (Some seq) (Some query) = Some (inspect_of seq query)
+
+-- the commands that inspect the image of a case, 1 to 2 ^ 32 - 1
+abbrev pub inspect_said : List ℕ → List (List ℕ) → Option Said
+inspect_said command [] = None
+inspect_said command (seq ∷ words) = inspects (number_within 1 (2 ^ 32 - 1) seq) (query_in query_rows command words)
+
 -- the commands on cases
 abbrev pub case_words_said : List ℕ → List (List ℕ) → Option Said
 case_words_said command words =
@@ -184,7 +198,7 @@ case_words_said command words =
     else (if bytes_eq command (codes "retire") then retire_said words
     else (if bytes_eq command (codes "list") then list_said words
     else (if bytes_eq command (codes "free") then free_said words
-    else None)))))
+    else inspect_said command words)))))
 
 -- the commands on streams, and the others
 abbrev pub command_said : List ℕ → List (List ℕ) → Option Said
@@ -227,6 +241,7 @@ raw_length (pin_of seq flag) = 0
 raw_length (retire_by policy) = 0
 raw_length list_all_cases = 0
 raw_length count_free = 0
+raw_length (inspect_of seq query) = 0
 
 -- The line asks for something that one line can do: it begins, feeds, ends and drops no stream, and is none that has no reply.
 abbrev pub is_question : Said → Bool
@@ -235,4 +250,5 @@ is_question (pin_of seq flag) = true
 is_question (retire_by policy) = true
 is_question list_all_cases = true
 is_question count_free = true
+is_question (inspect_of seq query) = true
 is_question _ = false

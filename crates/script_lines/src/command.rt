@@ -3,13 +3,14 @@ ghost use Rattle.std.specs.Prelude.{◌≡◌, ◌<◌, ◌≤◌, ℕ, List, le
 ghost use Rattle.script_words.specs.Words.{words_of};
 ghost use Rattle.script_words.specs.WordsLeft.{words_left};
 ghost use Rattle.script_words.specs.Text.{text_of};
-ghost use Rattle.script_lines.specs.Said.{said, is_question, begin_said, exec_said, core_said, part_said, slot_alone, case_alone, pins, retire_said, list_said, free_said, case_words_said, words_said, short_line_said};
+ghost use Rattle.script_lines.specs.Said.{said, is_question, begin_said, exec_said, core_said, part_said, slot_alone, case_alone, pins, retire_said, list_said, free_said, inspect_said, case_words_said, words_said, short_line_said};
 ghost use Rattle.script_lines.specs.Commands.{said_by, asked_by, name_text, AreWords};
 ghost use Rattle.script_streams.specs.Lines.{KeepsLine};
 
 use crate::keys::{Keys, are_pairs, large_at};
 use crate::names::NameWord;
 use crate::process::{Process, parse_process};
+use crate::query::{Query, parse_query};
 use retention::Policy;
 use script_streams::KeptLine;
 use script_words::{
@@ -85,6 +86,13 @@ pub enum Request {
     ListCases,
     /// The free data blocks.
     CountFree,
+    /// Something is asked of the image of a case.
+    Inspect {
+        /// The number of the case, from 1 on.
+        seq: u32,
+        /// What is asked.
+        query: Query,
+    },
 }
 
 /// What a line says, which a reader of lines has kept.
@@ -172,7 +180,7 @@ fn parse_case_words(command: &[u8], words: Words<'_>) -> Option<Request>
     } else if command == b"free".as_slice() {
         parse_free(words)
     } else {
-        None
+        parse_inspect(command, words)
     }
 }
 
@@ -321,8 +329,20 @@ fn parse_free(words: Words<'_>) -> Option<Request>
     Some(Request::CountFree)
 }
 
-/// Whether a line asks for something that one line can do: `delete`, `pin`, `unpin`, `retire`, `list` and `free` do; a line that
-/// begins, feeds, ends or drops a stream doesn't, nor does one outside the grammar, or with no reply.
+// A line that inspects: the number of a case, and what is asked of its image.
+fn parse_inspect(command: &[u8], words: Words<'_>) -> Option<Request>
+    ensures { option_map asked_by result ≡ inspect_said command.now (words_left words.entry) }
+{
+    let mut rest = words;
+    let seq = rest.next()?;
+    Some(Request::Inspect {
+        seq: parse_case_number(seq)?,
+        query: parse_query(command, rest)?,
+    })
+}
+
+/// Whether a line asks for something that one line can do: `delete`, `pin`, `unpin`, `retire`, `list`, `free` and the lines that
+/// inspect do; a line that begins, feeds, ends or drops a stream doesn't, nor does one outside the grammar, or with no reply.
 pub fn is_question(line: &[u8]) -> bool
     ensures { result ≡ is_question (said line.now) }
 {
@@ -341,6 +361,7 @@ fn is_asked(request: &Request) -> bool
         Request::Retire { .. } => true,
         Request::ListCases => true,
         Request::CountFree => true,
+        Request::Inspect { .. } => true,
         Request::Silence => false,
         Request::BadLine => false,
         Request::LineTooLong => false,

@@ -3,9 +3,13 @@
 
 mod command;
 mod keys;
+mod laws;
 mod names;
 mod process;
+mod query;
 
 pub use command::{Command, Request, is_question, parse_line, parse_text};
+pub use laws::every_query_can_be_said;
 pub use names::NameWord;
 pub use process::Process;
+pub use query::Query;

@@ -8,4 +8,6 @@ mod names;
 #[cfg(test)]
 mod policies;
 #[cfg(test)]
+mod queries;
+#[cfg(test)]
 mod streams;
