@@ -5,9 +5,9 @@ use Rattle.script_lines.specs.Queries.{query_of}
 use Rattle.script_lines.specs.declared.process.Process.{Process}
 use Rattle.script_lines.specs.declared.command.Command.{Command}
 use Rattle.script_lines.specs.declared.names.NameWord.{NameWord}
-use Rattle.script_lines.specs.declared.command.Command.TheVariants.{Part, Plain}
+use Rattle.script_lines.specs.declared.command.Command.TheVariants.{Part, Inspect, Plain}
 use Rattle.script_lines.specs.declared.command.Request.{Request}
-use Rattle.script_lines.specs.declared.command.Request.TheVariants.{Silence, BadLine, LineTooLong, BeginExec, BeginCore, End, Drop, Delete, Pin, Retire, ListCases, CountFree, Inspect}
+use Rattle.script_lines.specs.declared.command.Request.TheVariants.{Silence, BadLine, LineTooLong, BeginExec, BeginCore, End, Drop, Delete, Pin, Retire, ListCases, CountFree}
 
 -- what is told of a process
 abbrev pub process_of : Process → ProcessSaid
@@ -43,11 +43,11 @@ asked_by (Pin seq flag) = pin_of seq flag
 asked_by (Retire policy) = retire_by policy
 asked_by ListCases = list_all_cases
 asked_by CountFree = count_free
-asked_by (Inspect seq query) = inspect_of seq (query_of query)
 
 -- what a command says
 abbrev pub said_by : Command → Said
 said_by (Part slot count) = part_of slot count
+said_by (Inspect seq query) = inspect_of seq (query_of query)
 said_by (Plain request) = asked_by request
 
 -- no word is empty, or longer than a line

@@ -28,7 +28,14 @@ pub enum Command {
         /// How many bytes stand behind the line, 0 to 65,536.
         count: u32,
     },
-    /// A line that stands alone.
+    /// Something is asked of the image of a case.
+    Inspect {
+        /// The number of the case, from 1 on.
+        seq: u32,
+        /// What is asked.
+        query: Query,
+    },
+    /// Any other line, which stands alone.
     Plain(Request),
 }
 
@@ -86,13 +93,6 @@ pub enum Request {
     ListCases,
     /// The free data blocks.
     CountFree,
-    /// Something is asked of the image of a case.
-    Inspect {
-        /// The number of the case, from 1 on.
-        seq: u32,
-        /// What is asked.
-        query: Query,
-    },
 }
 
 /// What a line says, which a reader of lines has kept.
@@ -156,29 +156,29 @@ fn parse_words(words: Words<'_>) -> Option<Command>
             slot: parse_slot_alone(rest)?,
         }))
     } else {
-        Some(Command::Plain(parse_case_words(command, rest)?))
+        parse_case_words(command, rest)
     }
 }
 
 // What the words of a line on cases say.
-fn parse_case_words(command: &[u8], words: Words<'_>) -> Option<Request>
+fn parse_case_words(command: &[u8], words: Words<'_>) -> Option<Command>
     requires { AreWords (words_left words) }
-    ensures { option_map asked_by result ≡ case_words_said command.now (words_left words.entry) }
+    ensures { option_map said_by result ≡ case_words_said command.now (words_left words.entry) }
 {
     if command == b"delete".as_slice() {
-        Some(Request::Delete {
+        Some(Command::Plain(Request::Delete {
             seq: parse_case_alone(words)?,
-        })
+        }))
     } else if command == b"pin".as_slice() {
-        parse_pin(words, true)
+        Some(Command::Plain(parse_pin(words, true)?))
     } else if command == b"unpin".as_slice() {
-        parse_pin(words, false)
+        Some(Command::Plain(parse_pin(words, false)?))
     } else if command == b"retire".as_slice() {
-        parse_retire(words)
+        Some(Command::Plain(parse_retire(words)?))
     } else if command == b"list".as_slice() {
-        parse_list(words)
+        Some(Command::Plain(parse_list(words)?))
     } else if command == b"free".as_slice() {
-        parse_free(words)
+        Some(Command::Plain(parse_free(words)?))
     } else {
         parse_inspect(command, words)
     }
@@ -330,12 +330,12 @@ fn parse_free(words: Words<'_>) -> Option<Request>
 }
 
 // A line that inspects: the number of a case, and what is asked of its image.
-fn parse_inspect(command: &[u8], words: Words<'_>) -> Option<Request>
-    ensures { option_map asked_by result ≡ inspect_said command.now (words_left words.entry) }
+fn parse_inspect(command: &[u8], words: Words<'_>) -> Option<Command>
+    ensures { option_map said_by result ≡ inspect_said command.now (words_left words.entry) }
 {
     let mut rest = words;
     let seq = rest.next()?;
-    Some(Request::Inspect {
+    Some(Command::Inspect {
         seq: parse_case_number(seq)?,
         query: parse_query(command, rest)?,
     })
@@ -348,6 +348,7 @@ pub fn is_question(line: &[u8]) -> bool
 {
     match parse_text(line) {
         Command::Part { .. } => false,
+        Command::Inspect { .. } => true,
         Command::Plain(request) => is_asked(&request),
     }
 }
@@ -361,7 +362,6 @@ fn is_asked(request: &Request) -> bool
         Request::Retire { .. } => true,
         Request::ListCases => true,
         Request::CountFree => true,
-        Request::Inspect { .. } => true,
         Request::Silence => false,
         Request::BadLine => false,
         Request::LineTooLong => false,

@@ -23,7 +23,7 @@ fn is_bad(line: &[u8]) -> bool {
 
 // The case and the thread of a line that asks for registers.
 fn registers_asked(line: &[u8]) -> Option<(u32, u64)> {
-    let Command::Plain(Request::Inspect { seq, query }) = parse_text(line) else {
+    let Command::Inspect { seq, query } = parse_text(line) else {
         return None;
     };
     match query {
