@@ -1,0 +1,43 @@
+-- Texts told one behind the other, by lines and over lists.
+use Rattle.std.proofs.Common.{◌≡◌, ℕ, List, [], ◌++◌, Option, refl, sym, subst, ap, ◌∙◌, append_assoc}
+use Rattle.std.proofs.Common.{ℤ, SFits, to_z, of_z}
+use Rattle.std.specs.Int.{Width}
+use Rattle.std.proofs.lemmas.Int.{to_z-of_z}
+use Rattle.std.proofs.lemmas.List.{append-nil}
+use Rattle.script_streams.specs.Telling.{Told, Tells}
+use Rattle.script_streams.specs.declared.reply.Reply.{Reply}
+
+pub tells_then : (a b c : Option (List ℕ)) (f g h : ℕ) (old mid new : Reply) (x y : List ℕ) → Tells a b f g old mid x → Tells b c g h mid new y → Tells a c f h old new (x ++ y)
+tells_then a b c f g h old mid new x y first second start count told so_far =
+    subst (Told start count c h new) (append_assoc told x y) (second start count (told ++ x) (first start count told so_far))
+
+-- the same text
+pub tells_as : (a b : Option (List ℕ)) (f g : ℕ) (old new : Reply) (x y : List ℕ) → x ≡ y → Tells a b f g old new x → Tells a b f g old new y
+tells_as a b f g old new x y is first start count told so_far = subst (λ (t : List ℕ). Told start count b g new (told ++ t)) is (first start count told so_far)
+
+pub tells_nothing : (a : Option (List ℕ)) (f : ℕ) (reply : Reply) → Tells a a f f reply reply []
+tells_nothing a f reply start count told so_far = subst (Told start count a f reply) (sym (append-nil told)) so_far
+
+-- of a whole text all was told but what is left
+pub record TellsFront (a b : Option (List ℕ)) (f g : ℕ) (old new : Reply) (whole left : List ℕ) : Type 0 where
+  pub front : List ℕ
+  pub split : front ++ left ≡ whole
+  pub told : Tells a b f g old new front
+
+pub front_begins : (a : Option (List ℕ)) (f : ℕ) (reply : Reply) (whole : List ℕ) → TellsFront a a f f reply reply whole whole
+front_begins a f reply whole = record { front = []; split = refl; told = tells_nothing a f reply }
+
+pub front_grows : (a b c : Option (List ℕ)) (f g h : ℕ) (old mid new : Reply) (whole left x more : List ℕ) → TellsFront a b f g old mid whole left → left ≡ x ++ more → Tells b c g h mid new x → TellsFront a c f h old new whole more
+front_grows a b c f g h old mid new whole left x more before is next = record {
+  front = before.front ++ x;
+  split = append_assoc before.front x more ∙ sym (ap (λ (t : List ℕ). before.front ++ t) is) ∙ before.split;
+  told = tells_then a b c f g h old mid new before.front x before.told next;
+}
+
+pub front_ends : (a b : Option (List ℕ)) (f g : ℕ) (old new : Reply) (whole left : List ℕ) → TellsFront a b f g old new whole left → left ≡ [] → Tells a b f g old new whole
+front_ends a b f g old new whole left before is =
+    tells_as a b f g old new before.front whole (sym (append-nil before.front) ∙ sym (ap (λ (t : List ℕ). before.front ++ t) is) ∙ before.split) before.told
+
+-- a signed number that is handed on
+pub signed_as : (w : Width) (x z : ℤ) → x ≡ z → SFits w x → to_z w (of_z w x) ≡ z
+signed_as w x z is fits = to_z-of_z w x fits ∙ is

@@ -1,0 +1,8 @@
+use Rattle.image_replies.proofs.TextLemmas.{tells_then}
+use Rattle.image_replies.proofs.process.tell_process_lines.Goals as goal
+
+pub returns : goal.returns
+returns g c =
+    tells_then _ _ _ _ _ _ _ _ _ _ _ c.tell_numbers.ensures
+    (tells_then _ _ _ _ _ _ _ _ _ _ _ c.tell_owner.ensures
+    (tells_then _ _ _ _ _ _ _ _ _ _ _ c.tell_state.ensures c.tell_names.ensures))

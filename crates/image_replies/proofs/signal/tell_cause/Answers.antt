@@ -1,0 +1,17 @@
+use Rattle.std.proofs.Common.{rules, ap}
+use Rattle.std.proofs.Common.{w32}
+use Rattle.image_replies.proofs.TextLemmas.{signed_as}
+use Rattle.std.specs.Prelude.{◌++◌, codes}
+use Rattle.std.specs.Fmt.{signed_decimal}
+use Rattle.thread_regs.specs.SignalNames.{name_of_signal}
+use Rattle.image_replies.specs.Signal.{name_or_dash}
+use Rattle.image_replies.proofs.TextLemmas.{tells_then, tells_as}
+use Rattle.image_replies.proofs.signal.tell_cause.Goals as goal
+
+pub returns : goal.returns
+returns g c =
+    tells_then _ _ _ _ _ _ _ _ _ _ _ (tells_as _ _ _ _ _ _ _ _ (ap (λ z. codes "signo " ++ signed_decimal z) (signed_as w32 _ _ c.si_signo.ensures (search rules))) c.tell_labelled.ensures)
+    (tells_then _ _ _ _ _ _ _ _ _ _ _ c.tell.ensures
+    (tells_then _ _ _ _ _ _ _ _ _ _ _ (tells_as _ _ _ _ _ _ _ _ (ap (λ z. name_or_dash (name_of_signal z)) (signed_as w32 _ _ c.si_signo-2.ensures (search rules))) c.tell_signal_name.ensures)
+    (tells_then _ _ _ _ _ _ _ _ _ _ _ (tells_as _ _ _ _ _ _ _ _ (ap (λ z. codes " errno " ++ signed_decimal z) (signed_as w32 _ _ c.si_errno.ensures (search rules))) c.tell_labelled-2.ensures)
+    (tells_then _ _ _ _ _ _ _ _ _ _ _ (tells_as _ _ _ _ _ _ _ _ (ap (λ z. codes " code " ++ signed_decimal z) (signed_as w32 _ _ c.si_code.ensures (search rules))) c.tell_labelled-3.ensures) c.tell-2.ensures))))

@@ -1,0 +1,7 @@
+use Rattle.image_replies.proofs.TextLemmas.{tells_then}
+use Rattle.image_replies.proofs.signal.tell_signal_lines.Goals as goal
+
+pub returns : goal.returns
+returns g c =
+    tells_then _ _ _ _ _ _ _ _ _ _ _ c.tell_cause.ensures
+    (tells_then _ _ _ _ _ _ _ _ _ _ _ c.tell_sender.ensures c.tell_met_address.ensures)

@@ -1,0 +1,11 @@
+pub mod Core
+pub mod CoreWords
+pub mod Reasons
+pub mod Lines
+pub mod Header
+pub mod Notes
+pub mod Threads
+pub mod Process
+pub mod Signal
+pub mod Auxv
+pub mod Files

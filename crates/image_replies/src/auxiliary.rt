@@ -1,0 +1,96 @@
+// The reply to `auxv`.
+ghost use Rattle.std.specs.Prelude.{◌≡◌};
+ghost use Rattle.std.specs.List.{flat_map};
+ghost use Rattle.std.specs.Option.{option_map, option_copied};
+ghost use Rattle.core_notes.specs.DescriptorWords.{auxv_bytes, pairs_left};
+ghost use Rattle.script_streams.specs.Replies.{TellsText, telling, reply_of};
+ghost use Rattle.image_replies.specs.Lines.{if_there};
+ghost use Rattle.image_replies.specs.Auxv as spec;
+
+use crate::core_image::CoreImage;
+use crate::faults::tell_core_fault;
+use core_notes::{Auxv, AuxvPair, AuxvPairs};
+use script_streams::{Output, Reply, tell_no, tell_ok};
+
+/// Tells the auxiliary vector of the process of a core, or the first that holds of: the core or a typed note is at fault,
+/// it has no NT_AUXV (`no Missing`).
+pub fn tell_auxv<O: Output>(reply: &mut Reply, output: &mut O, image: &[u8])
+    ensures { TellsText (telling O.Output output.old output.new reply.old reply.new) (reply_of (spec.auxv_answer image.now)) }
+{
+    match CoreImage::read(image) {
+        Ok(core) => tell_found(reply, output, core.notes().auxv()),
+        Err(fault) => tell_core_fault(reply, output, fault),
+    }
+}
+
+/// Tells an auxiliary vector, if it is there.
+fn tell_found<O: Output>(reply: &mut Reply, output: &mut O, auxv: Option<Auxv<'_>>)
+    ensures { TellsText (telling O.Output output.old output.new reply.old reply.new)
+        (reply_of (if_there (option_map auxv_bytes auxv.entry) spec.pair_lines)) }
+{
+    match auxv {
+        Some(auxv) => {
+            tell_pair_lines(reply, output, auxv.pairs());
+            tell_ok(reply, output);
+        }
+        None => tell_no(reply, output, b"Missing"),
+    }
+}
+
+/// Tells a line for each pair.
+fn tell_pair_lines<O: Output>(reply: &mut Reply, output: &mut O, pairs: AuxvPairs<'_>)
+    ensures { TellsText (telling O.Output output.old output.new reply.old reply.new) (flat_map spec.pair_line (pairs_left pairs.entry)) }
+{
+    let mut rest = pairs;
+    while let Some(pair) = rest.next() {
+        tell_pair_line(reply, output, pair);
+    }
+}
+
+fn tell_pair_line<O: Output>(reply: &mut Reply, output: &mut O, pair: AuxvPair)
+    ensures { TellsText (telling O.Output output.old output.new reply.old reply.new) (spec.pair_line pair) }
+{
+    tell_type(reply, output, pair.kind);
+    reply.tell(output, b" ");
+    reply.tell_hexadecimal(output, u128::from(pair.value));
+    reply.tell(output, b"\n");
+}
+
+/// Tells the name of a type, or its number.
+fn tell_type<O: Output>(reply: &mut Reply, output: &mut O, kind: u64)
+    ensures { TellsText (telling O.Output output.old output.new reply.old reply.new) (spec.name_or_number (spec.auxv_name kind) kind) }
+{
+    match auxv_name(kind) {
+        Some(name) => reply.tell(output, name.as_bytes()),
+        None => reply.tell_decimal(output, u128::from(kind)),
+    }
+}
+
+/// The name of a type, without AT_.
+#[tactic(auto, unfolding(crate::specs::Auxv::auxv_name))]
+fn auxv_name(kind: u64) -> Option<&'static str>
+    ensures { option_copied result ≡ spec.auxv_name kind }
+{
+    match kind {
+        3 => Some("PHDR"),
+        4 => Some("PHENT"),
+        5 => Some("PHNUM"),
+        6 => Some("PAGESZ"),
+        7 => Some("BASE"),
+        8 => Some("FLAGS"),
+        9 => Some("ENTRY"),
+        11 => Some("UID"),
+        12 => Some("EUID"),
+        13 => Some("GID"),
+        14 => Some("EGID"),
+        15 => Some("PLATFORM"),
+        16 => Some("HWCAP"),
+        17 => Some("CLKTCK"),
+        23 => Some("SECURE"),
+        25 => Some("RANDOM"),
+        26 => Some("HWCAP2"),
+        31 => Some("EXECFN"),
+        33 => Some("SYSINFO_EHDR"),
+        _ => None,
+    }
+}
