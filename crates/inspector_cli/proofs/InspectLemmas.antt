@@ -1,5 +1,5 @@
 -- What a line that asks an image leaves of the archive.
-use Rattle.std.proofs.Common.{◌≡◌, ◌⊎◌, inl, inr, ℕ, true, List, Result, Ok, Err, Vec, Global, ap, subst, ◌∙◌}
+use Rattle.std.proofs.Common.{◌≡◌, ◌⊎◌, inl, inr, ℕ, true, List, Result, Ok, Err, Vec, Global, refl, ap, subst, ◌∙◌}
 use Rattle.std.specs.Prelude.{IsTrue}
 use Rattle.disk_model.specs.declared.disk.Disk as disk
 use Rattle.intake.specs.Calls.{Stays, ImageCall}
@@ -12,7 +12,8 @@ use Rattle.intake.specs.declared.faults.ArchiveFault.{ArchiveFault}
 use Rattle.intake.specs.declared.faults.ArchiveFault.TheVariants.{Stopped, BadSlot, SlotBusy, NameTaken, NoStream, TooLong, SpaceFull, NoCase, Pinned, JournalFull, NumbersSpent, OutOfMemory, Disk}
 use Rattle.journal_layout.specs.declared.entry.Kind.{Kind}
 use Rattle.script_lines.specs.Queries.{QuerySaid}
-use Rattle.inspector_cli.specs.Inspecting.{Asks}
+use Rattle.script_streams.specs.Replies.{no_reply}
+use Rattle.inspector_cli.specs.Inspecting.{Asks, reply_with}
 use Rattle.inspector_cli.specs.Seeing.{LooksAt}
 
 -- an image that can't be read: the archive stays as it is, or is stopped
@@ -61,3 +62,11 @@ module _ {D : Type 0} (g : disk.Ghosts D) (old new : Parts D) (seq : ℕ) where
       → (contents_of g.seen new ≡ contents_of g.seen old) ⊎ ((f : ArchiveFault) × UnmovedBytes (contents_of g.seen old) f (contents_of g.seen new) × (f ≡ Disk → new.stopped ≡ true))
   asks_bytes q (Ok kind) reply honest asks = looks_bytes asks.0 honest asks.1
   asks_bytes q (Err reason) reply honest asks = inl (ap (contents_of g.seen) asks.1)
+
+-- a reason, and an answer, as they were told
+pub reason_told : {D : Type 0} (g : disk.Ghosts D) (a : Parts D) (seq : ℕ) (q : QuerySaid) (reason : List ℕ) (k : Result Kind (List ℕ)) → Err reason ≡ k → Asks g a seq q k (no_reply reason) a
+reason_told g a seq q reason k is = subst (λ (x : Result Kind (List ℕ)). Asks g a seq q x (no_reply reason) a) is (refl, refl)
+
+pub answer_told : {D : Type 0} (g : disk.Ghosts D) (old new : Parts D) (seq : ℕ) (q : QuerySaid) (kind : Kind) (k : Result Kind (List ℕ)) (r : Result (List ℕ) ArchiveFault) → Ok kind ≡ k → LooksAt g old seq r new
+    → Asks g old seq q k (reply_with kind q r) new
+answer_told g old new seq q kind k r is looks = subst (λ (x : Result Kind (List ℕ)). Asks g old seq q x (reply_with kind q r) new) is (r, looks, refl)

@@ -13,7 +13,8 @@ use Rattle.script_streams.specs.declared.reader.ReadStop.TheVariants.{ReadFailed
 use Rattle.inspector_cli.specs.declared.script.ScriptStop.{ScriptStop}
 use Rattle.inspector_cli.specs.declared.script.ScriptStop.TheVariants.{Read}
 use Rattle.inspector_cli.specs.declared.session.Naming.{Naming}
-use Rattle.script_lines.specs.Said.{Said, said, raw_length}
+use Rattle.script_lines.specs.Said.{Said, said, raw_length, inspect_of}
+use Rattle.script_lines.specs.Queries.{QuerySaid}
 use Rattle.script_lines.specs.Commands.{asked_by}
 use Rattle.script_lines.specs.declared.command.Request.{Request}
 use Rattle.script_lines.specs.declared.command.Request.TheVariants.{Silence, BadLine, LineTooLong, BeginExec, BeginCore, End, Drop, Delete, Pin, Retire, ListCases, CountFree}
@@ -57,6 +58,12 @@ module _ {D : Type 0} (g : disk.Ghosts D) where
   plain_answers naming a b t old new r what is answers =
       subst (λ (w : Said). PartAnswers g naming (record { before = a; after = a; buffer = b; buffer' = b }) t old w new (Ok true)) is
       ([], sym (no_raw r), gives_nothing a b, answers)
+
+  pub query_answers : (naming : Naming) (a : Option (List ℕ)) (b : ScriptBuffer) (t : Telling) (old new : Parts D) (seq : ℕ) (q : QuerySaid) (what : Said) → inspect_of seq q ≡ what → AnswersTo g naming t old (inspect_of seq q) [] new
+      → PartAnswers g naming (record { before = a; after = a; buffer = b; buffer' = b }) t old what new (Ok true)
+  query_answers naming a b t old new seq q what is answers =
+      subst (λ (w : Said). PartAnswers g naming (record { before = a; after = a; buffer = b; buffer' = b }) t old w new (Ok true)) is
+      ([], refl, gives_nothing a b, answers)
 
   module _ (naming : Naming) (a b c : Option (List ℕ)) (buf mid buf' : ScriptBuffer) (t : Telling) (old new : Parts D) (line : List ℕ) (one : IsLine line)
       (gives : Gives a b buf mid (line ++ 10 ∷ [])) where

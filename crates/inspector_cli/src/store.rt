@@ -103,6 +103,7 @@ fn first_stream(command: Command, naming: &Naming) -> Result<NewStream, &'static
 {
     match command {
         Command::Part { .. } => Err(b"BadLine"),
+        Command::Inspect { .. } => Err(b"BadLine"),
         Command::Plain(request) => requested_stream(request, naming),
     }
 }
