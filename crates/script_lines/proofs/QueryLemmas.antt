@@ -1,12 +1,16 @@
 -- The line that says a query: a command and the words behind it, a space before each.
-use Rattle.std.proofs.Common.{◌≡◌, ℕ, ◌+◌, ◌-◌, ◌*◌, ◌%◌, ◌^◌, ◌<◌, ◌≤◌, true, false, ◌&&◌, nat_le, List, [], ◌∷◌, ◌++◌, length, filter, decimal, codes, Option, Some, refl, ap, ◌∙◌, arith, lit≤, append-nil}
-use Rattle.std.proofs.lemmas.Bool.{ne_eqb, le-leb, le-ltb, leb-true, and_parts}
+use Rattle.std.proofs.Common.{◌≡◌, ℕ, ◌+◌, ◌-◌, ◌*◌, ◌%◌, ◌^◌, ◌/◌, ⊎_elim, nat_lt, ◌<◌, ◌≤◌, true, false, ◌&&◌, nat_le, List, [], ◌∷◌, ◌++◌, length, filter, decimal, codes, Option, Some, refl, ap, ◌∙◌, arith, lit≤, append-nil}
+use Rattle.std.proofs.lemmas.Bool.{cases_Bool, ne_eqb, le-leb, le-ltb, leb-true, and_parts}
 use Rattle.std.proofs.lemmas.List.{length-append}
 use Rattle.std.proofs.lemmas.Fmt.{decimal_by_steps, length-decimal-le, decimal_nonempty}
-use Rattle.std.specs.List.{list_all}
+use Rattle.std.proofs.lemmas.List.Elements.{recursion_from_All}
+use Rattle.std.specs.Prelude.{All}
+use Rattle.std.specs.Char.{digit_char}
+use Rattle.std.specs.List.{list_all, AllByRecursion}
+use Rattle.script_words.specs.Hex.{hex_of, bytes_of_hex, needle_of}
 use Rattle.script_words.specs.Number.{number_of, kept_within, number_within}
 use Rattle.script_words.specs.Words.{with_first, pieces_of, is_word, words_of, is_plain_line, is_blank_or_comment_line}
-use Rattle.script_lines.specs.Queries.{QuerySaid, ask_header, ask_notes, ask_threads, ask_registers, ask_process, ask_signal, ask_auxiliary_vector, ask_files, asks_of, IsSayable}
+use Rattle.script_lines.specs.Queries.{QuerySaid, ask_header, ask_notes, ask_threads, ask_registers, ask_process, ask_signal, ask_auxiliary_vector, ask_files, ask_maps, ask_dump, ask_find, ask_strings, ask_backtrace, ask_symbol, asks_of, asks_both, IsSayable}
 use Rattle.script_lines.specs.Said.{known_or_bad, inspects, words_said, said, inspect_of}
 
 -- a byte of a word: 0x21 to 0x7e
@@ -99,6 +103,43 @@ case_number : ReadsDecimal → (seq : ℕ) → 1 ≤ seq → seq < 2 ^ 32 → nu
 case_number reads seq some small =
     ap (kept_within 1 (2 ^ 32 - 1)) (reads seq (omega (arith, small))) ∙ within_range 1 (2 ^ 32 - 1) seq some (omega (arith, small))
 
+abbrev IsShort : List ℕ → Type 0
+IsShort w = (0 < length w) × (length w ≤ 128) × AreMarks w
+
+short_decimal : (n : ℕ) → n < 2 ^ 64 → IsShort (decimal n)
+short_decimal n small = (decimal_nonempty n small, few_digits n small, marks_decimal n small)
+
+mark_digit : (d : ℕ) → d < 16 → IsMark (digit_char d)
+mark_digit d low =
+    ⊎_elim (λ (digit : nat_lt d 10 ≡ true). rw digit (omega arith, omega (arith, low))) (λ (letter : nat_lt d 10 ≡ false). rw letter (omega arith, omega (arith, low)))
+    (cases_Bool (nat_lt d 10))
+
+marks_hex : (bytes : List ℕ) → AllByRecursion (λ c. c < 256) bytes → AreMarks (hex_of bytes)
+marks_hex [] each = tt
+marks_hex (c ∷ cs) each =
+    let byte : c < 256 = each.0 in
+    (mark_digit (c / 16) (omega (arith, byte)), (mark_digit (c % 16) (omega arith), marks_hex cs each.1))
+
+length-hex_of : (bytes : List ℕ) → length (hex_of bytes) ≡ 2 * length bytes
+length-hex_of [] = refl
+length-hex_of (c ∷ cs) = let rest = length-hex_of cs in omega (arith, rest)
+
+short_hex : (bytes : List ℕ) → 0 < length bytes → length bytes ≤ 64 → All (λ c. c < 256) bytes → IsShort (hex_of bytes)
+short_hex bytes one few each =
+    let twice = length-hex_of bytes in
+    (omega (arith, twice, one), omega (arith, twice, few), marks_hex bytes (recursion_from_All (λ c. c < 256) bytes each))
+
+abbrev ReadsHex : Type 0
+ReadsHex = (bytes : List ℕ) → All (λ c. c < 256) bytes → bytes_of_hex (hex_of bytes) ≡ Some bytes
+
+reads_needle : ReadsHex → (bytes : List ℕ) → 0 < length bytes → length bytes ≤ 64 → All (λ c. c < 256) bytes → needle_of (hex_of bytes) ≡ Some bytes
+reads_needle reads bytes one few each =
+    let twice = length-hex_of bytes in
+    rw (le-leb 2 (length (hex_of bytes)) (omega (arith, twice, one))) (rw (le-leb (length (hex_of bytes)) 128 (omega (arith, twice, few))) (reads bytes each))
+
+reads_within : ReadsDecimal → (low high n : ℕ) → low ≤ n → n ≤ high → n < 2 ^ 64 → number_within low high (decimal n) ≡ Some n
+reads_within reads low high n least most small = ap (kept_within low high) (reads n small) ∙ within_range low high n least most
+
 abbrev HasLine : ℕ → QuerySaid → Type 0
 HasLine seq query = (line : List ℕ) × (said line ≡ inspect_of seq query)
 
@@ -109,7 +150,7 @@ record IsCommand (w : List ℕ) : Type 0 where
   pub marks : list_all (λ c. nat_le 33 c && nat_le c 126) w ≡ true
   pub seen : (ws : List (List ℕ)) → is_blank_or_comment_line (w ++ behind ws) ≡ false
 
-module _ (reads : ReadsDecimal) (seq : ℕ) (some : 1 ≤ seq) (small : seq < 2 ^ 32) where
+module _ (reads : ReadsDecimal) (reads_hex : ReadsHex) (seq : ℕ) (some : 1 ≤ seq) (small : seq < 2 ^ 32) where
   -- a command and the number of a case
   alone_line : (w : List ℕ) (query : QuerySaid) → IsCommand w
       → ((word : List ℕ) → words_said (w ∷ word ∷ []) ≡ inspects (number_within 1 (2 ^ 32 - 1) word) (Some query)) → HasLine seq query
@@ -122,21 +163,47 @@ module _ (reads : ReadsDecimal) (seq : ℕ) (some : 1 ≤ seq) (small : seq < 2 
             ∙ ap (λ (o : Option ℕ). known_or_bad (inspects o (Some query))) (case_number reads seq some small),
       )
 
+  -- a command, the number of a case, and a word that is read as something
+  worded_line : {A : Type 0} (w : List ℕ) (read : List ℕ → Option A) (query : A → QuerySaid) (x : A) (spelled : List ℕ) → IsShort spelled → read spelled ≡ Some x → IsCommand w
+      → ((word more : List ℕ) → words_said (w ∷ word ∷ more ∷ []) ≡ inspects (number_within 1 (2 ^ 32 - 1) word) (asks_of query (read more)))
+      → HasLine seq (query x)
+  worded_line {A} w read query x spelled short spells is says =
+      let digits = decimal seq in
+      let wide : seq < 2 ^ 64 = omega (arith, small) in (
+        w ++ behind (digits ∷ spelled ∷ []),
+        said_as w (digits ∷ spelled ∷ [])
+            (is.some, is.few, marks_in w is.marks, (decimal_nonempty seq wide, few_digits seq wide, marks_decimal seq wide, (short.0, short.1, short.2, tt)))
+            (omega arith) (is.seen (digits ∷ spelled ∷ []))
+            ∙ ap known_or_bad (says digits spelled)
+            ∙ ap (λ (o : Option ℕ). known_or_bad (inspects o (asks_of query (read spelled)))) (case_number reads seq some small)
+            ∙ ap (λ (o : Option A). known_or_bad (inspects (Some seq) (asks_of query o))) spells,
+      )
+
   -- a command, the number of a case, and a number
   numbered_line : (w : List ℕ) (query : ℕ → QuerySaid) (n : ℕ) → n < 2 ^ 64 → IsCommand w
       → ((word number : List ℕ) → words_said (w ∷ word ∷ number ∷ []) ≡ inspects (number_within 1 (2 ^ 32 - 1) word) (asks_of query (number_of number)))
       → HasLine seq (query n)
-  numbered_line w query n low is says =
+  numbered_line w query n low is says = worded_line w number_of query n (decimal n) (short_decimal n low) (reads n low) is says
+
+  -- a command, the number of a case, and two numbers
+  ranged_line : (w : List ℕ) (query : ℕ → ℕ → QuerySaid) (m n : ℕ) → m < 2 ^ 64 → n < 2 ^ 64 → IsCommand w
+      → ((word first second : List ℕ) → words_said (w ∷ word ∷ first ∷ second ∷ []) ≡ inspects (number_within 1 (2 ^ 32 - 1) word) (asks_both query (number_of first) (number_of second)))
+      → HasLine seq (query m n)
+  ranged_line w query m n low lower is says =
       let digits = decimal seq in
-      let number = decimal n in
-      let wide : seq < 2 ^ 64 = omega (arith, small) in (
-        w ++ behind (digits ∷ number ∷ []),
-        said_as w (digits ∷ number ∷ [])
-            (is.some, is.few, marks_in w is.marks, (decimal_nonempty seq wide, few_digits seq wide, marks_decimal seq wide, (decimal_nonempty n low, few_digits n low, marks_decimal n low, tt)))
-            (omega arith) (is.seen (digits ∷ number ∷ []))
-            ∙ ap known_or_bad (says digits number)
-            ∙ ap (λ (o : Option ℕ). known_or_bad (inspects o (asks_of query (number_of number)))) (case_number reads seq some small)
-            ∙ ap (λ (o : Option ℕ). known_or_bad (inspects (Some seq) (asks_of query o))) (reads n low),
+      let first = decimal m in
+      let second = decimal n in
+      let wide : seq < 2 ^ 64 = omega (arith, small) in
+      let a = short_decimal m low in
+      let b = short_decimal n lower in (
+        w ++ behind (digits ∷ first ∷ second ∷ []),
+        said_as w (digits ∷ first ∷ second ∷ [])
+            (is.some, is.few, marks_in w is.marks, (decimal_nonempty seq wide, few_digits seq wide, marks_decimal seq wide, (a.0, a.1, a.2, (b.0, b.1, b.2, tt))))
+            (omega arith) (is.seen (digits ∷ first ∷ second ∷ []))
+            ∙ ap known_or_bad (says digits first second)
+            ∙ ap (λ (o : Option ℕ). known_or_bad (inspects o (asks_both query (number_of first) (number_of second)))) (case_number reads seq some small)
+            ∙ ap (λ (o : Option ℕ). known_or_bad (inspects (Some seq) (asks_both query o (number_of second)))) (reads m low)
+            ∙ ap (λ (o : Option ℕ). known_or_bad (inspects (Some seq) (asks_both query (Some m) o))) (reads n lower),
       )
 
   pub query_line : (query : QuerySaid) → IsSayable query → HasLine seq query
@@ -149,3 +216,17 @@ module _ (reads : ReadsDecimal) (seq : ℕ) (some : 1 ≤ seq) (small : seq < 2 
   query_line ask_signal fits = alone_line (codes "signal") ask_signal (record { some = omega arith; few = omega arith; marks = refl; seen = λ ws. refl }) (λ word. refl)
   query_line ask_auxiliary_vector fits = alone_line (codes "auxv") ask_auxiliary_vector (record { some = omega arith; few = omega arith; marks = refl; seen = λ ws. refl }) (λ word. refl)
   query_line ask_files fits = alone_line (codes "files") ask_files (record { some = omega arith; few = omega arith; marks = refl; seen = λ ws. refl }) (λ word. refl)
+  query_line ask_maps fits = alone_line (codes "maps") ask_maps (record { some = omega arith; few = omega arith; marks = refl; seen = λ ws. refl }) (λ word. refl)
+  query_line (ask_dump first many) fits =
+      ranged_line (codes "dump") ask_dump first many fits.0 fits.1 (record { some = omega arith; few = omega arith; marks = refl; seen = λ ws. refl }) (λ word first second. refl)
+  query_line (ask_find needle) fits =
+      worded_line (codes "find") needle_of ask_find needle (hex_of needle) (short_hex needle fits.0 fits.1 fits.2) (reads_needle reads_hex needle fits.0 fits.1 fits.2)
+      (record { some = omega arith; few = omega arith; marks = refl; seen = λ ws. refl }) (λ word more. refl)
+  query_line (ask_strings least) fits =
+      let small : least < 2 ^ 64 = omega (arith, fits.1) in
+      worded_line (codes "strings") (number_within 1 1024) ask_strings least (decimal least) (short_decimal least small) (reads_within reads 1 1024 least fits.0 fits.1 small)
+      (record { some = omega arith; few = omega arith; marks = refl; seen = λ ws. refl }) (λ word more. refl)
+  query_line (ask_backtrace thread) fits =
+      numbered_line (codes "bt") ask_backtrace thread fits (record { some = omega arith; few = omega arith; marks = refl; seen = λ ws. refl }) (λ word number. refl)
+  query_line (ask_symbol address) fits =
+      numbered_line (codes "symbol") ask_symbol address fits (record { some = omega arith; few = omega arith; marks = refl; seen = λ ws. refl }) (λ word number. refl)

@@ -1,9 +1,11 @@
 -- What the lines that inspect ask: each has a command, the number of a case, and what its query wants behind it.
-use Rattle.std.specs.Prelude.{ℕ, ◌^◌, ◌<◌, List, [], ◌∷◌, Option, None, Some, codes, if◌then◌else◌}
+use Rattle.std.specs.Prelude.{ℕ, ◌^◌, ◌<◌, ◌≤◌, All, length, List, [], ◌∷◌, Option, None, Some, codes, if◌then◌else◌}
 use Rattle.std.specs.Str.{bytes_eq}
-use Rattle.script_words.specs.Number.{number_of}
+use Rattle.arrayvec.specs.ArrayVec.{ArrayVec}
+use Rattle.script_words.specs.Hex.{needle_of}
+use Rattle.script_words.specs.Number.{number_of, number_within}
 use Rattle.script_lines.specs.declared.query.Query.{Query}
-use Rattle.script_lines.specs.declared.query.Query.TheVariants.{Header, Notes, Threads, Registers, Process, Signal, AuxiliaryVector, Files}
+use Rattle.script_lines.specs.declared.query.Query.TheVariants.{Header, Notes, Threads, Registers, Process, Signal, AuxiliaryVector, Files, Maps, Dump, Find, Strings, Backtrace, Symbol}
 
 -- what a line asks an image
 pub data QuerySaid : Type 0 where
@@ -23,6 +25,18 @@ pub data QuerySaid : Type 0 where
   ask_auxiliary_vector : QuerySaid
   -- the files that were mapped into its memory
   ask_files : QuerySaid
+  -- the stretches of its memory, and what each holds
+  ask_maps : QuerySaid
+  -- the bytes of its memory from an address on, so many of them
+  ask_dump : ℕ → ℕ → QuerySaid
+  -- where these bytes stand in its memory
+  ask_find : List ℕ → QuerySaid
+  -- the texts in its memory of at least so many bytes
+  ask_strings : ℕ → QuerySaid
+  -- the frames of the thread at this place among them, from 0 on
+  ask_backtrace : ℕ → QuerySaid
+  -- the function of an executable that covers this address
+  ask_symbol : ℕ → QuerySaid
 
 -- a query with nothing behind the case
 abbrev pub alone : QuerySaid → List (List ℕ) → Option QuerySaid
@@ -43,6 +57,37 @@ asks_of query (Some x) = Some (query x)
 abbrev pub numbered : (ℕ → QuerySaid) → List (List ℕ) → Option QuerySaid
 numbered query words = asks_of query (one_word number_of words)
 
+-- a query of bytes, which stand behind the case as hexadecimal digits
+abbrev pub searched : (List ℕ → QuerySaid) → List (List ℕ) → Option QuerySaid
+searched query words = asks_of query (one_word needle_of words)
+
+-- a query of a number from 1 to 1,024, which stands behind the case
+abbrev pub bounded : (ℕ → QuerySaid) → List (List ℕ) → Option QuerySaid
+bounded query words = asks_of query (one_word (number_within 1 1024) words)
+
+abbrev pub asks_both : (ℕ → ℕ → QuerySaid) → Option ℕ → Option ℕ → Option QuerySaid
+asks_both query None length = None
+asks_both query (Some first) None = None
+asks_both query (Some first) (Some length) = Some (query first length)
+
+-- a query of two numbers of 64 bits, which stand behind the case
+abbrev pub ranged : (ℕ → ℕ → QuerySaid) → List (List ℕ) → Option QuerySaid
+ranged query [] = None
+ranged query (first ∷ []) = None
+ranged query (first ∷ length ∷ []) = asks_both query (number_of first) (number_of length)
+ranged query (first ∷ length ∷ more ∷ words) = None
+
+-- the lines that inspect memory, frames and symbols, as below
+abbrev pub memory_rows : List (List ℕ × (List (List ℕ) → Option QuerySaid))
+memory_rows =
+    (codes "maps", alone ask_maps)
+    ∷ (codes "dump", ranged ask_dump)
+    ∷ (codes "find", searched ask_find)
+    ∷ (codes "strings", bounded ask_strings)
+    ∷ (codes "bt", numbered ask_backtrace)
+    ∷ (codes "symbol", numbered ask_symbol)
+    ∷ []
+
 -- the lines that inspect: the command of each, and what may stand behind the number of the case
 abbrev pub query_rows : List (List ℕ × (List (List ℕ) → Option QuerySaid))
 query_rows =
@@ -54,12 +99,16 @@ query_rows =
     ∷ (codes "signal", alone ask_signal)
     ∷ (codes "auxv", alone ask_auxiliary_vector)
     ∷ (codes "files", alone ask_files)
-    ∷ []
+    ∷ memory_rows
 
 -- what the row of a command makes of the words behind the case
 abbrev pub query_in : List (List ℕ × (List (List ℕ) → Option QuerySaid)) → List ℕ → List (List ℕ) → Option QuerySaid
 query_in [] command words = None
 query_in (row ∷ rows) command words = if bytes_eq command row.0 then row.1 words else query_in rows command words
+
+-- the bytes of a needle
+abbrev pub needle_bytes : ArrayVec ℕ → List ℕ
+needle_bytes needle = needle.items
 
 -- what the code's query asks
 abbrev pub query_of : Query → QuerySaid
@@ -71,8 +120,19 @@ query_of Process = ask_process
 query_of Signal = ask_signal
 query_of AuxiliaryVector = ask_auxiliary_vector
 query_of Files = ask_files
+query_of Maps = ask_maps
+query_of (Dump first length) = ask_dump first length
+query_of (Find needle) = ask_find needle.items
+query_of (Strings least) = ask_strings least
+query_of (Backtrace thread) = ask_backtrace thread
+query_of (Symbol address) = ask_symbol address
 
--- the numbers in a query have 64 bits
+-- the numbers in a query have 64 bits, a text has 1 to 1,024 bytes at least, and 1 to 64 bytes are looked for
 abbrev pub IsSayable : QuerySaid → Type 0
 IsSayable (ask_registers thread) = thread < 2 ^ 64
+IsSayable (ask_dump first length) = (first < 2 ^ 64) × (length < 2 ^ 64)
+IsSayable (ask_find needle) = (0 < length needle) × (length needle ≤ 64) × All (λ c. c < 256) needle
+IsSayable (ask_strings least) = (1 ≤ least) × (least ≤ 1024)
+IsSayable (ask_backtrace thread) = thread < 2 ^ 64
+IsSayable (ask_symbol address) = address < 2 ^ 64
 IsSayable _ = Unit {0}
