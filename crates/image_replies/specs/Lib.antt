@@ -1,0 +1,3 @@
+pub mod Core
+pub mod CoreWords
+pub mod Reasons
