@@ -1,1 +1,5 @@
 pub mod TellLemmas
+pub mod SpaceLemmas
+pub mod AnswerLemmas
+pub mod SymbolLemmas
+pub mod FrameLemmas

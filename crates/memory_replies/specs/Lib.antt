@@ -1,2 +1,10 @@
+pub mod Memory
+pub mod Attaching
+pub mod Answers
 pub mod Words
-pub mod MappingLines
+pub mod Maps
+pub mod Dump
+pub mod Find
+pub mod Symbol
+pub mod Backtrace
+pub mod NamedWords

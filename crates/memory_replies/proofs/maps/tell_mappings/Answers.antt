@@ -1,8 +1,8 @@
 use Rattle.std.proofs.Common.{ap}
 use Rattle.std.specs.List.{flat_map}
-use Rattle.memory_replies.specs.MappingLines.{mapping_line}
+use Rattle.memory_replies.specs.Maps.{mapping_line}
 use Rattle.memory_replies.proofs.TellLemmas.{up_to_then}
-use Rattle.memory_replies.proofs.mapping_lines.tell_mappings.Goals as goal
+use Rattle.memory_replies.proofs.maps.tell_mappings.Goals as goal
 
 pub loop-mapping-preserved : goal.loop-mapping-preserved
 loop-mapping-preserved g c = record {

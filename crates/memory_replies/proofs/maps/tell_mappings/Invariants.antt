@@ -2,9 +2,9 @@ use Rattle.std.specs.List.{flat_map}
 use Rattle.address_space.specs.PieceWords.{mappings_left}
 use Rattle.address_space.specs.Source.{mappings_of}
 use Rattle.address_space.specs.SpaceWords.{space_of}
-use Rattle.memory_replies.specs.MappingLines.{mapping_line}
+use Rattle.memory_replies.specs.Maps.{mapping_line}
 use Rattle.memory_replies.proofs.TellLemmas.{TellsUpTo}
-use Rattle.memory_replies.proofs.mapping_lines.tell_mappings.Given as goal
+use Rattle.memory_replies.proofs.maps.tell_mappings.Given as goal
 
 abbrev pub invariant-loop-mapping : goal.invariant-loop-mapping
 invariant-loop-mapping g l = record {

@@ -1,5 +1,5 @@
 use Rattle.memory_replies.proofs.TellLemmas.{tells_then}
-use Rattle.memory_replies.proofs.mapping_lines.tell_mapping.Goals as goal
+use Rattle.memory_replies.proofs.maps.tell_mapping.Goals as goal
 
 pub returns : goal.returns
 returns g c =

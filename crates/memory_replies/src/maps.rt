@@ -1,16 +1,20 @@
 // The lines of mappings.
 ghost use Rattle.std.specs.Prelude.{◌≡◌, ◌<◌, ◌+◌};
 ghost use Rattle.std.specs.List.{flat_map};
-ghost use Rattle.script_streams.specs.Replies.{TellsText, telling};
+ghost use Rattle.script_streams.specs.Replies.{TellsText, reply_of, telling};
 ghost use Rattle.address_space.specs.PieceWords.{mapping_view};
 ghost use Rattle.address_space.specs.Source.{mappings_of};
 ghost use Rattle.address_space.specs.SpaceWords.{space_of};
+ghost use Rattle.image_replies.specs.CoreWords.{core_bytes};
 ghost use Rattle.memory_replies.specs.Words.{hex_word};
-ghost use Rattle.memory_replies.specs.MappingLines as spec;
+ghost use Rattle.memory_replies.specs.Maps as spec;
 
+use crate::attached::plain_space;
 use crate::words::{tell_hex_word, tell_spot};
 use address_space::{AddressSpace, Mapping};
-use script_streams::{Output, Reply};
+use image_replies::CoreImage;
+use script_streams::{Output, Reply, tell_ok};
+use std::alloc::Global;
 
 /// The letter of a flag, or `-` where it is not set.
 fn flag_letter(flags: u32, flag: u32, letter: &'static [u8]) -> &'static [u8]
@@ -21,7 +25,7 @@ fn flag_letter(flags: u32, flag: u32, letter: &'static [u8]) -> &'static [u8]
 }
 
 /// Tells what a mapping's flags allow.
-#[tactic(auto, unfolding(crate::specs::MappingLines::rights))]
+#[tactic(auto, unfolding(crate::specs::Maps::rights))]
 fn tell_rights<O: Output>(reply: &mut Reply, output: &mut O, flags: u32)
     ensures { TellsText (telling O.Output output.old output.new reply.old reply.new) (spec.rights flags) }
 {
@@ -55,11 +59,27 @@ fn tell_mapping<O: Output>(reply: &mut Reply, output: &mut O, mapping: Mapping<'
 
 /// Tells a line for each mapping.
 #[tactic(auto, using(crate::proofs::TellLemmas::up_to_start))]
-pub(crate) fn tell_mappings<O: Output>(reply: &mut Reply, output: &mut O, space: &AddressSpace<'_>)
+fn tell_mappings<O: Output>(reply: &mut Reply, output: &mut O, space: &AddressSpace<'_>)
     ensures { TellsText (telling O.Output output.old output.new reply.old reply.new)
         (flat_map spec.mapping_line (mappings_of (space_of space.now))) }
 {
     for mapping in space.mappings() {
         tell_mapping(reply, output, mapping);
     }
+}
+
+/// Tells the mappings of a core: `START PAST RWX FILESZ OFFSET NAME` for each PT_LOAD, in table order. It takes no memory.
+#[tactic(auto, unfolding(crate::specs::Maps::maps_answer))]
+pub fn tell_maps<O: Output>(
+    alloc: Global,
+    reply: &mut Reply,
+    output: &mut O,
+    core: &CoreImage<'_>,
+)
+    ensures { TellsText (telling O.Output output.old output.new reply.old reply.new)
+        (reply_of (spec.maps_answer (core_bytes core.now))) }
+{
+    let space = plain_space(alloc, core);
+    tell_mappings(reply, output, &space);
+    tell_ok(reply, output);
 }

@@ -1,6 +1,8 @@
 -- The lines of mappings: what each PT_LOAD of a core tells (System V gABI, "Program Header").
-use Rattle.std.specs.Prelude.{ℕ, ◌+◌, ◌/◌, ◌%◌, ◌==◌, if◌then◌else◌, List, [], ◌∷◌, ◌++◌, codes}
-use Rattle.address_space.specs.Source.{MappingView}
+use Rattle.std.specs.Prelude.{ℕ, ◌+◌, ◌/◌, ◌%◌, ◌==◌, if◌then◌else◌, List, [], ◌∷◌, ◌++◌, Result, Ok, codes}
+use Rattle.std.specs.List.{flat_map}
+use Rattle.address_space.specs.Source.{MappingView, mappings_of}
+use Rattle.memory_replies.specs.Memory.{memory_of}
 use Rattle.memory_replies.specs.Words.{hex_word, spot_words}
 
 -- the letter of a flag, or `-` where it is not set
@@ -16,3 +18,7 @@ abbrev pub mapping_line : MappingView → List ℕ
 mapping_line m =
     hex_word m.start ++ (hex_word (m.start + m.memsz) ++ (rights m.flags ++ (32 ∷ [] ++ (hex_word m.filesz
     ++ (spot_words m.spot ++ 10 ∷ [])))))
+
+-- `maps`: a line for each PT_LOAD, in table order
+unfoldable pub maps_answer : List ℕ → Result (List ℕ) (List ℕ)
+maps_answer b = Ok (flat_map mapping_line (mappings_of (memory_of b [])))
