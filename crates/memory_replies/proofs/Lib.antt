@@ -3,3 +3,4 @@ pub mod SpaceLemmas
 pub mod AnswerLemmas
 pub mod SymbolLemmas
 pub mod FrameLemmas
+pub mod TextLemmas

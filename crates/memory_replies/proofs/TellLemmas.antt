@@ -38,3 +38,7 @@ up_to_then a b c f g h old mid new whole rest x others is before next = record {
 pub up_to_end : (a b : Option (List ℕ)) (f g : ℕ) (old new : Reply) (whole rest : List ℕ) → rest ≡ [] → TellsUpTo a b f g old new whole rest → Tells a b f g old new whole
 up_to_end a b f g old new whole rest is before =
     tells_as a b f g old new before.so_far whole (sym (append-nil before.so_far) ∙ ap (λ t. before.so_far ++ t) (sym is) ∙ before.split) before.tells
+
+-- nothing was told yet, and the rest is the whole
+pub up_to_start_as : (a : Option (List ℕ)) (f : ℕ) (reply : Reply) (whole rest : List ℕ) → whole ≡ rest → TellsUpTo a a f f reply reply whole rest
+up_to_start_as a f reply whole rest is = record { so_far = []; split = sym is; tells = tells_nothing a f reply }

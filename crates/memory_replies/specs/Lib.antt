@@ -5,6 +5,7 @@ pub mod Words
 pub mod Maps
 pub mod Dump
 pub mod Find
+pub mod Texts
 pub mod Symbol
 pub mod Backtrace
 pub mod NamedWords

@@ -58,13 +58,7 @@ fn tell_row<O: Output>(
 
 /// Tells bytes that stand from an address on, 16 a row, with a word in each.
 #[tactic(auto, unfolding(crate::specs::Dump::row_lines))]
-fn tell_rows<O: Output>(
-    reply: &mut Reply,
-    output: &mut O,
-    word: &[u8],
-    first: u64,
-    bytes: &[u8],
-)
+fn tell_rows<O: Output>(reply: &mut Reply, output: &mut O, word: &[u8], first: u64, bytes: &[u8])
     ensures { TellsText (telling O.Output output.old output.new reply.old reply.new)
         (spec.row_lines word.now first bytes.now) }
 {
@@ -93,13 +87,7 @@ fn tell_not_dumped<O: Output>(
 }
 
 /// Tells addresses without bytes, by a word that says why.
-fn tell_absent<O: Output>(
-    reply: &mut Reply,
-    output: &mut O,
-    first: u64,
-    word: &[u8],
-    length: u64,
-)
+fn tell_absent<O: Output>(reply: &mut Reply, output: &mut O, first: u64, word: &[u8], length: u64)
     ensures { TellsText (telling O.Output output.old output.new reply.old reply.new)
         (hex_word first ++ (word.now ++ (hexadecimal length ++ 10 ∷ []))) }
 {

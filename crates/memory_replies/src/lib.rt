@@ -12,6 +12,7 @@ mod named;
 mod named_image;
 mod search;
 mod symbol;
+mod texts;
 mod words;
 
 pub use attached::{Attached, names_file};
@@ -20,3 +21,4 @@ pub use frames::tell_bt;
 pub use maps::tell_maps;
 pub use search::tell_find;
 pub use symbol::tell_symbol;
+pub use texts::tell_strings;

@@ -16,11 +16,10 @@ returns-in_default-thread g c =
     (_, inl (thread_missing _ _ _ _ _ c.in_default-thread.ensures c.threads.ensures c.notes.ensures), c.tell_no-in_default-thread.ensures)
 
 pub returns : goal.returns
-returns g c =
-    (
-      _,
-      inl (thread_shown _ _ _ _ _ _ _ _ _ c.in-Some.ensures c.threads.ensures c.notes.ensures c.in-Ok.ensures
+returns g c = (
+  _,
+  inl (thread_shown _ _ _ _ _ _ _ _ _ c.in-Some.ensures c.threads.ensures c.notes.ensures c.in-Ok.ensures
       (mapped_are c.files.result _ _ c.files.ensures c.notes-2.ensures)
       (ap (map named_view) c.deref.ensures.value ∙ c.in-Ok-named_images.ensures)),
-      tells_then _ _ _ _ _ _ _ _ _ _ _ c.tell_thread.ensures c.tell_ok.ensures,
-    )
+  tells_then _ _ _ _ _ _ _ _ _ _ _ c.tell_thread.ensures c.tell_ok.ensures,
+)
