@@ -1,0 +1,70 @@
+-- What is answered of a thread's frames.
+use Rattle.std.proofs.Common.{◌≡◌, ℕ, cond, Bool, List, [], ◌∷◌, ◌++◌, Option, None, Some, refl, sym, ap, ◌∙◌}
+use Rattle.std.specs.Prelude.{codes, is_none, slice_get}
+use Rattle.std.specs.List.{flat_map}
+use Rattle.std.specs.Option.{option_map, option_or}
+use Rattle.script_streams.specs.Replies.{no_reply, ok_reply, reply_of}
+use Rattle.elf_view.specs.NoteList.{NoteView}
+use Rattle.elf_view.specs.Sound.{first_fault}
+use Rattle.elf_view.specs.ViewWords.{notes_of}
+use Rattle.elf_view.specs.declared.faults.ElfFault.{ElfFault}
+use Rattle.elf_view.specs.declared.faults.Want.TheVariants.{Core, Exec}
+use Rattle.core_notes.specs.FileList.{FileView}
+use Rattle.core_notes.specs.Typed.{all_descs}
+use Rattle.thread_regs.specs.Register.{register_in}
+use Rattle.address_space.specs.Source.{Space, ExecutableView}
+use Rattle.symbols.specs.SymbolTable as table
+use Rattle.backtrace.specs.Chain.{chain, stop_of}
+use Rattle.backtrace.specs.declared.frames.Frame.{Frame}
+use Rattle.backtrace.specs.declared.frames.Stop.{Stop}
+use Rattle.image_replies.specs.Reasons.{elf_reason}
+use Rattle.memory_replies.specs.Backtrace.{bt_answer, frame_line, if_known, known_among, stop_line, thread_answer, thread_lines, words_of}
+use Rattle.memory_replies.specs.Memory.{mapped_files, memory_of}
+use Rattle.memory_replies.specs.Symbol.{executable_fault, symbol_reason}
+
+pub elf_fault_is : (b : List ℕ) (f : ElfFault) → Some f ≡ first_fault Exec b → Some (elf_reason f) ≡ executable_fault b
+unfolding executable_fault
+elf_fault_is b f is = ap (λ (o : Option ElfFault). option_or (option_map elf_reason o) (option_map symbol_reason (table.first_fault b))) is
+
+abbrev pub executable : List ℕ → List ℕ → ExecutableView
+executable path image = record { path = path; image = image }
+
+pub is_known : (path image b : List ℕ) → b ≡ image → None ≡ executable_fault image → Some (executable path b) ≡ if_known (executable path image)
+is_known path image b same sound =
+    ap (λ t. Some (executable path t)) same ∙ ap (λ (o : Option (List ℕ)). cond (is_none o) (Some (executable path image)) None) sound
+
+pub is_unknown : (x : ExecutableView) (reason : List ℕ) → Some reason ≡ executable_fault x.image → None ≡ if_known x
+is_unknown x reason fault = ap (λ (o : Option (List ℕ)). cond (is_none o) (Some x) None) fault
+
+pub thread_is : (space : Space) (files : List FileView) (known : List ExecutableView) (desc : List ℕ) (ra pc fp : ℕ) (frames : List Frame) (stop : Stop)
+    → ra ≡ register_in desc 1 → pc ≡ register_in desc 32 → fp ≡ register_in desc 8
+    → frames ≡ chain (words_of space) pc fp → stop ≡ stop_of (words_of space) pc fp
+    → flat_map (frame_line files known ra) frames ++ stop_line stop ≡ thread_lines space files known desc
+unfolding thread_lines
+thread_is space files known desc ra pc fp frames stop ra_is pc_is fp_is frames_are stop_is =
+    ap (λ fs. flat_map (frame_line files known ra) fs ++ stop_line stop) frames_are
+    ∙ ap (λ s. flat_map (frame_line files known ra) (chain (words_of space) pc fp) ++ stop_line s) stop_is
+    ∙ ap (λ n. flat_map (frame_line files known n) (chain (words_of space) pc fp) ++ stop_line (stop_of (words_of space) pc fp)) ra_is
+    ∙ ap (λ n. flat_map (frame_line files known (register_in desc 1)) (chain (words_of space) n fp) ++ stop_line (stop_of (words_of space) n fp)) pc_is
+    ∙ ap (λ n. flat_map (frame_line files known (register_in desc 1)) (chain (words_of space) (register_in desc 32) n) ++ stop_line (stop_of (words_of space) (register_in desc 32) n)) fp_is
+
+-- the descriptor of the thread, if there is one
+desc_is : (b : List ℕ) (t : ℕ) (o : Option (List ℕ)) (descs : List (List ℕ)) (notes : List NoteView) → o ≡ slice_get descs t → descs ≡ all_descs 1 notes → notes ≡ notes_of Core b
+    → o ≡ slice_get (all_descs 1 (notes_of Core b)) t
+desc_is b t o descs notes is descs_are own = is ∙ ap (λ ds. slice_get ds t) (descs_are ∙ ap (all_descs 1) own)
+
+pub thread_missing : (b : List ℕ) (xs : List ExecutableView) (t : ℕ) (descs : List (List ℕ)) (notes : List NoteView) → None ≡ slice_get descs t → descs ≡ all_descs 1 notes → notes ≡ notes_of Core b
+    → no_reply (codes "NoThread") ≡ reply_of (bt_answer b xs t)
+unfolding bt_answer
+thread_missing b xs t descs notes is descs_are own = ap (λ o. reply_of (thread_answer b xs o)) (desc_is b t None descs notes is descs_are own)
+
+pub thread_shown : (b : List ℕ) (xs : List ExecutableView) (t : ℕ) (desc : List ℕ) (descs : List (List ℕ)) (notes : List NoteView) (space : Space) (files : List FileView) (known : List ExecutableView)
+    → Some desc ≡ slice_get descs t → descs ≡ all_descs 1 notes → notes ≡ notes_of Core b
+    → space ≡ memory_of b xs → files ≡ mapped_files b → known ≡ known_among xs
+    → thread_lines space files known desc ++ ok_reply ≡ reply_of (bt_answer b xs t)
+unfolding bt_answer
+thread_shown b xs t desc descs notes space files known is descs_are own space_is files_are known_are =
+    ap (λ s. thread_lines s files known desc ++ ok_reply) space_is
+    ∙ ap (λ fs. thread_lines (memory_of b xs) fs known desc ++ ok_reply) files_are
+    ∙ ap (λ k. thread_lines (memory_of b xs) (mapped_files b) k desc ++ ok_reply) known_are
+    ∙ ap (λ o. reply_of (thread_answer b xs o)) (desc_is b t (Some desc) descs notes is descs_are own)

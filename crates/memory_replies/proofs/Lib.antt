@@ -1,0 +1,6 @@
+pub mod TellLemmas
+pub mod SpaceLemmas
+pub mod AnswerLemmas
+pub mod SymbolLemmas
+pub mod FrameLemmas
+pub mod TextLemmas

@@ -1,0 +1,113 @@
+-- The values of texts.
+use Rattle.std.proofs.Common.{◌≡◌, ◌≤◌, ◌<◌, ℕ, zero, suc, ◌+◌, ◌-◌, ◌^◌, cond, Bool, true, false, List, [], ◌∷◌, ◌++◌, length, map, Option, None, Some, refl, sym, ap, subst, ◌∙◌, arith, inl, inr}
+use Rattle.std.proofs.lemmas.Bool.{cases_Bool, cond-true, cond-false}
+use Rattle.std.proofs.lemmas.List.{append-nil}
+use Rattle.std.specs.List.{cons_option, filter, filter_map, flat_map, range_with_len}
+use Rattle.script_words.specs.Printing.{shown, shown_byte}
+use Rattle.script_streams.specs.Replies.{ok_reply, reply_of}
+use Rattle.address_space.specs.Source.{Space, ExecutableView, value_at}
+use Rattle.address_space.specs.Occurrence.{begins_text, is_long, is_text_at, is_text_value, ordered, strings_of, text_from, text_len}
+use Rattle.memory_replies.specs.Memory.{memory_of}
+use Rattle.memory_replies.specs.Texts.{strings_answer, text_line, value_list, values_between}
+
+one_first : (o : Option ℕ) (xs : List ℕ) → cons_option o xs ≡ value_list o ++ xs
+one_first None xs = refl
+one_first (Some x) xs = refl
+
+-- the first value, and those behind it
+pub values_step : (space : Space) (a n : ℕ) → values_between space a (suc n) ≡ value_list (value_at space a) ++ values_between space (a + 1) n
+unfolding values_between
+values_step space a n = one_first (value_at space a) (filter_map (value_at space) (range_with_len (a + 1) n))
+
+pub no_values : (space : Space) (a n : ℕ) → n ≡ 0 → values_between space a n ≡ []
+unfolding values_between
+no_values space a n is = ap (λ m. filter_map (value_at space) (range_with_len a m)) is
+
+shown_first : (o : Option ℕ) (xs : List ℕ) → flat_map shown_byte (value_list o ++ xs) ≡ flat_map shown_byte (value_list o) ++ flat_map shown_byte xs
+shown_first None xs = refl
+shown_first (Some x) xs = ap (λ t. t ++ flat_map shown_byte xs) (sym (append-nil (shown_byte x)))
+
+-- how the values print from place i on
+pub shown_next : (space : Space) (a n i : ℕ) (value : Option ℕ) → i < n → value ≡ value_at space (a + i)
+    → flat_map shown_byte (values_between space (a + i) (n - i)) ≡ flat_map shown_byte (value_list value) ++ flat_map shown_byte (values_between space (a + (i + 1)) (n - (i + 1)))
+shown_next space a n i value h is =
+    let size : n - i ≡ suc (n - (i + 1)) = omega arith in
+    let next : a + i + 1 ≡ a + (i + 1) = omega arith in
+    ap (λ m. flat_map shown_byte (values_between space (a + i) m)) size
+    ∙ ap (flat_map shown_byte) (values_step space (a + i) (n - (i + 1)))
+    ∙ shown_first (value_at space (a + i)) (values_between space (a + i + 1) (n - (i + 1)))
+    ∙ ap (λ b. flat_map shown_byte (value_list (value_at space (a + i))) ++ flat_map shown_byte (values_between space b (n - (i + 1)))) next
+    ∙ ap (λ v. flat_map shown_byte (value_list v) ++ flat_map shown_byte (values_between space (a + (i + 1)) (n - (i + 1)))) (sym is)
+
+pub shown_all : (space : Space) (a n : ℕ) → flat_map shown_byte (values_between space a n) ≡ flat_map shown_byte (values_between space (a + 0) (n - 0))
+shown_all space a n =
+    let size : n ≡ n - 0 = omega arith in
+    let here : a ≡ a + 0 = omega arith in
+    ap (λ m. flat_map shown_byte (values_between space a m)) size ∙ ap (λ b. flat_map shown_byte (values_between space b (n - 0))) here
+
+pub shown_end : (space : Space) (a n i : ℕ) → n ≤ i → flat_map shown_byte (values_between space (a + i) (n - i)) ≡ []
+shown_end space a n i h =
+    let none : n - i ≡ 0 = omega arith in
+    ap (flat_map shown_byte) (no_values space (a + i) (n - i) none)
+
+-- a text of one value, and one of several
+pub shown_one : (space : Space) (a n : ℕ) (value : Option ℕ) → n ≡ 1 → value ≡ value_at space a → shown (value_list value) ≡ shown (values_between space a n)
+shown_one space a n value is value_is =
+    ap (λ v. shown (value_list v)) value_is
+    ∙ ap shown (sym (append-nil (value_list (value_at space a))))
+    ∙ ap (λ xs. shown (value_list (value_at space a) ++ xs)) (sym (no_values space (a + 1) 0 refl))
+    ∙ ap shown (sym (values_step space a 0))
+    ∙ ap (λ m. shown (values_between space a m)) (sym is)
+
+pub shown_many : (xs : List ℕ) → 2 ≤ length xs → flat_map shown_byte xs ≡ shown xs
+shown_many [] h = absurd (omega arith)
+shown_many (x ∷ []) h = absurd (omega arith)
+shown_many (x ∷ y ∷ xs) h = refl
+
+pub text_len_within : (space : Space) (n a : ℕ) → text_len space a n ≤ n
+unfolding text_len
+text_len_within space zero a = omega arith
+text_len_within space (suc n) a =
+    let behind = text_len_within space n (a + 1) in
+    elim (is_text_at space a) as (λ t. cond t (text_len space (a + 1) n + 1) 0 ≤ suc n) [ true ↦ omega arith | false ↦ omega arith ]
+
+text_has : (o : Option ℕ) (xs : List ℕ) → is_text_value o ≡ true → length (value_list o ++ xs) ≡ suc (length xs)
+text_has None xs h = cc
+text_has (Some x) xs h = refl
+
+-- each address of a text has a value
+pub text_values : (space : Space) (n a : ℕ) → length (values_between space a (text_len space a n)) ≡ text_len space a n
+unfolding text_len
+text_values space zero a = ap length (no_values space a 0 refl)
+text_values space (suc n) a =
+    elim (cases_Bool (is_text_at space a)) as (λ _. length (values_between space a (cond (is_text_at space a) (text_len space (a + 1) n + 1) 0)) ≡ cond (is_text_at space a) (text_len space (a + 1) n + 1) 0) [
+      | inl is ↦
+          let m = text_len space (a + 1) n in
+          let more : suc m ≡ m + 1 = omega arith in
+          subst (λ t. length (values_between space a t) ≡ t) (more ∙ sym (cond-true (is_text_at space a) (m + 1) 0 is))
+          (ap length (values_step space a m) ∙ text_has (value_at space a) (values_between space (a + 1) m) is ∙ ap suc (text_values space n (a + 1)))
+      | inr other ↦
+          subst (λ t. length (values_between space a t) ≡ t) (sym (cond-false (is_text_at space a) (text_len space (a + 1) n + 1) 0 other)) (ap length (no_values space a 0 refl))
+    ]
+
+-- each is a text, by its first address and its length
+abbrev pub AreTexts : Space → List (ℕ × ℕ) → Type 0
+AreTexts space [] = Unit {0}
+AreTexts space (x ∷ xs) = (x.1 ≡ text_len space x.0 (2 ^ 64 - x.0)) × AreTexts space xs
+
+texts_are : (space : Space) (least : ℕ) (starts : List ℕ) → AreTexts space (filter (is_long least) (map (text_from space) starts))
+texts_are space least [] = tt
+texts_are space least (a ∷ starts) =
+    elim (is_long least (text_from space a)) as (λ t. AreTexts space (cond t (text_from space a ∷ filter (is_long least) (map (text_from space) starts)) (filter (is_long least) (map (text_from space) starts)))) [
+      | true ↦ (refl, texts_are space least starts)
+      | false ↦ texts_are space least starts
+    ]
+
+pub strings_are : (space : Space) (least : ℕ) → AreTexts space (strings_of space least)
+unfolding strings_of
+strings_are space least = texts_are space least (ordered space (begins_text space))
+
+pub texts_told : (b : List ℕ) (xs : List ExecutableView) (least : ℕ) (space : Space) → space ≡ memory_of b xs
+    → flat_map (text_line space) (strings_of space least) ++ ok_reply ≡ reply_of (strings_answer b xs least)
+unfolding strings_answer
+texts_told b xs least space is = ap (λ s. flat_map (text_line s) (strings_of s least) ++ ok_reply) is

@@ -1,0 +1,6 @@
+use Rattle.std.proofs.Common.{arith, refl}
+use Rattle.memory_replies.proofs.SpaceLemmas.{one_more}
+use Rattle.memory_replies.proofs.attached.space_with.Goals as goal
+
+pub loop-executable-preserved : goal.loop-executable-preserved
+loop-executable-preserved c = one_more _ c.args.attached.now c.loop-executable.executable-index _ _ _ _ (omega arith) refl c.loop-executable.invariant c.in_ok-attach.ensures

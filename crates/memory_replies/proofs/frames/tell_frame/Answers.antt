@@ -1,0 +1,17 @@
+use Rattle.std.proofs.Common.{ap}
+use Rattle.std.specs.Prelude.{decimal}
+use Rattle.script_words.specs.Printing.{hexadecimal}
+use Rattle.memory_replies.specs.Backtrace.{frame_line, place_words}
+use Rattle.memory_replies.proofs.TellLemmas.{tells_as, tells_then}
+use Rattle.memory_replies.proofs.frames.tell_frame.Goals as goal
+
+pub returns : goal.returns
+unfolding frame_line
+returns g c =
+    tells_then _ _ _ _ _ _ _ _ _ _ _ (tells_as _ _ _ _ _ _ _ _ (ap decimal c.from.ensures) c.tell_decimal.ensures)
+    (tells_then _ _ _ _ _ _ _ _ _ _ _ c.tell.ensures
+    (tells_then _ _ _ _ _ _ _ _ _ _ _ c.tell_hex_word.ensures
+    (tells_then _ _ _ _ _ _ _ _ _ _ _ (tells_as _ _ _ _ _ _ _ _ (ap place_words c.place_of.ensures) c.tell_place.ensures)
+    (tells_then _ _ _ _ _ _ _ _ _ _ _ c.tell-2.ensures
+    (tells_then _ _ _ _ _ _ _ _ _ _ _ (tells_as _ _ _ _ _ _ _ _ (ap hexadecimal c.from-2.ensures) c.tell_hexadecimal.ensures)
+    (tells_then _ _ _ _ _ _ _ _ _ _ _ c.tell_return.ensures c.tell-3.ensures))))))

@@ -1,0 +1,15 @@
+use Rattle.std.specs.List.{flat_map}
+use Rattle.address_space.specs.FindWords.{matches_left}
+use Rattle.address_space.specs.Occurrence.{occurrences}
+use Rattle.address_space.specs.SpaceWords.{space_of}
+use Rattle.memory_replies.specs.Find.{address_line}
+use Rattle.memory_replies.proofs.TellLemmas.{TellsUpTo}
+use Rattle.memory_replies.proofs.search.tell_matches.Given as goal
+
+abbrev pub invariant-loop-address : goal.invariant-loop-address
+invariant-loop-address g l = record {
+  can_next : (goal.iterator-loop-address g).can_next l.address-iterator;
+  is_finite : (goal.iterator-loop-address g).is_finite l.address-iterator;
+  told : TellsUpTo (g.O.Output.taken l.initial.output) (g.O.Output.taken l.output) (g.O.Output.failures l.initial.output) (g.O.Output.failures l.output) l.initial.reply l.reply
+      (flat_map address_line (occurrences (space_of l.space) l.needle)) (flat_map address_line (matches_left l.address-iterator));
+}

@@ -1,0 +1,21 @@
+use Rattle.std.proofs.Common.{◌≡◌, ◌≤◌, ℕ, ◌+◌, ◌-◌, ◌^◌, length, sym, subst, arith}
+use Rattle.address_space.specs.SpaceWords.{space_of}
+use Rattle.memory_replies.specs.Texts.{values_between}
+use Rattle.memory_replies.proofs.TellLemmas.{tells_then}
+use Rattle.memory_replies.proofs.TextLemmas.{text_len_within, text_values}
+use Rattle.memory_replies.proofs.texts.tell_line.Goals as goal
+
+pub tell_shown-requires : goal.tell_shown-requires
+tell_shown-requires g c = record {
+  within =
+      let short = text_len_within (space_of c.args.space.now) (2 ^ 64 - c.args.start) c.args.start in
+      omega (arith, c.requires, short);
+  whole = subst (λ (n : ℕ). length (values_between (space_of c.args.space.now) c.args.start n) ≡ n) (sym c.requires) (text_values (space_of c.args.space.now) (2 ^ 64 - c.args.start) c.args.start);
+}
+
+pub returns : goal.returns
+returns g c =
+    tells_then _ _ _ _ _ _ _ _ _ _ _ c.tell_hex_word.ensures
+    (tells_then _ _ _ _ _ _ _ _ _ _ _ c.tell_decimal.ensures
+    (tells_then _ _ _ _ _ _ _ _ _ _ _ c.tell.ensures
+    (tells_then _ _ _ _ _ _ _ _ _ _ _ c.tell_shown.ensures c.tell-2.ensures)))

@@ -1,0 +1,27 @@
+use Rattle.std.proofs.Common.{ℕ, List, ap, sym, subst, ◌∙◌}
+use Rattle.std.specs.List.{flat_map}
+use Rattle.address_space.specs.SpaceWords.{space_of}
+use Rattle.address_space.specs.StringWords.{strings_left}
+use Rattle.memory_replies.specs.Texts.{text_line}
+use Rattle.memory_replies.proofs.TellLemmas.{up_to_start_as, up_to_then}
+use Rattle.memory_replies.proofs.TextLemmas.{AreTexts, strings_are}
+use Rattle.memory_replies.proofs.texts.tell_texts.Goals as goal
+
+pub loop-text-init : goal.loop-text-init
+loop-text-init g c = record {
+  can_next = tt;
+  is_finite = tt;
+  texts = subst (AreTexts (space_of c.args.space.now)) (sym (ap strings_left c.into_iter-text-iterator.ensures.into_iter_gives ∙ c.strings-text-items.ensures)) (strings_are (space_of c.args.space.now) c.args.least);
+  told = up_to_start_as _ _ _ _ _ (ap (flat_map (text_line (space_of c.args.space.now))) (sym (ap strings_left c.into_iter-text-iterator.ensures.into_iter_gives ∙ c.strings-text-items.ensures)));
+}
+
+pub tell_line-requires : goal.tell_line-requires
+tell_line-requires g c = (subst (AreTexts (space_of c.args.space.now)) c.in-Some.ensures.steps c.loop-text.invariant.texts).0
+
+pub loop-text-preserved : goal.loop-text-preserved
+loop-text-preserved g c = record {
+  can_next = tt;
+  is_finite = tt;
+  texts = (subst (AreTexts (space_of c.args.space.now)) c.in-Some.ensures.steps c.loop-text.invariant.texts).1;
+  told = up_to_then _ _ _ _ _ _ _ _ _ _ _ _ _ (ap (flat_map (text_line (space_of c.args.space.now))) c.in-Some.ensures.steps) c.loop-text.invariant.told c.tell_line.ensures;
+}

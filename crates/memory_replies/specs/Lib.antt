@@ -1,0 +1,11 @@
+pub mod Memory
+pub mod Attaching
+pub mod Answers
+pub mod Words
+pub mod Maps
+pub mod Dump
+pub mod Find
+pub mod Texts
+pub mod Symbol
+pub mod Backtrace
+pub mod NamedWords

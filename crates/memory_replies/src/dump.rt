@@ -1,0 +1,167 @@
+// The bytes of a range of addresses.
+ghost use Rattle.std.specs.Prelude.{◌≡◌, ◌+◌, ◌*◌, ◌^◌, ◌<◌, ◌≤◌, [], ◌∷◌, ◌++◌, map};
+ghost use Rattle.std.specs.Option.{option_map};
+ghost use Rattle.script_words.specs.Printing.{hexadecimal};
+ghost use Rattle.address_space.specs.Source.{not_dumped};
+ghost use Rattle.std.specs.List.{flat_map};
+ghost use Rattle.script_streams.specs.Replies.{TellsReply, TellsText, reply_of, telling};
+ghost use Rattle.address_space.specs.Pieces.{pieces_of};
+ghost use Rattle.address_space.specs.SourceWords.{piece_view, spot_view};
+ghost use Rattle.address_space.specs.SpaceWords.{space_of};
+ghost use Rattle.image_replies.specs.CoreWords.{core_bytes};
+ghost use Rattle.memory_replies.specs.Answers.{Answers};
+ghost use Rattle.memory_replies.specs.Memory.{attached_view};
+ghost use Rattle.memory_replies.specs.Words.{hex_word};
+ghost use Rattle.memory_replies.specs.Dump as spec;
+
+use crate::attached::{Attached, space_with};
+use crate::words::{tell_hex_word, tell_spot};
+use address_space::{AddressSpace, FileSpot, Piece, PieceKind};
+use elf_view::part;
+use image_replies::CoreImage;
+use script_streams::{Output, Reply, tell_no, tell_ok};
+use std::alloc::Global;
+
+/// How many addresses are shown at most.
+const MOST_SHOWN: u64 = 65536;
+
+/// How many bytes a row has.
+const ROW: u64 = 16;
+
+/// Tells the address of row `i` of bytes that stand from an address on, and a space.
+#[tactic(auto, unfolding(crate::specs::Words::hex_word))]
+fn tell_row_address<O: Output>(reply: &mut Reply, output: &mut O, first: u64, i: u64)
+    ensures { TellsText (telling O.Output output.old output.new reply.old reply.new) (hex_word (first + 16 * i)) }
+{
+    reply.tell_hexadecimal(output, u128::from(first) + 16 * u128::from(i));
+    reply.tell(output, b" ");
+}
+
+/// Tells row `i` of bytes that stand from an address on.
+fn tell_row<O: Output>(
+    reply: &mut Reply,
+    output: &mut O,
+    word: &[u8],
+    first: u64,
+    bytes: &[u8],
+    i: u64,
+)
+    requires { 16 * i < 2 ^ 64 }
+    ensures { TellsText (telling O.Output output.old output.new reply.old reply.new)
+        (spec.row_line word.now first bytes.now i) }
+{
+    tell_row_address(reply, output, first, i);
+    reply.tell(output, word);
+    reply.tell_hex(output, part(bytes, ROW * i, ROW));
+    reply.tell(output, b"\n");
+}
+
+/// Tells bytes that stand from an address on, 16 a row, with a word in each.
+#[tactic(auto, unfolding(crate::specs::Dump::row_lines))]
+fn tell_rows<O: Output>(reply: &mut Reply, output: &mut O, word: &[u8], first: u64, bytes: &[u8])
+    ensures { TellsText (telling O.Output output.old output.new reply.old reply.new)
+        (spec.row_lines word.now first bytes.now) }
+{
+    let count = (bytes.len() as u64 + ROW - 1) / ROW;
+    for i in 0..count {
+        tell_row(reply, output, word, first, bytes, i);
+    }
+}
+
+/// Tells addresses that the core has no bytes for, and where the first lies in a mapped file.
+fn tell_not_dumped<O: Output>(
+    reply: &mut Reply,
+    output: &mut O,
+    first: u64,
+    length: u64,
+    spot: Option<FileSpot<'_>>,
+)
+    ensures { TellsText (telling O.Output output.old output.new reply.old reply.new)
+        (spec.content_lines first length (not_dumped (option_map spot_view spot.entry))) }
+{
+    tell_hex_word(reply, output, first);
+    reply.tell(output, b"notdumped ");
+    tell_hex_word(reply, output, length);
+    tell_spot(reply, output, spot);
+    reply.tell(output, b"\n");
+}
+
+/// Tells addresses without bytes, by a word that says why.
+fn tell_absent<O: Output>(reply: &mut Reply, output: &mut O, first: u64, word: &[u8], length: u64)
+    ensures { TellsText (telling O.Output output.old output.new reply.old reply.new)
+        (hex_word first ++ (word.now ++ (hexadecimal length ++ 10 ∷ []))) }
+{
+    tell_hex_word(reply, output, first);
+    reply.tell(output, word);
+    reply.tell_hexadecimal(output, u128::from(length));
+    reply.tell(output, b"\n");
+}
+
+/// Tells the lines of a piece.
+#[tactic(auto, unfolding(crate::specs::Dump::piece_lines))]
+fn tell_piece<O: Output>(reply: &mut Reply, output: &mut O, piece: Piece<'_>)
+    ensures { TellsText (telling O.Output output.old output.new reply.old reply.new)
+        (spec.piece_lines (piece_view piece.entry)) }
+{
+    match piece.kind {
+        PieceKind::Bytes(bytes) => tell_rows(reply, output, b"", piece.first, bytes),
+        PieceKind::FromFile(bytes) => tell_rows(reply, output, b"file ", piece.first, bytes),
+        PieceKind::NotDumped(spot) => {
+            tell_not_dumped(reply, output, piece.first, piece.length, spot);
+        }
+        PieceKind::Cut => tell_absent(reply, output, piece.first, b"cut ", piece.length),
+        PieceKind::Unmapped => tell_absent(reply, output, piece.first, b"unmapped ", piece.length),
+    }
+}
+
+/// Tells the lines of each piece of `length` addresses.
+#[tactic(auto, using(crate::proofs::TellLemmas::up_to_start))]
+fn tell_pieces<O: Output>(
+    reply: &mut Reply,
+    output: &mut O,
+    space: &AddressSpace<'_>,
+    first: u64,
+    length: u64,
+)
+    requires { first + length ≤ 2 ^ 64 }
+    ensures { TellsText (telling O.Output output.old output.new reply.old reply.new)
+        (flat_map spec.piece_lines (pieces_of (space_of space.now) first length)) }
+{
+    for piece in space.pieces(first, length) {
+        tell_piece(reply, output, piece);
+    }
+}
+
+/// Whether the range ends past the last address, or is longer than a reply shows.
+fn is_out_of_range(first: u64, length: u64) -> bool
+    ensures { result ≡ spec.is_out_of_range first length }
+{
+    length > MOST_SHOWN || u128::from(first) + u128::from(length) > 1 << 64
+}
+
+/// Tells what stands at `length` addresses from `first` on, piece by piece in rising order: `ADDR HEX` for each 16 bytes,
+/// `ADDR file HEX` for each 16 that an attached executable has, `ADDR notdumped LEN OFFSET NAME`, `ADDR cut LEN` and
+/// `ADDR unmapped LEN`. A range that ends past the last address, or has over 65,536 addresses, is answered by `no Range`.
+pub fn tell_dump<O: Output>(
+    alloc: Global,
+    reply: &mut Reply,
+    output: &mut O,
+    core: &CoreImage<'_>,
+    attached: &[Attached<'_>],
+    first: u64,
+    length: u64,
+)
+    ensures { TellsReply (telling O.Output output.old output.new reply.old reply.new)
+        (Answers (spec.dump_answer (core_bytes core.now) (map attached_view attached.now) first length)) }
+{
+    let Ok(space) = space_with(alloc, core, attached) else {
+        tell_no(reply, output, b"OutOfMemory");
+        return;
+    };
+    if is_out_of_range(first, length) {
+        tell_no(reply, output, b"Range");
+        return;
+    }
+    tell_pieces(reply, output, &space, first, length);
+    tell_ok(reply, output);
+}

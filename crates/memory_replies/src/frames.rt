@@ -1,0 +1,166 @@
+// The frames of a thread's stack.
+ghost use Rattle.std.specs.Prelude.{◌≡◌, ◌++◌, map};
+ghost use Rattle.std.specs.List.{flat_map};
+ghost use Rattle.std.specs.Option.{option_map};
+ghost use Rattle.script_streams.specs.Replies.{TellsReply, TellsText, reply_of, telling};
+ghost use Rattle.address_space.specs.SpaceWords.{files_in, space_of};
+ghost use Rattle.backtrace.specs.FrameWords.{frames_left, stop_left};
+ghost use Rattle.thread_regs.specs.ThreadWords.{thread_bytes};
+ghost use Rattle.image_replies.specs.CoreWords.{core_bytes};
+ghost use Rattle.memory_replies.specs.Answers.{Answers};
+ghost use Rattle.memory_replies.specs.Backtrace as spec;
+ghost use Rattle.memory_replies.specs.Memory.{attached_view};
+ghost use Rattle.memory_replies.specs.NamedWords.{named_view, place_view};
+
+use crate::attached::{Attached, space_with};
+use crate::named::{Place, named_images, place_of};
+use crate::named_image::NamedImage;
+use crate::words::tell_hex_word;
+use address_space::AddressSpace;
+use backtrace::{Frame, Frames, Stop};
+use core_notes::Files;
+use image_replies::CoreImage;
+use script_streams::{Output, Reply, tell_no, tell_ok};
+use std::alloc::Global;
+use thread_regs::{Reg, Thread, threads};
+
+/// Tells a place in a function, `NAME+h`, or `?` where it is not known.
+fn tell_place<O: Output>(reply: &mut Reply, output: &mut O, place: Option<Place<'_>>)
+    ensures { TellsText (telling O.Output output.old output.new reply.old reply.new)
+        (spec.place_words (option_map place_view place.entry)) }
+{
+    match place {
+        Some(place) => {
+            reply.tell_text(output, place.name);
+            reply.tell(output, b"+");
+            reply.tell_hexadecimal(output, place.distance);
+        }
+        None => reply.tell(output, b"?"),
+    }
+}
+
+/// Tells what the return address register holds, behind frame 0.
+fn tell_return<O: Output>(reply: &mut Reply, output: &mut O, ra: u64, frame: Frame)
+    ensures { TellsText (telling O.Output output.old output.new reply.old reply.new) (spec.return_words ra frame) }
+{
+    if frame.index == 0 {
+        reply.tell(output, b" ra ");
+        reply.tell_hexadecimal(output, u128::from(ra));
+    }
+}
+
+/// Tells the line of a frame.
+#[tactic(auto, unfolding(crate::specs::Backtrace::frame_line))]
+fn tell_frame<O: Output>(
+    reply: &mut Reply,
+    output: &mut O,
+    files: Option<Files<'_>>,
+    images: &[NamedImage<'_>],
+    ra: u64,
+    frame: Frame,
+)
+    ensures { TellsText (telling O.Output output.old output.new reply.old reply.new)
+        (spec.frame_line (files_in files.entry) (map named_view images.now) ra frame) }
+{
+    reply.tell_decimal(output, u128::from(frame.index));
+    reply.tell(output, b" ");
+    tell_hex_word(reply, output, frame.pc);
+    tell_place(reply, output, place_of(files, images, frame));
+    reply.tell(output, b" fp ");
+    reply.tell_hexadecimal(output, u128::from(frame.fp));
+    tell_return(reply, output, ra, frame);
+    reply.tell(output, b"\n");
+}
+
+/// The name of a reason why frames end.
+fn stop_name(stop: Stop) -> &'static [u8]
+    ensures { result.now ≡ spec.stop_name stop }
+{
+    match stop {
+        Stop::NotRising => b"NotRising",
+        Stop::ZeroLink => b"ZeroLink",
+        Stop::Misaligned => b"Misaligned",
+        Stop::Unreadable => b"Unreadable",
+        Stop::Limit => b"Limit",
+    }
+}
+
+/// Tells why frames end.
+fn tell_stop<O: Output>(reply: &mut Reply, output: &mut O, stop: Stop)
+    ensures { TellsText (telling O.Output output.old output.new reply.old reply.new) (spec.stop_line stop) }
+{
+    reply.tell(output, b"stop ");
+    reply.tell(output, stop_name(stop));
+    reply.tell(output, b"\n");
+}
+
+/// Tells a line for each frame that is left, and why they end.
+fn tell_frames<O: Output>(
+    reply: &mut Reply,
+    output: &mut O,
+    files: Option<Files<'_>>,
+    images: &[NamedImage<'_>],
+    ra: u64,
+    frames: Frames<'_, '_>,
+)
+    ensures { TellsText (telling O.Output output.old output.new reply.old reply.new)
+        (flat_map (spec.frame_line (files_in files.entry) (map named_view images.now) ra) (frames_left frames.entry)
+        ++ spec.stop_line (stop_left frames.entry)) }
+{
+    let mut frames = frames;
+    while let Some(frame) = frames.next() {
+        tell_frame(reply, output, files, images, ra, frame);
+    }
+    if let Some(stop) = frames.stop() {
+        tell_stop(reply, output, stop);
+    }
+}
+
+/// Tells the frames of a thread.
+fn tell_thread<O: Output>(
+    reply: &mut Reply,
+    output: &mut O,
+    space: &AddressSpace<'_>,
+    files: Option<Files<'_>>,
+    images: &[NamedImage<'_>],
+    thread: Thread<'_>,
+)
+    ensures { TellsText (telling O.Output output.old output.new reply.old reply.new)
+        (spec.thread_lines (space_of space.now) (files_in files.entry) (map named_view images.now)
+        (thread_bytes thread.entry)) }
+{
+    let ra = thread.register(Reg::of_word(1));
+    let pc = thread.register(Reg::of_word(0));
+    let fp = thread.register(Reg::of_word(8));
+    tell_frames(reply, output, files, images, ra, Frames::new(space, pc, fp));
+}
+
+/// Tells the frames of a core's thread, by its number among the threads: `0 PC WHERE fp h ra h`, then `I PC WHERE fp h` for
+/// each other, and `stop REASON`. WHERE is `NAME+h` by the symbols of the executable that stands for the mapped file, or
+/// `?`. A core without so many threads is answered by `no NoThread`.
+pub fn tell_bt<O: Output>(
+    alloc: Global,
+    reply: &mut Reply,
+    output: &mut O,
+    core: &CoreImage<'_>,
+    attached: &[Attached<'_>],
+    thread: u64,
+)
+    ensures { TellsReply (telling O.Output output.old output.new reply.old reply.new)
+        (Answers (spec.bt_answer (core_bytes core.now) (map attached_view attached.now) thread)) }
+{
+    let Ok(space) = space_with(alloc, core, attached) else {
+        tell_no(reply, output, b"OutOfMemory");
+        return;
+    };
+    let Ok(images) = named_images(alloc, attached) else {
+        tell_no(reply, output, b"OutOfMemory");
+        return;
+    };
+    let Some(thread) = threads(core.notes()).thread(thread) else {
+        tell_no(reply, output, b"NoThread");
+        return;
+    };
+    tell_thread(reply, output, &space, core.notes().files(), &images, thread);
+    tell_ok(reply, output);
+}

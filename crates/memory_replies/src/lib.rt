@@ -1,0 +1,24 @@
+//! The answers to the lines of a script that ask for a process's memory: slices in, text out.
+//!
+//! A core is a [`image_replies::CoreImage`]. The executables that stand for its mapped files are handed over as
+//! [`Attached`] images, in one order; those that pass the checks of their headers are attached.
+#![tactic(auto)]
+
+mod attached;
+mod dump;
+mod frames;
+mod maps;
+mod named;
+mod named_image;
+mod search;
+mod symbol;
+mod texts;
+mod words;
+
+pub use attached::{Attached, names_file};
+pub use dump::tell_dump;
+pub use frames::tell_bt;
+pub use maps::tell_maps;
+pub use search::tell_find;
+pub use symbol::tell_symbol;
+pub use texts::tell_strings;

@@ -1,0 +1,80 @@
+// The lines of mappings.
+ghost use Rattle.std.specs.Prelude.{◌≡◌, ◌<◌, ◌+◌};
+ghost use Rattle.std.specs.List.{flat_map};
+ghost use Rattle.script_streams.specs.Replies.{TellsText, reply_of, telling};
+ghost use Rattle.address_space.specs.PieceWords.{mapping_view};
+ghost use Rattle.address_space.specs.Source.{mappings_of};
+ghost use Rattle.address_space.specs.SpaceWords.{space_of};
+ghost use Rattle.image_replies.specs.CoreWords.{core_bytes};
+ghost use Rattle.memory_replies.specs.Words.{hex_word};
+ghost use Rattle.memory_replies.specs.Maps as spec;
+
+use crate::attached::plain_space;
+use crate::words::{tell_hex_word, tell_spot};
+use address_space::{AddressSpace, Mapping};
+use image_replies::CoreImage;
+use script_streams::{Output, Reply, tell_ok};
+use std::alloc::Global;
+
+/// The letter of a flag, or `-` where it is not set.
+fn flag_letter(flags: u32, flag: u32, letter: &'static [u8]) -> &'static [u8]
+    requires { 0 < flag }
+    ensures { result.now ≡ spec.flag_letter flags flag letter.entry.now }
+{
+    if flags / flag % 2 == 1 { letter } else { b"-" }
+}
+
+/// Tells what a mapping's flags allow.
+#[tactic(auto, unfolding(crate::specs::Maps::rights))]
+fn tell_rights<O: Output>(reply: &mut Reply, output: &mut O, flags: u32)
+    ensures { TellsText (telling O.Output output.old output.new reply.old reply.new) (spec.rights flags) }
+{
+    reply.tell(output, flag_letter(flags, 4, b"r"));
+    reply.tell(output, flag_letter(flags, 2, b"w"));
+    reply.tell(output, flag_letter(flags, 1, b"x"));
+}
+
+/// Tells the address behind the last of `count` addresses from one on, which may be 2^64, and a space.
+#[tactic(auto, unfolding(crate::specs::Words::hex_word))]
+fn tell_past<O: Output>(reply: &mut Reply, output: &mut O, start: u64, count: u64)
+    ensures { TellsText (telling O.Output output.old output.new reply.old reply.new) (hex_word (start + count)) }
+{
+    reply.tell_hexadecimal(output, u128::from(start) + u128::from(count));
+    reply.tell(output, b" ");
+}
+
+/// Tells the line of a mapping.
+fn tell_mapping<O: Output>(reply: &mut Reply, output: &mut O, mapping: Mapping<'_>)
+    ensures { TellsText (telling O.Output output.old output.new reply.old reply.new)
+        (spec.mapping_line (mapping_view mapping.entry)) }
+{
+    tell_hex_word(reply, output, mapping.start);
+    tell_past(reply, output, mapping.start, mapping.memsz);
+    tell_rights(reply, output, mapping.flags);
+    reply.tell(output, b" ");
+    tell_hex_word(reply, output, mapping.filesz);
+    tell_spot(reply, output, mapping.spot);
+    reply.tell(output, b"\n");
+}
+
+/// Tells a line for each mapping.
+#[tactic(auto, using(crate::proofs::TellLemmas::up_to_start))]
+fn tell_mappings<O: Output>(reply: &mut Reply, output: &mut O, space: &AddressSpace<'_>)
+    ensures { TellsText (telling O.Output output.old output.new reply.old reply.new)
+        (flat_map spec.mapping_line (mappings_of (space_of space.now))) }
+{
+    for mapping in space.mappings() {
+        tell_mapping(reply, output, mapping);
+    }
+}
+
+/// Tells the mappings of a core: `START PAST RWX FILESZ OFFSET NAME` for each PT_LOAD, in table order. It takes no memory.
+#[tactic(auto, unfolding(crate::specs::Maps::maps_answer))]
+pub fn tell_maps<O: Output>(alloc: Global, reply: &mut Reply, output: &mut O, core: &CoreImage<'_>)
+    ensures { TellsText (telling O.Output output.old output.new reply.old reply.new)
+        (reply_of (spec.maps_answer (core_bytes core.now))) }
+{
+    let space = plain_space(alloc, core);
+    tell_mappings(reply, output, &space);
+    tell_ok(reply, output);
+}

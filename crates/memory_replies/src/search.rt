@@ -1,0 +1,63 @@
+// Where bytes occur.
+ghost use Rattle.std.specs.Prelude.{◌≡◌, ◌<◌, length, map};
+ghost use Rattle.std.specs.List.{flat_map};
+ghost use Rattle.script_streams.specs.Replies.{TellsReply, TellsText, reply_of, telling};
+ghost use Rattle.address_space.specs.Occurrence.{occurrences};
+ghost use Rattle.address_space.specs.SpaceWords.{space_of};
+ghost use Rattle.image_replies.specs.CoreWords.{core_bytes};
+ghost use Rattle.memory_replies.specs.Answers.{Answers};
+ghost use Rattle.memory_replies.specs.Memory.{attached_view};
+ghost use Rattle.memory_replies.specs.Find as spec;
+
+use crate::attached::{Attached, space_with};
+use address_space::AddressSpace;
+use image_replies::CoreImage;
+use script_streams::{Output, Reply, tell_no, tell_ok};
+use std::alloc::Global;
+
+/// Tells the line of an address.
+fn tell_address<O: Output>(reply: &mut Reply, output: &mut O, address: u64)
+    ensures { TellsText (telling O.Output output.old output.new reply.old reply.new) (spec.address_line address) }
+{
+    reply.tell_hexadecimal(output, u128::from(address));
+    reply.tell(output, b"\n");
+}
+
+/// Tells a line for each address at which the bytes occur.
+#[tactic(auto, using(crate::proofs::TellLemmas::up_to_start))]
+fn tell_matches<O: Output>(
+    reply: &mut Reply,
+    output: &mut O,
+    space: &AddressSpace<'_>,
+    needle: &[u8],
+)
+    requires { 0 < length needle.now }
+    ensures { TellsText (telling O.Output output.old output.new reply.old reply.new)
+        (flat_map spec.address_line (occurrences (space_of space.now) needle.now)) }
+{
+    for address in space.find(needle) {
+        tell_address(reply, output, address);
+    }
+}
+
+/// Tells every address at which the bytes occur in a core's memory, by the number of the segment that decides it and then
+/// by itself.
+pub fn tell_find<O: Output>(
+    alloc: Global,
+    reply: &mut Reply,
+    output: &mut O,
+    core: &CoreImage<'_>,
+    attached: &[Attached<'_>],
+    needle: &[u8],
+)
+    requires { 0 < length needle.now }
+    ensures { TellsReply (telling O.Output output.old output.new reply.old reply.new)
+        (Answers (spec.find_answer (core_bytes core.now) (map attached_view attached.now) needle.now)) }
+{
+    let Ok(space) = space_with(alloc, core, attached) else {
+        tell_no(reply, output, b"OutOfMemory");
+        return;
+    };
+    tell_matches(reply, output, &space, needle);
+    tell_ok(reply, output);
+}

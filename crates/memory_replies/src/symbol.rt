@@ -1,0 +1,96 @@
+// The function that an address belongs to.
+ghost use Rattle.std.specs.Prelude.{◌≡◌, ◌⊎◌, None};
+ghost use Rattle.std.specs.Option.{option_map};
+ghost use Rattle.script_streams.specs.Replies.{TellsReply, TellsText, no_reply, reply_of, telling};
+ghost use Rattle.symbols.specs.SymbolWords.{symbol_view};
+ghost use Rattle.memory_replies.specs.Answers.{memory_reply};
+ghost use Rattle.memory_replies.specs.Symbol as spec;
+ghost use Rattle.image_replies.specs.Reasons.{indexed};
+
+use crate::words::tell_hex_word;
+use elf_view::{Elf, Want};
+use image_replies::tell_elf_fault;
+use script_streams::{Output, Reply, tell_no, tell_ok};
+use std::alloc::Global;
+use symbols::{Symbol, SymbolError, SymbolFault, SymbolField, Symbols};
+
+/// Tells `no`, the name of a field and a number.
+fn tell_indexed<O: Output>(reply: &mut Reply, output: &mut O, name: &[u8], index: u64)
+    ensures { TellsText (telling O.Output output.old output.new reply.old reply.new) (no_reply (indexed name.now index)) }
+{
+    reply.tell(output, b"no ");
+    reply.tell(output, name);
+    reply.tell(output, b" ");
+    reply.tell_decimal(output, u128::from(index));
+    reply.tell(output, b"\n");
+}
+
+/// Tells the fault of a symbol table: `no FIELD` for a field of the file header, else `no FIELD INDEX`.
+fn tell_symbol_fault<O: Output>(reply: &mut Reply, output: &mut O, fault: SymbolFault)
+    ensures { TellsText (telling O.Output output.old output.new reply.old reply.new) (no_reply (spec.symbol_reason fault)) }
+{
+    match fault.field {
+        SymbolField::EShentsize => tell_no(reply, output, b"e_shentsize"),
+        SymbolField::EShoff => tell_no(reply, output, b"e_shoff"),
+        SymbolField::ShEntsize => tell_indexed(reply, output, b"sh_entsize", fault.index),
+        SymbolField::ShSize => tell_indexed(reply, output, b"sh_size", fault.index),
+        SymbolField::ShOffset => tell_indexed(reply, output, b"sh_offset", fault.index),
+        SymbolField::ShLink => tell_indexed(reply, output, b"sh_link", fault.index),
+        SymbolField::StName => tell_indexed(reply, output, b"st_name", fault.index),
+    }
+}
+
+/// Tells the line of a function.
+fn tell_function<O: Output>(reply: &mut Reply, output: &mut O, symbol: Symbol<'_>)
+    ensures { TellsText (telling O.Output output.old output.new reply.old reply.new)
+        (spec.symbol_line (symbol_view symbol.entry)) }
+{
+    reply.tell_text(output, symbol.name);
+    reply.tell(output, b" ");
+    tell_hex_word(reply, output, symbol.value);
+    reply.tell_hexadecimal(output, u128::from(symbol.size));
+    reply.tell(output, b"\n");
+}
+
+/// Tells the function that was found, if there is one.
+fn tell_found<O: Output>(reply: &mut Reply, output: &mut O, found: Option<Symbol<'_>>)
+    ensures { TellsText (telling O.Output output.old output.new reply.old reply.new)
+        (reply_of (spec.found_answer (option_map symbol_view found.entry))) }
+{
+    match found {
+        Some(symbol) => {
+            tell_function(reply, output, symbol);
+            tell_ok(reply, output);
+        }
+        None => tell_no(reply, output, b"NoSymbol"),
+    }
+}
+
+/// Tells the function of an executable that an address belongs to: `NAME VALUE SIZE`, or `no NoSymbol`. The first fault of
+/// its headers, or else of its symbol table, is answered instead. Where there is no memory for its functions, and neither
+/// has a fault, the reply is `no OutOfMemory`.
+#[tactic(auto, unfolding(crate::specs::Symbol::symbol_answer, crate::specs::Symbol::executable_fault))]
+pub fn tell_symbol<O: Output>(
+    alloc: Global,
+    reply: &mut Reply,
+    output: &mut O,
+    image: &[u8],
+    address: u64,
+)
+    ensures { TellsReply (telling O.Output output.old output.new reply.old reply.new)
+        (λ text. (text ≡ reply_of (spec.symbol_answer image.now address))
+        ⊎ ((text ≡ memory_reply) × (spec.executable_fault image.now ≡ None))) }
+{
+    let elf = match Elf::read(image, Want::Exec) {
+        Ok(elf) => elf,
+        Err(fault) => {
+            tell_elf_fault(reply, output, fault);
+            return;
+        }
+    };
+    match Symbols::read(alloc, &elf) {
+        Ok(symbols) => tell_found(reply, output, symbols.lookup(address)),
+        Err(SymbolError::Fault(fault)) => tell_symbol_fault(reply, output, fault),
+        Err(SymbolError::OutOfMemory) => tell_no(reply, output, b"OutOfMemory"),
+    }
+}

@@ -1,0 +1,142 @@
+// The texts in memory.
+ghost use Rattle.std.specs.Prelude.{◌≡◌, ◌+◌, ◌-◌, ◌^◌, ◌≤◌, length, map};
+ghost use Rattle.std.specs.List.{flat_map};
+ghost use Rattle.script_streams.specs.Replies.{TellsReply, TellsText, reply_of, telling};
+ghost use Rattle.script_words.specs.Printing.{shown, shown_byte};
+ghost use Rattle.address_space.specs.Occurrence.{strings_of, text_len};
+ghost use Rattle.address_space.specs.Source.{value_of};
+ghost use Rattle.address_space.specs.SourceWords.{source_view};
+ghost use Rattle.address_space.specs.SpaceWords.{space_of};
+ghost use Rattle.image_replies.specs.CoreWords.{core_bytes};
+ghost use Rattle.memory_replies.specs.Answers.{Answers};
+ghost use Rattle.memory_replies.specs.Memory.{attached_view};
+ghost use Rattle.memory_replies.specs.Texts as spec;
+
+use crate::attached::{Attached, space_with};
+use crate::words::tell_hex_word;
+use address_space::{AddressSpace, Source};
+use image_replies::CoreImage;
+use script_streams::{Output, Reply, tell_no, tell_ok};
+use std::alloc::Global;
+
+/// The value of an address, if it has one.
+fn value(source: Source<'_>) -> Option<u8>
+    ensures { result ≡ value_of (source_view source.entry) }
+{
+    match source {
+        Source::Byte(byte) => Some(byte),
+        Source::FromFile(byte) => Some(byte),
+        Source::NotDumped(_) => None,
+        Source::Cut => None,
+        Source::Unmapped => None,
+    }
+}
+
+/// Tells how a value prints within a text.
+fn tell_value<O: Output>(reply: &mut Reply, output: &mut O, value: Option<u8>)
+    ensures { TellsText (telling O.Output output.old output.new reply.old reply.new)
+        (flat_map shown_byte (spec.value_list value)) }
+{
+    if let Some(byte) = value {
+        reply.tell_bytes(output, &[byte]);
+    }
+}
+
+/// Tells how a value prints as a text.
+fn tell_alone<O: Output>(reply: &mut Reply, output: &mut O, value: Option<u8>)
+    ensures { TellsText (telling O.Output output.old output.new reply.old reply.new) (shown (spec.value_list value)) }
+{
+    match value {
+        Some(byte) => reply.tell_text(output, &[byte]),
+        None => reply.tell_text(output, &[]),
+    }
+}
+
+/// Tells how the values of addresses print, one behind the other.
+fn tell_values<O: Output>(
+    reply: &mut Reply,
+    output: &mut O,
+    space: &AddressSpace<'_>,
+    start: u64,
+    count: u128,
+)
+    requires { start + count ≤ 2 ^ 64 }
+    ensures { TellsText (telling O.Output output.old output.new reply.old reply.new)
+        (flat_map shown_byte (spec.values_between (space_of space.now) start count)) }
+{
+    for place in 0..count {
+        let source = space.at(start + place as u64);
+        tell_value(reply, output, value(source));
+    }
+}
+
+/// Tells how the values of addresses, each of which has one, print as a text.
+fn tell_shown<O: Output>(
+    reply: &mut Reply,
+    output: &mut O,
+    space: &AddressSpace<'_>,
+    start: u64,
+    count: u128,
+)
+    requires within { start + count ≤ 2 ^ 64 }
+    requires whole { length (spec.values_between (space_of space.now) start count) ≡ count }
+    ensures { TellsText (telling O.Output output.old output.new reply.old reply.new)
+        (shown (spec.values_between (space_of space.now) start count)) }
+{
+    match count {
+        0 => reply.tell_text(output, &[]),
+        1 => tell_alone(reply, output, value(space.at(start))),
+        _ => tell_values(reply, output, space, start, count),
+    }
+}
+
+/// Tells the line of a text.
+fn tell_line<O: Output>(
+    reply: &mut Reply,
+    output: &mut O,
+    space: &AddressSpace<'_>,
+    start: u64,
+    count: u128,
+)
+    requires { count ≡ text_len (space_of space.now) start (2 ^ 64 - start) }
+    ensures { TellsText (telling O.Output output.old output.new reply.old reply.new)
+        (spec.text_line (space_of space.now) (start, count)) }
+{
+    tell_hex_word(reply, output, start);
+    reply.tell_decimal(output, count);
+    reply.tell(output, b" ");
+    tell_shown(reply, output, space, start, count);
+    reply.tell(output, b"\n");
+}
+
+/// Tells a line for each text of at least `least` bytes.
+fn tell_texts<O: Output>(reply: &mut Reply, output: &mut O, space: &AddressSpace<'_>, least: u64)
+    ensures { TellsText (telling O.Output output.old output.new reply.old reply.new)
+        (flat_map (spec.text_line (space_of space.now)) (strings_of (space_of space.now) least)) }
+{
+    for text in space.strings(least) {
+        tell_line(reply, output, space, text.0, text.1);
+    }
+}
+
+/// Tells the stretches of text in a core's memory that have at least `least` bytes: `ADDR LENGTH TEXT`, by the number of the
+/// segment that decides the first address and then by that address. Bytes of text are those from the space to `~` and the
+/// tab.
+pub fn tell_strings<O: Output>(
+    alloc: Global,
+    reply: &mut Reply,
+    output: &mut O,
+    core: &CoreImage<'_>,
+    attached: &[Attached<'_>],
+    least: u64,
+)
+    ensures { TellsReply (telling O.Output output.old output.new reply.old reply.new)
+        (Answers (spec.strings_answer (core_bytes core.now) (map attached_view attached.now) least)) }
+{
+    let Ok(space) = space_with(alloc, core, attached) else {
+        tell_no(reply, output, b"OutOfMemory");
+        return;
+    };
+    tell_texts(reply, output, &space, least);
+    tell_ok(reply, output);
+}
