@@ -8,4 +8,4 @@ mod process;
 
 pub use command::{Command, Request, is_question, parse_line, parse_text};
 pub use names::NameWord;
-pub use process::Process;
+pub use process::{Process, ProcessWords};
