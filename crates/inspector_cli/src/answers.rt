@@ -17,13 +17,13 @@ use script_streams::{Output, Reply, tell_no};
 
 // Answers a line.
 pub(crate) fn answer_plain<O: Output, D: Disk>(
-    request: Request,
+    request: Request<'_>,
     reply: &mut Reply,
     output: &mut O,
     archive: &mut Archive<D>,
     naming: &Naming,
 )
-    ensures { AnswersTo D.Disk naming.now (telling O.Output output.old output.new reply.old reply.new) archive.old (asked_by request) [] archive.new }
+    ensures { AnswersTo D.Disk naming.now (telling O.Output output.old output.new reply.old reply.new) archive.old (asked_by request.entry) [] archive.new }
 {
     match request {
         Request::Silence => {}

@@ -1,7 +1,7 @@
 // The streams that lines begin.
 ghost use Rattle.std.specs.Prelude.{◌≡◌, ◌≤◌, length, MatchResult, Ok, Err};
 ghost use Rattle.inspector_cli.specs.Reply.{Begins, exec_stream, core_name, core_stream, name_reason};
-ghost use Rattle.script_lines.specs.Commands.{name_text, process_of};
+ghost use Rattle.script_lines.specs.Commands.{name_text, process_of, process_told};
 ghost use Rattle.inspector_cli.specs.Commands.{stream_found};
 ghost use Rattle.script_streams.specs.Replies.{TellsReply, telling};
 
@@ -12,7 +12,7 @@ use disk_model::Disk;
 use intake::Archive;
 use journal_layout::{Kind, Name};
 use name_template::{Facts, NameFault};
-use script_lines::{NameWord, Process};
+use script_lines::{NameWord, Process, ProcessWords};
 use script_streams::{Output, Reply, tell_no};
 
 // Answers a line that begins this stream, or has this wrong with its name. Says whether the stream has begun.
@@ -79,7 +79,17 @@ pub(crate) fn exec_stream(word: &NameWord) -> Result<NewStream, &'static [u8]>
 }
 
 // The stream that `begin core` begins, or what is wrong with its name.
-pub(crate) fn core_stream(process: &Process, naming: &Naming) -> Result<NewStream, &'static [u8]>
+pub(crate) fn core_stream(
+    told: &ProcessWords<'_>,
+    naming: &Naming,
+) -> Result<NewStream, &'static [u8]>
+    ensures { stream_found result ≡ core_stream naming.now (process_told told.now) }
+{
+    process_stream(&told.read(), naming)
+}
+
+// The stream that is begun of a process's core, or what is wrong with its name.
+fn process_stream(process: &Process, naming: &Naming) -> Result<NewStream, &'static [u8]>
     ensures { stream_found result ≡ core_stream naming.now (process_of process.now) }
 {
     match core_name(process, naming) {

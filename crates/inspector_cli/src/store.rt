@@ -98,8 +98,8 @@ fn answer_first<O: Output, D: Disk>(
 }
 
 // What the first line begins, or why it begins nothing.
-fn first_stream(command: Command, naming: &Naming) -> Result<NewStream, &'static [u8]>
-    ensures { stream_found result ≡ first_stream naming.now (said_by command) }
+fn first_stream(command: Command<'_>, naming: &Naming) -> Result<NewStream, &'static [u8]>
+    ensures { stream_found result ≡ first_stream naming.now (said_by command.entry) }
 {
     match command {
         Command::Part { .. } => Err(b"BadLine"),
@@ -108,8 +108,8 @@ fn first_stream(command: Command, naming: &Naming) -> Result<NewStream, &'static
     }
 }
 
-fn requested_stream(request: Request, naming: &Naming) -> Result<NewStream, &'static [u8]>
-    ensures { stream_found result ≡ first_stream naming.now (asked_by request) }
+fn requested_stream(request: Request<'_>, naming: &Naming) -> Result<NewStream, &'static [u8]>
+    ensures { stream_found result ≡ first_stream naming.now (asked_by request.entry) }
 {
     match request {
         Request::BeginExec { slot, name } => {

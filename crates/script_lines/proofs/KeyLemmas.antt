@@ -4,7 +4,7 @@ use Rattle.std.proofs.lemmas.Bool.{cases_Bool}
 use Rattle.std.specs.Str.{bytes_eq}
 use Rattle.script_words.specs.Pairs.{pair_of, with_key_byte}
 use Rattle.script_words.specs.Text.{text_of, text_past, with_byte, after_escape, escape_of}
-use Rattle.script_lines.specs.Commands.{AreWords}
+use Rattle.script_lines.specs.LineWords.{AreWords}
 use Rattle.script_lines.specs.Keys.{value_if, first_given, value_of}
 
 -- the value of a pair has at most so many bytes
@@ -44,15 +44,15 @@ first_short (Some value) b short later = short
 pub value_short : (key : List ℕ) (words : List (List ℕ)) → AreWords words → IsShortValue (value_of key words)
 value_short key [] are = tt
 value_short key (word ∷ words) are =
-    first_short (value_if key (pair_of word)) (value_of key words) (if_short key (pair_of word) (wider (length word) 1024 (pair_of word) are.1 (pair_within word)))
-    (value_short key words are.2)
+    first_short (value_if key (pair_of word)) (value_of key words) (if_short key (pair_of word) (wider (length word) 1024 (pair_of word) are.0.1 (pair_within word)))
+    (value_short key words are.1)
 
 -- the text has a byte
 abbrev pub HasByte : Option (List ℕ) → Type 0
 HasByte None = Unit {0}
 HasByte (Some text) = 0 < length text
 
-byte_some : (c : ℕ) (o : Option (List ℕ)) → HasByte (with_byte c o)
+pub byte_some : (c : ℕ) (o : Option (List ℕ)) → HasByte (with_byte c o)
 byte_some c None = tt
 byte_some c (Some text) = omega arith
 

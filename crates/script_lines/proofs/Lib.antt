@@ -1,3 +1,4 @@
 pub mod WordLemmas
 pub mod KeyLemmas
+pub mod NeedleLemmas
 pub mod QueryLemmas

@@ -2,7 +2,7 @@
 use Rattle.std.proofs.Common.{ℕ, suc, ◌≤◌, List, [], ◌∷◌, length, filter, arith, ⊎_elim}
 use Rattle.std.proofs.lemmas.Bool.{cases_Bool}
 use Rattle.script_words.specs.Words.{is_space, with_first, pieces_of, is_word, words_of}
-use Rattle.script_lines.specs.Commands.{AreWords}
+use Rattle.script_lines.specs.LineWords.{AreWords}
 
 abbrev AreWithin : ℕ → List (List ℕ) → Type 0
 AreWithin n [] = Unit {0}
@@ -27,7 +27,7 @@ pieces_within (c ∷ cs) =
 words_within : (pieces : List (List ℕ)) → AreWithin 1024 pieces → AreWords (filter is_word pieces)
 words_within [] within = tt
 words_within ([] ∷ pieces) within = words_within pieces within.1
-words_within ((c ∷ cs) ∷ pieces) within = (omega arith, within.0, words_within pieces within.1)
+words_within ((c ∷ cs) ∷ pieces) within = ((omega arith, within.0), words_within pieces within.1)
 
 pub are_words : (line : List ℕ) → length line ≤ 1024 → AreWords (words_of line)
 are_words line few = words_within (pieces_of line) (widened (length line) 1024 few (pieces_of line) (pieces_within line))

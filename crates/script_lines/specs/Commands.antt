@@ -1,8 +1,10 @@
 -- What the code's commands say.
-use Rattle.std.specs.Prelude.{ℕ, ◌<◌, ◌≤◌, List, [], ◌∷◌, length}
-use Rattle.script_lines.specs.Said.{Said, ProcessSaid, silence, bad_line, long_line, begin_exec, begin_core, part_of, end_of, drop_of, delete_of, pin_of, retire_by, list_all_cases, count_free, inspect_of}
+use Rattle.std.specs.Prelude.{ℕ, List}
+use Rattle.script_words.specs.WordsLeft.{words_left}
+use Rattle.script_lines.specs.Said.{Said, ProcessSaid, process_in, silence, bad_line, long_line, begin_exec, begin_core, part_of, end_of, drop_of, delete_of, pin_of, retire_by, list_all_cases, count_free, inspect_of}
 use Rattle.script_lines.specs.Queries.{query_of}
 use Rattle.script_lines.specs.declared.process.Process.{Process}
+use Rattle.script_lines.specs.declared.process.ProcessWords.{ProcessWords}
 use Rattle.script_lines.specs.declared.command.Command.{Command}
 use Rattle.script_lines.specs.declared.names.NameWord.{NameWord}
 use Rattle.script_lines.specs.declared.command.Command.TheVariants.{Part, Inspect, Plain}
@@ -25,6 +27,10 @@ process_of p = record {
   limit = p.limit;
 }
 
+-- what is told of a process by its words
+abbrev pub process_told : ProcessWords → ProcessSaid
+process_told told = process_in (words_left told.words)
+
 -- the text of a name
 abbrev pub name_text : NameWord → List ℕ
 name_text name = name.text.items
@@ -35,7 +41,7 @@ asked_by Silence = silence
 asked_by BadLine = bad_line
 asked_by LineTooLong = long_line
 asked_by (BeginExec slot name) = begin_exec slot name.text.items
-asked_by (BeginCore slot process) = begin_core slot (process_of process)
+asked_by (BeginCore slot process) = begin_core slot (process_told process)
 asked_by (End slot) = end_of slot
 asked_by (Drop slot) = drop_of slot
 asked_by (Delete seq) = delete_of seq
@@ -49,8 +55,3 @@ abbrev pub said_by : Command → Said
 said_by (Part slot count) = part_of slot count
 said_by (Inspect seq query) = inspect_of seq (query_of query)
 said_by (Plain request) = asked_by request
-
--- no word is empty, or longer than a line
-abbrev pub AreWords : List (List ℕ) → Type 0
-AreWords [] = Unit {0}
-AreWords (word ∷ words) = (0 < length word) × (length word ≤ 1024) × AreWords words

@@ -1,3 +1,4 @@
+pub mod LineWords
 pub mod Keys
 pub mod Queries
 pub mod Said

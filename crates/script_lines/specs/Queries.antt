@@ -1,11 +1,15 @@
 -- What the lines that inspect ask: each has a command, the number of a case, and what its query wants behind it.
 use Rattle.std.specs.Prelude.{ℕ, ◌^◌, ◌<◌, ◌≤◌, All, length, List, [], ◌∷◌, Option, None, Some, codes, if◌then◌else◌}
 use Rattle.std.specs.Str.{bytes_eq}
-use Rattle.arrayvec.specs.ArrayVec.{ArrayVec}
 use Rattle.script_words.specs.Hex.{needle_of}
 use Rattle.script_words.specs.Number.{number_of, number_within}
+use Rattle.script_lines.specs.declared.names.Needle.{Needle}
 use Rattle.script_lines.specs.declared.query.Query.{Query}
-use Rattle.script_lines.specs.declared.query.Query.TheVariants.{Header, Notes, Threads, Registers, Process, Signal, AuxiliaryVector, Files, Maps, Dump, Find, Strings, Backtrace, Symbol}
+use Rattle.script_lines.specs.declared.query.Query.TheVariants.{Image, Memory, Symbol}
+use Rattle.script_lines.specs.declared.query.ImageQuery.{ImageQuery}
+use Rattle.script_lines.specs.declared.query.ImageQuery.TheVariants.{Header, Notes, Threads, Registers, Process, Signal, AuxiliaryVector, Files, Maps}
+use Rattle.script_lines.specs.declared.query.MemoryQuery.{MemoryQuery}
+use Rattle.script_lines.specs.declared.query.MemoryQuery.TheVariants.{Dump, Find, Strings, Backtrace}
 
 -- what a line asks an image
 pub data QuerySaid : Type 0 where
@@ -107,24 +111,30 @@ query_in [] command words = None
 query_in (row ∷ rows) command words = if bytes_eq command row.0 then row.1 words else query_in rows command words
 
 -- the bytes of a needle
-abbrev pub needle_bytes : ArrayVec ℕ → List ℕ
-needle_bytes needle = needle.items
+abbrev pub needle_bytes : Needle → List ℕ
+needle_bytes needle = needle.bytes.items
 
--- what the code's query asks
+-- what the code's queries ask
+abbrev pub image_query : ImageQuery → QuerySaid
+image_query Header = ask_header
+image_query Notes = ask_notes
+image_query Threads = ask_threads
+image_query (Registers thread) = ask_registers thread
+image_query Process = ask_process
+image_query Signal = ask_signal
+image_query AuxiliaryVector = ask_auxiliary_vector
+image_query Files = ask_files
+image_query Maps = ask_maps
+
+abbrev pub memory_query : MemoryQuery → QuerySaid
+memory_query (Dump first length) = ask_dump first length
+memory_query (Find needle) = ask_find needle.bytes.items
+memory_query (Strings least) = ask_strings least
+memory_query (Backtrace thread) = ask_backtrace thread
+
 abbrev pub query_of : Query → QuerySaid
-query_of Header = ask_header
-query_of Notes = ask_notes
-query_of Threads = ask_threads
-query_of (Registers thread) = ask_registers thread
-query_of Process = ask_process
-query_of Signal = ask_signal
-query_of AuxiliaryVector = ask_auxiliary_vector
-query_of Files = ask_files
-query_of Maps = ask_maps
-query_of (Dump first length) = ask_dump first length
-query_of (Find needle) = ask_find needle.items
-query_of (Strings least) = ask_strings least
-query_of (Backtrace thread) = ask_backtrace thread
+query_of (Image query) = image_query query
+query_of (Memory query) = memory_query query
 query_of (Symbol address) = ask_symbol address
 
 -- the numbers in a query have 64 bits, a text has 1 to 1,024 bytes at least, and 1 to 64 bytes are looked for

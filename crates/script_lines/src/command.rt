@@ -4,12 +4,13 @@ ghost use Rattle.script_words.specs.Words.{words_of};
 ghost use Rattle.script_words.specs.WordsLeft.{words_left};
 ghost use Rattle.script_words.specs.Text.{text_of};
 ghost use Rattle.script_lines.specs.Said.{said, is_question, begin_said, exec_said, core_said, part_said, slot_alone, case_alone, pins, retire_said, list_said, free_said, inspect_said, case_words_said, words_said, short_line_said};
-ghost use Rattle.script_lines.specs.Commands.{said_by, asked_by, name_text, AreWords};
+ghost use Rattle.script_lines.specs.Commands.{said_by, asked_by, name_text};
+ghost use Rattle.script_lines.specs.LineWords.{AreWords};
 ghost use Rattle.script_streams.specs.Lines.{KeepsLine};
 
 use crate::keys::{Keys, are_pairs, large_at};
 use crate::names::NameWord;
-use crate::process::{Process, parse_process};
+use crate::process::ProcessWords;
 use crate::query::{Query, parse_query};
 use retention::Policy;
 use script_streams::KeptLine;
@@ -20,7 +21,7 @@ use script_words::{
 
 /// What a line asks for, or why it asks for nothing.
 #[derive(Drop)]
-pub enum Command {
+pub enum Command<'a> {
     /// So many bytes more for a stream, which stand behind the line.
     Part {
         /// The slot of the stream, 0 to 7.
@@ -36,12 +37,12 @@ pub enum Command {
         query: Query,
     },
     /// Any other line, which stands alone.
-    Plain(Request),
+    Plain(Request<'a>),
 }
 
 /// What a line says that no bytes stand behind.
 #[derive(Drop)]
-pub enum Request {
+pub enum Request<'a> {
     /// Nothing, and it has no reply.
     Silence,
     /// Nothing that is known.
@@ -59,8 +60,8 @@ pub enum Request {
     BeginCore {
         /// The slot of the stream, 0 to 7.
         slot: u8,
-        /// What is told of the process.
-        process: Process,
+        /// The words that tell of the process.
+        process: ProcessWords<'a>,
     },
     /// The stream becomes a case.
     End {
@@ -96,7 +97,7 @@ pub enum Request {
 }
 
 /// What a line says, which a reader of lines has kept.
-pub fn parse_line(line: &KeptLine) -> Command
+pub fn parse_line(line: &KeptLine) -> Command<'_>
     requires { (text : List ℕ) × KeepsLine text line.now }
     ensures { (text : List ℕ) → KeepsLine text line.now → said_by result ≡ said text }
 {
@@ -110,7 +111,7 @@ pub fn parse_line(line: &KeptLine) -> Command
 }
 
 /// What a line says that is at hand whole, without its newline.
-pub fn parse_text(line: &[u8]) -> Command
+pub fn parse_text(line: &[u8]) -> Command<'_>
     ensures { said_by result ≡ said line.now }
 {
     if is_blank_or_comment(line) {
@@ -123,7 +124,7 @@ pub fn parse_text(line: &[u8]) -> Command
 }
 
 // What a line says that has a reply and is not too long.
-fn parse_short_line(line: &[u8]) -> Command
+fn parse_short_line(line: &[u8]) -> Command<'_>
     requires { length line.now ≤ 1024 }
     ensures { said_by result ≡ short_line_said line.now }
 {
@@ -137,7 +138,7 @@ fn parse_short_line(line: &[u8]) -> Command
 }
 
 // What the words of a line say.
-fn parse_words(words: Words<'_>) -> Option<Command>
+fn parse_words(words: Words<'_>) -> Option<Command<'_>>
     requires { AreWords (words_left words) }
     ensures { option_map said_by result ≡ words_said (words_left words.entry) }
 {
@@ -161,7 +162,7 @@ fn parse_words(words: Words<'_>) -> Option<Command>
 }
 
 // What the words of a line on cases say.
-fn parse_case_words(command: &[u8], words: Words<'_>) -> Option<Command>
+fn parse_case_words<'a>(command: &[u8], words: Words<'a>) -> Option<Command<'a>>
     requires { AreWords (words_left words) }
     ensures { option_map said_by result ≡ case_words_said command.now (words_left words.entry) }
 {
@@ -185,7 +186,7 @@ fn parse_case_words(command: &[u8], words: Words<'_>) -> Option<Command>
 }
 
 // `begin`: the kind, and what it is of.
-fn parse_begin(words: Words<'_>) -> Option<Request>
+fn parse_begin(words: Words<'_>) -> Option<Request<'_>>
     requires { AreWords (words_left words) }
     ensures { option_map asked_by result ≡ begin_said (words_left words.entry) }
 {
@@ -201,7 +202,7 @@ fn parse_begin(words: Words<'_>) -> Option<Request>
 }
 
 // `begin exec`: a slot and a name.
-fn parse_exec(words: Words<'_>) -> Option<Request>
+fn parse_exec(words: Words<'_>) -> Option<Request<'_>>
     requires { AreWords (words_left words) }
     ensures { option_map asked_by result ≡ exec_said (words_left words.entry) }
 {
@@ -228,7 +229,7 @@ fn parse_name(word: &[u8]) -> Option<NameWord>
 }
 
 // `begin core`: a slot and what is told of a process.
-fn parse_core(words: Words<'_>) -> Option<Request>
+fn parse_core(words: Words<'_>) -> Option<Request<'_>>
     requires { AreWords (words_left words) }
     ensures { option_map asked_by result ≡ core_said (words_left words.entry) }
 {
@@ -236,12 +237,12 @@ fn parse_core(words: Words<'_>) -> Option<Request>
     let slot = rest.next()?;
     Some(Request::BeginCore {
         slot: parse_slot(slot)?,
-        process: parse_process(rest)?,
+        process: ProcessWords::of(rest)?,
     })
 }
 
 // `part`: a slot and a number of bytes.
-fn parse_part(words: Words<'_>) -> Option<Command>
+fn parse_part(words: Words<'_>) -> Option<Command<'_>>
     ensures { option_map said_by result ≡ part_said (words_left words.entry) }
 {
     let mut rest = words;
@@ -281,7 +282,7 @@ fn parse_case_alone(words: Words<'_>) -> Option<u32>
 }
 
 // `pin` and `unpin`: the number of a case.
-fn parse_pin(words: Words<'_>, flag: bool) -> Option<Request>
+fn parse_pin(words: Words<'_>, flag: bool) -> Option<Request<'_>>
     ensures { option_map asked_by result ≡ pins flag (case_alone (words_left words.entry)) }
 {
     Some(Request::Pin {
@@ -291,7 +292,7 @@ fn parse_pin(words: Words<'_>, flag: bool) -> Option<Request>
 }
 
 // `retire`: the limits.
-fn parse_retire(words: Words<'_>) -> Option<Request>
+fn parse_retire(words: Words<'_>) -> Option<Request<'_>>
     requires { AreWords (words_left words) }
     ensures { option_map asked_by result ≡ retire_said (words_left words.entry) }
 {
@@ -308,7 +309,7 @@ fn parse_retire(words: Words<'_>) -> Option<Request>
 }
 
 // `list`: nothing else.
-fn parse_list(words: Words<'_>) -> Option<Request>
+fn parse_list(words: Words<'_>) -> Option<Request<'_>>
     ensures { option_map asked_by result ≡ list_said (words_left words.entry) }
 {
     let mut rest = words;
@@ -319,7 +320,7 @@ fn parse_list(words: Words<'_>) -> Option<Request>
 }
 
 // `free`: nothing else.
-fn parse_free(words: Words<'_>) -> Option<Request>
+fn parse_free(words: Words<'_>) -> Option<Request<'_>>
     ensures { option_map asked_by result ≡ free_said (words_left words.entry) }
 {
     let mut rest = words;
@@ -330,7 +331,7 @@ fn parse_free(words: Words<'_>) -> Option<Request>
 }
 
 // A line that inspects: the number of a case, and what is asked of its image.
-fn parse_inspect(command: &[u8], words: Words<'_>) -> Option<Command>
+fn parse_inspect<'a>(command: &[u8], words: Words<'a>) -> Option<Command<'a>>
     ensures { option_map said_by result ≡ inspect_said command.now (words_left words.entry) }
 {
     let mut rest = words;
@@ -353,7 +354,7 @@ pub fn is_question(line: &[u8]) -> bool
     }
 }
 
-fn is_asked(request: &Request) -> bool
+fn is_asked(request: &Request<'_>) -> bool
     ensures { result ≡ is_question (asked_by request.now) }
 {
     match request {

@@ -3,7 +3,7 @@ ghost use Rattle.std.specs.Prelude.{◌≡◌, ◌≤◌, ◌^◌, ◌-◌, leng
 ghost use Rattle.script_words.specs.Pairs.{pair_of};
 ghost use Rattle.script_words.specs.WordsLeft.{word_bytes, words_left};
 ghost use Rattle.script_lines.specs.Keys.{is_text_key, is_small_key, is_large_key, core_kind, retire_kind, value_kind, is_good_value, value_if, value_of, is_first_pair, are_pairs, text_at, small_at, large_at};
-ghost use Rattle.script_lines.specs.Commands.{AreWords};
+ghost use Rattle.script_lines.specs.LineWords.{AreWords};
 
 use arrayvec::ArrayVec;
 use script_words::{Words, decode_text, parse_number, parse_u32, split_pair};

@@ -10,6 +10,6 @@ mod query;
 
 pub use command::{Command, Request, is_question, parse_line, parse_text};
 pub use laws::every_query_can_be_said;
-pub use names::NameWord;
-pub use process::Process;
-pub use query::Query;
+pub use names::{NameWord, Needle};
+pub use process::{Process, ProcessWords};
+pub use query::{ImageQuery, MemoryQuery, Query};

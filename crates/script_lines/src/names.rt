@@ -1,4 +1,4 @@
-//! The names that lines give.
+//! The names and the bytes that lines give.
 ghost use Rattle.std.specs.Prelude.{◌<◌, length};
 
 use arrayvec::ArrayVec;
@@ -9,4 +9,12 @@ pub struct NameWord {
     /// Its bytes: escapes are read.
     pub text: ArrayVec<u8, 1024>,
     ghost some: { 0 < length text.items },
+}
+
+/// Bytes that are looked for.
+#[derive(Drop)]
+pub struct Needle {
+    /// The bytes, 1 to 64 of them.
+    pub bytes: ArrayVec<u8, 64>,
+    ghost some: { 0 < length bytes.items },
 }

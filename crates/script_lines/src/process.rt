@@ -1,8 +1,7 @@
 // What a line tells of a process that dumped core.
 ghost use Rattle.std.specs.Prelude.{◌≡◌, option_map};
 ghost use Rattle.script_words.specs.WordsLeft.{words_left};
-ghost use Rattle.script_lines.specs.Said.{process_said};
-ghost use Rattle.script_lines.specs.Commands.{AreWords, process_of};
+ghost use Rattle.script_lines.specs.LineWords.{AreWords, AreWords-prop};
 
 use crate::keys::{Keys, are_pairs, large_at, small_at, text_at};
 use arrayvec::ArrayVec;
@@ -35,25 +34,46 @@ pub struct Process {
     pub limit: u64,
 }
 
-// What pairs tell of a process.
-pub(crate) fn parse_process(words: Words<'_>) -> Option<Process>
-    requires { AreWords (words_left words) }
-    ensures { option_map process_of result ≡ process_said (words_left words.entry) }
-{
-    if !are_pairs(Keys::Core, words) {
-        return None;
+/// The words that tell of a process that dumped core: pairs of a key and a value. They are read when they are wanted, since all
+/// that they may tell takes some 3 KB.
+#[derive(Clone, Copy)]
+pub struct ProcessWords<'a> {
+    words: Words<'a>,
+    ghost short: { AreWords (words_left words) } by { AreWords-prop (words_left words) },
+}
+
+impl<'a> ProcessWords<'a> {
+    ghost use Rattle.script_lines.specs.Said.{process_said};
+    ghost use Rattle.script_lines.specs.Commands.{process_of, process_told};
+
+    // The words, if they are pairs that tell of a process.
+    pub(crate) fn of(words: Words<'a>) -> Option<Self>
+        requires { AreWords (words_left words) }
+        ensures { option_map process_told result ≡ process_said (words_left words.entry) }
+    {
+        if !are_pairs(Keys::Core, words) {
+            return None;
+        }
+        Some(ProcessWords { words })
     }
-    Some(Process {
-        comm: text_at(words, b"comm"),
-        exe: text_at(words, b"exe"),
-        host: text_at(words, b"host"),
-        pid: small_at(words, b"pid"),
-        tid: small_at(words, b"tid"),
-        signal: small_at(words, b"sig"),
-        uid: small_at(words, b"uid"),
-        gid: small_at(words, b"gid"),
-        mode: small_at(words, b"mode"),
-        time: large_at(words, b"time").unwrap_or(0),
-        limit: large_at(words, b"limit").unwrap_or(0),
-    })
+
+    /// What they tell.
+    pub fn read(&self) -> Process
+        ensures { process_of result ≡ process_told self.now }
+    {
+        let words = self.words;
+        Process {
+            comm: text_at(words, b"comm"),
+            exe: text_at(words, b"exe"),
+            host: text_at(words, b"host"),
+            pid: small_at(words, b"pid"),
+            tid: small_at(words, b"tid"),
+            signal: small_at(words, b"sig"),
+            uid: small_at(words, b"uid"),
+            gid: small_at(words, b"gid"),
+            mode: small_at(words, b"mode"),
+            time: large_at(words, b"time").unwrap_or(0),
+            limit: large_at(words, b"limit").unwrap_or(0),
+        }
+    }
 }

@@ -3,14 +3,28 @@ ghost use Rattle.std.specs.Prelude.{◌≡◌, option_map};
 ghost use Rattle.script_words.specs.WordsLeft.{words_left};
 ghost use Rattle.script_words.specs.Hex.{needle_of};
 ghost use Rattle.script_words.specs.Number.{number_of, number_within};
-ghost use Rattle.script_lines.specs.Queries.{ask_dump, query_rows, memory_rows, query_in, query_of, needle_bytes, alone, one_word, ranged};
+ghost use Rattle.script_lines.specs.Queries.{ask_dump, query_rows, memory_rows, query_in, query_of, image_query, needle_bytes, alone, one_word, ranged};
 
-use arrayvec::ArrayVec;
+use crate::names::Needle;
 use script_words::{Words, decode_hex, parse_number, parse_number_within};
 
 /// What a line asks an image.
 #[derive(Drop)]
 pub enum Query {
+    /// What the image alone answers.
+    Image(ImageQuery),
+    /// What a core and the executables that its process had mapped answer.
+    Memory(MemoryQuery),
+    /// The function of an executable that covers an address.
+    Symbol {
+        /// The address.
+        address: u64,
+    },
+}
+
+/// What an image alone answers.
+#[derive(Drop)]
+pub enum ImageQuery {
     /// The header of the ELF file, and its segments.
     Header,
     /// The notes of a core.
@@ -32,32 +46,32 @@ pub enum Query {
     Files,
     /// The stretches of its memory, and what each holds.
     Maps,
-    /// Bytes of its memory.
+}
+
+/// What is asked of a core's memory, which the executables that its process had mapped are a part of.
+#[derive(Drop)]
+pub enum MemoryQuery {
+    /// Bytes of it.
     Dump {
         /// The address of the first one.
         first: u64,
         /// How many bytes.
         length: u64,
     },
-    /// Where bytes stand in its memory.
+    /// Where bytes stand in it.
     Find {
-        /// The bytes, 1 to 64 of them.
-        needle: ArrayVec<u8, 64>,
+        /// The bytes.
+        needle: Needle,
     },
-    /// The texts in its memory.
+    /// The texts in it.
     Strings {
         /// The fewest bytes of a text, 1 to 1,024.
         least: u64,
     },
-    /// The frames of one of its threads.
+    /// The frames of one of the core's threads.
     Backtrace {
         /// The place of the thread among the core's threads, from 0 on.
         thread: u64,
-    },
-    /// The function of an executable that covers an address.
-    Symbol {
-        /// The address.
-        address: u64,
     },
 }
 
@@ -66,23 +80,23 @@ pub(crate) fn parse_query(command: &[u8], words: Words<'_>) -> Option<Query>
     ensures { option_map query_of result ≡ query_in query_rows command.now (words_left words.entry) }
 {
     if command == b"header".as_slice() {
-        alone(words, Query::Header)
+        alone(words, ImageQuery::Header)
     } else if command == b"notes".as_slice() {
-        alone(words, Query::Notes)
+        alone(words, ImageQuery::Notes)
     } else if command == b"threads".as_slice() {
-        alone(words, Query::Threads)
+        alone(words, ImageQuery::Threads)
     } else if command == b"regs".as_slice() {
-        Some(Query::Registers {
+        Some(Query::Image(ImageQuery::Registers {
             thread: parse_number_alone(words)?,
-        })
+        }))
     } else if command == b"process".as_slice() {
-        alone(words, Query::Process)
+        alone(words, ImageQuery::Process)
     } else if command == b"signal".as_slice() {
-        alone(words, Query::Signal)
+        alone(words, ImageQuery::Signal)
     } else if command == b"auxv".as_slice() {
-        alone(words, Query::AuxiliaryVector)
+        alone(words, ImageQuery::AuxiliaryVector)
     } else if command == b"files".as_slice() {
-        alone(words, Query::Files)
+        alone(words, ImageQuery::Files)
     } else {
         parse_memory_query(command, words)
     }
@@ -93,21 +107,21 @@ fn parse_memory_query(command: &[u8], words: Words<'_>) -> Option<Query>
     ensures { option_map query_of result ≡ query_in memory_rows command.now (words_left words.entry) }
 {
     if command == b"maps".as_slice() {
-        alone(words, Query::Maps)
+        alone(words, ImageQuery::Maps)
     } else if command == b"dump".as_slice() {
         parse_dump(words)
     } else if command == b"find".as_slice() {
-        Some(Query::Find {
+        Some(Query::Memory(MemoryQuery::Find {
             needle: parse_needle_alone(words)?,
-        })
+        }))
     } else if command == b"strings".as_slice() {
-        Some(Query::Strings {
+        Some(Query::Memory(MemoryQuery::Strings {
             least: parse_least_alone(words)?,
-        })
+        }))
     } else if command == b"bt".as_slice() {
-        Some(Query::Backtrace {
+        Some(Query::Memory(MemoryQuery::Backtrace {
             thread: parse_number_alone(words)?,
-        })
+        }))
     } else if command == b"symbol".as_slice() {
         Some(Query::Symbol {
             address: parse_number_alone(words)?,
@@ -118,14 +132,14 @@ fn parse_memory_query(command: &[u8], words: Words<'_>) -> Option<Query>
 }
 
 // A query behind whose case nothing stands.
-fn alone(words: Words<'_>, query: Query) -> Option<Query>
-    ensures { option_map query_of result ≡ alone (query_of query) (words_left words.entry) }
+fn alone(words: Words<'_>, query: ImageQuery) -> Option<Query>
+    ensures { option_map query_of result ≡ alone (image_query query) (words_left words.entry) }
 {
     let mut rest = words;
     if rest.next().is_some() {
         return None;
     }
-    Some(query)
+    Some(Query::Image(query))
 }
 
 // A number and nothing else.
@@ -141,7 +155,7 @@ fn parse_number_alone(words: Words<'_>) -> Option<u64>
 }
 
 // The bytes of a needle and nothing else.
-fn parse_needle_alone(words: Words<'_>) -> Option<ArrayVec<u8, 64>>
+fn parse_needle_alone(words: Words<'_>) -> Option<Needle>
     ensures { option_map needle_bytes result ≡ one_word needle_of (words_left words.entry) }
 {
     let mut rest = words;
@@ -149,7 +163,8 @@ fn parse_needle_alone(words: Words<'_>) -> Option<ArrayVec<u8, 64>>
     if rest.next().is_some() {
         return None;
     }
-    decode_hex(needle)
+    let bytes = decode_hex(needle)?;
+    Some(Needle { bytes })
 }
 
 // The least length of a text and nothing else.
@@ -174,8 +189,8 @@ fn parse_dump(words: Words<'_>) -> Option<Query>
     if rest.next().is_some() {
         return None;
     }
-    Some(Query::Dump {
+    Some(Query::Memory(MemoryQuery::Dump {
         first: parse_number(first)?,
         length: parse_number(length)?,
-    })
+    }))
 }

@@ -1,5 +1,5 @@
 //! Lines that inspect, as users write them.
-use script_lines::{Command, Query, Request, parse_text};
+use script_lines::{Command, ImageQuery, MemoryQuery, Query, Request, parse_text};
 use std::process::Abort;
 
 /// Lines that are outside the grammar.
@@ -35,7 +35,7 @@ fn registers_asked(line: &[u8]) -> Option<(u32, u64)> {
         return None;
     };
     match query {
-        Query::Registers { thread } => Some((seq, thread)),
+        Query::Image(ImageQuery::Registers { thread }) => Some((seq, thread)),
         _ => None,
     }
 }
@@ -59,25 +59,25 @@ fn queries(rt: HostRuntime) {
 
 // The first address and the number of bytes of a line that asks for a dump.
 fn dump_asked(line: &[u8]) -> Option<(u64, u64)> {
-    let Command::Plain(Request::Inspect { query, .. }) = parse_text(line) else {
+    let Command::Inspect { query, .. } = parse_text(line) else {
         return None;
     };
     match query {
-        Query::Dump { first, length } => Some((first, length)),
+        Query::Memory(MemoryQuery::Dump { first, length }) => Some((first, length)),
         _ => None,
     }
 }
 
 // How many bytes a line looks for, and the first of them.
 fn bytes_sought(line: &[u8]) -> Option<(usize, u8)> {
-    let Command::Plain(Request::Inspect { query, .. }) = parse_text(line) else {
+    let Command::Inspect { query, .. } = parse_text(line) else {
         return None;
     };
-    let Query::Find { needle } = query else {
+    let Query::Memory(MemoryQuery::Find { needle }) = query else {
         return None;
     };
-    let first = needle.as_slice().first()?;
-    Some((needle.len(), *first))
+    let first = needle.bytes.as_slice().first()?;
+    Some((needle.bytes.len(), *first))
 }
 
 #[test]

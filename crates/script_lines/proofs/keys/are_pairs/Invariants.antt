@@ -1,6 +1,6 @@
 use Rattle.std.proofs.Common.{◌≡◌}
 use Rattle.script_words.specs.WordsLeft.{words_left}
-use Rattle.script_lines.specs.Commands.{AreWords}
+use Rattle.script_lines.specs.LineWords.{AreWords}
 use Rattle.script_lines.specs.Keys.{are_pairs}
 use Rattle.script_lines.proofs.keys.are_pairs.Given as goal
 
