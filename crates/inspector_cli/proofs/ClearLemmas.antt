@@ -23,7 +23,7 @@ use Rattle.inspector_cli.specs.Stages.{Stage, Moves, MayLeave}
 use Rattle.inspector_cli.specs.Session.{Item, Run, last_stage, Ending, complete, last_line, cut_part, said_last, EndReplies, LastReplies, Truncates, TakesFront, BreaksOff, AnswersAll, AnswersWhole}
 use Rattle.inspector_cli.specs.Runs.{IsClear}
 use Rattle.inspector_cli.specs.Inspecting.{kind_asked}
-use Rattle.inspector_cli.proofs.InspectLemmas.{asks_halts}
+use Rattle.inspector_cli.proofs.InspectLemmas.{asks_leaves}
 
 -- the first byte of a text, and its fourth
 abbrev first_of : List ℕ → ℕ
@@ -253,7 +253,7 @@ module _ {D : Type 0} (g : disk.Ghosts D) where
   )
   line_halts naming old new list_all_cases raw reply r = still old new list_all_cases reply (λ x none. none) (same_stops old new r.1)
   line_halts naming old new count_free raw reply r = still old new count_free reply (λ x none. none) (same_stops old new r.3)
-  line_halts naming old new (inspect_of seq query) raw reply r = still old new (inspect_of seq query) reply (λ x none. none) (asks_halts g old new seq query (kind_asked (bare_of old) seq query) reply r)
+  line_halts naming old new (inspect_of seq query) raw reply r = still old new (inspect_of seq query) reply (λ x none. none) (asks_leaves g old new seq query (kind_asked (bare_of old) seq query) reply r).halts
 
   cut_halts : (old new : Parts D) (what : Said) (raw reply : List ℕ) → Truncates g old what raw reply new → Halts old what reply new
   cut_halts old new (part_of slot n) raw reply cut =

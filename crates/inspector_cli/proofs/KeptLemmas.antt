@@ -21,7 +21,7 @@ use Rattle.inspector_cli.specs.Session.{Ending, complete, last_line, cut_part, s
 use Rattle.inspector_cli.specs.Stages.{Stage, Moves, MayLeave, mark_at, marks_of}
 use Rattle.inspector_cli.specs.Stored.{HasImage, Spares}
 use Rattle.inspector_cli.specs.Inspecting.{kind_asked}
-use Rattle.inspector_cli.proofs.InspectLemmas.{asks_stays}
+use Rattle.inspector_cli.proofs.InspectLemmas.{asks_leaves}
 use Rattle.inspector_cli.specs.Told.{Answer, Answers, Session, Finishes, HasLine, MayDrop, Spare, what_of}
 use Rattle.inspector_cli.proofs.StageLemmas.{begins_stays, truncates_stays, broken_stays}
 
@@ -151,7 +151,7 @@ module _ (n : ℕ) (bytes : List ℕ) where
         same_keeps old new (lasts.refusals old new f honest (inr (inr (inr (policy, call))))) has
     line_keeps old new list_all_cases raw reply honest r spares has = as_it_was old new r.1 has
     line_keeps old new count_free raw reply honest r spares has = as_it_was old new r.3 has
-    line_keeps old new (inspect_of seq query) raw reply honest r spares has = stays_keeps old new honest (asks_stays g old new seq query (kind_asked (bare_of old) seq query) reply r) has
+    line_keeps old new (inspect_of seq query) raw reply honest r spares has = stays_keeps old new honest (asks_leaves g old new seq query (kind_asked (bare_of old) seq query) reply r).stays has
 
     -- what a line would have left, had the disk not failed, has the case
     doubt_keeps : (old : Parts D) (what : Said) (reply : List ℕ) (x : Durable) → reply ≡ no_reply (codes "Disk") → (MayDrop n what reply → ⊥) → Has old → MayLeave g old what x → HasImage n bytes x

@@ -4,7 +4,9 @@ pub mod SlotLemmas
 pub mod TakeLemmas
 pub mod RoomLemmas
 pub mod GiveLemmas
+pub mod GatherLemmas
 pub mod InspectLemmas
+pub mod ShowLemmas
 pub mod LineLemmas
 pub mod RunLemmas
 pub mod CloseLemmas

@@ -22,7 +22,7 @@ use Rattle.inspector_cli.specs.Stages.{Stage, Moves, MayLeave, mark_at, marks_of
 use Rattle.inspector_cli.specs.Session.{Item, Run, last_stage, Ending, complete, last_line, cut_part, said_last, EndReplies, LastReplies, Truncates, TakesFront, BreaksOff}
 use Rattle.intake.specs.StayLaws.{stays_as, stays_then}
 use Rattle.inspector_cli.specs.Inspecting.{kind_asked}
-use Rattle.inspector_cli.proofs.InspectLemmas.{asks_stays}
+use Rattle.inspector_cli.proofs.InspectLemmas.{asks_leaves}
 
 all_as : {P Q : Durable → Type 0} (xs : List Durable) → ((x : Durable) → P x → Q x) → AllByRecursion P xs → AllByRecursion Q xs
 all_as [] f all = tt
@@ -115,7 +115,7 @@ module _ {D : Type 0} (g : disk.Ghosts D) (laws : Laws g) (old : Stage D) (new :
       changed Decision (retire_by policy) reply r.0 _ (λ x may. may) (λ is. r.2 ∙ retire_disk r.0 is) (laws.retire old.archive new policy r.0 r.1)
   line_moves naming list_all_cases raw reply r = still list_all_cases reply (stays_as g old.archive new r.1)
   line_moves naming count_free raw reply r = still count_free reply (stays_as g old.archive new r.3)
-  line_moves naming (inspect_of seq query) raw reply r = still (inspect_of seq query) reply (asks_stays g old.archive new seq query (kind_asked (bare_of old.archive) seq query) reply r)
+  line_moves naming (inspect_of seq query) raw reply r = still (inspect_of seq query) reply (asks_leaves g old.archive new seq query (kind_asked (bare_of old.archive) seq query) reply r).stays
 
   last_moves : (naming : Naming) (n : ℕ) (what : Said) (reply : List ℕ) → LastReplies g naming n old.archive what reply new → Reaches what reply
   last_moves naming zero what reply r = line_moves naming what [] reply r

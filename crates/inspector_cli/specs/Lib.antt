@@ -1,5 +1,7 @@
 pub mod Reasons
 pub mod Seeing
+pub mod Gathering
+pub mod GatheringWords
 pub mod Inspecting
 pub mod Commands
 pub mod Reply

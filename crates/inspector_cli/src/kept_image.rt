@@ -4,6 +4,14 @@ ghost use Rattle.inspector_cli.specs.Seeing.{IsKept, LooksAt, image_held};
 
 use disk_model::Disk;
 use intake::{Archive, ArchiveFault};
+use std::alloc::Global;
+
+// What lines that ask images take memory from, and the image that they keep.
+#[derive(Drop)]
+pub(crate) struct Images {
+    pub(crate) alloc: Global,
+    pub(crate) kept: Option<KeptImage>,
+}
 
 // The image of a case, kept for the lines over the same case that come next.
 #[derive(Drop)]

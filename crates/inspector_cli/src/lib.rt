@@ -4,10 +4,12 @@
 mod answers;
 mod begin;
 mod extract;
+mod gather;
 mod inspect;
 mod kept_image;
 mod laws;
 mod life;
+mod memory;
 mod memory_life;
 mod names;
 mod parts;

@@ -34,7 +34,7 @@ pub fn open_and_run<I: Input, O: Output, D: Disk>(
     match Archive::open(alloc, disk, settings) {
         Ok(archive) => {
             let mut archive = archive;
-            let ended = run_session(input, output, &mut archive, naming);
+            let ended = run_session(alloc, input, output, &mut archive, naming);
             let disk = archive.close();
             match ended {
                 Ok(()) => (Ok(()), disk),

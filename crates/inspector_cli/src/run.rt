@@ -9,6 +9,7 @@ use crate::session::{Naming, SessionFault};
 use disk_model::Disk;
 use intake::{Archive, calls_lead_from_mark_to_mark, found_after_a_stop};
 use script_streams::{Input, Output, ReadStop, Reply, ScriptBuffer};
+use std::alloc::Global;
 
 /// Reads a script to its end, answers its commands in order, and drops the streams that are open then.
 ///
@@ -19,6 +20,7 @@ use script_streams::{Input, Output, ReadStop, Reply, ScriptBuffer};
 /// line that was read after a write had failed is carried out, since its reply could not be seen.
 /// In each case no stream is open.
 pub fn run_session<I: Input, O: Output, D: Disk>(
+    alloc: Global,
     input: &mut I,
     output: &mut O,
     archive: &mut Archive<D>,
@@ -31,7 +33,7 @@ pub fn run_session<I: Input, O: Output, D: Disk>(
     found_after_a_stop::<D>();
     let mut buffer = ScriptBuffer::new();
     let mut reply = Reply::new();
-    let answered = answer_script(&mut buffer, input, &mut reply, output, archive, naming);
+    let answered = answer_script(alloc, &mut buffer, input, &mut reply, output, archive, naming);
     close_streams(archive);
     let Ok(()) = reply.finish(output) else {
         return Err(SessionFault::WriteFailed);

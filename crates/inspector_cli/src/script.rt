@@ -12,13 +12,14 @@ ghost use Rattle.inspector_cli.specs.Answering.{CommandEnds, Halts, ScriptEnds, 
 
 use crate::answers::answer_plain;
 use crate::inspect::answer_query;
-use crate::kept_image::KeptImage;
+use crate::kept_image::Images;
 use crate::parts::answer_part;
 use crate::session::Naming;
 use crate::telling::tell_outcome;
 use disk_model::Disk;
 use intake::{Archive, calls_lead_from_mark_to_mark};
 use script_lines::{Command, parse_line};
+use std::alloc::Global;
 use script_streams::{Input, KeptLine, LineEnding, Output, ReadStop, Reply, ScriptBuffer, tell_no};
 
 /// Why a script was not answered to its end.
@@ -42,6 +43,7 @@ impl From<ReadStop> for ScriptStop {
 
 // Answers all commands of a script, or those before the one at which it stopped.
 pub(crate) fn answer_script<I: Input, O: Output, D: Disk>(
+    alloc: Global,
     buffer: &mut ScriptBuffer,
     input: &mut I,
     reply: &mut Reply,
@@ -57,12 +59,12 @@ pub(crate) fn answer_script<I: Input, O: Output, D: Disk>(
 {
     calls_lead_from_mark_to_mark::<D>();
     let mut line = KeptLine::new();
-    let mut kept = None;
+    let mut images = Images { alloc, kept: None };
     let mut goes_on = true;
     while goes_on {
         goes_on = answer_command(
             &mut line,
-            &mut kept,
+            &mut images,
             buffer,
             input,
             reply,
@@ -77,7 +79,7 @@ pub(crate) fn answer_script<I: Input, O: Output, D: Disk>(
 // Reads the next command and answers it, unless its reply could not be seen. Says whether the script may go on.
 fn answer_command<I: Input, O: Output, D: Disk>(
     line: &mut KeptLine,
-    kept: &mut Option<KeptImage>,
+    images: &mut Images,
     buffer: &mut ScriptBuffer,
     input: &mut I,
     reply: &mut Reply,
@@ -85,13 +87,13 @@ fn answer_command<I: Input, O: Output, D: Disk>(
     archive: &mut Archive<D>,
     naming: &Naming,
 ) -> Result<bool, ScriptStop>
-    requires kept { IsKept D.Disk archive.old kept.old }
+    requires kept { IsKept D.Disk archive.old images.old.kept }
     ensures answers { CommandEnds D.Disk naming.now
         (reading I.Input input.old input.new buffer.old buffer.new)
         (telling O.Output output.old output.new reply.old reply.new)
         archive.old archive.new result }
     ensures unheard { has_failed reply.old ≡ true → archive.new ≡ archive.old }
-    ensures kept { IsKept D.Disk archive.new kept.new }
+    ensures kept { IsKept D.Disk archive.new images.new.kept }
     ensures stops { Halts (I.failures input.old) (I.failures input.new) buffer.new result }
 {
     let ending = buffer.next_line(input, line, reply, output)?;
@@ -101,11 +103,11 @@ fn answer_command<I: Input, O: Output, D: Disk>(
     match ending {
         LineEnding::Newline => {
             let goes_on =
-                answer_line(line, kept, buffer, input, reply, output, archive, naming)?;
+                answer_line(line, images, buffer, input, reply, output, archive, naming)?;
             Ok(goes_on)
         }
         LineEnding::EndOfInput => {
-            answer_last(line, kept, reply, output, archive, naming);
+            answer_last(line, images, reply, output, archive, naming);
             Ok(false)
         }
         LineEnding::NothingLeft => Ok(false),
@@ -115,7 +117,7 @@ fn answer_command<I: Input, O: Output, D: Disk>(
 // Answers a line, with the bytes behind its newline. Says whether they were all there.
 fn answer_line<I: Input, O: Output, D: Disk>(
     line: &KeptLine,
-    kept: &mut Option<KeptImage>,
+    images: &mut Images,
     buffer: &mut ScriptBuffer,
     input: &mut I,
     reply: &mut Reply,
@@ -124,25 +126,25 @@ fn answer_line<I: Input, O: Output, D: Disk>(
     naming: &Naming,
 ) -> Result<bool, ReadStop>
     requires line { (text : List ℕ) × KeepsLine text line.now }
-    requires kept { IsKept D.Disk archive.old kept.old }
+    requires kept { IsKept D.Disk archive.old images.old.kept }
     ensures answers { (text : List ℕ) → KeepsLine text line.now
         → PartAnswers D.Disk naming.now (reading I.Input input.old input.new buffer.old buffer.new)
         (telling O.Output output.old output.new reply.old reply.new)
         archive.old (said text) archive.new result }
     ensures stops { Stops (I.failures input.old) (I.failures input.new) buffer.new result }
-    ensures kept { IsKept D.Disk archive.new kept.new }
+    ensures kept { IsKept D.Disk archive.new images.new.kept }
 {
     match parse_line(line) {
         Command::Part { slot, count } => {
-            *kept = None;
+            images.kept = None;
             answer_part(slot, count, buffer, input, reply, output, archive)
         }
         Command::Inspect { seq, query } => {
-            answer_query(seq, &query, kept, reply, output, archive);
+            answer_query(seq, &query, images, reply, output, archive);
             Ok(true)
         }
         Command::Plain(request) => {
-            *kept = None;
+            images.kept = None;
             answer_plain(request, reply, output, archive, naming);
             Ok(true)
         }
@@ -152,28 +154,28 @@ fn answer_line<I: Input, O: Output, D: Disk>(
 // Answers a last line that no newline ends: no bytes stand behind it.
 fn answer_last<O: Output, D: Disk>(
     line: &KeptLine,
-    kept: &mut Option<KeptImage>,
+    images: &mut Images,
     reply: &mut Reply,
     output: &mut O,
     archive: &mut Archive<D>,
     naming: &Naming,
 )
     requires line { (text : List ℕ) × KeepsLine text line.now }
-    requires kept { IsKept D.Disk archive.old kept.old }
+    requires kept { IsKept D.Disk archive.old images.old.kept }
     ensures answers { (text : List ℕ) → KeepsLine text line.now
         → LastAnswers D.Disk naming.now (telling O.Output output.old output.new reply.old reply.new) archive.old (said text) archive.new }
-    ensures kept { IsKept D.Disk archive.new kept.new }
+    ensures kept { IsKept D.Disk archive.new images.new.kept }
 {
     match parse_line(line) {
         Command::Part { slot, count } => {
-            *kept = None;
+            images.kept = None;
             answer_cut(slot, count, reply, output, archive)
         }
         Command::Inspect { seq, query } => {
-            answer_query(seq, &query, kept, reply, output, archive)
+            answer_query(seq, &query, images, reply, output, archive)
         }
         Command::Plain(request) => {
-            *kept = None;
+            images.kept = None;
             answer_plain(request, reply, output, archive, naming)
         }
     }

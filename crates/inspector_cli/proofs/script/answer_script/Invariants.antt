@@ -21,7 +21,7 @@ invariant-loop-goes_on g l = record {
       })
       (stage_of l.initial.archive before) l.archive l.goes_on;
   failures : g.I.Input.failures l.input ≡ g.I.Input.failures l.initial.input;
-  kept : IsKept g.D.Disk l.archive l.kept;
+  kept : IsKept g.D.Disk l.archive l.images.kept;
 }
 
 abbrev pub decreases-loop-goes_on : goal.decreases-loop-goes_on
