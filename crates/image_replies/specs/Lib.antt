@@ -9,3 +9,4 @@ pub mod Process
 pub mod Signal
 pub mod Auxv
 pub mod Files
+pub mod Ended

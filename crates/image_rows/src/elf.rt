@@ -8,7 +8,12 @@ use std::process::Abort;
 use std::test::Fail;
 
 /// The image with other bytes from place `at` on.
-fn patched(alloc: Global, image: &[u8], at: usize, bytes: &[u8]) -> Result<Vec<u8>, AllocError> {
+pub(crate) fn patched(
+    alloc: Global,
+    image: &[u8],
+    at: usize,
+    bytes: &[u8],
+) -> Result<Vec<u8>, AllocError> {
     let (front, rest) = image.split_at(at.min(image.len()));
     let mut out = Vec::from_slice(alloc, front)?;
     out.extend_from_slice(bytes)?;
