@@ -7,3 +7,5 @@ mod chains;
 mod named;
 #[cfg(test)]
 mod real;
+#[cfg(test)]
+mod told;

@@ -4,3 +4,5 @@ pub mod AnswerLemmas
 pub mod SymbolLemmas
 pub mod FrameLemmas
 pub mod TextLemmas
+pub mod PieceLemmas
+pub mod ValueLemmas

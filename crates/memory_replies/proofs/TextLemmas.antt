@@ -1,54 +1,52 @@
 -- The values of texts.
-use Rattle.std.proofs.Common.{◌≡◌, ◌≤◌, ◌<◌, ℕ, zero, suc, ◌+◌, ◌-◌, ◌^◌, cond, Bool, true, false, List, [], ◌∷◌, ◌++◌, length, map, Option, None, Some, refl, sym, ap, subst, ◌∙◌, arith, inl, inr}
+use Rattle.std.proofs.Common.{◌≡◌, ◌≤◌, ◌<◌, ℕ, zero, suc, ◌+◌, ◌-◌, ◌^◌, cond, Bool, true, false, List, [], ◌∷◌, ◌++◌, length, map, Option, None, Some, refl, sym, ap, subst, ◌∙◌, arith, inl, inr, append_assoc}
 use Rattle.std.proofs.lemmas.Bool.{cases_Bool, cond-true, cond-false}
 use Rattle.std.proofs.lemmas.List.{append-nil}
-use Rattle.std.specs.List.{cons_option, filter, filter_map, flat_map, range_with_len}
+use Rattle.std.proofs.lemmas.Grind.{flat_map-append}
+use Rattle.std.specs.List.{filter, flat_map}
 use Rattle.script_words.specs.Printing.{shown, shown_byte}
 use Rattle.script_streams.specs.Replies.{ok_reply, reply_of}
 use Rattle.address_space.specs.Source.{Space, ExecutableView, value_at}
 use Rattle.address_space.specs.Occurrence.{begins_text, is_long, is_text_at, is_text_value, ordered, strings_of, text_from, text_len}
+use Rattle.address_space.specs.Pieces.{PieceView, pieces_of}
 use Rattle.memory_replies.specs.Memory.{memory_of}
-use Rattle.memory_replies.specs.Texts.{strings_answer, text_line, value_list, values_between}
+use Rattle.memory_replies.specs.Texts.{content_bytes, strings_answer, text_line, value_list, values_between}
+use Rattle.memory_replies.proofs.PieceLemmas.{piece_bytes, pieces_are}
+use Rattle.memory_replies.proofs.ValueLemmas.{no_values, values_step}
 
-one_first : (o : Option ℕ) (xs : List ℕ) → cons_option o xs ≡ value_list o ++ xs
-one_first None xs = refl
-one_first (Some x) xs = refl
-
--- the first value, and those behind it
-pub values_step : (space : Space) (a n : ℕ) → values_between space a (suc n) ≡ value_list (value_at space a) ++ values_between space (a + 1) n
-unfolding values_between
-values_step space a n = one_first (value_at space a) (filter_map (value_at space) (range_with_len (a + 1) n))
-
-pub no_values : (space : Space) (a n : ℕ) → n ≡ 0 → values_between space a n ≡ []
-unfolding values_between
-no_values space a n is = ap (λ m. filter_map (value_at space) (range_with_len a m)) is
-
-shown_first : (o : Option ℕ) (xs : List ℕ) → flat_map shown_byte (value_list o ++ xs) ≡ flat_map shown_byte (value_list o) ++ flat_map shown_byte xs
-shown_first None xs = refl
-shown_first (Some x) xs = ap (λ t. t ++ flat_map shown_byte xs) (sym (append-nil (shown_byte x)))
-
--- how the values print from place i on
-pub shown_next : (space : Space) (a n i : ℕ) (value : Option ℕ) → i < n → value ≡ value_at space (a + i)
-    → flat_map shown_byte (values_between space (a + i) (n - i)) ≡ flat_map shown_byte (value_list value) ++ flat_map shown_byte (values_between space (a + (i + 1)) (n - (i + 1)))
-shown_next space a n i value h is =
-    let size : n - i ≡ suc (n - (i + 1)) = omega arith in
-    let next : a + i + 1 ≡ a + (i + 1) = omega arith in
-    ap (λ m. flat_map shown_byte (values_between space (a + i) m)) size
-    ∙ ap (flat_map shown_byte) (values_step space (a + i) (n - (i + 1)))
-    ∙ shown_first (value_at space (a + i)) (values_between space (a + i + 1) (n - (i + 1)))
-    ∙ ap (λ b. flat_map shown_byte (value_list (value_at space (a + i))) ++ flat_map shown_byte (values_between space b (n - (i + 1)))) next
-    ∙ ap (λ v. flat_map shown_byte (value_list v) ++ flat_map shown_byte (values_between space (a + (i + 1)) (n - (i + 1)))) (sym is)
-
-pub shown_all : (space : Space) (a n : ℕ) → flat_map shown_byte (values_between space a n) ≡ flat_map shown_byte (values_between space (a + 0) (n - 0))
-shown_all space a n =
-    let size : n ≡ n - 0 = omega arith in
+-- the values of addresses, and those of the addresses behind them
+values_split : (space : Space) (m a n : ℕ) → values_between space a (m + n) ≡ values_between space a m ++ values_between space (a + m) n
+values_split space zero a n =
+    let all : 0 + n ≡ n = omega arith in
     let here : a ≡ a + 0 = omega arith in
-    ap (λ m. flat_map shown_byte (values_between space a m)) size ∙ ap (λ b. flat_map shown_byte (values_between space b (n - 0))) here
+    ap (values_between space a) all ∙ ap (λ b. values_between space b n) here
+    ∙ ap (λ t. t ++ values_between space (a + 0) n) (sym (no_values space a 0 refl))
+values_split space (suc m) a n =
+    let more : suc m + n ≡ suc (m + n) = omega arith in
+    let next : a + 1 + m ≡ a + suc m = omega arith in
+    ap (values_between space a) more ∙ values_step space a (m + n)
+    ∙ ap (λ t. value_list (value_at space a) ++ t) (values_split space m (a + 1) n)
+    ∙ sym (append_assoc (value_list (value_at space a)) (values_between space (a + 1) m) (values_between space (a + 1 + m) n))
+    ∙ ap (λ t. t ++ values_between space (a + 1 + m) n) (sym (values_step space a m))
+    ∙ ap (λ b. values_between space a (suc m) ++ values_between space b n) next
 
-pub shown_end : (space : Space) (a n i : ℕ) → n ≤ i → flat_map shown_byte (values_between space (a + i) (n - i)) ≡ []
-shown_end space a n i h =
-    let none : n - i ≡ 0 = omega arith in
-    ap (flat_map shown_byte) (no_values space (a + i) (n - i) none)
+pub shown_halves : (space : Space) (a m n w : ℕ) → m + n ≡ w
+    → flat_map shown_byte (values_between space a m) ++ flat_map shown_byte (values_between space (a + m) n) ≡ flat_map shown_byte (values_between space a w)
+shown_halves space a m n w is =
+    sym (flat_map-append shown_byte (values_between space a m) (values_between space (a + m) n))
+    ∙ ap (flat_map shown_byte) (sym (values_split space m a n))
+    ∙ ap (λ k. flat_map shown_byte (values_between space a k)) is
+
+-- the texts of pieces are those of their bytes
+abbrev pub piece_text : PieceView → List ℕ
+piece_text p = flat_map shown_byte (content_bytes p.content)
+
+texts_joined : (ps : List PieceView) → flat_map piece_text ps ≡ flat_map shown_byte (flat_map piece_bytes ps)
+texts_joined [] = refl
+texts_joined (p ∷ ps) = ap (λ t. piece_text p ++ t) (texts_joined ps) ∙ sym (flat_map-append shown_byte (piece_bytes p) (flat_map piece_bytes ps))
+
+pub shown_pieces : (space : Space) (a n : ℕ) → flat_map piece_text (pieces_of space a n) ≡ flat_map shown_byte (values_between space a n)
+shown_pieces space a n = texts_joined (pieces_of space a n) ∙ ap (flat_map shown_byte) (pieces_are space a n)
 
 -- a text of one value, and one of several
 pub shown_one : (space : Space) (a n : ℕ) (value : Option ℕ) → n ≡ 1 → value ≡ value_at space a → shown (value_list value) ≡ shown (values_between space a n)

@@ -2,7 +2,7 @@
 use Rattle.std.specs.Prelude.{ℕ, List, [], ◌∷◌, ◌++◌, Option, None, Some, Result, Ok, decimal}
 use Rattle.std.specs.List.{filter_map, flat_map, range_with_len}
 use Rattle.script_words.specs.Printing.{shown}
-use Rattle.address_space.specs.Source.{Space, ExecutableView, value_at}
+use Rattle.address_space.specs.Source.{Space, ExecutableView, value_at, Content, held, from_file, not_dumped, cut, unmapped}
 use Rattle.address_space.specs.Occurrence.{strings_of}
 use Rattle.memory_replies.specs.Memory.{memory_of}
 use Rattle.memory_replies.specs.Words.{hex_word}
@@ -15,6 +15,14 @@ values_between space a n = filter_map (value_at space) (range_with_len a n)
 abbrev pub value_list : Option ℕ → List ℕ
 value_list None = []
 value_list (Some x) = x ∷ []
+
+-- the bytes of addresses of one place, if they have any
+abbrev pub content_bytes : Content (List ℕ) → List ℕ
+content_bytes (held bytes) = bytes
+content_bytes (from_file bytes) = bytes
+content_bytes (not_dumped spot) = []
+content_bytes cut = []
+content_bytes unmapped = []
 
 -- `ADDR LENGTH TEXT`
 abbrev pub text_line : Space → ℕ × ℕ → List ℕ

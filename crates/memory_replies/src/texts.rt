@@ -1,11 +1,11 @@
 // The texts in memory.
-ghost use Rattle.std.specs.Prelude.{◌≡◌, ◌+◌, ◌-◌, ◌^◌, ◌≤◌, length, map};
+ghost use Rattle.std.specs.Prelude.{◌≡◌, ◌+◌, ◌-◌, ◌^◌, ◌≤◌, [], length, map};
 ghost use Rattle.std.specs.List.{flat_map};
 ghost use Rattle.script_streams.specs.Replies.{TellsReply, TellsText, reply_of, telling};
 ghost use Rattle.script_words.specs.Printing.{shown, shown_byte};
 ghost use Rattle.address_space.specs.Occurrence.{strings_of, text_len};
 ghost use Rattle.address_space.specs.Source.{value_of};
-ghost use Rattle.address_space.specs.SourceWords.{source_view};
+ghost use Rattle.address_space.specs.SourceWords.{kind_view, source_view};
 ghost use Rattle.address_space.specs.SpaceWords.{space_of};
 ghost use Rattle.image_replies.specs.CoreWords.{core_bytes};
 ghost use Rattle.memory_replies.specs.Answers.{Answers};
@@ -14,7 +14,7 @@ ghost use Rattle.memory_replies.specs.Texts as spec;
 
 use crate::attached::{Attached, space_with};
 use crate::words::tell_hex_word;
-use address_space::{AddressSpace, Source};
+use address_space::{AddressSpace, PieceKind, Source};
 use image_replies::CoreImage;
 use script_streams::{Output, Reply, tell_no, tell_ok};
 use std::alloc::Global;
@@ -32,16 +32,6 @@ fn value(source: Source<'_>) -> Option<u8>
     }
 }
 
-/// Tells how a value prints within a text.
-fn tell_value<O: Output>(reply: &mut Reply, output: &mut O, value: Option<u8>)
-    ensures { TellsText (telling O.Output output.old output.new reply.old reply.new)
-        (flat_map shown_byte (spec.value_list value)) }
-{
-    if let Some(byte) = value {
-        reply.tell_bytes(output, &[byte]);
-    }
-}
-
 /// Tells how a value prints as a text.
 fn tell_alone<O: Output>(reply: &mut Reply, output: &mut O, value: Option<u8>)
     ensures { TellsText (telling O.Output output.old output.new reply.old reply.new) (shown (spec.value_list value)) }
@@ -52,7 +42,39 @@ fn tell_alone<O: Output>(reply: &mut Reply, output: &mut O, value: Option<u8>)
     }
 }
 
-/// Tells how the values of addresses print, one behind the other.
+/// Tells how the bytes of a piece print, one behind the other.
+fn tell_piece<O: Output>(reply: &mut Reply, output: &mut O, kind: PieceKind<'_>)
+    ensures { TellsText (telling O.Output output.old output.new reply.old reply.new)
+        (flat_map shown_byte (spec.content_bytes (kind_view kind.entry))) }
+{
+    match kind {
+        PieceKind::Bytes(bytes) => reply.tell_bytes(output, bytes),
+        PieceKind::FromFile(bytes) => reply.tell_bytes(output, bytes),
+        PieceKind::NotDumped(_) => {}
+        PieceKind::Cut => {}
+        PieceKind::Unmapped => {}
+    }
+}
+
+/// Tells how the values of addresses print, one behind the other, where their number is one of 64 bits.
+#[tactic(auto, using(crate::proofs::TellLemmas::up_to_start))]
+fn tell_pieces<O: Output>(
+    reply: &mut Reply,
+    output: &mut O,
+    space: &AddressSpace<'_>,
+    start: u64,
+    count: u64,
+)
+    requires { start + count ≤ 2 ^ 64 }
+    ensures { TellsText (telling O.Output output.old output.new reply.old reply.new)
+        (flat_map shown_byte (spec.values_between (space_of space.now) start count)) }
+{
+    for piece in space.pieces(start, count) {
+        tell_piece(reply, output, piece.kind);
+    }
+}
+
+/// The same of any number: all addresses are 2^64, so they are told in two halves.
 fn tell_values<O: Output>(
     reply: &mut Reply,
     output: &mut O,
@@ -64,10 +86,10 @@ fn tell_values<O: Output>(
     ensures { TellsText (telling O.Output output.old output.new reply.old reply.new)
         (flat_map shown_byte (spec.values_between (space_of space.now) start count)) }
 {
-    for place in 0..count {
-        let source = space.at(start + place as u64);
-        tell_value(reply, output, value(source));
-    }
+    let half = (count / 2) as u64;
+    let others = (count - count / 2) as u64;
+    tell_pieces(reply, output, space, start, half);
+    tell_pieces(reply, output, space, start + half, others);
 }
 
 /// Tells how the values of addresses, each of which has one, print as a text.

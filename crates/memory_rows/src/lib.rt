@@ -11,3 +11,5 @@ mod refused;
 mod shown;
 #[cfg(test)]
 mod small;
+#[cfg(test)]
+mod told;

@@ -1,0 +1,16 @@
+use Rattle.std.proofs.Common.{ap}
+use Rattle.std.specs.List.{flat_map}
+use Rattle.memory_replies.proofs.TellLemmas.{tells_as, up_to_end, up_to_then}
+use Rattle.memory_replies.proofs.TextLemmas.{piece_text, shown_pieces}
+use Rattle.memory_replies.proofs.texts.tell_pieces.Goals as goal
+
+pub loop-piece-preserved : goal.loop-piece-preserved
+loop-piece-preserved g c = record {
+  can_next = tt;
+  is_finite = tt;
+  told = up_to_then _ _ _ _ _ _ _ _ _ _ _ _ _ (ap (flat_map piece_text) c.in-Some.ensures.steps) c.loop-piece.invariant.told c.tell_piece.ensures;
+}
+
+pub returns : goal.returns
+returns g c =
+    tells_as _ _ _ _ _ _ _ _ (shown_pieces _ _ _) (up_to_end _ _ _ _ _ _ _ _ (ap (flat_map piece_text) c.in-None.ensures.steps.0) c.loop-piece.invariant.told)

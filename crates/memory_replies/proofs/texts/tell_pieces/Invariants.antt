@@ -1,0 +1,15 @@
+use Rattle.std.specs.List.{flat_map}
+use Rattle.address_space.specs.PieceWords.{pieces_left}
+use Rattle.address_space.specs.Pieces.{pieces_of}
+use Rattle.address_space.specs.SpaceWords.{space_of}
+use Rattle.memory_replies.proofs.TellLemmas.{TellsUpTo}
+use Rattle.memory_replies.proofs.TextLemmas.{piece_text}
+use Rattle.memory_replies.proofs.texts.tell_pieces.Given as goal
+
+abbrev pub invariant-loop-piece : goal.invariant-loop-piece
+invariant-loop-piece g l = record {
+  can_next : (goal.iterator-loop-piece g).can_next l.piece-iterator;
+  is_finite : (goal.iterator-loop-piece g).is_finite l.piece-iterator;
+  told : TellsUpTo (g.O.Output.taken l.initial.output) (g.O.Output.taken l.output) (g.O.Output.failures l.initial.output) (g.O.Output.failures l.output) l.initial.reply l.reply
+      (flat_map piece_text (pieces_of (space_of l.space) l.start l.count)) (flat_map piece_text (pieces_left l.piece-iterator));
+}
