@@ -7,3 +7,5 @@ mod archives;
 mod images;
 #[cfg(test)]
 mod kinds;
+#[cfg(test)]
+mod memory;

@@ -61,12 +61,13 @@ pub(crate) fn named(template: &[u8], uses_pid: bool) -> Result<Naming, Fail> {
 
 // How a session ends: nothing else is said of it here, so that no proof has to carry it.
 pub(crate) fn session<I: Input, O: Output, D: Disk>(
+    alloc: Global,
     input: &mut I,
     output: &mut O,
     archive: &mut Archive<D>,
     naming: &Naming,
 ) -> Result<(), SessionFault> {
-    run_session(input, output, archive, naming)
+    run_session(alloc, input, output, archive, naming)
 }
 
 // What a session over this script writes, which ends well.
@@ -79,7 +80,7 @@ pub(crate) fn replies<D: Disk>(
     let mut text = Vec::new(alloc);
     let mut input = ReadInput::new(script);
     let mut output = WriteOutput::new(&mut text);
-    session(&mut input, &mut output, archive, naming)?;
+    session(alloc, &mut input, &mut output, archive, naming)?;
     Ok(String::from_utf8(text)?)
 }
 

@@ -69,7 +69,7 @@ fn over_broken<D: Disk>(
     let mut input = Broken { rest, failures: 0 };
     let mut text = Vec::new(rt.alloc());
     let mut output = WriteOutput::new(&mut text);
-    let ended = session(&mut input, &mut output, archive, &naming);
+    let ended = session(rt.alloc(), &mut input, &mut output, archive, &naming);
     assert_eq!(rt; ended, Err(SessionFault::ReadFailed));
     assert_eq!(rt; input.failures, 1);
     Ok(text)
@@ -98,7 +98,7 @@ fn over_narrow<D: Disk>(
         last: 0,
         failures: 0,
     };
-    let ended = session(&mut input, &mut output, archive, &naming);
+    let ended = session(rt.alloc(), &mut input, &mut output, archive, &naming);
     assert_eq!(rt; ended, Err(SessionFault::WriteFailed));
     assert_eq!(rt; output.failures, 1);
     assert_eq!(rt; output.last, last);
