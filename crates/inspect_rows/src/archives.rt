@@ -36,11 +36,7 @@ fn session<I: Input, O: Output, D: Disk>(
 }
 
 // What a session over this script writes, which ends well.
-fn told<D: Disk>(
-    alloc: Global,
-    archive: &mut Archive<D>,
-    script: &[u8],
-) -> Result<String, Fail> {
+fn told<D: Disk>(alloc: Global, archive: &mut Archive<D>, script: &[u8]) -> Result<String, Fail> {
     let naming = Naming {
         template: Template::parse(b"core.%e.%p")?,
         uses_pid: false,
@@ -82,7 +78,12 @@ pub(crate) fn stores<D: Disk>(
 // An archive whose first case is this core.
 pub(crate) fn with_core(alloc: Global, image: &[u8]) -> Result<Archive<MemDisk>, Fail> {
     let mut archive = fresh(alloc)?;
-    let _ = stores(alloc, &mut archive, "begin core 0 comm=demo pid=4242", image)?;
+    let _ = stores(
+        alloc,
+        &mut archive,
+        "begin core 0 comm=demo pid=4242",
+        image,
+    )?;
     Ok(archive)
 }
 

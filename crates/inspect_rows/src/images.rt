@@ -1,7 +1,7 @@
 // The lines that read headers and notes, over the sample images.
 use crate::archives::{core_tells, fresh, stores, tells, with_core};
 use elf_view::sample::{
-    LoadPart, NotePart, core_image, executable, file_core, stack_core, status, registers,
+    LoadPart, NotePart, core_image, executable, file_core, registers, stack_core, status,
 };
 use std::process::Abort;
 use std::test::Fail;
@@ -135,16 +135,36 @@ fn changed(alloc: std::alloc::Global, changes: &[(usize, u8)]) -> Result<Vec<u8>
 #[test]
 fn the_first_fault_of_a_header(rt: HostRuntime) -> Result<(), Fail> {
     let both = changed(rt.alloc(), &[(18, 62), (5, 2)])?;
-    core_tells(&rt, &both, "header 1\nregs 1 0\n", "no EI_DATA\nno EI_DATA\n")?;
+    core_tells(
+        &rt,
+        &both,
+        "header 1\nregs 1 0\n",
+        "no EI_DATA\nno EI_DATA\n",
+    )?;
     let machine = changed(rt.alloc(), &[(18, 62)])?;
-    core_tells(&rt, &machine, "header 1\nnotes 1\n", "no e_machine\nno e_machine\n")
+    core_tells(
+        &rt,
+        &machine,
+        "header 1\nnotes 1\n",
+        "no e_machine\nno e_machine\n",
+    )
 }
 
 #[test]
 fn cores_that_were_cut(rt: HostRuntime) -> Result<(), Fail> {
     let image = stack_core(rt.alloc())?;
-    core_tells(&rt, &image[..700], "header 1\nthreads 1\n", "no p_offset 0\nno p_offset 0\n")?;
-    core_tells(&rt, &image[..63], "header 1\nauxv 1\n", "no Length\nno Length\n")
+    core_tells(
+        &rt,
+        &image[..700],
+        "header 1\nthreads 1\n",
+        "no p_offset 0\nno p_offset 0\n",
+    )?;
+    core_tells(
+        &rt,
+        &image[..63],
+        "header 1\nauxv 1\n",
+        "no Length\nno Length\n",
+    )
 }
 
 #[test]

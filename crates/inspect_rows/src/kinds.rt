@@ -59,7 +59,12 @@ fn a_disk_that_fails_at_the_read(rt: HostRuntime) -> Result<(), Fail> {
     let before = calls(&rt, "list\n", "1 core 4824 4242 0 0 - core.demo.4242\nok\n")?;
     let disk = OneFault::new(stored(rt.alloc())?, before + 1);
     let mut archive = opened(rt.alloc(), disk)?;
-    tells(&rt, &mut archive, "header 1\nheader 1\nheader 2\n", "no Disk\nno Stopped\nno Stopped\n")
+    tells(
+        &rt,
+        &mut archive,
+        "header 1\nheader 1\nheader 2\n",
+        "no Disk\nno Stopped\nno Stopped\n",
+    )
 }
 
 #[test]

@@ -62,7 +62,11 @@ fn with_both(alloc: Global, exec: &[u8], core: &[u8]) -> Result<Archive<MemDisk>
 
 #[test]
 fn the_functions_of_frames(rt: HostRuntime) -> Result<(), Fail> {
-    let mut archive = with_both(rt.alloc(), &executable(rt.alloc())?, &file_core(rt.alloc())?)?;
+    let mut archive = with_both(
+        rt.alloc(),
+        &executable(rt.alloc())?,
+        &file_core(rt.alloc())?,
+    )?;
     tells(
         &rt,
         &mut archive,
