@@ -35,8 +35,7 @@ fn frames_are_told(rt: HostRuntime) -> Result<(), Fail> {
     let image = stack_core(rt.alloc())?;
     assert_eq!(rt;
         frames_of(rt.alloc(), &image, &[], 0)?.as_slice(),
-        b"0 0x10400 ? fp 0x7f40 ra 0x10500\n1 0x10500 ? fp 0x7f80\n2 0x10600 ? fp 0x0\nstop ZeroLink\nok\n"
-            .as_slice()
+        b"0 0x10400 ? fp 0x7f40 ra 0x10500\n1 0x10500 ? fp 0x7f80\n2 0x10600 ? fp 0x0\nstop ZeroLink\nok\n".as_slice()
     );
     assert_eq!(rt;
         frames_of(rt.alloc(), &image, &[], 1)?.as_slice(),
@@ -54,8 +53,7 @@ fn frames_are_told_with_their_functions(rt: HostRuntime) -> Result<(), Fail> {
     }];
     assert_eq!(rt;
         frames_of(rt.alloc(), &image, &attached, 0)?.as_slice(),
-        b"0 0x10400 main+0x0 fp 0x7f40 ra 0x10500\n1 0x10500 main+0x100 fp 0x7f80\n2 0x10600 big+0x300 fp 0x0\nstop ZeroLink\nok\n"
-            .as_slice()
+        b"0 0x10400 main+0x0 fp 0x7f40 ra 0x10500\n1 0x10500 main+0x100 fp 0x7f80\n2 0x10600 big+0x300 fp 0x0\nstop ZeroLink\nok\n".as_slice()
     );
     Ok(())
 }
@@ -70,8 +68,7 @@ fn a_faulty_executable_names_nothing(rt: HostRuntime) -> Result<(), Fail> {
     }];
     assert_eq!(rt;
         frames_of(rt.alloc(), &image, &attached, 0)?.as_slice(),
-        b"0 0x10400 ? fp 0x7f40 ra 0x10500\n1 0x10500 ? fp 0x7f80\n2 0x10600 ? fp 0x0\nstop ZeroLink\nok\n"
-            .as_slice()
+        b"0 0x10400 ? fp 0x7f40 ra 0x10500\n1 0x10500 ? fp 0x7f80\n2 0x10600 ? fp 0x0\nstop ZeroLink\nok\n".as_slice()
     );
     Ok(())
 }

@@ -1,5 +1,5 @@
 -- What is answered of a thread's frames.
-use Rattle.std.proofs.Common.{◌≡◌, ℕ, cond, Bool, List, [], ◌∷◌, ◌++◌, Option, None, Some, refl, sym, ap, ◌∙◌}
+use Rattle.std.proofs.Common.{◌≡◌, ℕ, cond, List, ◌++◌, Option, None, Some, ap, ◌∙◌}
 use Rattle.std.specs.Prelude.{codes, is_none, slice_get}
 use Rattle.std.specs.List.{flat_map}
 use Rattle.std.specs.Option.{option_map, option_or}

@@ -8,8 +8,8 @@ use Rattle.std.specs.Option.{option_map}
 use Rattle.elf_view.specs.Header.{SegmentView}
 use Rattle.elf_view.specs.Field.{part}
 use Rattle.core_notes.specs.FileList.{FileView}
-use Rattle.address_space.specs.Source.{Space, Place, nowhere, dumped, cut_off, unwritten, in_file, first_from, is_covering, is_mapping, span, decider, entry_at, placed, undumped, filed, place_at, executable_named, ExecutableView, spot_in, Content, content_by, value_of, value_at}
-use Rattle.address_space.specs.Pieces.{same_number, is_same, grown, stretches, PieceView, content_from, piece_of, is_same_at, pieces_of}
+use Rattle.address_space.specs.Source.{Space, Place, nowhere, dumped, cut_off, unwritten, in_file, first_from, is_covering, is_mapping, span, decider, entry_at, placed, undumped, filed, place_at, executable_named, ExecutableView, spot_in, content_by, value_of, value_at}
+use Rattle.address_space.specs.Pieces.{is_same, grown, stretches, PieceView, piece_of, is_same_at, pieces_of}
 use Rattle.memory_replies.specs.Texts.{content_bytes, value_list, values_between}
 use Rattle.memory_replies.proofs.ValueLemmas.{no_values, values_step}
 

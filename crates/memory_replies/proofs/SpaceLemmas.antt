@@ -13,7 +13,7 @@ use Rattle.core_notes.specs.FileList.{FileView}
 use Rattle.core_notes.specs.FileWords.{files_bytes}
 use Rattle.core_notes.specs.Typed.{first_desc}
 use Rattle.core_notes.specs.declared.file_list.Files.{Files}
-use Rattle.address_space.specs.Source.{Space, ExecutableView, with_executable}
+use Rattle.address_space.specs.Source.{Space, ExecutableView}
 use Rattle.address_space.specs.SpaceWords.{files_in, space_view}
 use Rattle.memory_replies.specs.Attaching.{with_attached}
 use Rattle.memory_replies.specs.Memory.{attached_view, files_by, is_attached, mapped_files, memory_of}

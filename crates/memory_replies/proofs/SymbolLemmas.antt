@@ -1,12 +1,10 @@
 -- What is answered of an executable's symbols.
-use Rattle.std.proofs.Common.{◌≡◌, ℕ, List, [], ◌∷◌, ◌++◌, Option, None, Some, refl, sym, ap, ◌∙◌}
+use Rattle.std.proofs.Common.{◌≡◌, ℕ, List, Option, None, Some, ap, ◌∙◌}
 use Rattle.std.specs.Option.{option_map, option_or}
 use Rattle.script_streams.specs.Replies.{no_reply, reply_of}
 use Rattle.elf_view.specs.Sound.{first_fault}
-use Rattle.elf_view.specs.ViewWords.{image_of}
 use Rattle.elf_view.specs.declared.faults.ElfFault.{ElfFault}
 use Rattle.elf_view.specs.declared.faults.Want.TheVariants.{Exec}
-use Rattle.elf_view.specs.declared.view.Elf.{Elf}
 use Rattle.symbols.specs.Entry.{functions_of}
 use Rattle.symbols.specs.Names.{SymbolView, symbol_in, symbol_named}
 use Rattle.symbols.specs.SymbolTable as table

@@ -1,5 +1,5 @@
 -- The values of addresses in a row.
-use Rattle.std.proofs.Common.{◌≡◌, ℕ, suc, ◌+◌, List, [], ◌∷◌, ◌++◌, Option, None, Some, refl, ap}
+use Rattle.std.proofs.Common.{◌≡◌, ℕ, suc, ◌+◌, List, [], ◌++◌, Option, None, Some, refl, ap}
 use Rattle.std.specs.List.{cons_option, filter_map, range_with_len}
 use Rattle.address_space.specs.Source.{Space, value_at}
 use Rattle.memory_replies.specs.Texts.{value_list, values_between}

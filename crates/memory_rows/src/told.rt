@@ -93,11 +93,23 @@ fn a_range_ends_with_the_address_space(rt: HostRuntime) -> Result<(), Fail> {
     let last = load(4, 0xffff_ffff_ffff_fff0, &[1; 16]);
     let image = core_image(rt.alloc(), &[], &[last])?;
     assert_eq!(rt;
-        reply_to(rt.alloc(), &image, &[], Asked::Dump(0xffff_ffff_ffff_fff0, 16))?.as_slice(),
+        reply_to(
+            rt.alloc(),
+            &image,
+            &[],
+            Asked::Dump(0xffff_ffff_ffff_fff0, 16)
+        )?
+        .as_slice(),
         b"0xfffffffffffffff0 01010101010101010101010101010101\nok\n".as_slice()
     );
     assert_eq!(rt;
-        reply_to(rt.alloc(), &image, &[], Asked::Dump(0xffff_ffff_ffff_fff0, 17))?.as_slice(),
+        reply_to(
+            rt.alloc(),
+            &image,
+            &[],
+            Asked::Dump(0xffff_ffff_ffff_fff0, 17)
+        )?
+        .as_slice(),
         b"no Range\n".as_slice()
     );
     Ok(())

@@ -1,4 +1,4 @@
-use Rattle.std.proofs.Common.{sym, refl, inl, inr}
+use Rattle.std.proofs.Common.{refl, inl, inr}
 use Rattle.memory_replies.proofs.AnswerLemmas.{matches_shown}
 use Rattle.memory_replies.proofs.TellLemmas.{tells_then}
 use Rattle.memory_replies.proofs.search.tell_find.Goals as goal

@@ -1,4 +1,4 @@
-use Rattle.std.proofs.Common.{refl, sym, ap, ◌∙◌, inl, inr}
+use Rattle.std.proofs.Common.{refl, sym, inl, inr}
 use Rattle.memory_replies.proofs.SymbolLemmas.{elf_told, fault_is, table_told, named_is, found_told}
 use Rattle.memory_replies.proofs.symbol.tell_symbol.Goals as goal
 

@@ -1,4 +1,4 @@
-use Rattle.std.proofs.Common.{◌≡◌, ◌≤◌, ℕ, ◌+◌, ◌-◌, ◌^◌, length, sym, subst, arith}
+use Rattle.std.proofs.Common.{◌≡◌, ℕ, ◌-◌, ◌^◌, length, sym, subst, arith}
 use Rattle.address_space.specs.SpaceWords.{space_of}
 use Rattle.memory_replies.specs.Texts.{values_between}
 use Rattle.memory_replies.proofs.TellLemmas.{tells_then}
