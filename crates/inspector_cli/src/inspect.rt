@@ -45,7 +45,15 @@ pub(crate) fn answer_query<O: Output, D: Disk>(
     };
     match see_image(seq, images.kept.take(), archive) {
         Ok(seen) => {
-            answer_seen(images.alloc, kind, query, &seen.image, reply, output, archive);
+            answer_seen(
+                images.alloc,
+                kind,
+                query,
+                &seen.image,
+                reply,
+                output,
+                archive,
+            );
             images.kept = Some(seen);
         }
         Err(fault) => tell_no(reply, output, reason(fault)),
@@ -53,11 +61,7 @@ pub(crate) fn answer_query<O: Output, D: Disk>(
 }
 
 // The kind of the case that a line asks, or the reason why it shows nothing.
-fn kind_asked<D: Disk>(
-    seq: u32,
-    query: &Query,
-    archive: &Archive<D>,
-) -> Result<Kind, &'static [u8]>
+fn kind_asked<D: Disk>(seq: u32, query: &Query, archive: &Archive<D>) -> Result<Kind, &'static [u8]>
     ensures asked { asked_view result ≡ kind_asked (bare_of archive.now) seq (query_of query.now) }
     ensures runs { IfOk result (λ kind. archive.now.stopped ≡ false) }
 {
@@ -161,12 +165,7 @@ fn tell_image<O: Output>(
 }
 
 // Tells the mappings of a core.
-fn tell_mappings<O: Output>(
-    alloc: Global,
-    image: &[u8],
-    reply: &mut Reply,
-    output: &mut O,
-)
+fn tell_mappings<O: Output>(alloc: Global, image: &[u8], reply: &mut Reply, output: &mut O)
     ensures { (kind : Kind) → TellsText (telling O.Output output.old output.new reply.old reply.new) (reply_of (answer_of kind ask_maps image.now [])) }
 {
     match CoreImage::read(image) {

@@ -91,7 +91,14 @@ fn tell_memory<O: Output>(
             tell_dump(alloc, reply, output, core, attached, *first, *length)
         }
         MemoryQuery::Find { needle } => {
-            tell_find(alloc, reply, output, core, attached, needle.bytes.as_slice())
+            tell_find(
+                alloc,
+                reply,
+                output,
+                core,
+                attached,
+                needle.bytes.as_slice(),
+            )
         }
         MemoryQuery::Strings { least } => {
             tell_strings(alloc, reply, output, core, attached, *least)

@@ -33,7 +33,15 @@ pub fn run_session<I: Input, O: Output, D: Disk>(
     found_after_a_stop::<D>();
     let mut buffer = ScriptBuffer::new();
     let mut reply = Reply::new();
-    let answered = answer_script(alloc, &mut buffer, input, &mut reply, output, archive, naming);
+    let answered = answer_script(
+        alloc,
+        &mut buffer,
+        input,
+        &mut reply,
+        output,
+        archive,
+        naming,
+    );
     close_streams(archive);
     let Ok(()) = reply.finish(output) else {
         return Err(SessionFault::WriteFailed);

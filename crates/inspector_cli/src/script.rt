@@ -19,8 +19,8 @@ use crate::telling::tell_outcome;
 use disk_model::Disk;
 use intake::{Archive, calls_lead_from_mark_to_mark};
 use script_lines::{Command, parse_line};
-use std::alloc::Global;
 use script_streams::{Input, KeptLine, LineEnding, Output, ReadStop, Reply, ScriptBuffer, tell_no};
+use std::alloc::Global;
 
 /// Why a script was not answered to its end.
 #[derive(Clone, Copy)]
@@ -102,8 +102,7 @@ fn answer_command<I: Input, O: Output, D: Disk>(
     }
     match ending {
         LineEnding::Newline => {
-            let goes_on =
-                answer_line(line, images, buffer, input, reply, output, archive, naming)?;
+            let goes_on = answer_line(line, images, buffer, input, reply, output, archive, naming)?;
             Ok(goes_on)
         }
         LineEnding::EndOfInput => {
