@@ -22,6 +22,8 @@ pub record SeesImage {D : Type 0} (g : disk.Ghosts D) (old : Parts D) (seq : ℕ
   pub own : AreOfCase g old seq image
   pub state : bare_of new ≡ bare_of old
   pub contents : IsTrue (g.is_honest old.disk) → contents_of g.seen new ≡ contents_of g.seen old
+  -- no byte of the disk is written
+  pub quiet : IsQuiet g old.disk new.disk
   pub stays : Stays g old new
 
 -- it is seen, or why it can't be read
