@@ -1,8 +1,8 @@
 // The lines over memory, frames and symbols, with the stored executables that a core names.
 use crate::archives::{core_tells, fresh, stores, tells};
-use disk_model::{Disk, Fuse, MemDisk, OneFault};
+use disk_model::{Disk, MemDisk};
 use elf_view::sample::{LoadPart, core_image, executable, file_core, mapped_core, stack_core};
-use intake::{Archive, Settings};
+use intake::Archive;
 use std::alloc::Global;
 use std::process::Abort;
 use std::test::Fail;
@@ -99,35 +99,5 @@ fn an_executable_that_is_none_is_passed_over(rt: HostRuntime) -> Result<(), Fail
         &mut archive,
         "dump 2 0x10000 4\nbt 2 0\n",
         "0x10000 notdumped 0x4 0x0 /bin/cat\nok\n0 0x10400 ? fp 0x7f40 ra 0x10500\n1 0x10500 ? fp 0x7f80\n2 0x10600 ? fp 0x0\nstop ZeroLink\nok\n",
-    )
-}
-
-fn opened<D: Disk + Drop>(alloc: Global, disk: D) -> Result<Archive<D>, Fail> {
-    match Archive::open(alloc, disk, Settings { limit: 1 << 30 }) {
-        Ok(archive) => Ok(archive),
-        Err((fault, _)) => Err(fault)?,
-    }
-}
-
-// How many calls a disk with an executable and a core that maps it gets from an opening and a session over these lines.
-fn calls(rt: &(impl AllocGlobal + Abort), lines: &str, wanted: &str) -> Result<u64, Fail> {
-    let archive = mapped(rt.alloc(), &executable(rt.alloc())?)?;
-    let mut archive = opened(rt.alloc(), Fuse::new(archive.close(), u64::MAX))?;
-    tells(rt, &mut archive, lines, wanted)?;
-    Ok(archive.close().calls())
-}
-
-#[test]
-fn a_disk_that_fails_at_an_executable(rt: HostRuntime) -> Result<(), Fail> {
-    let alone = calls(&rt, "threads 2\n", "0 4242 11 0x10400\nok\n")?;
-    let beside = calls(&rt, "dump 2 0x10000 1\n", "0x10000 file 7f\nok\n")?;
-    assert!(&rt; alone < beside);
-    let archive = mapped(rt.alloc(), &executable(rt.alloc())?)?;
-    let mut archive = opened(rt.alloc(), OneFault::new(archive.close(), beside))?;
-    tells(
-        &rt,
-        &mut archive,
-        "dump 2 0x10000 1\nthreads 2\n",
-        "no Disk\nno Stopped\n",
     )
 }
