@@ -3,7 +3,6 @@ pub mod EntryLemmas
 pub mod FormatLemmas
 pub mod OpenLemmas
 pub mod PublishLemmas
-pub mod RecordLemmas
 pub mod SeqLemmas
 pub mod StandLemmas
 pub mod ViewLemmas

@@ -17,7 +17,7 @@ use Rattle.journal_layout.specs.Live.{AreLive}
 use Rattle.journal_layout.specs.LiveLaws.{stands_live}
 use Rattle.journal_layout.specs.Standing.{Standing}
 use Rattle.journal_layout.specs.Stands.{AreRead, AreFaulty, Stands, records_start, records_area}
-use Rattle.journal_replay.specs.Said.{TellsFaulty}
+use Rattle.journal_records.specs.Said.{TellsFaulty}
 use Rattle.case_journal.specs.declared.front.ArchiveFront.{ArchiveFront}
 use Rattle.case_journal.specs.Journaled.{Journaled}
 use Rattle.case_journal.specs.Keeping.{Keeps}

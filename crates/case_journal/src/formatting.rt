@@ -10,10 +10,10 @@ ghost use Rattle.journal_layout.specs.Standing.{fresh};
 
 use crate::FormatFault;
 use crate::front::{MAGIC, VERSION, is_shape_of};
-use crate::record::GATE_OPEN;
 use byteorder::{ByteOrder, LittleEndian};
 use disk_model::{Disk, DiskFault, write_stable};
 use journal_layout::{BLOCK, Half, Shape};
+use journal_records::GATE_OPEN;
 
 // The superblock's bytes that are looked at, its gate closed.
 #[tactic(auto, unfolding(journal_layout::specs::Layout::superblock, journal_layout::specs::Layout::number_bytes))]

@@ -5,10 +5,10 @@ ghost use Rattle.journal_layout.specs.Layout.{disk_length, IsWithinLimits};
 ghost use Rattle.journal_layout.specs.Front.{is_archive, shape_at, is_shape_of, shape_opening, header_at, generation_fault, taken_half};
 ghost use Rattle.case_journal.specs.Viewing.{IsView, Shows, ShowsHeader, ShowsHeaders, ShowsShape, ShowsFront, IsQuiet, FrontIs, header_of};
 
-use crate::record::GATE_OPEN;
 use byteorder::{ByteOrder, LittleEndian};
 use disk_model::Disk;
 use journal_layout::{BLOCK, Field, Half, OpenFault, Shape};
+use journal_records::GATE_OPEN;
 
 /// The layout's name.
 pub(crate) const MAGIC: &[u8; 8] = b"COREKEEP";

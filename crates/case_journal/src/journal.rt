@@ -19,9 +19,9 @@ ghost use Rattle.case_journal.specs.Putting.{IsPut, MayBegin};
 
 use crate::JournalFault;
 use crate::publish::publish;
-use crate::record::{PIN_SIZE, drop_record, drop_size, pin_record, store_record, store_size};
 use disk_model::{Disk, DiskFault};
 use journal_layout::{Entry, Half, Shape};
+use journal_records::{PIN_SIZE, drop_record, drop_size, pin_record, store_record, store_size};
 use std::alloc::{AllocError, Global};
 use std::marker::Model;
 

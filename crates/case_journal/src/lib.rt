@@ -9,7 +9,6 @@ mod journal;
 mod laws;
 mod open;
 mod publish;
-mod record;
 
 pub use faults::{FormatFault, JournalFault};
 pub use formatting::format;

@@ -13,7 +13,7 @@ use crate::Journal;
 use crate::front::{ArchiveFront, read_front, read_part};
 use disk_model::Disk;
 use journal_layout::OpenFault;
-use journal_replay::replay;
+use journal_records::replay;
 use std::alloc::Global;
 
 // The bytes of a half's header.

@@ -8,8 +8,8 @@ ghost use Rattle.journal_layout.specs.Standing.{Standing, appended};
 ghost use Rattle.journal_layout.specs.Stands.{Stands};
 ghost use Rattle.case_journal.specs.Publishing.{Publishes};
 
-use crate::record::GATE_OPEN;
 use disk_model::{Disk, DiskFault, write_stable};
+use journal_records::GATE_OPEN;
 
 /// Publishes a record whose closed gate stands at `gate`: writes what stands behind the gate and makes it stable, and
 /// then opens the gate by a write of its own. On an honest disk a crash at any moment leaves what stands for the cases

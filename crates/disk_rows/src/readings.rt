@@ -1,6 +1,6 @@
 //! What the records of a journal half say, and readings of records byte by byte.
 use journal_layout::{Field, Kind, OpenFault};
-use journal_replay::{Replayed, replay};
+use journal_records::{Replayed, replay};
 use std::process::Abort;
 use std::test::Fail;
 

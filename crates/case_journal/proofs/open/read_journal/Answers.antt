@@ -2,7 +2,7 @@ use Rattle.std.proofs.Common.{◌+◌, ℕ, List, ap, refl, subst}
 use Rattle.std.proofs.lemmas.Result.{err_from_is_err_and}
 use Rattle.journal_layout.specs.Folding.{nothing_yet}
 use Rattle.journal_layout.specs.Stands.{AreRead}
-use Rattle.journal_replay.specs.Said.{said_of, TellsFaulty}
+use Rattle.journal_records.specs.Said.{said_of, TellsFaulty}
 use Rattle.case_journal.proofs.OpenLemmas.{both_shown, faulty_gives, read_gives}
 use Rattle.case_journal.proofs.open.read_journal.Goals as goal
 

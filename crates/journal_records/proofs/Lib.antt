@@ -1,0 +1,11 @@
+pub mod AlongLemmas
+pub mod ByteLemmas
+pub mod DropLemmas
+pub mod FaultLemmas
+pub mod KeptLemmas
+pub mod LiveLemmas
+pub mod NameLemmas
+pub mod RunLemmas
+pub mod SaysLemmas
+pub mod SpellingLemmas
+pub mod StoreLemmas

@@ -1,0 +1,206 @@
+-- Laws of entries kept under their numbers.
+use Rattle.std.proofs.Common.{◌≡◌, inl, inr, ℕ, ◌+◌, ◌<◌, ◌≤◌, Bool, true, false, not, ◌||◌, cond, List, [], ◌∷◌, ◌++◌, map, Option, Some, None, refl, sym, ap, ◌∙◌, arith, nat_eq}
+use Rattle.std.specs.Option.{option_map, is_some, is_none}
+use Rattle.std.specs.Ordering.{nat_cmp, is_eq, match_ordering}
+use Rattle.std.specs.declared.cmp.Ordering.{Ordering}
+use Rattle.std.specs.declared.cmp.Ordering.TheVariants.{Less, Equal, Greater}
+use Rattle.std.specs.Cmp.{nat_cmp_is}
+use Rattle.std.specs.BTreeMap.{is_at, insert_entry}
+use Rattle.std.specs.Map.{lookup, remove_entry, set_value, values_of}
+use Rattle.std.proofs.lemmas.Bool.{cases_lt, cases_eq, eq-eqb, ne_eqb}
+use Rattle.journal_layout.specs.declared.entry.Entry.{Entry}
+use Rattle.journal_layout.specs.Case.{Case, case_of}
+use Rattle.journal_layout.specs.Folding.{is_among, dropped, with_pin}
+use Rattle.journal_layout.specs.Soundness.{case_numbered}
+use Rattle.journal_records.specs.Live.{cases_of, AreNumbered, with_flag, pinned_in}
+
+-- the test by which a number is looked up
+pub test_same : (s k : ℕ) → k ≡ s → is_eq (nat_cmp s k) ≡ true
+test_same s k same = ap is_eq (sym (nat_cmp_is s k Equal (sym same)))
+
+pub test_other : (s k : ℕ) → (k ≡ s → ⊥) → is_eq (nat_cmp s k) ≡ false
+test_other s k other =
+    elim (cases_lt s k) as (λ _. is_eq (nat_cmp s k) ≡ false) [
+      | inl below ↦ ap is_eq (sym (nat_cmp_is s k Less below))
+      | inr from ↦ (let above : k < s = omega arith in ap is_eq (sym (nat_cmp_is s k Greater above)))
+    ]
+
+pub cases_append : (xs ys : List (ℕ × Entry)) → cases_of (xs ++ ys) ≡ cases_of xs ++ cases_of ys
+cases_append [] ys = refl
+cases_append (e ∷ xs) ys = ap (λ (cs : List Case). case_of e.1 ∷ cs) (cases_append xs ys)
+
+-- a number below all of them is that of no entry
+pub numbered_none : (low high s : ℕ) (es : List (ℕ × Entry)) → AreNumbered low high es → s < low → case_numbered s (cases_of es) ≡ None
+numbered_none low high s [] are below = refl
+numbered_none low high s (e ∷ es) are below =
+    let number : e.1.seq ≡ e.0 = are.1 in
+    let other : e.1.seq ≡ s → ⊥ = λ same. absurd (omega arith) in
+    rw (ne_eqb e.1.seq s other) (numbered_none (e.0 + 1) high s es are.2 (omega arith))
+
+-- the case of a number is what the entry under it says
+pub numbered_found : (low high s : ℕ) (es : List (ℕ × Entry)) → AreNumbered low high es → case_numbered s (cases_of es) ≡ option_map case_of (lookup (is_at (nat_cmp s)) es)
+numbered_found low high s [] are = refl
+numbered_found low high s (e ∷ es) are =
+    let number : e.1.seq ≡ e.0 = are.1 in
+    elim (cases_eq e.0 s) as (λ _. case_numbered s (cases_of (e ∷ es)) ≡ option_map case_of (lookup (is_at (nat_cmp s)) (e ∷ es))) [
+      | inl same ↦ rw (test_same s e.0 same, eq-eqb e.1.seq s (number ∙ same)) refl
+      | inr other ↦ rw (test_other s e.0 other, ne_eqb e.1.seq s (λ f. other (sym number ∙ f))) (numbered_found (e.0 + 1) high s es are.2)
+    ]
+
+-- the numbers end behind where they begin
+pub numbered_ends : (low high : ℕ) (es : List (ℕ × Entry)) → AreNumbered low high es → low ≤ high
+numbered_ends low high [] are = are
+numbered_ends low high (e ∷ es) are = (let rest = numbered_ends (e.0 + 1) high es are.2 in let first : low ≤ e.0 = are.0 in omega arith)
+
+-- a number above all of them comes last
+pub insert_last : (low high k : ℕ) (v : Entry) (es : List (ℕ × Entry)) → AreNumbered low high es → high ≤ k → insert_entry nat_cmp es k v ≡ es ++ (k, v) ∷ []
+insert_last low high k v [] are above = refl
+insert_last low high k v (e ∷ es) are above =
+    let rest = numbered_ends (e.0 + 1) high es are.2 in
+    let past : e.0 < k = omega arith in
+    ap (λ (o : Ordering). match_ordering o ((k, v) ∷ e ∷ es) ((e.0, v) ∷ es) (e ∷ insert_entry nat_cmp es k v)) (sym (nat_cmp_is k e.0 Greater past))
+    ∙ ap (λ (xs : List (ℕ × Entry)). e ∷ xs) (insert_last (e.0 + 1) high k v es are.2 above)
+
+pub numbered_push : (low high k : ℕ) (v : Entry) (es : List (ℕ × Entry)) → AreNumbered low high es → high ≤ k → v.seq ≡ k → AreNumbered low (k + 1) (es ++ (k, v) ∷ [])
+numbered_push low high k v [] are above number = (omega arith, number, omega arith)
+numbered_push low high k v (e ∷ es) are above number = (are.0, are.1, numbered_push (e.0 + 1) high k v es are.2 above number)
+
+pub numbered_up : (low high more : ℕ) (es : List (ℕ × Entry)) → high ≤ more → AreNumbered low high es → AreNumbered low more es
+numbered_up low high more [] up are = (let a : low ≤ high = are in omega arith)
+numbered_up low high more (e ∷ es) up are = (are.0, are.1, numbered_up (e.0 + 1) high more es up are.2)
+
+numbered_down : (less low high : ℕ) (es : List (ℕ × Entry)) → less ≤ low → AreNumbered low high es → AreNumbered less high es
+numbered_down less low high [] down are = (let a : low ≤ high = are in omega arith)
+numbered_down less low high (e ∷ es) down are = (let a : low ≤ e.0 = are.0 in omega arith, are.1, are.2)
+
+-- without an entry the rest is numbered
+pub numbered_removed : (low high s : ℕ) (es : List (ℕ × Entry)) → AreNumbered low high es → AreNumbered low high (remove_entry (is_at (nat_cmp s)) es)
+numbered_removed low high s [] are = are
+numbered_removed low high s (e ∷ es) are =
+    elim (is_at (nat_cmp s) e.0) as (λ t. AreNumbered low high (cond t es (e ∷ remove_entry (is_at (nat_cmp s)) es))) [
+      | true ↦ (let a : low ≤ e.0 = are.0 in numbered_down low (e.0 + 1) high es (omega arith) are.2)
+      | false ↦ (are.0, are.1, numbered_removed (e.0 + 1) high s es are.2)
+    ]
+
+-- no case has a number below all of them
+pub dropped_none : (low high s : ℕ) (es : List (ℕ × Entry)) → AreNumbered low high es → s < low → dropped (s ∷ []) (cases_of es) ≡ cases_of es
+dropped_none low high s [] are below = refl
+dropped_none low high s (e ∷ es) are below =
+    let a : low ≤ e.0 = are.0 in
+    let number : e.1.seq ≡ e.0 = are.1 in
+    let other : e.1.seq ≡ s → ⊥ = λ same. absurd (omega arith) in
+    ap (λ t. cond (not (t || false)) (case_of e.1 ∷ dropped (s ∷ []) (cases_of es)) (dropped (s ∷ []) (cases_of es))) (ne_eqb e.1.seq s other)
+    ∙ ap (λ (cs : List Case). case_of e.1 ∷ cs) (dropped_none (e.0 + 1) high s es are.2 (omega arith))
+
+-- without the entry of a number the others are what a Drop of that number leaves
+pub dropped_removed : (low high s : ℕ) (es : List (ℕ × Entry)) → AreNumbered low high es → cases_of (remove_entry (is_at (nat_cmp s)) es) ≡ dropped (s ∷ []) (cases_of es)
+dropped_removed low high s [] are = refl
+dropped_removed low high s (e ∷ es) are =
+    let number : e.1.seq ≡ e.0 = are.1 in
+    elim (cases_eq e.0 s) as (λ _. cases_of (remove_entry (is_at (nat_cmp s)) (e ∷ es)) ≡ dropped (s ∷ []) (cases_of (e ∷ es))) [
+      | inl same ↦
+          ap (λ t. cases_of (cond t es (e ∷ remove_entry (is_at (nat_cmp s)) es))) (test_same s e.0 same)
+          ∙ sym (dropped_none (e.0 + 1) high s es are.2 (omega arith))
+          ∙ ap (λ t. cond (not (t || false)) (case_of e.1 ∷ dropped (s ∷ []) (cases_of es)) (dropped (s ∷ []) (cases_of es))) (sym (eq-eqb e.1.seq s (number ∙ same)))
+      | inr other ↦
+          ap (λ t. cases_of (cond t es (e ∷ remove_entry (is_at (nat_cmp s)) es))) (test_other s e.0 other)
+          ∙ ap (λ (cs : List Case). case_of e.1 ∷ cs) (dropped_removed (e.0 + 1) high s es are.2)
+          ∙ ap (λ t. cond (not (t || false)) (case_of e.1 ∷ dropped (s ∷ []) (cases_of es)) (dropped (s ∷ []) (cases_of es))) (sym (ne_eqb e.1.seq s (λ f. other (sym number ∙ f))))
+    ]
+
+-- where no entry has a number, a Drop of it leaves all
+pub remove_none : (test : ℕ → Bool) (es : List (ℕ × Entry)) → lookup test es ≡ None → remove_entry test es ≡ es
+remove_none test [] none = refl
+remove_none test (e ∷ es) none =
+    elim (test e.0) as (λ t. cond t (Some e.1) (lookup test es) ≡ None → cond t es (e ∷ remove_entry test es) ≡ e ∷ es) [
+      | true ↦ λ (h : Some e.1 ≡ None). absurd (cc)
+      | false ↦ λ h. ap (λ (xs : List (ℕ × Entry)). e ∷ xs) (remove_none test es h)
+    ] none
+
+-- Drops of several numbers.
+pub dropped_empty : (cs : List Case) → dropped [] cs ≡ cs
+dropped_empty [] = refl
+dropped_empty (c ∷ cs) = ap (λ (ds : List Case). c ∷ ds) (dropped_empty cs)
+
+pub dropped_more : (s : ℕ) (more : List ℕ) (cs : List Case) → dropped (s ∷ more) cs ≡ dropped more (dropped (s ∷ []) cs)
+dropped_more s more [] = refl
+dropped_more s more (c ∷ cs) =
+    elim (nat_eq c.seq s) as (λ t. cond (not (t || is_among more c.seq)) (c ∷ dropped (s ∷ more) cs) (dropped (s ∷ more) cs)
+    ≡ dropped more (cond (not (t || false)) (c ∷ dropped (s ∷ []) cs) (dropped (s ∷ []) cs))) [
+      | true ↦ dropped_more s more cs
+      | false ↦ ap (λ (ds : List Case). cond (not (is_among more c.seq)) (c ∷ ds) ds) (dropped_more s more cs)
+    ]
+
+-- the entry of a number, with its flag set
+pub set_pinned : (s : ℕ) (flag : Bool) (found : Entry) (es : List (ℕ × Entry)) → Some found ≡ lookup (is_at (nat_cmp s)) es → set_value (is_at (nat_cmp s)) es (with_flag flag found) ≡ pinned_in s flag es
+set_pinned s flag found [] is = absurd (cc)
+set_pinned s flag found (e ∷ es) is =
+    elim (cases_eq e.0 s) as (λ _. set_value (is_at (nat_cmp s)) (e ∷ es) (with_flag flag found) ≡ pinned_in s flag (e ∷ es)) [
+      | inl same ↦ (
+          let here : Some found ≡ Some e.1 = is ∙ ap (λ t. cond t (Some e.1) (lookup (is_at (nat_cmp s)) es)) (test_same s e.0 same) in
+          let one : found ≡ e.1 = cc in
+          ap (λ t. cond t ((e.0, with_flag flag found) ∷ es) (e ∷ set_value (is_at (nat_cmp s)) es (with_flag flag found))) (test_same s e.0 same)
+          ∙ ap (λ (v : Entry). (e.0, with_flag flag v) ∷ es) one
+          ∙ ap (λ t. cond t ((e.0, with_flag flag e.1) ∷ es) (e ∷ pinned_in s flag es)) (sym (eq-eqb e.0 s same)))
+      | inr other ↦ (
+          let later : Some found ≡ lookup (is_at (nat_cmp s)) es = is ∙ ap (λ t. cond t (Some e.1) (lookup (is_at (nat_cmp s)) es)) (test_other s e.0 other) in
+          ap (λ t. cond t ((e.0, with_flag flag found) ∷ es) (e ∷ set_value (is_at (nat_cmp s)) es (with_flag flag found))) (test_other s e.0 other)
+          ∙ ap (λ (xs : List (ℕ × Entry)). e ∷ xs) (set_pinned s flag found es later)
+          ∙ ap (λ t. cond t ((e.0, with_flag flag e.1) ∷ es) (e ∷ pinned_in s flag es)) (sym (ne_eqb e.0 s other)))
+    ]
+
+pub pinned_missing : (s : ℕ) (flag : Bool) (es : List (ℕ × Entry)) → None ≡ lookup (is_at (nat_cmp s)) es → pinned_in s flag es ≡ es
+pinned_missing s flag [] is = refl
+pinned_missing s flag (e ∷ es) is =
+    elim (cases_eq e.0 s) as (λ _. pinned_in s flag (e ∷ es) ≡ e ∷ es) [
+      | inl same ↦ (
+          let nothing : Option Entry = None in
+          let here : nothing ≡ Some e.1 = is ∙ ap (λ t. cond t (Some e.1) (lookup (is_at (nat_cmp s)) es)) (test_same s e.0 same) in
+          absurd (cc))
+      | inr other ↦ (
+          let later : None ≡ lookup (is_at (nat_cmp s)) es = is ∙ ap (λ t. cond t (Some e.1) (lookup (is_at (nat_cmp s)) es)) (test_other s e.0 other) in
+          ap (λ t. cond t ((e.0, with_flag flag e.1) ∷ es) (e ∷ pinned_in s flag es)) (ne_eqb e.0 s other)
+          ∙ ap (λ (xs : List (ℕ × Entry)). e ∷ xs) (pinned_missing s flag es later))
+    ]
+
+pub numbered_pinned : (low high s : ℕ) (flag : Bool) (es : List (ℕ × Entry)) → AreNumbered low high es → AreNumbered low high (pinned_in s flag es)
+numbered_pinned low high s flag [] are = are
+numbered_pinned low high s flag (e ∷ es) are =
+    elim (nat_eq e.0 s) as (λ t. AreNumbered low high (cond t ((e.0, with_flag flag e.1) ∷ es) (e ∷ pinned_in s flag es))) [
+      | true ↦ are
+      | false ↦ (are.0, are.1, numbered_pinned (e.0 + 1) high s flag es are.2)
+    ]
+
+with_pin_none : (low high s : ℕ) (flag : Bool) (es : List (ℕ × Entry)) → AreNumbered low high es → s < low → with_pin s flag (cases_of es) ≡ cases_of es
+with_pin_none low high s flag [] are below = refl
+with_pin_none low high s flag (e ∷ es) are below =
+    let a : low ≤ e.0 = are.0 in
+    let number : e.1.seq ≡ e.0 = are.1 in
+    let other : e.1.seq ≡ s → ⊥ = λ same. absurd (omega arith) in
+    ap (λ t. cond t (case_of (with_flag flag e.1)) (case_of e.1) ∷ with_pin s flag (cases_of es)) (ne_eqb e.1.seq s other)
+    ∙ ap (λ (cs : List Case). case_of e.1 ∷ cs) (with_pin_none (e.0 + 1) high s flag es are.2 (omega arith))
+
+-- the entries then say what the cases say once one is pinned
+pub pinned_cases : (low high s : ℕ) (flag : Bool) (es : List (ℕ × Entry)) → AreNumbered low high es → cases_of (pinned_in s flag es) ≡ with_pin s flag (cases_of es)
+pinned_cases low high s flag [] are = refl
+pinned_cases low high s flag (e ∷ es) are =
+    let number : e.1.seq ≡ e.0 = are.1 in
+    elim (cases_eq e.0 s) as (λ _. cases_of (pinned_in s flag (e ∷ es)) ≡ with_pin s flag (cases_of (e ∷ es))) [
+      | inl same ↦
+          ap (λ t. cases_of (cond t ((e.0, with_flag flag e.1) ∷ es) (e ∷ pinned_in s flag es))) (eq-eqb e.0 s same)
+          ∙ ap (λ (cs : List Case). case_of (with_flag flag e.1) ∷ cs) (sym (with_pin_none (e.0 + 1) high s flag es are.2 (omega arith)))
+          ∙ ap (λ t. cond t (case_of (with_flag flag e.1)) (case_of e.1) ∷ with_pin s flag (cases_of es)) (sym (eq-eqb e.1.seq s (number ∙ same)))
+      | inr other ↦
+          ap (λ t. cases_of (cond t ((e.0, with_flag flag e.1) ∷ es) (e ∷ pinned_in s flag es))) (ne_eqb e.0 s other)
+          ∙ ap (λ (cs : List Case). case_of e.1 ∷ cs) (pinned_cases (e.0 + 1) high s flag es are.2)
+          ∙ ap (λ t. cond t (case_of (with_flag flag e.1)) (case_of e.1) ∷ with_pin s flag (cases_of es)) (sym (ne_eqb e.1.seq s (λ f. other (sym number ∙ f))))
+    ]
+
+pub missing_is : (found : Option Entry) → not (is_some found) ≡ is_none (option_map case_of found)
+missing_is None = refl
+missing_is (Some e) = refl
+
+-- what the entries say is what their values say
+pub cases_values : (es : List (ℕ × Entry)) → cases_of es ≡ map case_of (values_of es)
+cases_values [] = refl
+cases_values (e ∷ es) = ap (λ (cs : List Case). case_of e.1 ∷ cs) (cases_values es)

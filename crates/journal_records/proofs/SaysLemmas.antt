@@ -1,0 +1,92 @@
+-- What the working state says once a record is applied.
+use Rattle.std.proofs.Common.{◌≡◌, ℕ, ◌+◌, ◌^◌, ◌<◌, ◌≤◌, Bool, true, false, cond, List, [], ◌∷◌, ◌++◌, length, refl, sym, ap, ◌∙◌, subst, arith}
+use Rattle.std.specs.BTreeMap.{BTreeMap}
+use Rattle.std.specs.Str.{bytes_eq}
+use Rattle.std.proofs.lemmas.Slice.Eq.{bytes_eq-Decides}
+use Rattle.extents.specs.FreeSet.{one_if}
+use Rattle.journal_layout.specs.declared.entry.Entry.{Entry}
+use Rattle.journal_layout.specs.Case.{Case}
+use Rattle.journal_layout.specs.Record.{Store, Pin, Next}
+use Rattle.journal_layout.specs.Folding.{Folded, after, used_blocks, with_pin}
+use Rattle.journal_layout.specs.Soundness.{uses}
+use Rattle.journal_records.specs.declared.cases.Cases.{Cases}
+use Rattle.journal_records.specs.Live.{cases_of, AreNumbered, pinned_in}
+use Rattle.journal_records.specs.Taken.{Accounts, has_name}
+use Rattle.journal_records.specs.Kept.{said_by, bearers, AreKept, Says}
+use Rattle.journal_records.proofs.LiveLemmas.{numbered_up, numbered_pinned, pinned_cases}
+use Rattle.journal_records.proofs.KeptLemmas.{sum_pinned, uses_cases, used_push, bearers_push, names_more}
+
+pub folded_same : (cs ds : List Case) (m n : ℕ) → cs ≡ ds → m ≡ n → (let f : Folded = record { cases = cs; next = m } in f) ≡ (let f : Folded = record { cases = ds; next = n } in f)
+folded_same cs ds m n same number =
+    ap (λ (l : List Case). let f : Folded = record { cases = l; next = m } in f) same
+    ∙ ap (λ (k : ℕ). let f : Folded = record { cases = ds; next = k } in f) number
+
+-- a case pinned or unpinned
+pub pin_says : (old new : Cases) (s : ℕ) (flag : Bool) → AreKept old → new.live.entries ≡ pinned_in s flag old.live.entries → new.names ≡ old.names → new.free ≡ old.free → new.next ≡ old.next
+    → Says (after (Pin s flag) (said_by old)) (length old.free) new
+pin_says old new s flag kept live names free next =
+    let es = old.live.entries in
+    let cases : cases_of new.live.entries ≡ cases_of (pinned_in s flag es) = ap cases_of live in
+    record {
+      kept = record {
+        numbered = subst (λ (n : ℕ). AreNumbered 0 n new.live.entries) (sym next) (subst (AreNumbered 0 old.next) (sym live) (numbered_pinned 0 old.next s flag es kept.numbered));
+        some = (let a = kept.some in omega (arith, next, a));
+        bound = (let a = kept.bound in omega (arith, next, a));
+        names = λ name.
+            ap (λ (cs : List Case). bearers cs name) cases
+            ∙ sum_pinned (λ (c : Case). one_if (bytes_eq c.name name)) s flag (λ e. refl) es
+            ∙ kept.names name
+            ∙ ap (λ n. one_if (has_name n name)) (sym names);
+        accounts = subst (Accounts (used_blocks (cases_of new.live.entries))) (sym free) (λ k.
+            let all = kept.accounts k in
+            let before = uses_cases k (cases_of es) in
+            let pinned = sum_pinned (λ (c : Case). uses k c.blocks) s flag (λ e. refl) es in
+            let after = uses_cases k (cases_of (pinned_in s flag es)) in
+            let moved = ap (λ (cs : List Case). uses k (used_blocks cs)) cases in
+            omega (arith, all, before, pinned, after, moved));
+      };
+      says = folded_same (cases_of new.live.entries) (with_pin s flag (cases_of es)) new.next old.next (cases ∙ pinned_cases 0 old.next s flag es kept.numbered) next;
+      size = ap length free;
+    }
+
+-- the next case gets another number
+pub next_says : (old new : Cases) (n : ℕ) → AreKept old → new.live ≡ old.live → new.names ≡ old.names → new.free ≡ old.free → new.next ≡ n → old.next ≤ n → n ≤ 2 ^ 32
+    → Says (after (Next n) (said_by old)) (length old.free) new
+next_says old new n kept live names free next low high =
+    let entries = ap (λ (m : BTreeMap ℕ Entry). m.entries) live in
+    record {
+      kept = record {
+        numbered = subst (λ (k : ℕ). AreNumbered 0 k new.live.entries) (sym next) (subst (AreNumbered 0 n) (sym entries) (numbered_up 0 old.next n old.live.entries low kept.numbered));
+        some = (let a = kept.some in omega (arith, next, a, low));
+        bound = omega (arith, next, high);
+        names = λ name. ap (λ (es : List (ℕ × Entry)). bearers (cases_of es) name) entries ∙ kept.names name ∙ ap (λ m. one_if (has_name m name)) (sym names);
+        accounts = subst (Accounts (used_blocks (cases_of new.live.entries))) (sym free) (subst (λ (es : List (ℕ × Entry)). Accounts (used_blocks (cases_of es)) old.free) (sym entries) kept.accounts);
+      };
+      says = folded_same (cases_of new.live.entries) (cases_of old.live.entries) new.next n (ap cases_of entries) next;
+      size = ap length free;
+    }
+
+same_name : (a b : List ℕ) → bytes_eq a b ≡ true → a ≡ b
+same_name a b is = (bytes_eq-Decides a b).0 is
+
+-- one case more
+pub store_says : (old new : Cases) (c : Case) → AreKept old
+    → cases_of new.live.entries ≡ cases_of old.live.entries ++ c ∷ [] → AreNumbered 0 (c.seq + 1) new.live.entries → new.next ≡ c.seq + 1 → c.seq < 2 ^ 32
+    → ((q : List ℕ) → has_name new.names q ≡ cond (bytes_eq c.name q) true (has_name old.names q)) → has_name old.names c.name ≡ false
+    → Accounts (used_blocks (cases_of old.live.entries) ++ c.blocks) new.free → length new.free ≡ length old.free
+    → Says (after (Store c) (said_by old)) (length old.free) new
+store_says old new c kept cases numbered next bound names fresh accounts size = record {
+  kept = record {
+    numbered = subst (λ (k : ℕ). AreNumbered 0 k new.live.entries) (sym next) numbered;
+    some = omega (arith, next);
+    bound = omega (arith, next, bound);
+    names = λ name.
+        ap (λ (cs : List Case). bearers cs name) cases
+        ∙ names_more (bytes_eq c.name name) (has_name old.names name) (bearers (cases_of old.live.entries) name) (bearers (cases_of old.live.entries ++ c ∷ []) name)
+        (bearers_push name (cases_of old.live.entries) c) (kept.names name) (λ is. ap (has_name old.names) (sym (same_name c.name name is)) ∙ fresh)
+        ∙ ap one_if (sym (names name));
+    accounts = subst (λ (l : List ℕ). Accounts l new.free) (sym (ap used_blocks cases ∙ used_push (cases_of old.live.entries) c)) accounts;
+  };
+  says = folded_same (cases_of new.live.entries) (cases_of old.live.entries ++ c ∷ []) new.next (c.seq + 1) cases next;
+  size = size;
+}

@@ -1,0 +1,15 @@
+use Rattle.std.proofs.Common.{◌≡◌, ◌+◌, ◌-◌, ◌≤◌, length}
+use Rattle.journal_records.specs.Kept.{said_by, AreKept}
+use Rattle.journal_records.specs.Said.{IsAlong}
+use Rattle.journal_records.proofs.reading.read_records.Given as goal
+
+abbrev pub invariant-loop-size : goal.invariant-loop-size
+invariant-loop-size l = record {
+  along : IsAlong (length l.initial.cases.free) l.bytes (said_by l.cases) l.size;
+  kept : AreKept l.cases;
+  room : l.size + 1 ≤ length l.bytes;
+  free : length l.cases.free ≡ length l.initial.cases.free;
+}
+
+abbrev pub decreases-loop-size : goal.decreases-loop-size
+decreases-loop-size l = length l.bytes - l.size

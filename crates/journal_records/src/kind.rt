@@ -1,0 +1,32 @@
+// The kinds of records.
+ghost use Rattle.std.specs.Prelude.{◌≡◌, ◌≤◌, ◌||◌, not, nat_le, IfSome};
+ghost use Rattle.std.specs.Prelude.{◌&&◌};
+ghost use Rattle.std.specs.Option.{is_none};
+ghost use Rattle.journal_records.specs.Head.{byte_of};
+
+/// What a record tells, by the byte behind its gate.
+#[derive(Clone, Copy)]
+pub(crate) enum RecordKind {
+    /// A case begins.
+    Store,
+    /// Some cases end.
+    Drop,
+    /// A case is pinned from here on, or no longer.
+    Pin,
+    /// The next case gets a number.
+    Next,
+}
+
+/// The kind that a byte stands for, if it stands for one.
+pub(crate) fn kind_of(byte: u8) -> Option<RecordKind>
+    ensures known { is_none result ≡ not (nat_le 1 byte && nat_le byte 4) }
+    ensures kind { IfSome result (λ kind. byte_of kind ≡ byte) }
+{
+    match byte {
+        1 => Some(RecordKind::Store),
+        2 => Some(RecordKind::Drop),
+        3 => Some(RecordKind::Pin),
+        4 => Some(RecordKind::Next),
+        _ => None,
+    }
+}

@@ -1,0 +1,28 @@
+//! The codec of journal records: how each is spelled, and what the records of a half say, its cases and the number of
+//! the next one.
+#![tactic(auto)]
+
+mod cases;
+mod dropped;
+mod fields;
+mod head;
+mod kind;
+mod names;
+mod next;
+mod padding;
+mod pin;
+mod reading;
+mod runs;
+mod spelling;
+mod store;
+
+pub(crate) use fields::{damaged, rounded, u16_at, u32_at, u64_at};
+use journal_layout::Entry;
+pub use reading::{Replayed, replay};
+pub use spelling::{
+    GATE_OPEN, PIN_SIZE, drop_record, drop_size, pin_record, store_record, store_size,
+};
+use std::collections::BTreeMap;
+
+// The live cases by their numbers.
+pub(crate) type Live = BTreeMap<u32, Entry>;

@@ -1,0 +1,75 @@
+// The records of a half, one after another.
+ghost use Rattle.std.specs.Prelude.{◌≡◌, ◌+◌, ◌^◌, ◌<◌, ◌≤◌, length, IfOk, IfErr};
+ghost use Rattle.std.specs.Map.{values_of};
+ghost use Rattle.journal_layout.specs.Folding.{nothing_yet};
+ghost use Rattle.journal_records.specs.Kept.{Says};
+ghost use Rattle.journal_records.specs.Said.{said_of, TellsFaulty, ReadsAll};
+ghost use Rattle.journal_layout.specs.Stands.{AreRead};
+
+use crate::cases::Cases;
+use crate::{GATE_OPEN, Live};
+use journal_layout::{Entry, OpenFault};
+use std::alloc::{AllocError, Global};
+
+/// What the records of a half say.
+#[derive(Drop)]
+pub struct Replayed {
+    /// The live cases, in the order of their numbers.
+    pub entries: Vec<Entry>,
+    /// The number of the next case, 1 to 2^32.
+    pub next: u64,
+    /// The bytes of the records. The gate behind them is not open.
+    pub size: u64,
+}
+
+// Reads the records up to the first gate that is not open, and tells their bytes.
+fn read_records(cases: &mut Cases, alloc: Global, bytes: &[u8], at: u64) -> Result<usize, OpenFault>
+    requires some { 1 ≤ length bytes.now }
+    requires disk { at + length bytes.now ≤ 2 ^ 63 }
+    requires limit { length cases.old.free ≤ 16777216 }
+    requires says { Says nothing_yet (length cases.old.free) cases.old }
+    ensures { ReadsAll (length cases.old.free) at bytes.now result cases.new }
+{
+    let mut size = 0;
+    while bytes[size] == GATE_OPEN {
+        size += cases.read_record(alloc, &bytes[size..], at + size as u64)?;
+    }
+    Ok(size)
+}
+
+// The live cases, in the order of their numbers.
+fn entries_of(alloc: Global, live: Live) -> Result<Vec<Entry>, AllocError>
+    ensures { IfOk result (λ entries. entries.items ≡ values_of live.entries) }
+{
+    live.into_values().collect(alloc)
+}
+
+/// Reads the records of a half. `bytes` are the bytes of the half behind its header, and `at` is their place on the disk,
+/// in bytes; `data_blocks` is the number of the archive's data blocks.
+///
+/// `Damaged`: this field is the first that is wrong. `OutOfMemory`: there was no memory. There is no other error.
+pub fn replay(alloc: Global, bytes: &[u8], at: u64, data_blocks: u32) -> Result<Replayed, OpenFault>
+    requires some { 1 ≤ length bytes.now }
+    requires places { at + length bytes.now ≤ 2 ^ 63 }
+    requires blocks { data_blocks ≤ 16777216 }
+    ensures read { IfOk result (λ r. AreRead data_blocks bytes.now nothing_yet (said_of r) r.size) }
+    ensures fault { IfErr result (TellsFaulty data_blocks at bytes.now) }
+    ensures bounds { IfOk result (λ r. (1 ≤ r.next) × (r.next ≤ 2 ^ 32) × (r.size + 1 ≤ length bytes.now)) }
+{
+    let mut cases = Cases::new(alloc, data_blocks)?;
+    let size = read_records(&mut cases, alloc, bytes, at)?;
+    let Cases {
+        live,
+        names: _,
+        free: _,
+        next,
+    } = cases;
+    let Ok(entries) = entries_of(alloc, live) else {
+        return Err(OpenFault::OutOfMemory);
+    };
+    Ok(Replayed {
+        entries,
+        next,
+        size: size as u64,
+    })
+}
