@@ -6,14 +6,16 @@ use Rattle.journal_layout.specs.Case.{Case}
 use Rattle.journal_layout.specs.Record.{Record, Store, Drop, Pin, Next, record_size}
 
 pub record Folded : Type 0 where
+  -- of the layout that they are in
+  pub version : ℕ
   -- in the order of their numbers
   pub cases : List Case
   -- the number of the next case
   pub next : ℕ
 
--- before the first record
-abbrev pub nothing_yet : Folded
-nothing_yet = record { cases = []; next = 1 }
+-- before the first record of a half of this version
+abbrev pub nothing_yet : ℕ → Folded
+nothing_yet version = record { version = version; cases = []; next = 1 }
 
 -- the number is one of these
 abbrev pub is_among : List ℕ → ℕ → Bool
@@ -30,12 +32,22 @@ pinned_as seq flag c = if c.seq == seq then record c { pinned = flag } else c
 abbrev pub with_pin : ℕ → Bool → List Case → List Case
 with_pin seq flag cases = map (pinned_as seq flag) cases
 
+-- the cases, and the next number, once a record more is read
+abbrev pub cases_after : Record → Folded → List Case
+cases_after (Store c) f = f.cases ++ c ∷ []
+cases_after (Drop seqs) f = dropped seqs f.cases
+cases_after (Pin seq flag) f = with_pin seq flag f.cases
+cases_after (Next n) f = f.cases
+
+abbrev pub next_after : Record → Folded → ℕ
+next_after (Store c) f = c.seq + 1
+next_after (Drop seqs) f = f.next
+next_after (Pin seq flag) f = f.next
+next_after (Next n) f = n
+
 -- what a record makes of what the records before it say
 abbrev pub after : Record → Folded → Folded
-after (Store c) f = record { cases = f.cases ++ c ∷ []; next = c.seq + 1 }
-after (Drop seqs) f = record f { cases = dropped seqs f.cases }
-after (Pin seq flag) f = record f { cases = with_pin seq flag f.cases }
-after (Next n) f = record f { next = n }
+after r f = record f { cases = cases_after r f; next = next_after r f }
 
 -- the same of a list of records, one after the other
 abbrev pub replayed : List Record → Folded → Folded

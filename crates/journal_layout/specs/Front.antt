@@ -64,9 +64,13 @@ pub record Front : Type 0 where
   pub version : ℕ
   pub generation : ℕ
 
+-- this version of the layout is read
+abbrev pub is_known : ℕ → Bool
+is_known version = version == 1
+
 abbrev pub half_opening : Shape → Half → Header → Result Front OpenFault
 half_opening s half h =
-    if h.version == 1
+    if is_known h.version
     then Ok (record { shape = s; half = half; version = h.version; generation = h.generation })
     else Err (UnknownVersion h.version)
 

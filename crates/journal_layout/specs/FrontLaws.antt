@@ -1,5 +1,5 @@
 -- Laws of the front of an archive: its shape, and on which bytes it depends.
-use Rattle.std.proofs.Common.{◌≡◌, ℕ, Bool, true, false, cond, List, length, refl, sym, ap, ◌∙◌, subst, Result, Ok, Err, nat_lt, nat_le, ◌==◌}
+use Rattle.std.proofs.Common.{◌≡◌, ℕ, ◌^◌, ◌<◌, Bool, true, false, cond, List, length, refl, sym, ap, ◌∙◌, subst, Result, Ok, Err, nat_lt, nat_le, ◌==◌, arith}
 use Rattle.std.proofs.lemmas.Bool.{and_parts, leb-true, eqb-true}
 use Rattle.disk_model.specs.Places.{part}
 use Rattle.journal_layout.specs.declared.shape.Shape.{Shape}
@@ -9,7 +9,7 @@ use Rattle.journal_layout.specs.declared.faults.Field.TheVariants as named
 use Rattle.journal_layout.specs.declared.faults.OpenFault.{OpenFault}
 use Rattle.journal_layout.specs.declared.faults.OpenFault.TheVariants.{NotAnArchive, Damaged, UnknownVersion}
 use Rattle.journal_layout.specs.Layout.{IsWithinLimits, disk_length, half_start}
-use Rattle.journal_layout.specs.Front.{Front, Header, header_at, front_opening, halves_opening, headers_opening, half_opening, header_of_half, taken_half, shape_opening, shape_at, is_archive, is_shape_of}
+use Rattle.journal_layout.specs.Front.{Front, Header, header_at, front_opening, halves_opening, headers_opening, is_known, half_opening, header_of_half, taken_half, shape_opening, shape_at, is_archive, is_shape_of}
 
 ok_of : {X : Type 0} (t : Bool) (e : OpenFault) (y : Result X OpenFault) (x : X) → cond t (Err e) y ≡ Ok x → y ≡ Ok x
 ok_of true e y x h = cc
@@ -26,9 +26,13 @@ shape_told size b s e =
     let same : shape_at b ≡ s = (let is = fits.1 in cc) in
     ap (is_shape_of size) (sym same) ∙ fits.0
 
+-- the field of a half's header has room for a version that is known
+pub known_small : (version : ℕ) → is_known version ≡ true → version < 2 ^ 32
+known_small version known = omega (arith, eqb-true version 1 known)
+
 half_shape : (s : Shape) (half : Half) (h : Header) (t : Front) → half_opening s half h ≡ Ok t → t.shape ≡ s
 half_shape s half h t e =
-    let of = (ok_in (h.version == 1) (UnknownVersion h.version) (Ok (record { shape = s; half = half; version = h.version; generation = h.generation })) t e).1 in
+    let of = (ok_in (is_known h.version) (UnknownVersion h.version) (Ok (record { shape = s; half = half; version = h.version; generation = h.generation })) t e).1 in
     let same : record { shape = s; half = half; version = h.version; generation = h.generation } ≡ t = cc in
     sym (ap (λ (x : Front). x.shape) same)
 

@@ -21,6 +21,7 @@ pub mod Reading
 pub mod ReadingLaws
 pub mod Record
 pub mod RecordLaws
+pub mod Rewriting
 pub mod RowLaws
 pub mod RunBytesLaws
 pub mod Samples

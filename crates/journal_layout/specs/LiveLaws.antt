@@ -273,10 +273,10 @@ live_row limit bytes f [] live row = live
 live_row limit bytes f (r ∷ rest) live row = live_row limit (drop (record_size r) bytes) (after r f) rest (live_after limit f r live row.0.sound) row.1
 
 -- it holds of what bytes say
-pub live_read : (limit : ℕ) (bytes : List ℕ) (said : Folded) (n : ℕ) → AreRead limit bytes nothing_yet said n → AreLive limit said.cases said.next
-live_read limit bytes said n read =
-    subst (λ (g : Folded). AreLive limit g.cases g.next) read.folded (live_row limit bytes nothing_yet read.records (live_none limit) read.row)
+pub live_read : (limit version : ℕ) (bytes : List ℕ) (said : Folded) (n : ℕ) → AreRead limit bytes (nothing_yet version) said n → AreLive limit said.cases said.next
+live_read limit version bytes said n read =
+    subst (λ (g : Folded). AreLive limit g.cases g.next) read.folded (live_row limit bytes (nothing_yet version) read.records (live_none limit) read.row)
 
 -- it holds of what a disk stands for
 pub stands_live : (b : List ℕ) (s : Standing) → Stands b s → AreLive s.shape.data_blocks s.cases s.next
-stands_live b s stands = live_read s.shape.data_blocks (records_area b s.shape s.half) (folded_of s) (s.used - 32) stands.records
+stands_live b s stands = live_read s.shape.data_blocks s.version (records_area b s.shape s.half) (folded_of s) (s.used - 32) stands.records

@@ -90,26 +90,26 @@ area_short b s half limits =
 
 -- what an opening with this front reads
 abbrev IsReadAs : List ℕ → Front → Folded → ℕ → Type 0
-IsReadAs b t said used = AreRead t.shape.data_blocks (records_area b t.shape t.half) nothing_yet said used
+IsReadAs b t said used = AreRead t.shape.data_blocks (records_area b t.shape t.half) (nothing_yet t.version) said used
 
 abbrev HasFault : List ℕ → Front → OpenFault → Type 0
-HasFault b t fault = AreFaulty t.shape.data_blocks (records_start t.shape t.half) (records_area b t.shape t.half) nothing_yet fault
+HasFault b t fault = AreFaulty t.shape.data_blocks (records_start t.shape t.half) (records_area b t.shape t.half) (nothing_yet t.version) fault
 
 module _ (b : List ℕ) (t : Front) (front : front_opening b ≡ Ok t) where
   said_once : (g h : Folded) (n m : ℕ) → IsReadAs b t g n → IsReadAs b t h m → (g ≡ h) × (n ≡ m)
   said_once g h n m one two =
       let limits = front_limits b t front in
-      read_once t.shape.data_blocks (records_area b t.shape t.half) nothing_yet limits.all_data (area_short b t.shape t.half limits) g h n m one two
+      read_once t.shape.data_blocks (records_area b t.shape t.half) (nothing_yet t.version) limits.all_data (area_short b t.shape t.half limits) g h n m one two
 
   said_or_faulty : (g : Folded) (n : ℕ) (fault : OpenFault) → IsReadAs b t g n → HasFault b t fault → ⊥
   said_or_faulty g n fault one two =
       let limits = front_limits b t front in
-      read_or_faulty t.shape.data_blocks (records_area b t.shape t.half) nothing_yet limits.all_data (area_short b t.shape t.half limits) (records_start t.shape t.half) n g fault one two
+      read_or_faulty t.shape.data_blocks (records_area b t.shape t.half) (nothing_yet t.version) limits.all_data (area_short b t.shape t.half limits) (records_start t.shape t.half) n g fault one two
 
   fault_once : (e d : OpenFault) → HasFault b t e → HasFault b t d → e ≡ d
   fault_once e d one two =
       let limits = front_limits b t front in
-      faulty_once t.shape.data_blocks (records_area b t.shape t.half) nothing_yet limits.all_data (area_short b t.shape t.half limits) (records_start t.shape t.half) e d one two
+      faulty_once t.shape.data_blocks (records_area b t.shape t.half) (nothing_yet t.version) limits.all_data (area_short b t.shape t.half limits) (records_start t.shape t.half) e d one two
 
 same_ok : {X : Type 0} (o : Result X OpenFault) (x y : X) → o ≡ Ok x → o ≡ Ok y → x ≡ y
 same_ok o x y e f = cc

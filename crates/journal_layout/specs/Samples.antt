@@ -34,7 +34,7 @@ sample_spelled : spelling (Store sample) ≡ sample_bytes
 unfolding behind_gate plain body store_facts run_bytes number_bytes
 sample_spelled = refl
 
-sample_faultless : record_fault 4 4128 (sample_bytes ++ 0 ∷ []) nothing_yet ≡ None
+sample_faultless : record_fault 4 4128 (sample_bytes ++ 0 ∷ []) (nothing_yet 1) ≡ None
 unfolding record_fault part
 sample_faultless = refl
 

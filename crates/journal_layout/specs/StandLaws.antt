@@ -80,7 +80,7 @@ stands_room b s stands =
     let some = limits.some_half in
     let long = area_length b s.shape s.half limits (stands_size b s stands) in
     let header = stands.header in
-    omega (arith, read_room s.shape.data_blocks (records_area b s.shape s.half) nothing_yet (folded_of s) (s.used - 32) (omega arith) stands.records)
+    omega (arith, read_room s.shape.data_blocks (records_area b s.shape s.half) (nothing_yet s.version) (folded_of s) (s.used - 32) (omega arith) stands.records)
 
 -- the first bytes of the records' area are a part of its half
 area_front : (l : List ℕ) (s : Shape) (half : Half) (n : ℕ) → 32 ≤ n → n ≤ half_length s → take (n - 32) (records_area l s half) ≡ part (part l (half_start s half) n) 32 (n - 32)
@@ -117,7 +117,7 @@ stands_same b c s same used stands =
       front = same_opening b c (front_of s) same stands.front;
       header = stands.header;
       records =
-          read_same s.shape.data_blocks (s.used + 1 - 32) (records_area b s.shape s.half) (records_area c s.shape s.half) nothing_yet (folded_of s) (s.used - 32) long
+          read_same s.shape.data_blocks (s.used + 1 - 32) (records_area b s.shape s.half) (records_area c s.shape s.half) (nothing_yet s.version) (folded_of s) (s.used - 32) long
           (omega arith) (area_same b c s.shape s.half (s.used + 1) (omega arith) room used) stands.records;
     }
 
@@ -155,8 +155,8 @@ stands_grown b c s r same used room sound spelled closed stands =
       front = same_opening b c (front_of s) same stands.front;
       header = omega arith;
       records =
-          subst (λ (m : ℕ). AreRead s.shape.data_blocks area nothing_yet (after r (folded_of s)) m) (sym whole)
-          (read_grown s.shape.data_blocks (records_area b s.shape s.half) area nothing_yet (folded_of s) n r long
+          subst (λ (m : ℕ). AreRead s.shape.data_blocks area (nothing_yet s.version) (after r (folded_of s)) m) (sym whole)
+          (read_grown s.shape.data_blocks (records_area b s.shape s.half) area (nothing_yet s.version) (folded_of s) n r long
           (area_same b c s.shape s.half s.used header (omega arith) used) stands.records first (λ e. closed (sym behind ∙ e)));
     }
 

@@ -21,7 +21,7 @@ pub record Standing : Type 0 where
 
 -- what its records say
 abbrev pub folded_of : Standing → Folded
-folded_of s = record { cases = s.cases; next = s.next }
+folded_of s = record { version = s.version; cases = s.cases; next = s.next }
 
 -- an archive with no record
 abbrev pub fresh : Shape → Half → ℕ → ℕ → Standing

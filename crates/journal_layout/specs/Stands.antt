@@ -52,13 +52,13 @@ front_of s = record { shape = s.shape; half = s.half; version = s.version; gener
 pub record Stands (b : List ℕ) (s : Standing) : Type 0 where
   pub front : front_opening b ≡ Ok (front_of s)
   pub header : 32 ≤ s.used
-  pub records : AreRead s.shape.data_blocks (records_area b s.shape s.half) nothing_yet (folded_of s) (s.used - 32)
+  pub records : AreRead s.shape.data_blocks (records_area b s.shape s.half) (nothing_yet s.version) (folded_of s) (s.used - 32)
 
 -- a record of the taken half is the first to fail a check
 abbrev pub HasFaultyRecord : List ℕ → OpenFault → Type 0
 HasFaultyRecord b fault =
     (t : Front) × (front_opening b ≡ Ok t)
-    × AreFaulty t.shape.data_blocks (records_start t.shape t.half) (records_area b t.shape t.half) nothing_yet fault
+    × AreFaulty t.shape.data_blocks (records_start t.shape t.half) (records_area b t.shape t.half) (nothing_yet t.version) fault
 
 -- the opening of a disk with these bytes is refused so
 abbrev pub IsRefused : List ℕ → OpenFault → Type 0

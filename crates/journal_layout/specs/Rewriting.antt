@@ -1,0 +1,71 @@
+-- What a rewriting of the journal leaves: the other half holds the cases anew, and is taken.
+use Rattle.std.specs.Prelude.{◌≡◌, ◌≢◌, ℕ, ◌+◌, ◌^◌, ◌<◌, ◌≤◌, Bool, true, nat_lt, List, [], ◌∷◌, ◌++◌, slice_index}
+use Rattle.std.specs.List.{flat_map}
+use Rattle.disk_model.specs.Places.{part}
+use Rattle.journal_layout.specs.declared.shape.Half.{Half}
+use Rattle.journal_layout.specs.declared.shape.Half.TheVariants.{A, B}
+use Rattle.journal_layout.specs.Layout.{half_start, half_length, half_header}
+use Rattle.journal_layout.specs.Case.{Case}
+use Rattle.journal_layout.specs.Record.{Record, Store, Next, record_size, spelling}
+use Rattle.journal_layout.specs.Folding.{Folded, after, sizes}
+use Rattle.journal_layout.specs.Soundness.{IsSound}
+use Rattle.journal_layout.specs.Front.{is_known}
+use Rattle.journal_layout.specs.Live.{AreLive}
+use Rattle.journal_layout.specs.Standing.{Standing}
+
+abbrev pub other_half : Half → Half
+other_half A = B
+other_half B = A
+
+-- where the half begins that is not taken
+abbrev pub other_start : Standing → ℕ
+other_start s = half_start s.shape (other_half s.half)
+
+-- the records that say a case
+abbrev pub case_records : Case → List Record
+case_records c = Store c ∷ []
+
+-- The records that say these cases and this next number, and nothing else: those of each case, in the order of their
+-- numbers, and one of the next number.
+abbrev pub snapshot : Folded → List Record
+snapshot f = flat_map case_records f.cases ++ Next f.next ∷ []
+
+-- the bytes of a half's header and these records
+abbrev pub snapshot_size : Folded → ℕ
+snapshot_size f = 32 + sizes (snapshot f)
+
+-- each record may stand behind those before it
+abbrev pub AreSound : ℕ → Folded → List Record → Type 0
+AreSound limit f [] = Unit {0}
+AreSound limit f (r ∷ rest) = IsSound limit f r × AreSound limit (after r f) rest
+
+-- after the other half got these records and was taken
+abbrev pub rewritten : Standing → Folded → Standing
+rewritten s f = record s {
+  half = other_half s.half;
+  version = f.version;
+  generation = s.generation + 1;
+  cases = f.cases;
+  next = f.next;
+  used = snapshot_size f;
+}
+
+-- The other half of these bytes holds the records behind a header of the next generation, and a gate behind them that is
+-- not open. Its own gate is not looked at.
+pub record HoldsSnapshot (s : Standing) (f : Folded) (b : List ℕ) : Type 0 where
+  pub header : part b (other_start s + 1) 31 ≡ half_header f.version (s.generation + 1)
+  pub records : part b (other_start s + 32) (sizes (snapshot f)) ≡ flat_map spelling (snapshot f)
+  pub closed : slice_index b (other_start s + snapshot_size f) ≢ 165
+
+-- the cases may be written anew into the other half
+pub record MayRewrite (s : Standing) (f : Folded) : Type 0 where
+  pub live : AreLive s.shape.data_blocks f.cases f.next
+  pub known : is_known f.version ≡ true
+  -- with the gate behind the records
+  pub room : snapshot_size f + 1 ≤ half_length s.shape
+  -- the next one goes into its field
+  pub generation : s.generation + 1 < 2 ^ 64
+
+-- the record, and the gate behind it, go behind those of the taken half
+abbrev pub fits : Standing → Record → Bool
+fits s r = nat_lt (s.used + record_size r) (half_length s.shape)
