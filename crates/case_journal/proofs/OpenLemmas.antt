@@ -9,6 +9,7 @@ use Rattle.journal_layout.specs.declared.shape.Half.TheVariants.{A, B}
 use Rattle.journal_layout.specs.declared.faults.OpenFault.{OpenFault}
 use Rattle.journal_layout.specs.declared.faults.OpenFault.TheVariants.{Disk, OutOfMemory, NotAnArchive, UnknownVersion, Damaged}
 use Rattle.journal_layout.specs.Layout.{disk_length, half_start, half_length}
+use Rattle.journal_layout.specs.Case.{Case}
 use Rattle.journal_layout.specs.Folding.{Folded, nothing_yet}
 use Rattle.journal_layout.specs.Front.{front_opening}
 use Rattle.journal_layout.specs.FrontLaws.{front_limits, front_same}
@@ -44,7 +45,7 @@ module _ {D : Type 0} (g : disk.Ghosts D) where
 
   -- a faulty record
   pub faulty_gives : (f : ArchiveFront) (bytes b : List ℕ) (at : ℕ) (fault : OpenFault) → IsShown f bytes b → at ≡ records_start f.shape f.half
-      → TellsFaulty f.shape.data_blocks at bytes fault → Gives (Err fault) b
+      → TellsFaulty f.shape.data_blocks f.version at bytes fault → Gives (Err fault) b
   faulty_gives f bytes b at Disk shown place tells = tt
   faulty_gives f bytes b at OutOfMemory shown place tells = tt
   faulty_gives f bytes b at NotAnArchive shown place tells = absurd tells
@@ -53,19 +54,23 @@ module _ {D : Type 0} (g : disk.Ghosts D) where
       inr (
         front_view f,
         shown.front,
-        subst (λ (x : List ℕ). AreFaulty f.shape.data_blocks (records_start f.shape f.half) x nothing_yet (Damaged k which)) (sym shown.area)
-            (subst (λ (p : ℕ). AreFaulty f.shape.data_blocks p bytes nothing_yet (Damaged k which)) place tells),
+        subst (λ (x : List ℕ). AreFaulty f.shape.data_blocks (records_start f.shape f.half) x (nothing_yet f.version) (Damaged k which)) (sym shown.area)
+            (subst (λ (p : ℕ). AreFaulty f.shape.data_blocks p bytes (nothing_yet f.version) (Damaged k which)) place tells),
       )
 
-  -- records that say this
-  pub read_gives : (f : ArchiveFront) (bytes b : List ℕ) (said : Folded) (n used : ℕ) → IsShown f bytes b → AreRead f.shape.data_blocks bytes nothing_yet said n → used ≡ 32 + n
-      → Stands b (record { shape = f.shape; half = f.half; version = f.version; generation = f.generation; cases = said.cases; next = said.next; used = used })
-  read_gives f bytes b said n used shown read is =
+  -- the records of a half whose front was read say this
+  abbrev said : ArchiveFront → List Case → ℕ → Folded
+  said f cases next = record { version = f.version; cases = cases; next = next }
+
+  pub read_gives : (f : ArchiveFront) (bytes b : List ℕ) (cases : List Case) (next n used : ℕ) → IsShown f bytes b
+      → AreRead f.shape.data_blocks bytes (nothing_yet f.version) (said f cases next) n → used ≡ 32 + n
+      → Stands b (record { shape = f.shape; half = f.half; version = f.version; generation = f.generation; cases = cases; next = next; used = used })
+  read_gives f bytes b cases next n used shown read is =
       let e : used - 32 ≡ n = omega arith in record {
         front = shown.front;
         header = omega arith;
-        records = subst (λ (x : List ℕ). AreRead f.shape.data_blocks x nothing_yet said (used - 32)) (sym shown.area)
-            (subst (AreRead f.shape.data_blocks bytes nothing_yet said) (sym e) read);
+        records = subst (λ (x : List ℕ). AreRead f.shape.data_blocks x (nothing_yet f.version) (said f cases next) (used - 32)) (sym shown.area)
+            (subst (AreRead f.shape.data_blocks bytes (nothing_yet f.version) (said f cases next)) (sym e) read);
       }
 
   -- some list is a view of a disk

@@ -1,22 +1,21 @@
 -- What a list of bytes stands for depends on a few parts of it: how it stays the same, and how it grows by a record.
-use Rattle.std.proofs.Common.{◌≡◌, ◌≢◌, ℕ, ◌+◌, ◌-◌, ◌<◌, ◌≤◌, List, [], ◌∷◌, ◌++◌, length, take, drop, slice_index, sym, ap, ◌∙◌, subst, arith}
-use Rattle.std.proofs.lemmas.List.{take-take, length-drop}
+use Rattle.std.proofs.Common.{◌≡◌, ◌≢◌, ℕ, ◌+◌, ◌-◌, ◌<◌, ◌≤◌, List, length, take, drop, slice_index, sym, ap, ◌∙◌, subst, arith}
+use Rattle.std.proofs.lemmas.List.{take-take}
 use Rattle.disk_model.specs.Places.{part, SameOutside}
-use Rattle.disk_model.specs.PartLaws.{part_is, part_part, part_length, part_place, part_before, part_after}
+use Rattle.disk_model.specs.PartLaws.{part_is, part_length, part_place, part_before, part_after}
 use Rattle.journal_layout.specs.declared.shape.Shape.{Shape}
 use Rattle.journal_layout.specs.declared.shape.Half.{Half}
 use Rattle.journal_layout.specs.declared.shape.Half.TheVariants.{A, B}
 use Rattle.journal_layout.specs.Layout.{IsWithinLimits, disk_length, half_start, half_length, data_start}
 use Rattle.journal_layout.specs.Record.{Record, record_size, spelling}
-use Rattle.journal_layout.specs.Folding.{Folded, nothing_yet, after, sizes}
+use Rattle.journal_layout.specs.Folding.{nothing_yet}
 use Rattle.journal_layout.specs.Standing.{Standing, folded_of, appended}
-use Rattle.journal_layout.specs.Soundness.{IsSound}
 use Rattle.journal_layout.specs.Stands.{AreRead, Stands, records_start, records_area, front_of}
-use Rattle.journal_layout.specs.RowLaws.{row_same, row_push, row_room, sizes_push, replayed_push}
+use Rattle.journal_layout.specs.RowLaws.{row_same}
 use Rattle.case_journal.specs.Append.{MayFollow}
 use Rattle.case_journal.specs.Keeping.{SameHeaders}
 use Rattle.journal_layout.specs.FrontLaws.{front_same}
-use Rattle.journal_layout.specs.StandLaws.{stands_limits, stands_size}
+use Rattle.journal_layout.specs.StandLaws.{stands_limits, stands_size, stands_room, HasSameFront, stands_grown}
 
 -- where the next record's gate stands
 abbrev pub gate_of : Standing → ℕ
@@ -55,14 +54,7 @@ area_length b s stands =
 
 -- the gate of the next record lies in the half
 pub gate_within : (b : List ℕ) (s : Standing) → Stands b s → s.used + 1 ≤ half_length s.shape
-gate_within b s stands =
-    let l = limits_in b s stands in
-    let some = l.0.some_half in
-    let area = area_length b s stands in
-    let room = row_room s.shape.data_blocks (records_area b s.shape s.half) nothing_yet stands.records.records (omega arith) stands.records.row in
-    let size = stands.records.size in
-    let header = stands.header in
-    omega arith
+gate_within b s stands = stands_room b s stands
 
 pub front_part : (b : List ℕ) (p n q : ℕ) → q ≤ n → take q (part b p n) ≡ part b p q
 front_part b p n q low =
@@ -103,7 +95,7 @@ still_stands s n d c stands same within closed =
       header = header;
       records = record {
         records = stands.records.records;
-        row = row_same s.shape.data_blocks (s.used - 32) (records_area d s.shape s.half) (records_area c s.shape s.half) nothing_yet stands.records.records
+        row = row_same s.shape.data_blocks (s.used - 32) (records_area d s.shape s.half) (records_area c s.shape s.half) (nothing_yet s.version) stands.records.records
             area_c (omega arith) (front_stays s n d c header (omega arith) same) stands.records.row;
         closed = λ opened. closed (sym (ap (slice_index c) e) ∙ sym (area_place c s (s.used - 32) (omega arith)) ∙ sym (ap (slice_index (records_area c s.shape s.half)) size) ∙ opened);
         folded = stands.records.folded;
@@ -111,53 +103,22 @@ still_stands s n d c stands same within closed =
       };
     }
 
--- the same bytes from the next gate on, in the words of the records' bytes
-area_rest : (b : List ℕ) (s : Standing) (n : ℕ) → 32 ≤ s.used → s.used + n ≤ half_length s.shape
-    → take n (drop (s.used - 32) (records_area b s.shape s.half)) ≡ part b (gate_of s) n
-area_rest b s n header within =
-    let e : half_start s.shape s.half + 32 + (s.used - 32) ≡ gate_of s = omega arith in
-    sym (part_is (records_area b s.shape s.half) (s.used - 32) n)
-    ∙ part_part b (records_start s.shape s.half) (half_length s.shape - 32) (s.used - 32) n (omega arith)
-    ∙ ap (λ (p : ℕ). part b p n) e
-
 -- it stands for one record more where that is spelled from the next gate on, with a gate behind it that is not open
 pub stands_after : (s : Standing) (r : Record) (n : ℕ) (d c : List ℕ) → Stands d s → SameOutside (gate_of s) n d c → s.used + n ≤ half_length s.shape
     → record_size r + 1 ≤ n → MayFollow s r → part c (gate_of s) (record_size r) ≡ spelling r → slice_index c (gate_of s + record_size r) ≢ 165
     → Stands c (appended s r)
 stands_after s r n d c stands same within fits sound spelled closed =
     let l = limits_in d s stands in
-    let some = l.0.some_half in
     let low = half_low s.shape s.half in
     let header = stands.header in
-    let size = stands.records.size in
-    let long : length c ≡ length d = same.same_length in
-    let area = area_length d s stands in
-    let ends = half_ends s.shape s.half in
     let headers : SameHeaders s.shape d c = headers_stay s.shape s.half (gate_of s) n d c l.0 same (omega arith) (omega arith) in
-    let area_c : length (records_area c s.shape s.half) ≡ length (records_area d s.shape s.half) =
-    part_length c (records_start s.shape s.half) (half_length s.shape - 32) (let e = l.1 in omega arith) ∙ sym area in
-    let rs = stands.records.records in
-    let row = row_same s.shape.data_blocks (s.used - 32) (records_area d s.shape s.half) (records_area c s.shape s.half) nothing_yet rs
-    area_c (omega arith) (front_stays s n d c header (omega arith) same) stands.records.row in
-    let e : half_start s.shape s.half + 32 + (s.used - 32 + record_size r) ≡ gate_of s + record_size r = omega arith in
-    let total : sizes (rs ++ r ∷ []) ≡ s.used - 32 + record_size r = sizes_push rs r ∙ ap (λ (k : ℕ). k + record_size r) size in
-    let rest = length-drop (sizes rs) (records_area c s.shape s.half) in
-    record {
-      front = front_same d c (front_of s) stands.front long (part_before (gate_of s) n d c same 0 24 (omega arith))
-          headers.first headers.second;
-      header = omega arith;
-      records = record {
-        records = rs ++ r ∷ [];
-        row = row_push s.shape.data_blocks (records_area c s.shape s.half) nothing_yet rs r row (record {
-          spelled = ap (λ (k : ℕ). take (record_size r) (drop k (records_area c s.shape s.half))) size ∙ area_rest c s (record_size r) header (omega arith) ∙ spelled;
-          room = omega arith;
-          sound = subst (λ (f : Folded). IsSound s.shape.data_blocks f r) (sym stands.records.folded) sound;
-        });
-        closed = λ opened. closed (sym (ap (slice_index c) e) ∙ sym (area_place c s (s.used - 32 + record_size r) (omega arith)) ∙ sym (ap (slice_index (records_area c s.shape s.half)) total) ∙ opened);
-        folded = replayed_push rs r nothing_yet ∙ ap (after r) stands.records.folded;
-        size = total ∙ omega arith;
-      };
-    }
+    let front : HasSameFront s.shape d c = record {
+      long = same.same_length;
+      superblock = part_before (gate_of s) n d c same 0 24 (omega arith);
+      first = headers.first;
+      second = headers.second;
+    } in
+    stands_grown d c s r front (part_before (gate_of s) n d c same (half_start s.shape s.half) s.used (omega arith)) (omega arith) sound spelled closed stands
 
 -- a change of the data blocks leaves what a disk stands for, and both headers
 pub data_apart : (s : Standing) (at n : ℕ) (d c : List ℕ) → Stands d s → SameOutside at n d c → data_start s.shape ≤ at → Stands c s × SameHeaders s.shape d c
@@ -176,7 +137,7 @@ data_apart s at n d c stands same low =
       record {
         front = front_same d c (front_of s) stands.front same.same_length (part_before at n d c same 0 24 (omega arith)) headers.first headers.second;
         header = stands.header;
-        records = subst (λ (x : List ℕ). AreRead s.shape.data_blocks x nothing_yet (folded_of s) (s.used - 32)) (sym area) stands.records;
+        records = subst (λ (x : List ℕ). AreRead s.shape.data_blocks x (nothing_yet s.version) (folded_of s) (s.used - 32)) (sym area) stands.records;
       },
       headers,
     )

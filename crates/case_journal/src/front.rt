@@ -2,7 +2,7 @@
 ghost use Rattle.std.specs.Prelude.{◌≡◌, ℕ, List, ◌+◌, ◌≤◌, length, IfOk, OnOk, IsOkUnless, Ok, Err};
 ghost use Rattle.disk_model.specs.Disk.{HasCause, HasRisen};
 ghost use Rattle.journal_layout.specs.Layout.{disk_length, IsWithinLimits};
-ghost use Rattle.journal_layout.specs.Front.{is_archive, shape_at, is_shape_of, shape_opening, header_at, generation_fault, taken_half};
+ghost use Rattle.journal_layout.specs.Front.{is_archive, is_known, shape_at, is_shape_of, shape_opening, header_at, generation_fault, taken_half};
 ghost use Rattle.case_journal.specs.Viewing.{IsView, Shows, ShowsHeader, ShowsHeaders, ShowsShape, ShowsFront, IsQuiet, FrontIs, header_of};
 
 use byteorder::{ByteOrder, LittleEndian};
@@ -13,8 +13,15 @@ use journal_records::GATE_OPEN;
 /// The layout's name.
 pub(crate) const MAGIC: &[u8; 8] = b"COREKEEP";
 
-/// The layout's version that is known.
+/// The layout's version that archives are made with.
 pub(crate) const VERSION: u32 = 1;
+
+// Whether this version of the layout is read.
+fn is_known(version: u32) -> bool
+    ensures { result ≡ is_known version }
+{
+    version == VERSION
+}
 
 // The superblock's gate is open, and the layout's name stands behind it.
 fn is_archive(bytes: &[u8]) -> bool
@@ -139,7 +146,7 @@ fn front_of(shape: Shape, a: HalfHeader, b: HalfHeader) -> Result<ArchiveFront, 
         Half::A => a,
         Half::B => b,
     };
-    if header.version != VERSION {
+    if !is_known(header.version) {
         return Err(OpenFault::UnknownVersion(header.version));
     }
     Ok(ArchiveFront {

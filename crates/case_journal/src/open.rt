@@ -74,7 +74,7 @@ fn read_journal<D: Disk>(alloc: Global, disk: &mut D) -> Result<Journal, OpenFau
     let front = read_front(disk)?;
     let bytes = read_records(alloc, disk, front)?;
     let at = front.shape.half_start(front.half) + HEADER;
-    let read = replay(alloc, &bytes, at, front.shape.data_blocks)?;
+    let read = replay(alloc, &bytes, at, front.version, front.shape.data_blocks)?;
     Ok(Journal {
         shape: front.shape,
         half: front.half,

@@ -27,7 +27,7 @@ fn read<R: AllocGlobal>(rt: &R, records: &[(usize, &[u8])]) -> Result<Replayed, 
             }
         }
     }
-    replay(rt.alloc(), &bytes, AT, 4)
+    replay(rt.alloc(), &bytes, AT, 1, 4)
 }
 
 // The reading fails at this place of the records, in this field, unless there was no memory for it.

@@ -15,20 +15,20 @@ use Rattle.journal_layout.specs.RecordLaws.{record_found, size_found}
 use Rattle.journal_records.specs.Head.{TellsFault}
 use Rattle.journal_records.specs.Said.{IsAlong, TellsFaulty}
 
-pub along_first : (limit : ℕ) (bytes : List ℕ) (said : Folded) → nothing_yet ≡ said → IsAlong limit bytes said 0
-along_first limit bytes said is = record { records = []; row = tt; folded = is; size = refl }
+pub along_first : (limit version : ℕ) (bytes : List ℕ) (said : Folded) → nothing_yet version ≡ said → IsAlong limit version bytes said 0
+along_first limit version bytes said is = record { records = []; row = tt; folded = is; size = refl }
 
 -- one record more
-pub along_more : (limit at : ℕ) (bytes : List ℕ) (said next : Folded) (used size : ℕ) → AreBytes bytes → IsAlong limit bytes said used → slice_index bytes used ≡ 165
+pub along_more : (limit version at : ℕ) (bytes : List ℕ) (said next : Folded) (used size : ℕ) → AreBytes bytes → IsAlong limit version bytes said used → slice_index bytes used ≡ 165
     → record_fault limit at (drop used bytes) said ≡ None → next ≡ after (record_at (drop used bytes)) said → size ≡ length_at (drop used bytes)
-    → IsAlong limit bytes next (used + size)
-along_more limit at bytes said next used size are along opened fine is long =
+    → IsAlong limit version bytes next (used + size)
+along_more limit version at bytes said next used size are along opened fine is long =
     let rest = drop used bytes in
     let r = record_at rest in
     let here : drop (sizes along.records) bytes ≡ rest = ap (λ n. drop n bytes) along.size in
     let gate : slice_index rest 0 ≡ 165 = (let e : used + 0 ≡ used = omega arith in get_or-drop used bytes 0 0 ∙ ap (slice_index bytes) e ∙ opened) in
     let found : StandsFirst limit rest said r = record_found limit at rest said (drop_bytes used bytes are) gate fine in
-    let stands : StandsFirst limit (drop (sizes along.records) bytes) (replayed along.records nothing_yet) r =
+    let stands : StandsFirst limit (drop (sizes along.records) bytes) (replayed along.records (nothing_yet version)) r =
     subst (λ (f : Folded). StandsFirst limit (drop (sizes along.records) bytes) f r) (sym along.folded)
     (subst (λ (b : List ℕ). StandsFirst limit b said r) (sym here) found) in
     let whole = size_found limit at rest said (drop_bytes used bytes are) gate fine in
@@ -36,28 +36,28 @@ along_more limit at bytes said next used size are along opened fine is long =
     let so_far = along.size in
     record {
       records = along.records ++ r ∷ [];
-      row = row_push limit bytes nothing_yet along.records r along.row stands;
-      folded = replayed_push along.records r nothing_yet ∙ ap (after r) along.folded ∙ sym is;
+      row = row_push limit bytes (nothing_yet version) along.records r along.row stands;
+      folded = replayed_push along.records r (nothing_yet version) ∙ ap (after r) along.folded ∙ sym is;
       size = omega (arith, sum, whole, so_far, long);
     }
 
 -- the record that is next is faulty
-pub faulty_next : (limit at : ℕ) (bytes : List ℕ) (said : Folded) (used : ℕ) (e : OpenFault) → IsAlong limit bytes said used → slice_index bytes used ≡ 165
-    → TellsFault (record_fault limit (at + used) (drop used bytes) said) e → TellsFaulty limit at bytes e
-faulty_next limit at bytes said used (Damaged place which) along opened told = record {
+pub faulty_next : (limit version at : ℕ) (bytes : List ℕ) (said : Folded) (used : ℕ) (e : OpenFault) → IsAlong limit version bytes said used → slice_index bytes used ≡ 165
+    → TellsFault (record_fault limit (at + used) (drop used bytes) said) e → TellsFaulty limit version at bytes e
+faulty_next limit version at bytes said used (Damaged place which) along opened told = record {
   records = along.records;
   row = along.row;
   opened = ap (slice_index bytes) along.size ∙ opened;
   found =
-      ap (λ n. record_fault limit (at + n) (drop n bytes) (replayed along.records nothing_yet)) along.size
+      ap (λ n. record_fault limit (at + n) (drop n bytes) (replayed along.records (nothing_yet version))) along.size
       ∙ ap (record_fault limit (at + used) (drop used bytes)) along.folded ∙ told;
 }
-faulty_next limit at bytes said used OutOfMemory along opened told = tt
-faulty_next limit at bytes said used other along opened told = absurd told
+faulty_next limit version at bytes said used OutOfMemory along opened told = tt
+faulty_next limit version at bytes said used other along opened told = absurd told
 
 -- the reading is over
-pub read_all : (limit : ℕ) (bytes : List ℕ) (said same : Folded) (used : ℕ) → IsAlong limit bytes said used → (slice_index bytes used ≡ 165 → ⊥) → said ≡ same → AreRead limit bytes nothing_yet same used
-read_all limit bytes said same used along closed is = record {
+pub read_all : (limit version : ℕ) (bytes : List ℕ) (said same : Folded) (used : ℕ) → IsAlong limit version bytes said used → (slice_index bytes used ≡ 165 → ⊥) → said ≡ same → AreRead limit bytes (nothing_yet version) same used
+read_all limit version bytes said same used along closed is = record {
   records = along.records;
   row = along.row;
   closed = subst (λ n. slice_index bytes n ≡ 165 → ⊥) (sym along.size) closed;

@@ -16,15 +16,16 @@ use Rattle.journal_records.specs.Kept.{said_by, bearers, AreKept, Says}
 use Rattle.journal_records.proofs.LiveLemmas.{numbered_up, numbered_pinned, pinned_cases}
 use Rattle.journal_records.proofs.KeptLemmas.{sum_pinned, uses_cases, used_push, bearers_push, names_more}
 
-pub folded_same : (cs ds : List Case) (m n : ℕ) → cs ≡ ds → m ≡ n → (let f : Folded = record { cases = cs; next = m } in f) ≡ (let f : Folded = record { cases = ds; next = n } in f)
-folded_same cs ds m n same number =
-    ap (λ (l : List Case). let f : Folded = record { cases = l; next = m } in f) same
-    ∙ ap (λ (k : ℕ). let f : Folded = record { cases = ds; next = k } in f) number
+pub folded_same : (v w : ℕ) (cs ds : List Case) (m n : ℕ) → v ≡ w → cs ≡ ds → m ≡ n → (let f : Folded = record { version = v; cases = cs; next = m } in f) ≡ (let f : Folded = record { version = w; cases = ds; next = n } in f)
+folded_same v w cs ds m n version same number =
+    ap (λ (k : ℕ). let f : Folded = record { version = k; cases = cs; next = m } in f) version
+    ∙ ap (λ (l : List Case). let f : Folded = record { version = w; cases = l; next = m } in f) same
+    ∙ ap (λ (k : ℕ). let f : Folded = record { version = w; cases = ds; next = k } in f) number
 
 -- a case pinned or unpinned
-pub pin_says : (old new : Cases) (s : ℕ) (flag : Bool) → AreKept old → new.live.entries ≡ pinned_in s flag old.live.entries → new.names ≡ old.names → new.free ≡ old.free → new.next ≡ old.next
+pub pin_says : (old new : Cases) (s : ℕ) (flag : Bool) → AreKept old → new.version ≡ old.version → new.live.entries ≡ pinned_in s flag old.live.entries → new.names ≡ old.names → new.free ≡ old.free → new.next ≡ old.next
     → Says (after (Pin s flag) (said_by old)) (length old.free) new
-pin_says old new s flag kept live names free next =
+pin_says old new s flag kept version live names free next =
     let es = old.live.entries in
     let cases : cases_of new.live.entries ≡ cases_of (pinned_in s flag es) = ap cases_of live in
     record {
@@ -45,14 +46,14 @@ pin_says old new s flag kept live names free next =
             let moved = ap (λ (cs : List Case). uses k (used_blocks cs)) cases in
             omega (arith, all, before, pinned, after, moved));
       };
-      says = folded_same (cases_of new.live.entries) (with_pin s flag (cases_of es)) new.next old.next (cases ∙ pinned_cases 0 old.next s flag es kept.numbered) next;
+      says = folded_same new.version old.version (cases_of new.live.entries) (with_pin s flag (cases_of es)) new.next old.next version (cases ∙ pinned_cases 0 old.next s flag es kept.numbered) next;
       size = ap length free;
     }
 
 -- the next case gets another number
-pub next_says : (old new : Cases) (n : ℕ) → AreKept old → new.live ≡ old.live → new.names ≡ old.names → new.free ≡ old.free → new.next ≡ n → old.next ≤ n → n ≤ 2 ^ 32
+pub next_says : (old new : Cases) (n : ℕ) → AreKept old → new.version ≡ old.version → new.live ≡ old.live → new.names ≡ old.names → new.free ≡ old.free → new.next ≡ n → old.next ≤ n → n ≤ 2 ^ 32
     → Says (after (Next n) (said_by old)) (length old.free) new
-next_says old new n kept live names free next low high =
+next_says old new n kept version live names free next low high =
     let entries = ap (λ (m : BTreeMap ℕ Entry). m.entries) live in
     record {
       kept = record {
@@ -62,7 +63,7 @@ next_says old new n kept live names free next low high =
         names = λ name. ap (λ (es : List (ℕ × Entry)). bearers (cases_of es) name) entries ∙ kept.names name ∙ ap (λ m. one_if (has_name m name)) (sym names);
         accounts = subst (Accounts (used_blocks (cases_of new.live.entries))) (sym free) (subst (λ (es : List (ℕ × Entry)). Accounts (used_blocks (cases_of es)) old.free) (sym entries) kept.accounts);
       };
-      says = folded_same (cases_of new.live.entries) (cases_of old.live.entries) new.next n (ap cases_of entries) next;
+      says = folded_same new.version old.version (cases_of new.live.entries) (cases_of old.live.entries) new.next n version (ap cases_of entries) next;
       size = ap length free;
     }
 
@@ -70,12 +71,12 @@ same_name : (a b : List ℕ) → bytes_eq a b ≡ true → a ≡ b
 same_name a b is = (bytes_eq-Decides a b).0 is
 
 -- one case more
-pub store_says : (old new : Cases) (c : Case) → AreKept old
+pub store_says : (old new : Cases) (c : Case) → AreKept old → new.version ≡ old.version
     → cases_of new.live.entries ≡ cases_of old.live.entries ++ c ∷ [] → AreNumbered 0 (c.seq + 1) new.live.entries → new.next ≡ c.seq + 1 → c.seq < 2 ^ 32
     → ((q : List ℕ) → has_name new.names q ≡ cond (bytes_eq c.name q) true (has_name old.names q)) → has_name old.names c.name ≡ false
     → Accounts (used_blocks (cases_of old.live.entries) ++ c.blocks) new.free → length new.free ≡ length old.free
     → Says (after (Store c) (said_by old)) (length old.free) new
-store_says old new c kept cases numbered next bound names fresh accounts size = record {
+store_says old new c kept version cases numbered next bound names fresh accounts size = record {
   kept = record {
     numbered = subst (λ (k : ℕ). AreNumbered 0 k new.live.entries) (sym next) numbered;
     some = omega (arith, next);
@@ -87,6 +88,6 @@ store_says old new c kept cases numbered next bound names fresh accounts size = 
         ∙ ap one_if (sym (names name));
     accounts = subst (λ (l : List ℕ). Accounts l new.free) (sym (ap used_blocks cases ∙ used_push (cases_of old.live.entries) c)) accounts;
   };
-  says = folded_same (cases_of new.live.entries) (cases_of old.live.entries ++ c ∷ []) new.next (c.seq + 1) cases next;
+  says = folded_same new.version old.version (cases_of new.live.entries) (cases_of old.live.entries ++ c ∷ []) new.next (c.seq + 1) version cases next;
   size = size;
 }

@@ -14,9 +14,9 @@ use Rattle.journal_records.specs.Head.{IsHeaded, TellsFault}
 use Rattle.journal_records.specs.Live.{cases_of, AreNumbered}
 use Rattle.journal_records.specs.Taken.{Accounts, has_name}
 
--- the cases and the next number
+-- the version, the cases and the next number
 abbrev pub said_by : Cases → Folded
-said_by c = record { cases = cases_of c.live.entries; next = c.next }
+said_by c = record { version = c.version; cases = cases_of c.live.entries; next = c.next }
 
 -- how many of the cases have this name
 abbrev pub bearers : List Case → List ℕ → ℕ

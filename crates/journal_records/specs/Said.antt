@@ -10,30 +10,31 @@ use Rattle.journal_records.specs.declared.reading.Replayed.{Replayed}
 use Rattle.journal_records.specs.declared.cases.Cases.{Cases}
 use Rattle.journal_records.specs.Kept.{said_by, AreKept}
 
--- the cases and the next number that are told
-abbrev pub said_of : Replayed → Folded
-said_of r = record { cases = map case_of r.entries.items; next = r.next }
+-- the cases and the next number that are told of a half of this version
+abbrev pub said_of : ℕ → Replayed → Folded
+said_of version r = record { version = version; cases = map case_of r.entries.items; next = r.next }
 
--- what an error tells of these bytes, which stand at this place of the disk
-abbrev pub TellsFaulty : ℕ → ℕ → List ℕ → OpenFault → Type 0
-TellsFaulty limit at bytes (Damaged place which) = AreFaulty limit at bytes nothing_yet (Damaged place which)
-TellsFaulty limit at bytes OutOfMemory = Unit {0}
-TellsFaulty limit at bytes other = ⊥
+-- what an error tells of these bytes of a half of this version, which stand at this place of the disk
+abbrev pub TellsFaulty : ℕ → ℕ → ℕ → List ℕ → OpenFault → Type 0
+TellsFaulty limit version at bytes (Damaged place which) = AreFaulty limit at bytes (nothing_yet version) (Damaged place which)
+TellsFaulty limit version at bytes OutOfMemory = Unit {0}
+TellsFaulty limit version at bytes other = ⊥
 
--- These bytes begin with records in a row, which say this in so many bytes.
-pub record IsAlong (limit : ℕ) (bytes : List ℕ) (said : Folded) (used : ℕ) : Type 0 where
+-- These bytes begin with records in a row, which say this in so many bytes, on so many data blocks and in this version.
+pub record IsAlong (limit version : ℕ) (bytes : List ℕ) (said : Folded) (used : ℕ) : Type 0 where
   pub records : List Record
-  pub row : StandInRow limit bytes nothing_yet records
-  pub folded : replayed records nothing_yet ≡ said
+  pub row : StandInRow limit bytes (nothing_yet version) records
+  pub folded : replayed records (nothing_yet version) ≡ said
   pub size : sizes records ≡ used
 
 -- the same at the end of a reading, which the working state says
-pub record IsThrough (limit : ℕ) (bytes : List ℕ) (used : ℕ) (c : Cases) : Type 0 where
-  pub along : IsAlong limit bytes (said_by c) used
+pub record IsThrough (limit version : ℕ) (bytes : List ℕ) (used : ℕ) (c : Cases) : Type 0 where
+  pub along : IsAlong limit version bytes (said_by c) used
+  pub version_is : c.version ≡ version
   pub closed : slice_index bytes used ≢ 165
   pub kept : AreKept c
   pub room : used + 1 ≤ length bytes
 
-abbrev pub ReadsAll : ℕ → ℕ → List ℕ → Result ℕ OpenFault → Cases → Type 0
-ReadsAll limit at bytes (Ok used) c = IsThrough limit bytes used c
-ReadsAll limit at bytes (Err e) c = TellsFaulty limit at bytes e
+abbrev pub ReadsAll : ℕ → ℕ → ℕ → List ℕ → Result ℕ OpenFault → Cases → Type 0
+ReadsAll limit version at bytes (Ok used) c = IsThrough limit version bytes used c
+ReadsAll limit version at bytes (Err e) c = TellsFaulty limit version at bytes e

@@ -25,9 +25,11 @@ use journal_layout::{Entry, Name, OpenFault};
 use std::alloc::Global;
 use std::collections::{BTreeMap, BTreeSet};
 
-/// The live cases, their names, the blocks that none of them holds, and the number of the next case.
+/// The version of the layout, the live cases, their names, the blocks that none of them holds, and the number of the next case.
 #[derive(Drop)]
 pub(crate) struct Cases {
+    /// The version of the half's layout.
+    pub version: u32,
     /// The live cases by their numbers.
     pub live: Live,
     /// The names of the live cases.
@@ -39,16 +41,18 @@ pub(crate) struct Cases {
 }
 
 impl Cases {
-    /// Before the first record, on an archive of so many data blocks. `OutOfMemory`: there was no memory.
-    pub fn new(alloc: Global, data_blocks: u32) -> Result<Cases, OpenFault>
+    /// Before the first record of a half of this version, on an archive of so many data blocks. `OutOfMemory`: there was no
+    /// memory.
+    pub fn new(alloc: Global, version: u32, data_blocks: u32) -> Result<Cases, OpenFault>
         requires { data_blocks ≤ 16777216 }
-        ensures says { IfOk result (λ c. Says nothing_yet data_blocks c) }
+        ensures says { IfOk result (λ c. Says (nothing_yet version) data_blocks c) }
         ensures only { OnlyMemory result }
     {
         let Ok(free) = FreeMap::new(alloc, data_blocks) else {
             return Err(OpenFault::OutOfMemory);
         };
         Ok(Cases {
+            version,
             live: BTreeMap::new(alloc),
             names: BTreeSet::new(alloc),
             free,
@@ -88,6 +92,7 @@ impl Cases {
         ensures numbered { OnOk result (AreNumbered 0 (entry.seq + 1) self.new.live.entries) }
         ensures next { OnOk result (self.new.next ≡ entry.seq + 1) }
         ensures bound { OnOk result (entry.seq < 2 ^ 32) }
+        ensures version { self.new.version ≡ self.old.version }
         ensures names { self.new.names ≡ self.old.names }
         ensures free { self.new.free ≡ self.old.free }
         ensures only { OnlyMemory result }

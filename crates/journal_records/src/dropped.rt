@@ -5,6 +5,7 @@ ghost use Rattle.std.specs.Option.{option_map};
 ghost use Rattle.journal_layout.specs.Record.{rounded};
 ghost use Rattle.journal_layout.specs.Reading.{length_at, seq_count_at, drop_seqs};
 ghost use Rattle.journal_layout.specs.Checks.{damaged, first_failing, count_checks, first_bad_seq, drop_fault, is_kept};
+ghost use Rattle.journal_layout.specs.Folding.{Folded};
 ghost use Rattle.journal_layout.specs.Soundness.{case_numbered};
 ghost use Rattle.journal_layout.specs.declared.faults.Field.TheVariants as named;
 ghost use Rattle.journal_records.specs.Head.{IsHeaded};
@@ -72,8 +73,8 @@ pub(crate) fn check_drop(live: &Live, rest: &[u8], at: u64) -> Result<(), OpenFa
     requires numbered { AreNumbered 0 (2 ^ 32) live.now.entries }
     requires head { IsHeaded rest.now }
     requires disk { at + length rest.now ≤ 2 ^ 63 }
-    ensures fault { (next : ℕ) → result_err result
-        ≡ drop_fault at rest.now (record { cases = cases_of live.now.entries; next = next }) }
+    ensures fault { (f : Folded) → result_err result
+        ≡ drop_fault at rest.now (record f { cases = cases_of live.now.entries }) }
     ensures room { OnOk result (12 + 4 * seq_count_at rest.now ≤ length rest.now) }
 {
     check_count(rest, at)?;

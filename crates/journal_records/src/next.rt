@@ -2,7 +2,7 @@
 ghost use Rattle.std.specs.Prelude.{◌≡◌, ◌+◌, ◌^◌, ◌<◌, ◌≤◌, length, List, IfOk};
 ghost use Rattle.std.specs.Result.{result_err};
 ghost use Rattle.journal_layout.specs.Layout.{field};
-ghost use Rattle.journal_layout.specs.Case.{Case};
+ghost use Rattle.journal_layout.specs.Folding.{Folded};
 ghost use Rattle.journal_layout.specs.Checks.{first_failing, next_checks};
 ghost use Rattle.journal_records.specs.Head.{IsHeaded};
 
@@ -13,8 +13,8 @@ use journal_layout::{Field, OpenFault};
 pub(crate) fn read_next(rest: &[u8], at: u64, next: u64) -> Result<u64, OpenFault>
     requires head { IsHeaded rest.now }
     requires disk { at + length rest.now ≤ 2 ^ 63 }
-    ensures fault { (cases : List Case) → result_err result
-        ≡ first_failing at (next_checks rest.now (record { cases = cases; next = next })) }
+    ensures fault { (f : Folded) → result_err result
+        ≡ first_failing at (next_checks rest.now (record f { next = next })) }
     ensures value { IfOk result (λ number. number ≡ field rest.now 8 8) }
     ensures bounds { IfOk result (λ number. (next ≤ number) × (number ≤ 2 ^ 32)) }
 {

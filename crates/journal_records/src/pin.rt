@@ -2,6 +2,7 @@
 ghost use Rattle.std.specs.Prelude.{◌≡◌, ℕ, ◌+◌, ◌^◌, ◌<◌, ◌≤◌, length, OnOk};
 ghost use Rattle.std.specs.Result.{result_err};
 ghost use Rattle.std.specs.Option.{is_none};
+ghost use Rattle.journal_layout.specs.Folding.{Folded};
 ghost use Rattle.journal_layout.specs.Soundness.{case_numbered};
 ghost use Rattle.journal_layout.specs.Layout.{field};
 ghost use Rattle.journal_layout.specs.Checks.{pin_fault};
@@ -25,8 +26,8 @@ pub(crate) fn check_pin(live: &Live, rest: &[u8], at: u64) -> Result<(), OpenFau
     requires head { IsHeaded rest.now }
     requires disk { at + length rest.now ≤ 2 ^ 63 }
     requires numbered { AreNumbered 0 (2 ^ 32) live.now.entries }
-    ensures fault { (next : ℕ) → result_err result
-        ≡ pin_fault at rest.now (record { cases = cases_of live.now.entries; next = next }) }
+    ensures fault { (f : Folded) → result_err result
+        ≡ pin_fault at rest.now (record f { cases = cases_of live.now.entries }) }
 {
     if u32_at(rest, 4) != 16 {
         return Err(damaged(at, Field::Length, 4));

@@ -27,8 +27,8 @@ fn read_records(cases: &mut Cases, alloc: Global, bytes: &[u8], at: u64) -> Resu
     requires some { 1 ≤ length bytes.now }
     requires disk { at + length bytes.now ≤ 2 ^ 63 }
     requires limit { length cases.old.free ≤ 16777216 }
-    requires says { Says nothing_yet (length cases.old.free) cases.old }
-    ensures { ReadsAll (length cases.old.free) at bytes.now result cases.new }
+    requires says { Says (nothing_yet cases.old.version) (length cases.old.free) cases.old }
+    ensures { ReadsAll (length cases.old.free) cases.old.version at bytes.now result cases.new }
 {
     let mut size = 0;
     while bytes[size] == GATE_OPEN {
@@ -45,20 +45,27 @@ fn entries_of(alloc: Global, live: Live) -> Result<Vec<Entry>, AllocError>
 }
 
 /// Reads the records of a half. `bytes` are the bytes of the half behind its header, and `at` is their place on the disk,
-/// in bytes; `data_blocks` is the number of the archive's data blocks.
+/// in bytes; `version` is that of its layout, and `data_blocks` the number of the archive's data blocks.
 ///
 /// `Damaged`: this field is the first that is wrong. `OutOfMemory`: there was no memory. There is no other error.
-pub fn replay(alloc: Global, bytes: &[u8], at: u64, data_blocks: u32) -> Result<Replayed, OpenFault>
+pub fn replay(
+    alloc: Global,
+    bytes: &[u8],
+    at: u64,
+    version: u32,
+    data_blocks: u32,
+) -> Result<Replayed, OpenFault>
     requires some { 1 ≤ length bytes.now }
     requires places { at + length bytes.now ≤ 2 ^ 63 }
     requires blocks { data_blocks ≤ 16777216 }
-    ensures read { IfOk result (λ r. AreRead data_blocks bytes.now nothing_yet (said_of r) r.size) }
-    ensures fault { IfErr result (TellsFaulty data_blocks at bytes.now) }
+    ensures read { IfOk result (λ r. AreRead data_blocks bytes.now (nothing_yet version) (said_of version r) r.size) }
+    ensures fault { IfErr result (TellsFaulty data_blocks version at bytes.now) }
     ensures bounds { IfOk result (λ r. (1 ≤ r.next) × (r.next ≤ 2 ^ 32) × (r.size + 1 ≤ length bytes.now)) }
 {
-    let mut cases = Cases::new(alloc, data_blocks)?;
+    let mut cases = Cases::new(alloc, version, data_blocks)?;
     let size = read_records(&mut cases, alloc, bytes, at)?;
     let Cases {
+        version: _,
         live,
         names: _,
         free: _,

@@ -2,7 +2,8 @@
 ghost use Rattle.std.specs.Prelude.{◌≡◌, ℕ, ◌+◌, ◌*◌, ◌^◌, ◌<◌, ◌≤◌, ◌==◌, not, List, Some, None, if◌then◌else◌, length, OnOk};
 ghost use Rattle.std.specs.Result.{result_err};
 ghost use Rattle.journal_layout.specs.declared.faults.Field.TheVariants as named;
-ghost use Rattle.journal_layout.specs.Case.{Case, case_of};
+ghost use Rattle.journal_layout.specs.Case.{case_of};
+ghost use Rattle.journal_layout.specs.Folding.{Folded};
 ghost use Rattle.journal_layout.specs.Layout.{field};
 ghost use Rattle.journal_layout.specs.Record.{rounded};
 ghost use Rattle.journal_layout.specs.Reading.{length_at, name_length_at, run_count_at, name_place, case_at, store_runs};
@@ -28,8 +29,8 @@ fn is_bad_count(rest: &[u8]) -> bool
 pub(crate) fn check_facts(rest: &[u8], at: u64, next: u64) -> Result<(), OpenFault>
     requires head { IsHeaded rest.now }
     requires disk { at + length rest.now ≤ 2 ^ 63 }
-    ensures fault { (cases : List Case) → result_err result
-        ≡ first_failing at (store_checks rest.now (record { cases = cases; next = next })) }
+    ensures fault { (f : Folded) → result_err result
+        ≡ first_failing at (store_checks rest.now (record f { next = next })) }
     ensures placed { OnOk result (IsPlaced rest.now) }
     ensures number { OnOk result (next ≤ field rest.now 8 4) }
 {

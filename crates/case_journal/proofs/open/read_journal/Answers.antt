@@ -1,5 +1,6 @@
-use Rattle.std.proofs.Common.{◌+◌, ℕ, List, ap, refl, subst}
+use Rattle.std.proofs.Common.{◌+◌, ℕ, List, map, ap, refl, subst}
 use Rattle.std.proofs.lemmas.Result.{err_from_is_err_and}
+use Rattle.journal_layout.specs.Case.{case_of}
 use Rattle.journal_layout.specs.Folding.{nothing_yet}
 use Rattle.journal_layout.specs.Stands.{AreRead}
 use Rattle.journal_records.specs.Said.{said_of, TellsFaulty}
@@ -20,7 +21,7 @@ returns-in_err-read-clause-shows g c b view =
       view = two.view;
       gives = faulty_gives g.D.Disk front c.in_ok-bytes.bytes.items two.shown (c.half_start-at.result + 32) c.in_err-read.field-0.0 shown
           (ap (λ (p : ℕ). p + 32) c.half_start-at.ensures)
-          (subst (λ (x : List ℕ). TellsFaulty front.shape.data_blocks (c.half_start-at.result + 32) x c.in_err-read.field-0.0) c.deref.ensures.value tells);
+          (subst (λ (x : List ℕ). TellsFaulty front.shape.data_blocks front.version (c.half_start-at.result + 32) x c.in_err-read.field-0.0) c.deref.ensures.value tells);
     })
 
 pub returns-clause-shows : goal.returns-clause-shows
@@ -34,6 +35,6 @@ returns-clause-shows g c b view =
     record {
       shown = two.shown;
       view = two.view;
-      gives = read_gives g.D.Disk front c.in_ok-bytes.bytes.items two.shown (said_of c.in_ok-read.read) c.in_ok-read.read.size (32 + c.in_ok-read.read.size) shown
-          (subst (λ (x : List ℕ). AreRead front.shape.data_blocks x nothing_yet (said_of c.in_ok-read.read) c.in_ok-read.read.size) bytes read) refl;
+      gives = read_gives g.D.Disk front c.in_ok-bytes.bytes.items two.shown (map case_of c.in_ok-read.read.entries.items) c.in_ok-read.read.next c.in_ok-read.read.size (32 + c.in_ok-read.read.size) shown
+          (subst (λ (x : List ℕ). AreRead front.shape.data_blocks x (nothing_yet front.version) (said_of front.version c.in_ok-read.read) c.in_ok-read.read.size) bytes read) refl;
     }

@@ -1,5 +1,6 @@
 use Rattle.std.proofs.Common.{ℕ, ◌+◌, List, Ok, length, drop, sym, ap, ◌∙◌, subst, arith}
 use Rattle.std.proofs.lemmas.List.{length-drop}
+use Rattle.journal_layout.specs.Folding.{Folded}
 use Rattle.journal_layout.specs.Checks.{record_fault}
 use Rattle.journal_records.specs.Kept.{said_by, ReadsRecord}
 use Rattle.journal_records.proofs.AlongLemmas.{along_more, rest_of}
@@ -18,9 +19,10 @@ loop-size-preserved c =
     let room = read.3.room in
     let is = read.2 in
     record {
-      along = along_more (length c.args.cases.now.free) (c.args.at + l.size) bytes (said_by old) (said_by new) l.size ok.field-0 (λ k. (let f = c.type_inv.bytes k in omega arith)) l.invariant.along c.loop-size-test.true
+      along = along_more (length c.args.cases.now.free) c.args.cases.now.version (c.args.at + l.size) bytes (said_by old) (said_by new) l.size ok.field-0 (λ k. (let f = c.type_inv.bytes k in omega arith)) l.invariant.along c.loop-size-test.true
           (ap (λ n. record_fault n (c.args.at + l.size) (drop l.size bytes) (said_by old)) (sym l.invariant.free) ∙ read.0)
           read.1.says read.2;
+      version = ap (λ (f : Folded). f.version) read.1.says ∙ l.invariant.version;
       kept = read.1.kept;
       room = omega (arith, long, room, is, l.invariant.room);
       free = read.1.size ∙ l.invariant.free;

@@ -5,7 +5,8 @@ use Rattle.journal_records.proofs.reading.read_records.Given as goal
 
 abbrev pub invariant-loop-size : goal.invariant-loop-size
 invariant-loop-size l = record {
-  along : IsAlong (length l.initial.cases.free) l.bytes (said_by l.cases) l.size;
+  along : IsAlong (length l.initial.cases.free) l.initial.cases.version l.bytes (said_by l.cases) l.size;
+  version : l.cases.version ≡ l.initial.cases.version;
   kept : AreKept l.cases;
   room : l.size + 1 ≤ length l.bytes;
   free : length l.cases.free ≡ length l.initial.cases.free;

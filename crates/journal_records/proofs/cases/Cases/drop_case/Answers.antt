@@ -50,8 +50,8 @@ returns-in-Some c =
             (accounts_less (used_blocks (cases_of es)) (used_blocks (cases_of (remove_entry test es))) v.runs old.free c.requires.accounts
             (λ k. used_removed k test v es found)));
       };
-      says = ap (λ (l : List (ℕ × Entry)). let f : Folded = record { cases = cases_of l; next = old.next } in f) less
-          ∙ ap (λ (cs : List Case). let f : Folded = record { cases = cs; next = old.next } in f) (dropped_removed 0 old.next c.args.seq es c.requires.numbered);
+      says = ap (λ (l : List (ℕ × Entry)). let f : Folded = record { version = old.version; cases = cases_of l; next = old.next } in f) less
+          ∙ ap (λ (cs : List Case). let f : Folded = record { version = old.version; cases = cs; next = old.next } in f) (dropped_removed 0 old.next c.args.seq es c.requires.numbered);
       size = ap length freed ∙ length_with old.free (blocks_of (runs_of v.runs));
     }
 
@@ -71,7 +71,7 @@ returns-in_default c =
         names = λ name. ap (λ (l : List (ℕ × Entry)). bearers (cases_of l) name) same ∙ c.requires.names name;
         accounts = subst (λ (l : List (ℕ × Entry)). Accounts (used_blocks (cases_of l)) old.free) (sym same) c.requires.accounts;
       };
-      says = ap (λ (l : List (ℕ × Entry)). let f : Folded = record { cases = cases_of l; next = old.next } in f) c.remove.ensures.entries
-          ∙ ap (λ (cs : List Case). let f : Folded = record { cases = cs; next = old.next } in f) (dropped_removed 0 old.next c.args.seq es c.requires.numbered);
+      says = ap (λ (l : List (ℕ × Entry)). let f : Folded = record { version = old.version; cases = cases_of l; next = old.next } in f) c.remove.ensures.entries
+          ∙ ap (λ (cs : List Case). let f : Folded = record { version = old.version; cases = cs; next = old.next } in f) (dropped_removed 0 old.next c.args.seq es c.requires.numbered);
       size = refl;
     }

@@ -24,6 +24,7 @@ loop-index-preserved c =
           ∙ ap (λ (seqs : List ℕ). dropped seqs cs) (sym (seqs_here l.index count rest c.loop-index-test.true))
           ∙ l.invariant.left;
       next = ap (λ (f : Folded). f.next) says ∙ l.invariant.next;
+      version = ap (λ (f : Folded). f.version) says ∙ l.invariant.version;
       size = c.drop_case.ensures.size ∙ l.invariant.size;
     }
 
@@ -38,6 +39,6 @@ returns c =
     ∙ l.invariant.left in
     record {
       kept = l.invariant.kept;
-      says = folded_same cs (dropped (drop_seqs rest) (cases_of c.args.self.now.live.entries)) l.self.next c.args.self.now.next all l.invariant.next;
+      says = folded_same l.self.version c.args.self.now.version cs (dropped (drop_seqs rest) (cases_of c.args.self.now.live.entries)) l.self.next c.args.self.now.next l.invariant.version all l.invariant.next;
       size = l.invariant.size;
     }

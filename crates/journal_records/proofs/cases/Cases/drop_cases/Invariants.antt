@@ -10,5 +10,6 @@ invariant-loop-index l = record {
   kept : AreKept l.self;
   left : dropped (seqs_at (drop (12 + 4 * l.index) l.rest) (l.index-end - l.index)) (cases_of l.self.live.entries) ≡ dropped (drop_seqs l.rest) (cases_of l.initial.self.live.entries);
   next : l.self.next ≡ l.initial.self.next;
+  version : l.self.version ≡ l.initial.self.version;
   size : length l.self.free ≡ length l.initial.self.free;
 }

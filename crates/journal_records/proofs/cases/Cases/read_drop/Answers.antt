@@ -17,7 +17,7 @@ returns-in_err-check_drop c =
     let rest = c.args.rest.now in
     let fault = drop_fault c.args.at rest (said_by old) in
     handed_on fault (after (Drop (drop_seqs rest)) (said_by old)) (length old.free) c.from_residual.result old c.in_err-check_drop.field-0.0 c.from_residual.ensures.1
-    (tells fault c.in_err-check_drop.field-0.0 (drop_only c.args.at rest (said_by old)) (c.in_err-check_drop.ensures.fault old.next))
+    (tells fault c.in_err-check_drop.field-0.0 (drop_only c.args.at rest (said_by old)) (c.in_err-check_drop.ensures.fault (said_by old)))
 
 pub returns : goal.returns
-returns c = (sym (c.in_ok-check_drop.ensures.fault c.args.self.now.next), c.drop_cases.ensures)
+returns c = (sym (c.in_ok-check_drop.ensures.fault (said_by c.args.self.now)), c.drop_cases.ensures)

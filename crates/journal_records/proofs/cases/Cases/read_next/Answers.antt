@@ -4,7 +4,6 @@ use Rattle.journal_layout.specs.Checks.{first_failing, next_checks}
 use Rattle.journal_layout.specs.Record.{Next}
 use Rattle.journal_layout.specs.Folding.{after}
 use Rattle.journal_records.specs.Kept.{said_by}
-use Rattle.journal_records.specs.Live.{cases_of}
 use Rattle.journal_records.specs.declared.cases.Cases.{Cases}
 use Rattle.journal_records.proofs.FaultLemmas.{handed_on, tells, checks_only}
 use Rattle.journal_records.proofs.SaysLemmas.{next_says}
@@ -16,7 +15,7 @@ returns-in_err-self c =
     let rest = c.args.rest.now in
     let fault = first_failing c.args.at (next_checks rest (said_by old)) in
     handed_on fault (after (Next (field rest 8 8)) (said_by old)) (length old.free) c.from_residual.result old c.in_err-self.field-0.0 c.from_residual.ensures.1
-    (tells fault c.in_err-self.field-0.0 (checks_only c.args.at (next_checks rest (said_by old))) (c.in_err-self.ensures.fault (cases_of old.live.entries)))
+    (tells fault c.in_err-self.field-0.0 (checks_only c.args.at (next_checks rest (said_by old))) (c.in_err-self.ensures.fault (said_by old)))
 
 pub returns : goal.returns
 returns c =
@@ -25,7 +24,7 @@ returns c =
     let ok = c.in_ok-self in
     let new : Cases = record old { next = ok.field-0 } in
     let n = field rest 8 8 in (
-      sym (ok.ensures.fault (cases_of old.live.entries)),
-      next_says old new n c.requires.kept refl refl refl ok.ensures.value
+      sym (ok.ensures.fault (said_by old)),
+      next_says old new n c.requires.kept refl refl refl refl ok.ensures.value
           (subst (λ k. old.next ≤ k) ok.ensures.value ok.ensures.bounds.0) (subst (λ k. k ≤ 2 ^ 32) ok.ensures.value ok.ensures.bounds.1),
     )

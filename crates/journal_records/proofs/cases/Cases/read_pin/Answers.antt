@@ -20,7 +20,7 @@ returns-in_err-check_pin c =
     let rest = c.args.rest.now in
     let fault = pin_fault c.args.at rest (said_by old) in
     handed_on fault (after (Pin (field rest 8 4) (nat_eq (slice_index rest 12) 1)) (said_by old)) (length old.free) c.from_residual.result old c.in_err-check_pin.field-0.0 c.from_residual.ensures.1
-    (tells fault c.in_err-check_pin.field-0.0 (pin_only c.args.at rest (said_by old)) (c.in_err-check_pin.ensures.fault old.next))
+    (tells fault c.in_err-check_pin.field-0.0 (pin_only c.args.at rest (said_by old)) (c.in_err-check_pin.ensures.fault (said_by old)))
 
 pub returns : goal.returns
 returns c =
@@ -28,6 +28,6 @@ returns c =
     let rest = c.args.rest.now in
     let flag = nat_eq (slice_index rest 12) 1 in
     let new : Cases = record old { live = c.set_pin.new.live } in (
-      sym (c.in_ok-check_pin.ensures.fault old.next),
-      pin_says old new (field rest 8 4) flag c.requires.kept (c.set_pin.ensures ∙ ap (λ s. pinned_in s flag old.live.entries) c.u32_at.ensures) refl refl refl,
+      sym (c.in_ok-check_pin.ensures.fault (said_by old)),
+      pin_says old new (field rest 8 4) flag c.requires.kept refl (c.set_pin.ensures ∙ ap (λ s. pinned_in s flag old.live.entries) c.u32_at.ensures) refl refl refl,
     )

@@ -27,7 +27,7 @@ returns-in_err-check_facts c =
     let e = c.in_err-check_facts.field-0.0 in
     handed_on (store_fault limit c.args.at rest f) (after (Store (case_at rest)) f) limit c.from_residual.result old e c.from_residual.ensures.1
     (facts_told limit c.args.at rest f e
-    (tells (facts_part c.args.at rest f) e (checks_only c.args.at (store_checks rest f)) (c.in_err-check_facts.ensures.fault f.cases)))
+    (tells (facts_part c.args.at rest f) e (checks_only c.args.at (store_checks rest f)) (c.in_err-check_facts.ensures.fault f)))
 
 pub returns-in_err-runs : goal.returns-in_err-runs
 returns-in_err-runs c =
@@ -38,7 +38,7 @@ returns-in_err-runs c =
     let e = c.in_err-runs.field-0.0 in
     handed_on (store_fault limit c.args.at rest f) (after (Store (case_at rest)) f) limit c.from_residual-in_err-runs.result (record old { free = c.read_runs.new.free }) e c.from_residual-in_err-runs.ensures.1
     (runs_told limit c.args.at rest f e
-    (sym (c.in_ok-check_facts.ensures.fault f.cases))
+    (sym (c.in_ok-check_facts.ensures.fault f))
     (c.in_err-runs.ensures.taken (used_blocks f.cases) c.requires.kept.accounts))
 
 pub returns-in_err-check_image : goal.returns-in_err-check_image
@@ -53,7 +53,7 @@ returns-in_err-check_image c =
     let is : Some e ≡ image_part c.args.at rest count = c.in_err-check_image.ensures ∙ ap (image_part c.args.at rest) taken.1.number in
     handed_on (store_fault limit c.args.at rest f) (after (Store (case_at rest)) f) limit c.from_residual-in_err-check_image.result (record old { free = c.read_runs.new.free }) e c.from_residual-in_err-check_image.ensures.1
     (image_told limit c.args.at rest f e
-    (sym (c.in_ok-check_facts.ensures.fault f.cases)) taken.0
+    (sym (c.in_ok-check_facts.ensures.fault f)) taken.0
     (tells (image_part c.args.at rest count) e (image_only c.args.at rest (not (nat_eq count (blocks_for (field rest 32 8))))) is))
 
 pub returns-in_err-name : goal.returns-in_err-name
@@ -68,7 +68,7 @@ returns-in_err-name c =
     any_bearer (name_at rest) (has_name old.names (name_at rest)) f.cases (c.requires.kept.names (name_at rest)) in
     handed_on (store_fault limit c.args.at rest f) (after (Store (case_at rest)) f) limit c.from_residual-in_err-name.result (record old { free = c.read_runs.new.free; names = c.take_name.new.names }) e c.from_residual-in_err-name.ensures.1
     (name_told limit c.args.at rest f e
-    (sym (c.in_ok-check_facts.ensures.fault f.cases)) taken.0
+    (sym (c.in_ok-check_facts.ensures.fault f)) taken.0
     (sym (c.in_ok-check_image.ensures ∙ ap (image_part c.args.at rest) taken.1.number))
     (subst (λ x. TellsFault x e) (sym (name_part_is c.args.at rest f old.names named)) c.in_err-name.ensures))
 
@@ -85,7 +85,7 @@ returns-in_err-check_padding c =
     let is : Some e ≡ end_part c.args.at rest = c.in_err-check_padding.ensures ∙ ap (padding_fault c.args.at rest) c.name_end.ensures in
     handed_on (store_fault limit c.args.at rest f) (after (Store (case_at rest)) f) limit c.from_residual-in_err-check_padding.result (record old { free = c.read_runs.new.free; names = c.take_name.new.names }) e c.from_residual-in_err-check_padding.ensures.1
     (end_told limit c.args.at rest f e
-    (sym (c.in_ok-check_facts.ensures.fault f.cases)) taken.0
+    (sym (c.in_ok-check_facts.ensures.fault f)) taken.0
     (sym (c.in_ok-check_image.ensures ∙ ap (image_part c.args.at rest) taken.1.number))
     (name_part_is c.args.at rest f old.names named ∙ c.in_ok-name.ensures.0)
     (tells (end_part c.args.at rest) e (subst (λ (n : ℕ). OnlyDamaged (padding_fault c.args.at rest n)) c.name_end.ensures (padding_only c.args.at rest c.name_end.result)) is))
@@ -110,12 +110,12 @@ returns c =
     let same_name : (case_of entry).name ≡ name_at rest = ap (λ (k : Case). k.name) e in
     let blocks : (case_of entry).blocks ≡ c.in_ok-runs.runs = ap (λ (k : Case). k.blocks) c.entry_at.ensures in (
       store_passes limit c.args.at rest f
-          (sym (c.in_ok-check_facts.ensures.fault f.cases)) taken.0
+          (sym (c.in_ok-check_facts.ensures.fault f)) taken.0
           (sym (c.in_ok-check_image.ensures ∙ ap (image_part c.args.at rest) taken.1.number))
           (name_part_is c.args.at rest f old.names named ∙ c.in_ok-name.ensures.0)
           (sym (c.in_ok-check_padding.ensures ∙ ap (padding_fault c.args.at rest) c.name_end.ensures)),
       subst (λ (k : Case). Says (after (Store k) f) limit new) e
-          (store_says old new (case_of entry) c.requires.kept
+          (store_says old new (case_of entry) c.requires.kept push.version
           push.cases push.numbered push.next push.bound
           (λ q. ap (λ (names : BTreeSet (ArrayVec ℕ)). has_name names q) push.names ∙ c.in_ok-name.ensures.2 q
           ∙ ap (λ (n : List ℕ). cond (bytes_eq n q) true (has_name old.names q)) (sym same_name))
