@@ -1,12 +1,12 @@
 -- Entries and the cases that they are: one looked up by its number, some left out, one pinned.
-use Rattle.std.proofs.Common.{◌≡◌, ℕ, ◌+◌, ◌<◌, Bool, true, false, cond, not, List, [], ◌∷◌, ◌++◌, length, map, take, drop, get_or, set, refl, sym, ap, ◌∙◌, arith, ◌==◌, Option, None, Some, option_map}
-use Rattle.std.proofs.lemmas.List.{take_more, drop_more, map-append, append_assoc, length-map, length-take-le, get_or-map, get_or_at, map-set, set_at}
-use Rattle.std.specs.Borrow.{Bor}
-use Rattle.std.specs.List.{filter, find}
-use Rattle.journal_layout.specs.Case.{Case, case_of}
-use Rattle.journal_layout.specs.Folding.{dropped, with_pin, pinned_as, is_among}
-use Rattle.journal_layout.specs.Soundness.{case_numbered}
+use Rattle.std.proofs.Common.{◌≡◌, inl, inr, ℕ, zero, suc, ◌<◌, ◌≤◌, Bool, true, false, cond, not, List, [], ◌∷◌, length, map, get_or, set, refl, sym, ap, arith, None, Some}
+use Rattle.std.proofs.lemmas.Bool.{eq-eqb, ne_eqb, cases_eq}
+use Rattle.std.specs.List.{filter}
 use Rattle.journal_layout.specs.declared.entry.Entry.{Entry}
+use Rattle.journal_layout.specs.Case.{Case, case_of}
+use Rattle.journal_layout.specs.Folding.{dropped, with_pin, is_among}
+use Rattle.journal_layout.specs.Soundness.{Rise, case_numbered}
+use Rattle.journal_layout.specs.Live.{seq_of_case}
 
 -- the entries left by a test of their numbers are the cases left by it
 pub others_are : (seqs : List ℕ) (es : List Entry) → map case_of (filter (λ (e : Entry). not (is_among seqs e.seq)) es) ≡ dropped seqs (map case_of es)
@@ -18,55 +18,64 @@ others_are seqs (e ∷ rest) =
       | false ↦ others_are seqs rest
     ]
 
--- the entry of a number is the case of it
-pub found_is : (seq : ℕ) (es : List Entry) → option_map case_of (find (λ (e : Entry). e.seq == seq) es) ≡ case_numbered seq (map case_of es)
-found_is seq [] = refl
-found_is seq (e ∷ rest) =
-    elim (e.seq == seq) as (λ (b : Bool). option_map case_of (cond b (Some e) (find (λ (x : Entry). x.seq == seq) rest)) ≡ cond b (Some (case_of e)) (case_numbered seq (map case_of rest))) [
-      | true ↦ refl
-      | false ↦ found_is seq rest
+abbrev pub seqs_of : List Entry → List ℕ
+seqs_of es = map seq_of_case (map case_of es)
+
+-- a number among those that rise is above the one before them
+pub entry_above : (last : ℕ) (es : List Entry) (i : ℕ) (e : Entry) → Rise last (seqs_of es) → i < length es → last < (get_or es i e).seq
+entry_above last [] i e rise within = absurd (omega arith)
+entry_above last (x ∷ rest) zero e rise within = rise.0
+entry_above last (x ∷ rest) (suc i) e rise within = omega (arith, rise.0, entry_above x.seq rest i e rise.1 (omega (arith, within)))
+
+-- a later one is the greater one
+pub entries_rise : (last : ℕ) (es : List Entry) (e : Entry) → Rise last (seqs_of es) → (i j : ℕ) → i ≤ j → j < length es → (get_or es i e).seq ≤ (get_or es j e).seq
+entries_rise last [] e rise i j le within = absurd (omega arith)
+entries_rise last (x ∷ rest) e rise zero zero le within = omega arith
+entries_rise last (x ∷ rest) e rise zero (suc j) le within = omega (arith, entry_above x.seq rest j e rise.1 (omega (arith, within)))
+entries_rise last (x ∷ rest) e rise (suc i) zero le within = absurd (omega arith)
+entries_rise last (x ∷ rest) e rise (suc i) (suc j) le within = entries_rise x.seq rest e rise.1 i j (omega (arith, le)) (omega (arith, within))
+
+-- the case of a number is the entry of it
+pub found_at : (last seq : ℕ) (es : List Entry) (i : ℕ) (e : Entry) → Rise last (seqs_of es) → i < length es → (get_or es i e).seq ≡ seq
+    → case_numbered seq (map case_of es) ≡ Some (case_of (get_or es i e))
+found_at last seq [] i e rise within is = absurd (omega arith)
+found_at last seq (x ∷ rest) zero e rise within is = rw (eq-eqb x.seq seq is) refl
+found_at last seq (x ∷ rest) (suc i) e rise within is =
+    let low : i < length rest = omega (arith, within) in
+    let above = entry_above x.seq rest i e rise.1 low in
+    rw (ne_eqb x.seq seq (λ same. absurd (omega (arith, same, is)))) (found_at x.seq seq rest i e rise.1 low is)
+
+-- no case has a number that no entry has
+pub found_none : (seq : ℕ) (es : List Entry) → ((i : ℕ) (e : Entry) → i < length es → (get_or es i e).seq ≡ seq → ⊥) → case_numbered seq (map case_of es) ≡ None
+found_none seq [] none = refl
+found_none seq (x ∷ rest) none =
+    rw (ne_eqb x.seq seq (λ same. none zero x (omega arith) same))
+    (found_none seq rest (λ i e within same. none (suc i) e (omega (arith, within)) same))
+
+-- a flag is set of no case where none has the number
+pub pinned_none : (seq : ℕ) (flag : Bool) (cases : List Case) → case_numbered seq cases ≡ None → with_pin seq flag cases ≡ cases
+pinned_none seq flag [] none = refl
+pinned_none seq flag (c ∷ rest) none =
+    elim (cases_eq c.seq seq) as (λ _. with_pin seq flag (c ∷ rest) ≡ c ∷ rest) [
+      | inl same ↦ absurd (let e = rw (eq-eqb c.seq seq same) at none in cc)
+      | inr other ↦ rw (ne_eqb c.seq seq other) (ap (λ (l : List Case). c ∷ l) (pinned_none seq flag rest (rw (ne_eqb c.seq seq other) at none)))
     ]
 
-module _ (seq : ℕ) (flag : Bool) (cases : List Case) (es : List Entry) (i : ℕ) (e : Entry) (below : i < length es) (is : e ≡ get_or es i e)
-    (so_far : map case_of es ≡ with_pin seq flag (take i cases) ++ drop i cases) (long : length cases ≡ length es) where
-  front : List Case
-  front = with_pin seq flag (take i cases)
+-- nor of those whose numbers are greater
+pinned_above : (last seq : ℕ) (flag : Bool) (cases : List Case) → seq ≤ last → Rise last (map seq_of_case cases) → with_pin seq flag cases ≡ cases
+pinned_above last seq flag [] low rise = refl
+pinned_above last seq flag (c ∷ rest) low rise =
+    let above = rise.0 in
+    rw (ne_eqb c.seq seq (λ same. absurd (omega (arith, same)))) (ap (λ (l : List Case). c ∷ l) (pinned_above c.seq seq flag rest (omega arith) rise.1))
 
-  front_length : length front ≡ i
-  unfolding front
-  front_length = length-map (take i cases) (pinned_as seq flag) ∙ length-take-le i cases (omega arith)
-
-  here : Case
-  here = get_or cases i (case_of e)
-
-  now_is : map case_of es ≡ front ++ here ∷ drop (i + 1) cases
-  unfolding front here
-  now_is = so_far ∙ ap (λ (l : List Case). with_pin seq flag (take i cases) ++ l) (drop_more cases i (case_of e) (omega arith))
-
-  -- the entry is the case that stands here
-  entry_is : case_of e ≡ here
-  entry_is =
-      ap case_of is ∙ sym (get_or-map case_of es i e (case_of e) below)
-      ∙ ap (λ (l : List Case). get_or l i (case_of e)) now_is ∙ get_or_at front here (drop (i + 1) cases) (case_of e) i front_length
-
-  behind : front ++ pinned_as seq flag here ∷ drop (i + 1) cases ≡ with_pin seq flag (take (i + 1) cases) ++ drop (i + 1) cases
-  unfolding front here
-  behind =
-      sym (append_assoc (with_pin seq flag (take i cases)) (pinned_as seq flag (get_or cases i (case_of e)) ∷ []) (drop (i + 1) cases))
-      ∙ ap (λ (l : List Case). l ++ drop (i + 1) cases)
-      (sym (map-append (pinned_as seq flag) (take i cases) (get_or cases i (case_of e) ∷ []))
-      ∙ ap (map (pinned_as seq flag)) (sym (take_more cases i (case_of e) (omega arith))))
-
-  -- the entry set as the case is
-  pub pinned_next : (changed : Entry) → case_of changed ≡ pinned_as seq flag (case_of e) → map case_of (set es i changed) ≡ with_pin seq flag (take (i + 1) cases) ++ drop (i + 1) cases
-  pinned_next changed made =
-      map-set case_of es i changed
-      ∙ ap (λ (l : List Case). set l i (case_of changed)) now_is
-      ∙ set_at front here (drop (i + 1) cases) (case_of changed) i front_length
-      ∙ ap (λ (c : Case). front ++ c ∷ drop (i + 1) cases) (made ∙ ap (pinned_as seq flag) entry_is)
-      ∙ behind
-
--- a value looked at through a reference
-pub looked_at : (r : Option (Bor Entry)) → option_map (λ (e : Bor Entry). case_of e.now) r ≡ option_map case_of (option_map (λ (e : Bor Entry). e.now) r)
-looked_at None = refl
-looked_at (Some e) = refl
+-- the flag set of the entry of a number is set of the case of it
+pub pinned_at : (last seq : ℕ) (flag : Bool) (es : List Entry) (i : ℕ) (e : Entry) → Rise last (seqs_of es) → i < length es → (get_or es i e).seq ≡ seq
+    → map case_of (set es i (record (get_or es i e) { pinned = flag })) ≡ with_pin seq flag (map case_of es)
+pinned_at last seq flag [] i e rise within is = absurd (omega arith)
+pinned_at last seq flag (x ∷ rest) zero e rise within is =
+    rw (eq-eqb x.seq seq is)
+    (ap (λ (l : List Case). record (case_of x) { pinned = flag } ∷ l) (sym (pinned_above x.seq seq flag (map case_of rest) (omega (arith, is)) rise.1)))
+pinned_at last seq flag (x ∷ rest) (suc i) e rise within is =
+    let low : i < length rest = omega (arith, within) in
+    let above = entry_above x.seq rest i e rise.1 low in
+    rw (ne_eqb x.seq seq (λ same. absurd (omega (arith, same, is)))) (ap (λ (l : List Case). case_of x ∷ l) (pinned_at x.seq seq flag rest i e rise.1 low is))

@@ -1,6 +1,7 @@
 pub mod AppendLemmas
 pub mod EntryLemmas
 pub mod FormatLemmas
+pub mod KeptLemmas
 pub mod OpenLemmas
 pub mod PublishLemmas
 pub mod SeqLemmas

@@ -1,11 +1,13 @@
--- What an open journal keeps of its numbers.
-use Rattle.std.specs.Prelude.{ℕ, ◌+◌, ◌^◌, ◌≤◌}
+-- What an open journal keeps of its numbers and its cases.
+use Rattle.std.specs.Prelude.{ℕ, ◌+◌, ◌^◌, ◌≤◌, List}
 use Rattle.journal_layout.specs.declared.shape.Shape.{Shape}
+use Rattle.journal_layout.specs.Case.{Case}
+use Rattle.journal_layout.specs.Live.{AreLive}
 use Rattle.journal_layout.specs.Layout.{IsWithinLimits, half_length}
 
-pub record IsKept (shape : Shape) (next used : ℕ) : Type 0 where
+pub record IsKept (shape : Shape) (cases : List Case) (next used : ℕ) : Type 0 where
   pub limits : IsWithinLimits shape
-  pub some_number : 1 ≤ next
+  pub live : AreLive shape.data_blocks cases next
   pub numbers : next ≤ 2 ^ 32
   pub header : 32 ≤ used
   -- the gate of the next record lies in the half

@@ -1,14 +1,14 @@
 // An open journal, and its appends.
-ghost use Rattle.std.specs.Prelude.{◌≡◌, ◌≢◌, ◌+◌, ◌<◌, ◌≤◌, ◌^◌, false, Bool, ◌++◌, ◌∷◌, [], length, map, IsTrue, OnOk, IfOk, IfErr, Err, Ok, ℕ, vec_len, vec_capacity, option_map};
-ghost use Rattle.std.specs.Prelude.{◌==◌};
-ghost use Rattle.std.specs.List.{find};
+ghost use Rattle.std.specs.Prelude.{◌≡◌, ◌≢◌, ◌+◌, ◌<◌, ◌≤◌, ◌^◌, false, Bool, ◌++◌, ◌∷◌, [], length, map, IsTrue, OnOk, IfOk, IfErr, IfSome, None, Err, Ok, ℕ, vec_len, vec_capacity, option_map};
+ghost use Rattle.std.specs.List.{HoldsAt};
+ghost use Rattle.journal_layout.specs.Live.{seq_of_case};
 ghost use Rattle.journal_layout.specs.declared.entry.Entry.{Entry};
 ghost use Rattle.disk_model.specs.Places.{SameOutside};
 ghost use Rattle.disk_model.specs.Disk.{HasRisen, HasCause};
 ghost use Rattle.journal_layout.specs.Case.{case_of, numbered};
 ghost use Rattle.journal_layout.specs.Record.{Record, Store, Drop, Pin, record_size, behind_gate};
 ghost use Rattle.journal_layout.specs.Layout.{IsWithinLimits, disk_length, half_start, half_length};
-ghost use Rattle.journal_layout.specs.Folding.{with_pin, dropped, is_among, pinned_as};
+ghost use Rattle.journal_layout.specs.Folding.{with_pin, dropped, is_among};
 ghost use Rattle.journal_layout.specs.Soundness.{case_numbered, Rise};
 ghost use Rattle.journal_layout.specs.Standing.{store_of};
 ghost use Rattle.case_journal.specs.Journaled.{Journaled, halted, goes_on};
@@ -65,7 +65,7 @@ impl Model for Journal {
       stopped = j.stopped;
     } };
 
-    ghost invariant = { λ j. IsKept j.shape j.next j.used };
+    ghost invariant = { λ j. IsKept j.shape (map case_of j.entries.items) j.next j.used };
 }
 
 impl Journal {
@@ -344,29 +344,34 @@ fn keep_others(entries: &mut Vec<Entry>, seqs: &[u32])
     entries.retain(|entry| !is_listed(seqs, entry.seq));
 }
 
-// Sets the flag of the entries of this number.
-fn set_pin(entries: &mut [Entry], seq: u32, flag: bool)
-    ensures { map case_of entries.new ≡ with_pin seq flag (map case_of entries.old) }
+// Where the entry of this number stands among entries whose numbers rise.
+fn place_of(entries: &[Entry], seq: u32) -> Option<usize>
+    requires { Rise 0 (map seq_of_case (map case_of entries.now)) }
+    ensures found { IfSome result (λ place. (place < length entries.now) × HoldsAt (λ (e : Entry). e.seq ≡ seq) entries.now place) }
+    ensures absent { result ≡ None → case_numbered seq (map case_of entries.now) ≡ None }
 {
-    for place in 0..entries.len() {
-        set_flag(&mut entries[place], seq, flag);
-    }
+    entries.binary_search_by_key(&seq, |entry| entry.seq).ok()
 }
 
-// Sets the flag of an entry where it has this number.
-fn set_flag(entry: &mut Entry, seq: u32, flag: bool)
-    ensures { case_of entry.new ≡ pinned_as seq flag (case_of entry.old) }
+// Sets the flag of the entry of this number, if there is one.
+fn set_pin(entries: &mut [Entry], seq: u32, flag: bool)
+    requires { Rise 0 (map seq_of_case (map case_of entries.old)) }
+    ensures { map case_of entries.new ≡ with_pin seq flag (map case_of entries.old) }
 {
-    if entry.seq == seq {
-        entry.pinned = flag;
+    if let Some(place) = place_of(entries, seq) {
+        entries[place].pinned = flag;
     }
 }
 
 // The entry of this number, if there is one.
 fn find_entry(entries: &[Entry], seq: u32) -> Option<&Entry>
-    ensures { option_map (λ (e : _). e.now) result ≡ find (λ (e : Entry). e.seq == seq) entries.now }
+    requires { Rise 0 (map seq_of_case (map case_of entries.now)) }
+    ensures { option_map (λ (e : _). case_of e.now) result ≡ case_numbered seq (map case_of entries.now) }
 {
-    entries.iter().find(|entry| entry.seq == seq)
+    match place_of(entries, seq) {
+        Some(place) => Some(&entries[place]),
+        None => None,
+    }
 }
 
 // Makes room for one more entry, and spells its record behind the gate.

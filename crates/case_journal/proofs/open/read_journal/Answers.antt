@@ -1,9 +1,10 @@
-use Rattle.std.proofs.Common.{◌+◌, ℕ, List, map, ap, refl, subst}
+use Rattle.std.proofs.Common.{◌+◌, ℕ, List, length, map, ap, arith, refl, subst}
 use Rattle.std.proofs.lemmas.Result.{err_from_is_err_and}
 use Rattle.journal_layout.specs.Case.{case_of}
 use Rattle.journal_layout.specs.Folding.{nothing_yet}
 use Rattle.journal_layout.specs.Stands.{AreRead}
 use Rattle.journal_records.specs.Said.{said_of, TellsFaulty}
+use Rattle.case_journal.proofs.KeptLemmas.{kept_read}
 use Rattle.case_journal.proofs.OpenLemmas.{both_shown, faulty_gives, read_gives}
 use Rattle.case_journal.proofs.open.read_journal.Goals as goal
 
@@ -38,3 +39,13 @@ returns-clause-shows g c b view =
       gives = read_gives g.D.Disk front c.in_ok-bytes.bytes.items two.shown (map case_of c.in_ok-read.read.entries.items) c.in_ok-read.read.next c.in_ok-read.read.size (32 + c.in_ok-read.read.size) shown
           (subst (λ (x : List ℕ). AreRead front.shape.data_blocks x (nothing_yet front.version) (said_of front.version c.in_ok-read.read) c.in_ok-read.read.size) bytes read) refl;
     }
+
+pub invariant_of-result : goal.invariant_of-result
+invariant_of-result g c =
+    let front = c.in_ok-front.front in
+    let read = c.in_ok-read.read in
+    let limits = c.in_ok-front.ensures.shape.0 in
+    let some = limits.some_half in
+    let bytes = ap length c.deref.ensures.value in
+    kept_read front.shape (map case_of read.entries.items) front.version read.next read.size c.deref.result.now limits c.in_ok-read.ensures.read
+    (omega (arith, c.in_ok-read.ensures.bounds.2, bytes, c.in_ok-bytes.ensures.long, some))

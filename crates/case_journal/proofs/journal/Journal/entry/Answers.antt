@@ -1,13 +1,16 @@
-use Rattle.std.proofs.Common.{◌∙◌, ap, map, List, option_map}
+use Rattle.std.proofs.Common.{◌∙◌, ap, map, List, sym, subst}
 use Rattle.journal_layout.specs.Case.{case_of}
-use Rattle.journal_layout.specs.Soundness.{case_numbered}
+use Rattle.journal_layout.specs.Soundness.{Rise, case_numbered}
 use Rattle.journal_layout.specs.declared.entry.Entry.{Entry}
 use Rattle.case_journal.specs.Journaled.{Journaled}
-use Rattle.case_journal.proofs.EntryLemmas.{found_is, looked_at}
+use Rattle.case_journal.proofs.EntryLemmas.{seqs_of}
 use Rattle.case_journal.proofs.journal.Journal.entry.Goals as goal
+
+pub find_entry-requires : goal.find_entry-requires
+find_entry-requires c = subst (λ (l : List Entry). Rise 0 (seqs_of l)) (sym c.deref.ensures.value) c.self.invariant.live.rise
 
 pub returns : goal.returns
 returns c =
-    looked_at c.find_entry.result ∙ ap (option_map case_of) c.find_entry.ensures ∙ found_is c.args.seq c.deref.result.now
+    c.find_entry.ensures
     ∙ ap (λ (l : List Entry). case_numbered c.args.seq (map case_of l)) c.deref.ensures.value
     ∙ ap (λ (j : Journaled). case_numbered c.args.seq j.standing.cases) c.self.view_is
