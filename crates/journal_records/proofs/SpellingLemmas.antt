@@ -1,7 +1,7 @@
 -- A record filled up with zeros to its size.
 use Rattle.std.proofs.Common.{◌≡◌, ◌≤◌, ℕ, ◌+◌, ◌-◌, List, [], ◌∷◌, ◌++◌, length, replicate, take, refl, sym, ap, ◌∙◌, arith, append_assoc}
 use Rattle.std.proofs.lemmas.List.{replicate-append-replicate, take_all}
-use Rattle.journal_layout.specs.Record.{Record, plain, plain_size, behind_gate, record_size}
+use Rattle.journal_layout.specs.Record.{Record, plain, plain_size, behind_gate, record_size, spelling}
 use Rattle.journal_layout.specs.SpellLaws.{length-plain}
 
 -- padding and the closed gate behind it
@@ -29,3 +29,13 @@ resized r v n size is same len =
     ∙ ap (λ xs. xs ++ replicate (size - n) 0) is
     ∙ ap (λ s. plain r ++ replicate (s - n) 0) same
     ∙ filled r n (len ∙ ap length is)
+
+-- the same of a record whose gate is open
+pub resized_open : (r : Record) (v : List ℕ) (n size : ℕ) → v ≡ 165 ∷ plain r → size ≡ record_size r → n ≡ length v → take size v ++ replicate (size - n) 0 ≡ spelling r
+unfolding behind_gate
+resized_open r v n size is same len =
+    let long : length v ≡ plain_size r = (let a = ap length is in let b = length-plain r in omega (arith, a, b)) in
+    let fits : length v ≤ size = omega (arith, long, same) in
+    let rest : size - n ≡ record_size r - plain_size r = omega (arith, long, same, len) in
+    ap (λ (xs : List ℕ). xs ++ replicate (size - n) 0) (take_all size v fits ∙ is)
+    ∙ ap (λ (k : ℕ). (165 ∷ plain r) ++ replicate k 0) rest

@@ -2,4 +2,5 @@ pub mod Head
 pub mod Kept
 pub mod Live
 pub mod Said
+pub mod Spelling
 pub mod Taken

@@ -1,10 +1,11 @@
-// The spelling of records: what stands behind a record's gate, and the closed gate after it.
-ghost use Rattle.std.specs.Prelude.{◌≡◌, ℕ, ◌+◌, ◌*◌, ◌<◌, ◌≤◌, ◌^◌, ◌++◌, [], ◌∷◌, length, IfOk, OnOk, vec_len};
+// The spelling of records. A buffer grows before anything is added, so that what is added has room.
+ghost use Rattle.std.specs.Prelude.{◌≡◌, ℕ, ◌+◌, ◌*◌, ◌<◌, ◌≤◌, ◌^◌, ◌++◌, [], ◌∷◌, ◌-◌, length, take, replicate, IfOk, OnOk, IsOk, vec_len, vec_capacity};
 ghost use Rattle.std.specs.List.{flat_map};
 ghost use Rattle.extents.specs.Runs.{runs_of};
 ghost use Rattle.journal_layout.specs.Case.{case_of, numbered};
 ghost use Rattle.journal_layout.specs.Layout.{number_bytes};
-ghost use Rattle.journal_layout.specs.Record.{Store, Drop, Pin, kind_byte, run_bytes, seq_bytes, store_facts, record_size, plain, behind_gate};
+ghost use Rattle.journal_layout.specs.Record.{Store, Drop, Pin, Next, kind_byte, run_bytes, seq_bytes, store_facts, plain_size, record_size, plain, behind_gate, spelling};
+ghost use Rattle.journal_records.specs.Spelling.{stored_as};
 
 use crate::rounded;
 use byteorder::{ByteOrder, LittleEndian};
@@ -39,106 +40,118 @@ fn kind_byte(kind: Kind) -> u8
     }
 }
 
-// Adds a number in two, four or eight bytes.
-#[tactic(auto, unfolding(journal_layout::specs::Layout::number_bytes))]
-fn push_u16(bytes: &mut Vec<u8>, number: u16) -> Result<(), AllocError>
-    ensures { OnOk result (bytes.new.items ≡ bytes.old.items ++ number_bytes 2 number) }
+// Adds bytes for which there is room.
+fn put(bytes: &mut Vec<u8>, more: &[u8])
+    requires { vec_len bytes.old + length more.now ≤ vec_capacity bytes.old }
+    ensures items { bytes.new.items ≡ bytes.old.items ++ more.now }
+    ensures len { vec_len bytes.new ≡ vec_len bytes.old + length more.now }
+    ensures capacity { vec_capacity bytes.old ≤ vec_capacity bytes.new }
 {
-    let mut spelled = [0; 2];
-    LittleEndian::write_u16(&mut spelled, number);
-    bytes.extend_from_slice(&spelled)
+    bytes.extend_from_slice(more).unwrap();
 }
 
-#[tactic(auto, unfolding(journal_layout::specs::Layout::number_bytes))]
-fn push_u32(bytes: &mut Vec<u8>, number: u32) -> Result<(), AllocError>
-    ensures { OnOk result (bytes.new.items ≡ bytes.old.items ++ number_bytes 4 number) }
+// Fills a record up with zeros to so many bytes, for which there is room.
+fn fill(bytes: &mut Vec<u8>, size: u64)
+    requires small { size ≤ 16777216 }
+    requires room { size ≤ vec_capacity bytes.old }
+    ensures items { bytes.new.items ≡ take size bytes.old.items ++ replicate (size - vec_len bytes.old) 0 }
+    ensures len { vec_len bytes.new ≡ size }
+    ensures capacity { vec_capacity bytes.old ≤ vec_capacity bytes.new }
 {
-    let mut spelled = [0; 4];
-    LittleEndian::write_u32(&mut spelled, number);
-    bytes.extend_from_slice(&spelled)
+    bytes.resize(size as usize, 0).unwrap();
 }
 
+// What stands behind the gate of a record of this kind and size, up to its body.
 #[tactic(auto, unfolding(journal_layout::specs::Layout::number_bytes))]
-fn push_u64(bytes: &mut Vec<u8>, number: u64) -> Result<(), AllocError>
-    ensures { OnOk result (bytes.new.items ≡ bytes.old.items ++ number_bytes 8 number) }
+fn head(kind: u8, size: u32) -> [u8; 7]
+    ensures bytes { result ≡ (kind ∷ 0 ∷ 0 ∷ []) ++ number_bytes 4 size }
+    ensures size { length result ≡ 7 }
 {
-    let mut spelled = [0; 8];
-    LittleEndian::write_u64(&mut spelled, number);
-    bytes.extend_from_slice(&spelled)
+    let mut bytes = [0; 7];
+    bytes[0] = kind;
+    LittleEndian::write_u32(&mut bytes[3..], size);
+    bytes
 }
 
-// Adds the numbers of a Store record's body.
-#[tactic(auto, unfolding(journal_layout::specs::Record::store_facts))]
-fn push_facts(bytes: &mut Vec<u8>, seq: u32, entry: &Entry) -> Result<(), AllocError>
+// The numbers of a Store record's body.
+#[tactic(auto, unfolding(journal_layout::specs::Record::store_facts, journal_layout::specs::Layout::number_bytes))]
+fn facts(seq: u32, entry: &Entry, pinned: bool) -> [u8; 40]
     requires { length (runs_of entry.now.runs) < 2 ^ 32 }
-    ensures { OnOk result (bytes.new.items
-        ≡ bytes.old.items ++ store_facts (numbered seq (case_of entry.now))) }
+    ensures bytes { result ≡ store_facts (stored_as seq pinned (case_of entry.now)) }
+    ensures size { length result ≡ 40 }
 {
-    push_u32(bytes, seq)?;
-    bytes.extend_from_slice(&[kind_byte(entry.kind), u8::from(entry.pinned)])?;
-    push_u16(bytes, entry.name.len() as u16)?;
-    push_u32(bytes, entry.pid)?;
-    push_u32(bytes, entry.signal)?;
-    push_u64(bytes, entry.time)?;
-    push_u64(bytes, entry.length)?;
-    push_u32(bytes, entry.runs.runs().len() as u32)?;
-    bytes.extend_from_slice(&[0; 4])?;
-    Ok(())
+    let mut bytes = [0; 40];
+    LittleEndian::write_u32(&mut bytes, seq);
+    bytes[4] = kind_byte(entry.kind);
+    bytes[5] = u8::from(pinned);
+    LittleEndian::write_u16(&mut bytes[6..], entry.name.len() as u16);
+    LittleEndian::write_u32(&mut bytes[8..], entry.pid);
+    LittleEndian::write_u32(&mut bytes[12..], entry.signal);
+    LittleEndian::write_u64(&mut bytes[16..], entry.time);
+    LittleEndian::write_u64(&mut bytes[24..], entry.length);
+    LittleEndian::write_u32(&mut bytes[32..], entry.runs.runs().len() as u32);
+    bytes
 }
 
-#[tactic(auto, unfolding(journal_layout::specs::Record::run_bytes))]
-fn push_run(bytes: &mut Vec<u8>, run: Run) -> Result<(), AllocError>
-    ensures { OnOk result (bytes.new.items ≡ bytes.old.items ++ run_bytes run) }
+#[tactic(auto, unfolding(journal_layout::specs::Record::run_bytes, journal_layout::specs::Layout::number_bytes))]
+fn run_bytes(run: Run) -> [u8; 8]
+    ensures bytes { result ≡ run_bytes run }
+    ensures size { length result ≡ 8 }
 {
-    push_u32(bytes, run.start)?;
-    push_u32(bytes, run.count)?;
-    Ok(())
+    let mut bytes = [0; 8];
+    LittleEndian::write_u32(&mut bytes, run.start);
+    LittleEndian::write_u32(&mut bytes[4..], run.count);
+    bytes
+}
+
+#[tactic(auto, unfolding(journal_layout::specs::Record::seq_bytes, journal_layout::specs::Layout::number_bytes))]
+fn seq_bytes(seq: u32) -> [u8; 4]
+    ensures bytes { result ≡ seq_bytes seq }
+    ensures size { length result ≡ 4 }
+{
+    let mut bytes = [0; 4];
+    LittleEndian::write_u32(&mut bytes, seq);
+    bytes
 }
 
 // Adds a record's runs.
-fn push_runs(bytes: &mut Vec<u8>, runs: &[Run]) -> Result<(), AllocError>
-    ensures { OnOk result (bytes.new.items ≡ bytes.old.items ++ flat_map run_bytes runs.now) }
+fn put_runs(bytes: &mut Vec<u8>, runs: &[Run])
+    requires { vec_len bytes.old + 8 * length runs.now ≤ vec_capacity bytes.old }
+    ensures items { bytes.new.items ≡ bytes.old.items ++ flat_map run_bytes runs.now }
+    ensures len { vec_len bytes.new ≡ vec_len bytes.old + 8 * length runs.now }
+    ensures capacity { vec_capacity bytes.old ≤ vec_capacity bytes.new }
 {
     for run in runs {
-        push_run(bytes, *run)?;
+        put(bytes, &run_bytes(*run));
     }
-    Ok(())
 }
 
 // Adds the numbers of cases.
-#[tactic(auto, unfolding(journal_layout::specs::Record::seq_bytes))]
-fn push_seqs(bytes: &mut Vec<u8>, seqs: &[u32]) -> Result<(), AllocError>
-    ensures { OnOk result (bytes.new.items ≡ bytes.old.items ++ flat_map seq_bytes seqs.now) }
+fn put_seqs(bytes: &mut Vec<u8>, seqs: &[u32])
+    requires { vec_len bytes.old + 4 * length seqs.now ≤ vec_capacity bytes.old }
+    ensures items { bytes.new.items ≡ bytes.old.items ++ flat_map seq_bytes seqs.now }
+    ensures len { vec_len bytes.new ≡ vec_len bytes.old + 4 * length seqs.now }
+    ensures capacity { vec_capacity bytes.old ≤ vec_capacity bytes.new }
 {
     for seq in seqs {
-        push_u32(bytes, *seq)?;
+        put(bytes, &seq_bytes(*seq));
     }
-    Ok(())
 }
 
-// The front of a record of this kind and size behind its gate, in room for all of it.
-fn front(alloc: Global, kind: u8, size: u64) -> Result<Vec<u8>, AllocError>
-    requires { size ≤ 16777216 }
-    ensures { IfOk result (λ v. v.items ≡ (kind ∷ 0 ∷ 0 ∷ []) ++ number_bytes 4 size) }
-{
-    let mut bytes = Vec::with_capacity(alloc, size as usize)?;
-    bytes.extend_from_slice(&[kind, 0, 0])?;
-    push_u32(&mut bytes, size as u32)?;
-    Ok(bytes)
-}
-
-// A Store record behind its gate, without its padding.
+// Adds a Store record behind its gate, without its padding.
 #[tactic(auto, unfolding(journal_layout::specs::Record::plain, journal_layout::specs::Record::body))]
-fn plain_store(alloc: Global, seq: u32, entry: &Entry, size: u64) -> Result<Vec<u8>, AllocError>
-    requires size { size ≡ record_size (Store (numbered seq (case_of entry.now))) }
+fn put_store(bytes: &mut Vec<u8>, seq: u32, entry: &Entry, pinned: bool, size: u64)
+    requires size { size ≡ record_size (Store (case_of entry.now)) }
     requires small { size ≤ 16777216 }
-    ensures { IfOk result (λ v. v.items ≡ plain (Store (numbered seq (case_of entry.now)))) }
+    requires room { vec_len bytes.old + plain_size (Store (case_of entry.now)) ≤ vec_capacity bytes.old + 1 }
+    ensures items { bytes.new.items
+        ≡ bytes.old.items ++ plain (Store (stored_as seq pinned (case_of entry.now))) }
+    ensures capacity { vec_capacity bytes.old ≤ vec_capacity bytes.new }
 {
-    let mut bytes = front(alloc, 1, size)?;
-    push_facts(&mut bytes, seq, entry)?;
-    push_runs(&mut bytes, entry.runs.runs())?;
-    bytes.extend_from_slice(entry.name.as_slice())?;
-    Ok(bytes)
+    put(bytes, &head(1, size as u32));
+    put(bytes, &facts(seq, entry, pinned));
+    put_runs(bytes, entry.runs.runs());
+    put(bytes, entry.name.as_slice());
 }
 
 /// A Store record behind its gate, and the closed gate after it: as many bytes as the record has.
@@ -154,22 +167,56 @@ pub fn store_record(
         ≡ behind_gate (Store (numbered seq (case_of entry.now))) ++ 0 ∷ []) }
     ensures size { IfOk result (λ v. vec_len v ≡ size) }
 {
-    let mut bytes = plain_store(alloc, seq, entry, size)?;
-    bytes.resize(size as usize, 0)?;
+    let mut bytes = Vec::with_capacity(alloc, size as usize)?;
+    put_store(&mut bytes, seq, entry, entry.pinned, size);
+    fill(&mut bytes, size);
     Ok(bytes)
 }
 
-// A Drop record behind its gate, without its padding.
-#[tactic(auto, unfolding(journal_layout::specs::Record::plain, journal_layout::specs::Record::body))]
-fn plain_drop(alloc: Global, seqs: &[u32], size: u64) -> Result<Vec<u8>, AllocError>
+// The bytes of the entry's Store record, which are few.
+fn short_size(entry: &Entry) -> u64
+    requires { record_size (Store (case_of entry.now)) ≤ 16777216 }
+    ensures { result ≡ record_size (Store (case_of entry.now)) }
+{
+    rounded(48 + 8 * entry.runs.runs().len() as u64 + entry.name.len() as u64)
+}
+
+/// Spells the Store record of a case under this number, pinned or not, its gate open, in place of what the buffer held.
+/// Where the record lies within the buffer's capacity, it takes no memory.
+pub fn spell_store(
+    bytes: &mut Vec<u8>,
+    seq: u32,
+    entry: &Entry,
+    pinned: bool,
+) -> Result<(), AllocError>
+    requires { record_size (Store (case_of entry.now)) ≤ 16777216 }
+    ensures record { OnOk result (bytes.new.items
+        ≡ spelling (Store (stored_as seq pinned (case_of entry.now)))) }
+    ensures size { OnOk result (vec_len bytes.new ≡ record_size (Store (case_of entry.now))) }
+    ensures succeeds { record_size (Store (case_of entry.now)) ≤ vec_capacity bytes.old → IsOk result }
+    ensures capacity { vec_capacity bytes.old ≤ vec_capacity bytes.new }
+{
+    let size = short_size(entry);
+    bytes.clear();
+    bytes.reserve(size as usize)?;
+    put(bytes, &[GATE_OPEN]);
+    put_store(bytes, seq, entry, pinned, size);
+    fill(bytes, size);
+    Ok(())
+}
+
+// Adds a Drop record behind its gate, without its padding.
+#[tactic(auto, unfolding(journal_layout::specs::Record::plain, journal_layout::specs::Record::body, journal_layout::specs::Record::seq_bytes))]
+fn put_drop(bytes: &mut Vec<u8>, seqs: &[u32], size: u64)
     requires size { size ≡ record_size (Drop seqs.now) }
     requires small { size ≤ 16777216 }
-    ensures { IfOk result (λ v. v.items ≡ plain (Drop seqs.now)) }
+    requires room { vec_len bytes.old + plain_size (Drop seqs.now) ≤ vec_capacity bytes.old + 1 }
+    ensures items { bytes.new.items ≡ bytes.old.items ++ plain (Drop seqs.now) }
+    ensures capacity { vec_capacity bytes.old ≤ vec_capacity bytes.new }
 {
-    let mut bytes = front(alloc, 2, size)?;
-    push_u32(&mut bytes, seqs.len() as u32)?;
-    push_seqs(&mut bytes, seqs)?;
-    Ok(bytes)
+    put(bytes, &head(2, size as u32));
+    put(bytes, &seq_bytes(seqs.len() as u32));
+    put_seqs(bytes, seqs);
 }
 
 /// A Drop record behind its gate, and the closed gate after it.
@@ -179,8 +226,9 @@ pub fn drop_record(alloc: Global, seqs: &[u32], size: u64) -> Result<Vec<u8>, Al
     ensures record { IfOk result (λ v. v.items ≡ behind_gate (Drop seqs.now) ++ 0 ∷ []) }
     ensures size { IfOk result (λ v. vec_len v ≡ size) }
 {
-    let mut bytes = plain_drop(alloc, seqs, size)?;
-    bytes.resize(size as usize, 0)?;
+    let mut bytes = Vec::with_capacity(alloc, size as usize)?;
+    put_drop(&mut bytes, seqs, size);
+    fill(&mut bytes, size);
     Ok(bytes)
 }
 
@@ -198,5 +246,19 @@ pub fn pin_record(seq: u32, flag: bool) -> [u8; 16]
     LittleEndian::write_u32(&mut bytes[3..], PIN_SIZE as u32);
     LittleEndian::write_u32(&mut bytes[7..], seq);
     bytes[11] = u8::from(flag);
+    bytes
+}
+
+/// A Next record, its gate open, and the closed gate behind it. It takes no memory.
+#[tactic(auto, unfolding(journal_layout::specs::Record::behind_gate, journal_layout::specs::Record::plain, journal_layout::specs::Record::body, journal_layout::specs::Layout::number_bytes))]
+pub fn next_record(next: u64) -> [u8; 17]
+    ensures record { result ≡ spelling (Next next) ++ 0 ∷ [] }
+    ensures size { length result ≡ 17 }
+{
+    let mut bytes = [0; 17];
+    bytes[0] = GATE_OPEN;
+    bytes[1] = 4;
+    LittleEndian::write_u32(&mut bytes[4..], 16);
+    LittleEndian::write_u64(&mut bytes[8..], next);
     bytes
 }

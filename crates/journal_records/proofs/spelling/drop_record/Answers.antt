@@ -1,10 +1,12 @@
-use Rattle.std.proofs.Common.{◌∙◌}
-use Rattle.journal_layout.specs.Record.{Drop}
+use Rattle.std.proofs.Common.{ℕ, List, ◌++◌, ap, ◌∙◌}
+use Rattle.journal_layout.specs.Record.{Drop, plain}
 use Rattle.journal_records.proofs.SpellingLemmas.{resized}
 use Rattle.journal_records.proofs.spelling.drop_record.Goals as goal
 
 pub returns-clause-record : goal.returns-clause-record
 returns-clause-record c =
-    c.in_ok-resize.ensures.items
-    ∙ resized (Drop c.args.seqs.now) c.in_ok-bytes.bytes.items c.in_ok-bytes.bytes.len c.args.size
-    c.in_ok-bytes.ensures c.requires.size c.in_ok-bytes.bytes.ok.0
+    let r = Drop c.args.seqs.now in
+    let v = c.put_drop.new.bytes in
+    c.fill.ensures.items
+    ∙ resized r v.items v.len c.args.size
+    (c.put_drop.ensures.items ∙ ap (λ (l : List ℕ). l ++ plain r) c.in_ok-bytes.ensures.items) c.requires.size v.ok.0
