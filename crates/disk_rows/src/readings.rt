@@ -1,6 +1,11 @@
-//! What the records of a journal half say, and readings of records byte by byte.
-use journal_layout::{Field, Kind, OpenFault};
-use journal_records::{Replayed, replay};
+//! What the records of a journal half say, and records byte by byte, as they are read and spelled.
+ghost use Rattle.std.specs.Prelude.{◌≤◌};
+ghost use Rattle.std.specs.Bool.{OnTrue};
+ghost use Rattle.journal_layout.specs.Case.{case_of};
+ghost use Rattle.journal_layout.specs.Record.{Store, record_size};
+
+use journal_layout::{Entry, Field, Kind, OpenFault};
+use journal_records::{Replayed, next_record, replay, spell_store};
 use std::process::Abort;
 use std::test::Fail;
 
@@ -121,6 +126,42 @@ fn the_same_case_again(rt: HostRuntime) -> Result<(), Fail> {
         120,
         Field::Name,
     )?;
+    Ok(())
+}
+
+// Whether the case lies in a few runs, so that its record is short.
+fn is_short(entry: &Entry) -> bool
+    ensures { OnTrue result (record_size (Store (case_of entry.now)) ≤ 16777216) }
+{
+    if 1000 < entry.runs.runs().len() || 128 < entry.name.len() {
+        return false;
+    }
+    true
+}
+
+// A case is spelled as it was read, and then under another number and pinned, in the same buffer.
+#[test]
+fn a_case_is_spelled(rt: HostRuntime) -> Result<(), Fail> {
+    let said = read(&rt, &[(0, STORE)])?;
+    let entry = said.entries.first().ok_or("no case")?;
+    if !is_short(entry) {
+        return Err(Fail::from("many runs"));
+    }
+    let mut bytes = Vec::new(rt.alloc());
+    spell_store(&mut bytes, 1, entry, false)?;
+    assert_eq!(rt; bytes.as_slice(), STORE.as_slice());
+    spell_store(&mut bytes, 2, entry, true)?;
+    let told = read(&rt, &[(0, &bytes)])?;
+    let again = told.entries.first().ok_or("no case")?;
+    assert_eq!(rt; (again.seq, again.pinned, again.length), (2, true, 5));
+    Ok(())
+}
+
+#[test]
+fn the_last_number_is_spelled(rt: HostRuntime) -> Result<(), Fail> {
+    let record = next_record(4_294_967_296);
+    assert_eq!(rt; record.get(..16), Some(NEXT.as_slice()));
+    assert_eq!(rt; record.last(), Some(&0));
     Ok(())
 }
 
