@@ -182,7 +182,7 @@ fn short_size(entry: &Entry) -> u64
 }
 
 /// Spells the Store record of a case under this number, pinned or not, its gate open, in place of what the buffer held.
-/// Where the record lies within the buffer's capacity, it takes no memory.
+/// Where the record lies within the buffer's capacity, it succeeds, and the capacity never shrinks.
 pub fn spell_store(
     bytes: &mut Vec<u8>,
     seq: u32,
