@@ -32,3 +32,4 @@ pub mod StandLaws
 pub mod Standing
 pub mod Stands
 pub mod StoreLaws
+pub mod TakenLaws
