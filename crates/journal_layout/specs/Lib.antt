@@ -16,6 +16,7 @@ pub mod LiveCounts
 pub mod LiveFinds
 pub mod LiveLaws
 pub mod NextLaws
+pub mod OtherHalfLaws
 pub mod PinLaws
 pub mod Reading
 pub mod ReadingLaws
@@ -25,6 +26,7 @@ pub mod Rewriting
 pub mod RowLaws
 pub mod RunBytesLaws
 pub mod Samples
+pub mod SnapshotLaws
 pub mod Soundness
 pub mod SpareLaws
 pub mod SpellLaws
