@@ -11,11 +11,11 @@ use Rattle.journal_layout.specs.declared.faults.OpenFault.TheVariants.{NotAnArch
 use Rattle.journal_layout.specs.Layout.{IsWithinLimits, disk_length, half_start}
 use Rattle.journal_layout.specs.Front.{Front, Header, header_at, front_opening, halves_opening, headers_opening, is_known, half_opening, header_of_half, taken_half, shape_opening, shape_at, is_archive, is_shape_of}
 
-ok_of : {X : Type 0} (t : Bool) (e : OpenFault) (y : Result X OpenFault) (x : X) → cond t (Err e) y ≡ Ok x → y ≡ Ok x
+pub ok_of : {X : Type 0} (t : Bool) (e : OpenFault) (y : Result X OpenFault) (x : X) → cond t (Err e) y ≡ Ok x → y ≡ Ok x
 ok_of true e y x h = cc
 ok_of false e y x h = h
 
-ok_in : {X : Type 0} (t : Bool) (e : OpenFault) (y : Result X OpenFault) (x : X) → cond t y (Err e) ≡ Ok x → (t ≡ true) × (y ≡ Ok x)
+pub ok_in : {X : Type 0} (t : Bool) (e : OpenFault) (y : Result X OpenFault) (x : X) → cond t y (Err e) ≡ Ok x → (t ≡ true) × (y ≡ Ok x)
 ok_in true e y x h = (refl, h)
 ok_in false e y x h = cc
 
@@ -36,7 +36,7 @@ half_shape s half h t e =
     let same : record { shape = s; half = half; version = h.version; generation = h.generation } ≡ t = cc in
     sym (ap (λ (x : Front). x.shape) same)
 
-headers_shape : (s : Shape) (a b : Header) (h : Result Half OpenFault) (t : Front) → headers_opening s a b h ≡ Ok t → t.shape ≡ s
+pub headers_shape : (s : Shape) (a b : Header) (h : Result Half OpenFault) (t : Front) → headers_opening s a b h ≡ Ok t → t.shape ≡ s
 headers_shape s a b (Ok A) t e = half_shape s A a t e
 headers_shape s a b (Ok B) t e = half_shape s B b t e
 headers_shape s a b (Err d) t e = cc

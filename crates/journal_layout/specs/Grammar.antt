@@ -1,14 +1,17 @@
 -- The laws that tie the spelling of a record to the checks of an opening, as statements.
-use Rattle.std.specs.Prelude.{◌≡◌, ℕ, ◌^◌, ◌≤◌, List, length, slice_index, None, Ok, Result}
-use Rattle.disk_model.specs.Places.{AreBytes}
+use Rattle.std.specs.Prelude.{◌≡◌, ◌≢◌, ℕ, ◌+◌, ◌^◌, ◌≤◌, List, length, slice_index, None, Ok, Result}
+use Rattle.disk_model.specs.Places.{AreBytes, SameOutside}
 use Rattle.journal_layout.specs.declared.faults.OpenFault.{OpenFault}
-use Rattle.journal_layout.specs.Record.{Record, record_size}
-use Rattle.journal_layout.specs.Folding.{Folded}
+use Rattle.journal_layout.specs.Layout.{half_length}
+use Rattle.journal_layout.specs.Record.{Record, Drop, record_size}
+use Rattle.journal_layout.specs.Folding.{Folded, nothing_yet, after, replayed}
+use Rattle.journal_layout.specs.Soundness.{IsSound}
 use Rattle.journal_layout.specs.Reading.{record_at, length_at}
 use Rattle.journal_layout.specs.Checks.{record_fault}
-use Rattle.journal_layout.specs.Standing.{Standing}
+use Rattle.journal_layout.specs.Standing.{Standing, folded_of}
 use Rattle.journal_layout.specs.Stands.{StandsFirst, Stands, Opening}
 use Rattle.journal_layout.specs.Live.{AreLive}
+use Rattle.journal_layout.specs.Rewriting.{other_start, snapshot, snapshot_size, AreSound, rewritten, HoldsSnapshot, MayRewrite}
 
 -- the bytes tell this record: its gate is open, no check of it fails, and it is what they say
 pub record IsToldBy (limit at : ℕ) (rest : List ℕ) (f : Folded) (r : Record) : Type 0 where
@@ -45,3 +48,27 @@ WhatStandsOpens = (b : List ℕ) (s : Standing) (x : Result Standing OpenFault) 
 -- what stands has live cases of which all holds that always does
 abbrev pub WhatStandsIsLive : Type 0
 WhatStandsIsLive = (b : List ℕ) (s : Standing) → Stands b s → AreLive s.shape.data_blocks s.cases s.next
+
+-- the records of live cases are sound one behind the other, and say exactly these cases and this next number
+abbrev pub SnapshotsSayAll : Type 0
+SnapshotsSayAll =
+    (limit : ℕ) (f : Folded) → AreLive limit f.cases f.next
+    → AreSound limit (nothing_yet f.version) (snapshot f) × (replayed (snapshot f) (nothing_yet f.version) ≡ f)
+
+-- while the other half's gate is not open, it may hold anything
+abbrev pub TheOtherHalfIsApart : Type 0
+TheOtherHalfIsApart =
+    (b c : List ℕ) (s : Standing) → Stands b s → SameOutside (other_start s) (half_length s.shape) b c → slice_index c (other_start s) ≢ 165
+    → Stands c s
+
+-- and once it is opened over a snapshot, that stands
+abbrev pub AnOpenedHalfStands : Type 0
+AnOpenedHalfStands =
+    (b c : List ℕ) (s : Standing) (f : Folded) → Stands b s → MayRewrite s f → HoldsSnapshot s f b → SameOutside (other_start s) 1 b c
+    → slice_index c (other_start s) ≡ 165 → Stands c (rewritten s f)
+
+-- the snapshot of what a drop leaves fits into the other half
+abbrev pub DropsHaveRoom : Type 0
+DropsHaveRoom =
+    (b : List ℕ) (s : Standing) (seqs : List ℕ) → Stands b s → IsSound s.shape.data_blocks (folded_of s) (Drop seqs)
+    → snapshot_size (after (Drop seqs) (folded_of s)) + 1 ≤ half_length s.shape

@@ -16,15 +16,18 @@ pub mod LiveCounts
 pub mod LiveFinds
 pub mod LiveLaws
 pub mod NextLaws
+pub mod OtherHalfLaws
 pub mod PinLaws
 pub mod Reading
 pub mod ReadingLaws
 pub mod Record
 pub mod RecordLaws
 pub mod Rewriting
+pub mod RoomLaws
 pub mod RowLaws
 pub mod RunBytesLaws
 pub mod Samples
+pub mod SnapshotLaws
 pub mod Soundness
 pub mod SpareLaws
 pub mod SpellLaws
@@ -32,3 +35,4 @@ pub mod StandLaws
 pub mod Standing
 pub mod Stands
 pub mod StoreLaws
+pub mod TakenLaws

@@ -38,7 +38,7 @@ rise_kept test last (c ∷ rest) rise =
 -- names
 
 -- names are the same in both orders
-name_sym : (x y : List ℕ) → bytes_eq x y ≡ false → bytes_eq y x ≡ false
+pub name_sym : (x y : List ℕ) → bytes_eq x y ≡ false → bytes_eq y x ≡ false
 name_sym x y e = false_from_ne_true (bytes_eq y x) (λ t. both_ways (bytes_eq x y) e ((bytes_eq-Decides x y).1 (sym ((bytes_eq-Decides y x).0 t))))
 
 -- what is no case's name is none of these and one more case of another name

@@ -30,6 +30,10 @@ case_records c = Store c ∷ []
 abbrev pub snapshot : Folded → List Record
 snapshot f = flat_map case_records f.cases ++ Next f.next ∷ []
 
+-- the bytes of the records that say the cases
+abbrev pub case_bytes : List Case → ℕ
+case_bytes cases = sizes (flat_map case_records cases)
+
 -- the bytes of a half's header and these records
 abbrev pub snapshot_size : Folded → ℕ
 snapshot_size f = 32 + sizes (snapshot f)

@@ -1,4 +1,5 @@
--- Two records byte by byte, as they stand on a disk: their spelling, and that they are read as what they are.
+-- Two records byte by byte, as they stand on a disk: their spelling, and that they are read as what they are. And what a
+-- snapshot of the first one's case is.
 use Rattle.std.proofs.Common.{◌≡◌, ℕ, List, [], ◌∷◌, ◌++◌, refl, false, None}
 use Rattle.disk_model.specs.Places.{part}
 use Rattle.journal_layout.specs.declared.entry.Kind.TheVariants.{Exec}
@@ -8,6 +9,7 @@ use Rattle.journal_layout.specs.Record.{Store, Next, spelling, behind_gate, plai
 use Rattle.journal_layout.specs.Reading.{record_at}
 use Rattle.journal_layout.specs.Folding.{nothing_yet}
 use Rattle.journal_layout.specs.Checks.{record_fault}
+use Rattle.journal_layout.specs.Rewriting.{snapshot, snapshot_size}
 
 -- case 1, the executable `/bin/cat` of 5 bytes, in block 0
 abbrev sample : Case
@@ -46,3 +48,13 @@ sample_told = refl
 next_spelled : spelling (Next 1) ≡ 0xa5 ∷ 4 ∷ 0 ∷ 0 ∷ 0x10 ∷ 0 ∷ 0 ∷ 0 ∷ 1 ∷ 0 ∷ 0 ∷ 0 ∷ 0 ∷ 0 ∷ 0 ∷ 0 ∷ []
 unfolding behind_gate plain body number_bytes
 next_spelled = refl
+
+-- the snapshot of no case, and of the sample alone, where the next case gets number 3
+none_said : snapshot_size (nothing_yet 1) ≡ 48
+none_said = refl
+
+sample_said : snapshot (record { version = 1; cases = sample ∷ []; next = 3 }) ≡ Store sample ∷ Next 3 ∷ []
+sample_said = refl
+
+sample_size : snapshot_size (record { version = 1; cases = sample ∷ []; next = 3 }) ≡ 112
+sample_size = refl

@@ -56,7 +56,7 @@ read_grown limit b c f said n r long same read first closed =
 
 -- a disk that stands for something
 
-half_lies : (s : Shape) (half : Half) → IsWithinLimits s → half_start s half + half_length s ≤ disk_length s
+pub half_lies : (s : Shape) (half : Half) → IsWithinLimits s → half_start s half + half_length s ≤ disk_length s
 half_lies s A limits = let some = limits.some_data in omega arith
 half_lies s B limits = let some = limits.some_data in omega arith
 
@@ -103,25 +103,30 @@ pub record HasSameFront (s : Shape) (b c : List ℕ) : Type 0 where
 same_opening : (b c : List ℕ) (t : Front) → HasSameFront t.shape b c → front_opening b ≡ Ok t → front_opening c ≡ Ok t
 same_opening b c t same e = front_same b c t e same.long same.superblock same.first same.second
 
--- it depends on its front, its records and the gate behind them alone
-pub stands_same : (b c : List ℕ) (s : Standing) → HasSameFront s.shape b c → part c (half_start s.shape s.half) (s.used + 1) ≡ part b (half_start s.shape s.half) (s.used + 1)
-    → Stands b s → Stands c s
-stands_same b c s same used stands =
+-- behind a front that opens so, it depends on its records and the gate behind them alone
+pub stands_kept : (b c : List ℕ) (s : Standing) → front_opening c ≡ Ok (front_of s) → length c ≡ length b
+    → part c (half_start s.shape s.half) (s.used + 1) ≡ part b (half_start s.shape s.half) (s.used + 1) → Stands b s → Stands c s
+stands_kept b c s front same used stands =
     let limits = stands_limits b s stands in
     let room = stands_room b s stands in
     let header = stands.header in
     let size = stands_size b s stands in
     let long : length (records_area c s.shape s.half) ≡ length (records_area b s.shape s.half) =
-    area_length c s.shape s.half limits (size ∙ sym same.long) ∙ sym (area_length b s.shape s.half limits size) in
+    area_length c s.shape s.half limits (size ∙ sym same) ∙ sym (area_length b s.shape s.half limits size) in
     record {
-      front = same_opening b c (front_of s) same stands.front;
+      front = front;
       header = stands.header;
       records =
           read_same s.shape.data_blocks (s.used + 1 - 32) (records_area b s.shape s.half) (records_area c s.shape s.half) (nothing_yet s.version) (folded_of s) (s.used - 32) long
           (omega arith) (area_same b c s.shape s.half (s.used + 1) (omega arith) room used) stands.records;
     }
 
-opened_part : (l : List ℕ) (p m : ℕ) (x : List ℕ) → part l p m ≡ x → take m (drop p l) ≡ x
+-- it depends on its front, its records and the gate behind them alone
+pub stands_same : (b c : List ℕ) (s : Standing) → HasSameFront s.shape b c → part c (half_start s.shape s.half) (s.used + 1) ≡ part b (half_start s.shape s.half) (s.used + 1)
+    → Stands b s → Stands c s
+stands_same b c s same used stands = stands_kept b c s (same_opening b c (front_of s) same stands.front) same.long used stands
+
+pub opened_part : (l : List ℕ) (p m : ℕ) (x : List ℕ) → part l p m ≡ x → take m (drop p l) ≡ x
 unfolding part
 opened_part l p m x e = e
 

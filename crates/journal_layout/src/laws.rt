@@ -1,5 +1,5 @@
 // What the definitions that the contracts cite say together. These functions do nothing.
-ghost use Rattle.journal_layout.specs.Grammar.{RecordsAreReadAgain, WhatIsReadStands, RecordsAreApart, OpeningsHaveOneAnswer, WhatStandsOpens, WhatStandsIsLive};
+ghost use Rattle.journal_layout.specs.Grammar.{RecordsAreReadAgain, WhatIsReadStands, RecordsAreApart, OpeningsHaveOneAnswer, WhatStandsOpens, WhatStandsIsLive, SnapshotsSayAll, TheOtherHalfIsApart, AnOpenedHalfStands, DropsHaveRoom};
 
 /// What is written is read again: where the spelling of a sound record stands, with room for a gate behind it, no check
 /// of an opening fails, at any place of any archive, and the fields that an opening reads are those of the record.
@@ -28,4 +28,23 @@ pub fn an_opening_has_one_answer()
 /// two of them or twice in one, all blocks are data blocks and as many as the bytes need, and no two have one name.
 pub fn live_cases_are_sound()
     ensures { WhatStandsIsLive }
+{}
+
+/// A snapshot says all: its records, one Store record for each live case in the order of their numbers and one Next
+/// record, are sound one behind the other from the first of a half on, and say exactly these cases and this next number.
+pub fn a_snapshot_says_all()
+    ensures { SnapshotsSayAll }
+{}
+
+/// The half that is not taken is apart: while its gate is not open, a disk stands for what it stood for, whatever is
+/// written there. Once that gate is opened over a header of the next generation and a snapshot with a gate behind it that
+/// is not open, the disk stands for what the snapshot says, with that half taken.
+pub fn the_other_half_is_apart()
+    ensures closed { TheOtherHalfIsApart }
+    ensures opened { AnOpenedHalfStands }
+{}
+
+/// The snapshot of what is left by a Drop record that may follow fits into a half: a drop is never short of bytes.
+pub fn what_a_drop_leaves_has_room()
+    ensures { DropsHaveRoom }
 {}

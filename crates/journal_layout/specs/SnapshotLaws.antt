@@ -1,0 +1,151 @@
+-- Laws of the records that say some cases and nothing else: they say them, and bytes that hold them are read as them.
+use Rattle.std.proofs.Common.{◌≡◌, ◌≢◌, ℕ, ◌+◌, ◌^◌, ◌<◌, ◌≤◌, false, List, [], ◌∷◌, ◌++◌, length, take, drop, map, slice_index, refl, sym, ap, ◌∙◌, subst, arith, append_assoc}
+use Rattle.std.specs.List.{AllByRecursion, flat_map}
+use Rattle.std.specs.Str.{bytes_eq}
+use Rattle.std.proofs.lemmas.Bool.{or_parts}
+use Rattle.std.proofs.lemmas.List.{take-take, drop-take, take_at, drop_at, length-drop, append-nil}
+use Rattle.std.proofs.lemmas.List.Elements.{recursion_from_All}
+use Rattle.journal_layout.specs.Case.{Case}
+use Rattle.journal_layout.specs.Record.{Record, Store, Next, record_size, spelling}
+use Rattle.journal_layout.specs.Folding.{Folded, nothing_yet, after, replayed, sizes, used_blocks, is_name_of}
+use Rattle.journal_layout.specs.Soundness.{IsSound, Rise, uses}
+use Rattle.journal_layout.specs.SpareLaws.{uses-append}
+use Rattle.journal_layout.specs.SpellLaws.{length-spelling}
+use Rattle.journal_layout.specs.Stands.{StandInRow, AreRead}
+use Rattle.journal_layout.specs.Live.{seq_of_case, IsWhole, AreNamedApart, AreLive}
+use Rattle.journal_layout.specs.LiveLaws.{name_sym, name_push, uses_stored}
+use Rattle.journal_layout.specs.Rewriting.{case_records, snapshot, AreSound}
+
+-- bytes that hold sound records
+
+-- bytes that begin with a join begin with its first list, and behind that with its second
+front_of_join : (n m : ℕ) (bytes xs ys : List ℕ) → length xs ≡ n → take (n + m) bytes ≡ xs ++ ys → take n bytes ≡ xs
+front_of_join n m bytes xs ys long e =
+    sym (take-take n (n + m) bytes (omega arith)) ∙ ap (take n) e ∙ take_at xs ys n long
+
+back_of_join : (n m : ℕ) (bytes xs ys : List ℕ) → length xs ≡ n → take (n + m) bytes ≡ xs ++ ys → take m (drop n bytes) ≡ ys
+back_of_join n m bytes xs ys long e = sym (drop-take n m bytes) ∙ ap (drop n) e ∙ drop_at xs ys n long
+
+-- sound records that are spelled one after another stand in a row
+pub row_spelled : (limit : ℕ) (bytes : List ℕ) (f : Folded) (rs : List Record) → AreSound limit f rs → sizes rs + 1 ≤ length bytes
+    → take (sizes rs) bytes ≡ flat_map spelling rs → StandInRow limit bytes f rs
+row_spelled limit bytes f [] sound room e = tt
+row_spelled limit bytes f (r ∷ rest) sound room e =
+    let n = record_size r in
+    let long = length-spelling r in (
+      record {
+        spelled = front_of_join n (sizes rest) bytes (spelling r) (flat_map spelling rest) long e;
+        room = omega arith;
+        sound = sound.0;
+      },
+      row_spelled limit (drop n bytes) (after r f) rest sound.1 (omega (arith, length-drop n bytes))
+          (back_of_join n (sizes rest) bytes (spelling r) (flat_map spelling rest) long e),
+    )
+
+-- and are read, where a gate behind them is not open
+pub read_spelled : (limit : ℕ) (bytes : List ℕ) (f : Folded) (rs : List Record) → AreSound limit f rs → sizes rs + 1 ≤ length bytes
+    → take (sizes rs) bytes ≡ flat_map spelling rs → slice_index bytes (sizes rs) ≢ 165 → AreRead limit bytes f (replayed rs f) (sizes rs)
+read_spelled limit bytes f rs sound room e closed = record {
+  records = rs;
+  row = row_spelled limit bytes f rs sound room e;
+  closed = closed;
+  folded = refl;
+  size = refl;
+}
+
+-- the records of live cases
+
+-- The cases `done` are said already, the last of them under the number `last`. What is left goes with them.
+record MayFollow (limit next last : ℕ) (done rest : List Case) : Type 0 where
+  numbers : next ≤ 2 ^ 32
+  low : last + 1 ≤ next
+  each : AllByRecursion (IsWhole next) rest
+  rise : Rise last (map seq_of_case rest)
+  once : (k : ℕ) → uses k (used_blocks done) + uses k (used_blocks rest) ≤ 1
+  within : (k : ℕ) → 0 < uses k (used_blocks rest) → k < limit
+  different : AreNamedApart rest
+  new : AllByRecursion (λ (c : Case). is_name_of done c.name ≡ false) rest
+
+module _ (limit next last : ℕ) (c : Case) (done rest : List Case) (may : MayFollow limit next last done (c ∷ rest)) where
+  first_sound : (version : ℕ) → IsSound limit (record { version = version; cases = done; next = last + 1 }) (Store c)
+  first_sound version =
+      let whole = may.each.0 in
+      let numbers = may.numbers in
+      let below = whole.below in (
+        omega (arith, may.rise.0),
+        omega arith,
+        record {
+          name = whole.name;
+          new_name = may.new.0;
+          pid = whole.pid;
+          signal = whole.signal;
+          time = whole.time;
+          bytes = whole.bytes;
+          enough = whole.enough;
+          spare = λ k some. (
+            may.within k (omega (arith, uses-append k c.blocks (used_blocks rest))),
+            omega (arith, may.once k, uses-append k c.blocks (used_blocks rest)),
+            omega (arith, may.once k, uses-append k c.blocks (used_blocks rest)),
+          );
+        },
+      )
+
+  new_behind : (l : List Case) → is_name_of l c.name ≡ false → AllByRecursion (λ (d : Case). is_name_of done d.name ≡ false) l
+      → AllByRecursion (λ (d : Case). is_name_of (done ++ c ∷ []) d.name ≡ false) l
+  new_behind [] none each = tt
+  new_behind (d ∷ l) none each =
+      let h = or_parts (bytes_eq d.name c.name) (is_name_of l c.name) none in
+      (name_push done c d.name each.0 (name_sym d.name c.name h.0), new_behind l h.1 each.1)
+
+  rest_follows : MayFollow limit next c.seq (done ++ c ∷ []) rest
+  rest_follows = record {
+    numbers = may.numbers;
+    low = (let below = may.each.0.below in omega arith);
+    each = may.each.1;
+    rise = may.rise.1;
+    once = λ k. omega (arith, may.once k, uses_stored k done c, uses-append k c.blocks (used_blocks rest));
+    within = λ k some. may.within k (omega (arith, uses-append k c.blocks (used_blocks rest)));
+    different = may.different.1;
+    new = new_behind rest may.different.0 may.new.1;
+  }
+
+-- the records of those that are left are sound, and say them behind the others
+follow : (limit version next last : ℕ) (done rest : List Case) → MayFollow limit next last done rest
+    → AreSound limit (record { version = version; cases = done; next = last + 1 }) (flat_map case_records rest ++ Next next ∷ [])
+    × (replayed (flat_map case_records rest ++ Next next ∷ []) (record { version = version; cases = done; next = last + 1 })
+    ≡ record { version = version; cases = done ++ rest; next = next })
+follow limit version next last done [] may =
+    (((may.low, may.numbers), tt), ap (λ (l : List Case). record { version = version; cases = l; next = next }) (sym (append-nil done)))
+follow limit version next last done (c ∷ rest) may =
+    let behind = follow limit version next c.seq (done ++ c ∷ []) rest (rest_follows limit next last c done rest may) in (
+      (first_sound limit next last c done rest may version, behind.0),
+      behind.1 ∙ ap (λ (l : List Case). record { version = version; cases = l; next = next }) (append_assoc done (c ∷ []) rest),
+    )
+
+-- The records of live cases are sound from the first one on, and say exactly these cases and this next number.
+pub a_snapshot_says_all : (limit : ℕ) (f : Folded) → AreLive limit f.cases f.next
+    → AreSound limit (nothing_yet f.version) (snapshot f) × (replayed (snapshot f) (nothing_yet f.version) ≡ f)
+a_snapshot_says_all limit f live =
+    follow limit f.version f.next 0 [] f.cases (record {
+      numbers = live.numbers;
+      low = live.some_next;
+      each = recursion_from_All (IsWhole f.next) f.cases live.each;
+      rise = live.rise;
+      once = λ k. omega (arith, live.once k);
+      within = live.within;
+      different = live.different;
+      new = none f.cases;
+    })
+  where
+    none : (l : List Case) → AllByRecursion (λ (c : Case). is_name_of [] c.name ≡ false) l
+    none [] = tt
+    none (c ∷ l) = (refl, none l)
+
+-- bytes that hold them, and a gate behind them that is not open, are read as these cases
+pub a_snapshot_is_read : (limit : ℕ) (bytes : List ℕ) (f : Folded) → AreLive limit f.cases f.next → sizes (snapshot f) + 1 ≤ length bytes
+    → take (sizes (snapshot f)) bytes ≡ flat_map spelling (snapshot f) → slice_index bytes (sizes (snapshot f)) ≢ 165
+    → AreRead limit bytes (nothing_yet f.version) f (sizes (snapshot f))
+a_snapshot_is_read limit bytes f live room spelled closed =
+    let all = a_snapshot_says_all limit f live in
+    subst (λ (g : Folded). AreRead limit bytes (nothing_yet f.version) g (sizes (snapshot f))) all.1
+    (read_spelled limit bytes (nothing_yet f.version) (snapshot f) all.0 room spelled closed)
