@@ -63,12 +63,17 @@ fn has_images<D: Disk>(
     }
 }
 
+// The number of each case, the seed and the length of its image, as they are read.
+static READ: [(u32, u8, u64); 4] = [(1, 0, 8197), (2, 1, 4103), (3, 2, 0), (1, 0, 8197)];
+
+// The same once the archive is opened again.
+static READ_AGAIN: [(u32, u8, u64); 3] = [(2, 1, 4103), (1, 0, 8197), (3, 2, 0)];
+
 // The archive has the three cases in these blocks with these bytes, and no other.
 fn has_three<D: Disk>(rt: &impl Abort, archive: &mut Archive<D>) {
     assert!(rt; has_runs(archive, 1, &[(0, 1), (2, 2)]));
     assert!(rt; has_runs(archive, 2, &[(1, 1), (4, 1)]));
-    let images = [(1, 0, 8197), (2, 1, 4103), (3, 2, 0), (1, 0, 8197)];
-    has_images(rt, archive, &images, 0);
+    has_images(rt, archive, &READ, 0);
     assert_eq!(rt; archive.image(4), Err(ArchiveFault::NoCase));
     assert_eq!(rt; archive.image(0), Err(ArchiveFault::NoCase));
 }
@@ -78,8 +83,7 @@ fn images_are_read_as_they_were_streamed(rt: HostRuntime) -> Result<(), Fail> {
     let mut archive = streamed(&rt, 0)?;
     has_three(&rt, &mut archive);
     let mut archive = opened(rt.alloc(), archive.close())?;
-    let images = [(2, 1, 4103), (1, 0, 8197), (3, 2, 0)];
-    has_images(&rt, &mut archive, &images, 0);
+    has_images(&rt, &mut archive, &READ_AGAIN, 0);
     Ok(())
 }
 

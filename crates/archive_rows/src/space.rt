@@ -12,7 +12,7 @@ fn answers(rt: &(impl AllocGlobal + Abort), rows: &[Row]) -> Result<(), Fail> {
     Ok(())
 }
 
-const EMPTY_IMAGE: [Row; 6] = [
+static EMPTY_IMAGE: [Row; 6] = [
     (Call::Free(4), OK),
     (Call::Begin(0, b"x"), OK),
     (Call::Finish(0, 1), OK),
@@ -26,7 +26,7 @@ fn an_empty_image_takes_no_block(rt: HostRuntime) -> Result<(), Fail> {
     answers(&rt, &EMPTY_IMAGE)
 }
 
-const WHOLE_BLOCKS: [Row; 6] = [
+static WHOLE_BLOCKS: [Row; 6] = [
     (Call::Store(b"a", 1, 4096, 1), OK),
     (Call::Free(3), OK),
     (Call::Store(b"b", 2, 4097, 2), OK),
@@ -40,7 +40,7 @@ fn a_block_is_taken_for_each_4096_bytes(rt: HostRuntime) -> Result<(), Fail> {
     answers(&rt, &WHOLE_BLOCKS)
 }
 
-const FREED_BLOCKS: [Row; 14] = [
+static FREED_BLOCKS: [Row; 14] = [
     (Call::Store(b"a", 1, 1, 1), OK),
     (Call::Store(b"b", 2, 1, 2), OK),
     (Call::Store(b"c", 3, 1, 3), OK),
@@ -62,7 +62,7 @@ fn freed_blocks_are_used_again(rt: HostRuntime) -> Result<(), Fail> {
     answers(&rt, &FREED_BLOCKS)
 }
 
-const TWO_STREAMS: [Row; 14] = [
+static TWO_STREAMS: [Row; 14] = [
     (Call::Begin(0, b"a"), OK),
     (Call::Begin(1, b"b"), OK),
     (Call::Begin(2, b"a"), Err(ArchiveFault::NameTaken)),
@@ -84,7 +84,7 @@ fn streams_take_blocks_in_turn(rt: HostRuntime) -> Result<(), Fail> {
     answers(&rt, &TWO_STREAMS)
 }
 
-const EIGHT_STREAMS: [Row; 26] = [
+static EIGHT_STREAMS: [Row; 26] = [
     (Call::Begin(0, b"a"), OK),
     (Call::Begin(1, b"b"), OK),
     (Call::Begin(2, b"c"), OK),
@@ -118,7 +118,7 @@ fn four_of_eight_streams_find_a_block(rt: HostRuntime) -> Result<(), Fail> {
     answers(&rt, &EIGHT_STREAMS)
 }
 
-const ABANDONED: [Row; 5] = [
+static ABANDONED: [Row; 5] = [
     (Call::Begin(0, b"a"), OK),
     (Call::Put(0, 1, 0, 4096), OK),
     (Call::Free(3), OK),
