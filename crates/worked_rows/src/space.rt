@@ -137,15 +137,24 @@ static SECOND_TURN: [Run; 1] = [Run { start: 1, count: 1 }];
 
 static OTHER_TURNS: [Run; 2] = [Run { start: 0, count: 1 }, Run { start: 2, count: 1 }];
 
+// The streams' blocks are those that each took in its turn.
+fn take_turns<D: Disk>(
+    rt: &(impl AllocGlobal + Abort),
+    archive: &mut Archive<D>,
+    script: &[u8],
+) -> Result<(), Fail> {
+    let wanted =
+        "name a\nok\nname b\nok\nno NameTaken\nno SlotBusy\nok\nok\nok\nstored 1\nok\nstored 2\nok\nfree 1 of 4\nok\n";
+    tells(rt, archive, script, wanted)?;
+    lies_in(rt, archive, 1, &SECOND_TURN)?;
+    lies_in(rt, archive, 2, &OTHER_TURNS)
+}
+
 #[test]
 fn streams_take_turns(rt: HostRuntime) -> Result<(), Fail> {
     let script = two_streams(rt.alloc())?;
-    let wanted =
-        "name a\nok\nname b\nok\nno NameTaken\nno SlotBusy\nok\nok\nok\nstored 1\nok\nstored 2\nok\nfree 1 of 4\nok\n";
     let mut archive = fresh(rt.alloc(), 1 << 30)?;
-    tells(&rt, &mut archive, script.as_slice(), wanted)?;
-    lies_in(&rt, &archive, 1, &SECOND_TURN)?;
-    lies_in(&rt, &archive, 2, &OTHER_TURNS)
+    take_turns(&rt, &mut archive, script.as_slice())
 }
 
 // A stream of one byte in each slot, of which five are ended.
