@@ -1,16 +1,8 @@
 // Which blocks an image gets, and which are free again.
-use crate::bench::fresh;
-use crate::rows::{Call, OK, Row, follow};
+use crate::rows::{Call, OK, Row, answers};
+use extents::Run;
 use intake::ArchiveFault;
-use std::process::Abort;
 use std::test::Fail;
-
-// Each call on a fresh archive answers what its row says.
-fn answers(rt: &(impl AllocGlobal + Abort), rows: &[Row]) -> Result<(), Fail> {
-    let mut archive = fresh(rt.alloc())?;
-    assert_eq!(rt; follow(&mut archive, rows)?, rows.len());
-    Ok(())
-}
 
 static EMPTY_IMAGE: [Row; 6] = [
     (Call::Free(4), OK),
@@ -44,13 +36,16 @@ static FREED_BLOCKS: [Row; 14] = [
     (Call::Store(b"a", 1, 1, 1), OK),
     (Call::Store(b"b", 2, 1, 2), OK),
     (Call::Store(b"c", 3, 1, 3), OK),
-    (Call::Runs(1, &[(0, 1)]), OK),
-    (Call::Runs(2, &[(1, 1)]), OK),
-    (Call::Runs(3, &[(2, 1)]), OK),
+    (Call::Runs(1, &[Run { start: 0, count: 1 }]), OK),
+    (Call::Runs(2, &[Run { start: 1, count: 1 }]), OK),
+    (Call::Runs(3, &[Run { start: 2, count: 1 }]), OK),
     (Call::Delete(2), OK),
     (Call::Free(2), OK),
     (Call::Store(b"d", 4, 8192, 4), OK),
-    (Call::Runs(4, &[(1, 1), (3, 1)]), OK),
+    (
+        Call::Runs(4, &[Run { start: 1, count: 1 }, Run { start: 3, count: 1 }]),
+        OK,
+    ),
     (Call::Free(0), OK),
     (Call::Image(1, 1, 1), OK),
     (Call::Image(3, 3, 1), OK),
@@ -71,9 +66,12 @@ static TWO_STREAMS: [Row; 14] = [
     (Call::Put(1, 2, 0, 4096), OK),
     (Call::Put(0, 1, 4096, 4097), OK),
     (Call::Finish(1, 1), OK),
-    (Call::Runs(1, &[(1, 1)]), OK),
+    (Call::Runs(1, &[Run { start: 1, count: 1 }]), OK),
     (Call::Finish(0, 2), OK),
-    (Call::Runs(2, &[(0, 1), (2, 1)]), OK),
+    (
+        Call::Runs(2, &[Run { start: 0, count: 1 }, Run { start: 2, count: 1 }]),
+        OK,
+    ),
     (Call::Free(1), OK),
     (Call::Image(1, 2, 4096), OK),
     (Call::Image(2, 1, 4097), OK),
@@ -110,7 +108,7 @@ static EIGHT_STREAMS: [Row; 26] = [
     (Call::Finish(4, 5), Err(ArchiveFault::NoStream)),
     (Call::Delete(2), OK),
     (Call::Finish(5, 5), OK),
-    (Call::Runs(5, &[(1, 1)]), OK),
+    (Call::Runs(5, &[Run { start: 1, count: 1 }]), OK),
 ];
 
 #[test]
