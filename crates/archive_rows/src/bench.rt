@@ -180,28 +180,15 @@ pub fn store<D: Disk>(
     Ok(archive.finish(0))
 }
 
-/// Whether the case of this number lies in these runs of blocks, by their first block and their count.
-pub fn has_runs<D: Disk>(archive: &Archive<D>, seq: u32, runs: &[(u32, u32)]) -> bool {
+/// Whether the case of this number lies in these runs of blocks.
+pub fn has_runs<D: Disk>(archive: &Archive<D>, seq: u32, runs: &[Run]) -> bool {
     let Ok(entries) = archive.cases() else {
         return false;
     };
     for entry in entries {
         if entry.seq == seq {
-            return are_runs(entry.runs.runs(), runs);
+            return entry.runs.runs() == runs;
         }
     }
     false
-}
-
-// Whether these are the runs.
-fn are_runs(runs: &[Run], expected: &[(u32, u32)]) -> bool {
-    if runs.len() != expected.len() {
-        return false;
-    }
-    for (run, (start, count)) in runs.iter().zip(expected) {
-        if run.start != *start || run.count != *count {
-            return false;
-        }
-    }
-    true
 }

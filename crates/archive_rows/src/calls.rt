@@ -1,5 +1,6 @@
 // What the calls answer where nothing fails.
-use crate::bench::{begin, cases_of, fresh, name_of, put, store};
+use crate::bench::{cases_of, fresh, name_of, put, store};
+use crate::rows::{Call, OK, Row, answers, answers_on};
 use disk_model::Disk;
 use intake::{Archive, ArchiveFault};
 use journal_layout::{Entry, Kind};
@@ -35,36 +36,33 @@ fn has_core<D: Disk>(rt: &impl Abort, archive: &Archive<D>) -> Result<(), Fail> 
     Ok(())
 }
 
+// The core is stored and stands.
+fn keeps_core<D: Disk>(rt: &impl Abort, archive: &mut Archive<D>) -> Result<(), Fail> {
+    store_core(rt, archive)?;
+    has_core(rt, archive)
+}
+
 #[test]
 fn a_case_keeps_what_it_was_begun_with(rt: HostRuntime) -> Result<(), Fail> {
     let mut archive = fresh(rt.alloc())?;
-    store_core(&rt, &mut archive)?;
-    has_core(&rt, &archive)
+    keeps_core(&rt, &mut archive)
 }
 
-// No stream is in a slot that is none.
-fn refuses_slot<D: Disk>(rt: &impl Abort, archive: &mut Archive<D>) -> Result<(), Fail> {
-    assert_eq!(rt; begin(archive, 8, b"x")?, Err(ArchiveFault::BadSlot));
-    assert_eq!(rt; archive.finish(8), Err(ArchiveFault::NoStream));
-    assert_eq!(rt; archive.abandon(8), Err(ArchiveFault::NoStream));
-    Ok(())
-}
-
-// The stream in slot 3 becomes case 1, and the slot is empty then.
-fn takes_turns<D: Disk>(rt: &impl Abort, archive: &mut Archive<D>) -> Result<(), Fail> {
-    assert_eq!(rt; begin(archive, 3, b"x")?, Ok(()));
-    assert_eq!(rt; begin(archive, 3, b"y")?, Err(ArchiveFault::SlotBusy));
-    assert_eq!(rt; archive.finish(3), Ok(1));
-    assert_eq!(rt; archive.finish(3), Err(ArchiveFault::NoStream));
-    assert_eq!(rt; begin(archive, 3, b"x")?, Err(ArchiveFault::NameTaken));
-    Ok(())
-}
+// No stream is in a slot that is none; the stream in slot 3 becomes case 1, and the slot is empty then.
+static SLOTS: [Row; 8] = [
+    (Call::Begin(8, b"x"), Err(ArchiveFault::BadSlot)),
+    (Call::Finish(8, 1), Err(ArchiveFault::NoStream)),
+    (Call::Abandon(8), Err(ArchiveFault::NoStream)),
+    (Call::Begin(3, b"x"), OK),
+    (Call::Begin(3, b"y"), Err(ArchiveFault::SlotBusy)),
+    (Call::Finish(3, 1), OK),
+    (Call::Finish(3, 1), Err(ArchiveFault::NoStream)),
+    (Call::Begin(3, b"x"), Err(ArchiveFault::NameTaken)),
+];
 
 #[test]
 fn a_slot_has_one_stream_at_a_time(rt: HostRuntime) -> Result<(), Fail> {
-    let mut archive = fresh(rt.alloc())?;
-    refuses_slot(&rt, &mut archive)?;
-    takes_turns(&rt, &mut archive)
+    answers(&rt, &SLOTS)
 }
 
 // Stores a case without bytes, which has this number.
@@ -86,26 +84,24 @@ fn fill<D: Disk>(rt: &(impl AllocGlobal + Abort), archive: &mut Archive<D>) -> R
     Ok(())
 }
 
-// A full journal takes no further case.
-fn is_full<D: Disk>(rt: &impl Abort, archive: &mut Archive<D>) -> Result<(), Fail> {
-    assert_eq!(rt; begin(archive, 0, b"n64")?, Ok(()));
-    assert_eq!(rt; archive.finish(0), Err(ArchiveFault::JournalFull));
-    assert_eq!(rt; begin(archive, 0, b"n64")?, Ok(()));
-    Ok(())
-}
+// A full journal takes no further case, and it takes a deletion.
+static FULL: [Row; 6] = [
+    (Call::Begin(0, b"n64"), OK),
+    (Call::Finish(0, 64), Err(ArchiveFault::JournalFull)),
+    (Call::Begin(0, b"n64"), OK),
+    (Call::Delete(1), OK),
+    (Call::Count(62), OK),
+    (Call::Delete(1), Err(ArchiveFault::NoCase)),
+];
 
-// It takes a deletion.
-fn takes_a_deletion<D: Disk>(rt: &impl Abort, archive: &mut Archive<D>) -> Result<(), Fail> {
-    assert_eq!(rt; archive.delete(1), Ok(()));
-    assert_eq!(rt; cases_of(archive)?.len(), 62);
-    assert_eq!(rt; archive.delete(1), Err(ArchiveFault::NoCase));
-    Ok(())
+// The journal is filled, and answers so then.
+fn is_full<D: Disk>(rt: &(impl AllocGlobal + Abort), archive: &mut Archive<D>) -> Result<(), Fail> {
+    fill(rt, archive)?;
+    answers_on(rt, archive, &FULL)
 }
 
 #[test]
 fn the_journal_is_full(rt: HostRuntime) -> Result<(), Fail> {
     let mut archive = fresh(rt.alloc())?;
-    fill(&rt, &mut archive)?;
-    is_full(&rt, &mut archive)?;
-    takes_a_deletion(&rt, &mut archive)
+    is_full(&rt, &mut archive)
 }

@@ -8,7 +8,7 @@ use std::process::Abort;
 use std::test::Fail;
 
 // A name whose bytes are those of an open gate.
-const GATES: [u8; 20] = [0xa5; 20];
+static GATES: [u8; 20] = [0xa5; 20];
 
 // The archive on a copy of the disk, whose call of this number fails once.
 fn faulty(alloc: Global, disk: &MemDisk, call: u64) -> Result<Archive<OneFault<MemDisk>>, Fail> {

@@ -9,7 +9,7 @@ use std::process::Abort;
 use std::test::Fail;
 
 // Three records of cases, one of a pin, and one that drops two cases.
-const RETIRED: [Row; 7] = [
+static RETIRED: [Row; 7] = [
     (Call::Store(b"n1", 1, 0, 1), OK),
     (Call::Store(b"n2", 1, 0, 2), OK),
     (Call::Store(b"n3", 1, 0, 3), OK),
@@ -20,7 +20,7 @@ const RETIRED: [Row; 7] = [
 ];
 
 // No record.
-const UNCHANGED: [Row; 7] = [
+static UNCHANGED: [Row; 7] = [
     (Call::Keep(0, &[], true), OK),
     (Call::Keep(1, &[], false), OK),
     (Call::Pin(1, true), OK),
@@ -31,7 +31,7 @@ const UNCHANGED: [Row; 7] = [
 ];
 
 // One record of a pin, and one that drops a case.
-const UNPINNED: [Row; 3] = [
+static UNPINNED: [Row; 3] = [
     (Call::Pin(1, false), OK),
     (Call::Keep(0, &[1], false), OK),
     (Call::Cases(&[]), OK),

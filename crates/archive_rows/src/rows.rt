@@ -1,8 +1,10 @@
 // Calls in a row, each with what it is to answer.
-use crate::bench::{begin, has_image, has_runs, put, store};
+use crate::bench::{begin, fresh, has_image, has_runs, put, store};
 use disk_model::Disk;
+use extents::Run;
 use intake::{Archive, ArchiveFault, Space};
 use retention::Policy;
+use std::process::Abort;
 use std::test::Fail;
 
 /// A call, or a look at what stands. Executables are meant, whose bytes are told by a seed.
@@ -26,12 +28,14 @@ pub enum Call {
     Keep(u64, &'static [u32], bool),
     /// So many of four data blocks are free.
     Free(u32),
-    /// The case of this number lies in these runs of blocks, by their first block and their count.
-    Runs(u32, &'static [(u32, u32)]),
+    /// The case of this number lies in these runs of blocks.
+    Runs(u32, &'static [Run]),
     /// The case of this number has the image of this seed and length.
     Image(u32, u8, u64),
     /// These are the numbers and the pins of the cases.
     Cases(&'static [(u32, bool)]),
+    /// So many cases stand.
+    Count(usize),
 }
 
 /// A call with its answer.
@@ -92,6 +96,14 @@ fn has_cases<D: Disk>(archive: &Archive<D>, cases: &[(u32, bool)]) -> bool {
     true
 }
 
+// Whether so many cases stand.
+fn has_count<D: Disk>(archive: &Archive<D>, count: usize) -> bool {
+    match archive.cases() {
+        Ok(entries) => entries.len() == count,
+        Err(_) => false,
+    }
+}
+
 // Whether so many blocks of four are free.
 fn is_free<D: Disk>(archive: &Archive<D>, free: u32) -> bool {
     archive.free_blocks()
@@ -118,6 +130,7 @@ fn make<D: Disk>(archive: &mut Archive<D>, call: &Call) -> Result<Result<(), Arc
         Call::Runs(seq, runs) => seen(has_runs(archive, *seq, runs)),
         Call::Image(seq, seed, length) => seen(has_image(archive, *seq, *seed, *length)),
         Call::Cases(cases) => seen(has_cases(archive, cases)),
+        Call::Count(count) => seen(has_count(archive, *count)),
     }
 }
 
@@ -129,4 +142,20 @@ pub fn follow<D: Disk>(archive: &mut Archive<D>, rows: &[Row]) -> Result<usize, 
         }
     }
     Ok(rows.len())
+}
+
+/// Each call answers what its row says.
+pub fn answers_on<D: Disk>(
+    rt: &impl Abort,
+    archive: &mut Archive<D>,
+    rows: &[Row],
+) -> Result<(), Fail> {
+    assert_eq!(rt; follow(archive, rows)?, rows.len());
+    Ok(())
+}
+
+/// The same on a fresh archive.
+pub fn answers(rt: &(impl AllocGlobal + Abort), rows: &[Row]) -> Result<(), Fail> {
+    let mut archive = fresh(rt.alloc())?;
+    answers_on(rt, &mut archive, rows)
 }

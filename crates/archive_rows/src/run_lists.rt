@@ -17,23 +17,27 @@ fn is_empty(rt: &impl Abort, list: &RunList) {
     assert_eq!(rt; list.block_at(0), None);
 }
 
+static JOINED: [Run; 3] = [
+    Run { start: 1, count: 4 },
+    Run { start: 0, count: 1 },
+    Run { start: 7, count: 2 },
+];
+
+// The block at each of these places.
+static PLACES: [(u32, Option<u32>); 6] = [
+    (0, Some(1)),
+    (3, Some(4)),
+    (4, Some(0)),
+    (5, Some(7)),
+    (6, Some(8)),
+    (7, None),
+];
+
 // The runs of the list, and the blocks at its places.
 fn is_joined(rt: &impl Abort, list: &RunList) {
-    let runs = [
-        Run { start: 1, count: 4 },
-        Run { start: 0, count: 1 },
-        Run { start: 7, count: 2 },
-    ];
-    assert_eq!(rt; list.runs(), runs.as_slice());
-    for (place, block) in [
-        (0, Some(1)),
-        (3, Some(4)),
-        (4, Some(0)),
-        (5, Some(7)),
-        (6, Some(8)),
-        (7, None),
-    ] {
-        assert_eq!(rt; list.block_at(place), block, "at {place}");
+    assert_eq!(rt; list.runs(), JOINED.as_slice());
+    for (place, block) in &PLACES {
+        assert_eq!(rt; list.block_at(*place), *block, "at {place}");
     }
 }
 

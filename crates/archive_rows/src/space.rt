@@ -1,18 +1,10 @@
 // Which blocks an image gets, and which are free again.
-use crate::bench::fresh;
-use crate::rows::{Call, OK, Row, follow};
+use crate::rows::{Call, OK, Row, answers};
+use extents::Run;
 use intake::ArchiveFault;
-use std::process::Abort;
 use std::test::Fail;
 
-// Each call on a fresh archive answers what its row says.
-fn answers(rt: &(impl AllocGlobal + Abort), rows: &[Row]) -> Result<(), Fail> {
-    let mut archive = fresh(rt.alloc())?;
-    assert_eq!(rt; follow(&mut archive, rows)?, rows.len());
-    Ok(())
-}
-
-const EMPTY_IMAGE: [Row; 6] = [
+static EMPTY_IMAGE: [Row; 6] = [
     (Call::Free(4), OK),
     (Call::Begin(0, b"x"), OK),
     (Call::Finish(0, 1), OK),
@@ -26,7 +18,7 @@ fn an_empty_image_takes_no_block(rt: HostRuntime) -> Result<(), Fail> {
     answers(&rt, &EMPTY_IMAGE)
 }
 
-const WHOLE_BLOCKS: [Row; 6] = [
+static WHOLE_BLOCKS: [Row; 6] = [
     (Call::Store(b"a", 1, 4096, 1), OK),
     (Call::Free(3), OK),
     (Call::Store(b"b", 2, 4097, 2), OK),
@@ -40,17 +32,20 @@ fn a_block_is_taken_for_each_4096_bytes(rt: HostRuntime) -> Result<(), Fail> {
     answers(&rt, &WHOLE_BLOCKS)
 }
 
-const FREED_BLOCKS: [Row; 14] = [
+static FREED_BLOCKS: [Row; 14] = [
     (Call::Store(b"a", 1, 1, 1), OK),
     (Call::Store(b"b", 2, 1, 2), OK),
     (Call::Store(b"c", 3, 1, 3), OK),
-    (Call::Runs(1, &[(0, 1)]), OK),
-    (Call::Runs(2, &[(1, 1)]), OK),
-    (Call::Runs(3, &[(2, 1)]), OK),
+    (Call::Runs(1, &[Run { start: 0, count: 1 }]), OK),
+    (Call::Runs(2, &[Run { start: 1, count: 1 }]), OK),
+    (Call::Runs(3, &[Run { start: 2, count: 1 }]), OK),
     (Call::Delete(2), OK),
     (Call::Free(2), OK),
     (Call::Store(b"d", 4, 8192, 4), OK),
-    (Call::Runs(4, &[(1, 1), (3, 1)]), OK),
+    (
+        Call::Runs(4, &[Run { start: 1, count: 1 }, Run { start: 3, count: 1 }]),
+        OK,
+    ),
     (Call::Free(0), OK),
     (Call::Image(1, 1, 1), OK),
     (Call::Image(3, 3, 1), OK),
@@ -62,7 +57,7 @@ fn freed_blocks_are_used_again(rt: HostRuntime) -> Result<(), Fail> {
     answers(&rt, &FREED_BLOCKS)
 }
 
-const TWO_STREAMS: [Row; 14] = [
+static TWO_STREAMS: [Row; 14] = [
     (Call::Begin(0, b"a"), OK),
     (Call::Begin(1, b"b"), OK),
     (Call::Begin(2, b"a"), Err(ArchiveFault::NameTaken)),
@@ -71,9 +66,12 @@ const TWO_STREAMS: [Row; 14] = [
     (Call::Put(1, 2, 0, 4096), OK),
     (Call::Put(0, 1, 4096, 4097), OK),
     (Call::Finish(1, 1), OK),
-    (Call::Runs(1, &[(1, 1)]), OK),
+    (Call::Runs(1, &[Run { start: 1, count: 1 }]), OK),
     (Call::Finish(0, 2), OK),
-    (Call::Runs(2, &[(0, 1), (2, 1)]), OK),
+    (
+        Call::Runs(2, &[Run { start: 0, count: 1 }, Run { start: 2, count: 1 }]),
+        OK,
+    ),
     (Call::Free(1), OK),
     (Call::Image(1, 2, 4096), OK),
     (Call::Image(2, 1, 4097), OK),
@@ -84,7 +82,7 @@ fn streams_take_blocks_in_turn(rt: HostRuntime) -> Result<(), Fail> {
     answers(&rt, &TWO_STREAMS)
 }
 
-const EIGHT_STREAMS: [Row; 26] = [
+static EIGHT_STREAMS: [Row; 26] = [
     (Call::Begin(0, b"a"), OK),
     (Call::Begin(1, b"b"), OK),
     (Call::Begin(2, b"c"), OK),
@@ -110,7 +108,7 @@ const EIGHT_STREAMS: [Row; 26] = [
     (Call::Finish(4, 5), Err(ArchiveFault::NoStream)),
     (Call::Delete(2), OK),
     (Call::Finish(5, 5), OK),
-    (Call::Runs(5, &[(1, 1)]), OK),
+    (Call::Runs(5, &[Run { start: 1, count: 1 }]), OK),
 ];
 
 #[test]
@@ -118,7 +116,7 @@ fn four_of_eight_streams_find_a_block(rt: HostRuntime) -> Result<(), Fail> {
     answers(&rt, &EIGHT_STREAMS)
 }
 
-const ABANDONED: [Row; 5] = [
+static ABANDONED: [Row; 5] = [
     (Call::Begin(0, b"a"), OK),
     (Call::Put(0, 1, 0, 4096), OK),
     (Call::Free(3), OK),

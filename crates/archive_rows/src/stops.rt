@@ -12,10 +12,10 @@ use std::alloc::Global;
 use std::test::Fail;
 
 // Of what was written since the last sync nothing is left, or its first bytes, or all of it.
-const CUT: [Pick; 3] = [Pick::Nothing, Pick::FirstHalf, Pick::Whole];
+static CUT: [Pick; 3] = [Pick::Nothing, Pick::FirstHalf, Pick::Whole];
 
 // In its place stand the bytes of open gates, or others.
-const FILLED: [Pick; 2] = [Pick::Fill(0xa5), Pick::Fill(0x37)];
+static FILLED: [Pick; 2] = [Pick::Fill(0xa5), Pick::Fill(0x37)];
 
 // Begins the stream of an image.
 fn begin_image<D: Disk>(

@@ -80,15 +80,21 @@ fn has_segments(rt: &impl Abort, elf: &Elf<'_>, wanted: [[u64; 6]; 2]) -> Result
     Ok(())
 }
 
+/// The kinds of the notes named CORE, and how many bytes each has.
+static CORE_NOTES: [(u32, usize); 2] = [(1, 376), (3, 136)];
+
 /// The notes named CORE, one after another.
-fn has_notes(rt: &impl Abort, elf: &Elf<'_>) {
-    let mut count = 0u64;
-    for (note, (kind, length)) in elf.notes().zip([(1u32, 376usize), (3, 136)]) {
-        count = count.saturating_add(1);
-        assert_eq!(rt; note.name, b"CORE".as_slice());
-        assert_eq!(rt; (note.kind, note.desc.len()), (kind, length));
+fn has_notes(rt: &impl Abort, elf: &Elf<'_>) -> Result<(), Fail> {
+    let mut notes = elf.notes();
+    for (kind, length) in &CORE_NOTES {
+        let note = notes.next().ok_or("no note")?;
+        assert_eq!(rt;
+            (note.name, note.kind, note.desc.len()),
+            (b"CORE".as_slice(), *kind, *length)
+        );
     }
-    assert_eq!(rt; count, 2);
+    assert!(rt; notes.next().is_none());
+    Ok(())
 }
 
 /// The second segment is this one, and there is no third.
@@ -108,24 +114,35 @@ fn has_header(rt: &impl Abort, elf: &Elf<'_>, kind: u16, segments: u64) {
     assert_eq!(rt; elf.header(), header);
 }
 
-#[test]
-fn a_core_shows_its_headers_and_notes(rt: HostRuntime) -> Result<(), Fail> {
-    let image = stack_core(rt.alloc())?;
-    let elf = Elf::read(&image, Want::Core).ok().ok_or("refused")?;
-    has_header(&rt, &elf, 4, 2);
+/// The sample stack's core.
+fn shows_the_stack(rt: &impl Abort, image: &[u8]) -> Result<(), Fail> {
+    let elf = Elf::read(image, Want::Core).ok().ok_or("refused")?;
+    has_header(rt, &elf, 4, 2);
     assert_eq!(rt; elf.image().len(), 4824);
     let stack = [1, 6, 0x2d8, 0x7000, 0x1000, 0x1000];
-    has_segments(&rt, &elf, [[4, 0, 0xb0, 0, 0x228, 0], stack])?;
-    has_second(&rt, &elf, stack);
-    has_notes(&rt, &elf);
-    Ok(())
+    has_segments(rt, &elf, [[4, 0, 0xb0, 0, 0x228, 0], stack])?;
+    has_second(rt, &elf, stack);
+    has_notes(rt, &elf)
+}
+
+#[test]
+fn a_core_shows_its_headers_and_notes(rt: HostRuntime) -> Result<(), Fail> {
+    shows_the_stack(&rt, &stack_core(rt.alloc())?)
 }
 
 /// The symbol table's header.
 fn has_symbols(rt: &impl Abort, elf: &Elf<'_>) -> Result<(), Fail> {
     let symbols = elf.section(1).ok().ok_or("no section")?;
-    assert_eq!(rt; (symbols.kind, symbols.link, symbols.entsize), (2, 2, 24));
-    assert_eq!(rt; (symbols.offset, symbols.size), (0x10c0, 72));
+    assert_eq!(rt;
+        (
+            symbols.kind,
+            symbols.link,
+            symbols.entsize,
+            symbols.offset,
+            symbols.size
+        ),
+        (2, 2, 24, 0x10c0, 72)
+    );
     Ok(())
 }
 
@@ -150,15 +167,19 @@ fn has_one_segment(rt: &impl Abort, elf: &Elf<'_>) {
     assert!(rt; elf.notes().next().is_none());
 }
 
+/// The sample executable.
+fn shows_the_executable(rt: &impl Abort, image: &[u8]) -> Result<(), Fail> {
+    let elf = Elf::read(image, Want::Exec).ok().ok_or("refused")?;
+    has_header(rt, &elf, 2, 1);
+    has_one_segment(rt, &elf);
+    assert_eq!(rt; elf.section_count(), Ok(3));
+    has_symbols(rt, &elf)?;
+    has_names(rt, &elf)
+}
+
 #[test]
 fn an_executable_shows_its_sections(rt: HostRuntime) -> Result<(), Fail> {
-    let image = executable(rt.alloc())?;
-    let elf = Elf::read(&image, Want::Exec).ok().ok_or("refused")?;
-    has_header(&rt, &elf, 2, 1);
-    has_one_segment(&rt, &elf);
-    assert_eq!(rt; elf.section_count(), Ok(3));
-    has_symbols(&rt, &elf)?;
-    has_names(&rt, &elf)
+    shows_the_executable(&rt, &executable(rt.alloc())?)
 }
 
 /// What the count of an executable's sections is answered.
@@ -368,18 +389,37 @@ fn core_of_notes(alloc: Global, bytes: &[u8]) -> Result<Vec<u8>, AllocError> {
     Ok(out)
 }
 
-/// The first note of a core of these bytes has this name and so many bytes.
+/// The name of the first note of an image, and how many bytes it has.
+fn first_note(image: &[u8]) -> Option<(&[u8], usize)> {
+    let elf = Elf::read(image, Want::Core).ok()?;
+    let note = elf.notes().next()?;
+    Some((note.name, note.desc.len()))
+}
+
+/// The bytes of notes, the name of the first and how many bytes it has; or none, where there is no note.
+static FIRST_NOTES: [(&[u8], Option<(&[u8], usize)>); 5] = [
+    (b"\x04\0\0\0\x01\0\0\0\x07\0\0\0COREd", Some((b"CORE", 1))),
+    (
+        b"\x06\0\0\0\x01\0\0\0\x07\0\0\0CORE\0\0..d...",
+        Some((b"CORE\0", 1)),
+    ),
+    (
+        b"\x05\0\0\0\x01\0\0\0\x07\0\0\0CORE\0...d.",
+        Some((b"CORE", 1)),
+    ),
+    (&[0; 24], Some((b"", 0))),
+    (b"", None),
+];
+
+/// A core of these bytes is read, and begins with this note.
 fn begins_with_note(
     rt: &(impl AllocGlobal + Abort),
     bytes: &[u8],
-    name: Option<&[u8]>,
-    length: usize,
+    wanted: Option<(&[u8], usize)>,
 ) -> Result<(), Fail> {
     let image = core_of_notes(rt.alloc(), bytes)?;
-    let elf = Elf::read(&image, Want::Core).ok().ok_or("refused")?;
-    let first = elf.notes().next();
-    assert_eq!(rt; first.map(|n| n.name), name);
-    assert_eq!(rt; first.map_or(0, |n| n.desc.len()), length);
+    is_sound(rt, &image, Want::Core);
+    assert_eq!(rt; first_note(&image), wanted);
     Ok(())
 }
 
@@ -395,23 +435,8 @@ fn ends_in_a_note(rt: &(impl AllocGlobal + Abort), bytes: &[u8], index: u64) -> 
 
 #[test]
 fn notes_end_where_their_segment_does(rt: HostRuntime) -> Result<(), Fail> {
-    let cases: [(&[u8], Option<&[u8]>, usize); 5] = [
-        (b"\x04\0\0\0\x01\0\0\0\x07\0\0\0COREd", Some(b"CORE"), 1),
-        (
-            b"\x06\0\0\0\x01\0\0\0\x07\0\0\0CORE\0\0..d...",
-            Some(b"CORE\0"),
-            1,
-        ),
-        (
-            b"\x05\0\0\0\x01\0\0\0\x07\0\0\0CORE\0...d.",
-            Some(b"CORE"),
-            1,
-        ),
-        (&[0; 24], Some(b""), 0),
-        (b"", None, 0),
-    ];
-    for (bytes, name, length) in cases {
-        begins_with_note(&rt, bytes, name, length)?;
+    for (bytes, wanted) in &FIRST_NOTES {
+        begins_with_note(&rt, bytes, *wanted)?;
     }
     ends_in_a_note(&rt, &[0; 35], 2)?;
     ends_in_a_note(&rt, b"\x05\0\0\0\0\0\0\0\x07\0\0\0CORE\0..", 0)

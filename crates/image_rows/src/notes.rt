@@ -40,10 +40,15 @@ fn fault_of(alloc: Global, notes: &[NotePart<'_>]) -> Result<Option<NoteFault>, 
 fn has_thread(rt: &impl Abort, notes: &CoreNotes<'_>) -> Result<(), Fail> {
     let mut statuses = notes.statuses();
     let status = statuses.next().ok_or("no thread")?;
-    assert_eq!(rt; (status.pr_cursig(), status.pr_pid()), (11, 4242));
     assert_eq!(rt;
-        (status.pr_reg(0), status.pr_reg(8), status.pr_reg(31)),
-        (0x10400, 0x7f40, 31)
+        (
+            status.pr_cursig(),
+            status.pr_pid(),
+            status.pr_reg(0),
+            status.pr_reg(8),
+            status.pr_reg(31)
+        ),
+        (11, 4242, 0x10400, 0x7f40, 31)
     );
     assert!(rt; statuses.next().is_none());
     Ok(())
@@ -53,15 +58,20 @@ fn has_thread(rt: &impl Abort, notes: &CoreNotes<'_>) -> Result<(), Fail> {
 fn has_process(rt: &impl Abort, notes: &CoreNotes<'_>) -> Result<(), Fail> {
     let process = notes.psinfo().ok_or("no process")?;
     assert_eq!(rt;
-        (process.pr_pid(), process.pr_ppid(), process.pr_pgrp()),
-        (4242, 1, 4242)
+        (
+            process.pr_pid(),
+            process.pr_ppid(),
+            process.pr_pgrp(),
+            process.pr_uid(),
+            process.pr_gid(),
+            process.pr_sname()
+        ),
+        (4242, 1, 4242, 1000, 1000, b'R')
     );
     assert_eq!(rt;
-        (process.pr_uid(), process.pr_gid(), process.pr_sname()),
-        (1000, 1000, b'R')
+        (process.pr_fname(), process.pr_psargs()),
+        (b"demo".as_slice(), b"demo -v".as_slice())
     );
-    assert_eq!(rt; process.pr_fname(), b"demo".as_slice());
-    assert_eq!(rt; process.pr_psargs(), b"demo -v".as_slice());
     Ok(())
 }
 
@@ -72,23 +82,29 @@ fn has_no_other(rt: &impl Abort, notes: &CoreNotes<'_>) {
     assert!(rt; notes.files().is_none());
 }
 
+/// The typed notes of the sample stack's core.
+fn reads_the_stack(rt: &impl Abort, image: &[u8]) -> Result<(), Fail> {
+    let elf = Elf::read(image, Want::Core).ok().ok_or("refused")?;
+    let notes = CoreNotes::of(&elf).ok().ok_or("faulty")?;
+    has_thread(rt, &notes)?;
+    has_process(rt, &notes)?;
+    has_no_other(rt, &notes);
+    Ok(())
+}
+
 #[test]
 fn a_thread_and_its_process_are_read(rt: HostRuntime) -> Result<(), Fail> {
-    let image = stack_core(rt.alloc())?;
-    let elf = Elf::read(&image, Want::Core).ok().ok_or("refused")?;
-    let notes = CoreNotes::of(&elf).ok().ok_or("faulty")?;
-    has_thread(&rt, &notes)?;
-    has_process(&rt, &notes)?;
-    has_no_other(&rt, &notes);
-    Ok(())
+    reads_the_stack(&rt, &stack_core(rt.alloc())?)
 }
 
 /// One mapped file.
 fn has_file(rt: &impl Abort, notes: &CoreNotes<'_>) -> Result<(), Fail> {
     let mut maps = notes.files().ok_or("no files")?.maps();
     let map = maps.next().ok_or("no file")?;
-    assert_eq!(rt; (map.start, map.past, map.offset), (0x10000, 0x11000, 0));
-    assert_eq!(rt; map.name, b"/bin/cat".as_slice());
+    assert_eq!(rt;
+        (map.start, map.past, map.offset, map.name),
+        (0x10000, 0x11000, 0, b"/bin/cat".as_slice())
+    );
     assert!(rt; maps.next().is_none());
     Ok(())
 }
@@ -344,22 +360,23 @@ fn a_file_list_has_its_entries_and_names(rt: HostRuntime) -> Result<(), Fail> {
     Ok(())
 }
 
+/// The size of a page, where a file ends, its place in pages, and its fault.
+static PLACES: [(u64, u64, u64, Option<NoteField>); 6] = [
+    (2, 0x11000, 1 << 63, Some(NoteField::FileOffset)),
+    (1, 0xffff, 0, Some(NoteField::FileOffset)),
+    (1, 0x11000, u64::MAX - 0x1000, None),
+    (1, 0x11000, u64::MAX - 0xfff, Some(NoteField::FileOffset)),
+    (0, 0x11000, u64::MAX, None),
+    (1, 0x10000, 0, None),
+];
+
 #[test]
 fn the_place_of_a_file_fits(rt: HostRuntime) -> Result<(), Fail> {
-    let wrong = Some(NoteField::FileOffset);
-    let cases = [
-        (2, 0x11000, 1 << 63, wrong),
-        (1, 0xffff, 0, wrong),
-        (1, 0x11000, u64::MAX - 0x1000, None),
-        (1, 0x11000, u64::MAX - 0xfff, wrong),
-        (0, 0x11000, u64::MAX, None),
-        (1, 0x10000, 0, None),
-    ];
-    for (page, end, offset, fault) in cases {
-        let desc = one_file(rt.alloc(), page, end, offset)?;
+    for (page, end, offset, fault) in &PLACES {
+        let desc = one_file(rt.alloc(), *page, *end, *offset)?;
         assert_eq!(rt;
             descriptors::files(&note_of(&desc)).err(),
-            fault,
+            *fault,
             "{offset}"
         );
     }

@@ -53,33 +53,39 @@ fn holds(
     value: u64,
 ) -> Result<(), Fail> {
     let register = Reg::from_name(name).ok_or("no register")?;
-    assert_eq!(rt; thread.register(register), value);
-    assert_eq!(rt; register.name().as_bytes(), name);
     let plain = Reg::from_name(other).ok_or("no register")?;
-    assert_eq!(rt; plain.name().as_bytes(), name);
+    assert_eq!(rt;
+        (
+            thread.register(register),
+            register.name().as_bytes(),
+            plain.name().as_bytes()
+        ),
+        (value, name, name)
+    );
     Ok(())
 }
 
-/// Registers by their words, the frame pointer, and names of none.
+/// Words, and the names of their registers.
+static WORDS: [(usize, &str); 4] = [(0, "pc"), (1, "ra"), (8, "s0"), (31, "t6")];
+
+/// Names that no register has.
+static UNKNOWN: [&[u8]; 8] = [b"x32", b"", b"x", b"PC", b"x08", b"s12", b"fp0", b"t7"];
+
+/// Registers by their words, and the frame pointer.
 fn names_are_known(rt: &impl Abort) -> Result<(), Fail> {
-    for (word, name) in [(0usize, "pc"), (1, "ra"), (8, "s0"), (31, "t6")] {
-        assert_eq!(rt; Reg::of_word(word).name(), name);
+    for (word, name) in &WORDS {
+        assert_eq!(rt; Reg::of_word(*word).name(), *name);
     }
     let frame = Reg::from_name(b"fp").ok_or("no register")?;
     assert_eq!(rt; frame.name(), "s0");
-    for name in [
-        b"x32".as_slice(),
-        b"",
-        b"x",
-        b"PC",
-        b"x08",
-        b"s12",
-        b"fp0",
-        b"t7",
-    ] {
+    Ok(())
+}
+
+/// Names of none.
+fn names_are_unknown(rt: &impl Abort) {
+    for name in &UNKNOWN {
         assert!(rt; Reg::from_name(name).is_none());
     }
-    Ok(())
 }
 
 /// The one thread of the sample, with its registers.
@@ -98,36 +104,67 @@ fn has_no_other(rt: &impl Abort, notes: &CoreNotes<'_>) {
     assert!(rt; threads(notes).thread(u64::MAX).is_none());
 }
 
+/// The thread of a core with its registers, and no other.
+fn holds_registers(rt: &impl Abort, image: &[u8]) -> Result<(), Fail> {
+    let elf = Elf::read(image, Want::Core).ok().ok_or("refused")?;
+    let notes = CoreNotes::of(&elf).ok().ok_or("faulty")?;
+    has_thread(rt, &notes)?;
+    has_no_other(rt, &notes);
+    Ok(())
+}
+
 #[test]
 fn registers_are_their_words(rt: HostRuntime) -> Result<(), Fail> {
-    let image = stack_core(rt.alloc())?;
-    let elf = Elf::read(&image, Want::Core).ok().ok_or("refused")?;
-    let notes = CoreNotes::of(&elf).ok().ok_or("faulty")?;
-    has_thread(&rt, &notes)?;
-    has_no_other(&rt, &notes);
+    holds_registers(&rt, &stack_core(rt.alloc())?)?;
+    names_are_unknown(&rt);
     names_are_known(&rt)
 }
 
-fn has_name(rt: &impl Abort, signal: i32, name: &str) {
-    assert_eq!(rt; signal_name(signal), Some(name));
-}
-
-fn has_no_name(rt: &impl Abort, signal: i32) {
-    assert!(rt; signal_name(signal).is_none(), "{signal}");
-}
+/// Signals, with the names that they have.
+static SIGNALS: [(i32, Option<&str>); 37] = [
+    (1, Some("HUP")),
+    (2, Some("INT")),
+    (3, Some("QUIT")),
+    (4, Some("ILL")),
+    (5, Some("TRAP")),
+    (6, Some("ABRT")),
+    (7, Some("BUS")),
+    (8, Some("FPE")),
+    (9, Some("KILL")),
+    (10, Some("USR1")),
+    (11, Some("SEGV")),
+    (12, Some("USR2")),
+    (13, Some("PIPE")),
+    (14, Some("ALRM")),
+    (15, Some("TERM")),
+    (16, Some("STKFLT")),
+    (17, Some("CHLD")),
+    (18, Some("CONT")),
+    (19, Some("STOP")),
+    (20, Some("TSTP")),
+    (21, Some("TTIN")),
+    (22, Some("TTOU")),
+    (23, Some("URG")),
+    (24, Some("XCPU")),
+    (25, Some("XFSZ")),
+    (26, Some("VTALRM")),
+    (27, Some("PROF")),
+    (28, Some("WINCH")),
+    (29, Some("IO")),
+    (30, Some("PWR")),
+    (31, Some("SYS")),
+    (i32::MIN, None),
+    (-1, None),
+    (0, None),
+    (32, None),
+    (33, None),
+    (i32::MAX, None),
+];
 
 #[test]
 fn signals_have_names(rt: HostRuntime) {
-    let names = [
-        "HUP", "INT", "QUIT", "ILL", "TRAP", "ABRT", "BUS", "FPE", "KILL", "USR1", "SEGV", "USR2",
-        "PIPE", "ALRM", "TERM", "STKFLT", "CHLD", "CONT", "STOP", "TSTP", "TTIN", "TTOU", "URG",
-        "XCPU", "XFSZ", "VTALRM", "PROF", "WINCH", "IO", "PWR", "SYS",
-    ];
-    for (signal, name) in (1i32..32).zip(names) {
-        has_name(&rt, signal, name);
-    }
-    for signal in [i32::MIN, -1, 0, 32, 33, i32::MAX] {
-        has_no_name(&rt, signal);
+    for (signal, name) in &SIGNALS {
+        assert_eq!(rt; signal_name(*signal), *name, "{signal}");
     }
 }
 
@@ -166,12 +203,16 @@ fn has_last(rt: &impl Abort, notes: &CoreNotes<'_>) {
     assert!(rt; threads(notes).thread(10001).is_none());
 }
 
+/// The threads of that core.
+fn lists_threads(rt: &impl Abort, image: &[u8]) -> Result<(), Fail> {
+    let elf = Elf::read(image, Want::Core).ok().ok_or("refused")?;
+    let notes = CoreNotes::of(&elf).ok().ok_or("faulty")?;
+    has_threads(rt, &notes);
+    has_last(rt, &notes);
+    Ok(())
+}
+
 #[test]
 fn many_threads_are_listed_in_one_pass(rt: HostRuntime) -> Result<(), Fail> {
-    let image = many_threads(rt.alloc())?;
-    let elf = Elf::read(&image, Want::Core).ok().ok_or("refused")?;
-    let notes = CoreNotes::of(&elf).ok().ok_or("faulty")?;
-    has_threads(&rt, &notes);
-    has_last(&rt, &notes);
-    Ok(())
+    lists_threads(&rt, &many_threads(rt.alloc())?)
 }

@@ -1,12 +1,17 @@
 //! Memory of small cores, with and without a table of the segments.
-use crate::shown::{found, pieces_of, source_of, texts};
+use crate::shown::{Look, shows};
 use address_space::AddressSpace;
 use elf_view::sample::{LoadPart, core_image, stack_core};
 use elf_view::{Elf, Want};
+use std::process::Abort;
 use std::test::Fail;
 
-/// A segment whose bytes are all dumped.
-fn load(vaddr: u64, bytes: &[u8]) -> LoadPart<'_> {
+/// A segment whose bytes are all dumped: where it begins, and its bytes.
+type Dumped = (u64, &'static [u8]);
+
+/// The segment of a core.
+fn load(segment: &Dumped) -> LoadPart<'static> {
+    let (vaddr, bytes) = *segment;
     LoadPart {
         flags: 6,
         vaddr,
@@ -15,194 +20,155 @@ fn load(vaddr: u64, bytes: &[u8]) -> LoadPart<'_> {
     }
 }
 
-#[test]
-fn the_first_of_two_segments_decides(rt: HostRuntime) -> Result<(), Fail> {
-    let (low, high) = ([0xcc; 16], [0xbb; 16]);
-    let image = core_image(rt.alloc(), &[], &[load(0x2000, &high), load(0x1ff8, &low)])?;
-    let elf = Elf::read(&image, Want::Core).ok().ok_or("refused")?;
-    let plain = AddressSpace::new(rt.alloc(), &elf, None);
-    let indexed = AddressSpace::indexed(rt.alloc(), &elf, None)?;
-    for space in [&plain, &indexed] {
-        assert_eq!(rt;
-            pieces_of(space, 0x1ff8, 24),
-            [
-                Some(("held", 0x1ff8, 8, [0xcc; 8].as_slice(), 0)),
-                Some(("held", 0x2000, 16, [0xbb; 16].as_slice(), 0)),
-                None,
-            ]
-        );
-    }
+/// In the core's memory stands what each look finds.
+fn image_shows(rt: &(impl AllocGlobal + Abort), image: &[u8], looks: &[Look]) -> Result<(), Fail> {
+    let elf = Elf::read(image, Want::Core).ok().ok_or("refused")?;
+    shows(rt, &AddressSpace::new(rt.alloc(), &elf, None), looks);
+    shows(rt, &AddressSpace::indexed(rt.alloc(), &elf, None)?, looks);
     Ok(())
 }
 
+/// The same of the core of these segments.
+fn core_shows(
+    rt: &(impl AllocGlobal + Abort),
+    segments: &[Dumped],
+    looks: &[Look],
+) -> Result<(), Fail> {
+    let mut loads = Vec::new(rt.alloc());
+    for segment in segments {
+        loads.push(load(segment))?;
+    }
+    let image = core_image(rt.alloc(), &[], &loads)?;
+    image_shows(rt, &image, looks)
+}
+
+static HIGH_FIRST: [Dumped; 2] = [(0x2000, &[0xbb; 16]), (0x1ff8, &[0xcc; 16])];
+
+static HIGH_WINS: [Look; 1] = [Look::Pieces(
+    0x1ff8,
+    24,
+    &[
+        Some(("held", 0x1ff8, 8, &[0xcc; 8], 0)),
+        Some(("held", 0x2000, 16, &[0xbb; 16], 0)),
+        None,
+    ],
+)];
+
+#[test]
+fn the_first_of_two_segments_decides(rt: HostRuntime) -> Result<(), Fail> {
+    core_shows(&rt, &HIGH_FIRST, &HIGH_WINS)
+}
+
+static LOW_FIRST: [Dumped; 2] = [(0x1ff8, &[0xcc; 16]), (0x2000, &[0xbb; 16])];
+
+static LOW_WINS: [Look; 1] = [Look::Pieces(
+    0x1ff8,
+    24,
+    &[
+        Some(("held", 0x1ff8, 16, &[0xcc; 16], 0)),
+        Some(("held", 0x2008, 8, &[0xbb; 8], 0)),
+        None,
+    ],
+)];
+
 #[test]
 fn the_order_of_the_headers_counts(rt: HostRuntime) -> Result<(), Fail> {
-    let (low, high) = ([0xcc; 16], [0xbb; 16]);
-    let image = core_image(rt.alloc(), &[], &[load(0x1ff8, &low), load(0x2000, &high)])?;
-    let elf = Elf::read(&image, Want::Core).ok().ok_or("refused")?;
-    let plain = AddressSpace::new(rt.alloc(), &elf, None);
-    let indexed = AddressSpace::indexed(rt.alloc(), &elf, None)?;
-    for space in [&plain, &indexed] {
-        assert_eq!(rt;
-            pieces_of(space, 0x1ff8, 24),
-            [
-                Some(("held", 0x1ff8, 16, [0xcc; 16].as_slice(), 0)),
-                Some(("held", 0x2008, 8, [0xbb; 8].as_slice(), 0)),
-                None,
-            ]
-        );
-    }
-    Ok(())
+    core_shows(&rt, &LOW_FIRST, &LOW_WINS)
 }
+
+static CUT: [Look; 4] = [
+    Look::Pieces(
+        0x77f8,
+        16,
+        &[
+            Some(("held", 0x77f8, 8, &[0; 8], 0)),
+            Some(("cut", 0x7800, 8, &[], 0)),
+            None,
+        ],
+    ),
+    Look::Source(0x77ff, ("byte", 0)),
+    Look::Source(0x7800, ("cut", 0)),
+    Look::Source(0x8000, ("unmapped", 0)),
+];
 
 #[test]
 fn a_core_that_was_cut_has_no_bytes_behind(rt: HostRuntime) -> Result<(), Fail> {
     let image = stack_core(rt.alloc())?;
-    let whole = image.as_slice();
-    assert!(rt; whole.len() >= 2776);
-    let elf = Elf::read(&whole[..2776], Want::Core).ok().ok_or("refused")?;
-    let plain = AddressSpace::new(rt.alloc(), &elf, None);
-    let indexed = AddressSpace::indexed(rt.alloc(), &elf, None)?;
-    for space in [&plain, &indexed] {
-        assert_eq!(rt;
-            pieces_of(space, 0x77f8, 16),
-            [
-                Some(("held", 0x77f8, 8, [0; 8].as_slice(), 0)),
-                Some(("cut", 0x7800, 8, [].as_slice(), 0)),
-                None,
-            ]
-        );
-        assert_eq!(rt;
-            (
-                source_of(space, 0x77ff),
-                source_of(space, 0x7800),
-                source_of(space, 0x8000)
-            ),
-            (("byte", 0), ("cut", 0), ("unmapped", 0))
-        );
-    }
-    Ok(())
+    image_shows(&rt, image.get(..2776).ok_or("short")?, &CUT)
 }
+
+static CROSSING: [Dumped; 2] = [(0x1000, b"aa"), (0x1002, b"a")];
+
+static OVERLAPPING: [Look; 3] = [
+    Look::Found(b"aa", &[Some(0x1000), Some(0x1001), None, None]),
+    Look::Texts(3, &[Some((0x1000, 3)), None, None, None]),
+    Look::Texts(4, &[None; 4]),
+];
 
 #[test]
 fn matches_overlap_and_cross_segments(rt: HostRuntime) -> Result<(), Fail> {
-    let image = core_image(rt.alloc(), &[], &[load(0x1000, b"aa"), load(0x1002, b"a")])?;
-    let elf = Elf::read(&image, Want::Core).ok().ok_or("refused")?;
-    let plain = AddressSpace::new(rt.alloc(), &elf, None);
-    let indexed = AddressSpace::indexed(rt.alloc(), &elf, None)?;
-    for space in [&plain, &indexed] {
-        assert_eq!(rt;
-            found(space, b"aa"),
-            [Some(0x1000), Some(0x1001), None, None]
-        );
-        assert_eq!(rt;
-            (texts(space, 3), texts(space, 4)),
-            ([Some((0x1000, 3)), None, None, None], [None; 4])
-        );
-    }
-    Ok(())
+    core_shows(&rt, &CROSSING, &OVERLAPPING)
 }
+
+static THREE: [Dumped; 3] = [(0x1003, b"xyab"), (0x1000, b"wab"), (0x1007, b"\x00ab")];
+
+static ACROSS_THREE: [Look; 3] = [
+    Look::Found(b"ab", &[Some(0x1005), Some(0x1001), Some(0x1008), None]),
+    Look::Found(b"abxyab\x00a", &[Some(0x1001), None, None, None]),
+    Look::Texts(1, &[Some((0x1000, 7)), Some((0x1008, 2)), None, None]),
+];
 
 #[test]
 fn a_match_may_cross_three_segments(rt: HostRuntime) -> Result<(), Fail> {
-    let loads = [
-        load(0x1003, b"xyab"),
-        load(0x1000, b"wab"),
-        load(0x1007, b"\x00ab"),
-    ];
-    let image = core_image(rt.alloc(), &[], &loads)?;
-    let elf = Elf::read(&image, Want::Core).ok().ok_or("refused")?;
-    let plain = AddressSpace::new(rt.alloc(), &elf, None);
-    let indexed = AddressSpace::indexed(rt.alloc(), &elf, None)?;
-    for space in [&plain, &indexed] {
-        assert_eq!(rt;
-            (found(space, b"ab"), found(space, b"abxyab\x00a")),
-            (
-                [Some(0x1005), Some(0x1001), Some(0x1008), None],
-                [Some(0x1001), None, None, None]
-            )
-        );
-        assert_eq!(rt;
-            texts(space, 1),
-            [Some((0x1000, 7)), Some((0x1008, 2)), None, None]
-        );
-    }
-    Ok(())
+    core_shows(&rt, &THREE, &ACROSS_THREE)
 }
+
+/// The first of the last sixteen addresses.
+const LAST: u64 = 0xffff_ffff_ffff_fff0;
+
+static ALIKE_AT_THE_ENDS: [Dumped; 2] = [(LAST, b"aaaaaaaaaaaaaaaa"), (0, b"aa")];
+
+static NOTHING_BEHIND: [Look; 4] = [
+    Look::Pieces(
+        LAST,
+        16,
+        &[Some(("held", LAST, 16, b"aaaaaaaaaaaaaaaa", 0)), None, None],
+    ),
+    Look::Texts(1, &[Some((LAST, 16)), Some((0, 2)), None, None]),
+    Look::Found(b"aaaaaaaaaaaaaaaaa", &[None; 4]),
+    Look::Found(b"aaaaaaaaaaaaaaaa", &[Some(LAST), None, None, None]),
+];
 
 #[test]
 fn the_last_addresses_of_all(rt: HostRuntime) -> Result<(), Fail> {
-    let last = 0xffff_ffff_ffff_fff0;
-    let loads = [load(last, b"aaaaaaaaaaaaaaaa"), load(0, b"aa")];
-    let image = core_image(rt.alloc(), &[], &loads)?;
-    let elf = Elf::read(&image, Want::Core).ok().ok_or("refused")?;
-    let plain = AddressSpace::new(rt.alloc(), &elf, None);
-    let indexed = AddressSpace::indexed(rt.alloc(), &elf, None)?;
-    for space in [&plain, &indexed] {
-        assert_eq!(rt;
-            pieces_of(space, last, 16),
-            [
-                Some(("held", last, 16, b"aaaaaaaaaaaaaaaa".as_slice(), 0)),
-                None,
-                None,
-            ]
-        );
-        assert_eq!(rt;
-            texts(space, 1),
-            [Some((last, 16)), Some((0, 2)), None, None]
-        );
-        assert_eq!(rt;
-            (
-                found(space, b"aaaaaaaaaaaaaaaaa"),
-                found(space, b"aaaaaaaaaaaaaaaa")
-            ),
-            ([None; 4], [Some(last), None, None, None])
-        );
-    }
-    Ok(())
+    core_shows(&rt, &ALIKE_AT_THE_ENDS, &NOTHING_BEHIND)
 }
+
+static LETTERS_AT_THE_ENDS: [Dumped; 2] = [(LAST, b"abcdefghijklmnop"), (0, b"qr")];
+
+static ENDS: [Look; 7] = [
+    Look::Source(0, ("byte", b'q')),
+    Look::Source(2, ("unmapped", 0)),
+    Look::Source(LAST - 1, ("unmapped", 0)),
+    Look::Source(LAST, ("byte", b'a')),
+    Look::Source(u64::MAX, ("byte", b'p')),
+    Look::Number(LAST + 8, Some(0x706f_6e6d_6c6b_6a69)),
+    Look::Number(LAST + 9, None),
+];
 
 #[test]
 fn the_first_address_and_the_last(rt: HostRuntime) -> Result<(), Fail> {
-    let last = 0xffff_ffff_ffff_fff0;
-    let loads = [load(last, b"abcdefghijklmnop"), load(0, b"qr")];
-    let image = core_image(rt.alloc(), &[], &loads)?;
-    let elf = Elf::read(&image, Want::Core).ok().ok_or("refused")?;
-    let plain = AddressSpace::new(rt.alloc(), &elf, None);
-    let indexed = AddressSpace::indexed(rt.alloc(), &elf, None)?;
-    for space in [&plain, &indexed] {
-        assert_eq!(rt;
-            (source_of(space, 0), source_of(space, 2)),
-            (("byte", b'q'), ("unmapped", 0))
-        );
-        assert_eq!(rt;
-            (
-                source_of(space, last - 1),
-                source_of(space, last),
-                source_of(space, u64::MAX)
-            ),
-            (("unmapped", 0), ("byte", b'a'), ("byte", b'p'))
-        );
-        assert_eq!(rt;
-            (space.read_u64(last + 8), space.read_u64(last + 9)),
-            (Some(0x706f_6e6d_6c6b_6a69), None)
-        );
-    }
-    Ok(())
+    core_shows(&rt, &LETTERS_AT_THE_ENDS, &ENDS)
 }
+
+static BYTES: [Dumped; 2] = [(0x1004, &[5, 6, 7, 8]), (0x1000, &[1, 2, 3, 4])];
+
+static NUMBERS: [Look; 2] = [
+    Look::Number(0x1000, Some(0x0807_0605_0403_0201)),
+    Look::Number(0x1001, None),
+];
 
 #[test]
 fn a_number_may_cross_segments(rt: HostRuntime) -> Result<(), Fail> {
-    let loads = [load(0x1004, &[5, 6, 7, 8]), load(0x1000, &[1, 2, 3, 4])];
-    let image = core_image(rt.alloc(), &[], &loads)?;
-    let elf = Elf::read(&image, Want::Core).ok().ok_or("refused")?;
-    let plain = AddressSpace::new(rt.alloc(), &elf, None);
-    let indexed = AddressSpace::indexed(rt.alloc(), &elf, None)?;
-    for space in [&plain, &indexed] {
-        assert_eq!(rt;
-            (space.read_u64(0x1000), space.read_u64(0x1001)),
-            (Some(0x0807_0605_0403_0201), None)
-        );
-    }
-    Ok(())
+    core_shows(&rt, &BYTES, &NUMBERS)
 }

@@ -1,6 +1,7 @@
 //! What tests compare of an address space.
 use address_space::{AddressSpace, FileSpot, Mapping, Piece, PieceKind, Source};
 use elf_view::{Elf, Want};
+use std::process::Abort;
 
 /// How many addresses there are.
 const ADDRESSES: u128 = 0x1_0000_0000_0000_0000;
@@ -23,11 +24,7 @@ fn shown(piece: Piece<'_>) -> Shown<'_> {
 }
 
 /// The first three pieces of a range, or none where it goes past the last address.
-pub(crate) fn pieces_of<'a>(
-    space: &AddressSpace<'a>,
-    first: u64,
-    length: u64,
-) -> [Option<Shown<'a>>; 3] {
+fn pieces_of<'a>(space: &AddressSpace<'a>, first: u64, length: u64) -> [Option<Shown<'a>>; 3] {
     if u128::from(first) + u128::from(length) > ADDRESSES {
         return [None; 3];
     }
@@ -54,7 +51,7 @@ pub(crate) fn found(space: &AddressSpace<'_>, needle: &[u8]) -> [Option<u64>; 4]
 }
 
 /// The first four texts of at least that length.
-pub(crate) fn texts(space: &AddressSpace<'_>, least: u64) -> [Option<(u64, u128)>; 4] {
+fn texts(space: &AddressSpace<'_>, least: u64) -> [Option<(u64, u128)>; 4] {
     let mut texts = space.strings(least);
     [texts.next(), texts.next(), texts.next(), texts.next()]
 }
@@ -90,7 +87,7 @@ fn told(mapping: Mapping<'_>) -> Told<'_> {
 }
 
 /// The first three mappings.
-pub(crate) fn mappings_of<'a>(space: &AddressSpace<'a>) -> [Option<Told<'a>>; 3] {
+fn mappings_of<'a>(space: &AddressSpace<'a>) -> [Option<Told<'a>>; 3] {
     let mut mappings = space.mappings();
     [
         mappings.next().map(told),
@@ -104,5 +101,42 @@ pub(crate) fn attach_cat<'a>(space: &mut AddressSpace<'a>, file: &'a [u8]) -> bo
     match Elf::read(file, Want::Exec) {
         Ok(exec) => space.attach(b"/bin/cat", exec).is_ok(),
         Err(_) => false,
+    }
+}
+
+/// A look at an address space, with what it finds.
+pub(crate) enum Look {
+    /// The first three pieces of a range, by its first address and its length.
+    Pieces(u64, u64, &'static [Option<Shown<'static>>]),
+    /// What stands at an address.
+    Source(u64, (&'static str, u8)),
+    /// The number at an address.
+    Number(u64, Option<u64>),
+    /// The first four places of a needle.
+    Found(&'static [u8], &'static [Option<u64>]),
+    /// The first four texts of at least that length.
+    Texts(u64, &'static [Option<(u64, u128)>]),
+    /// The first three mappings.
+    Mappings(&'static [Option<Told<'static>>]),
+}
+
+/// What the look finds stands there.
+fn stands(rt: &impl Abort, space: &AddressSpace<'_>, look: &Look) {
+    match look {
+        Look::Pieces(first, length, wanted) => {
+            assert_eq!(rt; pieces_of(space, *first, *length).as_slice(), *wanted);
+        }
+        Look::Source(address, wanted) => assert_eq!(rt; source_of(space, *address), *wanted),
+        Look::Number(address, wanted) => assert_eq!(rt; space.read_u64(*address), *wanted),
+        Look::Found(needle, wanted) => assert_eq!(rt; found(space, needle).as_slice(), *wanted),
+        Look::Texts(least, wanted) => assert_eq!(rt; texts(space, *least).as_slice(), *wanted),
+        Look::Mappings(wanted) => assert_eq!(rt; mappings_of(space).as_slice(), *wanted),
+    }
+}
+
+/// The same of each look.
+pub(crate) fn shows(rt: &impl Abort, space: &AddressSpace<'_>, looks: &[Look]) {
+    for look in looks {
+        stands(rt, space, look);
     }
 }

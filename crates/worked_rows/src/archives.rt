@@ -37,11 +37,6 @@ pub(crate) fn fresh(alloc: Global, limit: u64) -> Result<Archive<MemDisk>, Fail>
     opened(alloc, fresh_disk(alloc)?, limit)
 }
 
-// The archive that is found where this one was closed.
-pub(crate) fn reopened(alloc: Global, archive: Archive<MemDisk>) -> Result<Archive<MemDisk>, Fail> {
-    opened(alloc, archive.close(), 1 << 30)
-}
-
 // The archive that is found after a crash of this one.
 pub(crate) fn after_crash(
     alloc: Global,

@@ -1,5 +1,5 @@
 // Cases that are pinned, retired and deleted, and a journal that is full.
-use crate::archives::{Row, fresh, reopened, tells, tells_each, tells_fresh, told};
+use crate::archives::{Row, fresh, fresh_disk, opened, tells, tells_each, tells_fresh, told};
 use case_journal::Journal;
 use disk_model::{Disk, MemDisk};
 use intake::Archive;
@@ -12,7 +12,7 @@ fn used(alloc: Global, archive: Archive<MemDisk>) -> Result<(u64, Archive<MemDis
     let mut disk = archive.close();
     let journal = Journal::open(alloc, &mut disk)?;
     let used = journal.use_bytes();
-    Ok((used, crate::archives::opened(alloc, disk, 1 << 30)?))
+    Ok((used, opened(alloc, disk, 1 << 30)?))
 }
 
 // After the sessions so many bytes of the journal's half are in use. Answers the archive that is found then.
@@ -91,11 +91,19 @@ static FULL: [Row<'static>; 1] = [(
     "name n64\nok\nno JournalFull\nname n64\nok\nok\nok\n",
 )];
 
+// The journal is filled, and refuses a case then.
+fn refuses_when_full<D: Disk>(
+    rt: &(impl AllocGlobal + Abort),
+    archive: &mut Archive<D>,
+) -> Result<(), Fail> {
+    fill(rt, archive)?;
+    tells_each(rt, archive, &FULL)
+}
+
 #[test]
 fn a_full_journal_refuses_a_case(rt: HostRuntime) -> Result<(), Fail> {
     let mut archive = fresh(rt.alloc(), 1 << 30)?;
-    fill(&rt, &mut archive)?;
-    tells_each(&rt, &mut archive, &FULL)
+    refuses_when_full(&rt, &mut archive)
 }
 
 // What the archive shows after a session over the script.
@@ -108,16 +116,19 @@ fn changed<D: Disk>(
     told(alloc, archive, b"list\nfree\n")
 }
 
+// What the archive of a disk shows after a session over the script, and its disk.
+fn shown_after(alloc: Global, disk: MemDisk, script: &[u8]) -> Result<(String, MemDisk), Fail> {
+    let mut archive = opened(alloc, disk, 1 << 30)?;
+    let text = changed(alloc, &mut archive, script)?;
+    Ok((text, archive.close()))
+}
+
 // A session over the script, after which the archive shows the same when it is found again.
-fn changes(
-    rt: &(impl AllocGlobal + Abort),
-    mut archive: Archive<MemDisk>,
-    script: &[u8],
-) -> Result<Archive<MemDisk>, Fail> {
-    let before = changed(rt.alloc(), &mut archive, script)?;
-    let mut found = reopened(rt.alloc(), archive)?;
+fn changes(rt: &(impl AllocGlobal + Abort), disk: MemDisk, script: &[u8]) -> Result<MemDisk, Fail> {
+    let (before, disk) = shown_after(rt.alloc(), disk, script)?;
+    let mut found = opened(rt.alloc(), disk, 1 << 30)?;
     tells(rt, &mut found, b"list\nfree\n", before.as_str())?;
-    Ok(found)
+    Ok(found.close())
 }
 
 static CHANGES: [&[u8]; 7] = [
@@ -131,20 +142,18 @@ static CHANGES: [&[u8]; 7] = [
 ];
 
 // The same for each of the scripts in turn.
-fn change_all(
-    rt: &(impl AllocGlobal + Abort),
-    archive: Archive<MemDisk>,
-) -> Result<Archive<MemDisk>, Fail> {
-    let mut archive = archive;
+fn change_all(rt: &(impl AllocGlobal + Abort), disk: MemDisk) -> Result<MemDisk, Fail> {
+    let mut disk = disk;
     for script in &CHANGES {
-        archive = changes(rt, archive, script)?;
+        disk = changes(rt, disk, script)?;
     }
-    Ok(archive)
+    Ok(disk)
 }
 
 #[test]
 fn an_archive_is_found_again_after_each_change(rt: HostRuntime) -> Result<(), Fail> {
-    let mut archive = change_all(&rt, fresh(rt.alloc(), 1 << 30)?)?;
+    let disk = change_all(&rt, fresh_disk(rt.alloc())?)?;
+    let mut archive = opened(rt.alloc(), disk, 1 << 30)?;
     tells(
         &rt,
         &mut archive,

@@ -75,13 +75,20 @@ fn over_broken<D: Disk>(
     Ok(text)
 }
 
+// The archive keeps nothing of a part whose input fails.
+fn drops_the_part<D: Disk>(
+    rt: &(impl AllocGlobal + Abort),
+    archive: &mut Archive<D>,
+) -> Result<(), Fail> {
+    let text = over_broken(rt, archive, b"begin exec 0 a\nlist\npart 0 5\nab")?;
+    assert_eq!(rt; text.as_slice(), b"name a\nok\nok\n".as_slice());
+    tells(rt, archive, b"drop 0\nlist\n", "no NoStream\nok\n")
+}
+
 #[test]
 fn an_input_that_fails_within_a_part(rt: HostRuntime) -> Result<(), Fail> {
     let mut archive = fresh(rt.alloc(), 1 << 30)?;
-    let script = b"begin exec 0 a\nlist\npart 0 5\nab";
-    let text = over_broken(&rt, &mut archive, script)?;
-    assert_eq!(rt; text.as_slice(), b"name a\nok\nok\n".as_slice());
-    tells(&rt, &mut archive, b"drop 0\nlist\n", "no NoStream\nok\n")
+    drops_the_part(&rt, &mut archive)
 }
 
 // A session over this script and an output that takes four bytes, of which this is the last.

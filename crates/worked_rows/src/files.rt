@@ -69,7 +69,7 @@ fn stores_each(
     Ok(())
 }
 
-const NO_ARCHIVE: &str = "no File\ncorekeep: ARCHIVE: there is no such file\nstatus 1\n";
+static NO_ARCHIVE: &str = "no File\ncorekeep: ARCHIVE: there is no such file\nstatus 1\n";
 
 #[test]
 fn there_is_no_archive(rt: HostRuntime) -> Result<(), Fail> {
@@ -122,7 +122,7 @@ fn files_that_hold_no_archive(rt: HostRuntime) -> Result<(), Fail> {
     Ok(())
 }
 
-const STORED: [Row; 5] = [
+static STORED: [Row; 5] = [
     (
         &["--exec", "/bin/cat"],
         "name /bin/cat\nok\nstored 1\nok\nstatus 0\n",
@@ -167,7 +167,7 @@ fn files_are_stored(rt: HostRuntime) -> Result<(), Fail> {
 }
 
 // Of a file that is not there.
-const MISSING: [Row; 2] = [
+static MISSING: [Row; 2] = [
     (
         &["--exec", "a"],
         "no File\ncorekeep: FILE: there is no such file\nstatus 1\n",
@@ -179,7 +179,7 @@ const MISSING: [Row; 2] = [
 ];
 
 // Of an empty file. The last has a character that stands for a byte which is not UTF-8.
-const REFUSED: [Row; 7] = [
+static REFUSED: [Row; 7] = [
     (&["--template", "|x"], "no Pipe\nstatus 1\n"),
     (&["pid"], "no BadLine\nstatus 1\n"),
     (&["pid=1\n"], "no BadLine\nstatus 1\n"),
@@ -193,10 +193,10 @@ const REFUSED: [Row; 7] = [
 ];
 
 // Of a folder, which can be opened, but not read.
-const UNREAD: [Row; 1] = [(&["--exec", "a"], "name a\nok\nno File\nstatus 1\n")];
+static UNREAD: [Row; 1] = [(&["--exec", "a"], "name a\nok\nno File\nstatus 1\n")];
 
 // Of an empty file after all of these: names whose bytes are taken as they are.
-const EMPTY: [Row; 4] = [
+static EMPTY: [Row; 4] = [
     (&["--exec", "a"], "name a\nok\nstored 1\nok\nstatus 0\n"),
     (
         &["--escape", "--exec", "a b\\x41"],
@@ -224,7 +224,7 @@ fn what_store_refuses(rt: HostRuntime) -> Result<(), Fail> {
 }
 
 // What is stored from the input shows this text.
-const FROM_THE_INPUT: &str = "name a\nok\nstored 1\nok\nstatus 0\n";
+static FROM_THE_INPUT: &str = "name a\nok\nstored 1\nok\nstatus 0\n";
 
 #[test]
 fn the_input_is_stored(rt: HostRuntime) -> Result<(), Fail> {

@@ -37,21 +37,25 @@ fn refused(alloc: Global, at: u64, byte: u8) -> Result<Option<OpenFault>, Fail> 
     Ok(fault_of(alloc, disk))
 }
 
-#[test]
-fn a_damaged_archive_is_refused(rt: HostRuntime) -> Result<(), Fail> {
-    let alloc = rt.alloc();
-    assert_eq!(rt;
-        refused(alloc, 4129, 9)?,
+// The place of a byte, what it is set to, and why the archive is not opened then.
+static DAMAGED: [(u64, u8, Option<OpenFault>); 4] = [
+    (
+        4129,
+        9,
         Some(OpenFault::Damaged {
             at: 4129,
-            field: Field::Kind
-        })
-    );
-    assert_eq!(rt;
-        refused(alloc, 4100, 7)?,
-        Some(OpenFault::UnknownVersion(7))
-    );
-    assert_eq!(rt; refused(alloc, 0, 0)?, Some(OpenFault::NotAnArchive));
-    assert_eq!(rt; refused(alloc, 0, 0xa5)?, None);
+            field: Field::Kind,
+        }),
+    ),
+    (4100, 7, Some(OpenFault::UnknownVersion(7))),
+    (0, 0, Some(OpenFault::NotAnArchive)),
+    (0, 0xa5, None),
+];
+
+#[test]
+fn a_damaged_archive_is_refused(rt: HostRuntime) -> Result<(), Fail> {
+    for (at, byte, wanted) in &DAMAGED {
+        assert_eq!(rt; refused(rt.alloc(), *at, *byte)?, *wanted, "at {at}");
+    }
     Ok(())
 }

@@ -19,17 +19,19 @@ fn store<D: Disk>(
     told(alloc, archive, script.as_slice())
 }
 
-// The same, and then so many of four blocks are free.
+// A name, a size, what storing that image answers, and what is free then.
+type Stored = (&'static str, usize, &'static str, &'static str);
+
+// Storing the row's image is answered so, and then so many of four blocks are free.
 fn stores<D: Disk>(
     rt: &(impl AllocGlobal + Abort),
     archive: &mut Archive<D>,
-    name: &str,
-    size: usize,
-    rows: [&str; 2],
+    row: &Stored,
 ) -> Result<(), Fail> {
+    let (name, size, wanted, free) = *row;
     let text = store(rt.alloc(), archive, name, size)?;
-    assert_eq!(rt; text.as_str(), rows[0]);
-    tells(rt, archive, b"free\n", rows[1])
+    assert_eq!(rt; text.as_str(), wanted);
+    tells(rt, archive, b"free\n", free)
 }
 
 // The runs of blocks of the case with this number.
@@ -55,13 +57,28 @@ fn lies_in<D: Disk>(
     Ok(())
 }
 
+static WHOLE_BLOCKS: [Stored; 2] = [
+    (
+        "a",
+        4096,
+        "name a\nok\nok\nstored 1\nok\n",
+        "free 3 of 4\nok\n",
+    ),
+    (
+        "b",
+        4097,
+        "name b\nok\nok\nstored 2\nok\n",
+        "free 1 of 4\nok\n",
+    ),
+];
+
 #[test]
 fn an_image_takes_whole_blocks(rt: HostRuntime) -> Result<(), Fail> {
     let mut archive = fresh(rt.alloc(), 1 << 30)?;
-    let rows = ["name a\nok\nok\nstored 1\nok\n", "free 3 of 4\nok\n"];
-    stores(&rt, &mut archive, "a", 4096, rows)?;
-    let rows = ["name b\nok\nok\nstored 2\nok\n", "free 1 of 4\nok\n"];
-    stores(&rt, &mut archive, "b", 4097, rows)
+    for row in &WHOLE_BLOCKS {
+        stores(&rt, &mut archive, row)?;
+    }
+    Ok(())
 }
 
 // Stores three images of a block each, and deletes the second.
@@ -75,14 +92,21 @@ fn delete_second<D: Disk>(
     tells(rt, archive, b"delete 2\n", "ok\n")
 }
 
+static LAST_BLOCKS: Stored = (
+    "d",
+    8192,
+    "name d\nok\nok\nstored 4\nok\n",
+    "free 0 of 4\nok\n",
+);
+
+static TAKEN_AGAIN: [Run; 2] = [Run { start: 1, count: 1 }, Run { start: 3, count: 1 }];
+
 #[test]
 fn the_blocks_of_a_deleted_case_are_taken_again(rt: HostRuntime) -> Result<(), Fail> {
     let mut archive = fresh(rt.alloc(), 1 << 30)?;
     delete_second(&rt, &mut archive)?;
-    let rows = ["name d\nok\nok\nstored 4\nok\n", "free 0 of 4\nok\n"];
-    stores(&rt, &mut archive, "d", 8192, rows)?;
-    let runs = [Run { start: 1, count: 1 }, Run { start: 3, count: 1 }];
-    lies_in(&rt, &archive, 4, &runs)
+    stores(&rt, &mut archive, &LAST_BLOCKS)?;
+    lies_in(&rt, &archive, 4, &TAKEN_AGAIN)
 }
 
 #[test]
@@ -109,16 +133,28 @@ fn two_streams(alloc: Global) -> Result<Vec<u8>, Fail> {
     Ok(with_part(alloc, script.as_slice(), 4096, end)?)
 }
 
+static SECOND_TURN: [Run; 1] = [Run { start: 1, count: 1 }];
+
+static OTHER_TURNS: [Run; 2] = [Run { start: 0, count: 1 }, Run { start: 2, count: 1 }];
+
+// The streams' blocks are those that each took in its turn.
+fn take_turns<D: Disk>(
+    rt: &(impl AllocGlobal + Abort),
+    archive: &mut Archive<D>,
+    script: &[u8],
+) -> Result<(), Fail> {
+    let wanted =
+        "name a\nok\nname b\nok\nno NameTaken\nno SlotBusy\nok\nok\nok\nstored 1\nok\nstored 2\nok\nfree 1 of 4\nok\n";
+    tells(rt, archive, script, wanted)?;
+    lies_in(rt, archive, 1, &SECOND_TURN)?;
+    lies_in(rt, archive, 2, &OTHER_TURNS)
+}
+
 #[test]
 fn streams_take_turns(rt: HostRuntime) -> Result<(), Fail> {
     let script = two_streams(rt.alloc())?;
-    let wanted =
-        "name a\nok\nname b\nok\nno NameTaken\nno SlotBusy\nok\nok\nok\nstored 1\nok\nstored 2\nok\nfree 1 of 4\nok\n";
     let mut archive = fresh(rt.alloc(), 1 << 30)?;
-    tells(&rt, &mut archive, script.as_slice(), wanted)?;
-    lies_in(&rt, &archive, 1, &[Run { start: 1, count: 1 }])?;
-    let runs = [Run { start: 0, count: 1 }, Run { start: 2, count: 1 }];
-    lies_in(&rt, &archive, 2, &runs)
+    take_turns(&rt, &mut archive, script.as_slice())
 }
 
 // A stream of one byte in each slot, of which five are ended.

@@ -37,7 +37,7 @@ fn stopped_at_last_call(
     Ok((text, left.into_inner()))
 }
 
-const STORED: &[u8] =
+static STORED: &[u8] =
     b"begin exec 0 \\xa5\\xa5\\xa5\\xa5\\xa5\\xa5\\xa5\\xa5\\xa5\\xa5\\xa5\\xa5\\xa5\\xa5\\xa5\\xa5\\xa5\\xa5\\xa5\\xa5\npart 0 5\nhelloend 0\n";
 
 // The disk that is left where its last call fails within the end of that stream.
@@ -112,7 +112,7 @@ fn stored(alloc: Global) -> Result<MemDisk, Fail> {
 }
 
 // The cases, and the next one.
-const NEXT: &[u8] = b"list\nbegin exec 0 b\nend 0\n";
+static NEXT: &[u8] = b"list\nbegin exec 0 b\nend 0\n";
 
 // A session over an archive that lists the cases and stores the next one writes this text.
 fn goes_on<D: Disk + Drop>(

@@ -52,69 +52,93 @@ pub(crate) fn shows(
     Ok(())
 }
 
-#[test]
-fn a_script_over_memory(rt: HostRuntime) -> Result<(), Fail> {
-    let script = b"begin exec 0 a\npart 0 3\nabcend 0\nlist\n";
-    shows(
-        &rt,
-        &["memory", "--half", "1", "--data", "4"],
-        script,
-        "name a\nok\nok\nstored 1\nok\n1 exec 3 0 0 0 - a\nok\nstatus 0\n",
-    )?;
-    let words = ["memory", "--half", "1", "--data", "4", "--limit", "2"];
-    shows(
-        &rt,
-        &words,
-        script,
-        "name a\nok\nno TooLong\nno NoStream\nok\nstatus 0\n",
-    )?;
+// The words, the script, and what the program shows.
+type Row = (&'static [&'static str], &'static [u8], &'static str);
+
+// The program shows the text of each row.
+fn shows_each(
+    rt: &(impl AllocGlobal + Files<File = File> + Abort),
+    rows: &[Row],
+) -> Result<(), Fail> {
+    for (words, script, wanted) in rows {
+        shows(rt, words, script, wanted)?;
+    }
     Ok(())
 }
+
+static OVER_MEMORY: [Row; 2] = [
+    (
+        &["memory", "--half", "1", "--data", "4"],
+        b"begin exec 0 a\npart 0 3\nabcend 0\nlist\n",
+        "name a\nok\nok\nstored 1\nok\n1 exec 3 0 0 0 - a\nok\nstatus 0\n",
+    ),
+    (
+        &["memory", "--half", "1", "--data", "4", "--limit", "2"],
+        b"begin exec 0 a\npart 0 3\nabcend 0\nlist\n",
+        "name a\nok\nno TooLong\nno NoStream\nok\nstatus 0\n",
+    ),
+];
+
+#[test]
+fn a_script_over_memory(rt: HostRuntime) -> Result<(), Fail> {
+    shows_each(&rt, &OVER_MEMORY)
+}
+
+static NAMED: [Row; 2] = [
+    (
+        &["memory", "--half", "1", "--data", "4"],
+        b"begin core 0 comm=cat pid=7\n",
+        "name core.cat.7\nok\nstatus 0\n",
+    ),
+    (
+        &[
+            "memory",
+            "--half",
+            "1",
+            "--data",
+            "4",
+            "--template",
+            "c-%e",
+            "--uses-pid",
+        ],
+        b"begin core 0 comm=cat pid=7\n",
+        "name c-cat.7\nok\nstatus 0\n",
+    ),
+];
 
 #[test]
 fn the_words_name_cores(rt: HostRuntime) -> Result<(), Fail> {
-    let script = b"begin core 0 comm=cat pid=7\n";
-    shows(
-        &rt,
-        &["memory", "--half", "1", "--data", "4"],
-        script,
-        "name core.cat.7\nok\nstatus 0\n",
-    )?;
-    let words = [
-        "memory",
-        "--half",
-        "1",
-        "--data",
-        "4",
-        "--template",
-        "c-%e",
-        "--uses-pid",
-    ];
-    shows(&rt, &words, script, "name c-cat.7\nok\nstatus 0\n")?;
-    Ok(())
+    shows_each(&rt, &NAMED)
 }
 
-#[test]
-fn a_shape_outside_its_limits(rt: HostRuntime) -> Result<(), Fail> {
-    shows(
-        &rt,
+static BAD_SHAPES: [Row; 2] = [
+    (
         &["memory", "--half", "0", "--data", "4"],
         b"list\n",
         "no BadShape\nstatus 1\n",
-    )?;
-    shows(
-        &rt,
+    ),
+    (
         &["memory", "--half", "1", "--data", "16777217"],
         b"list\n",
         "no BadShape\nstatus 1\n",
-    )?;
-    Ok(())
-}
+    ),
+];
 
 #[test]
-fn a_template_that_is_refused(rt: HostRuntime) -> Result<(), Fail> {
-    let words = ["memory", "--half", "0", "--data", "4", "--template", "|x"];
-    shows(&rt, &words, b"list\n", "no Pipe\nstatus 1\n")?;
+fn a_shape_outside_its_limits(rt: HostRuntime) -> Result<(), Fail> {
+    shows_each(&rt, &BAD_SHAPES)
+}
+
+static PIPE: [Row; 1] = [(
+    &["memory", "--half", "0", "--data", "4", "--template", "|x"],
+    b"list\n",
+    "no Pipe\nstatus 1\n",
+)];
+
+// A template of 128 letters is refused.
+fn refuses_a_long_template(
+    rt: &(impl AllocGlobal + Files<File = File> + Abort),
+) -> Result<(), Fail> {
     let long = String::from_utf8(vec![in rt.alloc(); b't'; 128]?)?;
     let words = [
         "memory",
@@ -125,11 +149,16 @@ fn a_template_that_is_refused(rt: HostRuntime) -> Result<(), Fail> {
         "--template",
         long.as_str(),
     ];
-    shows(&rt, &words, b"list\n", "no TemplateTooLong\nstatus 1\n")?;
-    Ok(())
+    shows(rt, &words, b"list\n", "no TemplateTooLong\nstatus 1\n")
 }
 
-const REFUSED: [&[&str]; 9] = [
+#[test]
+fn a_template_that_is_refused(rt: HostRuntime) -> Result<(), Fail> {
+    shows_each(&rt, &PIPE)?;
+    refuses_a_long_template(&rt)
+}
+
+static REFUSED: [&[&str]; 9] = [
     &["--nope"],
     &[],
     &["memory", "--half", "1"],
@@ -154,7 +183,7 @@ fn refuses(
 
 #[test]
 fn words_that_are_refused(rt: HostRuntime) -> Result<(), Fail> {
-    for words in REFUSED {
+    for words in &REFUSED {
         refuses(&rt, words)?;
     }
     Ok(())
