@@ -1,0 +1,5 @@
+pub mod EntryLemmas
+pub mod HalfLemmas
+pub mod MeasureLemmas
+pub mod RewriteLemmas
+pub mod SeqLemmas

@@ -1,0 +1,36 @@
+-- What a disk and a journal have in common, while its records are appended to and while its other half is written.
+use Rattle.std.specs.Prelude.{◌≡◌, ◌≢◌, ℕ, List, slice_index}
+use Rattle.disk_model.specs.Places.{part}
+use Rattle.disk_model.specs.Moments.{IsSettled}
+use Rattle.disk_model.specs.declared.disk.Disk as disk
+use Rattle.journal_layout.specs.declared.shape.Half.TheVariants.{A, B}
+use Rattle.journal_layout.specs.declared.shape.Shape.{Shape}
+use Rattle.journal_layout.specs.Layout.{half_start}
+use Rattle.journal_layout.specs.Folding.{Folded}
+use Rattle.journal_layout.specs.Standing.{Standing}
+use Rattle.journal_layout.specs.Stands.{Stands}
+use Rattle.journal_layout.specs.Rewriting.{other_start, HoldsSnapshot, MayRewrite}
+
+-- both halves have the same headers
+pub record SameHeaders (s : Shape) (b c : List ℕ) : Type 0 where
+  pub first : part c (half_start s A) 32 ≡ part b (half_start s A) 32
+  pub second : part c (half_start s B) 32 ≡ part b (half_start s B) 32
+
+-- Every list that a crash now may leave stands for what the journal stands for, and has the headers that reads give.
+pub record Holds {D : Type 0} (g : disk.Ghosts D) (d : D) (s : Standing) : Type 0 where
+  pub stands : (c : List ℕ) → g.may_leave d c → Stands c s
+  pub headers : (c : List ℕ) → g.may_leave d c → SameHeaders s.shape (g.seen d) c
+
+-- Every list that a crash now may leave stands for what the journal stands for, and the gate of its other half is not
+-- open in it, so that what else that half holds is not looked at.
+pub record StandsBeside {D : Type 0} (g : disk.Ghosts D) (d : D) (s : Standing) : Type 0 where
+  pub stands : (c : List ℕ) → g.may_leave d c → Stands c s
+  pub closed : (c : List ℕ) → g.may_leave d c → slice_index c (other_start s) ≢ 165
+
+-- A crash leaves what reads give: what the journal stands for, with all of a half that says this behind the other gate,
+-- which is not open.
+pub record IsReady {D : Type 0} (g : disk.Ghosts D) (d : D) (s : Standing) (f : Folded) : Type 0 where
+  pub settled : IsSettled g d
+  pub stands : Stands (g.seen d) s
+  pub may : MayRewrite s f
+  pub snapshot : HoldsSnapshot s f (g.seen d)

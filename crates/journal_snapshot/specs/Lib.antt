@@ -1,0 +1,11 @@
+pub mod ChangeLaws
+pub mod Changing
+pub mod Filling
+pub mod FillLaws
+pub mod HalfLaws
+pub mod Halves
+pub mod Holding
+pub mod HoldLaws
+pub mod Measuring
+pub mod WriteLaws
+pub mod Writing
