@@ -1,7 +1,8 @@
 -- What an open journal keeps stays, as its cases change and as they are read.
-use Rattle.std.proofs.Common.{◌≡◌, ℕ, ◌+◌, ◌≤◌, Bool, List, [], ◌∷◌, ◌++◌, sym, subst, arith}
+use Rattle.std.proofs.Common.{◌≡◌, ℕ, ◌+◌, ◌≤◌, Bool, true, List, [], ◌∷◌, ◌++◌, sym, subst, arith}
 use Rattle.journal_layout.specs.declared.shape.Shape.{Shape}
 use Rattle.journal_layout.specs.Layout.{IsWithinLimits, half_length}
+use Rattle.journal_layout.specs.Front.{is_known}
 use Rattle.journal_layout.specs.Case.{Case}
 use Rattle.journal_layout.specs.Record.{Store}
 use Rattle.journal_layout.specs.Folding.{nothing_yet, dropped, with_pin}
@@ -11,11 +12,12 @@ use Rattle.journal_layout.specs.Live.{AreLive}
 use Rattle.journal_layout.specs.LiveLaws.{live_stored, live_dropped, live_pinned, live_read}
 use Rattle.case_journal.specs.Kept.{IsKept}
 
-module _ (shape : Shape) (cases : List Case) (next used size : ℕ) (kept : IsKept shape cases next used) (room : used + size + 1 ≤ half_length shape) where
+module _ (shape : Shape) (version : ℕ) (cases : List Case) (next used size : ℕ) (kept : IsKept shape version cases next used) (room : used + size + 1 ≤ half_length shape) where
   -- some cases left out
-  pub kept_left : (seqs : List ℕ) (after : List Case) → after ≡ dropped seqs cases → IsKept shape after next (used + size)
+  pub kept_left : (seqs : List ℕ) (after : List Case) → after ≡ dropped seqs cases → IsKept shape version after next (used + size)
   kept_left seqs after is = record {
     limits = kept.limits;
+    known = kept.known;
     live = subst (λ (cs : List Case). AreLive shape.data_blocks cs next) (sym is) (live_dropped shape.data_blocks cases next seqs kept.live);
     numbers = kept.numbers;
     header = (let h = kept.header in omega arith);
@@ -23,9 +25,10 @@ module _ (shape : Shape) (cases : List Case) (next used size : ℕ) (kept : IsKe
   }
 
   -- a flag set
-  pub kept_pinned : (seq : ℕ) (flag : Bool) (after : List Case) → after ≡ with_pin seq flag cases → IsKept shape after next (used + size)
+  pub kept_pinned : (seq : ℕ) (flag : Bool) (after : List Case) → after ≡ with_pin seq flag cases → IsKept shape version after next (used + size)
   kept_pinned seq flag after is = record {
     limits = kept.limits;
+    known = kept.known;
     live = subst (λ (cs : List Case). AreLive shape.data_blocks cs next) (sym is) (live_pinned shape.data_blocks cases next seq flag kept.live);
     numbers = kept.numbers;
     header = (let h = kept.header in omega arith);
@@ -33,12 +36,13 @@ module _ (shape : Shape) (cases : List Case) (next used size : ℕ) (kept : IsKe
   }
 
   -- a case more
-  pub kept_stored : (version : ℕ) (c : Case) (after : List Case) → c.seq ≡ next → IsSound shape.data_blocks (record { version = version; cases = cases; next = next }) (Store c)
-      → after ≡ cases ++ c ∷ [] → IsKept shape after (next + 1) (used + size)
-  kept_stored version c after number sound is =
+  pub kept_stored : (c : Case) (after : List Case) → c.seq ≡ next → IsSound shape.data_blocks (record { version = version; cases = cases; next = next }) (Store c)
+      → after ≡ cases ++ c ∷ [] → IsKept shape version after (next + 1) (used + size)
+  kept_stored c after number sound is =
       let live = live_stored shape.data_blocks cases next c kept.live sound.0 sound.1 sound.2 in
       record {
         limits = kept.limits;
+        known = kept.known;
         live = subst (λ (n : ℕ). AreLive shape.data_blocks after (n + 1)) number (subst (λ (cs : List Case). AreLive shape.data_blocks cs (c.seq + 1)) (sym is) live);
         numbers = (let high = sound.1 in omega arith);
         header = (let h = kept.header in omega arith);
@@ -46,9 +50,9 @@ module _ (shape : Shape) (cases : List Case) (next used size : ℕ) (kept : IsKe
       }
 
 -- the cases that are read
-pub kept_read : (shape : Shape) (cases : List Case) (version next n : ℕ) (bytes : List ℕ) → IsWithinLimits shape
+pub kept_read : (shape : Shape) (cases : List Case) (version next n : ℕ) (bytes : List ℕ) → IsWithinLimits shape → is_known version ≡ true
     → AreRead shape.data_blocks bytes (nothing_yet version) (record { version = version; cases = cases; next = next }) n → 32 + n + 1 ≤ half_length shape
-    → IsKept shape cases next (32 + n)
-kept_read shape cases version next n bytes limits read room =
+    → IsKept shape version cases next (32 + n)
+kept_read shape cases version next n bytes limits known read room =
     let live = live_read shape.data_blocks version bytes (record { version = version; cases = cases; next = next }) n read in
-    record { limits = limits; live = live; numbers = live.numbers; header = omega arith; gate = room }
+    record { limits = limits; known = known; live = live; numbers = live.numbers; header = omega arith; gate = room }

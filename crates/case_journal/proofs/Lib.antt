@@ -1,4 +1,5 @@
 pub mod AppendLemmas
+pub mod CompactLemmas
 pub mod EntryLemmas
 pub mod FormatLemmas
 pub mod KeptLemmas

@@ -13,7 +13,7 @@ use Rattle.journal_layout.specs.Standing.{Standing, folded_of, appended}
 use Rattle.journal_layout.specs.Stands.{AreRead, Stands, records_start, records_area, front_of}
 use Rattle.journal_layout.specs.RowLaws.{row_same}
 use Rattle.case_journal.specs.Append.{MayFollow}
-use Rattle.case_journal.specs.Keeping.{SameHeaders}
+use Rattle.journal_snapshot.specs.Holding.{SameHeaders}
 use Rattle.journal_layout.specs.FrontLaws.{front_same}
 use Rattle.journal_layout.specs.StandLaws.{stands_limits, stands_size, stands_room, HasSameFront, stands_grown}
 

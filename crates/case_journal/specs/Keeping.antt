@@ -1,26 +1,15 @@
 -- What a disk and the journal that was opened on it have in common.
-use Rattle.std.specs.Prelude.{◌≡◌, ◌⊎◌, ℕ, ◌≤◌, false, List, IsTrue}
+use Rattle.std.specs.Prelude.{◌≡◌, ◌⊎◌, ℕ, ◌*◌, ◌≤◌, false, List, IsTrue}
 use Rattle.disk_model.specs.Disk.{ChangedIn}
 use Rattle.disk_model.specs.Moments.{LeavesOnly}
-use Rattle.disk_model.specs.Places.{part, SameOutside}
+use Rattle.disk_model.specs.Places.{SameOutside}
 use Rattle.disk_model.specs.declared.disk.Disk as disk
-use Rattle.journal_layout.specs.declared.shape.Half.TheVariants.{A, B}
-use Rattle.journal_layout.specs.declared.shape.Shape.{Shape}
 use Rattle.journal_layout.specs.Layout.{disk_length, half_start, half_length, data_start}
 use Rattle.journal_layout.specs.Record.{Record}
 use Rattle.journal_layout.specs.Standing.{Standing, appended}
 use Rattle.journal_layout.specs.Stands.{Stands}
+use Rattle.journal_snapshot.specs.Holding.{SameHeaders, Holds}
 use Rattle.case_journal.specs.Journaled.{Journaled}
-
--- both halves have the same headers
-pub record SameHeaders (s : Shape) (b c : List ℕ) : Type 0 where
-  pub first : part c (half_start s A) 32 ≡ part b (half_start s A) 32
-  pub second : part c (half_start s B) 32 ≡ part b (half_start s B) 32
-
--- Every list that a crash now may leave stands for what the journal stands for, and has the headers that reads give.
-pub record Holds {D : Type 0} (g : disk.Ghosts D) (d : D) (s : Standing) : Type 0 where
-  pub stands : (c : List ℕ) → g.may_leave d c → Stands c s
-  pub headers : (c : List ℕ) → g.may_leave d c → SameHeaders s.shape (g.seen d) c
 
 -- The disk is that of the journal. A journal that a disk fault has stopped knows nothing of it but its size.
 pub record Keeps {D : Type 0} (g : disk.Ghosts D) (d : D) (j : Journaled) : Type 0 where
@@ -34,6 +23,10 @@ LeavesEither g old new s r = LeavesOnly g old new (λ c. Stands c s ⊎ Stands c
 -- what a crash at any moment leaves is what one before could have left, but for bytes of the taken half
 abbrev pub LeavesOutside : {D : Type 0} → disk.Ghosts D → D → D → Standing → Type 0
 LeavesOutside g old new s = LeavesOnly g old new (ChangedIn (half_start s.shape s.half) (half_length s.shape) (g.may_leave old))
+
+-- what a crash at any moment leaves is what one before could have left, but for bytes of the two halves
+abbrev pub LeavesOutsideHalves : {D : Type 0} → disk.Ghosts D → D → D → Standing → Type 0
+LeavesOutsideHalves g old new s = LeavesOnly g old new (ChangedIn 4096 (2 * half_length s.shape) (g.may_leave old))
 
 -- what is changed behind the halves leaves what the bytes stand for, and both headers
 abbrev pub DataIsApart : Type 0

@@ -1,12 +1,14 @@
--- What an open journal keeps of its numbers and its cases.
-use Rattle.std.specs.Prelude.{ℕ, ◌+◌, ◌^◌, ◌≤◌, List}
+-- What an open journal keeps of its shape, its version, its numbers and its cases.
+use Rattle.std.specs.Prelude.{◌≡◌, true, ℕ, ◌+◌, ◌^◌, ◌≤◌, List}
 use Rattle.journal_layout.specs.declared.shape.Shape.{Shape}
 use Rattle.journal_layout.specs.Case.{Case}
 use Rattle.journal_layout.specs.Live.{AreLive}
+use Rattle.journal_layout.specs.Front.{is_known}
 use Rattle.journal_layout.specs.Layout.{IsWithinLimits, half_length}
 
-pub record IsKept (shape : Shape) (cases : List Case) (next used : ℕ) : Type 0 where
+pub record IsKept (shape : Shape) (version : ℕ) (cases : List Case) (next used : ℕ) : Type 0 where
   pub limits : IsWithinLimits shape
+  pub known : is_known version ≡ true
   pub live : AreLive shape.data_blocks cases next
   pub numbers : next ≤ 2 ^ 32
   pub header : 32 ≤ used

@@ -1,4 +1,5 @@
 pub mod Append
+pub mod Compacting
 pub mod Entering
 pub mod Formatted
 pub mod Journaled

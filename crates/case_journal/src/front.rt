@@ -1,5 +1,5 @@
 // The front of an archive: its shape and the half that is taken, by the first checks of an opening.
-ghost use Rattle.std.specs.Prelude.{◌≡◌, ℕ, List, ◌+◌, ◌≤◌, length, IfOk, OnOk, IsOkUnless, Ok, Err};
+ghost use Rattle.std.specs.Prelude.{◌≡◌, true, ℕ, List, ◌+◌, ◌≤◌, length, IfOk, OnOk, IsOkUnless, Ok, Err};
 ghost use Rattle.disk_model.specs.Disk.{HasCause, HasRisen};
 ghost use Rattle.journal_layout.specs.Layout.{disk_length, IsWithinLimits};
 ghost use Rattle.journal_layout.specs.Front.{is_archive, is_known, shape_at, is_shape_of, shape_opening, header_at, generation_fault, taken_half};
@@ -139,7 +139,8 @@ pub(crate) struct ArchiveFront {
 // The front that two headers tell: a half is taken, and its version is known.
 fn front_of(shape: Shape, a: HalfHeader, b: HalfHeader) -> Result<ArchiveFront, OpenFault>
     requires { IsWithinLimits shape }
-    ensures { FrontIs shape (header_of a) (header_of b) result }
+    ensures front { FrontIs shape (header_of a) (header_of b) result }
+    ensures known { IfOk result (λ t. is_known t.version ≡ true) }
 {
     let half = taken_half(shape, a, b)?;
     let header = match half {
@@ -224,6 +225,7 @@ fn read_superblock<D: Disk>(disk: &mut D) -> Result<Shape, OpenFault>
 pub(crate) fn read_front<D: Disk>(disk: &mut D) -> Result<ArchiveFront, OpenFault>
     ensures shows { (b : List ℕ) → IsView D.Disk disk.old b → ShowsFront D.Disk disk.new result b }
     ensures shape { IfOk result (λ t. IsWithinLimits t.shape × (D.size disk.new ≡ disk_length t.shape)) }
+    ensures known { IfOk result (λ t. is_known t.version ≡ true) }
     ensures quiet { IsQuiet D.Disk disk.old disk.new }
     ensures cause { result ≡ Err OpenFault.Disk
         → HasRisen (D.failures disk.old) (D.failures disk.new) }

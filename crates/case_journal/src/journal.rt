@@ -65,7 +65,7 @@ impl Model for Journal {
       stopped = j.stopped;
     } };
 
-    ghost invariant = { λ j. IsKept j.shape (map case_of j.entries.items) j.next j.used };
+    ghost invariant = { λ j. IsKept j.shape j.version (map case_of j.entries.items) j.next j.used };
 }
 
 impl Journal {
@@ -297,7 +297,7 @@ impl Journal {
     }
 
     // The allocator of the entries.
-    fn alloc(&self) -> Global {
+    pub(crate) fn alloc(&self) -> Global {
         *self.entries.allocator()
     }
 

@@ -2,6 +2,7 @@
 //! `Journal::open`, and grows by appends, each of which a crash leaves undone or done.
 #![tactic(auto)]
 
+mod compacting;
 mod faults;
 mod formatting;
 mod front;

@@ -17,7 +17,8 @@ use Rattle.journal_layout.specs.LiveFinds.{numbered_is, live_whole}
 use Rattle.journal_layout.specs.Soundness.{case_numbered}
 use Rattle.journal_layout.specs.Stands.{Stands}
 use Rattle.case_journal.specs.Journaled.{Journaled}
-use Rattle.case_journal.specs.Keeping.{Keeps, SameHeaders}
+use Rattle.case_journal.specs.Keeping.{Keeps}
+use Rattle.journal_snapshot.specs.Holding.{SameHeaders}
 use Rattle.case_journal.specs.Viewing.{IsQuiet}
 use Rattle.intake.specs.Blocks.{image_in}
 use Rattle.intake.specs.Contents.{Taken, UnmovedBytes, without_streams, image_at}

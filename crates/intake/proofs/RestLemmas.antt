@@ -6,7 +6,8 @@ use Rattle.disk_model.specs.MomentLaws.{started, stays, then_again, weakened}
 use Rattle.disk_model.specs.Places.{SameOutside}
 use Rattle.disk_model.specs.declared.disk.Disk as disk
 use Rattle.case_journal.specs.Journaled.{Journaled}
-use Rattle.case_journal.specs.Keeping.{DataIsApart, SameHeaders}
+use Rattle.case_journal.specs.Keeping.{DataIsApart}
+use Rattle.journal_snapshot.specs.Holding.{SameHeaders}
 use Rattle.intake.specs.Blocks.{block_start}
 use Rattle.intake.specs.Durable.{StandsFor, durable_in}
 use Rattle.intake.specs.Guarding.{Guards, Rests}

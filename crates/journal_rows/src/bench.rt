@@ -129,7 +129,7 @@ fn is_droppable(journal: &Journal, seq: u32) -> bool
     }
 }
 
-/// An append.
+/// An append, or a compaction.
 #[derive(Clone, Copy, Debug)]
 pub enum Step {
     /// An empty executable of this name is stored.
@@ -138,6 +138,8 @@ pub enum Step {
     Pin(u32, bool),
     /// The case of this number ends.
     End(u32),
+    /// The journal is written anew into its other half.
+    Compact,
 }
 
 /// A journal and its disk.
@@ -236,12 +238,18 @@ impl<D: Disk + Drop> Bench<D> {
         Ok(self.journal.append_drop(&mut self.disk, &[seq]))
     }
 
-    /// Appends what the step says.
+    /// Writes the journal anew into its other half.
+    pub fn compact(&mut self) -> Result<(), JournalFault> {
+        self.journal.compact(&mut self.disk)
+    }
+
+    /// Takes the step.
     pub fn take(&mut self, alloc: Global, step: Step) -> Result<Result<(), JournalFault>, Fail> {
         match step {
             Step::Store(name) => Ok(self.store(alloc, name)?.map(|_| ())),
             Step::Pin(seq, flag) => self.pin(seq, flag),
             Step::End(seq) => self.end(seq),
+            Step::Compact => Ok(self.compact()),
         }
     }
 }

@@ -1,4 +1,4 @@
-//! Tests of a journal over a disk in memory: the checks of an opening one by one, appends over reopenings, and stops at
+//! Tests of a journal over a disk in memory: the checks of an opening one by one, appends and compactions over reopenings, and stops at
 //! each disk call.
 #![tactic(auto)]
 
@@ -6,6 +6,8 @@
 mod appends;
 #[cfg(test)]
 mod bench;
+#[cfg(test)]
+mod compactions;
 #[cfg(test)]
 mod openings;
 #[cfg(test)]

@@ -1,20 +1,23 @@
-// A script of appends, and what the journal shows before it and after each of them.
+// A script of appends and compactions, and what the journal shows before it and after each of them.
 use crate::bench::Step;
 use case_journal::Journal;
 use journal_layout::Entry;
 
-static SCRIPT: [Step; 7] = [
+static SCRIPT: [Step; 10] = [
     Step::Store(b"a"),
     Step::Store(b"b"),
     Step::Pin(1, true),
     Step::End(2),
+    Step::Compact,
     Step::Store(b"c"),
     Step::Pin(1, false),
+    Step::Compact,
     Step::End(1),
+    Step::Compact,
 ];
 
 /// The script.
-pub fn script() -> &'static [Step; 7] {
+pub fn script() -> &'static [Step; 10] {
     &SCRIPT
 }
 
@@ -24,7 +27,7 @@ pub struct State {
     pub next: u64,
 }
 
-static STATES: [State; 8] = [
+static STATES: [State; 11] = [
     State {
         cases: &[],
         next: 1,
@@ -46,7 +49,15 @@ static STATES: [State; 8] = [
         next: 3,
     },
     State {
+        cases: &[(1, b"a", true)],
+        next: 3,
+    },
+    State {
         cases: &[(1, b"a", true), (3, b"c", false)],
+        next: 4,
+    },
+    State {
+        cases: &[(1, b"a", false), (3, b"c", false)],
         next: 4,
     },
     State {
@@ -57,10 +68,14 @@ static STATES: [State; 8] = [
         cases: &[(3, b"c", false)],
         next: 4,
     },
+    State {
+        cases: &[(3, b"c", false)],
+        next: 4,
+    },
 ];
 
-/// The states before the script, and after each of its appends.
-pub fn states() -> &'static [State; 8] {
+/// The states before the script, and after each of its steps.
+pub fn states() -> &'static [State; 11] {
     &STATES
 }
 

@@ -17,12 +17,12 @@ const PICKS: [Pick; 5] = [
     Pick::Fill(0x37),
 ];
 
-// Appends up to the first that is refused. Answers how many were done, and the fault.
+// Takes the script's steps up to the first that is refused. Answers how many were done, and the fault.
 fn run<D: Disk + Drop>(
     bench: &mut Bench<D>,
     alloc: Global,
 ) -> Result<(usize, Option<JournalFault>), Fail>
-    ensures { IfOk result (λ r. r.0 ≤ 7) }
+    ensures { IfOk result (λ r. r.0 ≤ 10) }
 {
     for (done, step) in script().iter().enumerate() {
         if let Err(fault) = bench.take(alloc, *step)? {
@@ -40,7 +40,7 @@ fn shows_after(journal: &Journal, done: usize) -> bool {
     }
 }
 
-// Opens the journal, which shows the state after one of these numbers of appends.
+// Opens the journal, which shows the state after one of these numbers of steps.
 fn check_disk(alloc: Global, disk: &mut MemDisk, before: usize, after: usize) -> Result<(), Fail> {
     let Ok(journal) = Journal::open(alloc, disk) else {
         return Err(Fail::from("the journal was not opened again"));
@@ -60,7 +60,7 @@ fn check_crashes(alloc: Global, disk: &MemDisk, before: usize, after: usize) -> 
     Ok(())
 }
 
-// Stops the disk after so many calls. Answers how many appends were done, or `None` where nothing was stopped.
+// Stops the disk after so many calls. Answers how many steps were done, or `None` where nothing was stopped.
 fn stop_after(alloc: Global, limit: u64) -> Result<Option<usize>, Fail> {
     let mut bench = match Bench::open(alloc, Fuse::new(formatted(alloc)?, limit)) {
         Ok(bench) => bench,
@@ -84,18 +84,18 @@ fn stop_after(alloc: Global, limit: u64) -> Result<Option<usize>, Fail> {
     }
 }
 
-// Each append is stopped at some call, and none is passed over.
+// Each step is stopped at some call, and none is passed over.
 #[test]
 fn a_stop_leaves_the_cases_from_before_or_after(rt: HostRuntime) -> Result<(), Fail> {
     let mut last = 0;
     for limit in 0..1000 {
         let Some(done) = stop_after(rt.alloc(), limit)? else {
-            assert_eq!(rt; last, 6);
+            assert_eq!(rt; last, 9);
             return Ok(());
         };
         assert!(rt;
-            done == last || last < 6 && done == last + 1,
-            "{done} appends after {limit} calls"
+            done == last || last < 9 && done == last + 1,
+            "{done} steps after {limit} calls"
         );
         last = done;
     }
@@ -116,7 +116,7 @@ fn is_stopped<D: Disk + Drop>(bench: &mut Bench<D>, alloc: Global) -> Result<boo
     Ok(stopped)
 }
 
-// Fails this call of the disk alone. Answers how many appends were done, or `None` where nothing failed.
+// Fails this call of the disk alone. Answers how many steps were done, or `None` where nothing failed.
 fn fault_at(alloc: Global, call: u64) -> Result<Option<usize>, Fail> {
     let mut bench = match Bench::open(alloc, OneFault::new(formatted(alloc)?, call)) {
         Ok(bench) => bench,
@@ -145,12 +145,12 @@ fn a_fault_stops_the_journal(rt: HostRuntime) -> Result<(), Fail> {
     let mut last = 0;
     for call in 1..1000 {
         let Some(done) = fault_at(rt.alloc(), call)? else {
-            assert_eq!(rt; last, 6);
+            assert_eq!(rt; last, 9);
             return Ok(());
         };
         assert!(rt;
-            done == last || last < 6 && done == last + 1,
-            "{done} appends at call {call}"
+            done == last || last < 9 && done == last + 1,
+            "{done} steps at call {call}"
         );
         last = done;
     }

@@ -47,5 +47,5 @@ invariant_of-result g c =
     let limits = c.in_ok-front.ensures.shape.0 in
     let some = limits.some_half in
     let bytes = ap length c.deref.ensures.value in
-    kept_read front.shape (map case_of read.entries.items) front.version read.next read.size c.deref.result.now limits c.in_ok-read.ensures.read
+    kept_read front.shape (map case_of read.entries.items) front.version read.next read.size c.deref.result.now limits c.in_ok-front.ensures.known c.in_ok-read.ensures.read
     (omega (arith, c.in_ok-read.ensures.bounds.2, bytes, c.in_ok-bytes.ensures.long, some))

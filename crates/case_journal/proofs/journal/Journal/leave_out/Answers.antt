@@ -9,4 +9,4 @@ pub invariant_of-self : goal.invariant_of-self
 invariant_of-self c =
     let j = c.self.inside in
     let room = subst (λ (s : Journaled). s.standing.used + c.args.size + 1 ≤ half_length s.standing.shape) (sym c.self.view_is) c.requires.room in
-    kept_left j.shape (map case_of j.entries.items) j.next j.used c.args.size c.self.invariant room c.args.seqs.now (map case_of c.keep_others.new.entries.items) c.keep_others.ensures
+    kept_left j.shape j.version (map case_of j.entries.items) j.next j.used c.args.size c.self.invariant room c.args.seqs.now (map case_of c.keep_others.new.entries.items) c.keep_others.ensures

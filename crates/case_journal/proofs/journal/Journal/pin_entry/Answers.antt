@@ -12,6 +12,6 @@ pub invariant_of-self : goal.invariant_of-self
 invariant_of-self c =
     let j = c.self.inside in
     let room = subst (λ (s : Journaled). s.standing.used + c.args.size + 1 ≤ half_length s.standing.shape) (sym c.self.view_is) c.requires in
-    kept_pinned j.shape (map case_of j.entries.items) j.next j.used c.args.size c.self.invariant room c.args.seq c.args.flag _
+    kept_pinned j.shape j.version (map case_of j.entries.items) j.next j.used c.args.size c.self.invariant room c.args.seq c.args.flag _
     (ap (map case_of) (with_items_is j.entries c.set_pin.new.entries (c.set_pin.auto.entries ∙ c.deref_mut.ensures.len))
     ∙ c.set_pin.ensures ∙ ap (λ (l : List Entry). with_pin c.args.seq c.args.flag (map case_of l)) c.deref_mut.ensures.value)

@@ -18,5 +18,5 @@ invariant_of-self-3 g c =
     let number : c.args.seq ≡ j.next = c.requires.number ∙ ap (λ (s : Journaled). s.standing.next) (sym c.self.view_is) in
     let pushed : c.push.new.self.items ≡ j.entries.items ++ e ∷ [] =
     (rw c.unwrap.ensures at c.push.ensures.items) ∙ ap (λ (l : List Entry). l ++ e ∷ []) c.in-Ok.ensures.entries in
-    kept_stored j.shape (map case_of j.entries.items) j.next j.used c.args.size c.self.invariant room j.version (numbered c.args.seq (case_of c.args.entry)) (map case_of c.push.new.self.items)
+    kept_stored j.shape j.version (map case_of j.entries.items) j.next j.used c.args.size c.self.invariant room (numbered c.args.seq (case_of c.args.entry)) (map case_of c.push.new.self.items)
     number sound (ap (map case_of) pushed ∙ map-append case_of j.entries.items (e ∷ []))

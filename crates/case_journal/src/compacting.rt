@@ -1,0 +1,182 @@
+// Writing a journal anew into its other half.
+ghost use Rattle.std.specs.Prelude.{◌≡◌, ◌⊎◌, ◌+◌, ◌*◌, ◌^◌, ◌<◌, ◌≤◌, false, length, IsTrue, OnOk, Err, Some};
+ghost use Rattle.disk_model.specs.Disk.{HasRisen};
+ghost use Rattle.disk_model.specs.Moments.{LeavesOnly};
+ghost use Rattle.disk_model.specs.Places.{SameOutside};
+ghost use Rattle.journal_layout.specs.Layout.{IsWithinLimits, half_length};
+ghost use Rattle.journal_layout.specs.Folding.{Folded};
+ghost use Rattle.journal_layout.specs.Standing.{Standing};
+ghost use Rattle.journal_layout.specs.Stands.{Stands};
+ghost use Rattle.journal_layout.specs.Rewriting.{other_half, other_start, rewritten};
+ghost use Rattle.journal_snapshot.specs.Changing.{IsOrdered};
+ghost use Rattle.journal_snapshot.specs.Measuring.{AreShort, IsShort, IsMeasure};
+ghost use Rattle.journal_snapshot.specs.Filling.{Fills};
+ghost use Rattle.journal_snapshot.specs.Holding.{Holds};
+ghost use Rattle.journal_snapshot.specs.Halves.{IsWrittenAs};
+ghost use Rattle.case_journal.specs.Append.{RefusalLeaves};
+ghost use Rattle.case_journal.specs.Compacting.{CompactStep, FindsRoom, IsWriteAnswer, compacted, noted, moved};
+ghost use Rattle.case_journal.specs.Keeping.{Keeps, LeavesOutsideHalves};
+
+use crate::{Journal, JournalFault};
+use disk_model::Disk;
+use journal_layout::{Entry, Half, Shape};
+use journal_snapshot::{Change, Measure, Target, measured, rewrite};
+use std::alloc::Global;
+
+// The half that this one is not.
+fn other_half(half: Half) -> Half
+    ensures { result ≡ other_half half }
+{
+    match half {
+        Half::A => Half::B,
+        Half::B => Half::A,
+    }
+}
+
+/// Measures what a change makes of these cases. `JournalFull`: it does not fit into a half with the gate behind it, or no
+/// generation is left for one.
+pub(crate) fn room_beside(
+    entries: &[Entry],
+    shape: Shape,
+    generation: u64,
+    change: &Change,
+) -> Result<Measure, JournalFault>
+    requires limits { IsWithinLimits shape }
+    requires order { IsOrdered change.now }
+    requires short { AreShort entries.now }
+    requires short_added { IsShort change.now }
+    ensures { FindsRoom shape generation change.now entries.now result }
+{
+    if generation == u64::MAX {
+        return Err(JournalFault::JournalFull);
+    }
+    let Some(measure) = measured(entries, change, shape.half_length()) else {
+        return Err(JournalFault::JournalFull);
+    };
+    Ok(measure)
+}
+
+/// Writes what a change makes of these cases into the half that is not taken, and takes it. `OutOfMemory`, before the
+/// first disk call; `Disk`. It takes as much memory as the longest record of a case has bytes.
+pub(crate) fn write_beside<D: Disk>(
+    alloc: Global,
+    disk: &mut D,
+    target: Target,
+    entries: &[Entry],
+    change: &Change,
+    measure: Measure,
+    half: u64,
+) -> Result<(), JournalFault>
+    requires order { IsOrdered change.now }
+    requires measured { IsMeasure half change.now entries.now (Some measure) }
+    requires small { half ≤ 16777216 }
+    requires room { target.start + half ≤ D.size disk.old }
+    ensures any_moment { (s : Standing) (f : Folded) → IsWrittenAs s f target change.now entries.now
+        → IsTrue (D.is_honest disk.old) → Holds D.Disk disk.old s
+        → LeavesOnly D.Disk disk.old disk.new (λ c. Stands c s ⊎ Stands c (rewritten s f)) }
+    ensures taken { (s : Standing) (f : Folded) → IsWrittenAs s f target change.now entries.now
+        → IsTrue (D.is_honest disk.old) → Holds D.Disk disk.old s
+        → OnOk result (Holds D.Disk disk.new (rewritten s f)) }
+    ensures fills { Fills D.Disk disk.old disk.new target.start half }
+    ensures only { IsWriteAnswer result }
+    ensures untouched { RefusalLeaves result disk.old disk.new }
+    ensures cause { result ≡ Err JournalFault.Disk → HasRisen (D.failures disk.old) (D.failures disk.new) }
+    ensures later { D.failures disk.old ≤ D.failures disk.new }
+{
+    let Ok(mut buffer) = Vec::with_capacity(alloc, measure.largest as usize) else {
+        return Err(JournalFault::OutOfMemory);
+    };
+    let Ok(()) = rewrite(disk, target, entries, change, &mut buffer) else {
+        return Err(JournalFault::Disk);
+    };
+    Ok(())
+}
+
+impl Journal {
+    /// Writes the cases and the number of the next one anew into the other half, which is taken then: a snapshot of them,
+    /// without the records that say nothing any more. It changes no case. All faults but `Disk` leave the journal and the
+    /// disk as they are. Answers, in this order: `Stopped`; `JournalFull` where the snapshot with the gate behind it does
+    /// not fit into the half, or its generation would be 2^64; `OutOfMemory`, before the first disk call; `Disk`, after
+    /// which the journal is stopped. It takes as much memory as the longest record of a case has bytes.
+    pub fn compact<D: Disk>(&mut self, disk: &mut D) -> Result<(), JournalFault>
+        requires keeps { Keeps D.Disk disk.old self.old }
+        ensures step { CompactStep self.old result self.new }
+        // A refusal leaves the disk as it is, unless the disk failed.
+        ensures untouched { RefusalLeaves result disk.old disk.new }
+        // What a crash at any moment since the start leaves stands for the same cases and next number, in the one half or
+        // in the other.
+        ensures any_moment { IsTrue (D.is_honest disk.old) → self.old.stopped ≡ false
+            → LeavesOnly D.Disk disk.old disk.new (λ c. Stands c self.old.standing ⊎ Stands c (compacted self.old.standing)) }
+        ensures keeps { Keeps D.Disk disk.new self.new }
+        // No byte outside the two halves is changed.
+        ensures outside { IsTrue (D.is_honest disk.old)
+            → LeavesOutsideHalves D.Disk disk.old disk.new self.old.standing }
+        ensures others { IsTrue (D.is_honest disk.old)
+            → SameOutside 4096 (2 * half_length self.old.standing.shape) (D.seen disk.old) (D.seen disk.new) }
+        ensures cause { result ≡ Err JournalFault.Disk → HasRisen (D.failures disk.old) (D.failures disk.new) }
+        ensures later { D.failures disk.old ≤ D.failures disk.new }
+        ensures honesty { D.is_honest disk.new ≡ D.is_honest disk.old }
+        ensures size { D.size disk.new ≡ D.size disk.old }
+    {
+        if self.stopped {
+            return Err(JournalFault::Stopped);
+        }
+        let change = Change::Nothing;
+        let measure = room_beside(&self.entries, self.shape, self.generation, &change)?;
+        let target = self.target(self.next);
+        let half = self.shape.half_length();
+        let written = write_beside(
+            self.alloc(),
+            disk,
+            target,
+            &self.entries,
+            &change,
+            measure,
+            half,
+        );
+        if let Err(fault) = written {
+            self.note_fault(fault);
+            return Err(fault);
+        }
+        self.move_over(measure.used);
+        Ok(())
+    }
+
+    // Where the journal is written anew: the other half, with the next generation.
+    fn target(&self, next: u64) -> Target
+        requires { self.now.standing.generation + 1 < 2 ^ 64 }
+        ensures start { result.start ≡ other_start self.now.standing }
+        ensures version { result.version ≡ self.now.standing.version }
+        ensures generation { result.generation ≡ self.now.standing.generation + 1 }
+        ensures next { result.next ≡ next }
+    {
+        Target {
+            start: self.shape.half_start(other_half(self.half)),
+            version: self.version,
+            generation: self.generation + 1,
+            next,
+        }
+    }
+
+    // A fault of the disk stops it.
+    fn note_fault(&mut self, fault: JournalFault)
+        requires { IsWriteAnswer (Err fault) }
+        ensures { self.new ≡ noted fault self.old }
+    {
+        if fault == JournalFault::Disk {
+            self.stopped = true;
+        }
+    }
+
+    // The other half is taken now, with so many bytes in use.
+    fn move_over(&mut self, used: u64)
+        requires generation { self.old.standing.generation + 1 < 2 ^ 64 }
+        requires header { 32 ≤ used }
+        requires gate { used + 1 ≤ half_length self.old.standing.shape }
+        ensures { self.new ≡ moved self.old used }
+    {
+        self.half = other_half(self.half);
+        self.generation += 1;
+        self.used = used;
+    }
+}
