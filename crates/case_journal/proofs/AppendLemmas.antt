@@ -5,7 +5,8 @@ use Rattle.disk_model.specs.declared.disk.Disk as disk
 use Rattle.journal_layout.specs.Layout.{half_length}
 use Rattle.journal_layout.specs.Case.{Case, numbered}
 use Rattle.journal_layout.specs.Record.{Record, record_size}
-use Rattle.journal_layout.specs.Standing.{Standing, appended, store_of}
+use Rattle.journal_layout.specs.Standing.{Standing, store_of}
+use Rattle.journal_layout.specs.Rewriting.{appended}
 use Rattle.journal_layout.specs.Stands.{Stands}
 use Rattle.case_journal.specs.Journaled.{Journaled, goes_on}
 use Rattle.case_journal.specs.Keeping.{Keeps, LeavesEither}

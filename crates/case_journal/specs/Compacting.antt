@@ -1,5 +1,5 @@
 -- What writing a journal anew into its other half does to it, and when it is refused.
-use Rattle.std.specs.Prelude.{◌≡◌, ◌⊎◌, ℕ, ◌+◌, ◌^◌, ◌<◌, ◌≤◌, true, false, Result, Ok, Err, List}
+use Rattle.std.specs.Prelude.{◌≡◌, ◌⊎◌, ℕ, ◌+◌, ◌*◌, ◌^◌, ◌<◌, ◌≤◌, true, false, Result, Ok, Err, List, IsTrue, Some}
 use Rattle.journal_layout.specs.declared.entry.Entry.{Entry}
 use Rattle.journal_layout.specs.declared.shape.Shape.{Shape}
 use Rattle.journal_layout.specs.Layout.{half_length}
@@ -9,7 +9,10 @@ use Rattle.journal_layout.specs.Rewriting.{other_half, snapshot_size, rewritten}
 use Rattle.journal_snapshot.specs.declared.change.Change.{Change}
 use Rattle.journal_snapshot.specs.declared.measure.Measure.{Measure}
 use Rattle.journal_snapshot.specs.Measuring.{IsMeasure, snapshot_bytes}
-use Rattle.std.specs.Prelude.{Some}
+use Rattle.disk_model.specs.declared.disk.Disk as disk
+use Rattle.disk_model.specs.Moments.{LeavesOnly}
+use Rattle.journal_layout.specs.Stands.{Stands}
+use Rattle.journal_snapshot.specs.Filling.{Fills}
 use Rattle.case_journal.specs.Journaled.{Journaled, running, halted}
 use Rattle.case_journal.specs.declared.faults.JournalFault.{JournalFault}
 use Rattle.case_journal.specs.declared.faults.JournalFault.TheVariants.{Stopped, JournalFull, NumbersSpent, OutOfMemory, Disk}
@@ -24,6 +27,18 @@ LacksSnapshotRoom s f = (half_length s.shape < snapshot_size f + 1) ⊎ (s.gener
 -- the same cases and next number, written anew
 abbrev pub compacted : Standing → Standing
 compacted s = rewritten s (folded_of s)
+
+-- the other half is taken, with so many bytes in use
+abbrev pub moved : Journaled → ℕ → Journaled
+moved j used = record j { standing = record j.standing { half = other_half j.standing.half; generation = j.standing.generation + 1; used = used } }
+
+-- The journal is written anew with what is said then, but for its cases in memory: only room, memory and the disk refuse it.
+abbrev pub BesideStep : Journaled → Folded → Result (Unit {0}) JournalFault → Journaled → Type 0
+BesideStep old f (Ok u) new = HasSnapshotRoom old.standing f × (new ≡ moved old (snapshot_size f))
+BesideStep old f (Err JournalFull) new = LacksSnapshotRoom old.standing f × (new ≡ old)
+BesideStep old f (Err OutOfMemory) new = HasSnapshotRoom old.standing f × (new ≡ old)
+BesideStep old f (Err Disk) new = HasSnapshotRoom old.standing f × (new ≡ halted old)
+BesideStep old f (Err _) new = ⊥
 
 -- A compaction: refused in the order of the faults, each under its condition.
 abbrev pub CompactStep : Journaled → Result (Unit {0}) JournalFault → Journaled → Type 0
@@ -56,6 +71,9 @@ abbrev pub noted : JournalFault → Journaled → Journaled
 noted Disk j = halted j
 noted _ j = j
 
--- the other half is taken, with so many bytes in use
-abbrev pub moved : Journaled → ℕ → Journaled
-moved j used = record j { standing = record j.standing { half = other_half j.standing.half; generation = j.standing.generation + 1; used = used } }
+-- What it does to the disk: a crash at any moment leaves what stood before or what is said then, and nothing is changed but
+-- the halves.
+pub record RunsBeside {D : Type 0} (g : disk.Ghosts D) (old new : D) (s : Standing) (f : Folded) : Type 0 where
+  pub moments : IsTrue (g.is_honest old) → LeavesOnly g old new (λ c. Stands c s ⊎ Stands c (rewritten s f))
+  pub fills : Fills g old new 4096 (2 * half_length s.shape)
+  pub later : g.failures old ≤ g.failures new

@@ -8,14 +8,16 @@ ghost use Rattle.journal_layout.specs.Folding.{Folded};
 ghost use Rattle.journal_layout.specs.Standing.{Standing};
 ghost use Rattle.journal_layout.specs.Stands.{Stands};
 ghost use Rattle.journal_layout.specs.Rewriting.{other_half, other_start, rewritten};
-ghost use Rattle.journal_snapshot.specs.Changing.{IsOrdered};
+ghost use Rattle.journal_layout.specs.Live.{AreLive};
+ghost use Rattle.journal_layout.specs.Standing.{folded_of};
+ghost use Rattle.journal_snapshot.specs.Changing.{IsOrdered, changed};
 ghost use Rattle.journal_snapshot.specs.Measuring.{AreShort, IsShort, IsMeasure};
 ghost use Rattle.journal_snapshot.specs.Filling.{Fills};
 ghost use Rattle.journal_snapshot.specs.Holding.{Holds};
 ghost use Rattle.journal_snapshot.specs.Halves.{IsWrittenAs};
 ghost use Rattle.case_journal.specs.Append.{RefusalLeaves};
-ghost use Rattle.case_journal.specs.Compacting.{CompactStep, FindsRoom, IsWriteAnswer, compacted, noted, moved};
-ghost use Rattle.case_journal.specs.Keeping.{Keeps, LeavesOutsideHalves};
+ghost use Rattle.case_journal.specs.Compacting.{BesideStep, RunsBeside, CompactStep, FindsRoom, IsWriteAnswer, compacted, noted, moved};
+ghost use Rattle.case_journal.specs.Keeping.{Keeps, LeavesOutside};
 
 use crate::{Journal, JournalFault};
 use disk_model::Disk;
@@ -110,7 +112,7 @@ impl Journal {
         ensures keeps { Keeps D.Disk disk.new self.new }
         // No byte outside the two halves is changed.
         ensures outside { IsTrue (D.is_honest disk.old)
-            → LeavesOutsideHalves D.Disk disk.old disk.new self.old.standing }
+            → LeavesOutside D.Disk disk.old disk.new self.old.standing }
         ensures others { IsTrue (D.is_honest disk.old)
             → SameOutside 4096 (2 * half_length self.old.standing.shape) (D.seen disk.old) (D.seen disk.new) }
         ensures cause { result ≡ Err JournalFault.Disk → HasRisen (D.failures disk.old) (D.failures disk.new) }
@@ -121,19 +123,34 @@ impl Journal {
         if self.stopped {
             return Err(JournalFault::Stopped);
         }
-        let change = Change::Nothing;
-        let measure = room_beside(&self.entries, self.shape, self.generation, &change)?;
-        let target = self.target(self.next);
+        self.put_beside(disk, &Change::Nothing, self.next)
+    }
+
+    // Writes what a change makes of the journal into the other half, which is taken then. Its cases in memory stay as they
+    // are: they change once this has answered.
+    pub(crate) fn put_beside<D: Disk>(
+        &mut self,
+        disk: &mut D,
+        change: &Change,
+        next: u64,
+    ) -> Result<(), JournalFault>
+        requires keeps { Keeps D.Disk disk.old self.old }
+        requires runs { self.old.stopped ≡ false }
+        requires order { IsOrdered change.now }
+        requires short { IsShort change.now }
+        requires next { next ≡ (changed change.now (folded_of self.old.standing)).next }
+        requires live { AreLive self.old.standing.shape.data_blocks (changed change.now (folded_of self.old.standing)).cases (changed change.now (folded_of self.old.standing)).next }
+        ensures step { BesideStep self.old (changed change.now (folded_of self.old.standing)) result self.new }
+        ensures run { RunsBeside D.Disk disk.old disk.new self.old.standing (changed change.now (folded_of self.old.standing)) }
+        ensures holds { IsTrue (D.is_honest disk.old)
+            → OnOk result (Holds D.Disk disk.new (rewritten self.old.standing (changed change.now (folded_of self.old.standing)))) }
+        ensures untouched { RefusalLeaves result disk.old disk.new }
+        ensures cause { result ≡ Err JournalFault.Disk → HasRisen (D.failures disk.old) (D.failures disk.new) }
+    {
+        let measure = room_beside(&self.entries, self.shape, self.generation, change)?;
+        let target = self.target(next);
         let half = self.shape.half_length();
-        let written = write_beside(
-            self.alloc(),
-            disk,
-            target,
-            &self.entries,
-            &change,
-            measure,
-            half,
-        );
+        let written = write_beside(self.alloc(), disk, target, &self.entries, change, measure, half);
         if let Err(fault) = written {
             self.note_fault(fault);
             return Err(fault);
