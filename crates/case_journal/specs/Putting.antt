@@ -15,9 +15,21 @@ pub record IsPut (s : Standing) (r : Record) (behind : List ℕ) : Type 0 where
   pub long : length behind ≡ record_size r
   pub sound : MayFollow s r
 
--- Whether a record of so many bytes may be begun.
-abbrev pub MayBegin : Journaled → ℕ → Result (Unit {0}) JournalFault → Type 0
-MayBegin j size (Ok u) = (j.stopped ≡ false) × (j.standing.used + size + 1 ≤ half_length j.standing.shape)
-MayBegin j size (Err Stopped) = j.stopped ≡ true
-MayBegin j size (Err JournalFull) = (j.stopped ≡ false) × (half_length j.standing.shape < j.standing.used + size + 1)
-MayBegin j size (Err _) = ⊥
+-- a record is put behind the others: only the disk refuses it
+abbrev pub BehindStep : Journaled → ℕ → Result (Unit {0}) JournalFault → Journaled → Type 0
+BehindStep old size (Ok u) new = new ≡ grown old size
+BehindStep old size (Err Disk) new = new ≡ halted old
+BehindStep old size (Err _) new = ⊥
+
+-- whether a record has room, behind the others or in the other half
+abbrev pub HasRoomFor : Standing → Record → Result (Unit {0}) JournalFault → Type 0
+HasRoomFor s r (Ok u) = HasRoom s r
+HasRoomFor s r (Err JournalFull) = LacksRoom s r
+HasRoomFor s r (Err _) = ⊥
+
+-- What an append does to the disk: a crash at any moment leaves what stood before or what stands after, and nothing is
+-- changed but the halves.
+pub record RunsAppend {D : Type 0} (g : disk.Ghosts D) (old new : D) (s : Standing) (r : Record) : Type 0 where
+  pub moments : IsTrue (g.is_honest old) → LeavesEither g old new s r
+  pub fills : Fills g old new 4096 (2 * half_length s.shape)
+  pub later : g.failures old ≤ g.failures new
