@@ -7,6 +7,7 @@ use Rattle.journal_layout.specs.Standing.{Standing, folded_of, store_of}
 use Rattle.journal_layout.specs.Soundness.{IsSound, IsStorable}
 use Rattle.journal_layout.specs.declared.entry.Entry.{Entry}
 use Rattle.journal_layout.specs.Folding.{after}
+use Rattle.case_journal.specs.Refusing.{LeavesDisk}
 use Rattle.case_journal.specs.Compacting.{HasSnapshotRoom, LacksSnapshotRoom}
 use Rattle.case_journal.specs.Journaled.{Journaled, halted, goes_on}
 use Rattle.case_journal.specs.declared.faults.JournalFault.{JournalFault}
@@ -58,11 +59,6 @@ StoreStep old c (Err e) new = StoreRefused old c e.0 new
 abbrev pub IsStoreDiskFault : Result ℕ (JournalFault × Entry) → Type 0
 IsStoreDiskFault (Ok seq) = ⊥
 IsStoreDiskFault (Err e) = e.0 ≡ Disk
-
--- all refusals but that of the disk leave it as it is
-abbrev pub LeavesDisk : {D : Type 0} → JournalFault → D → D → Type 0
-LeavesDisk Disk old new = Unit {0}
-LeavesDisk _ old new = new ≡ old
 
 abbrev pub RefusalLeaves : {D : Type 0} → Result (Unit {0}) JournalFault → D → D → Type 0
 RefusalLeaves (Ok u) old new = Unit {0}

@@ -13,6 +13,8 @@ use Rattle.disk_model.specs.declared.disk.Disk as disk
 use Rattle.disk_model.specs.Moments.{LeavesOnly}
 use Rattle.journal_layout.specs.Stands.{Stands}
 use Rattle.journal_snapshot.specs.Filling.{Fills}
+use Rattle.case_journal.specs.declared.compacting.Place.{Place}
+use Rattle.case_journal.specs.Refusing.{LeavesDisk}
 use Rattle.case_journal.specs.Journaled.{Journaled, running, halted}
 use Rattle.case_journal.specs.declared.faults.JournalFault.{JournalFault}
 use Rattle.case_journal.specs.declared.faults.JournalFault.TheVariants.{Stopped, JournalFull, NumbersSpent, OutOfMemory, Disk}
@@ -28,17 +30,26 @@ LacksSnapshotRoom s f = (half_length s.shape < snapshot_size f + 1) ⊎ (s.gener
 abbrev pub compacted : Standing → Standing
 compacted s = rewritten s (folded_of s)
 
--- the other half is taken, with so many bytes in use
-abbrev pub moved : Journaled → ℕ → Journaled
-moved j used = record j { standing = record j.standing { half = other_half j.standing.half; generation = j.standing.generation + 1; used = used } }
+-- the next record goes there
+abbrev pub moved : Journaled → Place → Journaled
+moved j p = record j { standing = record j.standing { half = p.half; generation = p.generation; used = p.used } }
 
--- The journal is written anew with what is said then, but for its cases in memory: only room, memory and the disk refuse it.
-abbrev pub BesideStep : Journaled → Folded → Result (Unit {0}) JournalFault → Journaled → Type 0
-BesideStep old f (Ok u) new = HasSnapshotRoom old.standing f × (new ≡ moved old (snapshot_size f))
-BesideStep old f (Err JournalFull) new = LacksSnapshotRoom old.standing f × (new ≡ old)
-BesideStep old f (Err OutOfMemory) new = HasSnapshotRoom old.standing f × (new ≡ old)
-BesideStep old f (Err Disk) new = HasSnapshotRoom old.standing f × (new ≡ halted old)
-BesideStep old f (Err _) new = ⊥
+-- behind a snapshot of what is said, in the other half
+abbrev pub beside : Standing → Folded → Place
+beside s f = record { half = other_half s.half; generation = s.generation + 1; used = snapshot_size f }
+
+-- The journal is written anew with what is said then: only room, memory and the disk refuse it.
+abbrev pub BesideStep : Standing → Folded → Result Place JournalFault → Type 0
+BesideStep s f (Ok p) = HasSnapshotRoom s f × (p ≡ beside s f)
+BesideStep s f (Err JournalFull) = LacksSnapshotRoom s f
+BesideStep s f (Err OutOfMemory) = HasSnapshotRoom s f
+BesideStep s f (Err Disk) = HasSnapshotRoom s f
+BesideStep s f (Err _) = ⊥
+
+-- all refusals but that of the disk leave it as it is
+abbrev pub PutLeaves : {D : Type 0} → Result Place JournalFault → D → D → Type 0
+PutLeaves (Ok p) old new = Unit {0}
+PutLeaves (Err f) old new = LeavesDisk f old new
 
 -- A compaction: refused in the order of the faults, each under its condition.
 abbrev pub CompactStep : Journaled → Result (Unit {0}) JournalFault → Journaled → Type 0

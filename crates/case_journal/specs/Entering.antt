@@ -4,6 +4,8 @@ use Rattle.journal_layout.specs.Case.{Case}
 use Rattle.journal_layout.specs.Folding.{dropped, with_pin}
 use Rattle.journal_layout.specs.Record.{Record}
 use Rattle.journal_layout.specs.Rewriting.{appended}
+use Rattle.journal_layout.specs.Standing.{Standing}
+use Rattle.case_journal.specs.declared.compacting.Place.{Place}
 use Rattle.case_journal.specs.Append.{HasRoom, LacksRoom}
 use Rattle.case_journal.specs.Journaled.{Journaled, halted}
 use Rattle.case_journal.specs.declared.faults.JournalFault.{JournalFault}
@@ -22,24 +24,14 @@ left j seqs = record j { standing = record j.standing { cases = dropped seqs j.s
 abbrev pub repinned : Journaled → ℕ → Bool → Journaled
 repinned j seq flag = record j { standing = record j.standing { cases = with_pin seq flag j.standing.cases } }
 
--- so many bytes more behind the records
-abbrev pub grown : Journaled → ℕ → Journaled
-grown j size = record j { standing = record j.standing { used = j.standing.used + size } }
-
--- the record's bytes are written, and its case, if it has one, is not yet entered
-abbrev pub placed : Journaled → Record → Journaled
-placed j r = record j {
-  standing = record j.standing {
-    half = (appended j.standing r).half;
-    generation = (appended j.standing r).generation;
-    used = (appended j.standing r).used;
-  };
-}
+-- where the next record goes after this one
+abbrev pub place_after : Standing → Record → Place
+place_after s r = record { half = (appended s r).half; generation = (appended s r).generation; used = (appended s r).used }
 
 -- the writing of a record: refused in the order of the faults, each under its condition
-abbrev pub PutStep : Journaled → Record → Result (Unit {0}) JournalFault → Journaled → Type 0
-PutStep old r (Ok u) new = HasRoom old.standing r × (new ≡ placed old r)
-PutStep old r (Err JournalFull) new = LacksRoom old.standing r × (new ≡ old)
-PutStep old r (Err OutOfMemory) new = HasRoom old.standing r × (new ≡ old)
-PutStep old r (Err Disk) new = HasRoom old.standing r × (new ≡ halted old)
-PutStep old r (Err _) new = ⊥
+abbrev pub PutStep : Standing → Record → Result Place JournalFault → Type 0
+PutStep s r (Ok p) = HasRoom s r × (p ≡ place_after s r)
+PutStep s r (Err JournalFull) = LacksRoom s r
+PutStep s r (Err OutOfMemory) = HasRoom s r
+PutStep s r (Err Disk) = HasRoom s r
+PutStep s r (Err _) = ⊥

@@ -16,10 +16,10 @@ pub record IsPut (s : Standing) (r : Record) (behind : List ℕ) : Type 0 where
   pub sound : MayFollow s r
 
 -- a record is put behind the others: only the disk refuses it
-abbrev pub BehindStep : Journaled → ℕ → Result (Unit {0}) JournalFault → Journaled → Type 0
-BehindStep old size (Ok u) new = new ≡ grown old size
-BehindStep old size (Err Disk) new = new ≡ halted old
-BehindStep old size (Err _) new = ⊥
+abbrev pub BehindStep : Standing → ℕ → Result Place JournalFault → Type 0
+BehindStep s size (Ok p) = p ≡ record { half = s.half; generation = s.generation; used = s.used + size }
+BehindStep s size (Err Disk) = Unit {0}
+BehindStep s size (Err _) = ⊥
 
 -- whether a record has room, behind the others or in the other half
 abbrev pub HasRoomFor : Standing → Record → Result (Unit {0}) JournalFault → Type 0

@@ -125,37 +125,39 @@ impl Journal {
         Ok(())
     }
 
-    // Puts a record behind those that stand there, whatever record it is.
-    fn put_behind<D: Disk>(&mut self, disk: &mut D, behind: &[u8]) -> Result<(), JournalFault>
-        requires keeps { Keeps D.Disk disk.old self.old }
-        requires runs { self.old.stopped ≡ false }
-        requires room { self.old.standing.used + length behind.now + 1 ≤ half_length self.old.standing.shape }
-        ensures step { BehindStep self.old (length behind.now) result self.new }
-        ensures run { (r : Record) → IsPut self.old.standing r behind.now → RunsAppend D.Disk disk.old disk.new self.old.standing r }
-        ensures kept { (r : Record) → IsPut self.old.standing r behind.now
-            → OnOk result (Keeps D.Disk disk.new (goes_on self.old r)) }
+    // Puts a record behind those that stand there, whatever record it is. Answers where the next one goes.
+    fn put_behind<D: Disk>(&self, disk: &mut D, behind: &[u8]) -> Result<Place, JournalFault>
+        requires keeps { Keeps D.Disk disk.old self.now }
+        requires runs { self.now.stopped ≡ false }
+        requires room { self.now.standing.used + length behind.now + 1 ≤ half_length self.now.standing.shape }
+        ensures step { BehindStep self.now.standing (length behind.now) result }
+        ensures run { (r : Record) → IsPut self.now.standing r behind.now → RunsAppend D.Disk disk.old disk.new self.now.standing r }
+        ensures kept { (r : Record) → IsPut self.now.standing r behind.now
+            → OnOk result (Keeps D.Disk disk.new (goes_on self.now r)) }
         ensures cause { result ≡ Err JournalFault.Disk → HasRisen (D.failures disk.old) (D.failures disk.new) }
     {
         let gate = self.shape.half_start(self.half) + self.used;
         let Ok(()) = publish(disk, gate, behind) else {
-            self.stopped = true;
             return Err(JournalFault::Disk);
         };
-        self.used += behind.len() as u64;
-        Ok(())
+        Ok(Place {
+            half: self.half,
+            generation: self.generation,
+            used: self.used + behind.len() as u64,
+        })
     }
 
     // Puts the record of a case, or writes the journal anew with it. The case is not entered yet.
-    fn put_store<D: Disk>(&mut self, disk: &mut D, seq: u32, entry: &Entry, size: u64) -> Result<(), JournalFault>
-        requires keeps { Keeps D.Disk disk.old self.old }
-        requires runs { self.old.stopped ≡ false }
-        requires number { seq ≡ self.old.standing.next }
+    fn put_store<D: Disk>(&self, disk: &mut D, seq: u32, entry: &Entry, size: u64) -> Result<Place, JournalFault>
+        requires keeps { Keeps D.Disk disk.old self.now }
+        requires runs { self.now.stopped ≡ false }
+        requires number { seq ≡ self.now.standing.next }
         requires size { size ≡ record_size (Store (numbered seq (case_of entry.now))) }
-        requires sound { MayFollow self.old.standing (Store (numbered seq (case_of entry.now))) }
-        ensures step { PutStep self.old (Store (numbered seq (case_of entry.now))) result self.new }
-        ensures run { RunsAppend D.Disk disk.old disk.new self.old.standing (Store (numbered seq (case_of entry.now))) }
-        ensures kept { OnOk result (Keeps D.Disk disk.new (goes_on self.old (Store (numbered seq (case_of entry.now))))) }
-        ensures untouched { RefusalLeaves result disk.old disk.new }
+        requires sound { MayFollow self.now.standing (Store (numbered seq (case_of entry.now))) }
+        ensures step { PutStep self.now.standing (Store (numbered seq (case_of entry.now))) result self.new }
+        ensures run { RunsAppend D.Disk disk.old disk.new self.now.standing (Store (numbered seq (case_of entry.now))) }
+        ensures kept { OnOk result (Keeps D.Disk disk.new (goes_on self.now (Store (numbered seq (case_of entry.now))))) }
+        ensures untouched { PutLeaves result disk.old disk.new }
         ensures cause { result ≡ Err JournalFault.Disk → HasRisen (D.failures disk.old) (D.failures disk.new) }
     {
         if !self.fits(size) {
@@ -168,14 +170,14 @@ impl Journal {
     }
 
     // Puts the record of cases that end, or writes the journal anew without them. They are not left out yet.
-    fn put_drop<D: Disk>(&mut self, disk: &mut D, seqs: &[u32]) -> Result<(), JournalFault>
-        requires keeps { Keeps D.Disk disk.old self.old }
-        requires runs { self.old.stopped ≡ false }
-        requires sound { MayFollow self.old.standing (Drop seqs.now) }
-        ensures step { PutStep self.old (Drop seqs.now) result self.new }
-        ensures run { RunsAppend D.Disk disk.old disk.new self.old.standing (Drop seqs.now) }
-        ensures kept { OnOk result (Keeps D.Disk disk.new (goes_on self.old (Drop seqs.now))) }
-        ensures untouched { RefusalLeaves result disk.old disk.new }
+    fn put_drop<D: Disk>(&self, disk: &mut D, seqs: &[u32]) -> Result<Place, JournalFault>
+        requires keeps { Keeps D.Disk disk.old self.now }
+        requires runs { self.now.stopped ≡ false }
+        requires sound { MayFollow self.now.standing (Drop seqs.now) }
+        ensures step { PutStep self.now.standing (Drop seqs.now) result self.new }
+        ensures run { RunsAppend D.Disk disk.old disk.new self.now.standing (Drop seqs.now) }
+        ensures kept { OnOk result (Keeps D.Disk disk.new (goes_on self.now (Drop seqs.now))) }
+        ensures untouched { PutLeaves result disk.old disk.new }
         ensures cause { result ≡ Err JournalFault.Disk → HasRisen (D.failures disk.old) (D.failures disk.new) }
     {
         let size = drop_size(seqs);
@@ -190,15 +192,15 @@ impl Journal {
 
     // Puts the record of a pin, or writes the journal anew with it. The flag is not set yet. Behind the records it takes no
     // memory.
-    fn put_pin<D: Disk>(&mut self, disk: &mut D, seq: u32, flag: bool) -> Result<(), JournalFault>
-        requires keeps { Keeps D.Disk disk.old self.old }
-        requires runs { self.old.stopped ≡ false }
-        requires sound { MayFollow self.old.standing (Pin seq flag) }
-        ensures step { PutStep self.old (Pin seq flag) result self.new }
-        ensures never { result ≡ Err JournalFault.OutOfMemory → fits self.old.standing (Pin seq flag) ≡ false }
-        ensures run { RunsAppend D.Disk disk.old disk.new self.old.standing (Pin seq flag) }
-        ensures kept { OnOk result (Keeps D.Disk disk.new (goes_on self.old (Pin seq flag))) }
-        ensures untouched { RefusalLeaves result disk.old disk.new }
+    fn put_pin<D: Disk>(&self, disk: &mut D, seq: u32, flag: bool) -> Result<Place, JournalFault>
+        requires keeps { Keeps D.Disk disk.old self.now }
+        requires runs { self.now.stopped ≡ false }
+        requires sound { MayFollow self.now.standing (Pin seq flag) }
+        ensures step { PutStep self.now.standing (Pin seq flag) result self.new }
+        ensures never { result ≡ Err JournalFault.OutOfMemory → fits self.now.standing (Pin seq flag) ≡ false }
+        ensures run { RunsAppend D.Disk disk.old disk.new self.now.standing (Pin seq flag) }
+        ensures kept { OnOk result (Keeps D.Disk disk.new (goes_on self.now (Pin seq flag))) }
+        ensures untouched { PutLeaves result disk.old disk.new }
         ensures cause { result ≡ Err JournalFault.Disk → HasRisen (D.failures disk.old) (D.failures disk.new) }
     {
         if !self.fits(PIN_SIZE) {
@@ -251,11 +253,18 @@ impl Journal {
         let Ok(()) = self.entries.reserve(1) else {
             return Err((JournalFault::OutOfMemory, entry));
         };
-        if let Err(fault) = self.put_store(disk, seq, &entry, size) {
-            return Err((fault, entry));
+        match self.put_store(disk, seq, &entry, size) {
+            Ok(place) => {
+                (self.half, self.generation, self.used) = (place.half, place.generation, place.used);
+                self.next += 1;
+                self.entries.push(Entry { seq, ..entry }).unwrap();
+                Ok(seq)
+            }
+            Err(fault) => {
+                self.note_fault(fault);
+                Err((fault, entry))
+            }
         }
-        self.enter(Entry { seq, ..entry });
-        Ok(seq)
     }
 
     /// Appends the Drop record of cases, which are then gone. All faults but `Disk` leave the journal and the disk as they
@@ -281,9 +290,17 @@ impl Journal {
         if self.stopped {
             return Err(JournalFault::Stopped);
         }
-        self.put_drop(disk, seqs)?;
-        self.leave_out(seqs);
-        Ok(())
+        match self.put_drop(disk, seqs) {
+            Ok(place) => {
+                self.move_to(place);
+                self.leave_out(seqs);
+                Ok(())
+            }
+            Err(fault) => {
+                self.note_fault(fault);
+                Err(fault)
+            }
+        }
     }
 
     /// Appends the Pin record of a live case, which is then pinned or not. All faults but `Disk` leave the journal and the
@@ -317,24 +334,22 @@ impl Journal {
         if self.stopped {
             return Err(JournalFault::Stopped);
         }
-        self.put_pin(disk, seq, flag)?;
-        self.pin_entry(seq, flag);
-        Ok(())
+        match self.put_pin(disk, seq, flag) {
+            Ok(place) => {
+                self.move_to(place);
+                self.pin_entry(seq, flag);
+                Ok(())
+            }
+            Err(fault) => {
+                self.note_fault(fault);
+                Err(fault)
+            }
+        }
     }
 
     // The allocator of the entries.
     pub(crate) fn alloc(&self) -> Global {
         *self.entries.allocator()
-    }
-
-    // Enters a case under the next number, for which there is room.
-    fn enter(&mut self, entry: Entry)
-        requires room { HasSpare self.old }
-        requires live { AreLive self.old.standing.shape.data_blocks (self.old.standing.cases ++ case_of entry ∷ []) (self.old.standing.next + 1) }
-        ensures { self.new ≡ entered self.old (case_of entry) }
-    {
-        self.next += 1;
-        self.entries.push(entry).unwrap();
     }
 
     // Leaves out the entries of these numbers, which rise.
