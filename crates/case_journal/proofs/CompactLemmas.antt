@@ -13,7 +13,7 @@ use Rattle.journal_layout.specs.Case.{Case, case_of}
 use Rattle.journal_layout.specs.Folding.{Folded}
 use Rattle.journal_layout.specs.Live.{AreLive}
 use Rattle.journal_layout.specs.Standing.{Standing, folded_of}
-use Rattle.journal_layout.specs.Rewriting.{other_start, snapshot_size}
+use Rattle.journal_layout.specs.Rewriting.{other_half, other_start, snapshot_size}
 use Rattle.journal_snapshot.specs.declared.change.Change.{Change}
 use Rattle.journal_snapshot.specs.declared.change.Change.TheVariants as change
 use Rattle.journal_snapshot.specs.declared.measure.Measure.{Measure}
@@ -24,8 +24,9 @@ use Rattle.journal_snapshot.specs.Filling.{Fills}
 use Rattle.journal_snapshot.specs.FillLaws.{fills_wider}
 use Rattle.journal_snapshot.specs.Measuring.{AreShort, IsMeasure, snapshot_bytes}
 use Rattle.journal_snapshot.specs.Halves.{IsWrittenAs}
+use Rattle.case_journal.specs.declared.compacting.Place.{Place}
 use Rattle.case_journal.specs.Journaled.{Journaled, running}
-use Rattle.case_journal.specs.Compacting.{HasSnapshotRoom, BesideStep, CompactStep, FindsRoom, IsWriteAnswer, compacted, noted, moved}
+use Rattle.case_journal.specs.Compacting.{HasSnapshotRoom, BesideStep, FindsRoom, IsWriteAnswer}
 use Rattle.case_journal.specs.declared.faults.JournalFault.{JournalFault}
 use Rattle.case_journal.specs.declared.faults.JournalFault.TheVariants.{Stopped, JournalFull, NumbersSpent, OutOfMemory, Disk}
 
@@ -64,37 +65,37 @@ written_as s ch es target m same place version generation next measure left know
     }
 
 -- What a change makes of a journal over these entries is written into its other half.
-module _ (j : Journaled) (ch : Change) (es : List Entry) (same : j.standing.cases ≡ map case_of es) where
+module _ (s : Standing) (ch : Change) (es : List Entry) (same : s.cases ≡ map case_of es) where
   abbrev f : Folded
-  f = changed ch (folded_of j.standing)
+  f = changed ch (folded_of s)
 
-  size_is : (m : Measure) → FindsRoom j.standing.shape j.standing.generation ch es (Ok m) → m.used ≡ snapshot_size f
-  size_is m found = found.0.0 ∙ snapshot_bytes_are ch es (folded_of j.standing) same
+  size_is : (m : Measure) → FindsRoom s.shape s.generation ch es (Ok m) → m.used ≡ snapshot_size f
+  size_is m found = found.0.0 ∙ snapshot_bytes_are ch es (folded_of s) same
 
-  has_room : (m : Measure) → FindsRoom j.standing.shape j.standing.generation ch es (Ok m) → HasSnapshotRoom j.standing f
+  has_room : (m : Measure) → FindsRoom s.shape s.generation ch es (Ok m) → HasSnapshotRoom s f
   has_room m found = (omega (arith, size_is m found, found.0.1), found.1)
 
   -- no room is found
-  pub room_refused : (e : JournalFault) → FindsRoom j.standing.shape j.standing.generation ch es (Err e) → BesideStep j f (Err e) j
+  pub room_refused : (e : JournalFault) → FindsRoom s.shape s.generation ch es (Err e) → BesideStep s f (Err e)
   room_refused JournalFull found =
-      let size : snapshot_bytes ch es ≡ snapshot_size f = snapshot_bytes_are ch es (folded_of j.standing) same in
-      (⊎_elim (λ low. inl (omega (arith, low, size))) (λ last. inr last) found, refl)
+      let size : snapshot_bytes ch es ≡ snapshot_size f = snapshot_bytes_are ch es (folded_of s) same in
+      ⊎_elim (λ low. inl (omega (arith, low, size))) (λ last. inr last) found
   room_refused Stopped found = absurd found
   room_refused NumbersSpent found = absurd found
   room_refused OutOfMemory found = absurd found
   room_refused Disk found = absurd found
 
   -- the write is refused
-  pub write_refused : (e : JournalFault) (m : Measure) → FindsRoom j.standing.shape j.standing.generation ch es (Ok m) → IsWriteAnswer (Err e) → BesideStep j f (Err e) (noted e j)
-  write_refused OutOfMemory m found answer = (has_room m found, refl)
-  write_refused Disk m found answer = (has_room m found, refl)
+  pub write_refused : (e : JournalFault) (m : Measure) → FindsRoom s.shape s.generation ch es (Ok m) → IsWriteAnswer (Err e) → BesideStep s f (Err e)
+  write_refused OutOfMemory m found answer = has_room m found
+  write_refused Disk m found answer = has_room m found
   write_refused Stopped m found answer = absurd answer
   write_refused JournalFull m found answer = absurd answer
   write_refused NumbersSpent m found answer = absurd answer
 
   -- it is written
-  pub write_done : (u : Unit {0}) (m : Measure) → FindsRoom j.standing.shape j.standing.generation ch es (Ok m) → BesideStep j f (Ok u) (moved j m.used)
-  write_done u m found = (has_room m found, ap (moved j) (size_is m found))
+  pub write_done : (p : Place) (m : Measure) → p ≡ record { half = other_half s.half; generation = s.generation + 1; used = m.used } → FindsRoom s.shape s.generation ch es (Ok m) → BesideStep s f (Ok p)
+  write_done p m is found = (has_room m found, is ∙ ap (λ (n : ℕ). record { half = other_half s.half; generation = s.generation + 1; used = n }) (size_is m found))
 
 -- a half lies in the halves
 pub in_halves : (shape : Shape) (half : Half) → (4096 ≤ half_start shape half) × (half_start shape half + half_length shape ≤ 4096 + 2 * half_length shape)
@@ -117,24 +118,3 @@ anew raw now ch es target m is same place version generation next found known li
     let known' : is_known now.standing.version ≡ true = subst (λ (x : Journaled). is_known x.standing.version ≡ true) is known in
     written_as now.standing ch es target m (subst (λ (x : Journaled). x.standing.cases ≡ map case_of es) is same) place version generation next found'.0 found'.1 known' live
 
--- A compaction is the writing of the journal as it is.
-pub compact_step : (j new : Journaled) (r : Result (Unit {0}) JournalFault) → j.stopped ≡ false → BesideStep j (folded_of j.standing) r new → CompactStep j r new
-compact_step j new (Ok u) runs step = (runs, step.0, step.1 ∙ ap (λ (t : Bool). record { standing = compacted j.standing; stopped = t }) runs)
-compact_step j new (Err JournalFull) runs step = (runs, step.0, step.1)
-compact_step j new (Err OutOfMemory) runs step = (runs, step.0, step.1)
-compact_step j new (Err Disk) runs step = (runs, step.0, step.1)
-compact_step j new (Err Stopped) runs step = absurd step
-compact_step j new (Err NumbersSpent) runs step = absurd step
-
--- and what it leaves keeps the disk
-pub compact_keeps : {D : Type 0} (g : disk.Ghosts D) (d d' : D) (j new : Journaled) (r : Result (Unit {0}) JournalFault) → j.stopped ≡ false → Keeps g d j → g.size d' ≡ g.size d → g.is_honest d' ≡ g.is_honest d
-    → BesideStep j (folded_of j.standing) r new → RefusalLeaves r d d' → (IsTrue (g.is_honest d) → OnOk r (Holds g d' (compacted j.standing))) → Keeps g d' new
-compact_keeps g d d' j new (Ok u) runs keeps size honesty step refusal holds =
-    subst (Keeps g d') (sym (step.1 ∙ ap (λ (t : Bool). record { standing = compacted j.standing; stopped = t }) runs))
-    (record { size = size ∙ keeps.size; holds = λ on honest. holds (sym honesty ∙ honest) })
-compact_keeps g d d' j new (Err JournalFull) runs keeps size honesty step refusal holds = subst (λ (x : D). Keeps g x new) (sym refusal) (subst (Keeps g d) (sym step.1) keeps)
-compact_keeps g d d' j new (Err OutOfMemory) runs keeps size honesty step refusal holds = subst (λ (x : D). Keeps g x new) (sym refusal) (subst (Keeps g d) (sym step.1) keeps)
-compact_keeps g d d' j new (Err Disk) runs keeps size honesty step refusal holds =
-    subst (Keeps g d') (sym step.1) (record { size = size ∙ keeps.size; holds = λ on honest. absurd (true≢false on) })
-compact_keeps g d d' j new (Err Stopped) runs keeps size honesty step refusal holds = absurd step
-compact_keeps g d d' j new (Err NumbersSpent) runs keeps size honesty step refusal holds = absurd step

@@ -1,13 +1,15 @@
 -- A record as bytes that are to be put behind those of a journal.
-use Rattle.std.specs.Prelude.{◌≡◌, ℕ, List, [], ◌∷◌, ◌++◌, length, Result, Ok, Err, true, false}
+use Rattle.std.specs.Prelude.{◌≡◌, ℕ, ◌+◌, ◌*◌, ◌≤◌, List, [], ◌∷◌, ◌++◌, length, IsTrue, Result, Ok, Err}
+use Rattle.disk_model.specs.declared.disk.Disk as disk
+use Rattle.journal_layout.specs.Layout.{half_length}
 use Rattle.journal_layout.specs.Record.{Record, behind_gate, record_size}
 use Rattle.journal_layout.specs.Standing.{Standing}
-use Rattle.case_journal.specs.Journaled.{Journaled}
-use Rattle.case_journal.specs.Append.{MayFollow}
-use Rattle.journal_layout.specs.Layout.{half_length}
-use Rattle.std.specs.Prelude.{◌+◌, ◌<◌, ◌≤◌}
+use Rattle.journal_snapshot.specs.Filling.{Fills}
+use Rattle.case_journal.specs.declared.compacting.Place.{Place}
 use Rattle.case_journal.specs.declared.faults.JournalFault.{JournalFault}
-use Rattle.case_journal.specs.declared.faults.JournalFault.TheVariants.{Stopped, JournalFull}
+use Rattle.case_journal.specs.declared.faults.JournalFault.TheVariants.{JournalFull, Disk}
+use Rattle.case_journal.specs.Append.{HasRoom, LacksRoom, MayFollow}
+use Rattle.case_journal.specs.Keeping.{LeavesEither}
 
 -- These bytes are what stands behind the record's gate, and a closed gate; the record may follow those of the journal.
 pub record IsPut (s : Standing) (r : Record) (behind : List ℕ) : Type 0 where

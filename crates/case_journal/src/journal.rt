@@ -1,28 +1,32 @@
 // An open journal, and its appends.
-ghost use Rattle.std.specs.Prelude.{◌≡◌, ◌≢◌, ◌+◌, ◌<◌, ◌≤◌, ◌^◌, false, Bool, ◌++◌, ◌∷◌, [], length, map, IsTrue, OnOk, IfOk, IfErr, IfSome, None, Err, Ok, ℕ, vec_len, vec_capacity, option_map};
+ghost use Rattle.std.specs.Prelude.{◌≡◌, ◌≢◌, ◌+◌, ◌*◌, ◌<◌, ◌≤◌, ◌^◌, nat_lt, false, Bool, ◌++◌, ◌∷◌, [], length, map, IsTrue, OnOk, IfOk, IfErr, IfSome, None, Err, Ok, ℕ, vec_len, vec_capacity, option_map};
 ghost use Rattle.std.specs.List.{HoldsAt};
 ghost use Rattle.journal_layout.specs.Live.{seq_of_case};
 ghost use Rattle.journal_layout.specs.declared.entry.Entry.{Entry};
 ghost use Rattle.disk_model.specs.Places.{SameOutside};
-ghost use Rattle.disk_model.specs.Disk.{HasRisen, HasCause};
+ghost use Rattle.disk_model.specs.Disk.{HasRisen};
 ghost use Rattle.journal_layout.specs.Case.{case_of, numbered};
 ghost use Rattle.journal_layout.specs.Record.{Record, Store, Drop, Pin, record_size, behind_gate};
 ghost use Rattle.journal_layout.specs.Layout.{IsWithinLimits, disk_length, half_start, half_length};
 ghost use Rattle.journal_layout.specs.Folding.{with_pin, dropped, is_among};
 ghost use Rattle.journal_layout.specs.Soundness.{case_numbered, Rise};
 ghost use Rattle.journal_layout.specs.Standing.{store_of};
+ghost use Rattle.journal_layout.specs.Rewriting.{fits};
 ghost use Rattle.case_journal.specs.Journaled.{Journaled, halted, goes_on};
 ghost use Rattle.case_journal.specs.Keeping.{Keeps, LeavesEither, LeavesOutside};
 ghost use Rattle.case_journal.specs.Append.{MayStore, MayFollow, StoreStep, AppendStep, IsStoreDiskFault, RefusalLeaves, StoreRefusalLeaves};
-ghost use Rattle.case_journal.specs.Entering.{entered, left, repinned, EntersCase};
-ghost use Rattle.case_journal.specs.Putting.{IsPut, MayBegin};
+ghost use Rattle.case_journal.specs.Entering.{left, repinned, PutStep};
+ghost use Rattle.case_journal.specs.Putting.{IsPut, BehindStep, HasRoomFor, RunsAppend};
+ghost use Rattle.case_journal.specs.Compacting.{PutLeaves};
 
 use crate::JournalFault;
+use crate::compacting::{Place, room_beside};
 use crate::publish::publish;
-use disk_model::{Disk, DiskFault};
+use disk_model::Disk;
 use journal_layout::{Entry, Half, Shape};
 use journal_records::{PIN_SIZE, drop_record, drop_size, pin_record, store_record, store_size};
-use std::alloc::{AllocError, Global};
+use journal_snapshot::Change;
+use std::alloc::Global;
 use std::marker::Model;
 
 /// The journal of an open archive: its cases, the number of the next one, and where the next record goes. Contracts see
@@ -154,7 +158,7 @@ impl Journal {
         requires number { seq ≡ self.now.standing.next }
         requires size { size ≡ record_size (Store (numbered seq (case_of entry.now))) }
         requires sound { MayFollow self.now.standing (Store (numbered seq (case_of entry.now))) }
-        ensures step { PutStep self.now.standing (Store (numbered seq (case_of entry.now))) result self.new }
+        ensures step { PutStep self.now.standing (Store (numbered seq (case_of entry.now))) result }
         ensures run { RunsAppend D.Disk disk.old disk.new self.now.standing (Store (numbered seq (case_of entry.now))) }
         ensures kept { OnOk result (Keeps D.Disk disk.new (goes_on self.now (Store (numbered seq (case_of entry.now))))) }
         ensures untouched { PutLeaves result disk.old disk.new }
@@ -174,7 +178,7 @@ impl Journal {
         requires keeps { Keeps D.Disk disk.old self.now }
         requires runs { self.now.stopped ≡ false }
         requires sound { MayFollow self.now.standing (Drop seqs.now) }
-        ensures step { PutStep self.now.standing (Drop seqs.now) result self.new }
+        ensures step { PutStep self.now.standing (Drop seqs.now) result }
         ensures run { RunsAppend D.Disk disk.old disk.new self.now.standing (Drop seqs.now) }
         ensures kept { OnOk result (Keeps D.Disk disk.new (goes_on self.now (Drop seqs.now))) }
         ensures untouched { PutLeaves result disk.old disk.new }
@@ -196,7 +200,7 @@ impl Journal {
         requires keeps { Keeps D.Disk disk.old self.now }
         requires runs { self.now.stopped ≡ false }
         requires sound { MayFollow self.now.standing (Pin seq flag) }
-        ensures step { PutStep self.now.standing (Pin seq flag) result self.new }
+        ensures step { PutStep self.now.standing (Pin seq flag) result }
         ensures never { result ≡ Err JournalFault.OutOfMemory → fits self.now.standing (Pin seq flag) ≡ false }
         ensures run { RunsAppend D.Disk disk.old disk.new self.now.standing (Pin seq flag) }
         ensures kept { OnOk result (Keeps D.Disk disk.new (goes_on self.now (Pin seq flag))) }
@@ -412,23 +416,4 @@ fn find_entry(entries: &[Entry], seq: u32) -> Option<&Entry>
         Some(place) => Some(&entries[place]),
         None => None,
     }
-}
-
-// Makes room for one more entry, and spells its record behind the gate.
-fn prepare_store(
-    entries: &mut Vec<Entry>,
-    seq: u32,
-    entry: &Entry,
-    size: u64,
-) -> Result<Vec<u8>, AllocError>
-    requires size { size ≡ record_size (Store (numbered seq (case_of entry.now))) }
-    requires small { size ≤ 16777216 }
-    ensures entries { entries.new.items ≡ entries.old.items }
-    ensures room { OnOk result (vec_len entries.new < vec_capacity entries.new) }
-    ensures record { IfOk result (λ v. v.items
-        ≡ behind_gate (Store (numbered seq (case_of entry.now))) ++ 0 ∷ []) }
-    ensures size { IfOk result (λ v. vec_len v ≡ size) }
-{
-    entries.reserve(1)?;
-    store_record(*entries.allocator(), seq, entry, size)
 }

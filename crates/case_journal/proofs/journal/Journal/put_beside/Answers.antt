@@ -12,8 +12,9 @@ use Rattle.journal_snapshot.specs.Filling.{Fills}
 use Rattle.journal_snapshot.specs.FillLaws.{fills_nothing}
 use Rattle.journal_snapshot.specs.Measuring.{AreShort}
 use Rattle.journal_snapshot.specs.Halves.{IsWrittenAs}
+use Rattle.journal_layout.specs.declared.shape.Half.{Half}
 use Rattle.case_journal.specs.Journaled.{Journaled}
-use Rattle.case_journal.specs.Compacting.{BesideStep, FindsRoom, noted, moved}
+use Rattle.case_journal.specs.Compacting.{BesideStep, FindsRoom}
 use Rattle.case_journal.proofs.CompactLemmas.{live_short, room_refused, write_refused, write_done, anew, half_fills}
 use Rattle.case_journal.proofs.journal.Journal.put_beside.Goals as goal
 
@@ -26,8 +27,8 @@ pub returns-in_err-measure-clause-step : goal.returns-in_err-measure-clause-step
 returns-in_err-measure-clause-step g c =
     let p = err_from_is_err_and c.from_residual.result c.from_residual.ensures.1 in
     rw (p.1, p.2)
-    (subst (λ (j : Journaled). BesideStep j (changed c.args.change.now (folded_of j.standing)) (Err c.in_err-measure.field-0.0) j) c.self.view_is
-    (room_refused _ c.args.change.now c.deref.result.now (ap (map case_of) (sym c.deref.ensures.value)) c.in_err-measure.field-0.0 c.in_err-measure.ensures))
+    (subst (λ (j : Journaled). BesideStep j.standing (changed c.args.change.now (folded_of j.standing)) (Err c.in_err-measure.field-0.0)) c.self.view_is
+    (room_refused (record { shape = c.self.inside.shape; half = c.self.inside.half; version = c.self.inside.version; generation = c.self.inside.generation; cases = map case_of c.self.inside.entries.items; next = c.self.inside.next; used = c.self.inside.used }) c.args.change.now c.deref.result.now (ap (map case_of) (sym c.deref.ensures.value)) c.in_err-measure.field-0.0 c.in_err-measure.ensures))
 
 pub returns-in_err-measure-clause-run : goal.returns-in_err-measure-clause-run
 returns-in_err-measure-clause-run g c = record {
@@ -37,15 +38,16 @@ returns-in_err-measure-clause-run g c = record {
   later = omega arith;
 }
 
-pub returns-in-Err-clause-step : goal.returns-in-Err-clause-step
-returns-in-Err-clause-step g c =
-    rw c.note_fault.ensures
-    (subst (λ (j : Journaled). BesideStep j (changed c.args.change.now (folded_of j.standing)) (Err c.in-Err.fault) (noted c.in-Err.fault j)) c.self.view_is
-    (write_refused _ c.args.change.now c.deref.result.now (ap (map case_of) (sym c.deref.ensures.value)) c.in-Err.fault c.in_ok-measure.measure c.in_ok-measure.ensures
-    (rw c.in-Err.is at c.write_beside-written.ensures.only)))
+pub returns-in_err-write_beside-clause-step : goal.returns-in_err-write_beside-clause-step
+returns-in_err-write_beside-clause-step g c =
+    let p = err_from_is_err_and c.from_residual-in_err-write_beside.result c.from_residual-in_err-write_beside.ensures.1 in
+    rw (p.1, p.2)
+    (subst (λ (j : Journaled). BesideStep j.standing (changed c.args.change.now (folded_of j.standing)) (Err c.in_err-write_beside.field-0.0)) c.self.view_is
+    (write_refused (record { shape = c.self.inside.shape; half = c.self.inside.half; version = c.self.inside.version; generation = c.self.inside.generation; cases = map case_of c.self.inside.entries.items; next = c.self.inside.next; used = c.self.inside.used }) c.args.change.now c.deref.result.now (ap (map case_of) (sym c.deref.ensures.value)) c.in_err-write_beside.field-0.0 c.in_ok-measure.measure c.in_ok-measure.ensures
+    c.in_err-write_beside.ensures.only))
 
-pub returns-in-Err-clause-run : goal.returns-in-Err-clause-run
-returns-in-Err-clause-run g c =
+pub returns-in_err-write_beside-clause-run : goal.returns-in_err-write_beside-clause-run
+returns-in_err-write_beside-clause-run g c =
     let value = c.deref.ensures.value ∙ sym c.deref-2.ensures.value in
     let found = subst (λ (l : List Entry). FindsRoom c.self.inside.shape c.self.inside.generation c.args.change.now l (Ok c.in_ok-measure.measure)) value c.in_ok-measure.ensures in
     let t = c.target-target in
@@ -53,18 +55,18 @@ returns-in-Err-clause-run g c =
     anew _ c.args.self.now c.args.change.now c.deref-2.result.now t.result c.in_ok-measure.measure c.self.view_is (ap (map case_of) (sym c.deref-2.ensures.value)) t.ensures.start t.ensures.version t.ensures.generation
     (t.ensures.next ∙ c.requires.next) found c.self.invariant.known c.requires.live in
     record {
-      moments = λ honest. c.write_beside-written.ensures.any_moment c.args.self.now.standing (changed c.args.change.now (folded_of c.args.self.now.standing)) is honest (c.requires.keeps.holds c.requires.runs honest);
-      fills = half_fills g.D.Disk c.args.disk.now c.write_beside-written.new.disk c.args.self.now.standing.shape (other_half c.args.self.now.standing.half) t.result.start t.ensures.start
-          (subst (λ (n : ℕ). Fills g.D.Disk c.args.disk.now c.write_beside-written.new.disk t.result.start n) (c.half_length-half.ensures ∙ ap (λ (j : Journaled). half_length j.standing.shape) c.self.view_is)
-          c.write_beside-written.ensures.fills);
-      later = c.write_beside-written.ensures.later;
+      moments = λ honest. c.write_beside.ensures.any_moment c.args.self.now.standing (changed c.args.change.now (folded_of c.args.self.now.standing)) is honest (c.requires.keeps.holds c.requires.runs honest);
+      fills = half_fills g.D.Disk c.args.disk.now c.write_beside.new.disk c.args.self.now.standing.shape (other_half c.args.self.now.standing.half) t.result.start t.ensures.start
+          (subst (λ (n : ℕ). Fills g.D.Disk c.args.disk.now c.write_beside.new.disk t.result.start n) (c.half_length-half.ensures ∙ ap (λ (j : Journaled). half_length j.standing.shape) c.self.view_is)
+          c.write_beside.ensures.fills);
+      later = c.write_beside.ensures.later;
     }
 
 pub returns-clause-step : goal.returns-clause-step
 returns-clause-step g c =
-    rw c.move_over.ensures
-    (subst (λ (j : Journaled). BesideStep j (changed c.args.change.now (folded_of j.standing)) (Ok c.in_default.field-0) (moved j c.in_ok-measure.measure.used)) c.self.view_is
-    (write_done _ c.args.change.now c.deref.result.now (ap (map case_of) (sym c.deref.ensures.value)) c.in_default.field-0 c.in_ok-measure.measure c.in_ok-measure.ensures))
+    subst (λ (j : Journaled). BesideStep j.standing (changed c.args.change.now (folded_of j.standing)) (Ok (record { half = c.other_half.result; generation = c.self.inside.generation + 1; used = c.in_ok-measure.measure.used }))) c.self.view_is
+    (write_done (record { shape = c.self.inside.shape; half = c.self.inside.half; version = c.self.inside.version; generation = c.self.inside.generation; cases = map case_of c.self.inside.entries.items; next = c.self.inside.next; used = c.self.inside.used }) c.args.change.now c.deref.result.now (ap (map case_of) (sym c.deref.ensures.value)) _ c.in_ok-measure.measure
+    (ap (λ (h : Half). record { half = h; generation = c.self.inside.generation + 1; used = c.in_ok-measure.measure.used }) c.other_half.ensures) c.in_ok-measure.ensures)
 
 pub returns-clause-run : goal.returns-clause-run
 returns-clause-run g c =
@@ -75,11 +77,11 @@ returns-clause-run g c =
     anew _ c.args.self.now c.args.change.now c.deref-2.result.now t.result c.in_ok-measure.measure c.self.view_is (ap (map case_of) (sym c.deref-2.ensures.value)) t.ensures.start t.ensures.version t.ensures.generation
     (t.ensures.next ∙ c.requires.next) found c.self.invariant.known c.requires.live in
     record {
-      moments = λ honest. c.write_beside-written.ensures.any_moment c.args.self.now.standing (changed c.args.change.now (folded_of c.args.self.now.standing)) is honest (c.requires.keeps.holds c.requires.runs honest);
-      fills = half_fills g.D.Disk c.args.disk.now c.write_beside-written.new.disk c.args.self.now.standing.shape (other_half c.args.self.now.standing.half) t.result.start t.ensures.start
-          (subst (λ (n : ℕ). Fills g.D.Disk c.args.disk.now c.write_beside-written.new.disk t.result.start n) (c.half_length-half.ensures ∙ ap (λ (j : Journaled). half_length j.standing.shape) c.self.view_is)
-          c.write_beside-written.ensures.fills);
-      later = c.write_beside-written.ensures.later;
+      moments = λ honest. c.write_beside.ensures.any_moment c.args.self.now.standing (changed c.args.change.now (folded_of c.args.self.now.standing)) is honest (c.requires.keeps.holds c.requires.runs honest);
+      fills = half_fills g.D.Disk c.args.disk.now c.write_beside.new.disk c.args.self.now.standing.shape (other_half c.args.self.now.standing.half) t.result.start t.ensures.start
+          (subst (λ (n : ℕ). Fills g.D.Disk c.args.disk.now c.write_beside.new.disk t.result.start n) (c.half_length-half.ensures ∙ ap (λ (j : Journaled). half_length j.standing.shape) c.self.view_is)
+          c.write_beside.ensures.fills);
+      later = c.write_beside.ensures.later;
     }
 
 pub returns-clause-holds : goal.returns-clause-holds
@@ -90,4 +92,4 @@ returns-clause-holds g c honest =
     let is : IsWrittenAs c.args.self.now.standing (changed c.args.change.now (folded_of c.args.self.now.standing)) t.result c.args.change.now c.deref-2.result.now =
     anew _ c.args.self.now c.args.change.now c.deref-2.result.now t.result c.in_ok-measure.measure c.self.view_is (ap (map case_of) (sym c.deref-2.ensures.value)) t.ensures.start t.ensures.version t.ensures.generation
     (t.ensures.next ∙ c.requires.next) found c.self.invariant.known c.requires.live in
-    rw c.in_default.is at (c.write_beside-written.ensures.taken c.args.self.now.standing (changed c.args.change.now (folded_of c.args.self.now.standing)) is honest (c.requires.keeps.holds c.requires.runs honest))
+    rw c.in_ok-write_beside.was at (c.write_beside.ensures.taken c.args.self.now.standing (changed c.args.change.now (folded_of c.args.self.now.standing)) is honest (c.requires.keeps.holds c.requires.runs honest))
