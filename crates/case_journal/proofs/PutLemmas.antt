@@ -2,6 +2,7 @@
 use Rattle.std.proofs.Common.{◌≡◌, ◌⊎◌, inl, inr, ◌+◌, ◌*◌, ◌<◌, ◌≤◌, ◌∙◌, ℕ, Bool, true, false, nat_lt, List, IsTrue, Result, Ok, Err, OnOk, length, refl, sym, ap, subst, arith}
 use Rattle.std.proofs.lemmas.Bool.{ltb-true, ltb-false, false≢true}
 use Rattle.disk_model.specs.Moments.{LeavesOnly, IsSettled}
+use Rattle.disk_model.specs.MomentLaws.{started}
 use Rattle.disk_model.specs.declared.disk.Disk as disk
 use Rattle.journal_layout.specs.Layout.{half_start, half_length, disk_length}
 use Rattle.journal_layout.specs.Record.{Record, record_size}
@@ -11,7 +12,7 @@ use Rattle.journal_layout.specs.Stands.{Stands}
 use Rattle.journal_layout.specs.Rewriting.{other_half, snapshot_size, rewritten, fits, appended}
 use Rattle.journal_layout.specs.AppendLaws.{appended_behind, appended_beside, fits_true}
 use Rattle.journal_snapshot.specs.Filling.{Fills}
-use Rattle.journal_snapshot.specs.FillLaws.{fills_wider}
+use Rattle.journal_snapshot.specs.FillLaws.{fills_nothing, fills_wider}
 use Rattle.journal_snapshot.specs.Holding.{Holds, SameHeaders}
 use Rattle.case_journal.specs.declared.compacting.Place.{Place}
 use Rattle.case_journal.specs.declared.faults.JournalFault.{JournalFault}
@@ -139,3 +140,11 @@ pub behind_fills : {D : Type 0} (g : disk.Ghosts D) (old new : D) (s : Standing)
 behind_fills g old new s gate n place room fills =
     let both = in_halves s.shape s.half in
     fills_wider g gate (1 + n) 4096 (2 * half_length s.shape) old new (omega (arith, both.0, place)) (omega (arith, both.1, place, room)) fills
+
+-- nothing was done
+pub nothing_runs : {D : Type 0} (g : disk.Ghosts D) (d : D) (j : Journaled) (r : Record) → ((c : List ℕ) → g.left_since d (g.clock d) c → g.may_leave d c) → Keeps g d j → j.stopped ≡ false → RunsAppend g d d j.standing r
+nothing_runs g d j r only keeps runs = record {
+  moments = λ honest. started g d (λ (b : List ℕ). Stands b j.standing ⊎ Stands b (appended j.standing r)) (λ c was. inl ((keeps.holds runs honest).stands c (only c was)));
+  fills = fills_nothing g 4096 (2 * half_length j.standing.shape) d only;
+  later = omega arith;
+}
