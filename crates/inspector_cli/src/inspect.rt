@@ -26,7 +26,7 @@ use script_streams::{Output, Reply, tell_no};
 use std::alloc::Global;
 
 // Answers a line that asks the image of a case. The image is kept for the lines that ask the same case next, and with it the
-// executables that are read beside it.
+// executables that are read beside it. Where memory was refused nothing is kept, so that the line made again has its room.
 pub(crate) fn answer_query<O: Output, D: Disk>(
     seq: u32,
     query: &Query,
@@ -51,7 +51,7 @@ pub(crate) fn answer_query<O: Output, D: Disk>(
     match see_image(seq, images.kept.take(), archive) {
         Ok(seen) => {
             let mut seen = seen;
-            answer_seen(
+            let has_room = answer_seen(
                 images.alloc,
                 kind,
                 query,
@@ -61,7 +61,9 @@ pub(crate) fn answer_query<O: Output, D: Disk>(
                 output,
                 archive,
             );
-            images.kept = Some(seen);
+            if has_room {
+                images.kept = Some(seen);
+            }
         }
         Err(fault) => tell_no(reply, output, reason(fault)),
     }
@@ -127,7 +129,8 @@ fn want_of(kind: Kind) -> Want
     }
 }
 
-// Answers a line from the image of its case, and from the executables that it reads beside it.
+// Answers a line from the image of its case, and from the executables that it reads beside it. Says whether there was memory
+// for it.
 fn answer_seen<O: Output, D: Disk>(
     alloc: Global,
     kind: Kind,
@@ -137,14 +140,17 @@ fn answer_seen<O: Output, D: Disk>(
     reply: &mut Reply,
     output: &mut O,
     archive: &mut Archive<D>,
-)
+) -> bool
     requires runs { archive.old.stopped ≡ false }
     requires beside { StayGathered D.Disk archive.old image.now executables.old }
     ensures answers { TellsReply (telling O.Output output.old output.new reply.old reply.new) (λ text. Shows D.Disk archive.old kind (query_of query.now) image.now text archive.new) }
     ensures beside { StayGathered D.Disk archive.new image.now executables.new }
 {
     match query {
-        Query::Image(query) => tell_image(alloc, kind, query, image, reply, output),
+        Query::Image(query) => {
+            tell_image(alloc, kind, query, image, reply, output);
+            true
+        }
         Query::Memory(query) => answer_memory(
             alloc,
             kind,

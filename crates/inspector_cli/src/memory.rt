@@ -3,7 +3,7 @@ ghost use Rattle.std.specs.Prelude.{◌≡◌, false, map, Some, IfOk};
 ghost use Rattle.image_replies.specs.CoreWords.{core_bytes};
 ghost use Rattle.script_lines.specs.Queries.{memory_query};
 ghost use Rattle.script_streams.specs.Replies.{TellsReply, telling};
-ghost use Rattle.memory_replies.specs.Answers.{Answers};
+ghost use Rattle.memory_replies.specs.Answers.{AnswersWith};
 ghost use Rattle.memory_replies.specs.Memory.{attached_view};
 ghost use Rattle.intake.specs.Parts.{bare_of};
 ghost use Rattle.inspector_cli.specs.Gathering.{GathersAll, wanted_of};
@@ -23,7 +23,7 @@ use script_streams::{Output, Reply, tell_no};
 use std::alloc::Global;
 
 // Answers a line over a core's memory, with the executables that its process had mapped, where they are stored. They are kept
-// for the lines over the same core that come next.
+// for the lines over the same core that come next. Says whether there was memory for it.
 pub(crate) fn answer_memory<O: Output, D: Disk>(
     alloc: Global,
     kind: Kind,
@@ -33,7 +33,7 @@ pub(crate) fn answer_memory<O: Output, D: Disk>(
     reply: &mut Reply,
     output: &mut O,
     archive: &mut Archive<D>,
-)
+) -> bool
     requires runs { archive.old.stopped ≡ false }
     requires kept { StayGathered D.Disk archive.old image.now kept.old }
     ensures answers { TellsReply (telling O.Output output.old output.new reply.old reply.new) (λ text. Shows D.Disk archive.old kind (memory_query query.now) image.now text archive.new) }
@@ -41,7 +41,10 @@ pub(crate) fn answer_memory<O: Output, D: Disk>(
 {
     match CoreImage::read(image) {
         Ok(core) => answer_core(alloc, kind, query, &core, kept, reply, output, archive),
-        Err(fault) => tell_core_fault(reply, output, fault),
+        Err(fault) => {
+            tell_core_fault(reply, output, fault);
+            true
+        }
     }
 }
 
@@ -55,7 +58,7 @@ fn answer_core<O: Output, D: Disk>(
     reply: &mut Reply,
     output: &mut O,
     archive: &mut Archive<D>,
-)
+) -> bool
     requires runs { archive.old.stopped ≡ false }
     requires kept { StayGathered D.Disk archive.old (core_bytes core.now) kept.old }
     ensures answers { TellsReply (telling O.Output output.old output.new reply.old reply.new) (λ text. ShowsCore D.Disk archive.old kind (memory_query query.now) (core_bytes core.now) text archive.new) }
@@ -63,10 +66,14 @@ fn answer_core<O: Output, D: Disk>(
 {
     match gathered(alloc, core, kept.take(), archive) {
         Ok(executables) => {
-            tell_beside(alloc, kind, query, core, &executables, reply, output);
+            let has_room = tell_beside(alloc, kind, query, core, &executables, reply, output);
             *kept = Some(executables);
+            has_room
         }
-        Err(fault) => tell_no(reply, output, reason(fault)),
+        Err(fault) => {
+            tell_no(reply, output, reason(fault));
+            false
+        }
     }
 }
 
@@ -88,7 +95,7 @@ fn gathered<D: Disk>(
     }
 }
 
-// Tells what a core and these executables answer.
+// Tells what a core and these executables answer. Says whether there was memory for it.
 fn tell_beside<O: Output>(
     alloc: Global,
     kind: Kind,
@@ -97,12 +104,15 @@ fn tell_beside<O: Output>(
     executables: &[Executable],
     reply: &mut Reply,
     output: &mut O,
-)
-    ensures { TellsReply (telling O.Output output.old output.new reply.old reply.new) (Answers (answer_of kind (memory_query query.now) (core_bytes core.now) (map executable_view executables.now))) }
+) -> bool
+    ensures { TellsReply (telling O.Output output.old output.new reply.old reply.new) (AnswersWith result (answer_of kind (memory_query query.now) (core_bytes core.now) (map executable_view executables.now))) }
 {
     match lent(alloc, executables) {
         Ok(attached) => tell_memory(alloc, kind, query, core, &attached, reply, output),
-        Err(_) => tell_no(reply, output, b"OutOfMemory"),
+        Err(_) => {
+            tell_no(reply, output, b"OutOfMemory");
+            false
+        }
     }
 }
 
@@ -114,8 +124,8 @@ fn tell_memory<O: Output>(
     attached: &[Attached<'_>],
     reply: &mut Reply,
     output: &mut O,
-)
-    ensures { TellsReply (telling O.Output output.old output.new reply.old reply.new) (Answers (answer_of kind (memory_query query.now) (core_bytes core.now) (map attached_view attached.now))) }
+) -> bool
+    ensures { TellsReply (telling O.Output output.old output.new reply.old reply.new) (AnswersWith result (answer_of kind (memory_query query.now) (core_bytes core.now) (map attached_view attached.now))) }
 {
     match query {
         MemoryQuery::Dump { first, length } => {
