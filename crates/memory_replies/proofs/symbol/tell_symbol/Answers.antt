@@ -8,8 +8,11 @@ returns-in-Err g c = (_, inl (refl, elf_told _ _ _ c.in-Err.ensures.fault), c.te
 pub returns-in-Ok-read : goal.returns-in-Ok-read
 returns-in-Ok-read g c = (
   _,
-  inl (refl, found_told _ _ _ (fault_is _ _ _ c.in-Ok.ensures.fault c.in-Ok.ensures.image c.in-Ok-read.ensures.fault)
-      (named_is _ _ _ _ _ _ c.in-Ok.ensures.image c.in-Ok-read.ensures.strings c.in-Ok-read.ensures.functions c.lookup.ensures)),
+  inl (
+    refl,
+    found_told _ _ _ (fault_is _ _ _ c.in-Ok.ensures.fault c.in-Ok.ensures.image c.in-Ok-read.ensures.fault)
+        (named_is _ _ _ _ _ _ c.in-Ok.ensures.image c.in-Ok-read.ensures.strings c.in-Ok-read.ensures.functions c.lookup.ensures),
+  ),
   c.tell_found.ensures,
 )
 
