@@ -1,0 +1,99 @@
+// Archives in memory with images in them, and what lines answer of these.
+use case_journal::format;
+use disk_model::{Disk, MemDisk};
+use inspector_cli::{Naming, ReadInput, SessionFault, WriteOutput, run_session};
+use intake::{Archive, Settings};
+use journal_layout::Shape;
+use name_template::Template;
+use script_streams::{Input, Output};
+use std::alloc::Global;
+use std::process::Abort;
+use std::test::Fail;
+
+// A fresh archive of one block in each journal half and four data blocks.
+pub(crate) fn fresh(alloc: Global) -> Result<Archive<MemDisk>, Fail> {
+    let shape = Shape {
+        half_blocks: 1,
+        data_blocks: 4,
+    };
+    let mut disk = MemDisk::new(alloc, shape.length()?)?;
+    format(&mut disk, shape)?;
+    match Archive::open(alloc, disk, Settings { limit: 1 << 30 }) {
+        Ok(archive) => Ok(archive),
+        Err((fault, _)) => Err(fault)?,
+    }
+}
+
+// How a session ends: nothing else is said of it here, so that no proof has to carry it.
+fn session<I: Input, O: Output, D: Disk>(
+    alloc: Global,
+    input: &mut I,
+    output: &mut O,
+    archive: &mut Archive<D>,
+    naming: &Naming,
+) -> Result<(), SessionFault> {
+    run_session(alloc, input, output, archive, naming)
+}
+
+// What a session over this script writes, which ends well.
+fn told<D: Disk>(alloc: Global, archive: &mut Archive<D>, script: &[u8]) -> Result<String, Fail> {
+    let naming = Naming {
+        template: Template::parse(b"core.%e.%p")?,
+        uses_pid: false,
+    };
+    let mut text = Vec::new(alloc);
+    let mut input = ReadInput::new(script);
+    let mut output = WriteOutput::new(&mut text);
+    session(alloc, &mut input, &mut output, archive, &naming)?;
+    Ok(String::from_utf8(text)?)
+}
+
+// A session over this script writes this text.
+pub(crate) fn tells<D: Disk>(
+    rt: &(impl AllocGlobal + Abort),
+    archive: &mut Archive<D>,
+    script: &str,
+    wanted: &str,
+) -> Result<(), Fail> {
+    let text = told(rt.alloc(), archive, script.as_bytes())?;
+    assert_eq!(rt; text.as_str(), wanted);
+    Ok(())
+}
+
+// Stores an image behind this line, and says what the session wrote.
+pub(crate) fn stores<D: Disk>(
+    alloc: Global,
+    archive: &mut Archive<D>,
+    begin: &str,
+    image: &[u8],
+) -> Result<String, Fail> {
+    let mut script = begin.as_bytes().to_vec(alloc)?;
+    let part = format!(in alloc; "\npart 0 {}\n", image.len())?;
+    script.extend_from_slice(part.as_bytes())?;
+    script.extend_from_slice(image)?;
+    script.extend_from_slice(b"end 0\n")?;
+    told(alloc, archive, script.as_slice())
+}
+
+// An archive whose first case is this core.
+pub(crate) fn with_core(alloc: Global, image: &[u8]) -> Result<Archive<MemDisk>, Fail> {
+    let mut archive = fresh(alloc)?;
+    let _ = stores(
+        alloc,
+        &mut archive,
+        "begin core 0 comm=demo pid=4242",
+        image,
+    )?;
+    Ok(archive)
+}
+
+// Over an archive whose first case is this core, these lines are answered so.
+pub(crate) fn core_tells(
+    rt: &(impl AllocGlobal + Abort),
+    image: &[u8],
+    lines: &str,
+    wanted: &str,
+) -> Result<(), Fail> {
+    let mut archive = with_core(rt.alloc(), image)?;
+    tells(rt, &mut archive, lines, wanted)
+}

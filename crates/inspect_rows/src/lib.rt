@@ -1,0 +1,13 @@
+//! What lines answer of images that a session stored: tests alone, of what crosses the crates.
+#![tactic(auto)]
+
+#[cfg(test)]
+mod archives;
+#[cfg(test)]
+mod executables;
+#[cfg(test)]
+mod images;
+#[cfg(test)]
+mod kinds;
+#[cfg(test)]
+mod memory;
