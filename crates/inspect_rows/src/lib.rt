@@ -4,6 +4,8 @@
 #[cfg(test)]
 mod archives;
 #[cfg(test)]
+mod executables;
+#[cfg(test)]
 mod images;
 #[cfg(test)]
 mod kinds;

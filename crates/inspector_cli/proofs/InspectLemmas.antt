@@ -5,7 +5,7 @@ use Rattle.address_space.specs.Source.{ExecutableView}
 use Rattle.disk_model.specs.declared.disk.Disk as disk
 use Rattle.image_replies.specs.Core.{core_fault_of}
 use Rattle.image_replies.specs.declared.core_image.CoreFault.{CoreFault}
-use Rattle.intake.specs.Calls.{Stays, ImageCall}
+use Rattle.intake.specs.Calls.{Stays}
 use Rattle.intake.specs.Contents.{Contents, UnmovedBytes, image_at}
 use Rattle.intake.specs.Parts.{Parts, bare_of, contents_of}
 use Rattle.intake.specs.State.{Bare, BareCase}
@@ -72,7 +72,7 @@ pub record Leaves {D : Type 0} (g : disk.Ghosts D) (old new : Parts D) : Type 0 
   pub taken : IsTrue (g.is_honest old.disk) → ((contents_of g.seen new).taken ≡ (contents_of g.seen old).taken) ⊎ (new.stopped ≡ true)
 
 module _ {D : Type 0} (g : disk.Ghosts D) where
-  leaves_as : (old new : Parts D) → new ≡ old → Leaves g old new
+  pub leaves_as : (old new : Parts D) → new ≡ old → Leaves g old new
   leaves_as old new is = record {
     stays = stays_as g old new is;
     halts = λ stopped. ap (λ (a : Parts D). a.stopped) is ∙ stopped;
@@ -81,7 +81,7 @@ module _ {D : Type 0} (g : disk.Ghosts D) where
     taken = λ honest. inl (ap (λ (a : Parts D). (contents_of g.seen a).taken) is);
   }
 
-  leaves_then : (a b c : Parts D) → Leaves g a b → Leaves g b c → Leaves g a c
+  pub leaves_then : (a b c : Parts D) → Leaves g a b → Leaves g b c → Leaves g a c
   leaves_then a b c first second = record {
     stays = stays_then g a b c first.stays second.stays;
     halts = λ stopped. second.halts (first.halts stopped);
@@ -94,7 +94,7 @@ module _ {D : Type 0} (g : disk.Ghosts D) where
         (second.taken (first.stays.honesty ∙ honest));
   }
 
-  looks_leaves : (old new : Parts D) (seq : ℕ) (r : Result (List ℕ) ArchiveFault) → LooksAt g old seq r new → Leaves g old new
+  pub looks_leaves : (old new : Parts D) (seq : ℕ) (r : Result (List ℕ) ArchiveFault) → LooksAt g old seq r new → Leaves g old new
   looks_leaves old new seq (Ok image) looks = record {
     stays = looks.stays;
     halts = λ stopped. ap (λ (b : Bare). b.stopped) looks.state ∙ stopped;
@@ -112,14 +112,14 @@ module _ {D : Type 0} (g : disk.Ghosts D) where
         (unmoved_taken (contents_of g.seen old) (contents_of g.seen new) f (looks.bytes honest));
   }
 
-  gathers_leaves : (old new : Parts D) (xs : List Wanted) (r : Result (List ExecutableView) ArchiveFault) → Gathers g old xs r new → Leaves g old new
+  pub gathers_leaves : (old new : Parts D) (xs : List Wanted) (r : Result (List ExecutableView) ArchiveFault) → Gathers g old xs r new → Leaves g old new
   gathers_leaves old new [] r gathers = leaves_as old new gathers.1
   gathers_leaves old new (x ∷ xs) r (Ok image, mid, looks, more) =
       leaves_then old mid new (looks_leaves old mid x.0 (Ok image) looks)
       (⊎_elim (λ short. leaves_as mid new short.1) (λ rest. gathers_leaves mid new xs rest.0 rest.1) more)
   gathers_leaves old new (x ∷ xs) r (Err f, mid, looks, more) = leaves_then old mid new (looks_leaves old mid x.0 (Err f) looks) (leaves_as mid new more.1)
 
-  all_leaves : (old new : Parts D) (xs : List Wanted) (r : Result (List ExecutableView) ArchiveFault) → GathersAll g old xs r new → Leaves g old new
+  pub all_leaves : (old new : Parts D) (xs : List Wanted) (r : Result (List ExecutableView) ArchiveFault) → GathersAll g old xs r new → Leaves g old new
   all_leaves old new xs r all = ⊎_elim (λ short. leaves_as old new short.1) (λ gathers. gathers_leaves old new xs r gathers) all
 
   beside_leaves : (old new : Parts D) (kind : Kind) (q : QuerySaid) (b : List ℕ) (fault : Option CoreFault) (reply : List ℕ) → ShowsBeside g old kind q b fault reply new → Leaves g old new
@@ -139,7 +139,7 @@ module _ {D : Type 0} (g : disk.Ghosts D) where
   asks_leaves old new seq q (Err reason) reply asks = leaves_as old new asks.1
 
   -- an image that is kept is still that of its case
-  own_still : (old new : Parts D) (seq : ℕ) (image : List ℕ) → Leaves g old new → AreOfCase g old seq image → AreOfCase g new seq image
+  pub own_still : (old new : Parts D) (seq : ℕ) (image : List ℕ) → Leaves g old new → AreOfCase g old seq image → AreOfCase g new seq image
   own_still old new seq image leaves own = record {
     bytes = λ honest.
         let was = sym leaves.stays.honesty ∙ honest in

@@ -6,6 +6,7 @@ pub mod RoomLemmas
 pub mod GiveLemmas
 pub mod GatherLemmas
 pub mod InspectLemmas
+pub mod AgainLemmas
 pub mod ShowLemmas
 pub mod LineLemmas
 pub mod RunLemmas

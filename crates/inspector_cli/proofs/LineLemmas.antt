@@ -21,7 +21,7 @@ use Rattle.script_lines.specs.declared.command.Request.TheVariants.{Silence, Bad
 use Rattle.inspector_cli.specs.Reply.{Replies}
 use Rattle.inspector_cli.specs.Session.{cut_part, LastReplies, Truncates}
 use Rattle.script_streams.specs.Replies.{Telling}
-use Rattle.inspector_cli.specs.Answering.{Halts, Reading, AnswersTo, PartAnswers, CommandEnds}
+use Rattle.inspector_cli.specs.Answering.{Halts, Reading, AnswersTo, PartAnswers, LastAnswers, CommandEnds}
 use Rattle.inspector_cli.proofs.TellLemmas.{tells_then}
 use Rattle.inspector_cli.proofs.GiveLemmas.{gives_nothing, gives_then, gives_as}
 
@@ -58,6 +58,11 @@ module _ {D : Type 0} (g : disk.Ghosts D) where
   plain_answers naming a b t old new r what is answers =
       subst (λ (w : Said). PartAnswers g naming (record { before = a; after = a; buffer = b; buffer' = b }) t old w new (Ok true)) is
       ([], sym (no_raw r), gives_nothing a b, answers)
+
+  pub plain_last : (naming : Naming) (t : Telling) (old new : Parts D) (r : Request) (what : Said) → asked_by r ≡ what → AnswersTo g naming t old (asked_by r) [] new → LastAnswers g naming t old what new
+  plain_last naming t old new r what is answers =
+      subst (λ (w : Said). LastAnswers g naming t old w new) is
+      (answers.0, last_whole g naming (raw_length (asked_by r)) old new (asked_by r) answers.0 (no_raw r) answers.1, answers.2)
 
   pub query_answers : (naming : Naming) (a : Option (List ℕ)) (b : ScriptBuffer) (t : Telling) (old new : Parts D) (seq : ℕ) (q : QuerySaid) (what : Said) → inspect_of seq q ≡ what → AnswersTo g naming t old (inspect_of seq q) [] new
       → PartAnswers g naming (record { before = a; after = a; buffer = b; buffer' = b }) t old what new (Ok true)

@@ -2,6 +2,7 @@ pub mod Reasons
 pub mod Seeing
 pub mod Gathering
 pub mod GatheringWords
+pub mod Keeping
 pub mod Inspecting
 pub mod Commands
 pub mod Reply

@@ -5,8 +5,10 @@ ghost use Rattle.script_streams.specs.Replies.{TellsReply, TellsText, telling, r
 ghost use Rattle.script_lines.specs.Queries.{query_of, image_query, ask_notes, ask_maps};
 ghost use Rattle.journal_layout.specs.declared.entry.Kind.{Kind};
 ghost use Rattle.inspector_cli.specs.Inspecting.{Inspects, Shows, answer_of, asked_view, kind_asked, kind_for, want_of};
+ghost use Rattle.inspector_cli.specs.Keeping.{AreKept, StayGathered};
 ghost use Rattle.inspector_cli.specs.Seeing.{IsKept};
 
+use crate::gather::Executable;
 use crate::kept_image::{Images, see_image};
 use crate::memory::answer_memory;
 use crate::telling::reason;
@@ -23,7 +25,8 @@ use script_lines::{ImageQuery, Query};
 use script_streams::{Output, Reply, tell_no};
 use std::alloc::Global;
 
-// Answers a line that asks the image of a case. The image is kept for the lines that ask the same case next.
+// Answers a line that asks the image of a case. The image is kept for the lines that ask the same case next, and with it the
+// executables that are read beside it. Where memory was refused nothing is kept, so that the line made again has its room.
 pub(crate) fn answer_query<O: Output, D: Disk>(
     seq: u32,
     query: &Query,
@@ -32,9 +35,11 @@ pub(crate) fn answer_query<O: Output, D: Disk>(
     output: &mut O,
     archive: &mut Archive<D>,
 )
-    requires { IsKept D.Disk archive.old images.old.kept }
+    requires kept { IsKept D.Disk archive.old images.old.kept }
+    requires beside { AreKept D.Disk archive.old images.old.kept }
     ensures answers { TellsReply (telling O.Output output.old output.new reply.old reply.new) (λ text. Inspects D.Disk archive.old seq (query_of query.now) text archive.new) }
     ensures kept { IsKept D.Disk archive.new images.new.kept }
+    ensures beside { AreKept D.Disk archive.new images.new.kept }
 {
     let kind = match kind_asked(seq, query, archive) {
         Ok(kind) => kind,
@@ -45,16 +50,20 @@ pub(crate) fn answer_query<O: Output, D: Disk>(
     };
     match see_image(seq, images.kept.take(), archive) {
         Ok(seen) => {
-            answer_seen(
+            let mut seen = seen;
+            let has_room = answer_seen(
                 images.alloc,
                 kind,
                 query,
                 &seen.image,
+                &mut seen.executables,
                 reply,
                 output,
                 archive,
             );
-            images.kept = Some(seen);
+            if has_room {
+                images.kept = Some(seen);
+            }
         }
         Err(fault) => tell_no(reply, output, reason(fault)),
     }
@@ -120,22 +129,38 @@ fn want_of(kind: Kind) -> Want
     }
 }
 
-// Answers a line from the image of its case, and from the executables that it reads beside it.
+// Answers a line from the image of its case, and from the executables that it reads beside it. Says whether there was memory
+// for it.
 fn answer_seen<O: Output, D: Disk>(
     alloc: Global,
     kind: Kind,
     query: &Query,
     image: &[u8],
+    executables: &mut Option<Vec<Executable>>,
     reply: &mut Reply,
     output: &mut O,
     archive: &mut Archive<D>,
-)
-    requires { archive.old.stopped ≡ false }
-    ensures { TellsReply (telling O.Output output.old output.new reply.old reply.new) (λ text. Shows D.Disk archive.old kind (query_of query.now) image.now text archive.new) }
+) -> bool
+    requires runs { archive.old.stopped ≡ false }
+    requires beside { StayGathered D.Disk archive.old image.now executables.old }
+    ensures answers { TellsReply (telling O.Output output.old output.new reply.old reply.new) (λ text. Shows D.Disk archive.old kind (query_of query.now) image.now text archive.new) }
+    ensures beside { StayGathered D.Disk archive.new image.now executables.new }
 {
     match query {
-        Query::Image(query) => tell_image(alloc, kind, query, image, reply, output),
-        Query::Memory(query) => answer_memory(alloc, kind, query, image, reply, output, archive),
+        Query::Image(query) => {
+            tell_image(alloc, kind, query, image, reply, output);
+            true
+        }
+        Query::Memory(query) => answer_memory(
+            alloc,
+            kind,
+            query,
+            image,
+            executables,
+            reply,
+            output,
+            archive,
+        ),
         Query::Symbol { address } => tell_symbol(alloc, reply, output, image, *address),
     }
 }

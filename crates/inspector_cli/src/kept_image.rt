@@ -1,7 +1,9 @@
 // The image that the session read last.
 ghost use Rattle.std.specs.Prelude.{◌≡◌, Some, IfOk, IfSome};
+ghost use Rattle.inspector_cli.specs.Keeping.{AreKept};
 ghost use Rattle.inspector_cli.specs.Seeing.{IsKept, LooksAt, image_held};
 
+use crate::gather::Executable;
 use disk_model::Disk;
 use intake::{Archive, ArchiveFault};
 use std::alloc::Global;
@@ -13,28 +15,37 @@ pub(crate) struct Images {
     pub(crate) kept: Option<KeptImage>,
 }
 
-// The image of a case, kept for the lines over the same case that come next.
+// The image of a case, kept for the lines over the same case that come next, and the executables that were gathered for it, if
+// a line has.
 #[derive(Drop)]
 pub(crate) struct KeptImage {
     pub(crate) seq: u32,
     pub(crate) image: Vec<u8>,
+    pub(crate) executables: Option<Vec<Executable>>,
 }
 
-// The image of a case: the one that is kept, where it is of that case; or else that one goes, and the case's is read.
+// The image of a case: the one that is kept, where it is of that case; or else that one goes with its executables, and the
+// case's is read.
 pub(crate) fn see_image<D: Disk>(
     seq: u32,
     kept: Option<KeptImage>,
     archive: &mut Archive<D>,
 ) -> Result<KeptImage, ArchiveFault>
-    requires { IsKept D.Disk archive.old kept }
+    requires kept { IsKept D.Disk archive.old kept }
+    requires beside { AreKept D.Disk archive.old kept }
     ensures seen { LooksAt D.Disk archive.old seq (image_held result) archive.new }
     ensures kept { IfOk result (λ k. IsKept D.Disk archive.new (Some k)) }
+    ensures beside { IfOk result (λ k. AreKept D.Disk archive.new (Some k)) }
 {
     if let Some(image) = of_case(seq, kept) {
         return Ok(image);
     }
     let image = archive.image(seq)?;
-    Ok(KeptImage { seq, image })
+    Ok(KeptImage {
+        seq,
+        image,
+        executables: None,
+    })
 }
 
 // The image that is kept, where it is of that case.

@@ -1,40 +1,50 @@
 // The answers to lines over a core's memory.
-ghost use Rattle.std.specs.Prelude.{◌≡◌, false, map};
+ghost use Rattle.std.specs.Prelude.{◌≡◌, false, map, Some, IfOk};
 ghost use Rattle.image_replies.specs.CoreWords.{core_bytes};
 ghost use Rattle.script_lines.specs.Queries.{memory_query};
 ghost use Rattle.script_streams.specs.Replies.{TellsReply, telling};
-ghost use Rattle.memory_replies.specs.Answers.{Answers};
+ghost use Rattle.memory_replies.specs.Answers.{AnswersWith};
 ghost use Rattle.memory_replies.specs.Memory.{attached_view};
-ghost use Rattle.inspector_cli.specs.GatheringWords.{executable_view};
+ghost use Rattle.intake.specs.Parts.{bare_of};
+ghost use Rattle.inspector_cli.specs.Gathering.{GathersAll, wanted_of};
+ghost use Rattle.inspector_cli.specs.GatheringWords.{executable_view, gathered_view};
 ghost use Rattle.inspector_cli.specs.Inspecting.{Shows, ShowsCore, answer_of};
+ghost use Rattle.inspector_cli.specs.Keeping.{StayGathered};
 
 use crate::gather::{Executable, gather, lent};
 use crate::telling::reason;
 use disk_model::Disk;
 use image_replies::{CoreImage, tell_core_fault};
-use intake::Archive;
+use intake::{Archive, ArchiveFault};
 use journal_layout::Kind;
 use memory_replies::{Attached, tell_bt, tell_dump, tell_find, tell_strings};
 use script_lines::MemoryQuery;
 use script_streams::{Output, Reply, tell_no};
 use std::alloc::Global;
 
-// Answers a line over a core's memory, with the executables that its process had mapped, where they are stored.
+// Answers a line over a core's memory, with the executables that its process had mapped, where they are stored. They are kept
+// for the lines over the same core that come next. Says whether there was memory for it.
 pub(crate) fn answer_memory<O: Output, D: Disk>(
     alloc: Global,
     kind: Kind,
     query: &MemoryQuery,
     image: &[u8],
+    kept: &mut Option<Vec<Executable>>,
     reply: &mut Reply,
     output: &mut O,
     archive: &mut Archive<D>,
-)
-    requires { archive.old.stopped ≡ false }
-    ensures { TellsReply (telling O.Output output.old output.new reply.old reply.new) (λ text. Shows D.Disk archive.old kind (memory_query query.now) image.now text archive.new) }
+) -> bool
+    requires runs { archive.old.stopped ≡ false }
+    requires kept { StayGathered D.Disk archive.old image.now kept.old }
+    ensures answers { TellsReply (telling O.Output output.old output.new reply.old reply.new) (λ text. Shows D.Disk archive.old kind (memory_query query.now) image.now text archive.new) }
+    ensures kept { StayGathered D.Disk archive.new image.now kept.new }
 {
     match CoreImage::read(image) {
-        Ok(core) => answer_core(alloc, kind, query, &core, reply, output, archive),
-        Err(fault) => tell_core_fault(reply, output, fault),
+        Ok(core) => answer_core(alloc, kind, query, &core, kept, reply, output, archive),
+        Err(fault) => {
+            tell_core_fault(reply, output, fault);
+            true
+        }
     }
 }
 
@@ -44,20 +54,48 @@ fn answer_core<O: Output, D: Disk>(
     kind: Kind,
     query: &MemoryQuery,
     core: &CoreImage<'_>,
+    kept: &mut Option<Vec<Executable>>,
     reply: &mut Reply,
     output: &mut O,
     archive: &mut Archive<D>,
-)
-    requires { archive.old.stopped ≡ false }
-    ensures { TellsReply (telling O.Output output.old output.new reply.old reply.new) (λ text. ShowsCore D.Disk archive.old kind (memory_query query.now) (core_bytes core.now) text archive.new) }
+) -> bool
+    requires runs { archive.old.stopped ≡ false }
+    requires kept { StayGathered D.Disk archive.old (core_bytes core.now) kept.old }
+    ensures answers { TellsReply (telling O.Output output.old output.new reply.old reply.new) (λ text. ShowsCore D.Disk archive.old kind (memory_query query.now) (core_bytes core.now) text archive.new) }
+    ensures kept { StayGathered D.Disk archive.new (core_bytes core.now) kept.new }
 {
-    match gather(alloc, core, archive) {
-        Ok(executables) => tell_beside(alloc, kind, query, core, &executables, reply, output),
-        Err(fault) => tell_no(reply, output, reason(fault)),
+    match gathered(alloc, core, kept.take(), archive) {
+        Ok(executables) => {
+            let has_room = tell_beside(alloc, kind, query, core, &executables, reply, output);
+            *kept = Some(executables);
+            has_room
+        }
+        Err(fault) => {
+            tell_no(reply, output, reason(fault));
+            false
+        }
     }
 }
 
-// Tells what a core and these executables answer.
+// The executables of a core: those that are kept, or else they are read now.
+fn gathered<D: Disk>(
+    alloc: Global,
+    core: &CoreImage<'_>,
+    kept: Option<Vec<Executable>>,
+    archive: &mut Archive<D>,
+) -> Result<Vec<Executable>, ArchiveFault>
+    requires runs { archive.old.stopped ≡ false }
+    requires kept { StayGathered D.Disk archive.old (core_bytes core.now) kept }
+    ensures gathered { GathersAll D.Disk archive.old (wanted_of (core_bytes core.now) (bare_of archive.old).cases) (gathered_view result) archive.new }
+    ensures kept { IfOk result (λ v. StayGathered D.Disk archive.new (core_bytes core.now) (Some v)) }
+{
+    match kept {
+        Some(executables) => Ok(executables),
+        None => gather(alloc, core, archive),
+    }
+}
+
+// Tells what a core and these executables answer. Says whether there was memory for it.
 fn tell_beside<O: Output>(
     alloc: Global,
     kind: Kind,
@@ -66,12 +104,15 @@ fn tell_beside<O: Output>(
     executables: &[Executable],
     reply: &mut Reply,
     output: &mut O,
-)
-    ensures { TellsReply (telling O.Output output.old output.new reply.old reply.new) (Answers (answer_of kind (memory_query query.now) (core_bytes core.now) (map executable_view executables.now))) }
+) -> bool
+    ensures { TellsReply (telling O.Output output.old output.new reply.old reply.new) (AnswersWith result (answer_of kind (memory_query query.now) (core_bytes core.now) (map executable_view executables.now))) }
 {
     match lent(alloc, executables) {
         Ok(attached) => tell_memory(alloc, kind, query, core, &attached, reply, output),
-        Err(_) => tell_no(reply, output, b"OutOfMemory"),
+        Err(_) => {
+            tell_no(reply, output, b"OutOfMemory");
+            false
+        }
     }
 }
 
@@ -83,8 +124,8 @@ fn tell_memory<O: Output>(
     attached: &[Attached<'_>],
     reply: &mut Reply,
     output: &mut O,
-)
-    ensures { TellsReply (telling O.Output output.old output.new reply.old reply.new) (Answers (answer_of kind (memory_query query.now) (core_bytes core.now) (map attached_view attached.now))) }
+) -> bool
+    ensures { TellsReply (telling O.Output output.old output.new reply.old reply.new) (AnswersWith result (answer_of kind (memory_query query.now) (core_bytes core.now) (map attached_view attached.now))) }
 {
     match query {
         MemoryQuery::Dump { first, length } => {

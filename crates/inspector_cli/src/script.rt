@@ -7,6 +7,7 @@ ghost use Rattle.intake.specs.Durable.{Durable};
 ghost use Rattle.script_lines.specs.Said.{said, part_of};
 ghost use Rattle.inspector_cli.specs.declared.session.Naming.{Naming};
 ghost use Rattle.script_streams.specs.Replies.{telling};
+ghost use Rattle.inspector_cli.specs.Keeping.{AreKept};
 ghost use Rattle.inspector_cli.specs.Seeing.{IsKept};
 ghost use Rattle.inspector_cli.specs.Answering.{CommandEnds, Halts, ScriptEnds, PartAnswers, LastAnswers, reading};
 
@@ -88,12 +89,14 @@ fn answer_command<I: Input, O: Output, D: Disk>(
     naming: &Naming,
 ) -> Result<bool, ScriptStop>
     requires kept { IsKept D.Disk archive.old images.old.kept }
+    requires beside { AreKept D.Disk archive.old images.old.kept }
     ensures answers { CommandEnds D.Disk naming.now
         (reading I.Input input.old input.new buffer.old buffer.new)
         (telling O.Output output.old output.new reply.old reply.new)
         archive.old archive.new result }
     ensures unheard { has_failed reply.old ≡ true → archive.new ≡ archive.old }
     ensures kept { IsKept D.Disk archive.new images.new.kept }
+    ensures beside { AreKept D.Disk archive.new images.new.kept }
     ensures stops { Halts (I.failures input.old) (I.failures input.new) buffer.new result }
 {
     let ending = buffer.next_line(input, line, reply, output)?;
@@ -126,12 +129,14 @@ fn answer_line<I: Input, O: Output, D: Disk>(
 ) -> Result<bool, ReadStop>
     requires line { (text : List ℕ) × KeepsLine text line.now }
     requires kept { IsKept D.Disk archive.old images.old.kept }
+    requires beside { AreKept D.Disk archive.old images.old.kept }
     ensures answers { (text : List ℕ) → KeepsLine text line.now
         → PartAnswers D.Disk naming.now (reading I.Input input.old input.new buffer.old buffer.new)
         (telling O.Output output.old output.new reply.old reply.new)
         archive.old (said text) archive.new result }
     ensures stops { Stops (I.failures input.old) (I.failures input.new) buffer.new result }
     ensures kept { IsKept D.Disk archive.new images.new.kept }
+    ensures beside { AreKept D.Disk archive.new images.new.kept }
 {
     match parse_line(line) {
         Command::Part { slot, count } => {
@@ -161,9 +166,11 @@ fn answer_last<O: Output, D: Disk>(
 )
     requires line { (text : List ℕ) × KeepsLine text line.now }
     requires kept { IsKept D.Disk archive.old images.old.kept }
+    requires beside { AreKept D.Disk archive.old images.old.kept }
     ensures answers { (text : List ℕ) → KeepsLine text line.now
         → LastAnswers D.Disk naming.now (telling O.Output output.old output.new reply.old reply.new) archive.old (said text) archive.new }
     ensures kept { IsKept D.Disk archive.new images.new.kept }
+    ensures beside { AreKept D.Disk archive.new images.new.kept }
 {
     match parse_line(line) {
         Command::Part { slot, count } => {

@@ -9,7 +9,7 @@ ghost use Rattle.address_space.specs.Pieces.{pieces_of};
 ghost use Rattle.address_space.specs.SourceWords.{piece_view, spot_view};
 ghost use Rattle.address_space.specs.SpaceWords.{space_of};
 ghost use Rattle.image_replies.specs.CoreWords.{core_bytes};
-ghost use Rattle.memory_replies.specs.Answers.{Answers};
+ghost use Rattle.memory_replies.specs.Answers.{AnswersWith};
 ghost use Rattle.memory_replies.specs.Memory.{attached_view};
 ghost use Rattle.memory_replies.specs.Words.{hex_word};
 ghost use Rattle.memory_replies.specs.Dump as spec;
@@ -142,6 +142,7 @@ fn is_out_of_range(first: u64, length: u64) -> bool
 /// Tells what stands at `length` addresses from `first` on, piece by piece in rising order: `ADDR HEX` for each 16 bytes,
 /// `ADDR file HEX` for each 16 that an attached executable has, `ADDR notdumped LEN OFFSET NAME`, `ADDR cut LEN` and
 /// `ADDR unmapped LEN`. A range that ends past the last address, or has over 65,536 addresses, is answered by `no Range`.
+/// Says whether there was memory for it; where there was none, the reply is `no OutOfMemory`.
 pub fn tell_dump<O: Output>(
     alloc: Global,
     reply: &mut Reply,
@@ -150,18 +151,19 @@ pub fn tell_dump<O: Output>(
     attached: &[Attached<'_>],
     first: u64,
     length: u64,
-)
+) -> bool
     ensures { TellsReply (telling O.Output output.old output.new reply.old reply.new)
-        (Answers (spec.dump_answer (core_bytes core.now) (map attached_view attached.now) first length)) }
+        (AnswersWith result (spec.dump_answer (core_bytes core.now) (map attached_view attached.now) first length)) }
 {
     let Ok(space) = space_with(alloc, core, attached) else {
         tell_no(reply, output, b"OutOfMemory");
-        return;
+        return false;
     };
     if is_out_of_range(first, length) {
         tell_no(reply, output, b"Range");
-        return;
+        return true;
     }
     tell_pieces(reply, output, &space, first, length);
     tell_ok(reply, output);
+    true
 }

@@ -7,7 +7,7 @@ ghost use Rattle.address_space.specs.SpaceWords.{files_in, space_of};
 ghost use Rattle.backtrace.specs.FrameWords.{frames_left, stop_left};
 ghost use Rattle.thread_regs.specs.ThreadWords.{thread_bytes};
 ghost use Rattle.image_replies.specs.CoreWords.{core_bytes};
-ghost use Rattle.memory_replies.specs.Answers.{Answers};
+ghost use Rattle.memory_replies.specs.Answers.{AnswersWith};
 ghost use Rattle.memory_replies.specs.Backtrace as spec;
 ghost use Rattle.memory_replies.specs.Memory.{attached_view};
 ghost use Rattle.memory_replies.specs.NamedWords.{named_view, place_view};
@@ -138,6 +138,7 @@ fn tell_thread<O: Output>(
 /// Tells the frames of a core's thread, by its number among the threads: `0 PC WHERE fp h ra h`, then `I PC WHERE fp h` for
 /// each other, and `stop REASON`. WHERE is `NAME+h` by the symbols of the executable that stands for the mapped file, or
 /// `?`. A core without so many threads is answered by `no NoThread`.
+/// Says whether there was memory for it; where there was none, the reply is `no OutOfMemory`.
 pub fn tell_bt<O: Output>(
     alloc: Global,
     reply: &mut Reply,
@@ -145,22 +146,23 @@ pub fn tell_bt<O: Output>(
     core: &CoreImage<'_>,
     attached: &[Attached<'_>],
     thread: u64,
-)
+) -> bool
     ensures { TellsReply (telling O.Output output.old output.new reply.old reply.new)
-        (Answers (spec.bt_answer (core_bytes core.now) (map attached_view attached.now) thread)) }
+        (AnswersWith result (spec.bt_answer (core_bytes core.now) (map attached_view attached.now) thread)) }
 {
     let Ok(space) = space_with(alloc, core, attached) else {
         tell_no(reply, output, b"OutOfMemory");
-        return;
+        return false;
     };
     let Ok(images) = named_images(alloc, attached) else {
         tell_no(reply, output, b"OutOfMemory");
-        return;
+        return false;
     };
     let Some(thread) = threads(core.notes()).thread(thread) else {
         tell_no(reply, output, b"NoThread");
-        return;
+        return true;
     };
     tell_thread(reply, output, &space, core.notes().files(), &images, thread);
     tell_ok(reply, output);
+    true
 }

@@ -5,7 +5,7 @@ ghost use Rattle.script_streams.specs.Replies.{TellsReply, TellsText, reply_of, 
 ghost use Rattle.address_space.specs.Occurrence.{occurrences};
 ghost use Rattle.address_space.specs.SpaceWords.{space_of};
 ghost use Rattle.image_replies.specs.CoreWords.{core_bytes};
-ghost use Rattle.memory_replies.specs.Answers.{Answers};
+ghost use Rattle.memory_replies.specs.Answers.{AnswersWith};
 ghost use Rattle.memory_replies.specs.Memory.{attached_view};
 ghost use Rattle.memory_replies.specs.Find as spec;
 
@@ -41,7 +41,7 @@ fn tell_matches<O: Output>(
 }
 
 /// Tells every address at which the bytes occur in a core's memory, by the number of the segment that decides it and then
-/// by itself.
+/// by itself. Says whether there was memory for it; where there was none, the reply is `no OutOfMemory`.
 pub fn tell_find<O: Output>(
     alloc: Global,
     reply: &mut Reply,
@@ -49,15 +49,16 @@ pub fn tell_find<O: Output>(
     core: &CoreImage<'_>,
     attached: &[Attached<'_>],
     needle: &[u8],
-)
+) -> bool
     requires { 0 < length needle.now }
     ensures { TellsReply (telling O.Output output.old output.new reply.old reply.new)
-        (Answers (spec.find_answer (core_bytes core.now) (map attached_view attached.now) needle.now)) }
+        (AnswersWith result (spec.find_answer (core_bytes core.now) (map attached_view attached.now) needle.now)) }
 {
     let Ok(space) = space_with(alloc, core, attached) else {
         tell_no(reply, output, b"OutOfMemory");
-        return;
+        return false;
     };
     tell_matches(reply, output, &space, needle);
     tell_ok(reply, output);
+    true
 }

@@ -1,5 +1,5 @@
 // The function that an address belongs to.
-ghost use Rattle.std.specs.Prelude.{◌≡◌, ◌⊎◌, None};
+ghost use Rattle.std.specs.Prelude.{true, false, ◌≡◌, ◌⊎◌, None};
 ghost use Rattle.std.specs.Option.{option_map};
 ghost use Rattle.script_streams.specs.Replies.{TellsReply, TellsText, no_reply, reply_of, telling};
 ghost use Rattle.symbols.specs.SymbolWords.{symbol_view};
@@ -68,7 +68,7 @@ fn tell_found<O: Output>(reply: &mut Reply, output: &mut O, found: Option<Symbol
 
 /// Tells the function of an executable that an address belongs to: `NAME VALUE SIZE`, or `no NoSymbol`. The first fault of
 /// its headers, or else of its symbol table, is answered instead. Where there is no memory for its functions, and neither
-/// has a fault, the reply is `no OutOfMemory`.
+/// has a fault, the reply is `no OutOfMemory`. Says whether there was.
 #[tactic(auto, unfolding(crate::specs::Symbol::symbol_answer, crate::specs::Symbol::executable_fault))]
 pub fn tell_symbol<O: Output>(
     alloc: Global,
@@ -76,21 +76,30 @@ pub fn tell_symbol<O: Output>(
     output: &mut O,
     image: &[u8],
     address: u64,
-)
+) -> bool
     ensures { TellsReply (telling O.Output output.old output.new reply.old reply.new)
-        (λ text. (text ≡ reply_of (spec.symbol_answer image.now address))
-        ⊎ ((text ≡ memory_reply) × (spec.executable_fault image.now ≡ None))) }
+        (λ text. ((result ≡ true) × (text ≡ reply_of (spec.symbol_answer image.now address)))
+        ⊎ ((result ≡ false) × (text ≡ memory_reply) × (spec.executable_fault image.now ≡ None))) }
 {
     let elf = match Elf::read(image, Want::Exec) {
         Ok(elf) => elf,
         Err(fault) => {
             tell_elf_fault(reply, output, fault);
-            return;
+            return true;
         }
     };
     match Symbols::read(alloc, &elf) {
-        Ok(symbols) => tell_found(reply, output, symbols.lookup(address)),
-        Err(SymbolError::Fault(fault)) => tell_symbol_fault(reply, output, fault),
-        Err(SymbolError::OutOfMemory) => tell_no(reply, output, b"OutOfMemory"),
+        Ok(symbols) => {
+            tell_found(reply, output, symbols.lookup(address));
+            true
+        }
+        Err(SymbolError::Fault(fault)) => {
+            tell_symbol_fault(reply, output, fault);
+            true
+        }
+        Err(SymbolError::OutOfMemory) => {
+            tell_no(reply, output, b"OutOfMemory");
+            false
+        }
     }
 }

@@ -8,7 +8,7 @@ ghost use Rattle.address_space.specs.Source.{value_of};
 ghost use Rattle.address_space.specs.SourceWords.{kind_view, source_view};
 ghost use Rattle.address_space.specs.SpaceWords.{space_of};
 ghost use Rattle.image_replies.specs.CoreWords.{core_bytes};
-ghost use Rattle.memory_replies.specs.Answers.{Answers};
+ghost use Rattle.memory_replies.specs.Answers.{AnswersWith};
 ghost use Rattle.memory_replies.specs.Memory.{attached_view};
 ghost use Rattle.memory_replies.specs.Texts as spec;
 
@@ -143,7 +143,7 @@ fn tell_texts<O: Output>(reply: &mut Reply, output: &mut O, space: &AddressSpace
 
 /// Tells the stretches of text in a core's memory that have at least `least` bytes: `ADDR LENGTH TEXT`, by the number of the
 /// segment that decides the first address and then by that address. Bytes of text are those from the space to `~` and the
-/// tab.
+/// tab. Says whether there was memory for it; where there was none, the reply is `no OutOfMemory`.
 pub fn tell_strings<O: Output>(
     alloc: Global,
     reply: &mut Reply,
@@ -151,14 +151,15 @@ pub fn tell_strings<O: Output>(
     core: &CoreImage<'_>,
     attached: &[Attached<'_>],
     least: u64,
-)
+) -> bool
     ensures { TellsReply (telling O.Output output.old output.new reply.old reply.new)
-        (Answers (spec.strings_answer (core_bytes core.now) (map attached_view attached.now) least)) }
+        (AnswersWith result (spec.strings_answer (core_bytes core.now) (map attached_view attached.now) least)) }
 {
     let Ok(space) = space_with(alloc, core, attached) else {
         tell_no(reply, output, b"OutOfMemory");
-        return;
+        return false;
     };
     tell_texts(reply, output, &space, least);
     tell_ok(reply, output);
+    true
 }

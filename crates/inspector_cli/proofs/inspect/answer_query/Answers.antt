@@ -14,19 +14,28 @@ returns-in-Err-clause-answers g c = (
   c.tell_no.ensures,
 )
 
-pub returns-in-Ok-see_image-clause-answers : goal.returns-in-Ok-see_image-clause-answers
-returns-in-Ok-see_image-clause-answers g c =
-    let told = rw c.deref.ensures.value at c.answer_seen.ensures in (
+pub returns-then-has_room-clause-answers : goal.returns-then-has_room-clause-answers
+returns-then-has_room-clause-answers g c =
+    let told = rw c.deref.ensures.value at c.answer_seen-has_room.ensures.answers in (
       told.0,
-      answer_told g.D.Disk c.args.archive.now c.see_image.new.archive c.answer_seen.new.archive c.args.seq (query_of c.args.query.now) c.in-Ok.kind (kind_asked (bare_of c.args.archive.now) c.args.seq (query_of c.args.query.now))
+      answer_told g.D.Disk c.args.archive.now c.see_image.new.archive c.answer_seen-has_room.new.archive c.args.seq (query_of c.args.query.now) c.in-Ok.kind (kind_asked (bare_of c.args.archive.now) c.args.seq (query_of c.args.query.now))
           (Ok c.in-Ok-see_image.seen.image.items) told.0 c.in-Ok.ensures.asked c.in-Ok-see_image.ensures.seen told.1,
       told.2,
     )
 
-pub returns-in-Ok-see_image-clause-kept : goal.returns-in-Ok-see_image-clause-kept
-returns-in-Ok-see_image-clause-kept g c =
-    let told = rw c.deref.ensures.value at c.answer_seen.ensures in
-    kept_still g.D.Disk c.see_image.new.archive c.answer_seen.new.archive c.in-Ok.kind (query_of c.args.query.now) c.in-Ok-see_image.seen.image.items told.0 c.in-Ok-see_image.seen told.1 c.in-Ok-see_image.ensures.kept
+pub returns-else-has_room-clause-answers : goal.returns-else-has_room-clause-answers
+returns-else-has_room-clause-answers g c =
+    let told = rw c.deref.ensures.value at c.answer_seen-has_room.ensures.answers in (
+      told.0,
+      answer_told g.D.Disk c.args.archive.now c.see_image.new.archive c.answer_seen-has_room.new.archive c.args.seq (query_of c.args.query.now) c.in-Ok.kind (kind_asked (bare_of c.args.archive.now) c.args.seq (query_of c.args.query.now))
+          (Ok c.in-Ok-see_image.seen.image.items) told.0 c.in-Ok.ensures.asked c.in-Ok-see_image.ensures.seen told.1,
+      told.2,
+    )
+
+pub returns-then-has_room-clause-kept : goal.returns-then-has_room-clause-kept
+returns-then-has_room-clause-kept g c =
+    let told = rw c.deref.ensures.value at c.answer_seen-has_room.ensures.answers in
+    kept_still g.D.Disk c.see_image.new.archive c.answer_seen-has_room.new.archive c.in-Ok.kind (query_of c.args.query.now) c.in-Ok-see_image.seen.image.items told.0 c.in-Ok-see_image.seen told.1 c.in-Ok-see_image.ensures.kept
 
 pub returns-in-Err-see_image-clause-answers : goal.returns-in-Err-see_image-clause-answers
 returns-in-Err-see_image-clause-answers g c = (

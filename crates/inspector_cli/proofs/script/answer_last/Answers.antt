@@ -1,6 +1,7 @@
 use Rattle.std.proofs.Common.{subst}
-use Rattle.script_lines.specs.Said.{Said}
+use Rattle.script_lines.specs.Said.{Said, said}
 use Rattle.inspector_cli.specs.Answering.{LastAnswers}
+use Rattle.inspector_cli.proofs.LineLemmas.{plain_last}
 use Rattle.inspector_cli.proofs.script.answer_last.Goals as goal
 
 pub returns-in-Part-clause-answers : goal.returns-in-Part-clause-answers
@@ -18,3 +19,7 @@ returns-in-Part-clause-answers g c = λ text keeps.
     })
     c.args.archive.now w c.answer_cut.new.archive)
     (c.in-Part.ensures text keeps) (c.answer_cut.ensures c.args.naming.now)
+
+pub returns-in-Plain-clause-answers : goal.returns-in-Plain-clause-answers
+returns-in-Plain-clause-answers g c = λ text keeps.
+    plain_last g.D.Disk c.args.naming.now _ c.args.archive.now c.answer_plain.new.archive c.in-Plain.request (said text) (c.in-Plain.ensures text keeps) c.answer_plain.ensures

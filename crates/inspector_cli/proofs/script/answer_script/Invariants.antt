@@ -1,6 +1,7 @@
 use Rattle.std.proofs.Common.{◌≡◌, ◌+◌, cond, List}
 use Rattle.intake.specs.Durable.{Durable}
 use Rattle.script_streams.specs.Reading.{steps_left}
+use Rattle.inspector_cli.specs.Keeping.{AreKept}
 use Rattle.inspector_cli.specs.Seeing.{IsKept}
 use Rattle.inspector_cli.proofs.RunLemmas.{Along}
 use Rattle.inspector_cli.proofs.StageLemmas.{stage_of}
@@ -22,6 +23,7 @@ invariant-loop-goes_on g l = record {
       (stage_of l.initial.archive before) l.archive l.goes_on;
   failures : g.I.Input.failures l.input ≡ g.I.Input.failures l.initial.input;
   kept : IsKept g.D.Disk l.archive l.images.kept;
+  beside : AreKept g.D.Disk l.archive l.images.kept;
 }
 
 abbrev pub decreases-loop-goes_on : goal.decreases-loop-goes_on

@@ -1,14 +1,14 @@
-use Rattle.std.proofs.Common.{sym, refl, inl, inr}
+use Rattle.std.proofs.Common.{sym, refl}
 use Rattle.memory_replies.proofs.AnswerLemmas.{range_refused, range_shown}
 use Rattle.memory_replies.proofs.TellLemmas.{tells_then}
 use Rattle.memory_replies.proofs.dump.tell_dump.Goals as goal
 
 pub returns-in_default : goal.returns-in_default
-returns-in_default g c = (_, inr refl, c.tell_no.ensures)
+returns-in_default g c = (_, refl, c.tell_no.ensures)
 
 pub returns-then-is_out_of_range : goal.returns-then-is_out_of_range
-returns-then-is_out_of_range g c = (_, inl (range_refused _ _ _ _ (sym c.if-is_out_of_range.ensures)), c.tell_no-then-is_out_of_range.ensures)
+returns-then-is_out_of_range g c = (_, (range_refused _ _ _ _ (sym c.if-is_out_of_range.ensures)), c.tell_no-then-is_out_of_range.ensures)
 
 pub returns : goal.returns
 returns g c =
-    (_, inl (range_shown _ _ _ _ _ (sym c.if-is_out_of_range.ensures) c.in-Ok.ensures), tells_then _ _ _ _ _ _ _ _ _ _ _ c.tell_pieces.ensures c.tell_ok.ensures)
+    (_, (range_shown _ _ _ _ _ (sym c.if-is_out_of_range.ensures) c.in-Ok.ensures), tells_then _ _ _ _ _ _ _ _ _ _ _ c.tell_pieces.ensures c.tell_ok.ensures)

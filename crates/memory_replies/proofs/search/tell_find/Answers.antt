@@ -1,11 +1,11 @@
-use Rattle.std.proofs.Common.{refl, inl, inr}
+use Rattle.std.proofs.Common.{refl}
 use Rattle.memory_replies.proofs.AnswerLemmas.{matches_shown}
 use Rattle.memory_replies.proofs.TellLemmas.{tells_then}
 use Rattle.memory_replies.proofs.search.tell_find.Goals as goal
 
 pub returns-in_default : goal.returns-in_default
-returns-in_default g c = (_, inr refl, c.tell_no.ensures)
+returns-in_default g c = (_, refl, c.tell_no.ensures)
 
 pub returns : goal.returns
 returns g c =
-    (_, inl (matches_shown _ _ _ _ c.in-Ok.ensures), tells_then _ _ _ _ _ _ _ _ _ _ _ c.tell_matches.ensures c.tell_ok.ensures)
+    (_, (matches_shown _ _ _ _ c.in-Ok.ensures), tells_then _ _ _ _ _ _ _ _ _ _ _ c.tell_matches.ensures c.tell_ok.ensures)

@@ -1,11 +1,11 @@
-use Rattle.std.proofs.Common.{refl, inl, inr}
+use Rattle.std.proofs.Common.{refl}
 use Rattle.memory_replies.proofs.TextLemmas.{texts_told}
 use Rattle.memory_replies.proofs.TellLemmas.{tells_then}
 use Rattle.memory_replies.proofs.texts.tell_strings.Goals as goal
 
 pub returns-in_default : goal.returns-in_default
-returns-in_default g c = (_, inr refl, c.tell_no.ensures)
+returns-in_default g c = (_, refl, c.tell_no.ensures)
 
 pub returns : goal.returns
 returns g c =
-    (_, inl (texts_told _ _ _ _ c.in-Ok.ensures), tells_then _ _ _ _ _ _ _ _ _ _ _ c.tell_texts.ensures c.tell_ok.ensures)
+    (_, (texts_told _ _ _ _ c.in-Ok.ensures), tells_then _ _ _ _ _ _ _ _ _ _ _ c.tell_texts.ensures c.tell_ok.ensures)
