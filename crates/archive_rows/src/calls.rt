@@ -1,5 +1,5 @@
 // What the calls answer where nothing fails.
-use crate::bench::{cases_of, fresh, name_of, put, store};
+use crate::bench::{cases_of, fresh, name_of, opened, put, store};
 use crate::rows::{Call, OK, Row, answers, answers_on};
 use disk_model::Disk;
 use intake::{Archive, ArchiveFault};
@@ -84,7 +84,7 @@ fn fill<D: Disk>(rt: &(impl AllocGlobal + Abort), archive: &mut Archive<D>) -> R
     Ok(())
 }
 
-// A full journal takes no further case, and it takes a deletion.
+// 63 cases fill a half of the journal, also where it says nothing else: it takes no further case, and it takes a deletion.
 static FULL: [Row; 6] = [
     (Call::Begin(0, b"n64"), OK),
     (Call::Finish(0, 64), Err(ArchiveFault::JournalFull)),
@@ -94,14 +94,39 @@ static FULL: [Row; 6] = [
     (Call::Delete(1), Err(ArchiveFault::NoCase)),
 ];
 
-// The journal is filled, and answers so then.
+// The record of the next case doesn't fit behind the others, and the 63 live cases fit into the other half. So do those of the
+// pin and of the deletion behind it.
+static ANEW: [Row; 8] = [
+    (Call::Finish(0, 64), OK),
+    (Call::Count(63), OK),
+    (Call::Begin(0, b"n65"), OK),
+    (Call::Finish(0, 65), Err(ArchiveFault::JournalFull)),
+    (Call::Pin(2, true), OK),
+    (Call::Delete(3), OK),
+    (Call::Store(b"n65", 1, 0, 65), OK),
+    (Call::Count(63), OK),
+];
+
+// The pin, and the next number, are found again.
+static AGAIN: [Row; 5] = [
+    (Call::Count(63), OK),
+    (Call::Delete(2), Err(ArchiveFault::Pinned)),
+    (Call::Pin(2, false), OK),
+    (Call::Keep(62, &[2], false), OK),
+    (Call::Store(b"n66", 1, 0, 66), OK),
+];
+
+// The journal is filled, answers so then, and is written anew where a case ended.
 fn is_full<D: Disk>(rt: &(impl AllocGlobal + Abort), archive: &mut Archive<D>) -> Result<(), Fail> {
     fill(rt, archive)?;
-    answers_on(rt, archive, &FULL)
+    answers_on(rt, archive, &FULL)?;
+    answers_on(rt, archive, &ANEW)
 }
 
 #[test]
-fn the_journal_is_full(rt: HostRuntime) -> Result<(), Fail> {
+fn a_full_journal_is_written_anew(rt: HostRuntime) -> Result<(), Fail> {
     let mut archive = fresh(rt.alloc())?;
-    is_full(&rt, &mut archive)
+    is_full(&rt, &mut archive)?;
+    let mut archive = opened(rt.alloc(), archive.close())?;
+    answers_on(&rt, &mut archive, &AGAIN)
 }

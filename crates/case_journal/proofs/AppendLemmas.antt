@@ -1,58 +1,72 @@
--- What an append leaves as it was, and what it makes of a journal.
-use Rattle.std.proofs.Common.{◌≡◌, ◌⊎◌, inl, ℕ, ◌+◌, ◌^◌, ◌<◌, ◌≤◌, Bool, false, List, refl, sym, ap, ◌∙◌, subst, ⊎_elim, IsTrue, Ok, Err}
-use Rattle.disk_model.specs.MomentLaws.{started}
-use Rattle.disk_model.specs.declared.disk.Disk as disk
-use Rattle.journal_layout.specs.Layout.{half_length}
-use Rattle.journal_layout.specs.Case.{Case, numbered}
-use Rattle.journal_layout.specs.Record.{Record, record_size}
-use Rattle.journal_layout.specs.Standing.{Standing, appended, store_of}
-use Rattle.journal_layout.specs.Stands.{Stands}
-use Rattle.case_journal.specs.Journaled.{Journaled, goes_on}
-use Rattle.case_journal.specs.Keeping.{Keeps, LeavesEither}
-use Rattle.case_journal.specs.Append.{HasRoom, StoreRefused, StoreStep}
-use Rattle.case_journal.specs.Putting.{MayBegin}
-use Rattle.case_journal.specs.Entering.{entered, EntersCase}
+-- What the append of a case makes of a journal, and what refuses it.
+use Rattle.std.proofs.Common.{◌≡◌, inl, inr, ℕ, ◌+◌, ◌^◌, ◌<◌, ◌∙◌, true, false, nat_lt, Bor, List, map, length, refl, subst, ⊎_elim, Ok, Err, arith}
+use Rattle.std.proofs.lemmas.Bool.{ltb-true, ltb-false}
 use Rattle.journal_layout.specs.declared.entry.Entry.{Entry}
+use Rattle.journal_layout.specs.Case.{Case, case_of, numbered}
+use Rattle.journal_layout.specs.Layout.{half_length}
+use Rattle.journal_layout.specs.Record.{Record, Store, record_size}
+use Rattle.journal_layout.specs.SpellLaws.{length-spelling}
+use Rattle.journal_layout.specs.Standing.{Standing, folded_of, store_of}
+use Rattle.journal_layout.specs.Folding.{after}
+use Rattle.journal_layout.specs.Rewriting.{snapshot_size}
+use Rattle.journal_snapshot.specs.declared.change.Change.TheVariants as change
+use Rattle.journal_snapshot.specs.declared.measure.Measure.{Measure}
+use Rattle.journal_snapshot.specs.ChangeLaws.{snapshot_bytes_are}
+use Rattle.journal_snapshot.specs.Measuring.{snapshot_bytes}
+use Rattle.journal_snapshot.specs.Writing.{written_added}
 use Rattle.case_journal.specs.declared.faults.JournalFault.{JournalFault}
 use Rattle.case_journal.specs.declared.faults.JournalFault.TheVariants.{Stopped, JournalFull, NumbersSpent, OutOfMemory, Disk}
+use Rattle.case_journal.specs.Journaled.{Journaled}
+use Rattle.case_journal.specs.Append.{HasRoom, StoreRefused}
+use Rattle.case_journal.specs.Compacting.{FindsRoom, noted}
+use Rattle.case_journal.specs.Entering.{PutStep}
+use Rattle.case_journal.specs.Putting.{HasRoomFor}
 
--- without a disk call a crash leaves what the journal stands for
-pub unmoved : {D : Type 0} (g : disk.Ghosts D) (d : D) (j : Journaled) (r : Record) → ((c : List ℕ) → g.left_since d (g.clock d) c → g.may_leave d c)
-    → Keeps g d j → IsTrue (g.is_honest d) → j.stopped ≡ false → LeavesEither g d d j.standing r
-unmoved g d j r only keeps honest runs =
-    started g d (λ (b : List ℕ). Stands b j.standing ⊎ Stands b (appended j.standing r)) (λ c was. inl ((keeps.holds runs honest).stands c (only c was)))
+-- The room of a case, whose number takes no part in it.
+module _ (s : Standing) (es : List Entry) (b : Bor Entry) (same : s.cases ≡ map case_of es) where
+  abbrev stored : Record
+  stored = store_of s (case_of b.now)
 
--- a refusal before anything is begun
-pub store_refused : (j : Journaled) (c : Case) (size : ℕ) (f : JournalFault) → size ≡ record_size (store_of j.standing c) → MayBegin j size (Err f) → StoreRefused j c f j
-store_refused j c size Stopped is m = (m, refl)
-store_refused j c size JournalFull is m = (m.0, subst (λ (n : ℕ). half_length j.standing.shape < j.standing.used + n + 1) is m.1, refl)
-store_refused j c size NumbersSpent is m = absurd m
-store_refused j c size OutOfMemory is m = absurd m
-store_refused j c size Disk is m = absurd m
+  long : (n : ℕ) → length (written_added (change.Store n b)) ≡ record_size stored
+  long n = length-spelling (Store (numbered n (case_of b.now)))
 
-room_is : (s : Standing) (r : Record) (size : ℕ) → size ≡ record_size r → s.used + size + 1 ≤ half_length s.shape → HasRoom s r
-room_is s r size is room = subst (λ (n : ℕ). s.used + n + 1 ≤ half_length s.shape) is room
+  size_is : snapshot_bytes (change.Store 0 b) es ≡ snapshot_size (after stored (folded_of s))
+  size_is =
+      let alike : snapshot_bytes (change.Store 0 b) es ≡ snapshot_bytes (change.Store s.next b) es = omega (arith, long 0, long s.next) in
+      alike ∙ snapshot_bytes_are (change.Store s.next b) es (folded_of s) same
 
--- no number is left
-pub store_spent : (j : Journaled) (c : Case) (size : ℕ) (u : Unit {0}) → size ≡ record_size (store_of j.standing c) → MayBegin j size (Ok u) → j.standing.next ≡ 2 ^ 32 → StoreRefused j c NumbersSpent j
-store_spent j c size u is m spent = (m.0, room_is j.standing (store_of j.standing c) size is m.1, spent, refl)
+  pub room_lacking : (size : ℕ) (f : JournalFault) → size ≡ record_size stored → nat_lt (s.used + size) (half_length s.shape) ≡ false → FindsRoom s.shape s.generation (change.Store 0 b) es (Err f) → HasRoomFor s stored (Err f)
+  room_lacking size JournalFull is unfit found =
+      let low = ltb-false (s.used + size) (half_length s.shape) unfit in
+      (omega (arith, low, is), ⊎_elim (λ short. inl (omega (arith, short, size_is))) (λ last. inr last) found)
+  room_lacking size Stopped is unfit found = absurd found
+  room_lacking size NumbersSpent is unfit found = absurd found
+  room_lacking size OutOfMemory is unfit found = absurd found
+  room_lacking size Disk is unfit found = absurd found
 
--- the case is entered under the next number
-pub entered_is : (j : Journaled) (c : Case) (size seq : ℕ) → size ≡ record_size (store_of j.standing c) → j.stopped ≡ false → seq ≡ j.standing.next → entered j (numbered seq c) size ≡ goes_on j (store_of j.standing c)
-entered_is j c size seq is runs number =
-    ap (λ (n : ℕ). entered j (numbered n c) size) number
-    ∙ ap (entered j (numbered j.standing.next c)) is
-    ∙ ap (λ (t : Bool). record { standing = (entered j (numbered j.standing.next c) (record_size (store_of j.standing c))).standing; stopped = t }) runs
+  pub room_beside_is : (m : Measure) → FindsRoom s.shape s.generation (change.Store 0 b) es (Ok m) → HasRoom s stored
+  room_beside_is m found = inr (omega (arith, found.0.0, found.0.1, size_is), found.1)
 
-pub store_done : (j new : Journaled) (c : Case) (size seq : ℕ) (u : Unit {0}) → size ≡ record_size (store_of j.standing c) → MayBegin j size (Ok u) → j.standing.next < 2 ^ 32
-    → seq ≡ j.standing.next → new ≡ entered j (numbered seq c) size → StoreStep j c (Ok seq) new
-store_done j new c size seq u is m left number made =
-    (m.0, room_is j.standing (store_of j.standing c) size is m.1, left, number, made ∙ entered_is j c size seq is m.0 number)
+pub room_behind_is : (s : Standing) (r : Record) (size : ℕ) → size ≡ record_size r → nat_lt (s.used + size) (half_length s.shape) ≡ true → HasRoom s r
+room_behind_is s r size is fit = let low = ltb-true (s.used + size) (half_length s.shape) fit in inl (omega (arith, low, is))
 
-pub store_failed : (j new : Journaled) (c k : Case) (size : ℕ) (e : JournalFault × Entry) (u : Unit {0}) → size ≡ record_size (store_of j.standing c) → MayBegin j size (Ok u) → j.standing.next < 2 ^ 32
-    → EntersCase j k size (Err e) new → StoreStep j c (Err e) new
-store_failed j new c k size e u is m left made =
-    let room = room_is j.standing (store_of j.standing c) size is m.1 in
-    ⊎_elim
-    (λ no. subst (λ (f : JournalFault). StoreRefused j c f new) (sym no.0) (m.0, room, left, no.1))
-    (λ no. subst (λ (f : JournalFault). StoreRefused j c f new) (sym no.0) (m.0, room, left, no.1)) made
+-- no room is found
+pub store_refused : (j : Journaled) (c : Case) (f : JournalFault) → j.stopped ≡ false → HasRoomFor j.standing (store_of j.standing c) (Err f) → StoreRefused j c f j
+store_refused j c JournalFull runs room = (runs, room, refl)
+store_refused j c Stopped runs room = absurd room
+store_refused j c NumbersSpent runs room = absurd room
+store_refused j c OutOfMemory runs room = absurd room
+store_refused j c Disk runs room = absurd room
+
+-- the record is not written
+pub put_refused : (j : Journaled) (c : Case) (seq : ℕ) (f : JournalFault) → j.stopped ≡ false → j.standing.next < 2 ^ 32 → seq ≡ j.standing.next → PutStep j.standing (Store (numbered seq c)) (Err f)
+    → StoreRefused j c f (noted f j)
+put_refused j c seq f runs left number step =
+    of f (subst (λ (n : ℕ). PutStep j.standing (Store (numbered n c)) (Err f)) number step)
+  where
+    of : (f : JournalFault) → PutStep j.standing (store_of j.standing c) (Err f) → StoreRefused j c f (noted f j)
+    of JournalFull step = (runs, step, refl)
+    of OutOfMemory step = (runs, step, left, refl)
+    of Disk step = (runs, step, left, refl)
+    of Stopped step = absurd step
+    of NumbersSpent step = absurd step

@@ -1,5 +1,5 @@
 -- What is written anew of an open journal.
-use Rattle.std.proofs.Common.{◌≡◌, inl, inr, ◌+◌, ◌<◌, ◌≤◌, ◌^◌, ◌*◌, ◌∙◌, ◌++◌, ℕ, Bool, List, Some, true, false, Ok, Err, IsTrue, ⊎_elim, map, length, get_or, refl, sym, ap, subst, arith}
+use Rattle.std.proofs.Common.{◌≡◌, inl, inr, ◌+◌, ◌<◌, ◌≤◌, ◌^◌, ◌*◌, ◌∙◌, ◌++◌, ℕ, List, Some, true, Ok, Err, ⊎_elim, map, length, get_or, refl, sym, ap, subst, arith}
 use Rattle.std.proofs.Math.ListN.{get_or-map}
 use Rattle.std.proofs.lemmas.List.{length-map}
 use Rattle.journal_layout.specs.declared.entry.Entry.{Entry}
@@ -7,13 +7,13 @@ use Rattle.disk_model.specs.declared.disk.Disk as disk
 use Rattle.journal_layout.specs.declared.shape.Shape.{Shape}
 use Rattle.journal_layout.specs.declared.shape.Half.{Half}
 use Rattle.journal_layout.specs.declared.shape.Half.TheVariants.{A, B}
-use Rattle.journal_layout.specs.Layout.{disk_length, half_start, half_length}
+use Rattle.journal_layout.specs.Layout.{half_start, half_length}
 use Rattle.journal_layout.specs.Front.{is_known}
 use Rattle.journal_layout.specs.Case.{Case, case_of}
 use Rattle.journal_layout.specs.Folding.{Folded}
 use Rattle.journal_layout.specs.Live.{AreLive}
 use Rattle.journal_layout.specs.Standing.{Standing, folded_of}
-use Rattle.journal_layout.specs.Rewriting.{other_start, snapshot_size}
+use Rattle.journal_layout.specs.Rewriting.{other_half, other_start, snapshot_size}
 use Rattle.journal_snapshot.specs.declared.change.Change.{Change}
 use Rattle.journal_snapshot.specs.declared.change.Change.TheVariants as change
 use Rattle.journal_snapshot.specs.declared.measure.Measure.{Measure}
@@ -24,11 +24,9 @@ use Rattle.journal_snapshot.specs.Filling.{Fills}
 use Rattle.journal_snapshot.specs.FillLaws.{fills_wider}
 use Rattle.journal_snapshot.specs.Measuring.{AreShort, IsMeasure, snapshot_bytes}
 use Rattle.journal_snapshot.specs.Halves.{IsWrittenAs}
-use Rattle.journal_snapshot.specs.Holding.{Holds}
-use Rattle.case_journal.specs.Keeping.{Keeps}
-use Rattle.case_journal.specs.Journaled.{Journaled, running}
-use Rattle.case_journal.specs.Kept.{IsKept}
-use Rattle.case_journal.specs.Compacting.{HasSnapshotRoom, CompactStep, FindsRoom, IsWriteAnswer, compacted, noted, moved}
+use Rattle.case_journal.specs.declared.compacting.Place.{Place}
+use Rattle.case_journal.specs.Journaled.{Journaled}
+use Rattle.case_journal.specs.Compacting.{HasSnapshotRoom, BesideStep, FindsRoom, IsWriteAnswer}
 use Rattle.case_journal.specs.declared.faults.JournalFault.{JournalFault}
 use Rattle.case_journal.specs.declared.faults.JournalFault.TheVariants.{Stopped, JournalFull, NumbersSpent, OutOfMemory, Disk}
 
@@ -66,43 +64,38 @@ written_as s ch es target m same place version generation next measure left know
       };
     }
 
--- A compaction, for a journal over these entries.
-module _ (j : Journaled) (es : List Entry) (same : j.standing.cases ≡ map case_of es) where
-  fits : (m : Measure) → FindsRoom j.standing.shape j.standing.generation change.Nothing es (Ok m) → m.used ≡ snapshot_size (folded_of j.standing)
-  fits m found = found.0.0 ∙ snapshot_bytes_are change.Nothing es (folded_of j.standing) same
+-- What a change makes of a journal over these entries is written into its other half.
+module _ (s : Standing) (ch : Change) (es : List Entry) (same : s.cases ≡ map case_of es) where
+  abbrev f : Folded
+  f = changed ch (folded_of s)
 
-  pub has_room : (m : Measure) → FindsRoom j.standing.shape j.standing.generation change.Nothing es (Ok m) → HasSnapshotRoom j.standing (folded_of j.standing)
-  has_room m found = (omega (arith, fits m found, found.0.1), found.1)
+  size_is : (m : Measure) → FindsRoom s.shape s.generation ch es (Ok m) → m.used ≡ snapshot_size f
+  size_is m found = found.0.0 ∙ snapshot_bytes_are ch es (folded_of s) same
+
+  has_room : (m : Measure) → FindsRoom s.shape s.generation ch es (Ok m) → HasSnapshotRoom s f
+  has_room m found = (omega (arith, size_is m found, found.0.1), found.1)
 
   -- no room is found
-  pub room_refused : (f : JournalFault) → j.stopped ≡ false → FindsRoom j.standing.shape j.standing.generation change.Nothing es (Err f) → CompactStep j (Err f) j
-  room_refused JournalFull runs found =
-      let size : snapshot_bytes change.Nothing es ≡ snapshot_size (folded_of j.standing) = snapshot_bytes_are change.Nothing es (folded_of j.standing) same in
-      (runs, ⊎_elim (λ low. inl (omega (arith, low, size))) (λ last. inr last) found, refl)
-  room_refused Stopped runs found = absurd found
-  room_refused NumbersSpent runs found = absurd found
-  room_refused OutOfMemory runs found = absurd found
-  room_refused Disk runs found = absurd found
+  pub room_refused : (e : JournalFault) → FindsRoom s.shape s.generation ch es (Err e) → BesideStep s f (Err e)
+  room_refused JournalFull found =
+      let size : snapshot_bytes ch es ≡ snapshot_size f = snapshot_bytes_are ch es (folded_of s) same in
+      ⊎_elim (λ low. inl (omega (arith, low, size))) (λ last. inr last) found
+  room_refused Stopped found = absurd found
+  room_refused NumbersSpent found = absurd found
+  room_refused OutOfMemory found = absurd found
+  room_refused Disk found = absurd found
 
   -- the write is refused
-  pub write_refused : (f : JournalFault) (m : Measure) → j.stopped ≡ false → FindsRoom j.standing.shape j.standing.generation change.Nothing es (Ok m) → IsWriteAnswer (Err f) → CompactStep j (Err f) (noted f j)
-  write_refused OutOfMemory m runs found answer = (runs, has_room m found, refl)
-  write_refused Disk m runs found answer = (runs, has_room m found, refl)
-  write_refused Stopped m runs found answer = absurd answer
-  write_refused JournalFull m runs found answer = absurd answer
-  write_refused NumbersSpent m runs found answer = absurd answer
+  pub write_refused : (e : JournalFault) (m : Measure) → FindsRoom s.shape s.generation ch es (Ok m) → IsWriteAnswer (Err e) → BesideStep s f (Err e)
+  write_refused OutOfMemory m found answer = has_room m found
+  write_refused Disk m found answer = has_room m found
+  write_refused Stopped m found answer = absurd answer
+  write_refused JournalFull m found answer = absurd answer
+  write_refused NumbersSpent m found answer = absurd answer
 
   -- it is written
-  pub moved_is : (m : Measure) → j.stopped ≡ false → FindsRoom j.standing.shape j.standing.generation change.Nothing es (Ok m) → moved j m.used ≡ running (compacted j.standing)
-  moved_is m runs found =
-      ap (moved j) (fits m found)
-      ∙ ap (λ (t : Bool). record { standing = (moved j (snapshot_size (folded_of j.standing))).standing; stopped = t }) runs
-
-  pub written_nothing : (target : Target) (m : Measure) → target.start ≡ other_start j.standing → target.version ≡ j.standing.version → target.generation ≡ j.standing.generation + 1 → target.next ≡ j.standing.next
-      → FindsRoom j.standing.shape j.standing.generation change.Nothing es (Ok m) → IsKept j.standing.shape j.standing.version j.standing.cases j.standing.next j.standing.used
-      → IsWrittenAs j.standing (folded_of j.standing) target change.Nothing es
-  written_nothing target m place version generation next found kept =
-      written_as j.standing change.Nothing es target m same place version generation next found.0 found.1 kept.known kept.live
+  pub write_done : (p : Place) (m : Measure) → p ≡ record { half = other_half s.half; generation = s.generation + 1; used = m.used } → FindsRoom s.shape s.generation ch es (Ok m) → BesideStep s f (Ok p)
+  write_done p m is found = (has_room m found, is ∙ ap (λ (n : ℕ). record { half = other_half s.half; generation = s.generation + 1; used = n }) (size_is m found))
 
 -- a half lies in the halves
 pub in_halves : (shape : Shape) (half : Half) → (4096 ≤ half_start shape half) × (half_start shape half + half_length shape ≤ 4096 + 2 * half_length shape)
@@ -115,24 +108,12 @@ half_fills g old new shape half start is fills =
     fills_wider g start (half_length shape) 4096 (2 * half_length shape) old new (omega (arith, within.0, is)) (omega (arith, within.1, is)) fills
 
 -- the same, where the journal is seen as another name has it
-pub anew : (raw now : Journaled) (es : List Entry) (target : Target) (m : Measure) → raw ≡ now → raw.standing.cases ≡ map case_of es
-    → target.start ≡ other_start now.standing → target.version ≡ now.standing.version → target.generation ≡ now.standing.generation + 1 → target.next ≡ raw.standing.next
-    → FindsRoom raw.standing.shape raw.standing.generation change.Nothing es (Ok m) → IsKept raw.standing.shape raw.standing.version raw.standing.cases raw.standing.next raw.standing.used
-    → IsWrittenAs now.standing (folded_of now.standing) target change.Nothing es
-anew raw now es target m is same place version generation next found kept =
-    subst (λ (x : Journaled). IsWrittenAs x.standing (folded_of x.standing) target change.Nothing es) is
-    (written_nothing raw es same target m (place ∙ ap (λ (x : Journaled). other_start x.standing) (sym is)) (version ∙ ap (λ (x : Journaled). x.standing.version) (sym is))
-    (generation ∙ ap (λ (x : Journaled). x.standing.generation + 1) (sym is)) next found kept)
-
--- the cases keep, once the other half is taken
-pub keeps_anew : {D : Type 0} (g : disk.Ghosts D) (new : D) (s : Standing) → g.size new ≡ disk_length s.shape → (IsTrue (g.is_honest new) → Holds g new (compacted s)) → Keeps g new (running (compacted s))
-keeps_anew g new s size holds = record { size = size; holds = λ runs honest. holds honest }
-
-module _ (raw now : Journaled) (es : List Entry) (m : Measure) (is : raw ≡ now) (same : raw.standing.cases ≡ map case_of es) (runs : raw.stopped ≡ false)
-    (found : FindsRoom raw.standing.shape raw.standing.generation change.Nothing es (Ok m)) where
-  -- the other half is taken
-  pub moved_now : moved now m.used ≡ running (compacted now.standing)
-  moved_now = subst (λ (j : Journaled). moved j m.used ≡ running (compacted j.standing)) is (moved_is raw es same m runs found)
-
-  pub compact_done : (u : Unit {0}) → CompactStep now (Ok u) (moved now m.used)
-  compact_done u = subst (λ (j : Journaled). CompactStep j (Ok u) (moved j m.used)) is (runs, has_room raw es same m found, moved_is raw es same m runs found)
+pub anew : (raw now : Journaled) (ch : Change) (es : List Entry) (target : Target) (m : Measure) → raw ≡ now → raw.standing.cases ≡ map case_of es
+    → target.start ≡ other_start now.standing → target.version ≡ now.standing.version → target.generation ≡ now.standing.generation + 1 → target.next ≡ (changed ch (folded_of now.standing)).next
+    → FindsRoom raw.standing.shape raw.standing.generation ch es (Ok m) → is_known raw.standing.version ≡ true
+    → AreLive now.standing.shape.data_blocks (changed ch (folded_of now.standing)).cases (changed ch (folded_of now.standing)).next
+    → IsWrittenAs now.standing (changed ch (folded_of now.standing)) target ch es
+anew raw now ch es target m is same place version generation next found known live =
+    let found' : FindsRoom now.standing.shape now.standing.generation ch es (Ok m) = subst (λ (x : Journaled). FindsRoom x.standing.shape x.standing.generation ch es (Ok m)) is found in
+    let known' : is_known now.standing.version ≡ true = subst (λ (x : Journaled). is_known x.standing.version ≡ true) is known in
+    written_as now.standing ch es target m (subst (λ (x : Journaled). x.standing.cases ≡ map case_of es) is same) place version generation next found'.0 found'.1 known' live

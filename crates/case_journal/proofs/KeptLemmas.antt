@@ -12,41 +12,41 @@ use Rattle.journal_layout.specs.Live.{AreLive}
 use Rattle.journal_layout.specs.LiveLaws.{live_stored, live_dropped, live_pinned, live_read}
 use Rattle.case_journal.specs.Kept.{IsKept}
 
-module _ (shape : Shape) (version : ℕ) (cases : List Case) (next used size : ℕ) (kept : IsKept shape version cases next used) (room : used + size + 1 ≤ half_length shape) where
+module _ (shape : Shape) (version : ℕ) (cases : List Case) (next used : ℕ) (kept : IsKept shape version cases next used) where
   -- some cases left out
-  pub kept_left : (seqs : List ℕ) (after : List Case) → after ≡ dropped seqs cases → IsKept shape version after next (used + size)
+  pub kept_left : (seqs : List ℕ) (after : List Case) → after ≡ dropped seqs cases → IsKept shape version after next used
   kept_left seqs after is = record {
     limits = kept.limits;
     known = kept.known;
     live = subst (λ (cs : List Case). AreLive shape.data_blocks cs next) (sym is) (live_dropped shape.data_blocks cases next seqs kept.live);
     numbers = kept.numbers;
-    header = (let h = kept.header in omega arith);
-    gate = room;
+    header = kept.header;
+    gate = kept.gate;
   }
 
   -- a flag set
-  pub kept_pinned : (seq : ℕ) (flag : Bool) (after : List Case) → after ≡ with_pin seq flag cases → IsKept shape version after next (used + size)
+  pub kept_pinned : (seq : ℕ) (flag : Bool) (after : List Case) → after ≡ with_pin seq flag cases → IsKept shape version after next used
   kept_pinned seq flag after is = record {
     limits = kept.limits;
     known = kept.known;
     live = subst (λ (cs : List Case). AreLive shape.data_blocks cs next) (sym is) (live_pinned shape.data_blocks cases next seq flag kept.live);
     numbers = kept.numbers;
-    header = (let h = kept.header in omega arith);
-    gate = room;
+    header = kept.header;
+    gate = kept.gate;
   }
 
-  -- a case more
-  pub kept_stored : (c : Case) (after : List Case) → c.seq ≡ next → IsSound shape.data_blocks (record { version = version; cases = cases; next = next }) (Store c)
-      → after ≡ cases ++ c ∷ [] → IsKept shape version after (next + 1) (used + size)
-  kept_stored c after number sound is =
+  -- a case more, behind which the next record goes elsewhere
+  pub kept_stored : (c : Case) (after : List Case) (later : ℕ) → 32 ≤ later → later + 1 ≤ half_length shape → c.seq ≡ next → IsSound shape.data_blocks (record { version = version; cases = cases; next = next }) (Store c)
+      → after ≡ cases ++ c ∷ [] → IsKept shape version after (next + 1) later
+  kept_stored c after later header gate number sound is =
       let live = live_stored shape.data_blocks cases next c kept.live sound.0 sound.1 sound.2 in
       record {
         limits = kept.limits;
         known = kept.known;
         live = subst (λ (n : ℕ). AreLive shape.data_blocks after (n + 1)) number (subst (λ (cs : List Case). AreLive shape.data_blocks cs (c.seq + 1)) (sym is) live);
         numbers = (let high = sound.1 in omega arith);
-        header = (let h = kept.header in omega arith);
-        gate = room;
+        header = header;
+        gate = gate;
       }
 
 -- the cases that are read

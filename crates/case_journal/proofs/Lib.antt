@@ -5,6 +5,7 @@ pub mod FormatLemmas
 pub mod KeptLemmas
 pub mod OpenLemmas
 pub mod PublishLemmas
+pub mod PutLemmas
 pub mod SeqLemmas
 pub mod StandLemmas
 pub mod ViewLemmas

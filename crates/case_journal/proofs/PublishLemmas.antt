@@ -7,7 +7,7 @@ use Rattle.disk_model.specs.PlaceLaws.{overwritten_outside, overwritten_length}
 use Rattle.disk_model.specs.PartLaws.{part_is, part_split, part_overwritten, part_within, part_place, part_after, part_length, place_before, place_after, same_twice, widened}
 use Rattle.journal_layout.specs.Layout.{half_start}
 use Rattle.journal_layout.specs.Record.{Record, record_size, behind_gate, spelling}
-use Rattle.journal_layout.specs.Standing.{Standing, appended}
+use Rattle.journal_layout.specs.Standing.{Standing, lengthened}
 use Rattle.journal_layout.specs.Stands.{Stands, records_area}
 use Rattle.case_journal.specs.Publishing.{Publishes}
 use Rattle.case_journal.proofs.StandLemmas.{gate_of, half_ends, limits_in, gate_within, area_place, still_stands, stands_after}
@@ -120,7 +120,7 @@ module _ (s : Standing) (r : Record) (gate : ℕ) (behind : List ℕ) (p : Publi
       ∙ ap (λ (l : List ℕ). l ++ part c (gate + 1) k) (one_place c gate (long_enough c same) ∙ ap (λ (x : ℕ). x ∷ []) opened)
       ∙ ap (λ (l : List ℕ). 165 ∷ l) (behind_part c same)
 
-  after_gate : (c : List ℕ) → SameOutside gate 1 once c → slice_index c gate ≡ 165 → Stands c (appended s r)
+  after_gate : (c : List ℕ) → SameOutside gate 1 once c → slice_index c gate ≡ 165 → Stands c (lengthened s r)
   after_gate c same opened =
       let place = p.place in
       let room = p.room in
@@ -137,11 +137,11 @@ module _ (s : Standing) (r : Record) (gate : ℕ) (behind : List ℕ) (p : Publi
       still_stands s (1 + length behind) d c stands (wide_same c same) (omega arith) (λ opened. closed (ap (slice_index c) place ∙ opened))
 
   -- while the gate is written
-  pub at_gate : (c : List ℕ) → SameOutside gate 1 once c → Stands c s ⊎ Stands c (appended s r)
+  pub at_gate : (c : List ℕ) → SameOutside gate 1 once c → Stands c s ⊎ Stands c (lengthened s r)
   at_gate c same = ⊎_elim (λ opened. inr (after_gate c same opened)) (λ closed. inl (unopened c same closed)) (cases_eq (slice_index c gate) 165)
 
   -- once it is written
-  pub made : Stands (overwritten once gate (165 ∷ [])) (appended s r)
+  pub made : Stands (overwritten once gate (165 ∷ [])) (lengthened s r)
   made =
       let within = lies in
       let f = overwritten_length d (gate + 1) behind within in

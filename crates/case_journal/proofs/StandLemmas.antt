@@ -9,7 +9,7 @@ use Rattle.journal_layout.specs.declared.shape.Half.TheVariants.{A, B}
 use Rattle.journal_layout.specs.Layout.{IsWithinLimits, disk_length, half_start, half_length, data_start}
 use Rattle.journal_layout.specs.Record.{Record, record_size, spelling}
 use Rattle.journal_layout.specs.Folding.{nothing_yet}
-use Rattle.journal_layout.specs.Standing.{Standing, folded_of, appended}
+use Rattle.journal_layout.specs.Standing.{Standing, folded_of, lengthened}
 use Rattle.journal_layout.specs.Stands.{AreRead, Stands, records_start, records_area, front_of}
 use Rattle.journal_layout.specs.RowLaws.{row_same}
 use Rattle.case_journal.specs.Append.{MayFollow}
@@ -106,7 +106,7 @@ still_stands s n d c stands same within closed =
 -- it stands for one record more where that is spelled from the next gate on, with a gate behind it that is not open
 pub stands_after : (s : Standing) (r : Record) (n : ℕ) (d c : List ℕ) → Stands d s → SameOutside (gate_of s) n d c → s.used + n ≤ half_length s.shape
     → record_size r + 1 ≤ n → MayFollow s r → part c (gate_of s) (record_size r) ≡ spelling r → slice_index c (gate_of s + record_size r) ≢ 165
-    → Stands c (appended s r)
+    → Stands c (lengthened s r)
 stands_after s r n d c stands same within fits sound spelled closed =
     let l = limits_in d s stands in
     let low = half_low s.shape s.half in

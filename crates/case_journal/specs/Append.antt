@@ -1,21 +1,24 @@
 -- What an append does to a journal, and when it is refused.
-use Rattle.std.specs.Prelude.{◌≡◌, ℕ, ◌+◌, ◌^◌, ◌<◌, ◌≤◌, true, false, Result, Ok, Err}
+use Rattle.std.specs.Prelude.{◌≡◌, ◌⊎◌, ℕ, ◌+◌, ◌^◌, ◌<◌, ◌≤◌, true, false, Result, Ok, Err}
 use Rattle.journal_layout.specs.Layout.{half_length}
 use Rattle.journal_layout.specs.Case.{Case}
 use Rattle.journal_layout.specs.Record.{Record, record_size}
 use Rattle.journal_layout.specs.Standing.{Standing, folded_of, store_of}
 use Rattle.journal_layout.specs.Soundness.{IsSound, IsStorable}
 use Rattle.journal_layout.specs.declared.entry.Entry.{Entry}
+use Rattle.journal_layout.specs.Folding.{after}
+use Rattle.case_journal.specs.Refusing.{LeavesDisk}
+use Rattle.case_journal.specs.Compacting.{HasSnapshotRoom, LacksSnapshotRoom}
 use Rattle.case_journal.specs.Journaled.{Journaled, halted, goes_on}
 use Rattle.case_journal.specs.declared.faults.JournalFault.{JournalFault}
 use Rattle.case_journal.specs.declared.faults.JournalFault.TheVariants.{Stopped, JournalFull, NumbersSpent, OutOfMemory, Disk}
 
--- the record and the gate behind it fit into the taken half
+-- The record and the gate behind it fit into the taken half, or what is said with it has room in the other half.
 abbrev pub HasRoom : Standing → Record → Type 0
-HasRoom s r = s.used + record_size r + 1 ≤ half_length s.shape
+HasRoom s r = (s.used + record_size r + 1 ≤ half_length s.shape) ⊎ HasSnapshotRoom s (after r (folded_of s))
 
 abbrev pub LacksRoom : Standing → Record → Type 0
-LacksRoom s r = half_length s.shape < s.used + record_size r + 1
+LacksRoom s r = (half_length s.shape < s.used + record_size r + 1) × LacksSnapshotRoom s (after r (folded_of s))
 
 -- the case may be stored: its record passes every check but that of its number
 abbrev pub MayStore : Standing → Case → Type 0
@@ -56,11 +59,6 @@ StoreStep old c (Err e) new = StoreRefused old c e.0 new
 abbrev pub IsStoreDiskFault : Result ℕ (JournalFault × Entry) → Type 0
 IsStoreDiskFault (Ok seq) = ⊥
 IsStoreDiskFault (Err e) = e.0 ≡ Disk
-
--- all refusals but that of the disk leave it as it is
-abbrev pub LeavesDisk : {D : Type 0} → JournalFault → D → D → Type 0
-LeavesDisk Disk old new = Unit {0}
-LeavesDisk _ old new = new ≡ old
 
 abbrev pub RefusalLeaves : {D : Type 0} → Result (Unit {0}) JournalFault → D → D → Type 0
 RefusalLeaves (Ok u) old new = Unit {0}

@@ -1,5 +1,5 @@
 -- What writing a journal anew into its other half does to it, and when it is refused.
-use Rattle.std.specs.Prelude.{◌≡◌, ◌⊎◌, ℕ, ◌+◌, ◌^◌, ◌<◌, ◌≤◌, true, false, Result, Ok, Err, List}
+use Rattle.std.specs.Prelude.{◌≡◌, ◌⊎◌, ℕ, ◌+◌, ◌*◌, ◌^◌, ◌<◌, ◌≤◌, true, false, Result, Ok, Err, List, IsTrue, Some}
 use Rattle.journal_layout.specs.declared.entry.Entry.{Entry}
 use Rattle.journal_layout.specs.declared.shape.Shape.{Shape}
 use Rattle.journal_layout.specs.Layout.{half_length}
@@ -9,7 +9,12 @@ use Rattle.journal_layout.specs.Rewriting.{other_half, snapshot_size, rewritten}
 use Rattle.journal_snapshot.specs.declared.change.Change.{Change}
 use Rattle.journal_snapshot.specs.declared.measure.Measure.{Measure}
 use Rattle.journal_snapshot.specs.Measuring.{IsMeasure, snapshot_bytes}
-use Rattle.std.specs.Prelude.{Some}
+use Rattle.disk_model.specs.declared.disk.Disk as disk
+use Rattle.disk_model.specs.Moments.{LeavesOnly}
+use Rattle.journal_layout.specs.Stands.{Stands}
+use Rattle.journal_snapshot.specs.Filling.{Fills}
+use Rattle.case_journal.specs.declared.compacting.Place.{Place}
+use Rattle.case_journal.specs.Refusing.{LeavesDisk}
 use Rattle.case_journal.specs.Journaled.{Journaled, running, halted}
 use Rattle.case_journal.specs.declared.faults.JournalFault.{JournalFault}
 use Rattle.case_journal.specs.declared.faults.JournalFault.TheVariants.{Stopped, JournalFull, NumbersSpent, OutOfMemory, Disk}
@@ -24,6 +29,27 @@ LacksSnapshotRoom s f = (half_length s.shape < snapshot_size f + 1) ⊎ (s.gener
 -- the same cases and next number, written anew
 abbrev pub compacted : Standing → Standing
 compacted s = rewritten s (folded_of s)
+
+-- the next record goes there
+abbrev pub moved : Journaled → Place → Journaled
+moved j p = record j { standing = record j.standing { half = p.half; generation = p.generation; used = p.used } }
+
+-- behind a snapshot of what is said, in the other half
+abbrev pub beside : Standing → Folded → Place
+beside s f = record { half = other_half s.half; generation = s.generation + 1; used = snapshot_size f }
+
+-- The journal is written anew with what is said then: only room, memory and the disk refuse it.
+abbrev pub BesideStep : Standing → Folded → Result Place JournalFault → Type 0
+BesideStep s f (Ok p) = HasSnapshotRoom s f × (p ≡ beside s f)
+BesideStep s f (Err JournalFull) = LacksSnapshotRoom s f
+BesideStep s f (Err OutOfMemory) = HasSnapshotRoom s f
+BesideStep s f (Err Disk) = HasSnapshotRoom s f
+BesideStep s f (Err _) = ⊥
+
+-- all refusals but that of the disk leave it as it is
+abbrev pub PutLeaves : {D : Type 0} → Result Place JournalFault → D → D → Type 0
+PutLeaves (Ok p) old new = Unit {0}
+PutLeaves (Err f) old new = LeavesDisk f old new
 
 -- A compaction: refused in the order of the faults, each under its condition.
 abbrev pub CompactStep : Journaled → Result (Unit {0}) JournalFault → Journaled → Type 0
@@ -56,6 +82,9 @@ abbrev pub noted : JournalFault → Journaled → Journaled
 noted Disk j = halted j
 noted _ j = j
 
--- the other half is taken, with so many bytes in use
-abbrev pub moved : Journaled → ℕ → Journaled
-moved j used = record j { standing = record j.standing { half = other_half j.standing.half; generation = j.standing.generation + 1; used = used } }
+-- What it does to the disk: a crash at any moment leaves what stood before or what is said then, and nothing is changed but
+-- the halves.
+pub record RunsBeside {D : Type 0} (g : disk.Ghosts D) (old new : D) (s : Standing) (f : Folded) : Type 0 where
+  pub moments : IsTrue (g.is_honest old) → LeavesOnly g old new (λ c. Stands c s ⊎ Stands c (rewritten s f))
+  pub fills : Fills g old new 4096 (2 * half_length s.shape)
+  pub later : g.failures old ≤ g.failures new

@@ -1,25 +1,36 @@
 -- How an open journal takes in what a record says.
-use Rattle.std.specs.Prelude.{◌≡◌, ◌⊎◌, ℕ, ◌+◌, Bool, List, [], ◌∷◌, ◌++◌, Result, Ok, Err}
+use Rattle.std.specs.Prelude.{◌≡◌, ℕ, ◌+◌, Bool, List, [], ◌∷◌, ◌++◌, Result, Ok, Err}
 use Rattle.journal_layout.specs.Case.{Case}
 use Rattle.journal_layout.specs.Folding.{dropped, with_pin}
-use Rattle.case_journal.specs.Journaled.{Journaled, halted}
+use Rattle.journal_layout.specs.Record.{Record}
+use Rattle.journal_layout.specs.Rewriting.{appended}
+use Rattle.journal_layout.specs.Standing.{Standing}
+use Rattle.case_journal.specs.declared.compacting.Place.{Place}
+use Rattle.case_journal.specs.Append.{HasRoom, LacksRoom}
+use Rattle.case_journal.specs.Journaled.{Journaled}
 use Rattle.case_journal.specs.declared.faults.JournalFault.{JournalFault}
-use Rattle.case_journal.specs.declared.faults.JournalFault.TheVariants.{OutOfMemory, Disk}
-use Rattle.journal_layout.specs.declared.entry.Entry.{Entry}
+use Rattle.case_journal.specs.declared.faults.JournalFault.TheVariants.{JournalFull, OutOfMemory, Disk}
 
--- one case more, by a record of so many bytes
-abbrev pub entered : Journaled → Case → ℕ → Journaled
-entered j c size = record j { standing = record j.standing { cases = j.standing.cases ++ c ∷ []; next = j.standing.next + 1; used = j.standing.used + size } }
+-- one case more
+abbrev pub entered : Journaled → Case → Journaled
+entered j c = record j { standing = record j.standing { cases = j.standing.cases ++ c ∷ []; next = j.standing.next + 1 } }
 
 -- without the cases of these numbers
-abbrev pub left : Journaled → List ℕ → ℕ → Journaled
-left j seqs size = record j { standing = record j.standing { cases = dropped seqs j.standing.cases; used = j.standing.used + size } }
+abbrev pub left : Journaled → List ℕ → Journaled
+left j seqs = record j { standing = record j.standing { cases = dropped seqs j.standing.cases } }
 
 -- the case of this number pinned or not
-abbrev pub repinned : Journaled → ℕ → Bool → ℕ → Journaled
-repinned j seq flag size = record j { standing = record j.standing { cases = with_pin seq flag j.standing.cases; used = j.standing.used + size } }
+abbrev pub repinned : Journaled → ℕ → Bool → Journaled
+repinned j seq flag = record j { standing = record j.standing { cases = with_pin seq flag j.standing.cases } }
 
--- a case is stored: with its record put, without memory, or stopped
-abbrev pub EntersCase : Journaled → Case → ℕ → Result (Unit {0}) (JournalFault × Entry) → Journaled → Type 0
-EntersCase old c size (Ok u) new = new ≡ entered old c size
-EntersCase old c size (Err e) new = ((e.0 ≡ OutOfMemory) × (new ≡ old)) ⊎ ((e.0 ≡ Disk) × (new ≡ halted old))
+-- where the next record goes after this one
+abbrev pub place_after : Standing → Record → Place
+place_after s r = record { half = (appended s r).half; generation = (appended s r).generation; used = (appended s r).used }
+
+-- the writing of a record: refused in the order of the faults, each under its condition
+abbrev pub PutStep : Standing → Record → Result Place JournalFault → Type 0
+PutStep s r (Ok p) = HasRoom s r × (p ≡ place_after s r)
+PutStep s r (Err JournalFull) = LacksRoom s r
+PutStep s r (Err OutOfMemory) = HasRoom s r
+PutStep s r (Err Disk) = HasRoom s r
+PutStep s r (Err _) = ⊥

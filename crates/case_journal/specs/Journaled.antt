@@ -1,7 +1,8 @@
 -- What contracts see of an open journal.
 use Rattle.std.specs.Prelude.{Bool, true, false}
 use Rattle.journal_layout.specs.Record.{Record}
-use Rattle.journal_layout.specs.Standing.{Standing, appended}
+use Rattle.journal_layout.specs.Standing.{Standing}
+use Rattle.journal_layout.specs.Rewriting.{appended}
 
 pub record Journaled : Type 0 where
   pub standing : Standing

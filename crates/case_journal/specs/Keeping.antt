@@ -4,9 +4,10 @@ use Rattle.disk_model.specs.Disk.{ChangedIn}
 use Rattle.disk_model.specs.Moments.{LeavesOnly}
 use Rattle.disk_model.specs.Places.{SameOutside}
 use Rattle.disk_model.specs.declared.disk.Disk as disk
-use Rattle.journal_layout.specs.Layout.{disk_length, half_start, half_length, data_start}
+use Rattle.journal_layout.specs.Layout.{disk_length, half_length, data_start}
 use Rattle.journal_layout.specs.Record.{Record}
-use Rattle.journal_layout.specs.Standing.{Standing, appended}
+use Rattle.journal_layout.specs.Standing.{Standing}
+use Rattle.journal_layout.specs.Rewriting.{appended}
 use Rattle.journal_layout.specs.Stands.{Stands}
 use Rattle.journal_snapshot.specs.Holding.{SameHeaders, Holds}
 use Rattle.case_journal.specs.Journaled.{Journaled}
@@ -20,13 +21,9 @@ pub record Keeps {D : Type 0} (g : disk.Ghosts D) (d : D) (j : Journaled) : Type
 abbrev pub LeavesEither : {D : Type 0} → disk.Ghosts D → D → D → Standing → Record → Type 0
 LeavesEither g old new s r = LeavesOnly g old new (λ c. Stands c s ⊎ Stands c (appended s r))
 
--- what a crash at any moment leaves is what one before could have left, but for bytes of the taken half
-abbrev pub LeavesOutside : {D : Type 0} → disk.Ghosts D → D → D → Standing → Type 0
-LeavesOutside g old new s = LeavesOnly g old new (ChangedIn (half_start s.shape s.half) (half_length s.shape) (g.may_leave old))
-
 -- what a crash at any moment leaves is what one before could have left, but for bytes of the two halves
-abbrev pub LeavesOutsideHalves : {D : Type 0} → disk.Ghosts D → D → D → Standing → Type 0
-LeavesOutsideHalves g old new s = LeavesOnly g old new (ChangedIn 4096 (2 * half_length s.shape) (g.may_leave old))
+abbrev pub LeavesOutside : {D : Type 0} → disk.Ghosts D → D → D → Standing → Type 0
+LeavesOutside g old new s = LeavesOnly g old new (ChangedIn 4096 (2 * half_length s.shape) (g.may_leave old))
 
 -- what is changed behind the halves leaves what the bytes stand for, and both headers
 abbrev pub DataIsApart : Type 0

@@ -7,4 +7,5 @@ pub mod Keeping
 pub mod Kept
 pub mod Publishing
 pub mod Putting
+pub mod Refusing
 pub mod Viewing

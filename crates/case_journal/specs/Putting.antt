@@ -1,13 +1,15 @@
 -- A record as bytes that are to be put behind those of a journal.
-use Rattle.std.specs.Prelude.{◌≡◌, ℕ, List, [], ◌∷◌, ◌++◌, length, Result, Ok, Err, true, false}
+use Rattle.std.specs.Prelude.{◌≡◌, ℕ, ◌+◌, ◌*◌, ◌≤◌, List, [], ◌∷◌, ◌++◌, length, IsTrue, Result, Ok, Err}
+use Rattle.disk_model.specs.declared.disk.Disk as disk
+use Rattle.journal_layout.specs.Layout.{half_length}
 use Rattle.journal_layout.specs.Record.{Record, behind_gate, record_size}
 use Rattle.journal_layout.specs.Standing.{Standing}
-use Rattle.case_journal.specs.Journaled.{Journaled}
-use Rattle.case_journal.specs.Append.{MayFollow}
-use Rattle.journal_layout.specs.Layout.{half_length}
-use Rattle.std.specs.Prelude.{◌+◌, ◌<◌, ◌≤◌}
+use Rattle.journal_snapshot.specs.Filling.{Fills}
+use Rattle.case_journal.specs.declared.compacting.Place.{Place}
 use Rattle.case_journal.specs.declared.faults.JournalFault.{JournalFault}
-use Rattle.case_journal.specs.declared.faults.JournalFault.TheVariants.{Stopped, JournalFull}
+use Rattle.case_journal.specs.declared.faults.JournalFault.TheVariants.{JournalFull, Disk}
+use Rattle.case_journal.specs.Append.{HasRoom, LacksRoom, MayFollow}
+use Rattle.case_journal.specs.Keeping.{LeavesEither}
 
 -- These bytes are what stands behind the record's gate, and a closed gate; the record may follow those of the journal.
 pub record IsPut (s : Standing) (r : Record) (behind : List ℕ) : Type 0 where
@@ -15,9 +17,21 @@ pub record IsPut (s : Standing) (r : Record) (behind : List ℕ) : Type 0 where
   pub long : length behind ≡ record_size r
   pub sound : MayFollow s r
 
--- Whether a record of so many bytes may be begun.
-abbrev pub MayBegin : Journaled → ℕ → Result (Unit {0}) JournalFault → Type 0
-MayBegin j size (Ok u) = (j.stopped ≡ false) × (j.standing.used + size + 1 ≤ half_length j.standing.shape)
-MayBegin j size (Err Stopped) = j.stopped ≡ true
-MayBegin j size (Err JournalFull) = (j.stopped ≡ false) × (half_length j.standing.shape < j.standing.used + size + 1)
-MayBegin j size (Err _) = ⊥
+-- a record is put behind the others: only the disk refuses it
+abbrev pub BehindStep : Standing → ℕ → Result Place JournalFault → Type 0
+BehindStep s size (Ok p) = p ≡ record { half = s.half; generation = s.generation; used = s.used + size }
+BehindStep s size (Err Disk) = Unit {0}
+BehindStep s size (Err _) = ⊥
+
+-- whether a record has room, behind the others or in the other half
+abbrev pub HasRoomFor : Standing → Record → Result (Unit {0}) JournalFault → Type 0
+HasRoomFor s r (Ok u) = HasRoom s r
+HasRoomFor s r (Err JournalFull) = LacksRoom s r
+HasRoomFor s r (Err _) = ⊥
+
+-- What an append does to the disk: a crash at any moment leaves what stood before or what stands after, and nothing is
+-- changed but the halves.
+pub record RunsAppend {D : Type 0} (g : disk.Ghosts D) (old new : D) (s : Standing) (r : Record) : Type 0 where
+  pub moments : IsTrue (g.is_honest old) → LeavesEither g old new s r
+  pub fills : Fills g old new 4096 (2 * half_length s.shape)
+  pub later : g.failures old ≤ g.failures new

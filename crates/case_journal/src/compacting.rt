@@ -8,20 +8,30 @@ ghost use Rattle.journal_layout.specs.Folding.{Folded};
 ghost use Rattle.journal_layout.specs.Standing.{Standing};
 ghost use Rattle.journal_layout.specs.Stands.{Stands};
 ghost use Rattle.journal_layout.specs.Rewriting.{other_half, other_start, rewritten};
-ghost use Rattle.journal_snapshot.specs.Changing.{IsOrdered};
+ghost use Rattle.journal_layout.specs.Live.{AreLive};
+ghost use Rattle.journal_layout.specs.Standing.{folded_of};
+ghost use Rattle.journal_snapshot.specs.Changing.{IsOrdered, changed};
 ghost use Rattle.journal_snapshot.specs.Measuring.{AreShort, IsShort, IsMeasure};
 ghost use Rattle.journal_snapshot.specs.Filling.{Fills};
 ghost use Rattle.journal_snapshot.specs.Holding.{Holds};
 ghost use Rattle.journal_snapshot.specs.Halves.{IsWrittenAs};
 ghost use Rattle.case_journal.specs.Append.{RefusalLeaves};
-ghost use Rattle.case_journal.specs.Compacting.{CompactStep, FindsRoom, IsWriteAnswer, compacted, noted, moved};
-ghost use Rattle.case_journal.specs.Keeping.{Keeps, LeavesOutsideHalves};
+ghost use Rattle.case_journal.specs.Compacting.{BesideStep, RunsBeside, CompactStep, FindsRoom, IsWriteAnswer, compacted, noted, moved, PutLeaves};
+ghost use Rattle.case_journal.specs.Keeping.{Keeps, LeavesOutside};
 
 use crate::{Journal, JournalFault};
 use disk_model::Disk;
 use journal_layout::{Entry, Half, Shape};
 use journal_snapshot::{Change, Measure, Target, measured, rewrite};
 use std::alloc::Global;
+
+/// Where the next record goes: the half that is taken, its generation, and the bytes of its header and records.
+#[derive(Clone, Copy)]
+pub(crate) struct Place {
+    pub(crate) half: Half,
+    pub(crate) generation: u64,
+    pub(crate) used: u64,
+}
 
 // The half that this one is not.
 fn other_half(half: Half) -> Half
@@ -110,7 +120,7 @@ impl Journal {
         ensures keeps { Keeps D.Disk disk.new self.new }
         // No byte outside the two halves is changed.
         ensures outside { IsTrue (D.is_honest disk.old)
-            → LeavesOutsideHalves D.Disk disk.old disk.new self.old.standing }
+            → LeavesOutside D.Disk disk.old disk.new self.old.standing }
         ensures others { IsTrue (D.is_honest disk.old)
             → SameOutside 4096 (2 * half_length self.old.standing.shape) (D.seen disk.old) (D.seen disk.new) }
         ensures cause { result ≡ Err JournalFault.Disk → HasRisen (D.failures disk.old) (D.failures disk.new) }
@@ -121,25 +131,56 @@ impl Journal {
         if self.stopped {
             return Err(JournalFault::Stopped);
         }
-        let change = Change::Nothing;
-        let measure = room_beside(&self.entries, self.shape, self.generation, &change)?;
-        let target = self.target(self.next);
+        match self.put_beside(disk, &Change::Nothing, self.next) {
+            Ok(place) => {
+                self.move_to(place);
+                Ok(())
+            }
+            Err(fault) => {
+                self.note_fault(fault);
+                Err(fault)
+            }
+        }
+    }
+
+    // Writes what a change makes of the journal into the other half, which is taken then. Answers where the next record
+    // goes.
+    pub(crate) fn put_beside<D: Disk>(
+        &self,
+        disk: &mut D,
+        change: &Change,
+        next: u64,
+    ) -> Result<Place, JournalFault>
+        requires keeps { Keeps D.Disk disk.old self.now }
+        requires runs { self.now.stopped ≡ false }
+        requires order { IsOrdered change.now }
+        requires short { IsShort change.now }
+        requires next { next ≡ (changed change.now (folded_of self.now.standing)).next }
+        requires live { AreLive self.now.standing.shape.data_blocks (changed change.now (folded_of self.now.standing)).cases (changed change.now (folded_of self.now.standing)).next }
+        ensures step { BesideStep self.now.standing (changed change.now (folded_of self.now.standing)) result }
+        ensures run { RunsBeside D.Disk disk.old disk.new self.now.standing (changed change.now (folded_of self.now.standing)) }
+        ensures holds { IsTrue (D.is_honest disk.old)
+            → OnOk result (Holds D.Disk disk.new (rewritten self.now.standing (changed change.now (folded_of self.now.standing)))) }
+        ensures untouched { PutLeaves result disk.old disk.new }
+        ensures cause { result ≡ Err JournalFault.Disk → HasRisen (D.failures disk.old) (D.failures disk.new) }
+    {
+        let measure = room_beside(&self.entries, self.shape, self.generation, change)?;
+        let target = self.target(next);
         let half = self.shape.half_length();
-        let written = write_beside(
+        write_beside(
             self.alloc(),
             disk,
             target,
             &self.entries,
-            &change,
+            change,
             measure,
             half,
-        );
-        if let Err(fault) = written {
-            self.note_fault(fault);
-            return Err(fault);
-        }
-        self.move_over(measure.used);
-        Ok(())
+        )?;
+        Ok(Place {
+            half: other_half(self.half),
+            generation: target.generation,
+            used: measure.used,
+        })
     }
 
     // Where the journal is written anew: the other half, with the next generation.
@@ -159,24 +200,21 @@ impl Journal {
     }
 
     // A fault of the disk stops it.
-    fn note_fault(&mut self, fault: JournalFault)
-        requires { IsWriteAnswer (Err fault) }
+    pub(crate) fn note_fault(&mut self, fault: JournalFault)
+        requires { self.old.stopped ≡ false }
         ensures { self.new ≡ noted fault self.old }
     {
-        if fault == JournalFault::Disk {
-            self.stopped = true;
-        }
+        self.stopped = fault == JournalFault::Disk;
     }
 
-    // The other half is taken now, with so many bytes in use.
-    fn move_over(&mut self, used: u64)
-        requires generation { self.old.standing.generation + 1 < 2 ^ 64 }
-        requires header { 32 ≤ used }
-        requires gate { used + 1 ≤ half_length self.old.standing.shape }
-        ensures { self.new ≡ moved self.old used }
+    // The next record goes there.
+    pub(crate) fn move_to(&mut self, place: Place)
+        requires header { 32 ≤ place.used }
+        requires gate { place.used + 1 ≤ half_length self.old.standing.shape }
+        ensures { self.new ≡ moved self.old place }
     {
-        self.half = other_half(self.half);
-        self.generation += 1;
-        self.used = used;
+        self.half = place.half;
+        self.generation = place.generation;
+        self.used = place.used;
     }
 }

@@ -1,28 +1,32 @@
 // An open journal, and its appends.
-ghost use Rattle.std.specs.Prelude.{◌≡◌, ◌≢◌, ◌+◌, ◌<◌, ◌≤◌, ◌^◌, false, Bool, ◌++◌, ◌∷◌, [], length, map, IsTrue, OnOk, IfOk, IfErr, IfSome, None, Err, Ok, ℕ, vec_len, vec_capacity, option_map};
+ghost use Rattle.std.specs.Prelude.{◌≡◌, ◌≢◌, ◌+◌, ◌*◌, ◌<◌, ◌≤◌, ◌^◌, nat_lt, true, false, Bool, ◌++◌, ◌∷◌, [], length, map, IsTrue, OnOk, IfOk, IfErr, IfSome, None, Err, Ok, ℕ, vec_len, vec_capacity, option_map};
 ghost use Rattle.std.specs.List.{HoldsAt};
 ghost use Rattle.journal_layout.specs.Live.{seq_of_case};
 ghost use Rattle.journal_layout.specs.declared.entry.Entry.{Entry};
 ghost use Rattle.disk_model.specs.Places.{SameOutside};
-ghost use Rattle.disk_model.specs.Disk.{HasRisen, HasCause};
+ghost use Rattle.disk_model.specs.Disk.{HasRisen};
 ghost use Rattle.journal_layout.specs.Case.{case_of, numbered};
 ghost use Rattle.journal_layout.specs.Record.{Record, Store, Drop, Pin, record_size, behind_gate};
 ghost use Rattle.journal_layout.specs.Layout.{IsWithinLimits, disk_length, half_start, half_length};
 ghost use Rattle.journal_layout.specs.Folding.{with_pin, dropped, is_among};
 ghost use Rattle.journal_layout.specs.Soundness.{case_numbered, Rise};
 ghost use Rattle.journal_layout.specs.Standing.{store_of};
+ghost use Rattle.journal_layout.specs.Rewriting.{fits};
 ghost use Rattle.case_journal.specs.Journaled.{Journaled, halted, goes_on};
 ghost use Rattle.case_journal.specs.Keeping.{Keeps, LeavesEither, LeavesOutside};
 ghost use Rattle.case_journal.specs.Append.{MayStore, MayFollow, StoreStep, AppendStep, IsStoreDiskFault, RefusalLeaves, StoreRefusalLeaves};
-ghost use Rattle.case_journal.specs.Entering.{entered, left, repinned, EntersCase};
-ghost use Rattle.case_journal.specs.Putting.{IsPut, MayBegin};
+ghost use Rattle.case_journal.specs.Entering.{left, repinned, PutStep};
+ghost use Rattle.case_journal.specs.Putting.{IsPut, BehindStep, HasRoomFor, RunsAppend};
+ghost use Rattle.case_journal.specs.Compacting.{PutLeaves};
 
 use crate::JournalFault;
+use crate::compacting::{Place, room_beside};
 use crate::publish::publish;
-use disk_model::{Disk, DiskFault};
+use disk_model::Disk;
 use journal_layout::{Entry, Half, Shape};
 use journal_records::{PIN_SIZE, drop_record, drop_size, pin_record, store_record, store_size};
-use std::alloc::{AllocError, Global};
+use journal_snapshot::{Change, is_listed};
+use std::alloc::Global;
 use std::marker::Model;
 
 /// The journal of an open archive: its cases, the number of the next one, and where the next record goes. Contracts see
@@ -105,44 +109,120 @@ impl Journal {
         self.shape
     }
 
-    // Whether a record of so many bytes may be begun, but for memory and numbers.
-    fn may_begin(&self, size: u64) -> Result<(), JournalFault>
-        ensures begun { MayBegin self.now size result }
-        ensures small { OnOk result (size < 16777216) }
+    // Whether a record of so many bytes, and the gate behind it, go behind those that stand there.
+    fn fits(&self, size: u64) -> bool
+        ensures room { result ≡ nat_lt (self.now.standing.used + size) (half_length self.now.standing.shape) }
+        ensures small { result ≡ true → size ≤ 16777216 }
     {
-        if self.stopped {
-            return Err(JournalFault::Stopped);
-        }
-        if size >= self.shape.half_length() - self.used {
-            return Err(JournalFault::JournalFull);
+        size < self.shape.half_length() - self.used
+    }
+
+    // Whether a case has room, behind the records or in the other half. Its number is not looked at.
+    fn room_for(&self, entry: &Entry, size: u64) -> Result<(), JournalFault>
+        requires size { size ≡ record_size (store_of self.now.standing (case_of entry.now)) }
+        requires short { length entry.now.runs ≤ 2 ^ 52 }
+        ensures { HasRoomFor self.now.standing (store_of self.now.standing (case_of entry.now)) result }
+    {
+        if !self.fits(size) {
+            let change = Change::Store(0, entry);
+            room_beside(&self.entries, self.shape, self.generation, &change)?;
         }
         Ok(())
     }
 
-    // Puts a record behind those that stand there, whatever record it is.
-    fn put<D: Disk>(&self, disk: &mut D, behind: &[u8]) -> Result<(), DiskFault>
+    // Puts a record behind those that stand there, whatever record it is. Answers where the next one goes.
+    fn put_behind<D: Disk>(&self, disk: &mut D, behind: &[u8]) -> Result<Place, JournalFault>
         requires keeps { Keeps D.Disk disk.old self.now }
         requires runs { self.now.stopped ≡ false }
         requires room { self.now.standing.used + length behind.now + 1 ≤ half_length self.now.standing.shape }
-        ensures any_moment { (r : Record) → IsPut self.now.standing r behind.now
-            → IsTrue (D.is_honest disk.old)
-            → LeavesEither D.Disk disk.old disk.new self.now.standing r }
+        ensures step { BehindStep self.now.standing (length behind.now) result }
+        ensures run { (r : Record) → IsPut self.now.standing r behind.now → RunsAppend D.Disk disk.old disk.new self.now.standing r }
         ensures kept { (r : Record) → IsPut self.now.standing r behind.now
             → OnOk result (Keeps D.Disk disk.new (goes_on self.now r)) }
-        ensures outside { IsTrue (D.is_honest disk.old)
-            → LeavesOutside D.Disk disk.old disk.new self.now.standing }
-        ensures others { IsTrue (D.is_honest disk.old)
-            → SameOutside (half_start self.now.standing.shape self.now.standing.half) (half_length self.now.standing.shape) (D.seen disk.old) (D.seen disk.new) }
-        ensures cause { HasCause (D.failures disk.old) (D.failures disk.new) result }
-        ensures honesty { D.is_honest disk.new ≡ D.is_honest disk.old }
-        ensures size { D.size disk.new ≡ D.size disk.old }
+        ensures cause { result ≡ Err JournalFault.Disk → HasRisen (D.failures disk.old) (D.failures disk.new) }
     {
-        publish(disk, self.shape.half_start(self.half) + self.used, behind)
+        let gate = self.shape.half_start(self.half) + self.used;
+        let Ok(()) = publish(disk, gate, behind) else {
+            return Err(JournalFault::Disk);
+        };
+        Ok(Place {
+            half: self.half,
+            generation: self.generation,
+            used: self.used + behind.len() as u64,
+        })
+    }
+
+    // Puts the record of a case, or writes the journal anew with it. The case is not entered yet.
+    fn put_store<D: Disk>(
+        &self,
+        disk: &mut D,
+        seq: u32,
+        entry: &Entry,
+        size: u64,
+    ) -> Result<Place, JournalFault>
+        requires keeps { Keeps D.Disk disk.old self.now }
+        requires runs { self.now.stopped ≡ false }
+        requires number { seq ≡ self.now.standing.next }
+        requires size { size ≡ record_size (Store (numbered seq (case_of entry.now))) }
+        requires sound { MayFollow self.now.standing (Store (numbered seq (case_of entry.now))) }
+        ensures step { PutStep self.now.standing (Store (numbered seq (case_of entry.now))) result }
+        ensures run { RunsAppend D.Disk disk.old disk.new self.now.standing (Store (numbered seq (case_of entry.now))) }
+        ensures kept { OnOk result (Keeps D.Disk disk.new (goes_on self.now (Store (numbered seq (case_of entry.now))))) }
+        ensures untouched { PutLeaves result disk.old disk.new }
+        ensures cause { result ≡ Err JournalFault.Disk → HasRisen (D.failures disk.old) (D.failures disk.new) }
+    {
+        if !self.fits(size) {
+            return self.put_beside(disk, &Change::Store(seq, entry), self.next + 1);
+        }
+        let Ok(record) = store_record(self.alloc(), seq, entry, size) else {
+            return Err(JournalFault::OutOfMemory);
+        };
+        self.put_behind(disk, &record)
+    }
+
+    // Puts the record of cases that end, or writes the journal anew without them. They are not left out yet.
+    fn put_drop<D: Disk>(&self, disk: &mut D, seqs: &[u32]) -> Result<Place, JournalFault>
+        requires keeps { Keeps D.Disk disk.old self.now }
+        requires runs { self.now.stopped ≡ false }
+        requires sound { MayFollow self.now.standing (Drop seqs.now) }
+        ensures step { PutStep self.now.standing (Drop seqs.now) result }
+        ensures run { RunsAppend D.Disk disk.old disk.new self.now.standing (Drop seqs.now) }
+        ensures kept { OnOk result (Keeps D.Disk disk.new (goes_on self.now (Drop seqs.now))) }
+        ensures untouched { PutLeaves result disk.old disk.new }
+        ensures cause { result ≡ Err JournalFault.Disk → HasRisen (D.failures disk.old) (D.failures disk.new) }
+    {
+        let size = drop_size(seqs);
+        if !self.fits(size) {
+            return self.put_beside(disk, &Change::Drop(seqs), self.next);
+        }
+        let Ok(record) = drop_record(self.alloc(), seqs, size) else {
+            return Err(JournalFault::OutOfMemory);
+        };
+        self.put_behind(disk, &record)
+    }
+
+    // Puts the record of a pin, or writes the journal anew with it. The flag is not set yet. Behind the records it takes no
+    // memory.
+    fn put_pin<D: Disk>(&self, disk: &mut D, seq: u32, flag: bool) -> Result<Place, JournalFault>
+        requires keeps { Keeps D.Disk disk.old self.now }
+        requires runs { self.now.stopped ≡ false }
+        requires sound { MayFollow self.now.standing (Pin seq flag) }
+        ensures step { PutStep self.now.standing (Pin seq flag) result }
+        ensures never { result ≡ Err JournalFault.OutOfMemory → fits self.now.standing (Pin seq flag) ≡ false }
+        ensures run { RunsAppend D.Disk disk.old disk.new self.now.standing (Pin seq flag) }
+        ensures kept { OnOk result (Keeps D.Disk disk.new (goes_on self.now (Pin seq flag))) }
+        ensures untouched { PutLeaves result disk.old disk.new }
+        ensures cause { result ≡ Err JournalFault.Disk → HasRisen (D.failures disk.old) (D.failures disk.new) }
+    {
+        if !self.fits(PIN_SIZE) {
+            return self.put_beside(disk, &Change::Pin(seq, flag), self.next);
+        }
+        self.put_behind(disk, &pin_record(seq, flag))
     }
 
     /// Appends the Store record of a case, which gets the next number. A refusal hands the entry back, and all but `Disk`
-    /// leave the journal and the disk as they are. Answers, in this order: `Stopped`; `JournalFull` where the record with
-    /// the gate behind it does not fit into the half; `NumbersSpent` where the next number is 2^32; `OutOfMemory`;
+    /// leave the journal and the disk as they are. Answers, in this order: `Stopped`; `JournalFull` where neither the record
+    /// nor the cases with it, written anew into the other half, have room; `NumbersSpent` where the next number is 2^32; `OutOfMemory`;
     /// `Disk`, after which the journal is stopped.
     pub fn append_store<D: Disk>(
         &mut self,
@@ -160,38 +240,58 @@ impl Journal {
             → LeavesEither D.Disk disk.old disk.new self.old.standing (store_of self.old.standing (case_of entry)) }
         // Now it leaves what stands for those that the journal shows, unless it is stopped.
         ensures keeps { Keeps D.Disk disk.new self.new }
-        // No byte outside the taken half is changed.
+        // No byte outside the two halves is changed.
         ensures outside { IsTrue (D.is_honest disk.old)
             → LeavesOutside D.Disk disk.old disk.new self.old.standing }
         ensures others { IsTrue (D.is_honest disk.old)
-            → SameOutside (half_start self.old.standing.shape self.old.standing.half) (half_length self.old.standing.shape) (D.seen disk.old) (D.seen disk.new) }
+            → SameOutside 4096 (2 * half_length self.old.standing.shape) (D.seen disk.old) (D.seen disk.new) }
         ensures cause { IsStoreDiskFault result → HasRisen (D.failures disk.old) (D.failures disk.new) }
         ensures later { D.failures disk.old ≤ D.failures disk.new }
         ensures honesty { D.is_honest disk.new ≡ D.is_honest disk.old }
         ensures size { D.size disk.new ≡ D.size disk.old }
     {
+        if self.stopped {
+            return Err((JournalFault::Stopped, entry));
+        }
         let size = store_size(&entry);
-        if let Err(fault) = self.may_begin(size) {
+        if let Err(fault) = self.room_for(&entry, size) {
             return Err((fault, entry));
         }
-        let next = self.next_seq();
-        if next > u64::from(u32::MAX) {
+        if self.next > u64::from(u32::MAX) {
             return Err((JournalFault::NumbersSpent, entry));
         }
-        let seq = next as u32;
-        match self.store(disk, seq, entry, size) {
-            Ok(()) => Ok(seq),
-            Err(refused) => Err(refused),
+        let seq = self.next as u32;
+        let Ok(()) = self.entries.reserve(1) else {
+            return Err((JournalFault::OutOfMemory, entry));
+        };
+        match self.put_store(disk, seq, &entry, size) {
+            Ok(place) => {
+                (self.half, self.generation, self.used) = (
+                    place.half,
+                    place.generation,
+                    place.used,
+                );
+                self.next += 1;
+                self.entries.push(Entry { seq, ..entry }).unwrap();
+                Ok(seq)
+            }
+            Err(fault) => {
+                self.note_fault(fault);
+                Err((fault, entry))
+            }
         }
     }
 
     /// Appends the Drop record of cases, which are then gone. All faults but `Disk` leave the journal and the disk as they
-    /// are. Answers, in this order: `Stopped`; `JournalFull` where the record with the gate behind it does not fit into the
-    /// half; `OutOfMemory`; `Disk`, after which the journal is stopped.
+    /// are. Answers, in this order: `Stopped`; `JournalFull` where the record does not fit behind the others and no
+    /// generation is left for the other half; `OutOfMemory`; `Disk`, after which the journal is stopped.
     pub fn append_drop<D: Disk>(&mut self, disk: &mut D, seqs: &[u32]) -> Result<(), JournalFault>
         requires keeps { Keeps D.Disk disk.old self.old }
         requires droppable { MayFollow self.old.standing (Drop seqs.now) }
         ensures step { AppendStep self.old (Drop seqs.now) result self.new }
+        // The cases that are left have room: only where no generation is left is the journal full.
+        ensures generation { result ≡ Err JournalFault.JournalFull → IsTrue (D.is_honest disk.old)
+            → self.old.standing.generation + 1 ≡ 2 ^ 64 }
         ensures untouched { RefusalLeaves result disk.old disk.new }
         ensures any_moment { IsTrue (D.is_honest disk.old) → self.old.stopped ≡ false
             → LeavesEither D.Disk disk.old disk.new self.old.standing (Drop seqs.now) }
@@ -199,28 +299,32 @@ impl Journal {
         ensures outside { IsTrue (D.is_honest disk.old)
             → LeavesOutside D.Disk disk.old disk.new self.old.standing }
         ensures others { IsTrue (D.is_honest disk.old)
-            → SameOutside (half_start self.old.standing.shape self.old.standing.half) (half_length self.old.standing.shape) (D.seen disk.old) (D.seen disk.new) }
+            → SameOutside 4096 (2 * half_length self.old.standing.shape) (D.seen disk.old) (D.seen disk.new) }
         ensures cause { result ≡ Err JournalFault.Disk → HasRisen (D.failures disk.old) (D.failures disk.new) }
         ensures later { D.failures disk.old ≤ D.failures disk.new }
         ensures honesty { D.is_honest disk.new ≡ D.is_honest disk.old }
         ensures size { D.size disk.new ≡ D.size disk.old }
     {
-        let size = drop_size(seqs);
-        self.may_begin(size)?;
-        let Ok(record) = drop_record(self.alloc(), seqs, size) else {
-            return Err(JournalFault::OutOfMemory);
-        };
-        let Ok(()) = self.put(disk, &record) else {
-            self.stop();
-            return Err(JournalFault::Disk);
-        };
-        self.leave_out(seqs, size);
-        Ok(())
+        if self.stopped {
+            return Err(JournalFault::Stopped);
+        }
+        match self.put_drop(disk, seqs) {
+            Ok(place) => {
+                self.move_to(place);
+                self.leave_out(seqs);
+                Ok(())
+            }
+            Err(fault) => {
+                self.note_fault(fault);
+                Err(fault)
+            }
+        }
     }
 
     /// Appends the Pin record of a live case, which is then pinned or not. All faults but `Disk` leave the journal and the
-    /// disk as they are. Answers, in this order: `Stopped`; `JournalFull` where the record with the gate behind it does not
-    /// fit into the half; `Disk`, after which the journal is stopped. It takes no memory.
+    /// disk as they are. Answers, in this order: `Stopped`; `JournalFull` where neither the record nor the cases, written anew into the
+    /// other half, have room; `OutOfMemory`, where the record does not fit behind the others alone; `Disk`, after which
+    /// the journal is stopped.
     pub fn append_pin<D: Disk>(
         &mut self,
         disk: &mut D,
@@ -230,7 +334,8 @@ impl Journal {
         requires keeps { Keeps D.Disk disk.old self.old }
         requires pinnable { MayFollow self.old.standing (Pin seq flag) }
         ensures step { AppendStep self.old (Pin seq flag) result self.new }
-        ensures never { result ≢ Err JournalFault.OutOfMemory }
+        // Behind the records it takes no memory.
+        ensures never { result ≡ Err JournalFault.OutOfMemory → fits self.old.standing (Pin seq flag) ≡ false }
         ensures untouched { RefusalLeaves result disk.old disk.new }
         ensures any_moment { IsTrue (D.is_honest disk.old) → self.old.stopped ≡ false
             → LeavesEither D.Disk disk.old disk.new self.old.standing (Pin seq flag) }
@@ -238,62 +343,26 @@ impl Journal {
         ensures outside { IsTrue (D.is_honest disk.old)
             → LeavesOutside D.Disk disk.old disk.new self.old.standing }
         ensures others { IsTrue (D.is_honest disk.old)
-            → SameOutside (half_start self.old.standing.shape self.old.standing.half) (half_length self.old.standing.shape) (D.seen disk.old) (D.seen disk.new) }
+            → SameOutside 4096 (2 * half_length self.old.standing.shape) (D.seen disk.old) (D.seen disk.new) }
         ensures cause { result ≡ Err JournalFault.Disk → HasRisen (D.failures disk.old) (D.failures disk.new) }
         ensures later { D.failures disk.old ≤ D.failures disk.new }
         ensures honesty { D.is_honest disk.new ≡ D.is_honest disk.old }
         ensures size { D.size disk.new ≡ D.size disk.old }
     {
-        self.may_begin(PIN_SIZE)?;
-        let Ok(()) = self.put(disk, &pin_record(seq, flag)) else {
-            self.stop();
-            return Err(JournalFault::Disk);
-        };
-        self.pin_entry(seq, flag, PIN_SIZE);
-        Ok(())
-    }
-
-    // Puts the record of an entry under this number, and keeps the entry.
-    fn store<D: Disk>(
-        &mut self,
-        disk: &mut D,
-        seq: u32,
-        entry: Entry,
-        size: u64,
-    ) -> Result<(), (JournalFault, Entry)>
-        requires keeps { Keeps D.Disk disk.old self.old }
-        requires runs { self.old.stopped ≡ false }
-        requires number { seq ≡ self.old.standing.next }
-        requires size { size ≡ record_size (Store (numbered seq (case_of entry))) }
-        requires room { self.old.standing.used + size + 1 ≤ half_length self.old.standing.shape }
-        requires sound { MayFollow self.old.standing (Store (numbered seq (case_of entry))) }
-        ensures step { EntersCase self.old (numbered seq (case_of entry)) size result self.new }
-        ensures handed_back { IfErr result (λ e. e.1 ≡ entry) }
-        ensures any_moment { IsTrue (D.is_honest disk.old)
-            → LeavesEither D.Disk disk.old disk.new self.old.standing (Store (numbered seq (case_of entry))) }
-        ensures kept { OnOk result (Keeps D.Disk disk.new (goes_on self.old (Store (numbered seq (case_of entry))))) }
-        ensures size { D.size disk.new ≡ D.size disk.old }
-        ensures outside { IsTrue (D.is_honest disk.old)
-            → LeavesOutside D.Disk disk.old disk.new self.old.standing }
-        ensures others { IsTrue (D.is_honest disk.old)
-            → SameOutside (half_start self.old.standing.shape self.old.standing.half) (half_length self.old.standing.shape) (D.seen disk.old) (D.seen disk.new) }
-        ensures unmoved { IfErr result (λ e. e.0 ≡ JournalFault.OutOfMemory → disk.new ≡ disk.old) }
-        ensures cause { IfErr result (λ e. e.0 ≡ JournalFault.Disk
-            → HasRisen (D.failures disk.old) (D.failures disk.new)) }
-        ensures later { D.failures disk.old ≤ D.failures disk.new }
-        ensures honesty { D.is_honest disk.new ≡ D.is_honest disk.old }
-    {
-        let Ok(record) = prepare_store(&mut self.entries, seq, &entry, size) else {
-            return Err((JournalFault::OutOfMemory, entry));
-        };
-        let Ok(()) = self.put(disk, &record) else {
-            self.stopped = true;
-            return Err((JournalFault::Disk, entry));
-        };
-        self.used += size;
-        self.next += 1;
-        self.entries.push(Entry { seq, ..entry }).unwrap();
-        Ok(())
+        if self.stopped {
+            return Err(JournalFault::Stopped);
+        }
+        match self.put_pin(disk, seq, flag) {
+            Ok(place) => {
+                self.move_to(place);
+                self.pin_entry(seq, flag);
+                Ok(())
+            }
+            Err(fault) => {
+                self.note_fault(fault);
+                Err(fault)
+            }
+        }
     }
 
     // The allocator of the entries.
@@ -301,39 +370,20 @@ impl Journal {
         *self.entries.allocator()
     }
 
-    // A disk fault has stopped it.
-    fn stop(&mut self)
-        ensures { self.new ≡ halted self.old }
-    {
-        self.stopped = true;
-    }
-
-    // Leaves out the entries of these numbers, which rise, by a record of so many bytes.
-    fn leave_out(&mut self, seqs: &[u32], size: u64)
-        requires rise { Rise 0 seqs.now }
-        requires room { self.old.standing.used + size + 1 ≤ half_length self.old.standing.shape }
-        ensures { self.new ≡ left self.old seqs.now size }
+    // Leaves out the entries of these numbers, which rise.
+    fn leave_out(&mut self, seqs: &[u32])
+        requires { Rise 0 seqs.now }
+        ensures { self.new ≡ left self.old seqs.now }
     {
         keep_others(&mut self.entries, seqs);
-        self.used += size;
     }
 
-    // Sets the flag of the entry of this number, by a record of so many bytes.
-    fn pin_entry(&mut self, seq: u32, flag: bool, size: u64)
-        requires { self.old.standing.used + size + 1 ≤ half_length self.old.standing.shape }
-        ensures { self.new ≡ repinned self.old seq flag size }
+    // Sets the flag of the entry of this number.
+    fn pin_entry(&mut self, seq: u32, flag: bool)
+        ensures { self.new ≡ repinned self.old seq flag }
     {
         set_pin(&mut self.entries, seq, flag);
-        self.used += size;
     }
-}
-
-// Whether the number is one of these, which rise.
-fn is_listed(seqs: &[u32], seq: u32) -> bool
-    requires { Rise 0 seqs.now }
-    ensures { result ≡ is_among seqs.now seq }
-{
-    seqs.binary_search(&seq).is_ok()
 }
 
 // Keeps the entries that have none of these numbers, which rise.
@@ -372,23 +422,4 @@ fn find_entry(entries: &[Entry], seq: u32) -> Option<&Entry>
         Some(place) => Some(&entries[place]),
         None => None,
     }
-}
-
-// Makes room for one more entry, and spells its record behind the gate.
-fn prepare_store(
-    entries: &mut Vec<Entry>,
-    seq: u32,
-    entry: &Entry,
-    size: u64,
-) -> Result<Vec<u8>, AllocError>
-    requires size { size ≡ record_size (Store (numbered seq (case_of entry.now))) }
-    requires small { size ≤ 16777216 }
-    ensures entries { entries.new.items ≡ entries.old.items }
-    ensures room { OnOk result (vec_len entries.new < vec_capacity entries.new) }
-    ensures record { IfOk result (λ v. v.items
-        ≡ behind_gate (Store (numbered seq (case_of entry.now))) ++ 0 ∷ []) }
-    ensures size { IfOk result (λ v. vec_len v ≡ size) }
-{
-    entries.reserve(1)?;
-    store_record(*entries.allocator(), seq, entry, size)
 }

@@ -4,7 +4,7 @@ ghost use Rattle.disk_model.specs.Places.{overwritten, SameOutside};
 ghost use Rattle.disk_model.specs.Disk.{HasCause, ChangedIn};
 ghost use Rattle.disk_model.specs.Moments.{LeavesOnly, IsSettled};
 ghost use Rattle.journal_layout.specs.Record.{Record};
-ghost use Rattle.journal_layout.specs.Standing.{Standing, appended};
+ghost use Rattle.journal_layout.specs.Standing.{Standing, lengthened};
 ghost use Rattle.journal_layout.specs.Stands.{Stands};
 ghost use Rattle.case_journal.specs.Publishing.{Publishes};
 
@@ -18,10 +18,10 @@ pub(crate) fn publish<D: Disk>(disk: &mut D, gate: u64, behind: &[u8]) -> Result
     requires { gate + 1 + length behind.now ≤ D.size disk.old }
     ensures any_moment { (s : Standing) (r : Record) → Publishes s r gate behind.now
         → IsTrue (D.is_honest disk.old) → ((c : List ℕ) → D.may_leave disk.old c → Stands c s)
-        → LeavesOnly D.Disk disk.old disk.new (λ c. Stands c s ⊎ Stands c (appended s r)) }
+        → LeavesOnly D.Disk disk.old disk.new (λ c. Stands c s ⊎ Stands c (lengthened s r)) }
     ensures made { (s : Standing) (r : Record) → Publishes s r gate behind.now
         → IsTrue (D.is_honest disk.old) → ((c : List ℕ) → D.may_leave disk.old c → Stands c s)
-        → OnOk result ((c : List ℕ) → D.may_leave disk.new c → Stands c (appended s r)) }
+        → OnOk result ((c : List ℕ) → D.may_leave disk.new c → Stands c (lengthened s r)) }
     ensures outside { IsTrue (D.is_honest disk.old)
         → LeavesOnly D.Disk disk.old disk.new (ChangedIn gate (1 + length behind.now) (D.may_leave disk.old)) }
     ensures stable { IsTrue (D.is_honest disk.old)

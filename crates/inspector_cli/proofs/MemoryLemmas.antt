@@ -26,6 +26,7 @@ bare_from s limit streams stopped = record {
   cases = map bare_case s.cases;
   next = s.next;
   used = s.used;
+  generation = s.generation;
   streams = map (option_map bare_stream) streams;
   stopped = stopped;
 }

@@ -21,6 +21,7 @@ fresh_archive shape limit = record {
   cases = [];
   next = 1;
   used = 32;
+  generation = 1;
   streams = replicate 8 None;
   stopped = false;
 }

@@ -7,7 +7,7 @@ use Rattle.script_words.specs.Printing.{shown}
 use Rattle.script_streams.specs.Replies.{ok_reply, no_reply}
 use Rattle.intake.specs.declared.faults.ArchiveFault.{ArchiveFault}
 use Rattle.intake.specs.declared.space.Space.{Space}
-use Rattle.intake.specs.declared.faults.ArchiveFault.TheVariants.{Stopped, BadSlot, SlotBusy, NameTaken, NoStream, TooLong, SpaceFull, NoCase, Pinned, JournalFull, NumbersSpent, OutOfMemory, Disk}
+use Rattle.intake.specs.declared.faults.ArchiveFault.TheVariants.{Stopped, NoStream, TooLong, SpaceFull, OutOfMemory, Disk}
 use Rattle.disk_model.specs.declared.disk.Disk as disk
 use Rattle.intake.specs.Calls.{Stays, HasDiskCause, BeginCall, AbandonCall, FinishCall, DeleteCall, PinCall, RetireCall}
 use Rattle.intake.specs.Contents.{Contents, Taken, RefusedBytes, with_taken}

@@ -1,6 +1,5 @@
 -- The image of a case, as the lines that ask it see it.
-use Rattle.std.specs.Prelude.{◌≡◌, ℕ, List, length, Option, None, Some, Result, Ok, Err, IsTrue, Vec}
-use Rattle.std.specs.Global.{Global}
+use Rattle.std.specs.Prelude.{◌≡◌, ℕ, List, length, Option, None, Some, Result, Ok, Err, IsTrue}
 use Rattle.disk_model.specs.declared.disk.Disk as disk
 use Rattle.case_journal.specs.Viewing.{IsQuiet}
 use Rattle.intake.specs.Calls.{ImageCall, Stays}

@@ -1,5 +1,5 @@
 -- An archive after the append of a record that is no case's.
-use Rattle.std.proofs.Common.{◌≡◌, ◌≢◌, ℕ, ◌+◌, ◌≤◌, ◌==◌, Bool, true, false, cond, List, [], ◌∷◌, length, map, refl, sym, ap, ◌∙◌, subst, arith, Option, Some, Err}
+use Rattle.std.proofs.Common.{◌≡◌, ◌≢◌, ℕ, ◌*◌, ◌+◌, ◌≤◌, ◌==◌, Bool, true, false, cond, List, [], ◌∷◌, length, map, refl, sym, ap, ◌∙◌, subst, arith, Option, Some, Err}
 use Rattle.std.specs.Prelude.{option_map}
 use mathlib.Core.Bool.{beq}
 use Rattle.disk_model.specs.Places.{SameOutside}
@@ -7,7 +7,7 @@ use Rattle.disk_model.specs.declared.disk.Disk as disk
 use Rattle.extents.specs.FreeSet.{is_free, free_count, one_if}
 use Rattle.journal_layout.specs.Case.{Case}
 use Rattle.journal_layout.specs.Folding.{after, with_pin}
-use Rattle.journal_layout.specs.Layout.{half_start, half_length}
+use Rattle.journal_layout.specs.Layout.{half_length}
 use Rattle.journal_layout.specs.LiveLaws.{live_after}
 use Rattle.journal_layout.specs.Record.{Record}
 use Rattle.journal_layout.specs.Soundness.{case_numbered}
@@ -17,6 +17,7 @@ use Rattle.case_journal.specs.Journaled.{Journaled, goes_on, halted}
 use Rattle.intake.specs.Guarding.{Guards}
 use Rattle.case_journal.specs.declared.faults.JournalFault.{JournalFault}
 use Rattle.case_journal.specs.declared.faults.JournalFault.TheVariants as journal_fault
+use Rattle.intake.specs.declared.faults.ArchiveFault.{ArchiveFault}
 use Rattle.intake.specs.declared.faults.ArchiveFault.TheVariants as fault
 use Rattle.intake.specs.Blocks.{image_in}
 use Rattle.intake.specs.Contents.{Taken, UnmovedBytes, without_streams}
@@ -130,7 +131,7 @@ module _ {D : Type 0} (g : disk.Ghosts D) (d d' : D) (j j' : Journaled) (r : Rec
 
 -- its bytes
 module _ {D : Type 0} (seen : D → List ℕ) (d d' : D) (j : Journaled) (most : ℕ) (streams : List (Option StreamParts)) (b : Bool)
-    (outside : SameOutside (half_start j.standing.shape j.standing.half) (half_length j.standing.shape) (seen d) (seen d')) where
+    (outside : SameOutside 4096 (2 * half_length j.standing.shape) (seen d) (seen d')) where
   abbrev pub past : Parts D
   past = record { disk = d; journal = j; limit = most; streams = streams; stopped = b }
 
@@ -164,13 +165,24 @@ module _ {D : Type 0} (seen : D → List ℕ) (d d' : D) (j : Journaled) (most :
       ∙ ap (λ (x : List (Option StreamParts)). contents_of seen (record { disk = d'; journal = halted j; limit = most; streams = x; stopped = b' })) ends.1
       ∙ no_streams_bytes b'
 
--- only a disk fault of the journal is told as one
-pub told_disk : (jf : JournalFault) → fault_of jf ≡ fault.Disk → jf ≡ journal_fault.Disk
-told_disk journal_fault.Stopped e = cc
-told_disk journal_fault.JournalFull e = cc
-told_disk journal_fault.NumbersSpent e = cc
-told_disk journal_fault.OutOfMemory e = cc
-told_disk journal_fault.Disk e = refl
+-- the journal's fault that is told so
+abbrev told_of : ArchiveFault → JournalFault
+told_of fault.Stopped = journal_fault.Stopped
+told_of fault.JournalFull = journal_fault.JournalFull
+told_of fault.NumbersSpent = journal_fault.NumbersSpent
+told_of fault.OutOfMemory = journal_fault.OutOfMemory
+told_of _ = journal_fault.Disk
+
+told_back : (jf : JournalFault) → told_of (fault_of jf) ≡ jf
+told_back journal_fault.Stopped = refl
+told_back journal_fault.JournalFull = refl
+told_back journal_fault.NumbersSpent = refl
+told_back journal_fault.OutOfMemory = refl
+told_back journal_fault.Disk = refl
+
+-- no two faults of the journal are told as one
+pub told_same : (jf h : JournalFault) → fault_of jf ≡ fault_of h → jf ≡ h
+told_same jf h e = sym (told_back jf) ∙ ap told_of e ∙ told_back h
 
 -- flags that are compared
 pub flags_same : (a b : Bool) → beq a b ≡ true → a ≡ b

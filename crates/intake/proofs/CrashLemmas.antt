@@ -6,7 +6,8 @@ use Rattle.disk_model.specs.Moments.{LeavesOnly, AddsOnly}
 use Rattle.disk_model.specs.declared.disk.Disk as disk
 use Rattle.extents.specs.FreeSet.{one_if}
 use Rattle.journal_layout.specs.Case.{Case}
-use Rattle.journal_layout.specs.Standing.{Standing, appended, store_of}
+use Rattle.journal_layout.specs.Rewriting.{appended}
+use Rattle.journal_layout.specs.Standing.{Standing, store_of}
 use Rattle.journal_layout.specs.declared.faults.OpenFault.{OpenFault}
 use Rattle.journal_layout.specs.declared.faults.OpenFault.TheVariants as open_fault
 use Rattle.case_journal.specs.Journaled.{Journaled}
@@ -25,7 +26,7 @@ use Rattle.intake.specs.StreamView.{case_from_parts}
 use Rattle.intake.specs.declared.faults.ArchiveFault.{ArchiveFault}
 use Rattle.intake.specs.declared.faults.ArchiveFault.TheVariants as fault
 use Rattle.journal_layout.specs.Record.{Record}
-use Rattle.case_journal.specs.Append.{LeavesDisk}
+use Rattle.case_journal.specs.Refusing.{LeavesDisk}
 use Rattle.case_journal.specs.Journaled.{goes_on}
 use Rattle.case_journal.specs.Keeping.{LeavesEither, LeavesOutside}
 use Rattle.case_journal.specs.declared.faults.JournalFault.{JournalFault}

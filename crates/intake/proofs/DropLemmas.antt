@@ -1,5 +1,5 @@
 -- How cases are dropped.
-use Rattle.std.proofs.Common.{◌≡◌, ℕ, ◌+◌, Bool, true, false, not, cond, List, [], ◌∷◌, length, map, refl, sym, ap, ◌∙◌, subst, arith, Option, Some, Result, Ok, Err}
+use Rattle.std.proofs.Common.{◌≡◌, ℕ, ◌*◌, ◌+◌, Bool, true, false, not, cond, List, [], ◌∷◌, length, map, refl, sym, ap, ◌∙◌, subst, arith, Option, Some, Result, Ok, Err}
 use Rattle.std.specs.Prelude.{option_map, nat_lt}
 use Rattle.std.specs.List.{filter}
 use Rattle.disk_model.specs.Places.{SameOutside}
@@ -7,7 +7,7 @@ use Rattle.disk_model.specs.declared.disk.Disk as disk
 use Rattle.extents.specs.FreeSet.{one_if}
 use Rattle.journal_layout.specs.Case.{Case}
 use Rattle.journal_layout.specs.Folding.{is_among, dropped, used_blocks}
-use Rattle.journal_layout.specs.Layout.{half_start, half_length}
+use Rattle.journal_layout.specs.Layout.{half_length}
 use Rattle.journal_layout.specs.Live.{gone}
 use Rattle.journal_layout.specs.LiveCounts.{case_uses_same, used_length, used_dropped, named_dropped}
 use Rattle.journal_layout.specs.LiveFinds.{live_number, drop_sound}
@@ -29,11 +29,12 @@ use Rattle.intake.specs.Live.{case_uses, cases_named}
 use Rattle.intake.specs.Parts.{Parts, StreamParts, bare_of, bare_case, contents_of, taken_in}
 use Rattle.intake.specs.Sound.{IsSound, IsRunning, case_blocks}
 use Rattle.intake.specs.State.{Bare, BareCase}
-use Rattle.intake.specs.Step.{DropStep, DeleteStep, HasCase, drop_size}
+use Rattle.intake.specs.Step.{DropStep, DeleteStep, HasCase}
 use Rattle.intake.specs.declared.faults.ArchiveFault.{ArchiveFault}
 use Rattle.intake.specs.declared.faults.ArchiveFault.TheVariants as fault
 use Rattle.intake.proofs.CountLemmas.{uses_same}
 use Rattle.intake.proofs.AfterLemmas.{sound_after, same_state, halted_now, same_bytes}
+use Rattle.intake.proofs.RecordedLemmas.{record_room, record_full, bare_recorded}
 
 -- the cases that are left, without their blocks
 bare_left : (seqs : List ℕ) (cases : List Case) → map bare_case (dropped seqs cases) ≡ filter (λ (c : BareCase). not (is_among seqs c.seq)) (map bare_case cases)
@@ -76,17 +77,17 @@ module _ {D : Type 0} (g : disk.Ghosts D) (d d' : D) (j j' : Journaled) (most : 
 
   pub drop_ok : (u : Unit {0}) → AppendStep j (Drop seqs) (Ok u) j' → DropStep (bare_of old) seqs (Ok u) (bare_of (record { disk = d'; journal = j'; limit = most; streams = streams; stopped = b }))
   drop_ok u step = (
-    step.1,
+    record_room d d' j (Drop seqs) most streams b _ (bare_left seqs j.standing.cases) step.1,
     ap (λ (k : Journaled). bare_of (record { disk = d'; journal = k; limit = most; streams = streams; stopped = b })) step.2
-        ∙ ap (λ (x : List BareCase). record (bare_of old) { cases = x; used = j.standing.used + drop_size (length seqs) }) (bare_left seqs j.standing.cases),
+        ∙ bare_recorded d d' j (Drop seqs) most streams b _ (bare_left seqs j.standing.cases),
   )
 
   pub drop_err : (jf : JournalFault) → AppendStep j (Drop seqs) (Err jf) j' → EndsStreams (fault_of jf) streams b' streams' → DropStep (bare_of old) seqs (Err (fault_of jf)) (bare_of new)
   drop_err journal_fault.Stopped step ends = absurd (let e : true ≡ false = sym step.0 ∙ (sound.runs on).journal in cc)
-  drop_err journal_fault.JournalFull step ends = (step.1, same_state g d d' j j' (Drop seqs) most flags streams streams' b b' on ends.0 ends.1 step.2)
+  drop_err journal_fault.JournalFull step ends = (record_full d d' j (Drop seqs) most streams b _ (bare_left seqs j.standing.cases) step.1, same_state g d d' j j' (Drop seqs) most flags streams streams' b b' on ends.0 ends.1 step.2)
   drop_err journal_fault.NumbersSpent step ends = absurd step
-  drop_err journal_fault.OutOfMemory step ends = (step.1, same_state g d d' j j' (Drop seqs) most flags streams streams' b b' on ends.0 ends.1 step.2)
-  drop_err journal_fault.Disk step ends = (step.1, halted_now g d d' j j' (Drop seqs) most flags streams streams' b b' on ends.0 ends.1 step.2)
+  drop_err journal_fault.OutOfMemory step ends = (record_room d d' j (Drop seqs) most streams b _ (bare_left seqs j.standing.cases) step.1, same_state g d d' j j' (Drop seqs) most flags streams streams' b b' on ends.0 ends.1 step.2)
+  drop_err journal_fault.Disk step ends = (record_room d d' j (Drop seqs) most streams b _ (bare_left seqs j.standing.cases) step.1, halted_now g d d' j j' (Drop seqs) most flags streams streams' b b' on ends.0 ends.1 step.2)
 
   pub drop_sound_after : (flags' : List Bool) (u : Unit {0}) → MayFollow j.standing (Drop seqs) → AppendStep j (Drop seqs) (Ok u) j' → Guards g d' j' → Balances flags (used_blocks (gone seqs j.standing.cases)) flags' []
       → IsSound g d' j' most flags' streams b
@@ -106,7 +107,7 @@ module _ {D : Type 0} (g : disk.Ghosts D) (d d' : D) (j j' : Journaled) (most : 
       omega (arith, x, y, p, a))
       (λ name. (let n : cases_named (dropped seqs j.standing.cases) name + cases_named (gone seqs j.standing.cases) name ≡ cases_named j.standing.cases name = named_dropped seqs j.standing.cases name in omega (arith, n))))
 
-  pub drop_bytes : (u : Unit {0}) → AppendStep j (Drop seqs) (Ok u) j' → SameOutside (half_start j.standing.shape j.standing.half) (half_length j.standing.shape) (g.seen d) (g.seen d')
+  pub drop_bytes : (u : Unit {0}) → AppendStep j (Drop seqs) (Ok u) j' → SameOutside 4096 (2 * half_length j.standing.shape) (g.seen d) (g.seen d')
       → DropBytes (bare_of old) (contents_of g.seen old) seqs (Ok u) (contents_of g.seen (record { disk = d'; journal = j'; limit = most; streams = streams; stopped = b }))
   drop_bytes u step outside =
       ap (λ (k : Journaled). contents_of g.seen (record { disk = d'; journal = k; limit = most; streams = streams; stopped = b })) step.2

@@ -1,5 +1,5 @@
 -- The images of cases, where the bytes of other places change.
-use Rattle.std.proofs.Common.{◌≡◌, ℕ, ◌+◌, ◌==◌, Bool, true, false, not, cond, List, [], ◌∷◌, ◌++◌, take, map, refl, ap, ◌∙◌, arith}
+use Rattle.std.proofs.Common.{◌≡◌, ℕ, ◌*◌, ◌+◌, ◌==◌, Bool, true, false, not, cond, List, [], ◌∷◌, ◌++◌, take, map, refl, ap, ◌∙◌, arith}
 use Rattle.std.specs.List.{filter}
 use Rattle.std.proofs.lemmas.List.{map-append}
 use Rattle.std.proofs.lemmas.List.Sums.{sum_by-cons}
@@ -8,9 +8,10 @@ use Rattle.extents.specs.FreeSet.{uses}
 use Rattle.journal_layout.specs.declared.shape.Shape.{Shape}
 use Rattle.journal_layout.specs.Case.{Case, numbered}
 use Rattle.journal_layout.specs.Folding.{is_among, dropped, with_pin}
-use Rattle.journal_layout.specs.Layout.{half_start, half_length}
+use Rattle.journal_layout.specs.Layout.{half_length}
 use Rattle.journal_layout.specs.Record.{Drop, Pin}
-use Rattle.journal_layout.specs.Standing.{Standing, appended, store_of}
+use Rattle.journal_layout.specs.Rewriting.{appended}
+use Rattle.journal_layout.specs.Standing.{Standing, store_of}
 use Rattle.case_journal.specs.Journaled.{Journaled}
 use Rattle.intake.specs.Blocks.{block_start, image_in}
 use Rattle.intake.specs.Durable.{FoundCase, Durable, found_with, found_case, durable_in, durable_of, durable_part, with_images, without, flagged}
@@ -35,7 +36,7 @@ abbrev pub found_in : Shape → List ℕ → List Case → ℕ → Durable
 found_in shape bytes cases next = record { cases = map (found_case shape bytes) cases; next = next }
 
 -- where a half of the journal changes
-module _ (j : Journaled) (a b : List ℕ) (same : SameOutside (half_start j.standing.shape j.standing.half) (half_length j.standing.shape) a b) where
+module _ (j : Journaled) (a b : List ℕ) (same : SameOutside 4096 (2 * half_length j.standing.shape) a b) where
   found_behind : (cases : List Case) → map (found_case j.standing.shape b) cases ≡ map (found_case j.standing.shape a) cases
   found_behind [] = refl
   found_behind (c ∷ rest) =

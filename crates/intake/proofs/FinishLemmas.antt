@@ -19,9 +19,8 @@ use Rattle.intake.specs.Balance.{Balances}
 use Rattle.extents.specs.Runs.{runs_of}
 use Rattle.extents.specs.RunLaws.{runs_no_more, runs_some}
 use Rattle.std.proofs.lemmas.List.{length-set, map-set, map-append}
-use Rattle.journal_layout.specs.Record.{record_size}
 use Rattle.journal_layout.specs.Standing.{store_of}
-use Rattle.intake.specs.State.{BareCase, BareStream}
+use Rattle.intake.specs.State.{BareStream}
 use Rattle.case_journal.specs.Append.{StoreRefused}
 use Rattle.intake.specs.Guarding.{Guards}
 use Rattle.case_journal.specs.declared.faults.JournalFault.{JournalFault}
@@ -33,12 +32,13 @@ use Rattle.intake.specs.Live.{case_uses}
 use Rattle.intake.specs.Parts.{Parts, StreamParts, bare_of, bare_case, bare_stream}
 use Rattle.intake.specs.Slots.{stream_at}
 use Rattle.intake.specs.Sound.{IsSound, IsRunning, IsFine, IsFineIfOpen, held_by, is_called}
-use Rattle.intake.specs.Step.{FinishStep, MayFinish, MayHaveRuns, with_stream}
+use Rattle.intake.specs.Step.{FinishStep, MayFinish, MayHaveRuns, cases_with, record_size, recorded, with_stream}
 use Rattle.intake.specs.StreamView.{case_from_parts}
 use Rattle.intake.proofs.AdvanceLemmas.{gone_state, halted_state, free_is, sound_refused}
 use Rattle.intake.proofs.CountLemmas.{uses_same, one_if_le, in_range}
 use Rattle.intake.proofs.SoundLemmas.{slot_below, sound_halted, fine_at, part_of_sum, named_in}
 use Rattle.intake.proofs.LiveLemmas.{sound_stored}
+use Rattle.intake.proofs.RecordedLemmas.{record_room, record_full, bare_recorded}
 use Rattle.intake.proofs.StepLemmas.{some_there}
 
 none_named : (P : Case → Bool) (cases : List Case) → count_by P cases ≡ 0 → list_any P cases ≡ false
@@ -146,6 +146,10 @@ module _ {D : Type 0} (g : disk.Ghosts D) (d d' : D) (j : Journaled) (most : ℕ
       ap (λ (k : Journaled). bare_of (record { disk = d'; journal = k; limit = most; streams = streams'; stopped = b' })) now
       ∙ gone_state g d d' j most flags streams slot 0 s b running on is b' dropped streams' gone still same
 
+  -- the cases with the stream as the last one
+  cases_say : (blocks : List ℕ) → map bare_case (j.standing.cases ++ numbered j.standing.next (case_from_parts (with_blocks s blocks)) ∷ []) ≡ cases_with (bare_of before) (bare_stream s) (length (runs_of blocks))
+  cases_say blocks = map-append bare_case j.standing.cases (numbered j.standing.next (case_from_parts (with_blocks s blocks)) ∷ [])
+
   -- the record was refused
   store_err : (j' : Journaled) (b' : Bool) (dropped streams' : List (Option StreamParts)) (s' : StreamParts) (u : Unit {0}) (jf : JournalFault) → dropped ≡ slice_set streams slot None → EndsStreams (fault_of jf) dropped b' streams'
       → Closes (free_count flags) s (Ok u) s' → StoreRefused j (case_from_parts (with_blocks s s'.blocks)) jf j'
@@ -156,7 +160,7 @@ module _ {D : Type 0} (g : disk.Ghosts D) (d d' : D) (j : Journaled) (most : ℕ
     length (runs_of s'.blocks),
     may (there_is s' u closes),
     runs_may s' u closes,
-    refused.1,
+    record_full d d' j (store_of j.standing (case_from_parts (with_blocks s s'.blocks))) most streams b _ (cases_say s'.blocks) refused.1,
     gone_with j' b' dropped streams' gone ends.0 ends.1 refused.2,
   )
   store_err j' b' dropped streams' s' u journal_fault.NumbersSpent gone ends closes refused = (
@@ -164,7 +168,7 @@ module _ {D : Type 0} (g : disk.Ghosts D) (d d' : D) (j : Journaled) (most : ℕ
     length (runs_of s'.blocks),
     may (there_is s' u closes),
     runs_may s' u closes,
-    refused.1,
+    record_room d d' j (store_of j.standing (case_from_parts (with_blocks s s'.blocks))) most streams b _ (cases_say s'.blocks) refused.1,
     refused.2,
     gone_with j' b' dropped streams' gone ends.0 ends.1 refused.3,
   )
@@ -216,29 +220,13 @@ module _ {D : Type 0} (g : disk.Ghosts D) (d d' : D) (j : Journaled) (most : ℕ
     length (runs_of s'.blocks),
     may (there_is s' u closes),
     runs_may s' u closes,
-    a.1,
+    record_room d d' j (store_of j.standing (case_from_parts (with_blocks s s'.blocks))) most streams b _ (cases_say s'.blocks) a.1,
     a.2,
     a.3,
     ap (λ (k : Journaled). bare_of (record { disk = d'; journal = k; limit = most; streams = streams'; stopped = b })) a.4
-        ∙ ap (λ (x : List BareCase). record {
-          shape = j.standing.shape;
-          limit = most;
-          cases = x;
-          next = j.standing.next + 1;
-          used = j.standing.used + record_size (store_of j.standing (case_from_parts (with_blocks s s'.blocks)));
-          streams = map (option_map bare_stream) streams';
-          stopped = b;
-        })
-        (map-append bare_case j.standing.cases (numbered j.standing.next (case_from_parts (with_blocks s s'.blocks)) ∷ []))
-        ∙ ap (λ (x : List (Option BareStream)). record {
-          shape = j.standing.shape;
-          limit = most;
-          cases = map bare_case j.standing.cases ++ bare_case (numbered j.standing.next (case_from_parts (with_blocks s s'.blocks))) ∷ [];
-          next = j.standing.next + 1;
-          used = j.standing.used + record_size (store_of j.standing (case_from_parts (with_blocks s s'.blocks)));
-          streams = x;
-          stopped = b;
-        })
+        ∙ bare_recorded d d' j (store_of j.standing (case_from_parts (with_blocks s s'.blocks))) most streams' b _ (cases_say s'.blocks)
+        ∙ ap (λ (x : List (Option BareStream)).
+        record (recorded (record (bare_of before) { streams = x }) (record_size s.name (length (runs_of s'.blocks))) (cases_with (bare_of before) (bare_stream s) (length (runs_of s'.blocks)))) { next = j.standing.next + 1 })
         (ap (map (option_map bare_stream)) gone ∙ map-set (option_map bare_stream) streams slot None),
   )
 

@@ -1,17 +1,19 @@
 -- What a crash leaves of the append of a record.
-use Rattle.std.proofs.Common.{◌≡◌, ◌⊎◌, ℕ, ◌≤◌, false, true, Bool, List, sym, ap, ◌∙◌, subst, ⊎_elim, inl, inr, Err}
+use Rattle.std.proofs.Common.{◌≡◌, ◌⊎◌, ℕ, ◌*◌, ◌≤◌, false, true, Bool, List, sym, ap, ◌∙◌, subst, ⊎_elim, inl, inr, Err}
 use Rattle.std.specs.Prelude.{IsTrue}
 use Rattle.disk_model.specs.Disk.{ChangedIn}
 use Rattle.disk_model.specs.MomentLaws.{started, weakened, both, now_too}
 use Rattle.disk_model.specs.Moments.{LeavesOnly, IsSettled}
 use Rattle.disk_model.specs.Places.{SameOutside}
 use Rattle.disk_model.specs.declared.disk.Disk as disk
-use Rattle.journal_layout.specs.Layout.{half_start, half_length}
+use Rattle.journal_layout.specs.Layout.{half_length}
 use Rattle.journal_layout.specs.Record.{Record, Drop, Pin}
 use Rattle.journal_layout.specs.Case.{Case}
-use Rattle.journal_layout.specs.Standing.{appended, store_of}
+use Rattle.journal_layout.specs.Rewriting.{appended}
+use Rattle.journal_layout.specs.Standing.{store_of}
 use Rattle.journal_layout.specs.Stands.{Stands}
-use Rattle.case_journal.specs.Append.{AppendStep, LeavesDisk}
+use Rattle.case_journal.specs.Append.{AppendStep}
+use Rattle.case_journal.specs.Refusing.{LeavesDisk}
 use Rattle.case_journal.specs.Journaled.{Journaled, goes_on}
 use Rattle.case_journal.specs.Keeping.{Keeps, LeavesEither, LeavesOutside}
 use Rattle.case_journal.specs.declared.faults.JournalFault.{JournalFault}
@@ -23,7 +25,7 @@ use Rattle.intake.proofs.DurableLemmas.{durable_behind, durable_dropped, durable
 
 module _ {D : Type 0} (g : disk.Ghosts D) (d d' : D) (j : Journaled) (r : Record) where
   abbrev pub Behind : List ℕ → List ℕ → Type 0
-  Behind a b = SameOutside (half_start j.standing.shape j.standing.half) (half_length j.standing.shape) a b
+  Behind a b = SameOutside 4096 (2 * half_length j.standing.shape) a b
 
   abbrev pub IsWhole : Type 0
   IsWhole = (c : List ℕ) → g.may_leave d c → durable_in c j.standing ≡ durable_in (g.seen d) j.standing
@@ -42,13 +44,13 @@ module _ {D : Type 0} (g : disk.Ghosts D) (d d' : D) (j : Journaled) (r : Record
       → LeavesOnly g d d' (λ c. StandsFor c (durable_in (g.seen d) j.standing) ⊎ StandsFor c (durable_in (g.seen d) (appended j.standing r)))
   append_moments whole whole_after either outside =
       weakened g d d'
-      (λ c. (Stands c j.standing ⊎ Stands c (appended j.standing r)) × ChangedIn (half_start j.standing.shape j.standing.half) (half_length j.standing.shape) (g.may_leave d) c)
+      (λ c. (Stands c j.standing ⊎ Stands c (appended j.standing r)) × ChangedIn 4096 (2 * half_length j.standing.shape) (g.may_leave d) c)
       (λ c. StandsFor c (durable_in (g.seen d) j.standing) ⊎ StandsFor c (durable_in (g.seen d) (appended j.standing r)))
       (λ c h. ⊎_elim
       (λ stands. inl (record { standing = j.standing; stands = stands; is = old_behind h.1.0 c h.1.2 ∙ whole h.1.0 h.1.1 }))
       (λ stands. inr (record { standing = appended j.standing r; stands = stands; is = new_behind h.1.0 c h.1.2 ∙ whole_after h.1.0 h.1.1 }))
       h.0)
-      (both g d d' (λ c. Stands c j.standing ⊎ Stands c (appended j.standing r)) (ChangedIn (half_start j.standing.shape j.standing.half) (half_length j.standing.shape) (g.may_leave d)) either outside)
+      (both g d d' (λ c. Stands c j.standing ⊎ Stands c (appended j.standing r)) (ChangedIn 4096 (2 * half_length j.standing.shape) (g.may_leave d)) either outside)
 
   -- once it is done
   pub guards_appended : g.is_honest d' ≡ g.is_honest d → ((t : ℕ) (c : List ℕ) → t ≤ g.clock d' → g.may_leave d' c → g.left_since d' t c)
@@ -58,7 +60,7 @@ module _ {D : Type 0} (g : disk.Ghosts D) (d d' : D) (j : Journaled) (r : Record
     keeps = keeps;
     whole = λ runs real c may. (
         let honest : IsTrue (g.is_honest d) = sym honesty ∙ real in
-        let was = now_too g d d' (ChangedIn (half_start j.standing.shape j.standing.half) (half_length j.standing.shape) (g.may_leave d)) (outside honest) counts c may in
+        let was = now_too g d d' (ChangedIn 4096 (2 * half_length j.standing.shape) (g.may_leave d)) (outside honest) counts c may in
         new_behind was.0 c was.2 ∙ whole_after honest was.0 was.1 ∙ sym (new_behind (g.seen d) (g.seen d') (others honest)));
   }
 

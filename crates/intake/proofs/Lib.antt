@@ -11,11 +11,11 @@ pub mod SoundLemmas
 pub mod StepLemmas
 pub mod StoreLemmas
 pub mod HoldLemmas
+pub mod RecordedLemmas
 pub mod AfterLemmas
 pub mod PinLemmas
 pub mod ReadLemmas
 pub mod ImageLemmas
-pub mod SeqLemmas
 pub mod ListedLemmas
 pub mod DropLemmas
 pub mod RetireLemmas

@@ -1,15 +1,17 @@
 -- How the flag of a case is set.
-use Rattle.std.proofs.Common.{◌≡◌, ◌≢◌, inl, inr, ℕ, ◌+◌, ◌==◌, Bool, true, false, cond, List, [], ◌∷◌, length, map, refl, sym, ap, ◌∙◌, subst, arith, Option, Some, Ok, Err}
+use Rattle.std.proofs.Common.{◌≡◌, ◌≢◌, inl, inr, ℕ, ◌*◌, ◌+◌, ◌<◌, ◌==◌, Bool, true, false, cond, List, [], ◌∷◌, length, map, refl, sym, ap, ◌∙◌, subst, arith, Option, Some, Ok, Err}
 use Rattle.std.specs.Prelude.{option_map}
+use Rattle.std.proofs.lemmas.Bool.{ltb-false}
 use Rattle.disk_model.specs.Places.{SameOutside}
 use Rattle.disk_model.specs.declared.disk.Disk as disk
 use Rattle.journal_layout.specs.Case.{Case}
 use Rattle.journal_layout.specs.Folding.{used_blocks, with_pin}
-use Rattle.journal_layout.specs.Layout.{half_start, half_length}
+use Rattle.journal_layout.specs.Layout.{half_length}
 use Rattle.journal_layout.specs.LiveCounts.{case_uses_same, used_length, named_pinned}
 use Rattle.journal_layout.specs.LiveLaws.{used_pinned}
 use Rattle.journal_layout.specs.LiveFinds.{pin_sound}
 use Rattle.journal_layout.specs.Record.{Pin}
+use Rattle.journal_layout.specs.Rewriting.{fits}
 use Rattle.journal_layout.specs.Soundness.{case_numbered, uses as uses_in}
 use Rattle.journal_layout.specs.Standing.{folded_of}
 use Rattle.case_journal.specs.Append.{AppendStep, MayFollow}
@@ -23,9 +25,9 @@ use Rattle.intake.specs.Faults.{fault_of}
 use Rattle.intake.specs.Live.{case_uses, cases_named}
 use Rattle.intake.specs.Parts.{Parts, StreamParts, bare_of, bare_case, contents_of, taken_in}
 use Rattle.intake.specs.Sound.{IsSound, case_blocks}
-use Rattle.intake.specs.State.{BareCase}
 use Rattle.intake.specs.Step.{PinStep, HasCase}
 use Rattle.intake.proofs.AfterLemmas.{bare_case_at, flag_cases, sound_after, same_state, halted_now, same_bytes}
+use Rattle.intake.proofs.RecordedLemmas.{record_room, record_full, bare_recorded}
 
 module _ {D : Type 0} (g : disk.Ghosts D) (d d' : D) (j j' : Journaled) (most : ℕ) (flags : List Bool) (streams streams' : List (Option StreamParts)) (b b' : Bool) (seq : ℕ) (flag : Bool) (c : Case)
     (sound : IsSound g d j most flags streams b) (on : b ≡ false) (found : Some c ≡ case_numbered seq j.standing.cases) where
@@ -41,6 +43,10 @@ module _ {D : Type 0} (g : disk.Ghosts D) (d d' : D) (j j' : Journaled) (most : 
   pub pin_may : MayFollow j.standing (Pin seq flag)
   pin_may = pin_sound j.standing.shape.data_blocks (folded_of j.standing) seq flag (sound.runs on).cases (c, sym found)
 
+  -- its record does not fit behind the others
+  pub pin_behind : fits j.standing (Pin seq flag) ≡ false → half_length j.standing.shape < j.standing.used + 16 + 1
+  pin_behind e = let far = ltb-false (j.standing.used + 16) (half_length j.standing.shape) e in omega (arith, far)
+
   -- it stands already
   pub pin_same : (u : Unit {0}) → c.pinned ≡ flag → PinStep (bare_of old) seq flag (Ok u) (bare_of old)
   pin_same u same = (bare_case c, has, inl (same, refl))
@@ -52,18 +58,18 @@ module _ {D : Type 0} (g : disk.Ghosts D) (d d' : D) (j j' : Journaled) (most : 
     has,
     inr (
       other,
-      step.1,
+      record_room d d' j (Pin seq flag) most streams b _ (flag_cases seq flag j.standing.cases) step.1,
       ap (λ (k : Journaled). bare_of (record { disk = d'; journal = k; limit = most; streams = streams; stopped = b })) step.2
-          ∙ ap (λ (x : List BareCase). record (bare_of old) { cases = x; used = j.standing.used + 16 }) (flag_cases seq flag j.standing.cases),
+          ∙ bare_recorded d d' j (Pin seq flag) most streams b _ (flag_cases seq flag j.standing.cases),
     ),
   )
 
   pub pin_err : (jf : JournalFault) → c.pinned ≢ flag → AppendStep j (Pin seq flag) (Err jf) j' → EndsStreams (fault_of jf) streams b' streams' → PinStep (bare_of old) seq flag (Err (fault_of jf)) (bare_of new)
   pin_err journal_fault.Stopped other step ends = absurd (let e : true ≡ false = sym step.0 ∙ (sound.runs on).journal in cc)
-  pin_err journal_fault.JournalFull other step ends = (bare_case c, has, other, step.1, same_state g d d' j j' (Pin seq flag) most flags streams streams' b b' on ends.0 ends.1 step.2)
+  pin_err journal_fault.JournalFull other step ends = (bare_case c, has, other, record_full d d' j (Pin seq flag) most streams b _ (flag_cases seq flag j.standing.cases) step.1, same_state g d d' j j' (Pin seq flag) most flags streams streams' b b' on ends.0 ends.1 step.2)
   pin_err journal_fault.NumbersSpent other step ends = absurd step
-  pin_err journal_fault.OutOfMemory other step ends = (bare_case c, has, other, step.1, same_state g d d' j j' (Pin seq flag) most flags streams streams' b b' on ends.0 ends.1 step.2)
-  pin_err journal_fault.Disk other step ends = (bare_case c, has, other, step.1, halted_now g d d' j j' (Pin seq flag) most flags streams streams' b b' on ends.0 ends.1 step.2)
+  pin_err journal_fault.OutOfMemory other step ends = (bare_case c, has, other, record_room d d' j (Pin seq flag) most streams b _ (flag_cases seq flag j.standing.cases) step.1, same_state g d d' j j' (Pin seq flag) most flags streams streams' b b' on ends.0 ends.1 step.2)
+  pin_err journal_fault.Disk other step ends = (bare_case c, has, other, record_room d d' j (Pin seq flag) most streams b _ (flag_cases seq flag j.standing.cases) step.1, halted_now g d d' j j' (Pin seq flag) most flags streams streams' b b' on ends.0 ends.1 step.2)
 
   pub pin_sound_after : (u : Unit {0}) → AppendStep j (Pin seq flag) (Ok u) j' → Guards g d' j' → IsSound g d' j' most flags streams b
   pin_sound_after u step keeps =
@@ -87,7 +93,7 @@ module _ {D : Type 0} (g : disk.Ghosts D) (d d' : D) (j j' : Journaled) (most : 
         | false ↦ ap (λ (l : List (List ℕ)). image_in j.standing.shape bytes x.blocks x.len ∷ l) (images_pinned bytes rest)
       ]
 
-  pub pin_bytes : (u : Unit {0}) → AppendStep j (Pin seq flag) (Ok u) j' → SameOutside (half_start j.standing.shape j.standing.half) (half_length j.standing.shape) (g.seen d) (g.seen d')
+  pub pin_bytes : (u : Unit {0}) → AppendStep j (Pin seq flag) (Ok u) j' → SameOutside 4096 (2 * half_length j.standing.shape) (g.seen d) (g.seen d')
       → contents_of g.seen (record { disk = d'; journal = j'; limit = most; streams = streams; stopped = b }) ≡ contents_of g.seen old
   pin_bytes u step outside =
       ap (λ (k : Journaled). contents_of g.seen (record { disk = d'; journal = k; limit = most; streams = streams; stopped = b })) step.2

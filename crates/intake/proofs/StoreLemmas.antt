@@ -1,14 +1,12 @@
 -- The bytes that the append of a case leaves.
-use Rattle.std.proofs.Common.{◌≡◌, inr, ℕ, zero, suc, ◌+◌, ◌%◌, ◌≤◌, Bool, true, false, List, [], ◌∷◌, ◌++◌, take, drop, map, refl, sym, ap, ◌∙◌, subst, arith, Option, None, Some, Ok, Err}
+use Rattle.std.proofs.Common.{◌≡◌, inr, ℕ, zero, suc, ◌+◌, ◌*◌, ◌%◌, ◌≤◌, Bool, true, false, List, [], ◌∷◌, ◌++◌, take, drop, map, refl, sym, ap, ◌∙◌, subst, arith, Option, None, Some, Ok, Err}
 use Rattle.std.specs.Prelude.{option_map, slice_set}
 use Rattle.std.proofs.lemmas.List.{map-append}
 use Rattle.disk_model.specs.Places.{SameOutside}
 use Rattle.disk_model.specs.PartLaws.{part_spared}
 use Rattle.disk_model.specs.declared.disk.Disk as disk
 use Rattle.journal_layout.specs.declared.shape.Shape.{Shape}
-use Rattle.journal_layout.specs.declared.shape.Half.{Half}
-use Rattle.journal_layout.specs.declared.shape.Half.TheVariants.{A, B}
-use Rattle.journal_layout.specs.Layout.{half_start, half_length, data_start}
+use Rattle.journal_layout.specs.Layout.{half_length, data_start}
 use Rattle.journal_layout.specs.Case.{Case, numbered}
 use Rattle.journal_layout.specs.Standing.{Standing, store_of}
 use Rattle.case_journal.specs.Append.{StoreRefused}
@@ -28,18 +26,17 @@ use Rattle.intake.specs.Slots.{stream_at}
 use Rattle.intake.specs.Sound.{IsRunning}
 use Rattle.intake.proofs.AdvanceLemmas.{contents_moved, refused_bytes}
 
-half_ends : (shape : Shape) (half : Half) → half_start shape half + half_length shape ≤ data_start shape
-half_ends shape A = omega arith
-half_ends shape B = omega arith
+halves_end : (shape : Shape) → 4096 + 2 * half_length shape ≤ data_start shape
+halves_end shape = omega arith
 
 -- the journal's halves lie before the data blocks
-module _ (j : Journaled) (a b : List ℕ) (same : SameOutside (half_start j.standing.shape j.standing.half) (half_length j.standing.shape) a b) where
+module _ (j : Journaled) (a b : List ℕ) (same : SameOutside 4096 (2 * half_length j.standing.shape) a b) where
   pub joined_behind : (blocks : List ℕ) → joined j.standing.shape b blocks ≡ joined j.standing.shape a blocks
   joined_behind [] = refl
   joined_behind (k ∷ rest) =
-      let e = half_ends j.standing.shape j.standing.half in
+      let e = halves_end j.standing.shape in
       let here : block_bytes j.standing.shape b k ≡ block_bytes j.standing.shape a k =
-      part_spared (half_start j.standing.shape j.standing.half) (half_length j.standing.shape) a b same (block_start j.standing.shape k) 4096 (inr (omega arith)) in
+      part_spared 4096 (2 * half_length j.standing.shape) a b same (block_start j.standing.shape k) 4096 (inr (omega arith)) in
       ap (λ (x : List ℕ). x ++ joined j.standing.shape b rest) here ∙ ap (λ (x : List ℕ). block_bytes j.standing.shape a k ++ x) (joined_behind rest)
 
   pub images_behind : (cases : List Case) → map (λ (c : Case). image_in j.standing.shape b c.blocks c.len) cases ≡ map (λ (c : Case). image_in j.standing.shape a c.blocks c.len) cases
@@ -80,7 +77,7 @@ never_missing journal_fault.Disk e = cc
 
 module _ {D : Type 0} (g : disk.Ghosts D) (d d1 d2 : D) (j j' : Journaled) (most : ℕ) (flags : List Bool) (streams : List (Option StreamParts)) (slot : ℕ) (b b' : Bool)
     (running : IsRunning g d j most flags streams) (changes : ChangesFree j.standing.shape flags (g.seen d) (g.seen d1))
-    (outside : SameOutside (half_start j.standing.shape j.standing.half) (half_length j.standing.shape) (g.seen d1) (g.seen d2)) where
+    (outside : SameOutside 4096 (2 * half_length j.standing.shape) (g.seen d1) (g.seen d2)) where
   abbrev old : Parts D
   old = record { disk = d; journal = j; limit = most; streams = streams; stopped = b }
 

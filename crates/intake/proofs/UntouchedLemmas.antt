@@ -3,7 +3,8 @@ use Rattle.std.proofs.Common.{◌≡◌, ◌≢◌, ℕ, ◌+◌, ◌%◌, Bool,
 use Rattle.std.specs.Prelude.{option_map}
 use Rattle.journal_layout.specs.Case.{Case}
 use Rattle.journal_layout.specs.Soundness.{case_numbered}
-use Rattle.case_journal.specs.Append.{LeavesDisk, StoreRefused}
+use Rattle.case_journal.specs.Append.{StoreRefused}
+use Rattle.case_journal.specs.Refusing.{LeavesDisk}
 use Rattle.case_journal.specs.Journaled.{Journaled}
 use Rattle.case_journal.specs.declared.faults.JournalFault.{JournalFault}
 use Rattle.case_journal.specs.declared.faults.JournalFault.TheVariants as journal_fault
@@ -17,7 +18,7 @@ use Rattle.intake.specs.Step.{case_at}
 use Rattle.intake.specs.Untouched.{RefusalSpares, FinishSpares}
 use Rattle.intake.specs.declared.faults.ArchiveFault.{ArchiveFault}
 use Rattle.intake.specs.declared.faults.ArchiveFault.TheVariants as fault
-use Rattle.intake.proofs.AfterLemmas.{bare_case_at}
+use Rattle.intake.proofs.AfterLemmas.{bare_case_at, told_same}
 use Rattle.intake.proofs.StepLemmas.{some_there}
 
 -- an answer that the disk gave
@@ -44,20 +45,14 @@ pub other_spares : {D : Type 0} (S T : Type 0) (f : ArchiveFault) (old new : D) 
 other_spares S T fault.Disk old new same = tt
 other_spares S T _ old new same = same
 
--- no want of memory in the journal is none in the archive
-pub never_told : (jf : JournalFault) (f : ArchiveFault) → f ≡ fault_of jf → (jf ≡ journal_fault.OutOfMemory → ⊥) → f ≡ fault.OutOfMemory → ⊥
-never_told journal_fault.Disk f told never is = let e : fault.Disk ≡ fault.OutOfMemory = sym told ∙ is in cc
-never_told journal_fault.Stopped f told never is = let e : fault.Stopped ≡ fault.OutOfMemory = sym told ∙ is in cc
-never_told journal_fault.JournalFull f told never is = let e : fault.JournalFull ≡ fault.OutOfMemory = sym told ∙ is in cc
-never_told journal_fault.NumbersSpent f told never is = let e : fault.NumbersSpent ≡ fault.OutOfMemory = sym told ∙ is in cc
-never_told journal_fault.OutOfMemory f told never is = never refl
+-- which fault is answered
+pub fault_answered : (T : Type 0) (f h : ArchiveFault) → ◌≡◌ {A = Result T ArchiveFault} (Err f) (Err h) → f ≡ h
+fault_answered T f h e = cc
 
-pub never_answered : (T : Type 0) (jf : JournalFault) (f : ArchiveFault) → f ≡ fault_of jf → (◌≡◌ {A = Result T JournalFault} (Err jf) (Err journal_fault.OutOfMemory) → ⊥)
-    → ◌≡◌ {A = Result T ArchiveFault} (Err f) (Err fault.OutOfMemory) → ⊥
-never_answered T jf f told never is = never_told jf f told (λ e. never (ap (λ (k : JournalFault). let r : Result T JournalFault = Err k in r) e)) (inside is)
-  where
-    inside : ◌≡◌ {A = Result T ArchiveFault} (Err f) (Err fault.OutOfMemory) → f ≡ fault.OutOfMemory
-    inside e = cc
+-- what is answered of a fault of the journal is that fault
+pub journal_answered : (T : Type 0) (jf h : JournalFault) (f : ArchiveFault) → f ≡ fault_of jf → ◌≡◌ {A = Result T ArchiveFault} (Err f) (Err (fault_of h))
+    → ◌≡◌ {A = Result T JournalFault} (Err jf) (Err h)
+journal_answered T jf h f told is = ap (λ (k : JournalFault). let r : Result T JournalFault = Err k in r) (told_same jf h (sym told ∙ fault_answered T f (fault_of h) is))
 
 -- bytes that fill no block need none
 pub needs_none : (streams : List (Option StreamParts)) (slot n : ℕ) (s : StreamParts) (t : BareStream) → stream_at streams slot ≡ Some s → stream_at (map (option_map bare_stream) streams) slot ≡ Some t

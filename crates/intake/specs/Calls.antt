@@ -1,11 +1,12 @@
 -- What a call promises as a whole: the state, the bytes, and what a crash at any moment of it leaves.
-use Rattle.std.specs.Prelude.{◌≡◌, ◌≢◌, ℕ, ◌≤◌, Bool, false, List, [], ◌∷◌, length, None, Some, Result, Err, IfOk, IsTrue, Vec, vec_len}
+use Rattle.std.specs.Prelude.{◌≡◌, ℕ, ◌+◌, ◌<◌, ◌≤◌, Bool, false, List, [], ◌∷◌, length, None, Some, Result, Err, IfOk, IsTrue, Vec, vec_len}
 use Rattle.std.specs.Global.{Global}
 use Rattle.disk_model.specs.Disk.{HasRisen}
 use Rattle.disk_model.specs.Moments.{AddsOnly, LeavesOnly}
 use Rattle.disk_model.specs.declared.disk.Disk as disk
 use Rattle.journal_layout.specs.declared.faults.OpenFault.{OpenFault}
 use Rattle.journal_layout.specs.declared.faults.OpenFault.TheVariants as open_fault
+use Rattle.journal_layout.specs.Layout.{half_length}
 use Rattle.journal_layout.specs.Standing.{Standing}
 use Rattle.journal_layout.specs.Stands.{Stands}
 use Rattle.case_journal.specs.Viewing.{ShowsOpening, Finds, IsQuiet}
@@ -18,10 +19,10 @@ use Rattle.intake.specs.Parts.{Parts, bare_of, contents_of}
 use Rattle.intake.specs.Slots.{stream_at}
 use Rattle.intake.specs.State.{BareCase, BareStream}
 use Rattle.intake.specs.Growth.{IsDiskFault}
-use Rattle.intake.specs.Step.{BeginStep, AdvanceStep, FinishStep, AbandonStep, PinStep, DeleteStep, RetireStep, ImageStep, case_at}
+use Rattle.intake.specs.Step.{BeginStep, AdvanceStep, FinishStep, AbandonStep, PinStep, DeleteStep, RetireStep, ImageStep, IsLastGeneration, case_at, pin_size}
 use Rattle.intake.specs.Untouched.{RefusalSpares, AdvanceSpares, FinishSpares, PinSpares, RetireSpares}
 use Rattle.intake.specs.declared.faults.ArchiveFault.{ArchiveFault}
-use Rattle.intake.specs.declared.faults.ArchiveFault.TheVariants.{OutOfMemory}
+use Rattle.intake.specs.declared.faults.ArchiveFault.TheVariants.{JournalFull, OutOfMemory}
 use Rattle.retention.specs.declared.Decision.{Decision}
 use Rattle.retention.specs.declared.Policy.{Policy}
 
@@ -106,20 +107,24 @@ pub record DeleteCall {D : Type 0} (g : disk.Ghosts D) (old : Parts D) (seq : �
   pub step : DeleteStep (bare_of old) seq r (bare_of new)
   pub bytes : IsTrue (g.is_honest old.disk) → DeleteBytes (bare_of old) (contents_of g.seen old) seq r (contents_of g.seen new)
   pub changes : Changes (Unit {0}) g old r new (λ x. x ≡ without (durable_of g.seen old) (seq ∷ []))
+  -- what is left can be written anew, unless no generation is left for it
+  pub full : IsTrue (g.is_honest old.disk) → r ≡ Err JournalFull → IsLastGeneration (bare_of old)
   pub untouched : RefusalSpares {T = Unit {0}} r old.disk new.disk
 
 pub record PinCall {D : Type 0} (g : disk.Ghosts D) (old : Parts D) (seq : ℕ) (flag : Bool) (r : Result (Unit {0}) ArchiveFault) (new : Parts D) : Type 0 where
   pub step : PinStep (bare_of old) seq flag r (bare_of new)
   pub bytes : IsTrue (g.is_honest old.disk) → PinBytes (contents_of g.seen old) r (contents_of g.seen new)
   pub changes : Changes (Unit {0}) g old r new (λ x. x ≡ flagged (durable_of g.seen old) seq flag)
-  -- it takes no memory
-  pub never : r ≢ Err OutOfMemory
+  -- it takes no memory where its record fits behind the others
+  pub never : r ≡ Err OutOfMemory → half_length (bare_of old).shape < (bare_of old).used + pin_size + 1
   pub untouched : PinSpares (bare_of old) seq flag r old.disk new.disk
 
 pub record RetireCall {D : Type 0} (g : disk.Ghosts D) (old : Parts D) (policy : Policy) (r : Result Decision ArchiveFault) (new : Parts D) : Type 0 where
   pub step : RetireStep (bare_of old) policy r (bare_of new)
   pub bytes : IsTrue (g.is_honest old.disk) → RetireBytes (bare_of old) (contents_of g.seen old) r (contents_of g.seen new)
   pub changes : Changes Decision g old r new (λ x. MayBeRetired (bare_of old) policy (durable_of g.seen old) x)
+  -- as of a deletion
+  pub full : IsTrue (g.is_honest old.disk) → r ≡ Err JournalFull → IsLastGeneration (bare_of old)
   pub untouched : RetireSpares r old.disk new.disk
 
 pub record ImageCall {D : Type 0} (g : disk.Ghosts D) (old : Parts D) (seq : ℕ) (r : Result (Vec ℕ Global) ArchiveFault) (new : Parts D) : Type 0 where

@@ -53,6 +53,7 @@ bare_of a = record {
   cases = map bare_case a.journal.standing.cases;
   next = a.journal.standing.next;
   used = a.journal.standing.used;
+  generation = a.journal.standing.generation;
   streams = map (option_map bare_stream) a.streams;
   stopped = a.stopped;
 }

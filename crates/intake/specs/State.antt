@@ -34,6 +34,8 @@ pub record Bare : Type 0 where
   pub next : ℕ
   -- the bytes of the journal's taken half that are in use
   pub used : ℕ
+  -- of that half: one more each time the journal is written anew
+  pub generation : ℕ
   -- by slot
   pub streams : List (Option BareStream)
   pub stopped : Bool

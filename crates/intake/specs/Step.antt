@@ -1,6 +1,6 @@
 -- What each call does to the state without bytes, and when it is refused: relations by cases, the refusals in the order
 -- in which they are tried.
-use Rattle.std.specs.Prelude.{◌≡◌, ◌≢◌, ℕ, ◌+◌, ◌*◌, ◌%◌, ◌^◌, ◌<◌, ◌≤◌, Bool, true, false, List, [], ◌∷◌, ◌++◌, length, Option, None, Some, Result, Ok, Err, slice_set, ◌||◌, ◌⊎◌, ◌==◌, not, map, if◌then◌else◌}
+use Rattle.std.specs.Prelude.{◌≡◌, ◌≢◌, ℕ, ◌+◌, ◌*◌, ◌%◌, ◌^◌, ◌<◌, ◌≤◌, Bool, true, false, List, [], ◌∷◌, ◌++◌, length, Option, None, Some, Result, Ok, Err, slice_set, ◌||◌, ◌⊎◌, ◌==◌, not, map, nat_lt, sum_by, if◌then◌else◌}
 use Rattle.std.specs.List.{list_any, filter}
 use Rattle.std.specs.Str.{bytes_eq}
 use Rattle.journal_layout.specs.Layout.{half_length}
@@ -92,9 +92,36 @@ record_size name runs = rounded (48 + 8 * runs + length name)
 abbrev pub MayHaveRuns : ℕ → ℕ → Type 0
 MayHaveRuns len runs = (runs ≤ blocks_for len) × (0 < len → 0 < runs)
 
--- the record fits into the journal's half with the gate behind it
-abbrev pub HasRecordRoom : Bare → ℕ → Type 0
-HasRecordRoom s size = s.used + size + 1 ≤ half_length s.shape
+-- the bytes of a half of the journal that says these cases and a next number, and nothing else: its header, a record for each
+-- case, and one of the number
+abbrev pub snapshot_size : List BareCase → ℕ
+snapshot_size cases = 48 + sum_by (λ (c : BareCase). record_size c.name c.runs) cases
+
+-- A record of so many bytes, behind which these cases stand, has room with the gate behind it: behind the records that are there,
+-- or in the journal's other half, where these cases are written anew and a generation is left for it.
+abbrev pub HasRecordRoom : Bare → ℕ → List BareCase → Type 0
+HasRecordRoom s size cases =
+    (s.used + size + 1 ≤ half_length s.shape)
+    ⊎ ((snapshot_size cases + 1 ≤ half_length s.shape) × (s.generation + 1 < 2 ^ 64))
+
+-- the journal was written anew as often as it can be
+abbrev pub IsLastGeneration : Bare → Type 0
+IsLastGeneration s = s.generation + 1 ≡ 2 ^ 64
+
+-- such a record has room in neither half
+abbrev pub IsFull : Bare → ℕ → List BareCase → Type 0
+IsFull s size cases =
+    (half_length s.shape < s.used + size + 1)
+    × ((half_length s.shape < snapshot_size cases + 1) ⊎ IsLastGeneration s)
+
+-- the same state with these cases, by a record of so many bytes: it stands behind the others where it fits there, and else the
+-- cases stand in the other half, written anew
+abbrev pub recorded : Bare → ℕ → List BareCase → Bare
+recorded s size cases = record s {
+  cases = cases;
+  used = if nat_lt (s.used + size) (half_length s.shape) then s.used + size else snapshot_size cases;
+  generation = if nat_lt (s.used + size) (half_length s.shape) then s.generation else s.generation + 1;
+}
 
 abbrev pub case_from : BareStream → ℕ → ℕ → BareCase
 case_from s seq runs = record {
@@ -109,13 +136,13 @@ case_from s seq runs = record {
   runs = runs;
 }
 
+-- the cases with the stream as the last one
+abbrev pub cases_with : Bare → BareStream → ℕ → List BareCase
+cases_with old s runs = old.cases ++ case_from s old.next runs ∷ []
+
 -- the stream becomes the last case
 abbrev pub stored : Bare → ℕ → BareStream → ℕ → Bare
-stored old slot s runs = record (with_stream old slot None) {
-  cases = old.cases ++ case_from s old.next runs ∷ [];
-  next = old.next + 1;
-  used = old.used + record_size s.name runs;
-}
+stored old slot s runs = record (recorded (with_stream old slot None) (record_size s.name runs) (cases_with old s runs)) { next = old.next + 1 }
 
 -- the stream stands in its slot, and there is a block for the bytes that fill none
 abbrev pub MayFinish : Bare → ℕ → BareStream → Type 0
@@ -126,7 +153,7 @@ MayFinish old slot s =
 -- finish: the stream becomes the last case. Only how many runs it lies in is left open.
 abbrev pub FinishStep : Bare → ℕ → Result ℕ ArchiveFault → Bare → Type 0
 FinishStep old slot (Ok seq) new =
-    (s : BareStream) × (runs : ℕ) × MayFinish old slot s × MayHaveRuns s.len runs × HasRecordRoom old (record_size s.name runs)
+    (s : BareStream) × (runs : ℕ) × MayFinish old slot s × MayHaveRuns s.len runs × HasRecordRoom old (record_size s.name runs) (cases_with old s runs)
     × (old.next < 2 ^ 32) × (seq ≡ old.next) × (new ≡ stored old slot s runs)
 FinishStep old slot (Err Stopped) new = (old.stopped ≡ true) × (new ≡ old)
 FinishStep old slot (Err NoStream) new = (old.stopped ≡ false) × (stream_at old.streams slot ≡ None) × (new ≡ old)
@@ -135,9 +162,9 @@ FinishStep old slot (Err SpaceFull) new =
     × (s.len % 4096 ≢ 0) × (blocks_in old ≡ old.shape.data_blocks) × (new ≡ with_stream old slot None)
 FinishStep old slot (Err JournalFull) new =
     (s : BareStream) × (runs : ℕ) × MayFinish old slot s × MayHaveRuns s.len runs
-    × (half_length old.shape < old.used + record_size s.name runs + 1) × (new ≡ with_stream old slot None)
+    × IsFull old (record_size s.name runs) (cases_with old s runs) × (new ≡ with_stream old slot None)
 FinishStep old slot (Err NumbersSpent) new =
-    (s : BareStream) × (runs : ℕ) × MayFinish old slot s × MayHaveRuns s.len runs × HasRecordRoom old (record_size s.name runs)
+    (s : BareStream) × (runs : ℕ) × MayFinish old slot s × MayHaveRuns s.len runs × HasRecordRoom old (record_size s.name runs) (cases_with old s runs)
     × (old.next ≡ 2 ^ 32) × (new ≡ with_stream old slot None)
 FinishStep old slot (Err OutOfMemory) new = (s : BareStream) × MayFinish old slot s × (new ≡ with_stream old slot None)
 FinishStep old slot (Err Disk) new = (s : BareStream) × MayFinish old slot s × (new ≡ halted old)
@@ -171,56 +198,66 @@ HasCase old seq c = (old.stopped ≡ false) × (case_at seq old.cases ≡ Some c
 abbrev pub drop_size : ℕ → ℕ
 drop_size n = rounded (12 + 4 * n)
 
+-- the cases that have none of these numbers
+abbrev pub cases_without : Bare → List ℕ → List BareCase
+cases_without old seqs = filter (λ (c : BareCase). not (is_among seqs c.seq)) old.cases
+
 -- the same state without these cases
 abbrev pub without_cases : Bare → List ℕ → Bare
-without_cases old seqs = record old {
-  cases = filter (λ (c : BareCase). not (is_among seqs c.seq)) old.cases;
-  used = old.used + drop_size (length seqs);
-}
+without_cases old seqs = recorded old (drop_size (length seqs)) (cases_without old seqs)
+
+-- the record that drops them has room
+abbrev pub HasDropRoom : Bare → List ℕ → Type 0
+HasDropRoom old seqs = HasRecordRoom old (drop_size (length seqs)) (cases_without old seqs)
 
 -- cases are dropped that may be, in an archive that runs
 abbrev pub DropStep : Bare → List ℕ → Result (Unit {0}) ArchiveFault → Bare → Type 0
-DropStep old seqs (Ok u) new = HasRecordRoom old (drop_size (length seqs)) × (new ≡ without_cases old seqs)
-DropStep old seqs (Err JournalFull) new = (half_length old.shape < old.used + drop_size (length seqs) + 1) × (new ≡ old)
-DropStep old seqs (Err OutOfMemory) new = HasRecordRoom old (drop_size (length seqs)) × (new ≡ old)
-DropStep old seqs (Err Disk) new = HasRecordRoom old (drop_size (length seqs)) × (new ≡ halted old)
+DropStep old seqs (Ok u) new = HasDropRoom old seqs × (new ≡ without_cases old seqs)
+DropStep old seqs (Err JournalFull) new = IsFull old (drop_size (length seqs)) (cases_without old seqs) × (new ≡ old)
+DropStep old seqs (Err OutOfMemory) new = HasDropRoom old seqs × (new ≡ old)
+DropStep old seqs (Err Disk) new = HasDropRoom old seqs × (new ≡ halted old)
 DropStep old seqs (Err _) new = ⊥
 
 -- delete: the case is gone
 abbrev pub DeleteStep : Bare → ℕ → Result (Unit {0}) ArchiveFault → Bare → Type 0
 DeleteStep old seq (Ok u) new =
-    (c : BareCase) × HasCase old seq c × (c.pinned ≡ false) × HasRecordRoom old (drop_size 1) × (new ≡ without_cases old (seq ∷ []))
+    (c : BareCase) × HasCase old seq c × (c.pinned ≡ false) × HasDropRoom old (seq ∷ []) × (new ≡ without_cases old (seq ∷ []))
 DeleteStep old seq (Err Stopped) new = (old.stopped ≡ true) × (new ≡ old)
 DeleteStep old seq (Err NoCase) new = (old.stopped ≡ false) × (case_at seq old.cases ≡ None) × (new ≡ old)
 DeleteStep old seq (Err Pinned) new = (c : BareCase) × HasCase old seq c × (c.pinned ≡ true) × (new ≡ old)
 DeleteStep old seq (Err JournalFull) new =
-    (c : BareCase) × HasCase old seq c × (c.pinned ≡ false) × (half_length old.shape < old.used + drop_size 1 + 1) × (new ≡ old)
-DeleteStep old seq (Err OutOfMemory) new = (c : BareCase) × HasCase old seq c × (c.pinned ≡ false) × HasRecordRoom old (drop_size 1) × (new ≡ old)
-DeleteStep old seq (Err Disk) new = (c : BareCase) × HasCase old seq c × (c.pinned ≡ false) × HasRecordRoom old (drop_size 1) × (new ≡ halted old)
+    (c : BareCase) × HasCase old seq c × (c.pinned ≡ false) × IsFull old (drop_size 1) (cases_without old (seq ∷ [])) × (new ≡ old)
+DeleteStep old seq (Err OutOfMemory) new = (c : BareCase) × HasCase old seq c × (c.pinned ≡ false) × HasDropRoom old (seq ∷ []) × (new ≡ old)
+DeleteStep old seq (Err Disk) new = (c : BareCase) × HasCase old seq c × (c.pinned ≡ false) × HasDropRoom old (seq ∷ []) × (new ≡ halted old)
 DeleteStep old seq (Err _) new = ⊥
 
 -- the bytes of the record that pins a case
 abbrev pub pin_size : ℕ
 pin_size = 16
 
+-- the cases with the flag of one set
+abbrev pub cases_flagged : Bare → ℕ → Bool → List BareCase
+cases_flagged old seq flag = map (λ (c : BareCase). if c.seq == seq then record c { pinned = flag } else c) old.cases
+
 -- the same state with the flag of a case set
 abbrev pub with_flag : Bare → ℕ → Bool → Bare
-with_flag old seq flag = record old {
-  cases = map (λ (c : BareCase). if c.seq == seq then record c { pinned = flag } else c) old.cases;
-  used = old.used + pin_size;
-}
+with_flag old seq flag = recorded old pin_size (cases_flagged old seq flag)
+
+-- the record that sets it has room
+abbrev pub HasPinRoom : Bare → ℕ → Bool → Type 0
+HasPinRoom old seq flag = HasRecordRoom old pin_size (cases_flagged old seq flag)
 
 -- pin: the flag is set; where it stands already, nothing changes
 abbrev pub PinStep : Bare → ℕ → Bool → Result (Unit {0}) ArchiveFault → Bare → Type 0
 PinStep old seq flag (Ok u) new =
     (c : BareCase) × HasCase old seq c
-    × (((c.pinned ≡ flag) × (new ≡ old)) ⊎ ((c.pinned ≢ flag) × HasRecordRoom old pin_size × (new ≡ with_flag old seq flag)))
+    × (((c.pinned ≡ flag) × (new ≡ old)) ⊎ ((c.pinned ≢ flag) × HasPinRoom old seq flag × (new ≡ with_flag old seq flag)))
 PinStep old seq flag (Err Stopped) new = (old.stopped ≡ true) × (new ≡ old)
 PinStep old seq flag (Err NoCase) new = (old.stopped ≡ false) × (case_at seq old.cases ≡ None) × (new ≡ old)
 PinStep old seq flag (Err JournalFull) new =
-    (c : BareCase) × HasCase old seq c × (c.pinned ≢ flag) × (half_length old.shape < old.used + pin_size + 1) × (new ≡ old)
-PinStep old seq flag (Err OutOfMemory) new = (c : BareCase) × HasCase old seq c × (c.pinned ≢ flag) × HasRecordRoom old pin_size × (new ≡ old)
-PinStep old seq flag (Err Disk) new = (c : BareCase) × HasCase old seq c × (c.pinned ≢ flag) × HasRecordRoom old pin_size × (new ≡ halted old)
+    (c : BareCase) × HasCase old seq c × (c.pinned ≢ flag) × IsFull old pin_size (cases_flagged old seq flag) × (new ≡ old)
+PinStep old seq flag (Err OutOfMemory) new = (c : BareCase) × HasCase old seq c × (c.pinned ≢ flag) × HasPinRoom old seq flag × (new ≡ old)
+PinStep old seq flag (Err Disk) new = (c : BareCase) × HasCase old seq c × (c.pinned ≢ flag) × HasPinRoom old seq flag × (new ≡ halted old)
 PinStep old seq flag (Err _) new = ⊥
 
 -- what the rule looks at of a case
@@ -236,14 +273,14 @@ abbrev pub RetireStep : Bare → Policy → Result Decision ArchiveFault → Bar
 RetireStep old policy (Ok d) new =
     (old.stopped ≡ false) × IsDecision policy (map brief_of old.cases) d.dropped.items d.unmet
     × (((d.dropped.items ≡ []) × (new ≡ old))
-    ⊎ ((d.dropped.items ≢ []) × HasRecordRoom old (drop_size (length d.dropped.items)) × (new ≡ without_cases old d.dropped.items)))
+    ⊎ ((d.dropped.items ≢ []) × HasDropRoom old d.dropped.items × (new ≡ without_cases old d.dropped.items)))
 RetireStep old policy (Err Stopped) new = (old.stopped ≡ true) × (new ≡ old)
 RetireStep old policy (Err JournalFull) new =
     (dropped : List ℕ) × (unmet : Bool) × Retires old policy dropped unmet
-    × (half_length old.shape < old.used + drop_size (length dropped) + 1) × (new ≡ old)
+    × IsFull old (drop_size (length dropped)) (cases_without old dropped) × (new ≡ old)
 RetireStep old policy (Err OutOfMemory) new = (old.stopped ≡ false) × (new ≡ old)
 RetireStep old policy (Err Disk) new =
-    (dropped : List ℕ) × (unmet : Bool) × Retires old policy dropped unmet × HasRecordRoom old (drop_size (length dropped)) × (new ≡ halted old)
+    (dropped : List ℕ) × (unmet : Bool) × Retires old policy dropped unmet × HasDropRoom old dropped × (new ≡ halted old)
 RetireStep old policy (Err _) new = ⊥
 
 -- image: the bytes of a case are read; only a disk fault changes the state

@@ -79,7 +79,7 @@ impl<D: Disk> Model for Archive<D> {
 impl<D: Disk> Archive<D> {
     ghost use Rattle.intake.specs.Parts.{Parts, StreamParts, bare_of, contents_of};
     ghost use Rattle.intake.specs.State.{Bare, BareStream};
-    ghost use Rattle.intake.specs.Step.{RoomReply, FreeReply, DropStep};
+    ghost use Rattle.intake.specs.Step.{RoomReply, FreeReply, DropStep, IsLastGeneration};
     ghost use Rattle.intake.specs.Contents.{DropBytes};
     ghost use Rattle.intake.specs.Opened.{CaseReply, CasesReply};
     ghost use Rattle.intake.specs.Calls.{OpenCall, BeginCall, AdvanceCall, FinishCall, AbandonCall, PinCall, DeleteCall, RetireCall, ImageCall, CloseCall, Changes};
@@ -251,8 +251,8 @@ impl<D: Disk> Archive<D> {
 
     /// Makes the stream in a slot the last case, and answers its number. What of its bytes fills no block is written to
     /// one with zeros behind it, all is made stable, and then the case's record is appended. Answers, in this order:
-    /// `Stopped`; `NoStream`; `SpaceFull`; `OutOfMemory`; `Disk`; `JournalFull`; `NumbersSpent`; `OutOfMemory`; `Disk`. All
-    /// but the first two drop the stream.
+    /// `Stopped`; `NoStream`; `SpaceFull`; `OutOfMemory`; `Disk`; `JournalFull` where neither the record nor the cases with
+    /// this one, written anew, have room; `NumbersSpent`; `OutOfMemory`; `Disk`. All but the first two drop the stream.
     pub fn finish(&mut self, slot: u8) -> Result<u32, ArchiveFault>
         ensures { FinishCall D.Disk self.old slot result self.new }
     {
@@ -300,7 +300,8 @@ impl<D: Disk> Archive<D> {
     }
 
     /// Keeps a case from deletion, or no longer; where that stands already, nothing is written. Answers, in this order:
-    /// `Stopped`; `NoCase`; `JournalFull`; `Disk`. All but the last change nothing.
+    /// `Stopped`; `NoCase`; `JournalFull`; `OutOfMemory`, where the journal is written anew alone; `Disk`. All but the last
+    /// change nothing.
     pub fn pin(&mut self, seq: u32, flag: bool) -> Result<(), ArchiveFault>
         ensures { PinCall D.Disk self.old seq flag result self.new }
     {
@@ -331,6 +332,8 @@ impl<D: Disk> Archive<D> {
             (contents_of D.seen self.new) }
         ensures changes { Changes (Unit {0}) D.Disk self.old result self.new
             (λ x. x ≡ without (durable_of D.seen self.old) seqs.now) }
+        ensures full { IsTrue (D.is_honest self.old.disk) → result ≡ Err ArchiveFault.JournalFull
+            → IsLastGeneration (bare_of self.old) }
         ensures untouched { RefusalSpares result self.old.disk self.new.disk }
     {
         release_listed(&mut self.free, self.journal.entries(), seqs);
@@ -344,7 +347,8 @@ impl<D: Disk> Archive<D> {
     }
 
     /// Drops a case that is not pinned; its blocks are free then. Answers, in this order: `Stopped`; `NoCase`; `Pinned`;
-    /// `JournalFull`; `OutOfMemory`; `Disk`. All but the last change nothing.
+    /// `JournalFull`, on an honest disk only where no generation is left for writing the journal anew; `OutOfMemory`; `Disk`.
+    /// All but the last change nothing.
     pub fn delete(&mut self, seq: u32) -> Result<(), ArchiveFault>
         ensures { DeleteCall D.Disk self.old seq result self.new }
     {
@@ -361,8 +365,8 @@ impl<D: Disk> Archive<D> {
     }
 
     /// Drops the cases that the rule drops under this policy, and answers what it says; where it drops none, nothing is
-    /// written. Answers, in this order: `Stopped`; `OutOfMemory`; `JournalFull`; `OutOfMemory`; `Disk`. All but the last
-    /// change nothing.
+    /// written. Answers, in this order: `Stopped`; `OutOfMemory`; `JournalFull`, as a deletion does; `OutOfMemory`; `Disk`. All
+    /// but the last change nothing.
     pub fn retire(&mut self, policy: &Policy) -> Result<Decision, ArchiveFault>
         ensures { RetireCall D.Disk self.old policy.now result self.new }
     {

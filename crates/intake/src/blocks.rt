@@ -1,15 +1,16 @@
 // Blocks of an image, as they are written.
-ghost use Rattle.std.specs.Prelude.{◌≡◌, ◌+◌, ◌%◌, ◌/◌, ◌<◌, ◌≤◌, ◌++◌, ◌∷◌, ◌^◌, [], length, IsTrue, OnOk, OnErr, ℕ};
+ghost use Rattle.std.specs.Prelude.{◌≡◌, ◌+◌, ◌*◌, ◌%◌, ◌/◌, ◌<◌, ◌≤◌, ◌++◌, ◌∷◌, ◌^◌, [], length, IsTrue, OnOk, OnErr, ℕ};
 ghost use Rattle.disk_model.specs.Places.{overwritten, SameOutside};
 ghost use Rattle.disk_model.specs.Disk.{HasRisen};
 ghost use Rattle.extents.specs.FreeSet.{free_count};
-ghost use Rattle.journal_layout.specs.Layout.{IsWithinLimits, disk_length, half_start, half_length};
+ghost use Rattle.journal_layout.specs.Layout.{IsWithinLimits, disk_length, half_length};
 ghost use Rattle.case_journal.specs.Journaled.{Journaled};
 ghost use Rattle.disk_model.specs.Moments.{LeavesOnly, IsSettled};
 ghost use Rattle.intake.specs.Durable.{durable_in};
 ghost use Rattle.intake.specs.Guarding.{Guards, Rests, Spares, LeavesStored};
 ghost use Rattle.intake.specs.Live.{case_uses};
-ghost use Rattle.journal_layout.specs.Standing.{appended, store_of};
+ghost use Rattle.journal_layout.specs.Rewriting.{appended};
+ghost use Rattle.journal_layout.specs.Standing.{store_of};
 ghost use Rattle.std.specs.Prelude.{false};
 ghost use Rattle.intake.specs.Balance.{AreFree, AreHeld, Balances};
 ghost use Rattle.intake.specs.Blocks.{block_start, block_bytes};
@@ -276,7 +277,7 @@ pub(crate) fn append_case<D: Disk>(
     ensures cause { IsDiskFault result → HasRisen (D.failures disk.old) (D.failures disk.new) }
     ensures later { D.failures disk.old ≤ D.failures disk.new }
     ensures outside { IsTrue (D.is_honest disk.old)
-        → SameOutside (half_start journal.old.standing.shape journal.old.standing.half) (half_length journal.old.standing.shape) (D.seen disk.old) (D.seen disk.new) }
+        → SameOutside 4096 (2 * half_length journal.old.standing.shape) (D.seen disk.old) (D.seen disk.new) }
     ensures honesty { D.is_honest disk.new ≡ D.is_honest disk.old }
     ensures size { D.size disk.new ≡ D.size disk.old }
 {

@@ -9,14 +9,7 @@ ghost use Rattle.intake.specs.Balance.{AreFree, AreHeld, Balances};
 use crate::blocks::hold;
 use extents::FreeMap;
 use journal_layout::Entry;
-
-// Whether the number is one of these, which rise.
-fn is_listed(seqs: &[u32], seq: u32) -> bool
-    requires { Rise 0 seqs.now }
-    ensures { result ≡ is_among seqs.now seq }
-{
-    seqs.binary_search(&seq).is_ok()
-}
+use journal_snapshot::is_listed;
 
 // Gives the blocks of an entry back, if its number is one of these.
 fn release_if_listed(free: &mut FreeMap, entry: &Entry, seqs: &[u32])

@@ -35,7 +35,7 @@ pub enum ArchiveFault {
     /// The case is pinned.
     #[error("the case is pinned")]
     Pinned,
-    /// The record does not fit into the journal.
+    /// Neither the record nor the live cases with it, written anew, fit into a half of the journal.
     #[error("the journal is full")]
     JournalFull,
     /// All case numbers are given.

@@ -1,3 +1,4 @@
+pub mod AppendLaws
 pub mod ByteLaws
 pub mod Case
 pub mod ChainLaws

@@ -1,5 +1,5 @@
 -- What a rewriting of the journal leaves: the other half holds the cases anew, and is taken.
-use Rattle.std.specs.Prelude.{◌≡◌, ◌≢◌, ℕ, ◌+◌, ◌^◌, ◌<◌, ◌≤◌, Bool, true, nat_lt, List, [], ◌∷◌, ◌++◌, slice_index}
+use Rattle.std.specs.Prelude.{◌≡◌, ◌≢◌, ℕ, ◌+◌, ◌^◌, ◌<◌, ◌≤◌, Bool, true, nat_lt, if◌then◌else◌, List, [], ◌∷◌, ◌++◌, slice_index}
 use Rattle.std.specs.List.{flat_map}
 use Rattle.disk_model.specs.Places.{part}
 use Rattle.journal_layout.specs.declared.shape.Half.{Half}
@@ -11,7 +11,7 @@ use Rattle.journal_layout.specs.Folding.{Folded, after, sizes}
 use Rattle.journal_layout.specs.Soundness.{IsSound}
 use Rattle.journal_layout.specs.Front.{is_known}
 use Rattle.journal_layout.specs.Live.{AreLive}
-use Rattle.journal_layout.specs.Standing.{Standing}
+use Rattle.journal_layout.specs.Standing.{Standing, folded_of}
 
 abbrev pub other_half : Half → Half
 other_half A = B
@@ -73,3 +73,14 @@ pub record MayRewrite (s : Standing) (f : Folded) : Type 0 where
 -- the record, and the gate behind it, go behind those of the taken half
 abbrev pub fits : Standing → Record → Bool
 fits s r = nat_lt (s.used + record_size r) (half_length s.shape)
+
+-- After one record more: behind the others where it fits there, and else in the other half, with all that is said then
+-- written anew.
+abbrev pub appended : Standing → Record → Standing
+appended s r = record s {
+  half = if fits s r then s.half else other_half s.half;
+  generation = if fits s r then s.generation else s.generation + 1;
+  cases = (after r (folded_of s)).cases;
+  next = (after r (folded_of s)).next;
+  used = if fits s r then s.used + record_size r else snapshot_size (after r (folded_of s));
+}

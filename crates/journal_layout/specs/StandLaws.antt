@@ -11,7 +11,7 @@ use Rattle.journal_layout.specs.Record.{Record, record_size, spelling}
 use Rattle.journal_layout.specs.Folding.{Folded, after, replayed, sizes, nothing_yet}
 use Rattle.journal_layout.specs.Soundness.{IsSound}
 use Rattle.journal_layout.specs.Front.{Front, front_opening}
-use Rattle.journal_layout.specs.Standing.{Standing, folded_of, fresh, appended}
+use Rattle.journal_layout.specs.Standing.{Standing, folded_of, fresh, lengthened}
 use Rattle.journal_layout.specs.Stands.{StandsFirst, AreRead, records_start, records_area, front_of, Stands}
 use Rattle.journal_layout.specs.RowLaws.{row_push, row_same, row_room, replayed_push, sizes_push}
 use Rattle.journal_layout.specs.FrontLaws.{front_limits, front_size, front_same}
@@ -134,7 +134,7 @@ opened_part l p m x e = e
 pub stands_grown : (b c : List ℕ) (s : Standing) (r : Record) → HasSameFront s.shape b c → part c (half_start s.shape s.half) s.used ≡ part b (half_start s.shape s.half) s.used
     → s.used + record_size r + 1 ≤ half_length s.shape → IsSound s.shape.data_blocks (folded_of s) r
     → part c (half_start s.shape s.half + s.used) (record_size r) ≡ spelling r → slice_index c (half_start s.shape s.half + s.used + record_size r) ≢ 165
-    → Stands b s → Stands c (appended s r)
+    → Stands b s → Stands c (lengthened s r)
 stands_grown b c s r same used room sound spelled closed stands =
     let limits = stands_limits b s stands in
     let within = stands_room b s stands in

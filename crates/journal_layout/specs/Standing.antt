@@ -28,9 +28,9 @@ abbrev pub fresh : Shape → Half → ℕ → ℕ → Standing
 fresh shape half version generation =
     record { shape = shape; half = half; version = version; generation = generation; cases = []; next = 1; used = 32 }
 
--- after one record more
-abbrev pub appended : Standing → Record → Standing
-appended s r = record s {
+-- after one record more behind the others
+abbrev pub lengthened : Standing → Record → Standing
+lengthened s r = record s {
   cases = (after r (folded_of s)).cases;
   next = (after r (folded_of s)).next;
   used = s.used + record_size r;

@@ -155,33 +155,16 @@ pub fn has_sizes(rt: &impl Abort, journal: &Journal, cases: usize, bytes: u64) {
     );
 }
 
-// A full journal takes no further case.
-fn is_full<D: Disk + Drop>(
-    rt: &(impl AllocGlobal + Abort),
-    bench: &mut Bench<D>,
-) -> Result<(), Fail> {
-    has_sizes(rt, bench.journal(), 63, 4064);
-    let stored = bench.store(rt.alloc(), b"n64")?;
-    assert_eq!(rt; stored, Err(JournalFault::JournalFull));
-    has_sizes(rt, bench.journal(), 63, 4064);
-    Ok(())
-}
-
-// It takes the end of one.
-fn takes_an_end<D: Disk + Drop>(rt: &impl Abort, bench: &mut Bench<D>) -> Result<(), Fail> {
-    assert_eq!(rt; bench.end(1)?, Ok(()));
-    has_sizes(rt, bench.journal(), 62, 4080);
-    Ok(())
-}
-
-#[test]
-fn the_half_is_full(rt: HostRuntime) -> Result<(), Fail> {
-    let mut bench = fresh(rt.alloc())?;
+/// A journal of 63 cases, which leave no room for a further one.
+pub fn filled(alloc: Global) -> Result<Bench<MemDisk>, Fail> {
+    let mut bench = fresh(alloc)?;
     for number in 1..64u32 {
-        stores(&rt, &mut bench, number)?;
+        let name = format!(in alloc; "n{number}")?;
+        if bench.store(alloc, name.as_bytes())? != Ok(number) {
+            return Err(Fail::from("a case was not stored"));
+        }
     }
-    is_full(&rt, &mut bench)?;
-    takes_an_end(&rt, &mut bench)
+    Ok(bench)
 }
 
 // Whether the journal shows this state and so many bytes.

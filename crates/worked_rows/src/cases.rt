@@ -85,13 +85,29 @@ fn fill<D: Disk>(rt: &(impl AllocGlobal + Abort), archive: &mut Archive<D>) -> R
     Ok(())
 }
 
-// What a full journal refuses, and a deletion, which it takes.
-static FULL: [Row<'static>; 1] = [(
-    b"begin exec 0 n64\nend 0\nbegin exec 0 n64\ndrop 0\ndelete 1\n",
-    "name n64\nok\nno JournalFull\nname n64\nok\nok\nok\n",
-)];
+// What a full journal refuses, and a deletion, which it takes; a case in its place, one more, and the same again.
+static FULL: [Row<'static>; 3] = [
+    (
+        b"begin exec 0 n64\nend 0\nbegin exec 0 n64\ndrop 0\ndelete 1\n",
+        "name n64\nok\nno JournalFull\nname n64\nok\nok\nok\n",
+    ),
+    (
+        b"begin exec 0 n64\nend 0\nbegin exec 0 n65\nend 0\n",
+        "name n64\nok\nstored 64\nok\nname n65\nok\nno JournalFull\n",
+    ),
+    (
+        b"delete 2\nbegin exec 0 n65\nend 0\n",
+        "ok\nname n65\nok\nstored 65\nok\n",
+    ),
+];
 
-// The journal is filled, and refuses a case then.
+// The headers of the two halves then: the third generation, and the second.
+static HALVES: [(usize, &[u8]); 2] = [
+    (4096, &[0xa5, 0, 0, 0, 1, 0, 0, 0, 3, 0, 0, 0, 0, 0, 0, 0]),
+    (8192, &[0xa5, 0, 0, 0, 1, 0, 0, 0, 2, 0, 0, 0, 0, 0, 0, 0]),
+];
+
+// The journal is filled, and refuses a case then, as long as none is deleted.
 fn refuses_when_full<D: Disk>(
     rt: &(impl AllocGlobal + Abort),
     archive: &mut Archive<D>,
@@ -101,9 +117,15 @@ fn refuses_when_full<D: Disk>(
 }
 
 #[test]
-fn a_full_journal_refuses_a_case(rt: HostRuntime) -> Result<(), Fail> {
+fn a_full_journal_goes_on_where_a_case_was_deleted(rt: HostRuntime) -> Result<(), Fail> {
     let mut archive = fresh(rt.alloc(), 1 << 30)?;
-    refuses_when_full(&rt, &mut archive)
+    refuses_when_full(&rt, &mut archive)?;
+    let disk = archive.close();
+    for (at, wanted) in &HALVES {
+        let found = disk.bytes().get(*at..at.saturating_add(wanted.len()));
+        assert_eq!(rt; found, Some(*wanted), "at {at}");
+    }
+    Ok(())
 }
 
 // What the archive shows after a session over the script.

@@ -4,7 +4,7 @@ use Rattle.disk_model.specs.Places.{overwritten, SameOutside}
 use Rattle.disk_model.specs.Moments.{LeavesOnly}
 use Rattle.disk_model.specs.MomentLaws.{changed_wider, changed_twice, weakened, then_again, now_too}
 use Rattle.disk_model.specs.PartLaws.{same_twice, widened}
-use Rattle.journal_layout.specs.Standing.{appended}
+use Rattle.journal_layout.specs.Standing.{lengthened}
 use Rattle.journal_layout.specs.Stands.{Stands}
 use Rattle.case_journal.proofs.PublishLemmas.{before_gate, at_gate, made, on_ok}
 use Rattle.case_journal.proofs.publish.publish.Goals as goal
@@ -16,7 +16,7 @@ returns-in_err-write_stable-clause-others g c honest =
 pub returns-in_err-write_stable-clause-any_moment : goal.returns-in_err-write_stable-clause-any_moment
 returns-in_err-write_stable-clause-any_moment g c s r p honest all =
     let d = g.D.Disk in
-    weakened d c.args.disk.now c.write_stable.new.disk (ChangedIn (c.args.gate + 1) (length c.args.behind.now) (d.may_leave c.args.disk.now)) (λ (b : List ℕ). Stands b s ⊎ Stands b (appended s r))
+    weakened d c.args.disk.now c.write_stable.new.disk (ChangedIn (c.args.gate + 1) (length c.args.behind.now) (d.may_leave c.args.disk.now)) (λ (b : List ℕ). Stands b s ⊎ Stands b (lengthened s r))
     (λ b changed. inl (before_gate s r c.args.gate c.args.behind.now p changed.0 (all changed.0 changed.1) b changed.2))
     (c.write_stable.ensures.any_moment honest)
 
@@ -44,7 +44,7 @@ returns-clause-any_moment g c s r p honest all =
     let settled = stable.0 in
     let seen_is = stable.1 in
     let seen_stands = all (d.seen old) (g.met.D.Disk.seen_may_stay old honest) in
-    let Q : List ℕ → Type 0 = λ (b : List ℕ). Stands b s ⊎ Stands b (appended s r) in
+    let Q : List ℕ → Type 0 = λ (b : List ℕ). Stands b s ⊎ Stands b (lengthened s r) in
     let first : LeavesOnly d old mid Q = weakened d old mid (ChangedIn (c.args.gate + 1) (length c.args.behind.now) (d.may_leave old)) Q
     (λ b changed. inl (before_gate s r c.args.gate c.args.behind.now p changed.0 (all changed.0 changed.1) b changed.2))
     (c.write_stable.ensures.any_moment honest) in
@@ -63,8 +63,8 @@ returns-clause-made g c s r p honest all =
     let stable = c.in_ok-write_stable.ensures.stable honest in
     let seen_is = stable.1 in
     let seen_stands = all (d.seen old) (g.met.D.Disk.seen_may_stay old honest) in
-    on_ok c.write_stable-2.result _ ((b : List ℕ) → d.may_leave new b → Stands b (appended s r))
-    (λ after. λ b left. subst (λ (x : List ℕ). Stands x (appended s r))
+    on_ok c.write_stable-2.result _ ((b : List ℕ) → d.may_leave new b → Stands b (lengthened s r))
+    (λ after. λ b left. subst (λ (x : List ℕ). Stands x (lengthened s r))
     (sym (after.0 b left ∙ after.1 ∙ ap (λ (x : List ℕ). overwritten x c.args.gate (165 ∷ [])) seen_is))
     (made s r c.args.gate c.args.behind.now p (d.seen old) seen_stands))
     (c.write_stable-2.ensures.stable still)

@@ -2,7 +2,8 @@ use Rattle.std.proofs.Common.{◌≡◌, ap, sym, subst, List, ℕ, refl}
 use Rattle.case_journal.specs.Keeping.{Keeps}
 use Rattle.disk_model.specs.Moments.{LeavesOnly}
 use Rattle.journal_layout.specs.Case.{case_of}
-use Rattle.journal_layout.specs.Standing.{appended, store_of}
+use Rattle.journal_layout.specs.Rewriting.{appended}
+use Rattle.journal_layout.specs.Standing.{store_of}
 use Rattle.intake.specs.Durable.{Durable, durable_in}
 use Rattle.intake.specs.Guarding.{Guards, LeavesStored}
 use Rattle.intake.specs.declared.faults.ArchiveFault.{ArchiveFault}

@@ -1,11 +1,8 @@
-use Rattle.journal_layout.specs.Record.{Drop}
-use Rattle.case_journal.proofs.AppendLemmas.{unmoved}
+use Rattle.std.proofs.Common.{ap, sym, ◌∙◌}
+use Rattle.case_journal.specs.Journaled.{Journaled}
+use Rattle.case_journal.proofs.PutLemmas.{full_by_generation}
 use Rattle.case_journal.proofs.journal.Journal.append_drop.Goals as goal
 
-pub returns-in_err-may_begin-clause-any_moment : goal.returns-in_err-may_begin-clause-any_moment
-returns-in_err-may_begin-clause-any_moment g c honest runs =
-    unmoved g.D.Disk c.args.disk.now c.args.self.now (Drop c.args.seqs.now) (g.met.D.Disk.only_now c.args.disk.now) c.requires.keeps honest runs
-
-pub returns-in_default-clause-any_moment : goal.returns-in_default-clause-any_moment
-returns-in_default-clause-any_moment g c honest runs =
-    unmoved g.D.Disk c.args.disk.now c.args.self.now (Drop c.args.seqs.now) (g.met.D.Disk.only_now c.args.disk.now) c.requires.keeps honest runs
+pub returns-in-Err-clause-generation : goal.returns-in-Err-clause-generation
+returns-in-Err-clause-generation g c is honest =
+    full_by_generation g.D.Disk c.args.disk.now c.args.self.now c.args.seqs.now c.requires.keeps (ap (λ (j : Journaled). j.stopped) (sym c.self.view_is) ∙ c.if-self.false) honest (g.met.D.Disk.seen_may_stay c.args.disk.now honest) c.requires.droppable c.in-Err.fault c.in-Err.ensures.step is

@@ -1,52 +1,47 @@
-use Rattle.std.proofs.Common.{◌∙◌, ℕ, arith, subst, sym, ap}
+use Rattle.std.proofs.Common.{◌≡◌, ◌++◌, ◌∷◌, [], ◌^◌, ◌<◌, List, map, ap, ◌∙◌, sym, subst, refl, arith}
+use Rattle.std.proofs.lemmas.List.{map-append}
+use Rattle.journal_layout.specs.declared.entry.Entry.{Entry}
 use Rattle.journal_layout.specs.Case.{case_of, numbered}
 use Rattle.journal_layout.specs.Record.{Store}
-use Rattle.journal_layout.specs.Standing.{store_of}
-use Rattle.case_journal.specs.Journaled.{goes_on}
-use Rattle.case_journal.specs.Keeping.{Keeps}
-use Rattle.case_journal.proofs.AppendLemmas.{unmoved, store_refused, store_spent, store_done, store_failed, entered_is}
+use Rattle.journal_layout.specs.Standing.{Standing, store_of}
+use Rattle.journal_layout.specs.Soundness.{IsStorable}
+use Rattle.case_journal.specs.Journaled.{Journaled}
+use Rattle.case_journal.proofs.KeptLemmas.{kept_stored}
+use Rattle.case_journal.proofs.PutLemmas.{nothing_runs, place_lies}
 use Rattle.case_journal.proofs.journal.Journal.append_store.Goals as goal
 
-pub returns-in-Err-clause-step : goal.returns-in-Err-clause-step
-returns-in-Err-clause-step g c =
-    store_refused c.args.self.now (case_of c.args.entry) c.store_size-size.result c.in-Err.fault (c.store_size-size.ensures c.args.self.now.standing.next) (rw c.in-Err.is at c.may_begin.ensures.begun)
+pub room_for-requires-clause-size : goal.room_for-requires-clause-size
+room_for-requires-clause-size g c = c.store_size-size.ensures c.args.self.now.standing.next
 
 pub returns-in-Err-clause-any_moment : goal.returns-in-Err-clause-any_moment
 returns-in-Err-clause-any_moment g c honest runs =
-    unmoved g.D.Disk c.args.disk.now c.args.self.now (store_of c.args.self.now.standing (case_of c.args.entry)) (g.met.D.Disk.only_now c.args.disk.now) c.requires.keeps honest runs
+    (nothing_runs g.D.Disk c.args.disk.now c.args.self.now (store_of c.args.self.now.standing (case_of c.args.entry)) (g.met.D.Disk.only_now c.args.disk.now) c.requires.keeps runs).moments honest
 
-pub returns-then-next-from-clause-step : goal.returns-then-next-from-clause-step
-returns-then-next-from-clause-step g c =
-    store_spent c.args.self.now (case_of c.args.entry) c.store_size-size.result c.in_default.field-0 (c.store_size-size.ensures c.args.self.now.standing.next) (rw c.in_default.is at c.may_begin.ensures.begun) (omega arith)
+pub returns-then-self-from-clause-any_moment : goal.returns-then-self-from-clause-any_moment
+returns-then-self-from-clause-any_moment g c honest runs =
+    (nothing_runs g.D.Disk c.args.disk.now c.args.self.now (store_of c.args.self.now.standing (case_of c.args.entry)) (g.met.D.Disk.only_now c.args.disk.now) c.requires.keeps runs).moments honest
 
-pub returns-then-next-from-clause-any_moment : goal.returns-then-next-from-clause-any_moment
-returns-then-next-from-clause-any_moment g c honest runs =
-    unmoved g.D.Disk c.args.disk.now c.args.self.now (store_of c.args.self.now.standing (case_of c.args.entry)) (g.met.D.Disk.only_now c.args.disk.now) c.requires.keeps honest runs
+pub returns-in_default-reserve-clause-any_moment : goal.returns-in_default-reserve-clause-any_moment
+returns-in_default-reserve-clause-any_moment g c honest runs =
+    (nothing_runs g.D.Disk c.args.disk.now c.args.self.now (store_of c.args.self.now.standing (case_of c.args.entry)) (g.met.D.Disk.only_now c.args.disk.now) c.requires.keeps runs).moments honest
 
-pub store-requires-clause-size : goal.store-requires-clause-size
-store-requires-clause-size g c = c.store_size-size.ensures c.next_seq-next.result
+pub put_store-requires-clause-size : goal.put_store-requires-clause-size
+put_store-requires-clause-size g c = c.store_size-size.ensures c.self.inside.next
 
-pub returns-in-Ok-clause-step : goal.returns-in-Ok-clause-step
-returns-in-Ok-clause-step g c =
-    let begun = rw c.in_default.is at c.may_begin.ensures.begun in
-    let made = rw c.in-Ok.is at c.store.ensures.step in
-    store_done c.args.self.now c.store.new.self (case_of c.args.entry) c.store_size-size.result c.next_seq-next.result c.in_default.field-0
-    (c.store_size-size.ensures c.args.self.now.standing.next) begun (omega arith) c.next_seq-next.ensures.value made
-
-pub returns-in-Ok-clause-keeps : goal.returns-in-Ok-clause-keeps
-returns-in-Ok-clause-keeps g c =
-    let begun = rw c.in_default.is at c.may_begin.ensures.begun in
-    let made = rw c.in-Ok.is at c.store.ensures.step in
-    let kept = rw c.in-Ok.is at c.store.ensures.kept in
-    let number = c.next_seq-next.ensures.value in
-    subst (Keeps g.D.Disk c.store.new.disk)
-    (ap (λ (n : ℕ). goes_on c.args.self.now (Store (numbered n (case_of c.args.entry)))) number
-    ∙ sym (made ∙ entered_is c.args.self.now (case_of c.args.entry) c.store_size-size.result c.next_seq-next.result (c.store_size-size.ensures c.args.self.now.standing.next) begun.0 number))
-    kept
-
-pub returns-in-Err-store-clause-step : goal.returns-in-Err-store-clause-step
-returns-in-Err-store-clause-step g c =
-    let begun = rw c.in_default.is at c.may_begin.ensures.begun in
-    let made = rw c.in-Err-store.is at c.store.ensures.step in
-    store_failed c.args.self.now c.store.new.self (case_of c.args.entry) (numbered c.next_seq-next.result (case_of c.args.entry)) c.store_size-size.result c.in-Err-store.refused c.in_default.field-0
-    (c.store_size-size.ensures c.args.self.now.standing.next) begun (omega arith) made
+pub invariant_of-self-in-Ok-put_store : goal.invariant_of-self-in-Ok-put_store
+invariant_of-self-in-Ok-put_store g c =
+    let j = c.self.inside in
+    let e : Entry = record c.args.entry { seq = j.next } in
+    let case = numbered j.next (case_of c.args.entry) in
+    let place = c.in-Ok-put_store.place in
+    let raw : Standing =
+    record { shape = j.shape; half = j.half; version = j.version; generation = j.generation; cases = map case_of c.reserve.new.self.items; next = j.next; used = j.used } in
+    let step = c.in-Ok-put_store.ensures.step in
+    let lies = place_lies raw (Store case) place c.self.invariant.header step.0 step.1 in
+    let fit = c.requires.storable in
+    let storable : IsStorable c.args.self.now.standing.shape.data_blocks c.args.self.now.standing.cases case =
+    record { name = fit.name; new_name = fit.new_name; pid = fit.pid; signal = fit.signal; time = fit.time; bytes = fit.bytes; enough = fit.enough; spare = fit.spare } in
+    let left : j.next < 2 ^ 32 = omega arith in
+    let pushed : c.push.new.self.items ≡ j.entries.items ++ e ∷ [] = (rw c.unwrap.ensures at c.push.ensures.items) ∙ ap (λ (l : List Entry). l ++ e ∷ []) c.in-Ok.ensures.items in
+    kept_stored j.shape j.version (map case_of j.entries.items) j.next j.used c.self.invariant case (map case_of c.push.new.self.items) place.used lies.0 lies.1 refl
+    (omega arith, left, subst (λ (s : Journaled). IsStorable s.standing.shape.data_blocks s.standing.cases case) (sym c.self.view_is) storable) (ap (map case_of) pushed ∙ map-append case_of j.entries.items (e ∷ []))

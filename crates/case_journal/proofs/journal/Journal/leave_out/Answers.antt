@@ -1,12 +1,9 @@
-use Rattle.std.proofs.Common.{◌+◌, ◌≤◌, map, sym, subst}
-use Rattle.journal_layout.specs.Layout.{half_length}
+use Rattle.std.proofs.Common.{map}
 use Rattle.journal_layout.specs.Case.{case_of}
-use Rattle.case_journal.specs.Journaled.{Journaled}
 use Rattle.case_journal.proofs.KeptLemmas.{kept_left}
 use Rattle.case_journal.proofs.journal.Journal.leave_out.Goals as goal
 
 pub invariant_of-self : goal.invariant_of-self
 invariant_of-self c =
     let j = c.self.inside in
-    let room = subst (λ (s : Journaled). s.standing.used + c.args.size + 1 ≤ half_length s.standing.shape) (sym c.self.view_is) c.requires.room in
-    kept_left j.shape j.version (map case_of j.entries.items) j.next j.used c.args.size c.self.invariant room c.args.seqs.now (map case_of c.keep_others.new.entries.items) c.keep_others.ensures
+    kept_left j.shape j.version (map case_of j.entries.items) j.next j.used c.self.invariant c.args.seqs.now (map case_of c.keep_others.new.entries.items) c.keep_others.ensures

@@ -17,6 +17,7 @@ returns-then-self g c = record {
   step = search rules;
   bytes = search rules;
   changes = changes_none g.D.Disk (Unit {0}) c.self.inside.disk c.self.inside.journal c.self.inside.settings.limit c.self.inside.free c.self.inside.slots c.self.inside.stopped _ _ _ c.self.invariant c.self.view_is (λ fault. cc);
+  full = λ honest e. absurd (cc);
   untouched = search rules;
 }
 
@@ -25,6 +26,7 @@ returns-in_default g c = record {
   step = rw (← c.self.view_is) (c.if-self.false, bare_case_at c.args.seq c.self.inside.journal.standing.cases ∙ ap (option_map bare_case) (sym c.in_default.ensures), refl);
   bytes = search rules;
   changes = changes_none g.D.Disk (Unit {0}) c.self.inside.disk c.self.inside.journal c.self.inside.settings.limit c.self.inside.free c.self.inside.slots c.self.inside.stopped _ _ _ c.self.invariant c.self.view_is (λ fault. cc);
+  full = λ honest e. absurd (cc);
   untouched = search rules;
 }
 
@@ -34,6 +36,7 @@ returns-then-entry g c = record {
       (bare_case (case_of c.in-Some.entry.now), (c.if-self.false, bare_case_at c.args.seq c.self.inside.journal.standing.cases ∙ ap (option_map bare_case) (sym c.in-Some.ensures)), c.if-entry.true, refl);
   bytes = search rules;
   changes = changes_none g.D.Disk (Unit {0}) c.self.inside.disk c.self.inside.journal c.self.inside.settings.limit c.self.inside.free c.self.inside.slots c.self.inside.stopped _ _ _ c.self.invariant c.self.view_is (λ fault. cc);
+  full = λ honest e. absurd (cc);
   untouched = search rules;
 }
 
@@ -44,5 +47,6 @@ returns g c = record {
       c.if-entry.false c.drop_cases.ensures.step;
   bytes = search rules;
   changes = c.drop_cases.ensures.changes;
+  full = c.drop_cases.ensures.full;
   untouched = c.drop_cases.ensures.untouched;
 }

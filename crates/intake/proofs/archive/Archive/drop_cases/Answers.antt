@@ -6,6 +6,7 @@ use Rattle.intake.specs.Faults.{fault_of}
 use Rattle.intake.specs.Parts.{Parts, bare_of, contents_of}
 use Rattle.intake.specs.Step.{DropStep}
 use Rattle.intake.specs.declared.faults.ArchiveFault.{ArchiveFault}
+use Rattle.case_journal.specs.declared.faults.JournalFault.TheVariants as journal_fault
 use Rattle.journal_layout.specs.Case.{Case}
 use Rattle.journal_layout.specs.Folding.{used_blocks}
 use Rattle.journal_layout.specs.Live.{gone}
@@ -18,7 +19,7 @@ use Rattle.intake.proofs.DurableLemmas.{durable_dropped}
 use Rattle.intake.proofs.LeaveLemmas.{done_guards, refusal_guards, whole_dropped}
 use Rattle.intake.specs.Durable.{durable_in, without}
 use Rattle.intake.proofs.ChangeLemmas.{sound_stands}
-use Rattle.intake.proofs.UntouchedLemmas.{journal_spares}
+use Rattle.intake.proofs.UntouchedLemmas.{journal_answered, journal_spares}
 use Rattle.intake.proofs.archive.Archive.drop_cases.Goals as goal
 
 pub release_listed-requires-clause-held : goal.release_listed-requires-clause-held
@@ -117,3 +118,11 @@ returns-clause-changes g c =
 
 pub returns-clause-untouched : goal.returns-clause-untouched
 returns-clause-untouched g c = rw (← c.self.view_is) (journal_spares (Unit {0}) c.in-Err.fault _ _ _ c.from-fault.ensures c.in-Err.ensures.untouched)
+
+pub returns-in_default-clause-full : goal.returns-in_default-clause-full
+returns-in_default-clause-full g c honest e = absurd (cc)
+
+pub returns-clause-full : goal.returns-clause-full
+returns-clause-full g c honest e =
+    let real = rw (← c.self.view_is) at honest in
+    rw (← c.self.view_is) (c.in-Err.ensures.generation (journal_answered (Unit {0}) c.in-Err.fault journal_fault.JournalFull _ c.from-fault.ensures e) real)

@@ -17,7 +17,8 @@ use Rattle.intake.proofs.StoreLemmas.{unstored_bytes, stored_bytes, stored_padde
 use Rattle.intake.proofs.CountLemmas.{still_held, balance_then}
 use Rattle.intake.proofs.SoundLemmas.{stream_held}
 use Rattle.intake.proofs.AdvanceLemmas.{none_set, sound_refused, refused_bytes}
-use Rattle.journal_layout.specs.Standing.{appended, store_of}
+use Rattle.journal_layout.specs.Rewriting.{appended}
+use Rattle.journal_layout.specs.Standing.{store_of}
 use Rattle.case_journal.specs.Journaled.{Journaled}
 use Rattle.intake.specs.Durable.{Durable, durable_in}
 use Rattle.intake.proofs.LeaveLemmas.{new_behind}

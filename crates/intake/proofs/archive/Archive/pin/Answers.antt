@@ -6,16 +6,17 @@ use Rattle.intake.specs.Faults.{fault_of}
 use Rattle.intake.specs.Parts.{Parts, bare_of, bare_case, contents_of}
 use Rattle.intake.specs.Step.{PinStep}
 use Rattle.intake.specs.declared.faults.ArchiveFault.{ArchiveFault}
+use Rattle.case_journal.specs.declared.faults.JournalFault.TheVariants as journal_fault
 use Rattle.journal_layout.specs.Case.{case_of}
 use Rattle.journal_layout.specs.Record.{Pin}
 use Rattle.intake.proofs.AfterLemmas.{bare_case_at, flags_differ, flags_same, sound_refusal, refusal_bytes}
-use Rattle.intake.proofs.PinLemmas.{pin_same, pin_ok, pin_err, pin_sound_after, pin_bytes}
+use Rattle.intake.proofs.PinLemmas.{pin_behind, pin_same, pin_ok, pin_err, pin_sound_after, pin_bytes}
 use Rattle.intake.specs.Durable.{durable_in, flagged}
 use Rattle.intake.proofs.CrashLemmas.{record_ok, record_err}
 use Rattle.intake.proofs.DurableLemmas.{durable_pinned}
 use Rattle.intake.proofs.LeaveLemmas.{done_guards, refusal_guards, whole_pinned}
 use Rattle.intake.proofs.ChangeLemmas.{sound_stands, changes_none}
-use Rattle.intake.proofs.UntouchedLemmas.{flag_differs, journal_spares, never_answered}
+use Rattle.intake.proofs.UntouchedLemmas.{flag_differs, journal_answered, journal_spares}
 use Rattle.intake.proofs.archive.Archive.pin.Goals as goal
 
 pub invariant_of-self : goal.invariant_of-self
@@ -39,7 +40,7 @@ returns-then-self g c = record {
   step = search rules;
   bytes = search rules;
   changes = changes_none g.D.Disk (Unit {0}) c.self.inside.disk c.self.inside.journal c.self.inside.settings.limit c.self.inside.free c.self.inside.slots c.self.inside.stopped _ _ _ c.self.invariant c.self.view_is (λ fault. cc);
-  never = λ e. cc;
+  never = λ e. absurd (cc);
   untouched = search rules;
 }
 
@@ -48,7 +49,7 @@ returns-in_default g c = record {
   step = rw (← c.self.view_is) (c.if-self.false, bare_case_at c.args.seq c.self.inside.journal.standing.cases ∙ ap (option_map bare_case) (sym c.in_default.ensures), refl);
   bytes = search rules;
   changes = changes_none g.D.Disk (Unit {0}) c.self.inside.disk c.self.inside.journal c.self.inside.settings.limit c.self.inside.free c.self.inside.slots c.self.inside.stopped _ _ _ c.self.invariant c.self.view_is (λ fault. cc);
-  never = λ e. cc;
+  never = λ e. absurd (cc);
   untouched = search rules;
 }
 
@@ -59,7 +60,7 @@ returns-then-entry-flag g c = record {
       c.args.seq c.args.flag (case_of c.in-Some.entry.now) c.self.invariant c.if-self.false c.in-Some.ensures tt (flags_same c.in-Some.entry.now.pinned c.args.flag c.if-entry-flag.true));
   bytes = search rules;
   changes = changes_none g.D.Disk (Unit {0}) c.self.inside.disk c.self.inside.journal c.self.inside.settings.limit c.self.inside.free c.self.inside.slots c.self.inside.stopped _ _ _ c.self.invariant c.self.view_is (λ fault. fault);
-  never = λ e. cc;
+  never = λ e. absurd (cc);
   untouched = λ x has is. search rules;
 }
 
@@ -88,7 +89,7 @@ returns-in_default-append_pin g c = record {
         (λ z. z ≡ flagged (durable_in (g.D.Disk.seen c.self.inside.disk) c.self.inside.journal.standing) c.args.seq c.args.flag) tt (c.append_pin.ensures.others real) c.in_default-append_pin.ensures.step.2);
     stands = sound_stands g.D.Disk c.append_pin.new.disk c.append_pin.new.self c.self.inside.settings.limit c.self.inside.free c.self.inside.slots c.self.inside.stopped (invariant_of-self g c);
   };
-  never = λ e. cc;
+  never = λ e. absurd (cc);
   untouched = rw (← c.self.view_is)
       (λ x has is. absurd (flag_differs c.args.seq c.args.flag c.self.inside.journal.standing.cases (case_of c.in-Some.entry.now) x c.in-Some.ensures (flags_differ c.in-Some.entry.now.pinned c.args.flag c.if-entry-flag.false) has.1 is));
 }
@@ -122,6 +123,9 @@ returns g c = record {
         (λ z. z ≡ flagged (durable_in (g.D.Disk.seen c.self.inside.disk) c.self.inside.journal.standing) c.args.seq c.args.flag) c.in-Err.fault _ _ c.from-fault.ensures c.in-Err.ensures.untouched (durable_pinned c.self.inside.journal.standing c.args.seq c.args.flag (g.D.Disk.seen c.self.inside.disk)) (g.met.D.Disk.only_now c.self.inside.disk));
     stands = sound_stands g.D.Disk c.append_pin.new.disk c.append_pin.new.self c.self.inside.settings.limit c.self.inside.free c.end_streams-self-inside.new.slots c.end_streams-self-inside.result (invariant_of-self-2 g c);
   };
-  never = never_answered (Unit {0}) c.in-Err.fault _ c.from-fault.ensures c.in-Err.ensures.never;
+  never = rw (← c.self.view_is)
+      (λ e. pin_behind g.D.Disk c.self.inside.disk c.self.inside.disk c.self.inside.journal c.self.inside.journal c.self.inside.settings.limit c.self.inside.free c.self.inside.slots c.self.inside.slots c.self.inside.stopped c.self.inside.stopped
+      c.args.seq c.args.flag (case_of c.in-Some.entry.now) c.self.invariant c.if-self.false c.in-Some.ensures
+      (c.in-Err.ensures.never (journal_answered (Unit {0}) c.in-Err.fault journal_fault.OutOfMemory _ c.from-fault.ensures e)));
   untouched = rw (← c.self.view_is) (journal_spares (Unit {0}) c.in-Err.fault _ _ _ c.from-fault.ensures c.in-Err.ensures.untouched);
 }

@@ -1,4 +1,4 @@
-use Rattle.std.proofs.Common.{◌≡◌, ◌≢◌, ◌∙◌, inl, inr, ap, sym, subst, refl, List, [], ℕ, Ok, Err, rules}
+use Rattle.std.proofs.Common.{◌≡◌, ◌≢◌, ◌∙◌, inl, inr, ap, sym, subst, refl, List, [], ℕ, Result, Ok, Err, rules}
 use Rattle.journal_layout.specs.Case.{Case}
 use Rattle.journal_layout.specs.Record.{Drop}
 use Rattle.case_journal.specs.Append.{MayFollow}
@@ -11,9 +11,11 @@ use Rattle.intake.specs.Durable.{Durable, durable_of, without}
 use Rattle.intake.specs.Guarding.{Leaves, MayBeRetired}
 use Rattle.intake.specs.Step.{Retires}
 use Rattle.retention.specs.declared.Decision.{Decision}
+use Rattle.intake.specs.declared.faults.ArchiveFault.{ArchiveFault}
+use Rattle.intake.specs.declared.faults.ArchiveFault.TheVariants as fault
 use Rattle.intake.proofs.CrashLemmas.{leaves_of}
 use Rattle.intake.proofs.ChangeLemmas.{changes_none}
-use Rattle.intake.proofs.UntouchedLemmas.{other_spares}
+use Rattle.intake.proofs.UntouchedLemmas.{fault_answered, other_spares}
 use Rattle.intake.proofs.archive.Archive.retire.Goals as goal
 
 pub decide_for-requires : goal.decide_for-requires
@@ -33,6 +35,7 @@ returns-then-self g c = record {
   step = search rules;
   bytes = search rules;
   changes = changes_none g.D.Disk Decision c.self.inside.disk c.self.inside.journal c.self.inside.settings.limit c.self.inside.free c.self.inside.slots c.self.inside.stopped _ _ _ c.self.invariant c.self.view_is (λ fault. cc);
+  full = λ honest e. absurd (cc);
   untouched = search rules;
 }
 
@@ -41,6 +44,7 @@ returns-in_default g c = record {
   step = search rules;
   bytes = search rules;
   changes = changes_none g.D.Disk Decision c.self.inside.disk c.self.inside.journal c.self.inside.settings.limit c.self.inside.free c.self.inside.slots c.self.inside.stopped _ _ _ c.self.invariant c.self.view_is (λ fault. cc);
+  full = λ honest e. absurd (cc);
   untouched = search rules;
 }
 
@@ -53,6 +57,7 @@ returns-then-is_empty g c = record {
       rw none (ap (λ (x : List (List ℕ)). record (contents_of g.D.Disk.seen c.args.self.now) { images = x })
       (sym (all_stay (λ (x : Case). image_in c.args.self.now.journal.standing.shape (g.D.Disk.seen c.args.self.now.disk) x.blocks x.len) c.args.self.now.journal.standing.cases)));
   changes = changes_none g.D.Disk Decision c.self.inside.disk c.self.inside.journal c.self.inside.settings.limit c.self.inside.free c.self.inside.slots c.self.inside.stopped _ _ _ c.self.invariant c.self.view_is (λ fault. fault);
+  full = λ honest e. absurd (cc);
   untouched = λ none. search rules;
 }
 
@@ -82,6 +87,7 @@ returns-in-Err g c = record {
         (c.in-Err.ensures.changes.crash honest);
     stands = c.in-Err.ensures.changes.stands;
   };
+  full = λ honest e. c.in-Err.ensures.full honest (ap (λ (f : ArchiveFault). let r : Result (Unit {0}) ArchiveFault = Err f in r) (fault_answered Decision c.in-Err.fault fault.JournalFull e));
   untouched = other_spares (Unit {0}) Decision c.in-Err.fault _ _ c.in-Err.ensures.untouched;
 }
 
@@ -102,5 +108,6 @@ returns g c = record {
     crash = search rules;
     stands = c.in_default-drop_cases.ensures.changes.stands;
   };
+  full = λ honest e. absurd (cc);
   untouched = λ none. (let some : c.in-Ok.decision.dropped.items ≢ [] = search rules in absurd (some none));
 }

@@ -1,0 +1,44 @@
+use Rattle.std.proofs.Common.{◌∙◌, ◌+◌, ℕ, ap, sym, length, IsTrue}
+use Rattle.journal_layout.specs.Layout.{half_start}
+use Rattle.journal_snapshot.specs.FillLaws.{fills_of}
+use Rattle.case_journal.specs.Journaled.{Journaled}
+use Rattle.case_journal.proofs.PutLemmas.{publishes, put_fits, behind_fills, behind_moments, behind_keeps}
+use Rattle.case_journal.proofs.journal.Journal.put_behind.Goals as goal
+
+pub returns-in_default-clause-run : goal.returns-in_default-clause-run
+returns-in_default-clause-run g c r put =
+    let place = ap (λ (h : ℕ). h + c.self.inside.used) c.half_start.ensures ∙ ap (λ (j : Journaled). half_start j.standing.shape j.standing.half + j.standing.used) c.self.view_is in
+    let gate = c.half_start.result + c.self.inside.used in
+    let s = c.args.self.now.standing in
+    let n = length c.args.behind.now in
+    record {
+      moments = λ honest. behind_moments s r g.D.Disk c.args.disk.now c.publish.new.disk (put_fits s r c.args.behind.now c.requires.room put)
+          (c.publish.ensures.any_moment s r (publishes s r gate c.args.behind.now place c.requires.room put) honest (c.requires.keeps.holds c.requires.runs honest).stands);
+      fills = behind_fills g.D.Disk c.args.disk.now c.publish.new.disk s gate n place c.requires.room
+          (fills_of g.D.Disk gate (1 + n) c.args.disk.now c.publish.new.disk (g.met.D.Disk.counts_now c.publish.new.disk) c.publish.ensures.outside c.publish.ensures.others c.publish.ensures.honesty c.publish.ensures.size);
+      later = c.publish.ensures.cause.later;
+    }
+
+pub returns-clause-run : goal.returns-clause-run
+returns-clause-run g c r put =
+    let place = ap (λ (h : ℕ). h + c.self.inside.used) c.half_start.ensures ∙ ap (λ (j : Journaled). half_start j.standing.shape j.standing.half + j.standing.used) c.self.view_is in
+    let gate = c.half_start.result + c.self.inside.used in
+    let s = c.args.self.now.standing in
+    let n = length c.args.behind.now in
+    record {
+      moments = λ honest. behind_moments s r g.D.Disk c.args.disk.now c.publish.new.disk (put_fits s r c.args.behind.now c.requires.room put)
+          (c.publish.ensures.any_moment s r (publishes s r gate c.args.behind.now place c.requires.room put) honest (c.requires.keeps.holds c.requires.runs honest).stands);
+      fills = behind_fills g.D.Disk c.args.disk.now c.publish.new.disk s gate n place c.requires.room
+          (fills_of g.D.Disk gate (1 + n) c.args.disk.now c.publish.new.disk (g.met.D.Disk.counts_now c.publish.new.disk) c.publish.ensures.outside c.publish.ensures.others c.publish.ensures.honesty c.publish.ensures.size);
+      later = c.publish.ensures.cause.later;
+    }
+
+pub returns-clause-kept : goal.returns-clause-kept
+returns-clause-kept g c r put =
+    let place = ap (λ (h : ℕ). h + c.self.inside.used) c.half_start.ensures ∙ ap (λ (j : Journaled). half_start j.standing.shape j.standing.half + j.standing.used) c.self.view_is in
+    let gate = c.half_start.result + c.self.inside.used in
+    let s = c.args.self.now.standing in
+    let was : IsTrue (g.D.Disk.is_honest c.publish.new.disk) → IsTrue (g.D.Disk.is_honest c.args.disk.now) = λ honest. sym c.publish.ensures.honesty ∙ honest in
+    behind_keeps s r g.D.Disk c.args.disk.now c.publish.new.disk (put_fits s r c.args.behind.now c.requires.room put) (c.publish.ensures.size ∙ c.requires.keeps.size)
+    (λ honest. (c.in-Ok.ensures.stable (was honest)).0)
+    (λ honest. c.in-Ok.ensures.made s r (publishes s r gate c.args.behind.now place c.requires.room put) (was honest) (c.requires.keeps.holds c.requires.runs (was honest)).stands)

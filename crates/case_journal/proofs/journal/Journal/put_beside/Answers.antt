@@ -1,0 +1,99 @@
+use Rattle.std.proofs.Common.{◌≡◌, ◌⊎◌, inl, ◌∙◌, ◌+◌, ℕ, List, map, sym, ap, subst, arith, Ok, Err}
+use Rattle.std.proofs.lemmas.Result.{err_from_is_err_and}
+use Rattle.disk_model.specs.MomentLaws.{started}
+use Rattle.journal_layout.specs.declared.entry.Entry.{Entry}
+use Rattle.journal_layout.specs.Case.{case_of}
+use Rattle.journal_layout.specs.Layout.{half_length}
+use Rattle.journal_layout.specs.Standing.{folded_of}
+use Rattle.journal_layout.specs.Stands.{Stands}
+use Rattle.journal_layout.specs.Rewriting.{other_half, rewritten}
+use Rattle.journal_snapshot.specs.Changing.{changed}
+use Rattle.journal_snapshot.specs.Filling.{Fills}
+use Rattle.journal_snapshot.specs.FillLaws.{fills_nothing}
+use Rattle.journal_snapshot.specs.Measuring.{AreShort}
+use Rattle.journal_snapshot.specs.Halves.{IsWrittenAs}
+use Rattle.journal_layout.specs.declared.shape.Half.{Half}
+use Rattle.case_journal.specs.Journaled.{Journaled}
+use Rattle.case_journal.specs.Compacting.{BesideStep, FindsRoom}
+use Rattle.case_journal.proofs.CompactLemmas.{live_short, room_refused, write_refused, write_done, anew, half_fills}
+use Rattle.case_journal.proofs.journal.Journal.put_beside.Goals as goal
+
+pub room_beside-requires-clause-short : goal.room_beside-requires-clause-short
+room_beside-requires-clause-short g c =
+    let j = c.self.inside in
+    subst AreShort (sym c.deref.ensures.value) (live_short j.shape.data_blocks j.next j.entries.items c.self.invariant.live)
+
+pub returns-in_err-measure-clause-step : goal.returns-in_err-measure-clause-step
+returns-in_err-measure-clause-step g c =
+    let p = err_from_is_err_and c.from_residual.result c.from_residual.ensures.1 in
+    rw (p.1, p.2)
+    (subst (λ (j : Journaled). BesideStep j.standing (changed c.args.change.now (folded_of j.standing)) (Err c.in_err-measure.field-0.0)) c.self.view_is
+    (room_refused (record { shape = c.self.inside.shape; half = c.self.inside.half; version = c.self.inside.version; generation = c.self.inside.generation; cases = map case_of c.self.inside.entries.items; next = c.self.inside.next; used = c.self.inside.used }) c.args.change.now c.deref.result.now (ap (map case_of) (sym c.deref.ensures.value)) c.in_err-measure.field-0.0 c.in_err-measure.ensures))
+
+pub returns-in_err-measure-clause-run : goal.returns-in_err-measure-clause-run
+returns-in_err-measure-clause-run g c = record {
+  moments = λ honest. started g.D.Disk c.args.disk.now (λ b. Stands b c.args.self.now.standing ⊎ Stands b (rewritten c.args.self.now.standing (changed c.args.change.now (folded_of c.args.self.now.standing))))
+      (λ b was. inl ((c.requires.keeps.holds c.requires.runs honest).stands b (g.met.D.Disk.only_now c.args.disk.now b was)));
+  fills = fills_nothing g.D.Disk 4096 _ c.args.disk.now (g.met.D.Disk.only_now c.args.disk.now);
+  later = omega arith;
+}
+
+pub returns-in_err-write_beside-clause-step : goal.returns-in_err-write_beside-clause-step
+returns-in_err-write_beside-clause-step g c =
+    let p = err_from_is_err_and c.from_residual-in_err-write_beside.result c.from_residual-in_err-write_beside.ensures.1 in
+    rw (p.1, p.2)
+    (subst (λ (j : Journaled). BesideStep j.standing (changed c.args.change.now (folded_of j.standing)) (Err c.in_err-write_beside.field-0.0)) c.self.view_is
+    (write_refused (record { shape = c.self.inside.shape; half = c.self.inside.half; version = c.self.inside.version; generation = c.self.inside.generation; cases = map case_of c.self.inside.entries.items; next = c.self.inside.next; used = c.self.inside.used }) c.args.change.now c.deref.result.now (ap (map case_of) (sym c.deref.ensures.value)) c.in_err-write_beside.field-0.0 c.in_ok-measure.measure c.in_ok-measure.ensures
+    c.in_err-write_beside.ensures.only))
+
+pub returns-in_err-write_beside-clause-run : goal.returns-in_err-write_beside-clause-run
+returns-in_err-write_beside-clause-run g c =
+    let value = c.deref.ensures.value ∙ sym c.deref-2.ensures.value in
+    let found = subst (λ (l : List Entry). FindsRoom c.self.inside.shape c.self.inside.generation c.args.change.now l (Ok c.in_ok-measure.measure)) value c.in_ok-measure.ensures in
+    let t = c.target-target in
+    let is : IsWrittenAs c.args.self.now.standing (changed c.args.change.now (folded_of c.args.self.now.standing)) t.result c.args.change.now c.deref-2.result.now =
+    anew _ c.args.self.now c.args.change.now c.deref-2.result.now t.result c.in_ok-measure.measure c.self.view_is (ap (map case_of) (sym c.deref-2.ensures.value)) t.ensures.start t.ensures.version t.ensures.generation
+    (t.ensures.next ∙ c.requires.next) found c.self.invariant.known c.requires.live in
+    record {
+      moments = λ honest. c.write_beside.ensures.any_moment c.args.self.now.standing (changed c.args.change.now (folded_of c.args.self.now.standing)) is honest (c.requires.keeps.holds c.requires.runs honest);
+      fills = half_fills g.D.Disk c.args.disk.now c.write_beside.new.disk c.args.self.now.standing.shape (other_half c.args.self.now.standing.half) t.result.start t.ensures.start
+          (subst (λ (n : ℕ). Fills g.D.Disk c.args.disk.now c.write_beside.new.disk t.result.start n) (c.half_length-half.ensures ∙ ap (λ (j : Journaled). half_length j.standing.shape) c.self.view_is)
+          c.write_beside.ensures.fills);
+      later = c.write_beside.ensures.later;
+    }
+
+pub returns-clause-step : goal.returns-clause-step
+returns-clause-step g c =
+    let t = c.target-target in
+    let generation : c.self.inside.generation + 1 ≡ t.result.generation = ap (λ (j : Journaled). j.standing.generation + 1) c.self.view_is ∙ sym t.ensures.generation in
+    let now = c.args.self.now.standing in
+    subst (λ (n : ℕ). BesideStep now (changed c.args.change.now (folded_of now)) (Ok (record { half = c.other_half.result; generation = n; used = c.in_ok-measure.measure.used }))) generation
+    (subst (λ (j : Journaled). BesideStep j.standing (changed c.args.change.now (folded_of j.standing)) (Ok (record { half = c.other_half.result; generation = c.self.inside.generation + 1; used = c.in_ok-measure.measure.used }))) c.self.view_is
+    (write_done (record { shape = c.self.inside.shape; half = c.self.inside.half; version = c.self.inside.version; generation = c.self.inside.generation; cases = map case_of c.self.inside.entries.items; next = c.self.inside.next; used = c.self.inside.used }) c.args.change.now c.deref.result.now (ap (map case_of) (sym c.deref.ensures.value)) _ c.in_ok-measure.measure
+    (ap (λ (h : Half). record { half = h; generation = c.self.inside.generation + 1; used = c.in_ok-measure.measure.used }) c.other_half.ensures) c.in_ok-measure.ensures))
+
+pub returns-clause-run : goal.returns-clause-run
+returns-clause-run g c =
+    let value = c.deref.ensures.value ∙ sym c.deref-2.ensures.value in
+    let found = subst (λ (l : List Entry). FindsRoom c.self.inside.shape c.self.inside.generation c.args.change.now l (Ok c.in_ok-measure.measure)) value c.in_ok-measure.ensures in
+    let t = c.target-target in
+    let is : IsWrittenAs c.args.self.now.standing (changed c.args.change.now (folded_of c.args.self.now.standing)) t.result c.args.change.now c.deref-2.result.now =
+    anew _ c.args.self.now c.args.change.now c.deref-2.result.now t.result c.in_ok-measure.measure c.self.view_is (ap (map case_of) (sym c.deref-2.ensures.value)) t.ensures.start t.ensures.version t.ensures.generation
+    (t.ensures.next ∙ c.requires.next) found c.self.invariant.known c.requires.live in
+    record {
+      moments = λ honest. c.write_beside.ensures.any_moment c.args.self.now.standing (changed c.args.change.now (folded_of c.args.self.now.standing)) is honest (c.requires.keeps.holds c.requires.runs honest);
+      fills = half_fills g.D.Disk c.args.disk.now c.write_beside.new.disk c.args.self.now.standing.shape (other_half c.args.self.now.standing.half) t.result.start t.ensures.start
+          (subst (λ (n : ℕ). Fills g.D.Disk c.args.disk.now c.write_beside.new.disk t.result.start n) (c.half_length-half.ensures ∙ ap (λ (j : Journaled). half_length j.standing.shape) c.self.view_is)
+          c.write_beside.ensures.fills);
+      later = c.write_beside.ensures.later;
+    }
+
+pub returns-clause-holds : goal.returns-clause-holds
+returns-clause-holds g c honest =
+    let value = c.deref.ensures.value ∙ sym c.deref-2.ensures.value in
+    let found = subst (λ (l : List Entry). FindsRoom c.self.inside.shape c.self.inside.generation c.args.change.now l (Ok c.in_ok-measure.measure)) value c.in_ok-measure.ensures in
+    let t = c.target-target in
+    let is : IsWrittenAs c.args.self.now.standing (changed c.args.change.now (folded_of c.args.self.now.standing)) t.result c.args.change.now c.deref-2.result.now =
+    anew _ c.args.self.now c.args.change.now c.deref-2.result.now t.result c.in_ok-measure.measure c.self.view_is (ap (map case_of) (sym c.deref-2.ensures.value)) t.ensures.start t.ensures.version t.ensures.generation
+    (t.ensures.next ∙ c.requires.next) found c.self.invariant.known c.requires.live in
+    rw c.in_ok-write_beside.was at (c.write_beside.ensures.taken c.args.self.now.standing (changed c.args.change.now (folded_of c.args.self.now.standing)) is honest (c.requires.keeps.holds c.requires.runs honest))

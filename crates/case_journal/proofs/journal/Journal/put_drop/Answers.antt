@@ -1,0 +1,13 @@
+use Rattle.std.proofs.Common.{subst}
+use Rattle.journal_layout.specs.Live.{AreLive}
+use Rattle.journal_layout.specs.LiveLaws.{live_dropped}
+use Rattle.journal_layout.specs.Record.{Drop}
+use Rattle.case_journal.specs.Journaled.{Journaled}
+use Rattle.case_journal.proofs.PutLemmas.{nothing_runs}
+use Rattle.case_journal.proofs.journal.Journal.put_drop.Goals as goal
+
+pub put_beside-requires-clause-live : goal.put_beside-requires-clause-live
+put_beside-requires-clause-live g c = live_dropped _ _ _ c.args.seqs.now (subst (λ (j : Journaled). AreLive j.standing.shape.data_blocks j.standing.cases j.standing.next) c.self.view_is c.self.invariant.live)
+
+pub returns-in_default-clause-run : goal.returns-in_default-clause-run
+returns-in_default-clause-run g c = nothing_runs g.D.Disk c.args.disk.now c.args.self.now (Drop c.args.seqs.now) (g.met.D.Disk.only_now c.args.disk.now) c.requires.keeps c.requires.runs

@@ -1,0 +1,17 @@
+use Rattle.std.proofs.Common.{subst}
+use Rattle.journal_layout.specs.Live.{AreLive}
+use Rattle.journal_layout.specs.LiveLaws.{live_stored}
+use Rattle.journal_layout.specs.Record.{Store}
+use Rattle.case_journal.specs.Journaled.{Journaled}
+use Rattle.case_journal.proofs.PutLemmas.{nothing_runs}
+use Rattle.case_journal.proofs.journal.Journal.put_store.Goals as goal
+use Rattle.journal_layout.specs.Case.{case_of, numbered}
+
+pub put_beside-requires-clause-live : goal.put_beside-requires-clause-live
+put_beside-requires-clause-live g c =
+    let sound = c.requires.sound in
+    live_stored _ _ _ (numbered c.args.seq (case_of c.args.entry.now)) (subst (λ (j : Journaled). AreLive j.standing.shape.data_blocks j.standing.cases j.standing.next) c.self.view_is c.self.invariant.live) sound.0 sound.1 sound.2
+
+pub returns-in_default-clause-run : goal.returns-in_default-clause-run
+returns-in_default-clause-run g c =
+    nothing_runs g.D.Disk c.args.disk.now c.args.self.now (Store (numbered c.args.seq (case_of c.args.entry.now))) (g.met.D.Disk.only_now c.args.disk.now) c.requires.keeps c.requires.runs
