@@ -12,3 +12,4 @@ pub mod Coverings
 pub mod Rows
 pub mod Pairs
 pub mod Sorting
+pub mod Extents

@@ -16,7 +16,7 @@ use Rattle.address_space.specs.Ranges.{IsAlike}
 use Rattle.address_space.proofs.Scanning.{has, has_yes, has_below, has_behind, first_yes, first_no}
 
 -- what is found passes
-passes : {A : Type 0} (test : A → Bool) (i : ℕ) (xs : List A) (d : ℕ × A) → first_from test i xs ≡ Some d → test d.1 ≡ true
+pub passes : {A : Type 0} (test : A → Bool) (i : ℕ) (xs : List A) (d : ℕ × A) → first_from test i xs ≡ Some d → test d.1 ≡ true
 passes test i [] d h = absurd (none-some d h)
 passes {A = A} test i (x ∷ xs) d h = elim (cases_Bool (test x)) as (λ _. test d.1 ≡ true) [
   | inl holds ↦ subst (λ (e : ℕ × A). test e.1 ≡ true) (same_Some (i, x) d (sym (first_yes test i x xs holds) ∙ h)) holds

@@ -4,6 +4,7 @@ pub mod Pieces
 pub mod Occurrence
 pub mod Ranges
 pub mod ScanWords
+pub mod MappedFiles
 pub mod SourceWords
 pub mod SpaceWords
 pub mod TableWords

@@ -2,11 +2,13 @@
 #![tactic(auto)]
 
 mod cursor;
+mod file_table;
 mod find;
 mod laws;
 mod locate;
 mod mappings;
 mod pieces;
+mod row;
 mod runs;
 mod scan;
 mod source;

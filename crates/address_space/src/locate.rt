@@ -1,19 +1,24 @@
 // How many addresses from one on are of one place, and what stands there.
-ghost use Rattle.std.specs.Prelude.{◌≡◌, ◌+◌, ◌-◌, ◌^◌, ◌<◌, ◌≤◌, ℕ, List, Some, IfSome, length};
+ghost use Rattle.std.specs.Prelude.{◌≡◌, ◌+◌, ◌-◌, ◌^◌, ◌<◌, ◌≤◌, ℕ, List, Some, IfSome, length, map, slice_get};
+ghost use Rattle.std.specs.List.Sorted.{IsPermutation};
 ghost use Rattle.std.specs.Option.{option_map};
 ghost use Rattle.elf_view.specs.Field.{part};
+ghost use Rattle.elf_view.specs.Header.{SegmentView, segments_of};
 ghost use Rattle.elf_view.specs.SegmentWords.{segment_view};
+ghost use Rattle.elf_view.specs.ViewWords.{image_of};
 ghost use Rattle.core_notes.specs.FileList.{FileView};
 ghost use Rattle.core_notes.specs.FileWords.{file_view};
 ghost use Rattle.address_space.specs.Source as source;
 ghost use Rattle.address_space.specs.Pieces.{content_from};
+ghost use Rattle.address_space.specs.Disjoint.{segment_extent, taking_from};
 ghost use Rattle.address_space.specs.Ranges.{IsAlike, IsFull, IsStretch, place_number};
-ghost use Rattle.address_space.specs.ScanWords.{decided_view};
+ghost use Rattle.address_space.specs.ScanWords.{decided_view, row_view};
 ghost use Rattle.address_space.specs.SourceWords.{kind_view, spot_view};
 
 use crate::scan::{Decided, first_file, first_segment};
 use crate::source::{FileSpot, PieceKind};
 use crate::space::AddressSpace;
+use crate::table::Table;
 use core_notes::FileMap;
 use elf_view::{Segment, part};
 
@@ -73,9 +78,9 @@ impl<'a> AddressSpace<'a> {
         (PieceKind::NotDumped(Some(spot)), limit)
     }
 
-    /// The mapped file at the address `at`, and how many addresses of the `limit` from there on the same entry maps.
+    /// The same as `file_at`, by a scan of the entries.
     #[tactic(auto, unfolding(crate::specs::SpaceWords::space_of, crate::specs::Source::entry_at))]
-    pub(crate) fn file_at(&self, at: u64, limit: u64) -> (Option<FileMap<'a>>, u64)
+    fn scanned_file(&self, at: u64, limit: u64) -> (Option<FileMap<'a>>, u64)
         requires { 0 < limit }
         ensures first { option_map file_view result.0
             ≡ option_map (λ (e : ℕ × FileView). e.1) (source.entry_at (space_of self.now) at) }
@@ -88,6 +93,47 @@ impl<'a> AddressSpace<'a> {
         }
     }
 
+    /// The mapped file at the address `at`, and how many addresses of the `limit` from there on the same entry maps.
+    #[tactic(auto, unfolding(crate::specs::SpaceWords::space_of, crate::specs::Source::entry_at))]
+    pub(crate) fn file_at(&self, at: u64, limit: u64) -> (Option<FileMap<'a>>, u64)
+        requires { 0 < limit }
+        ensures first { option_map file_view result.0
+            ≡ option_map (λ (e : ℕ × FileView). e.1) (source.entry_at (space_of self.now) at) }
+        ensures alike { IsAlike (source.entry_at (space_of self.now)) at limit result.1 }
+        ensures maps { IfSome result.0 (λ f. (f.start ≤ at) × (at < f.past)) }
+    {
+        match &self.file_table {
+            Some(table) => table.find(at, limit),
+            None => self.scanned_file(at, limit),
+        }
+    }
+
+    /// The segment of that number.
+    fn segment_at(&self, number: u64) -> Option<Decided<'a>>
+        ensures { option_map decided_view result ≡ option_map (λ (s : SegmentView). (number, s))
+            (slice_get (segments_of (image_of self.now.elf)) number) }
+    {
+        let segment = self.elf.segment(number)?;
+        Some(Decided { number, segment })
+    }
+
+    /// The segment that decides the address `at`, by a table of the segments.
+    #[tactic(auto, unfolding(crate::specs::SpaceWords::space_of, crate::specs::Source::decider))]
+    fn looked_up(&self, table: &Table, at: u64, limit: u64) -> (Option<Decided<'a>>, u64)
+        requires some { 0 < limit }
+        requires whole { ∥ IsPermutation (taking_from 0 (map segment_extent (segments_of (image_of self.now.elf))))
+            (map row_view table.now.rows.items) ∥₁ }
+        ensures first { option_map decided_view result.0 ≡ source.decider (space_of self.now) at }
+        ensures alike { IsAlike (source.decider (space_of self.now)) at limit result.1 }
+        ensures covers { IfSome result.0 (λ d. d.segment.vaddr ≤ at) }
+    {
+        let (row, length) = table.find(at, limit);
+        match row {
+            Some(row) => (self.segment_at(row.number), length),
+            None => (None, length),
+        }
+    }
+
     /// The segment that decides the address `at`, and how many addresses of the `limit` from there on it decides too.
     #[tactic(auto, unfolding(crate::specs::SpaceWords::space_of, crate::specs::Source::decider))]
     pub(crate) fn decide(&self, at: u64, limit: u64) -> (Option<Decided<'a>>, u64)
@@ -97,7 +143,7 @@ impl<'a> AddressSpace<'a> {
         ensures covers { IfSome result.0 (λ d. d.segment.vaddr ≤ at) }
     {
         match &self.table {
-            Some(table) => table.decide(at, limit),
+            Some(table) => self.looked_up(table, at, limit),
             None => first_segment(self.elf.segments(), at, limit),
         }
     }

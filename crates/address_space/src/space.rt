@@ -1,15 +1,19 @@
 // The address space of a core.
-ghost use Rattle.std.specs.Prelude.{map};
+ghost use Rattle.std.specs.Prelude.{◌≡◌, map};
 ghost use Rattle.std.specs.List.Sorted.{IsPermutation};
 ghost use Rattle.std.specs.Option.{ForSome};
 ghost use Rattle.elf_view.specs.Header.{segments_of};
 ghost use Rattle.elf_view.specs.ViewWords.{image_of};
-ghost use Rattle.address_space.specs.Disjoint.{taking_from};
-ghost use Rattle.address_space.specs.ScanWords.{decided_view};
+ghost use Rattle.core_notes.specs.FileWords.{file_view};
+ghost use Rattle.address_space.specs.Disjoint.{segment_extent, taking_from};
+ghost use Rattle.address_space.specs.MappedFiles.{files_in};
+ghost use Rattle.address_space.specs.ScanWords.{row_view};
 
+use crate::file_table::FileTable;
 use crate::find::Matches;
 use crate::mappings::Mappings;
 use crate::pieces::Pieces;
+use crate::row::segment_rows;
 use crate::source::{PieceKind, Source};
 use crate::strings::Strings;
 use crate::table::Table;
@@ -30,17 +34,20 @@ pub struct AddressSpace<'a> {
     pub(crate) elf: Elf<'a>,
     pub(crate) files: Option<Files<'a>>,
     pub(crate) executables: Vec<Executable<'a>>,
-    pub(crate) table: Option<Table<'a>>,
+    pub(crate) table: Option<Table>,
+    pub(crate) file_table: Option<FileTable<'a>>,
     /// Its rows are the program headers that take addresses.
-    ghost whole: { ForSome table (λ t. ∥ IsPermutation (taking_from 0 (segments_of (image_of elf)))
-        (map decided_view t.rows.items) ∥₁) },
+    ghost whole: { ForSome table (λ t. ∥ IsPermutation (taking_from 0 (map segment_extent (segments_of (image_of elf))))
+        (map row_view t.rows.items) ∥₁) },
+    /// Its files are the entries of NT_FILE.
+    ghost listed: { ForSome file_table (λ t. map file_view t.maps.items ≡ files_in files) },
 }
 
 impl<'a> AddressSpace<'a> {
-    ghost use Rattle.std.specs.Prelude.{◌≡◌, ◌+◌, ◌^◌, ◌<◌, ◌≤◌, ◌↔◌, [], IfOk, IsTrue, OnErr, OnOk, length};
+    ghost use Rattle.std.specs.Prelude.{◌+◌, ◌^◌, ◌<◌, ◌≤◌, ◌↔◌, [], IfOk, IsTrue, OnErr, OnOk, length};
     ghost use Rattle.address_space.specs.Source.{source_at, mappings_of, with_executable};
-    ghost use Rattle.address_space.specs.Disjoint.{AreDisjoint};
-    ghost use Rattle.address_space.specs.TableWords.{has_table};
+    ghost use Rattle.address_space.specs.Disjoint.{AreDisjoint, AreFilesDisjoint};
+    ghost use Rattle.address_space.specs.TableWords.{has_file_table, has_table};
     ghost use Rattle.address_space.specs.Pieces.{pieces_of};
     ghost use Rattle.address_space.specs.Occurrence.{occurrences, strings_of};
     ghost use Rattle.address_space.specs.SourceWords.{source_view};
@@ -60,13 +67,14 @@ impl<'a> AddressSpace<'a> {
             files,
             executables: Vec::new(alloc),
             table: None,
+            file_table: None,
         }
     }
 
-    /// What `new` makes, with a table of the segments, sorted by address, where no two PT_LOADs have an address in common:
-    /// by it the segment of an address is found in a number of steps that is the logarithm of theirs. Where two have one
-    /// in common there is none, and segments are found by a scan, as with `new`. The error is that there is no memory for
-    /// the table.
+    /// What `new` makes, with a table of the segments, sorted by address, where no two PT_LOADs have an address in common,
+    /// and one of the mapped files, where no two entries of NT_FILE have: by these the segment and the file of an address
+    /// are found in a number of steps that is the logarithm of theirs. Where two have one in common there is none, and a
+    /// scan finds them, as with `new`. The error is that there is no memory for the tables.
     #[tactic(auto, unfolding(crate::specs::SpaceWords::space_of))]
     pub fn indexed(
         alloc: Global,
@@ -75,13 +83,16 @@ impl<'a> AddressSpace<'a> {
     ) -> Result<AddressSpace<'a>, AllocError>
         ensures same { IfOk result (λ space. space_of space ≡ space_view elf.now files.entry []) }
         ensures table { IfOk result (λ space. IsTrue (has_table space) ↔ AreDisjoint (segments_of (image_of elf.now))) }
+        ensures files { IfOk result (λ space. IsTrue (has_file_table space) ↔ AreFilesDisjoint (files_in files.entry)) }
     {
-        let table = Table::of(alloc, elf)?;
+        let rows = segment_rows(alloc, elf.segments())?;
+        let file_table = FileTable::of(alloc, files)?;
         Ok(AddressSpace {
             elf: *elf,
             files,
             executables: Vec::new(alloc),
-            table,
+            table: Table::of(rows),
+            file_table,
         })
     }
 
@@ -93,6 +104,7 @@ impl<'a> AddressSpace<'a> {
             ≡ with_executable (space_of self.old) path.entry.now (image_of elf.entry)) }
         ensures err { OnErr result (space_of self.new ≡ space_of self.old) }
         ensures table { has_table self.new ≡ has_table self.old }
+        ensures files { has_file_table self.new ≡ has_file_table self.old }
     {
         self.executables.push(Executable {
             path,

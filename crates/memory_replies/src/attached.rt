@@ -56,14 +56,17 @@ fn attach<'a>(space: &mut AddressSpace<'a>, executable: Attached<'a>) -> Result<
     space.attach(executable.path, elf)
 }
 
-/// The memory of a core, in which no executable is attached.
+/// The memory of a core, in which no executable is attached: made to be searched often, where there is memory for that.
 pub(crate) fn plain_space<'a>(alloc: Global, core: &CoreImage<'a>) -> AddressSpace<'a>
     ensures { space_of result ≡ spec.memory_of (core_bytes core.now) [] }
 {
-    AddressSpace::new(alloc, &core.elf(), core.notes().files())
+    match indexed_space(alloc, core) {
+        Ok(space) => space,
+        Err(_) => AddressSpace::new(alloc, &core.elf(), core.notes().files()),
+    }
 }
 
-/// The same, made to be searched often. The error is that there is no memory.
+/// The same, in which segments and mapped files are looked up in tables. The error is that there is no memory for them.
 fn indexed_space<'a>(alloc: Global, core: &CoreImage<'a>) -> Result<AddressSpace<'a>, AllocError>
     ensures { IfOk result (λ space. space_of space ≡ spec.memory_of (core_bytes core.now) []) }
 {

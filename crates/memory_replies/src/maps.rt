@@ -68,7 +68,8 @@ fn tell_mappings<O: Output>(reply: &mut Reply, output: &mut O, space: &AddressSp
     }
 }
 
-/// Tells the mappings of a core: `START PAST RWX FILESZ OFFSET NAME` for each PT_LOAD, in table order. It takes no memory.
+/// Tells the mappings of a core: `START PAST RWX FILESZ OFFSET NAME` for each PT_LOAD, in table order. It is slower
+/// where there is no memory for tables of the segments and mapped files, and no reply tells that.
 #[tactic(auto, unfolding(crate::specs::Maps::maps_answer))]
 pub fn tell_maps<O: Output>(alloc: Global, reply: &mut Reply, output: &mut O, core: &CoreImage<'_>)
     ensures { TellsText (telling O.Output output.old output.new reply.old reply.new)

@@ -4,6 +4,8 @@
 #[cfg(test)]
 mod attached;
 #[cfg(test)]
+mod mapped;
+#[cfg(test)]
 mod memory;
 #[cfg(test)]
 mod refused;

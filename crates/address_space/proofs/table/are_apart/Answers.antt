@@ -1,4 +1,4 @@
-use Rattle.std.proofs.Common.{◌-◌, arith}
+use Rattle.std.proofs.Common.{◌-◌, refl, arith}
 use Rattle.address_space.proofs.Sorting.{is_over}
 use Rattle.address_space.proofs.table.are_apart.Goals as goal
 
@@ -6,5 +6,5 @@ pub returns-then-rows-next : goal.returns-then-rows-next
 returns-then-rows-next c = (
   c.loop-next.next - 1,
   omega arith,
-  is_over c.args.rows.now c.requires c.loop-next.next c.span.result _ _ (omega arith) (omega arith) c.if-rows-next.true c.span.ensures,
+  is_over c.args.rows.now c.requires c.loop-next.next _ _ _ (omega arith) (omega arith) c.if-rows-next.true refl,
 )

@@ -5,4 +5,4 @@ use Rattle.address_space.proofs.table.are_apart.Given as goal
 
 -- so it is of those that went by
 abbrev pub invariant-loop-next : goal.invariant-loop-next
-invariant-loop-next l = AllAdjacentBelow (λ d e. past_of d ≤ e.segment.vaddr) l.rows l.next
+invariant-loop-next l = AllAdjacentBelow (λ r s. past_of r ≤ s.start) l.rows l.next

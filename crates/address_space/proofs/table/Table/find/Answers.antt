@@ -1,19 +1,19 @@
 use Rattle.std.proofs.Common.{min, sym, ap, ◌∙◌}
 use Rattle.address_space.proofs.Sorting.{found, missed, left_of}
-use Rattle.address_space.proofs.table.Table.decide.Goals as goal
+use Rattle.address_space.proofs.table.Table.find.Goals as goal
 
 pub returns-in-Some-clause-first : goal.returns-in-Some-clause-first
 returns-in-Some-clause-first c ws moved =
     let t = c.args.self.now in
     let row = c.in-Some.row in
-    let left = left_of row c.args.at c.span.result c.span.ensures c.in-Some.ensures.1 in
+    let left = left_of row c.args.at c.in-Some.ensures.1 in
     sym (found t.rows.items t.rising t.apart ws moved c.args.at c.args.limit c.min.result row c.requires c.in-Some.ensures.0 c.in-Some.ensures.1 c.in-Some.ensures.2 (c.min.ensures ∙ ap (min c.args.limit) left)).0
 
 pub returns-in-Some-clause-alike : goal.returns-in-Some-clause-alike
 returns-in-Some-clause-alike c ws moved =
     let t = c.args.self.now in
     let row = c.in-Some.row in
-    let left = left_of row c.args.at c.span.result c.span.ensures c.in-Some.ensures.1 in
+    let left = left_of row c.args.at c.in-Some.ensures.1 in
     (found t.rows.items t.rising t.apart ws moved c.args.at c.args.limit c.min.result row c.requires c.in-Some.ensures.0 c.in-Some.ensures.1 c.in-Some.ensures.2 (c.min.ensures ∙ ap (min c.args.limit) left)).1
 
 pub returns-in-None-clause-first : goal.returns-in-None-clause-first
