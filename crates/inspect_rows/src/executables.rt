@@ -1,44 +1,15 @@
 // How often lines read a core, and the executables beside it.
-use crate::archives::{stores, tells};
-use case_journal::format;
-use disk_model::{Disk, Fuse, MemDisk};
-use elf_view::sample::{executable, mapped_core};
-use intake::{Archive, Settings};
-use journal_layout::Shape;
-use std::alloc::Global;
+use crate::archives;
+use crate::archives::beside_executable;
+use elf_view::sample::mapped_core;
 use std::process::Abort;
 use std::test::Fail;
 
-// A disk whose archive has the sample executable, and two cores that map it.
-fn stored(alloc: Global) -> Result<MemDisk, Fail> {
-    let shape = Shape {
-        half_blocks: 1,
-        data_blocks: 8,
-    };
-    let mut disk = MemDisk::new(alloc, shape.length()?)?;
-    format(&mut disk, shape)?;
-    let mut archive = opened(alloc, disk)?;
-    let exec = executable(alloc)?;
-    let core = mapped_core(alloc)?;
-    let _ = stores(alloc, &mut archive, "begin exec 0 /bin/cat", &exec)?;
-    let _ = stores(alloc, &mut archive, "begin core 0 comm=demo pid=1", &core)?;
-    let _ = stores(alloc, &mut archive, "begin core 0 comm=demo pid=2", &core)?;
-    Ok(archive.close())
-}
-
-fn opened<D: Disk + Drop>(alloc: Global, disk: D) -> Result<Archive<D>, Fail> {
-    match Archive::open(alloc, disk, Settings { limit: 1 << 30 }) {
-        Ok(archive) => Ok(archive),
-        Err((fault, _)) => Err(fault)?,
-    }
-}
-
-// How many calls the disk gets from an opening and a session over these lines.
+// How many calls the disk of the sample executable and two cores that map it gets from an opening and a session over these
+// lines.
 fn calls(rt: &(impl AllocGlobal + Abort), lines: &str, wanted: &str) -> Result<u64, Fail> {
-    let disk = Fuse::new(stored(rt.alloc())?, u64::MAX);
-    let mut archive = opened(rt.alloc(), disk)?;
-    tells(rt, &mut archive, lines, wanted)?;
-    Ok(archive.close().calls())
+    let core = mapped_core(rt.alloc())?;
+    archives::calls(rt, beside_executable(rt.alloc(), &core)?, lines, wanted)
 }
 
 #[test]
@@ -90,5 +61,14 @@ fn another_case_lets_an_executable_go(rt: HostRuntime) -> Result<(), Fail> {
         "0x10000 file 7f454c46\nok\n0x10000 file 7f454c46\nok\n0x10000 file 7f454c46\nok\n",
     )?;
     assert_eq!(rt; other.saturating_sub(once), once.saturating_sub(none));
+    Ok(())
+}
+
+#[test]
+fn lines_that_are_refused_at_last_read_the_executable(rt: HostRuntime) -> Result<(), Fail> {
+    let all = calls(&rt, "dump 2 0x10000 4\n", "0x10000 file 7f454c46\nok\n")?;
+    let range = calls(&rt, "dump 2 0 65537\n", "no Range\n")?;
+    let thread = calls(&rt, "bt 2 1\n", "no NoThread\n")?;
+    assert_eq!(rt; (range, thread), (all, all));
     Ok(())
 }

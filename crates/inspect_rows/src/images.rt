@@ -1,5 +1,5 @@
 // The lines that read headers and notes, over the sample images.
-use crate::archives::{core_tells, fresh, stores, tells, with_core};
+use crate::archives::{changed, core_tells, fresh, stores, tells, with_core};
 use elf_view::sample::{
     LoadPart, NotePart, core_image, executable, file_core, registers, stack_core, status,
 };
@@ -93,7 +93,7 @@ fn the_auxiliary_vector_of_a_core(rt: HostRuntime) -> Result<(), Fail> {
 fn the_headers_of_an_executable(rt: HostRuntime) -> Result<(), Fail> {
     let mut archive = fresh(rt.alloc())?;
     let image = executable(rt.alloc())?;
-    let _ = stores(rt.alloc(), &mut archive, "begin exec 0 /bin/cat", &image)?;
+    stores(rt.alloc(), &mut archive, "begin exec 0 /bin/cat", &image)?;
     tells(
         &rt,
         &mut archive,
@@ -123,27 +123,16 @@ fn an_executable_of_no_bytes(rt: HostRuntime) -> Result<(), Fail> {
     )
 }
 
-// The sample stack's core with these bytes set.
-fn changed(alloc: std::alloc::Global, changes: &[(usize, u8)]) -> Result<Vec<u8>, Fail> {
-    let mut image = stack_core(alloc)?;
-    for (at, byte) in changes {
-        if let Some(place) = image.get_mut(*at) {
-            *place = *byte;
-        }
-    }
-    Ok(image)
-}
-
 #[test]
 fn the_first_fault_of_a_header(rt: HostRuntime) -> Result<(), Fail> {
-    let both = changed(rt.alloc(), &[(18, 62), (5, 2)])?;
+    let both = changed(stack_core(rt.alloc())?, &[(18, 62), (5, 2)]);
     core_tells(
         &rt,
         &both,
         "header 1\nregs 1 0\n",
         "no EI_DATA\nno EI_DATA\n",
     )?;
-    let machine = changed(rt.alloc(), &[(18, 62)])?;
+    let machine = changed(stack_core(rt.alloc())?, &[(18, 62)]);
     core_tells(
         &rt,
         &machine,
@@ -172,9 +161,9 @@ fn cores_that_were_cut(rt: HostRuntime) -> Result<(), Fail> {
 #[test]
 fn more_segments_than_the_header_counts(rt: HostRuntime) -> Result<(), Fail> {
     let mut image = changed(
-        rt.alloc(),
+        stack_core(rt.alloc())?,
         &[(56, 0xff), (57, 0xff), (40, 0xd8), (41, 0x12)],
-    )?;
+    );
     let mut section = [0u8; 64];
     section[44] = 2;
     image.extend_from_slice(&section)?;

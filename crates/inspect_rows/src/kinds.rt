@@ -1,8 +1,8 @@
 // Which cases lines ask, and what they read of the disk.
-use crate::archives::{tells, with_core};
-use disk_model::{Disk, Fuse, MemDisk, OneFault};
+use crate::archives;
+use crate::archives::{opened, tells, with_core};
+use disk_model::{MemDisk, OneFault};
 use elf_view::sample::stack_core;
-use intake::{Archive, Settings};
 use std::alloc::Global;
 use std::process::Abort;
 use std::test::Fail;
@@ -13,19 +13,9 @@ fn stored(alloc: Global) -> Result<MemDisk, Fail> {
     Ok(archive.close())
 }
 
-fn opened<D: Disk + Drop>(alloc: Global, disk: D) -> Result<Archive<D>, Fail> {
-    match Archive::open(alloc, disk, Settings { limit: 1 << 30 }) {
-        Ok(archive) => Ok(archive),
-        Err((fault, _)) => Err(fault)?,
-    }
-}
-
 // How many calls the disk gets from an opening and a session over these lines.
 fn calls(rt: &(impl AllocGlobal + Abort), lines: &str, wanted: &str) -> Result<u64, Fail> {
-    let disk = Fuse::new(stored(rt.alloc())?, u64::MAX);
-    let mut archive = opened(rt.alloc(), disk)?;
-    tells(rt, &mut archive, lines, wanted)?;
-    Ok(archive.close().calls())
+    archives::calls(rt, stored(rt.alloc())?, lines, wanted)
 }
 
 #[test]

@@ -11,3 +11,7 @@ mod images;
 mod kinds;
 #[cfg(test)]
 mod memory;
+#[cfg(test)]
+mod reasons;
+#[cfg(test)]
+mod refused;

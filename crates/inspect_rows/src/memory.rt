@@ -55,8 +55,8 @@ fn bytes_and_texts_across_segments(rt: HostRuntime) -> Result<(), Fail> {
 // An archive whose first case is this executable, named `/bin/cat`, and whose second is this core.
 fn with_both(alloc: Global, exec: &[u8], core: &[u8]) -> Result<Archive<MemDisk>, Fail> {
     let mut archive = fresh(alloc)?;
-    let _ = stores(alloc, &mut archive, "begin exec 0 /bin/cat", exec)?;
-    let _ = stores(alloc, &mut archive, "begin core 0 comm=demo pid=4242", core)?;
+    stores(alloc, &mut archive, "begin exec 0 /bin/cat", exec)?;
+    stores(alloc, &mut archive, "begin core 0 comm=demo pid=4242", core)?;
     Ok(archive)
 }
 
