@@ -6,6 +6,7 @@ use std::alloc::Global;
 pub(crate) fn program<'a>(alloc: Global) -> Result<Command<'a>, Error> {
     let command = Command::new(alloc, "corekeep")
         .bin_name("corekeep")?
+        .version("0.1.0, archives of layout version 1")
         .about("keeps images of programs and their memory as numbered cases in an archive")
         .after_help(
             "Statuses: 0; 1 where an archive, a file, a shape, a template, a line of `ask` or a step of `store` is refused \
