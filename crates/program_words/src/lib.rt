@@ -7,6 +7,7 @@ mod failures;
 mod grammar;
 mod raw_words;
 mod single;
+mod tables;
 mod words;
 
 pub use words::{run_program, run_words};

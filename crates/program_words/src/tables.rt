@@ -1,0 +1,248 @@
+// The program's commands and their words, as tables.
+
+// What stands in the place of a word.
+#[derive(Clone, Copy)]
+pub(crate) enum Takes {
+    // A word that has to be there.
+    Place,
+    // A word that may be left out.
+    NewPlace,
+    // One word or more.
+    Words,
+    // Any number of words.
+    Pairs,
+    // Its name, or nothing.
+    Flag,
+    // A text behind its name.
+    Text,
+    // A number below 2^32 behind its name, which has to be there.
+    Blocks,
+    // A number below 2^64 behind its name.
+    Bytes,
+}
+
+// A word of a command: how the program knows it, how help shows its value, and what it takes where it is left out.
+pub(crate) struct Word {
+    pub(crate) id: &'static str,
+    pub(crate) shown: &'static str,
+    pub(crate) takes: Takes,
+    pub(crate) default: Option<&'static str>,
+    pub(crate) help: &'static str,
+}
+
+// A command.
+pub(crate) struct CommandWords {
+    pub(crate) name: &'static str,
+    pub(crate) about: &'static str,
+    pub(crate) words: &'static [Word],
+}
+
+// The commands, in the order in which help shows them.
+pub(crate) static COMMANDS: [CommandWords; 7] = [
+    CommandWords {
+        name: "format",
+        about: "makes an archive in a new file, with no case in it",
+        words: &[NEW_ARCHIVE, SPARSE, HALF, DATA],
+    },
+    CommandWords {
+        name: "run",
+        about: "runs the script on standard input over an archive, and writes its replies to standard output",
+        words: &[ARCHIVE, NO_WAIT, TEMPLATE, USES_PID, LIMIT],
+    },
+    CommandWords {
+        name: "store",
+        about: "stores a core file as a case of an archive, named by the template, or an executable",
+        words: &[ARCHIVE, FILE, PAIRS, EXEC, ESCAPE, KEEP, BYTES, BEFORE, NO_WAIT, TEMPLATE, USES_PID, LIMIT],
+    },
+    CommandWords {
+        name: "list",
+        about: "lists the cases of an archive",
+        words: &[ARCHIVE, NO_WAIT],
+    },
+    CommandWords {
+        name: "ask",
+        about: "carries out one line of a script over an archive, and writes its reply; the status is 1 where it is refused",
+        words: &[ARCHIVE, LINE, NO_WAIT],
+    },
+    CommandWords {
+        name: "extract",
+        about: "writes the image of a case, byte for byte, and nothing else; what is refused is told on standard error",
+        words: &[ARCHIVE, CASE, NEW_FILE, NO_WAIT],
+    },
+    CommandWords {
+        name: "memory",
+        about: "runs the script on standard input over a fresh archive in memory, which is gone at its end",
+        words: &[HALF, DATA, TEMPLATE, USES_PID, LIMIT],
+    },
+];
+
+// The file of an archive to be made.
+const NEW_ARCHIVE: Word = Word {
+    id: "archive",
+    shown: "ARCHIVE",
+    takes: Takes::Place,
+    default: None,
+    help: "the file to make, which only its owner may read and write; one that exists is refused",
+};
+
+// The file of an archive.
+const ARCHIVE: Word = Word {
+    id: "archive",
+    shown: "ARCHIVE",
+    takes: Takes::Place,
+    default: None,
+    help: "the archive's file",
+};
+
+// Whether the file's zeros are left out.
+const SPARSE: Word = Word {
+    id: "sparse",
+    shown: "",
+    takes: Takes::Flag,
+    default: None,
+    help: "does not write the file's zeros: quick, but the file system may be full when a core file comes",
+};
+
+// The blocks in each half of the journal.
+const HALF: Word = Word {
+    id: "half",
+    shown: "N",
+    takes: Takes::Blocks,
+    default: None,
+    help: "blocks of 4096 bytes in each half of the journal, 1 to 4096",
+};
+
+// The data blocks.
+const DATA: Word = Word {
+    id: "data",
+    shown: "N",
+    takes: Takes::Blocks,
+    default: None,
+    help: "data blocks of 4096 bytes, 1 to 16777216",
+};
+
+// Whether to be refused where another process has the archive.
+const NO_WAIT: Word = Word {
+    id: "no-wait",
+    shown: "",
+    takes: Takes::Flag,
+    default: None,
+    help: "answers `no Busy` where another process has the archive, in place of waiting for it",
+};
+
+// How cores are named.
+const TEMPLATE: Word = Word {
+    id: "template",
+    shown: "T",
+    takes: Takes::Text,
+    default: Some("core.%e.%p"),
+    help: "how core files are named, a template of core(5)",
+};
+
+// Whether names have the process.
+const USES_PID: Word = Word {
+    id: "uses-pid",
+    shown: "",
+    takes: Takes::Flag,
+    default: None,
+    help: "adds a dot and the process to names whose template has no %p",
+};
+
+// The most bytes of an image.
+const LIMIT: Word = Word {
+    id: "limit",
+    shown: "N",
+    takes: Takes::Bytes,
+    default: Some("1073741824"),
+    help: "the most bytes that an image may have",
+};
+
+// What is stored.
+const FILE: Word = Word {
+    id: "file",
+    shown: "FILE",
+    takes: Takes::Place,
+    default: None,
+    help: "what to store: a file or a pipe, or - for standard input",
+};
+
+// What is known of a core.
+const PAIRS: Word = Word {
+    id: "pairs",
+    shown: "KEY=VALUE",
+    takes: Takes::Pairs,
+    default: None,
+    help: "what is known of the core; KEY is comm, exe, host, pid, tid, sig, uid, gid, mode, time or limit, and a byte of a text outside 0x21 to 0x7e, or a backslash, is \\xHH, unless --escape is there",
+};
+
+// The name of an executable.
+const EXEC: Word = Word {
+    id: "exec",
+    shown: "NAME",
+    takes: Takes::Text,
+    default: None,
+    help: "stores an executable of this name in place of a core",
+};
+
+// Whether bytes are taken as they are.
+const ESCAPE: Word = Word {
+    id: "escape",
+    shown: "",
+    takes: Takes::Flag,
+    default: None,
+    help: "takes the bytes of each VALUE and of NAME as they are, whatever they are, as a process may call itself anything",
+};
+
+// How many cases stay beside the new one.
+const KEEP: Word = Word {
+    id: "keep",
+    shown: "K",
+    takes: Takes::Text,
+    default: None,
+    help: "deletes the oldest cases first, pinned ones aside, until at most K stand beside the new one",
+};
+
+// How many bytes the cases that stay have.
+const BYTES: Word = Word {
+    id: "bytes",
+    shown: "B",
+    takes: Takes::Text,
+    default: None,
+    help: "deletes the oldest cases first, pinned ones aside, until the others have at most B bytes together",
+};
+
+// The time before which cases go.
+const BEFORE: Word = Word {
+    id: "before",
+    shown: "T",
+    takes: Takes::Text,
+    default: None,
+    help: "deletes the cases whose time is before T first, pinned ones aside",
+};
+
+// The words of a line.
+const LINE: Word = Word {
+    id: "words",
+    shown: "WORD",
+    takes: Takes::Words,
+    default: None,
+    help: "the line, as `delete 3`, `pin 3`, `retire keep=10` or `free`",
+};
+
+// A case.
+const CASE: Word = Word {
+    id: "case",
+    shown: "N",
+    takes: Takes::Place,
+    default: None,
+    help: "the case's number",
+};
+
+// A new file for an image.
+const NEW_FILE: Word = Word {
+    id: "file",
+    shown: "FILE",
+    takes: Takes::NewPlace,
+    default: None,
+    help: "a new file for the image, which goes to standard output where this is left out",
+};
