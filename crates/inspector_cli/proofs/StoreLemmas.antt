@@ -29,7 +29,7 @@ use Rattle.std.specs.List.{AllByRecursion}
 use Rattle.inspector_cli.specs.declared.store.TakeStop.{TakeStop}
 use Rattle.inspector_cli.specs.declared.store.TakeStop.TheVariants.{File, Refused}
 use Rattle.script_streams.specs.Replies.{Telling, TellsReply, no_reply}
-use Rattle.inspector_cli.specs.Stages.{Stage, Moves, MayLeave, mark_at, marks_of}
+use Rattle.inspector_cli.specs.Stages.{Stage, Moves, MayLeave, mark_at, marks_of, IsFoundAfterAStop}
 use Rattle.inspector_cli.specs.Session.{Streams}
 use Rattle.inspector_cli.specs.Storing.{first_stream, TakesFile, TakesMore, FileReplies, RestReplies, StoresStream, policy_before, MakesRoom, Stores, said_before, StoreStages, StoreEnds, StoresAlone}
 use Rattle.intake.specs.StayLaws.{stays_none, stays_as, stays_then}
@@ -265,6 +265,9 @@ stores_alone {D} g naming file file' fails fails' old before line replies end ne
     let still = subst (λ (p : Option Policy). Moves g old (said_before p) s.told (stage_of s.room stages.in_doubt)) none stages.makes_room in
     let same : stages.in_doubt ≡ old.in_doubt = still.in_doubt ∙ ap (λ (xs : List Durable). xs ++ old.in_doubt) (none_doubted g old.archive s.told still.doubts still.doubted) in
     let t = s.stores in
+    let found =
+    subst (λ (xs : List Durable). IsFoundAfterAStop g old (stage_of old.archive xs ∷ stage_of t.filled xs ∷ []) end new) same
+    (subst (λ (a : Parts D). IsFoundAfterAStop g old (stage_of a stages.in_doubt ∷ stage_of t.filled stages.in_doubt ∷ []) end new) room.1 stages.found) in
     record {
       stores = record {
         first = t.first;
@@ -279,6 +282,7 @@ stores_alone {D} g naming file file' fails fails' old before line replies end ne
       made = room.2;
       takes = subst (λ (a : Parts D). Stays g a t.filled) room.1 stages.takes;
       moves = subst (λ (xs : List Durable). Moves g (stage_of t.filled xs) (end_of 0) t.rest end) same stages.moves;
+      found = λ honest settled. (found honest settled).1;
     }
 
 -- what was told is written, or a front of it

@@ -145,6 +145,7 @@ pub record IsAlone {D : Type 0} (g : disk.Ghosts D) (naming : Naming) (file file
   pub made : outcome.made_room ≡ true
   pub takes : Stays g old.archive stores.filled
   pub moves : Moves g (record { archive = stores.filled; in_doubt = old.in_doubt }) (end_of 0) stores.rest end
+  pub found : IsFoundAfterAStop g old (record { archive = stores.filled; in_doubt = old.in_doubt } ∷ []) end new
 
 abbrev pub StoresAlone : {D : Type 0} → disk.Ghosts D → Type 0
 StoresAlone {D} g = (naming : Naming) (file file' : Option (List ℕ)) (fails fails' : ℕ) (old : Stage D) (before line replies : List ℕ) (end : Stage D) (new : Parts D) (outcome : StoreOutcome)
