@@ -1,5 +1,5 @@
--- One stream that is stored from its own input.
-use Rattle.std.proofs.Common.{◌≡◌, inl, ⊎_elim, ℕ, zero, suc, ◌+◌, ◌<◌, ◌≤◌, Bool, true, false, List, [], ◌∷◌, ◌++◌, length, Option, Some, None, Result, Ok, Err, is_ok, refl, sym, ap, subst, ◌∙◌, arith, length-append}
+-- One stream that is stored from its own input, with room made for it before.
+use Rattle.std.proofs.Common.{◌≡◌, ◌⊎◌, inl, ⊎_elim, ℕ, zero, suc, ◌+◌, ◌<◌, ◌≤◌, Bool, true, false, List, [], ◌∷◌, ◌++◌, length, Option, Some, None, Result, Ok, Err, is_ok, refl, sym, ap, subst, ◌∙◌, arith, length-append}
 use Rattle.std.proofs.lemmas.List.{append-nil, length-map}
 use Rattle.std.proofs.KnownBytes.{Consumes-trans}
 use Rattle.std.specs.Io.KnownBytes.{Consumes}
@@ -23,12 +23,15 @@ use Rattle.inspector_cli.specs.declared.session.Naming.{Naming}
 use Rattle.script_lines.specs.Said.{Said, ProcessSaid, silence, bad_line, long_line, begin_exec, begin_core, part_of, end_of, drop_of, delete_of, pin_of, retire_by, list_all_cases, count_free, inspect_of, said}
 use Rattle.inspector_cli.specs.Reply.{Begins, TakeStep, TakeBytes, Takes, exec_unless, exec_stream, core_unless, core_stream, name_fault, core_name}
 use Rattle.inspector_cli.specs.declared.session.SessionFault.TheVariants.{WriteFailed}
+use Rattle.inspector_cli.specs.declared.session.StoreOutcome.{StoreOutcome}
+use Rattle.retention.specs.declared.Policy.{Policy}
+use Rattle.std.specs.List.{AllByRecursion}
 use Rattle.inspector_cli.specs.declared.store.TakeStop.{TakeStop}
 use Rattle.inspector_cli.specs.declared.store.TakeStop.TheVariants.{File, Refused}
-use Rattle.script_streams.specs.Replies.{Telling, TellsReply}
-use Rattle.inspector_cli.specs.Stages.{Stage, mark_at, marks_of}
+use Rattle.script_streams.specs.Replies.{Telling, TellsReply, no_reply}
+use Rattle.inspector_cli.specs.Stages.{Stage, Moves, MayLeave, mark_at, marks_of, IsFoundAfterAStop}
 use Rattle.inspector_cli.specs.Session.{Streams}
-use Rattle.inspector_cli.specs.Storing.{first_stream, TakesFile, TakesMore, FileReplies, RestReplies, Stores, StoreStages, StoreEnds}
+use Rattle.inspector_cli.specs.Storing.{first_stream, TakesFile, TakesMore, FileReplies, RestReplies, StoresStream, policy_before, MakesRoom, Stores, said_before, StoreStages, StoreEnds, StoresAlone}
 use Rattle.intake.specs.StayLaws.{stays_none, stays_as, stays_then}
 use Rattle.inspector_cli.proofs.StageLemmas.{Laws, Reaches, stage_of, line_moves, still, begins_stays}
 use Rattle.inspector_cli.proofs.TellLemmas.{tells_then}
@@ -162,7 +165,7 @@ module _ {D : Type 0} (g : disk.Ghosts D) where
   pub stores : (naming : Naming) (file file' : Option (List ℕ)) (fails fails' : ℕ) (o p q : Option (List ℕ)) (f i h : ℕ) (u v w : Reply) (old mid new : Parts D) (line : List ℕ) (stored : Bool)
       → TellsReply (record { taken = o; taken' = p; failures = f; failures' = i; reply = u; reply' = v }) (λ text. Begins g old 0 (first_stream naming (said line)) text mid true)
       → TellsReply (record { taken = p; taken' = q; failures = i; failures' = h; reply = v; reply' = w }) (λ text. (filled : Parts D) × RestReplies g file file' fails fails' mid true filled text new stored)
-      → TellsReply (record { taken = o; taken' = q; failures = f; failures' = h; reply = u; reply' = w }) (λ text. Stores g naming file file' fails fails' old line text new stored)
+      → TellsReply (record { taken = o; taken' = q; failures = f; failures' = h; reply = u; reply' = w }) (λ text. StoresStream g naming file file' fails fails' old line text new stored)
   stores naming file file' fails fails' o p q f i h u v w old mid new line stored first rest = (
     first.0 ++ rest.0,
     record { first = first.0; mid = mid; accepted = true; begins = first.1; filled = rest.1.0; rest = rest.0; goes_on = rest.1.1; text = refl },
@@ -171,7 +174,7 @@ module _ {D : Type 0} (g : disk.Ghosts D) where
 
   pub stores_none : (naming : Naming) (file : Option (List ℕ)) (fails : ℕ) (t : Telling) (old new : Parts D) (line : List ℕ)
       → TellsReply t (λ text. Begins g old 0 (first_stream naming (said line)) text new false)
-      → TellsReply t (λ text. Stores g naming file file fails fails old line text new false)
+      → TellsReply t (λ text. StoresStream g naming file file fails fails old line text new false)
   stores_none naming file fails t old new line first = (
     first.0,
     record {
@@ -210,28 +213,83 @@ module _ {D : Type 0} (g : disk.Ghosts D) where
     still g laws (stage_of filled old.in_doubt) new (end_of 0) rest (stays_as g filled new (goes.4 ∙ sym goes.2)),
   )
 
-  pub stages_of : (laws : Laws g) → FoundAfterAStop g → (naming : Naming) (file file' : Option (List ℕ)) (fails fails' : ℕ) (old : Stage D) (line replies : List ℕ) (end : Parts D) (stored : Bool) (new : Parts D)
-      → (s : Stores g naming file file' fails fails' old.archive line replies end stored) → Stays g end new
-      → (more : List Durable) × StoreStages g old s.filled s.rest (stage_of end (more ++ old.in_doubt)) new
-  stages_of laws found naming file file' fails fails' old line replies end stored new s closes =
+  room_moves : (laws : Laws g) (naming : Naming) (old : Stage D) (room : Parts D) (policy : Option Policy) (told : List ℕ) (made : Bool) → MakesRoom g old.archive policy told room made
+      → Reaches g laws old room (said_before policy) told
+  room_moves laws naming old room None told made makes = still g laws old room silence told (stays_as g old.archive room makes.1)
+  room_moves laws naming old room (Some policy) told made makes = line_moves g laws old room naming (retire_by policy) [] told makes.0
+
+  pub stages_of : (laws : Laws g) → FoundAfterAStop g → (naming : Naming) (file file' : Option (List ℕ)) (fails fails' : ℕ) (old : Stage D) (before line replies : List ℕ) (end : Parts D) (outcome : StoreOutcome) (new : Parts D)
+      → (s : Stores g naming file file' fails fails' old.archive before line replies end outcome) → Stays g end new
+      → (in_doubt : List Durable) × StoreStages g old (policy_before before) s.told s.room s.stores.filled s.stores.rest (stage_of end in_doubt) new
+  stages_of laws found naming file file' fails fails' old before line replies end outcome new s closes =
+      let r = room_moves laws naming old s.room (policy_before before) s.told outcome.made_room s.makes_room in
+      let t = s.stores in
+      let doubts : List Durable = r.0 ++ old.in_doubt in
       let m =
-      rest_moves laws naming file file' fails fails' old s.mid s.filled end s.accepted s.rest stored
-      (begins_stays g old.archive s.mid 0 (first_stream naming (said line)) s.first s.accepted s.begins) s.goes_on in (
-        m.1.0,
+      rest_moves laws naming file file' fails fails' (stage_of s.room doubts) t.mid t.filled end t.accepted t.rest outcome.is_stored
+      (begins_stays g s.room t.mid 0 (first_stream naming (said line)) t.first t.accepted t.begins) t.goes_on in (
+        m.1.0 ++ doubts,
         record {
+          in_doubt = doubts;
+          makes_room = r.1;
           takes = m.0;
           moves = m.1.1;
           found = λ honest settled.
-              found (mark_at g.seen old) (marks_of g.seen (stage_of s.filled old.in_doubt ∷ []) (stage_of end (m.1.0 ++ old.in_doubt)) new) honest settled
-              (laws.stays old.archive s.filled old.in_doubt m.0, (m.1.1.passes, (laws.stays end new (m.1.0 ++ old.in_doubt) closes, tt)));
+              found (mark_at g.seen old) (marks_of g.seen (stage_of s.room doubts ∷ stage_of t.filled doubts ∷ []) (stage_of end (m.1.0 ++ doubts)) new) honest settled
+              (r.1.passes, (laws.stays s.room t.filled doubts m.0, (m.1.1.passes, (laws.stays end new (m.1.0 ++ doubts) closes, tt))));
         },
       )
 
+  -- a line that makes room, and the stream behind it
+  pub stores_both : (naming : Naming) (file file' : Option (List ℕ)) (fails fails' : ℕ) (o p q : Option (List ℕ)) (f i h : ℕ) (u v w : Reply) (old room new : Parts D) (before line : List ℕ) (made stored : Bool)
+      → TellsReply (record { taken = o; taken' = p; failures = f; failures' = i; reply = u; reply' = v }) (λ text. MakesRoom g old (policy_before before) text room made)
+      → TellsReply (record { taken = p; taken' = q; failures = i; failures' = h; reply = v; reply' = w }) (λ text. StoresStream g naming file file' fails fails' room line text new stored)
+      → TellsReply (record { taken = o; taken' = q; failures = f; failures' = h; reply = u; reply' = w })
+      (λ text. Stores g naming file file' fails fails' old before line text new (record { made_room = made; is_stored = stored }))
+  stores_both naming file file' fails fails' o p q f i h u v w old room new before line made stored first rest = (
+    first.0 ++ rest.0,
+    record { told = first.0; room = room; makes_room = first.1; more = rest.0; stores = rest.1; all = refl },
+    tells_then o p q f i h u v w first.0 rest.0 first.2 rest.2,
+  )
+
+-- a line that says nothing leaves nothing in doubt
+none_doubted : {D : Type 0} (g : disk.Ghosts D) (old : Parts D) (reply : List ℕ) (doubts : List Durable)
+    → (doubts ≡ []) ⊎ ((reply ≡ no_reply (codes "Disk")) × AllByRecursion (MayLeave g old silence) doubts) → doubts ≡ []
+none_doubted g old reply [] doubted = refl
+none_doubted g old reply (x ∷ xs) doubted = ⊎_elim (λ none. none) (λ some. absurd some.1.0) doubted
+
+-- with no line before, it is the stream alone
+pub stores_alone : {D : Type 0} (g : disk.Ghosts D) → StoresAlone g
+stores_alone {D} g naming file file' fails fails' old before line replies end new outcome none s stages =
+    let room = subst (λ (p : Option Policy). MakesRoom g old.archive p s.told s.room outcome.made_room) none s.makes_room in
+    let still = subst (λ (p : Option Policy). Moves g old (said_before p) s.told (stage_of s.room stages.in_doubt)) none stages.makes_room in
+    let same : stages.in_doubt ≡ old.in_doubt = still.in_doubt ∙ ap (λ (xs : List Durable). xs ++ old.in_doubt) (none_doubted g old.archive s.told still.doubts still.doubted) in
+    let t = s.stores in
+    let found =
+    subst (λ (xs : List Durable). IsFoundAfterAStop g old (stage_of old.archive xs ∷ stage_of t.filled xs ∷ []) end new) same
+    (subst (λ (a : Parts D). IsFoundAfterAStop g old (stage_of a stages.in_doubt ∷ stage_of t.filled stages.in_doubt ∷ []) end new) room.1 stages.found) in
+    record {
+      stores = record {
+        first = t.first;
+        mid = t.mid;
+        accepted = t.accepted;
+        begins = subst (λ (a : Parts D). Begins g a 0 (first_stream naming (said line)) t.first t.mid t.accepted) room.1 t.begins;
+        filled = t.filled;
+        rest = t.rest;
+        goes_on = t.goes_on;
+        text = s.all ∙ ap (λ (x : List ℕ). x ++ s.more) room.0 ∙ t.text;
+      };
+      made = room.2;
+      takes = subst (λ (a : Parts D). Stays g a t.filled) room.1 stages.takes;
+      moves = subst (λ (xs : List Durable). Moves g (stage_of t.filled xs) (end_of 0) t.rest end) same stages.moves;
+      found = λ honest settled. (found honest settled).1;
+    }
+
 -- what was told is written, or a front of it
 module _ {D : Type 0} (g : disk.Ghosts D) (laws : Laws g) (law : FoundAfterAStop g) (naming : Naming) (file file' : Option (List ℕ)) (fails fails' : ℕ) (o p q : Option (List ℕ)) (f i h : ℕ) (u v : Reply)
-    (old : Stage D) (end new : Parts D) (line : List ℕ) (stored : Bool)
+    (old : Stage D) (end new : Parts D) (before line : List ℕ) (outcome : StoreOutcome)
     (dropped : Result (Unit {0}) ArchiveFault) (begun : Told o f o f u [])
-    (told : TellsReply (record { taken = o; taken' = p; failures = f; failures' = i; reply = u; reply' = v }) (λ text. Stores g naming file file' fails fails' old.archive line text end stored))
+    (told : TellsReply (record { taken = o; taken' = p; failures = f; failures' = i; reply = u; reply' = v }) (λ text. Stores g naming file file' fails fails' old.archive before line text end outcome))
     (drops : AbandonCall g end 0 dropped new) where
   abbrev pub streams : Streams
   streams = record { input = file; input' = file'; fails = fails; fails' = fails'; taken = o; taken' = q; lost = f; lost' = h }
@@ -239,14 +297,14 @@ module _ {D : Type 0} (g : disk.Ghosts D) (laws : Laws g) (law : FoundAfterAStop
   abbrev pub WritesOut : Result (Unit {0}) StreamFault → Type 0
   WritesOut r = (start : Option (List ℕ)) (count : ℕ) (text : List ℕ) → Told start count p i v text → IsDelivered start count q h text r
 
-  pub store_written : (s : Unit {0}) → WritesOut (Ok s) → StoreEnds g naming streams old line new (Ok stored)
+  pub store_written : (s : Unit {0}) → WritesOut (Ok s) → StoreEnds g naming streams old before line new (Ok outcome)
   store_written s d =
-      let stages = stages_of g laws law naming file file' fails fails' old line told.0 end stored new told.1 drops.stays in
-      (told.0, stage_of end (stages.0 ++ old.in_doubt), dropped, told.1, drops, d o f told.0 (told.2 o f [] begun), stages.1)
+      let stages = stages_of g laws law naming file file' fails fails' old before line told.0 end outcome new told.1 drops.stays in
+      (told.0, stage_of end stages.0, dropped, told.1, drops, d o f told.0 (told.2 o f [] begun), stages.1)
 
-  pub store_failed : (fault : StreamFault) → WritesOut (Err fault) → StoreEnds g naming streams old line new (Err WriteFailed)
+  pub store_failed : (fault : StreamFault) → WritesOut (Err fault) → StoreEnds g naming streams old before line new (Err WriteFailed)
   store_failed fault d =
       let t = d o f told.0 (told.2 o f [] begun) in
-      let same = subst (λ (text : List ℕ). Stores g naming file file' fails fails' old.archive line text end stored) (sym t.2) told.1 in
-      let stages = stages_of g laws law naming file file' fails fails' old line (t.0 ++ t.1) end stored new same drops.stays in
-      (t.0, t.1, stage_of end (stages.0 ++ old.in_doubt), stored, dropped, same, drops, t.3, t.4, stages.1)
+      let same = subst (λ (text : List ℕ). Stores g naming file file' fails fails' old.archive before line text end outcome) (sym t.2) told.1 in
+      let stages = stages_of g laws law naming file file' fails fails' old before line (t.0 ++ t.1) end outcome new same drops.stays in
+      (t.0, t.1, stage_of end stages.0, outcome, dropped, same, drops, t.3, t.4, stages.1)

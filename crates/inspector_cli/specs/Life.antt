@@ -1,5 +1,5 @@
 -- A session from the opening of its archive on.
-use Rattle.std.specs.Prelude.{◌≡◌, ◌⊎◌, ℕ, Bool, List, [], Result, Ok, Err, IsTrue}
+use Rattle.std.specs.Prelude.{◌≡◌, ◌⊎◌, ℕ, List, [], Result, Ok, Err, IsTrue}
 use Rattle.disk_model.specs.declared.disk.Disk as disk
 use Rattle.journal_layout.specs.declared.faults.OpenFault.{OpenFault}
 use Rattle.journal_layout.specs.declared.faults.OpenFault.TheVariants as fault
@@ -9,6 +9,7 @@ use Rattle.intake.specs.Marks.{IsSettled, mark_of}
 use Rattle.intake.specs.Parts.{Parts}
 use Rattle.inspector_cli.specs.declared.session.Naming.{Naming}
 use Rattle.inspector_cli.specs.declared.session.SessionFault.{SessionFault}
+use Rattle.inspector_cli.specs.declared.session.StoreOutcome.{StoreOutcome}
 use Rattle.inspector_cli.specs.declared.session.LifeFault.{LifeFault}
 use Rattle.inspector_cli.specs.declared.session.LifeFault.TheVariants.{Open, Session}
 use Rattle.inspector_cli.specs.Session.{Streams, SessionEnds}
@@ -49,7 +50,7 @@ abbrev pub RunsOver : {D : Type 0} → disk.Ghosts D → Naming → Streams → 
 RunsOver g naming t r opened closed =
     SessionEnds g naming t (record { archive = opened; in_doubt = [] }) closed r
 
--- the same of one stream that is stored from its own input
-abbrev pub StoresOver : {D : Type 0} → disk.Ghosts D → Naming → List ℕ → Streams → Result Bool SessionFault → Parts D → Parts D → Type 0
-StoresOver g naming line t r opened closed =
-    StoreEnds g naming t (record { archive = opened; in_doubt = [] }) line closed r
+-- the same of one stream that is stored from its own input, with room made for it before
+abbrev pub StoresOver : {D : Type 0} → disk.Ghosts D → Naming → List ℕ → List ℕ → Streams → Result StoreOutcome SessionFault → Parts D → Parts D → Type 0
+StoresOver g naming before line t r opened closed =
+    StoreEnds g naming t (record { archive = opened; in_doubt = [] }) before line closed r

@@ -1,23 +1,26 @@
--- One stream that is stored from its own input.
-use Rattle.std.specs.Prelude.{◌≡◌, ◌⊎◌, ℕ, ◌^◌, ◌<◌, ◌≤◌, ◌==◌, Bool, true, false, List, [], ◌∷◌, ◌++◌, length, Option, None, Result, Ok, Err, codes, if◌then◌else◌}
+-- One stream that is stored from its own input, with room made for it before.
+use Rattle.std.specs.Prelude.{◌≡◌, ◌⊎◌, ℕ, ◌^◌, ◌<◌, ◌≤◌, ◌==◌, Bool, true, false, List, [], ◌∷◌, ◌++◌, length, Option, None, Some, Result, Ok, Err, is_ok, codes, if◌then◌else◌}
 use Rattle.std.specs.Io.KnownBytes.{Consumes, Appends, IsAtEnd}
 use Rattle.intake.specs.declared.faults.ArchiveFault.{ArchiveFault}
 use Rattle.disk_model.specs.declared.disk.Disk as disk
 use Rattle.intake.specs.Calls.{Stays, AbandonCall}
+use Rattle.intake.specs.Durable.{Durable}
 use Rattle.intake.specs.Parts.{Parts}
 use Rattle.intake.specs.Slots.{stream_at}
 use Rattle.intake.specs.State.{Bare, BareStream}
 use Rattle.script_streams.specs.Streams.{Rose}
 use Rattle.inspector_cli.specs.declared.session.Naming.{Naming}
 use Rattle.inspector_cli.specs.declared.session.SessionFault.{SessionFault}
+use Rattle.inspector_cli.specs.declared.session.StoreOutcome.{StoreOutcome}
 use Rattle.inspector_cli.specs.declared.session.SessionFault.TheVariants.{ReadFailed, WriteFailed, TooManyReads}
 use Rattle.inspector_cli.specs.declared.store.TakeStop.{TakeStop}
 use Rattle.inspector_cli.specs.declared.store.TakeStop.TheVariants.{File, Refused}
-use Rattle.script_lines.specs.Said.{Said, begin_exec, begin_core, end_of, long_line, said}
+use Rattle.retention.specs.declared.Policy.{Policy}
+use Rattle.script_lines.specs.Said.{Said, silence, begin_exec, begin_core, end_of, retire_by, long_line, said}
 use Rattle.inspector_cli.specs.Session.{Streams}
 use Rattle.inspector_cli.specs.Stages.{Stage, Moves, IsFoundAfterAStop}
 use Rattle.script_streams.specs.Replies.{no_reply}
-use Rattle.inspector_cli.specs.Reply.{Begins, Ends, Takes, exec_stream, core_stream}
+use Rattle.inspector_cli.specs.Reply.{Begins, Ends, Takes, Retires, exec_stream, core_stream}
 use Rattle.inspector_cli.specs.Reasons.{reason_of}
 
 -- What the first line begins, or why it begins nothing: it begins a stream in slot 0. Any other line is none that is known.
@@ -63,7 +66,7 @@ RestReplies g file file' fails fails' old false filled reply new stored =
     (file' ≡ file) × (fails' ≡ fails) × (filled ≡ old) × (reply ≡ []) × (new ≡ old) × (stored ≡ false)
 
 -- a line and its file: the replies, and whether the case is stored
-pub record Stores {D : Type 0} (g : disk.Ghosts D) (naming : Naming) (file file' : Option (List ℕ)) (fails fails' : ℕ) (old : Parts D) (line : List ℕ)
+pub record StoresStream {D : Type 0} (g : disk.Ghosts D) (naming : Naming) (file file' : Option (List ℕ)) (fails fails' : ℕ) (old : Parts D) (line : List ℕ)
     (replies : List ℕ) (new : Parts D) (stored : Bool) : Type 0 where
   pub first : List ℕ
   pub mid : Parts D
@@ -75,26 +78,82 @@ pub record Stores {D : Type 0} (g : disk.Ghosts D) (naming : Naming) (file file'
   pub goes_on : RestReplies g file file' fails fails' mid accepted filled rest new stored
   pub text : replies ≡ first ++ rest
 
+-- the policy by which a line retires, if it does
+abbrev pub retired_by : Said → Option Policy
+retired_by (retire_by policy) = Some policy
+retired_by _ = None
+
+-- the policy that the line before says
+abbrev pub policy_before : List ℕ → Option Policy
+policy_before line = retired_by (said line)
+
+-- Room is made by a policy: what `retire` does in a session, and whether it was answered other than `no REASON`. Where there is no
+-- policy nothing is done and nothing is said.
+abbrev pub MakesRoom : {D : Type 0} → disk.Ghosts D → Parts D → Option Policy → List ℕ → Parts D → Bool → Type 0
+MakesRoom g old None reply new made = (reply ≡ []) × (new ≡ old) × (made ≡ true)
+MakesRoom g old (Some policy) reply new made = (answered : Retires g old policy reply new) × (made ≡ is_ok answered.0)
+
+-- a line before that makes room, and behind it a line and its file, whatever the first was answered
+pub record Stores {D : Type 0} (g : disk.Ghosts D) (naming : Naming) (file file' : Option (List ℕ)) (fails fails' : ℕ) (old : Parts D) (before line : List ℕ)
+    (replies : List ℕ) (new : Parts D) (outcome : StoreOutcome) : Type 0 where
+  pub told : List ℕ
+  -- when room is made
+  pub room : Parts D
+  pub makes_room : MakesRoom g old (policy_before before) told room outcome.made_room
+  pub more : List ℕ
+  pub stores : StoresStream g naming file file' fails fails' room line more new outcome.is_stored
+  pub all : replies ≡ told ++ more
+
 -- no stream is open in slot 0
 abbrev pub IsSlotQuiet : Bare → Type 0
 IsSlotQuiet s = stream_at s.streams 0 ≡ None
 
--- What a stop leaves of it: the line and the file's bytes change no case, and so only the end of the stream does.
-pub record StoreStages {D : Type 0} (g : disk.Ghosts D) (old : Stage D) (filled : Parts D) (reply : List ℕ) (end : Stage D) (new : Parts D) : Type 0 where
-  pub takes : Stays g old.archive filled
-  pub moves : Moves g (record { archive = filled; in_doubt = old.in_doubt }) (end_of 0) reply end
-  pub found : IsFoundAfterAStop g old (record { archive = filled; in_doubt = old.in_doubt } ∷ []) end new
+-- what the line before says: `retire` by its policy, or nothing
+abbrev pub said_before : Option Policy → Said
+said_before None = silence
+said_before (Some policy) = retire_by policy
 
--- Whether the case is stored, and the replies were written; or the output failed, and has a front of them. A stream that
--- is left in slot 0 is dropped. In each case what is found after a stop is told by the stages.
-abbrev pub StoreEnds : {D : Type 0} → disk.Ghosts D → Naming → Streams → Stage D → List ℕ → Parts D → Result Bool SessionFault → Type 0
-StoreEnds {D} g naming t old line new (Ok stored) =
+-- What a stop leaves of it: room is made as by a line of a session, and only then a case is stored; its line and the file's bytes
+-- change no case, and so only the end of the stream does.
+pub record StoreStages {D : Type 0} (g : disk.Ghosts D) (old : Stage D) (policy : Option Policy) (told : List ℕ) (room filled : Parts D) (reply : List ℕ) (end : Stage D) (new : Parts D) : Type 0 where
+  -- what is in doubt when room is made
+  pub in_doubt : List Durable
+  pub makes_room : Moves g old (said_before policy) told (record { archive = room; in_doubt = in_doubt })
+  pub takes : Stays g room filled
+  pub moves : Moves g (record { archive = filled; in_doubt = in_doubt }) (end_of 0) reply end
+  pub found : IsFoundAfterAStop g old (record { archive = room; in_doubt = in_doubt } ∷ record { archive = filled; in_doubt = in_doubt } ∷ []) end new
+
+-- Whether room was made and the case is stored, and the replies were written; or the output failed, and has a front of them. A
+-- stream that is left in slot 0 is dropped. In each case what is found after a stop is told by the stages.
+abbrev pub StoreEnds : {D : Type 0} → disk.Ghosts D → Naming → Streams → Stage D → List ℕ → List ℕ → Parts D → Result StoreOutcome SessionFault → Type 0
+StoreEnds {D} g naming t old before line new (Ok outcome) =
     (replies : List ℕ) × (end : Stage D) × (dropped : Result (Unit {0}) ArchiveFault)
-    × (s : Stores g naming t.input t.input' t.fails t.fails' old.archive line replies end.archive stored) × AbandonCall g end.archive 0 dropped new × Appends t.taken t.taken' replies
-    × StoreStages g old s.filled s.rest end new
-StoreEnds {D} g naming t old line new (Err WriteFailed) =
-    (out : List ℕ) × (rest : List ℕ) × (end : Stage D) × (stored : Bool) × (dropped : Result (Unit {0}) ArchiveFault)
-    × (s : Stores g naming t.input t.input' t.fails t.fails' old.archive line (out ++ rest) end.archive stored) × AbandonCall g end.archive 0 dropped new × Appends t.taken t.taken' out × Rose t.lost t.lost'
-    × StoreStages g old s.filled s.rest end new
-StoreEnds g naming t old line new (Err ReadFailed) = ⊥
-StoreEnds g naming t old line new (Err TooManyReads) = ⊥
+    × (s : Stores g naming t.input t.input' t.fails t.fails' old.archive before line replies end.archive outcome) × AbandonCall g end.archive 0 dropped new × Appends t.taken t.taken' replies
+    × StoreStages g old (policy_before before) s.told s.room s.stores.filled s.stores.rest end new
+StoreEnds {D} g naming t old before line new (Err WriteFailed) =
+    (out : List ℕ) × (rest : List ℕ) × (end : Stage D) × (outcome : StoreOutcome) × (dropped : Result (Unit {0}) ArchiveFault)
+    × (s : Stores g naming t.input t.input' t.fails t.fails' old.archive before line (out ++ rest) end.archive outcome) × AbandonCall g end.archive 0 dropped new × Appends t.taken t.taken' out × Rose t.lost t.lost'
+    × StoreStages g old (policy_before before) s.told s.room s.stores.filled s.stores.rest end new
+StoreEnds g naming t old before line new (Err ReadFailed) = ⊥
+StoreEnds g naming t old before line new (Err TooManyReads) = ⊥
+
+-- With no line before that makes room it is the stream alone: what is told and done is that of the stream over the archive as it
+-- stood, and nothing comes in doubt before its end.
+pub record IsAlone {D : Type 0} (g : disk.Ghosts D) (naming : Naming) (file file' : Option (List ℕ)) (fails fails' : ℕ) (old : Stage D) (line : List ℕ)
+    (replies : List ℕ) (end : Stage D) (new : Parts D) (outcome : StoreOutcome) : Type 0 where
+  pub stores : StoresStream g naming file file' fails fails' old.archive line replies end.archive outcome.is_stored
+  pub made : outcome.made_room ≡ true
+  pub takes : Stays g old.archive stores.filled
+  pub moves : Moves g (record { archive = stores.filled; in_doubt = old.in_doubt }) (end_of 0) stores.rest end
+  pub found : IsFoundAfterAStop g old (record { archive = stores.filled; in_doubt = old.in_doubt } ∷ []) end new
+
+abbrev pub StoresAlone : {D : Type 0} → disk.Ghosts D → Type 0
+StoresAlone {D} g = (naming : Naming) (file file' : Option (List ℕ)) (fails fails' : ℕ) (old : Stage D) (before line replies : List ℕ) (end : Stage D) (new : Parts D) (outcome : StoreOutcome)
+    → policy_before before ≡ None
+    → (s : Stores g naming file file' fails fails' old.archive before line replies end.archive outcome)
+    → StoreStages g old (policy_before before) s.told s.room s.stores.filled s.stores.rest end new
+    → IsAlone g naming file file' fails fails' old line replies end new outcome
+
+-- a line of no bytes makes no room
+abbrev pub NoLineIsSilent : Type 0
+NoLineIsSilent = policy_before [] ≡ None

@@ -1,5 +1,5 @@
 // The answers to lines that no bytes stand behind.
-ghost use Rattle.std.specs.Prelude.{◌≡◌, []};
+ghost use Rattle.std.specs.Prelude.{◌≡◌, [], is_ok};
 ghost use Rattle.intake.specs.Parts.{bare_of};
 ghost use Rattle.script_lines.specs.Commands.{asked_by};
 ghost use Rattle.inspector_cli.specs.Reply.{Ends, Drops, Deletes, Pins, Retires, Frees, list_reply};
@@ -42,7 +42,9 @@ pub(crate) fn answer_plain<O: Output, D: Disk>(
         Request::Drop { slot } => answer_drop(slot, reply, output, archive),
         Request::Delete { seq } => answer_delete(seq, reply, output, archive),
         Request::Pin { seq, flag } => answer_pin(seq, flag, reply, output, archive),
-        Request::Retire { policy } => answer_retire(policy, reply, output, archive),
+        Request::Retire { policy } => {
+            let _ = answer_retire(policy, reply, output, archive);
+        }
         Request::ListCases => answer_list(reply, output, archive),
         Request::CountFree => answer_free(reply, output, archive),
     }
@@ -103,17 +105,19 @@ fn answer_pin<O: Output, D: Disk>(
     tell_outcome(reply, output, outcome);
 }
 
-// Answers `retire`.
-fn answer_retire<O: Output, D: Disk>(
+// Answers `retire`. Says whether it was answered other than `no REASON`.
+pub(crate) fn answer_retire<O: Output, D: Disk>(
     policy: Policy,
     reply: &mut Reply,
     output: &mut O,
     archive: &mut Archive<D>,
-)
-    ensures { TellsReply (telling O.Output output.old output.new reply.old reply.new) (λ text. Retires D.Disk archive.old policy text archive.new) }
+) -> bool
+    ensures { TellsReply (telling O.Output output.old output.new reply.old reply.new) (λ text. (answered : Retires D.Disk archive.old policy text archive.new) × (result ≡ is_ok answered.0)) }
 {
     let outcome = archive.retire(&policy);
+    let is_carried_out = outcome.is_ok();
     tell_retired(reply, output, outcome);
+    is_carried_out
 }
 
 // Answers `list`.

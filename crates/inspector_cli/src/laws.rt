@@ -1,5 +1,6 @@
 //! What holds over every script and every session. These functions do nothing.
 ghost use Rattle.inspector_cli.specs.Cuts.{HasOneCut, HasACut, HasOneFront};
+ghost use Rattle.inspector_cli.specs.Storing.{StoresAlone, NoLineIsSilent};
 ghost use Rattle.inspector_cli.specs.Runs.{WholeIsARun, FrontIsARun, StagesAreClear, SessionsAreLived};
 
 use disk_model::Disk;
@@ -27,3 +28,10 @@ pub fn sessions_are_runs<D: Disk>()
 {
     calls_lead_from_mark_to_mark::<D>();
 }
+
+/// With no line before, or one that does not say `retire`, `store_stream` stores the stream alone: it tells what it tells of the
+/// stream, over the archive as it stood; nothing is in doubt before the stream's end, and `made_room` is true.
+pub fn a_silent_line_makes_no_room<D: Disk>()
+    ensures alone { StoresAlone D.Disk }
+    ensures silent { NoLineIsSilent }
+{}

@@ -12,6 +12,15 @@ pub struct Naming {
     pub uses_pid: bool,
 }
 
+/// What came of a stream that was to be stored, and of the line before it that makes room.
+#[derive(Clone, Copy, PartialEq, Eq, Debug)]
+pub struct StoreOutcome {
+    /// Room was made, or none was asked for: false only where the line `retire ..` was answered `no REASON`.
+    pub made_room: bool,
+    /// The case is stored.
+    pub is_stored: bool,
+}
+
 /// Why a session ended before its script.
 #[derive(Clone, Copy, PartialEq, Eq, Debug, Error)]
 pub enum SessionFault {

@@ -1,4 +1,4 @@
-// One stream, stored from its own input.
+// One stream, stored from its own input, with room made for it before.
 ghost use Rattle.std.specs.Prelude.{◌≡◌, ℕ, true, List, [], Ok};
 ghost use Rattle.intake.specs.Durable.{Durable};
 ghost use Rattle.intake.specs.Parts.{Parts, bare_of};
@@ -8,12 +8,13 @@ ghost use Rattle.inspector_cli.specs.Commands.{stream_found};
 ghost use Rattle.inspector_cli.specs.Reply.{Begins, Takes};
 ghost use Rattle.script_streams.specs.Replies.{TellsReply, telling};
 ghost use Rattle.inspector_cli.specs.Session.{streams_of};
-ghost use Rattle.inspector_cli.specs.Storing.{StoreEnds, Stores, RestReplies, first_stream, TakesFile, TakesMore, IsSlotQuiet};
+ghost use Rattle.inspector_cli.specs.Storing.{StoreEnds, Stores, StoresStream, RestReplies, first_stream, TakesFile, TakesMore, IsSlotQuiet};
 
 use crate::answers::answer_end;
 use crate::begin::{answer_begin, core_stream, exec_stream};
 use crate::names::NewStream;
-use crate::session::{Naming, SessionFault};
+use crate::room::make_room;
+use crate::session::{Naming, SessionFault, StoreOutcome};
 use crate::telling::reason;
 use disk_model::Disk;
 use intake::{Archive, ArchiveFault, calls_lead_from_mark_to_mark, found_after_a_stop};
@@ -32,35 +33,61 @@ enum TakeStop {
     Refused(ArchiveFault),
 }
 
-/// Answers a line that begins a stream in slot 0. Where it is accepted, the stream takes all bytes of `file` and becomes a
+/// Stores one stream, with room made for it before. `before` is the line `retire ..`, without its newline: it is carried out
+/// first, and the stream is stored whatever it was answered. With no line, or another one, no room is made and nothing is told
+/// of it.
+///
+/// Then a line is answered that begins a stream in slot 0. Where it is accepted, the stream takes all bytes of `file` and becomes a
 /// case, and the reply goes on by that of the first step that was refused, or else by that of the line `end 0`. A `file`
 /// that cannot be read, or that has not ended after 2^40 reads, is a step that is refused with the reply `no File`. Says
-/// whether the case is stored. No stream is open in slot 0 then. Any other line is refused with the reply `no BadLine`,
-/// and one of more than 1,024 bytes with `no LineTooLong`.
+/// whether room was made and whether the case is stored. No stream is open in slot 0 then. Any other line is refused with the reply
+/// `no BadLine`, and one of more than 1,024 bytes with `no LineTooLong`.
 ///
 /// # Errors
 ///
 /// `WriteFailed` where the output failed: it has a front of the replies.
 pub fn store_stream<I: Input, O: Output, D: Disk>(
+    before: &[u8],
     line: &[u8],
     file: &mut I,
     output: &mut O,
     archive: &mut Archive<D>,
     naming: &Naming,
-) -> Result<bool, SessionFault>
-    ensures ends { (before : List Durable) → StoreEnds D.Disk naming.now (streams_of I.Input O.Output file.old file.new output.old output.new)
-        (record { archive = archive.old; in_doubt = before }) line.now archive.new result }
+) -> Result<StoreOutcome, SessionFault>
+    ensures ends { (doubts : List Durable) → StoreEnds D.Disk naming.now (streams_of I.Input O.Output file.old file.new output.old output.new)
+        (record { archive = archive.old; in_doubt = doubts }) before.now line.now archive.new result }
     ensures quiet { IsSlotQuiet (bare_of archive.new) }
 {
     calls_lead_from_mark_to_mark::<D>();
     found_after_a_stop::<D>();
     let mut reply = Reply::new();
-    let is_stored = answer_store(line, file, &mut reply, output, archive, naming);
+    let outcome = answer_both(before, line, file, &mut reply, output, archive, naming);
     let _ = archive.abandon(0);
     let Ok(()) = reply.finish(output) else {
         return Err(SessionFault::WriteFailed);
     };
-    Ok(is_stored)
+    Ok(outcome)
+}
+
+// Answers the line that makes room, and then the one that begins a stream, with its file.
+fn answer_both<I: Input, O: Output, D: Disk>(
+    before: &[u8],
+    line: &[u8],
+    file: &mut I,
+    reply: &mut Reply,
+    output: &mut O,
+    archive: &mut Archive<D>,
+    naming: &Naming,
+) -> StoreOutcome
+    ensures { TellsReply (telling O.Output output.old output.new reply.old reply.new) (λ text. Stores D.Disk naming.now (I.remaining file.old) (I.remaining file.new) (I.failures file.old) (I.failures file.new)
+        archive.old before.now line.now text archive.new result) }
+{
+    let made_room = make_room(before, reply, output, archive);
+    let is_stored = answer_store(line, file, reply, output, archive, naming);
+    StoreOutcome {
+        made_room,
+        is_stored,
+    }
 }
 
 // Answers the line that begins a stream, and then its file. Says whether the case is stored.
@@ -72,7 +99,7 @@ fn answer_store<I: Input, O: Output, D: Disk>(
     archive: &mut Archive<D>,
     naming: &Naming,
 ) -> bool
-    ensures { TellsReply (telling O.Output output.old output.new reply.old reply.new) (λ text. Stores D.Disk naming.now (I.remaining file.old) (I.remaining file.new) (I.failures file.old) (I.failures file.new)
+    ensures { TellsReply (telling O.Output output.old output.new reply.old reply.new) (λ text. StoresStream D.Disk naming.now (I.remaining file.old) (I.remaining file.new) (I.failures file.old) (I.failures file.new)
         archive.old line.now text archive.new result) }
 {
     let is_begun = answer_first(line, reply, output, archive, naming);

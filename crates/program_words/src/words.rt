@@ -209,11 +209,17 @@ fn store_from<D: Disk + Drop, I: Input, O: Output>(
         disk,
         settings,
         stored.naming,
+        b"",
         stored.line,
         input,
         output,
     );
-    if ended? { Ok(()) } else { Err(Failure::Told) }
+    let outcome = ended?;
+    if outcome.made_room && outcome.is_stored {
+        Ok(())
+    } else {
+        Err(Failure::Told)
+    }
 }
 
 // How cores are named.

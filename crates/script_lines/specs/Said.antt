@@ -252,3 +252,15 @@ is_question list_all_cases = true
 is_question count_free = true
 is_question (inspect_of seq query) = true
 is_question _ = false
+
+-- The line retires cases, and so makes room for others.
+abbrev pub makes_room : Said → Bool
+makes_room (retire_by policy) = true
+makes_room _ = false
+
+-- The line shows what is in an archive, and changes nothing in it.
+abbrev pub only_looks : Said → Bool
+only_looks list_all_cases = true
+only_looks count_free = true
+only_looks (inspect_of seq query) = true
+only_looks _ = false

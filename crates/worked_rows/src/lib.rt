@@ -14,6 +14,8 @@ mod files;
 #[cfg(test)]
 mod openings;
 #[cfg(test)]
+mod rooms;
+#[cfg(test)]
 mod sessions;
 #[cfg(test)]
 mod space;
