@@ -22,11 +22,7 @@ pub(crate) struct Decided<'a> {
 pub(crate) fn span(segment: &Segment) -> u64
     ensures { result ≡ source.span (segment_view segment.now) }
 {
-    if segment.is_load() {
-        segment.memsz
-    } else {
-        0
-    }
+    if segment.is_load() { segment.memsz } else { 0 }
 }
 
 /// Whether `at` is one of the `size` addresses from `start` on.
