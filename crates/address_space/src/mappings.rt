@@ -3,7 +3,6 @@ ghost use Rattle.std.specs.Prelude.{◌≡◌, [], ◌∷◌, MatchOption, filte
 ghost use Rattle.elf_view.specs.SegmentWords.{segment_view, segments_left};
 ghost use Rattle.address_space.specs.Source as source;
 
-use crate::scan::PT_LOAD;
 use crate::source::FileSpot;
 use crate::space::AddressSpace;
 use elf_view::{Segment, Segments};
@@ -38,7 +37,7 @@ fn next_load<'a>(segments: &mut Segments<'a>) -> Option<Segment<'a>>
         ≡ segment_view s ∷ filter source.is_load (segments_left segments.new)) }
 {
     while let Some(segment) = segments.next() {
-        if segment.kind == PT_LOAD {
+        if segment.is_load() {
             return Some(segment);
         }
     }

@@ -11,9 +11,6 @@ ghost use Rattle.address_space.specs.ScanWords.{decided_view};
 use core_notes::{FileMap, FileMaps};
 use elf_view::{Segment, Segments};
 
-/// The p_type of a segment that is loaded.
-pub(crate) const PT_LOAD: u32 = 1;
-
 /// A segment with its number in the table.
 #[derive(Clone, Copy, Debug)]
 pub(crate) struct Decided<'a> {
@@ -25,11 +22,7 @@ pub(crate) struct Decided<'a> {
 pub(crate) fn span(segment: &Segment) -> u64
     ensures { result ≡ source.span (segment_view segment.now) }
 {
-    if segment.kind == PT_LOAD {
-        segment.memsz
-    } else {
-        0
-    }
+    if segment.is_load() { segment.memsz } else { 0 }
 }
 
 /// Whether `at` is one of the `size` addresses from `start` on.

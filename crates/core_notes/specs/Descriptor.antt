@@ -2,10 +2,9 @@
 -- auxiliary vector and siginfo (core(5); the kernel's elfcore, signal and auxvec headers).
 use Rattle.std.specs.Prelude.{ℕ, ◌+◌, ◌*◌, ◌/◌, ◌%◌, ◌==◌, ◌&&◌, ◌||◌, not, nat_lt, if◌then◌else◌, Bool, List, [], ◌∷◌, length, map, slice_index, Option, None, Some, ℤ, pos, negsuc}
 use Rattle.std.specs.Int.{cast_signed, w8, w16, w32}
-use Rattle.std.specs.List.{range_with_len, before_first}
+use Rattle.std.specs.List.{range_with_len}
 use Rattle.std.specs.Ordering.{int_eq}
-use Rattle.memchr.specs.Find.{is_byte}
-use Rattle.elf_view.specs.Field.{field, part}
+use Rattle.elf_view.specs.Field.{field, part, text_before_nul}
 use Rattle.core_notes.specs.declared.faults.NoteField.{NoteField}
 use Rattle.core_notes.specs.declared.faults.NoteField.TheVariants.{DescSize}
 use Rattle.core_notes.specs.declared.auxiliary.AuxvPair.{AuxvPair}
@@ -19,10 +18,6 @@ i16_field d p = cast_signed w16 (field d p 2)
 
 abbrev pub i32_field : List ℕ → ℕ → ℤ
 i32_field d p = cast_signed w32 (field d p 4)
-
--- a text ends before its first NUL, or at its size
-abbrev pub text_of : List ℕ → List ℕ
-text_of bytes = before_first (is_byte 0) bytes
 
 -- NT_PRSTATUS has 376 bytes
 abbrev pub status_fault : List ℕ → Option NoteField
@@ -97,10 +92,10 @@ abbrev pub process_sid : List ℕ → ℤ
 process_sid d = i32_field d 36
 
 abbrev pub pr_fname : List ℕ → List ℕ
-pr_fname d = text_of (part d 40 16)
+pr_fname d = text_before_nul (part d 40 16)
 
 abbrev pub pr_psargs : List ℕ → List ℕ
-pr_psargs d = text_of (part d 56 80)
+pr_psargs d = text_before_nul (part d 56 80)
 
 -- NT_AUXV is pairs of a type and a value, 16 bytes each
 abbrev pub auxv_fault : List ℕ → Option NoteField

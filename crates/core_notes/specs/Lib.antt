@@ -5,3 +5,4 @@ pub mod FileWords
 pub mod Typed
 pub mod NoteWords
 pub mod CoreWords
+pub mod FieldNames

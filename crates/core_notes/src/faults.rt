@@ -1,3 +1,7 @@
+// What is wrong with a descriptor.
+ghost use Rattle.std.specs.Prelude.{◌≡◌};
+ghost use Rattle.core_notes.specs.FieldNames as names;
+
 use thiserror::Error;
 
 /// What is wrong with a descriptor.
@@ -15,6 +19,20 @@ pub enum NoteField {
     /// An NT_FILE has fewer names than entries.
     #[error("FileNames")]
     FileNames,
+}
+
+impl NoteField {
+    /// Its name in this project's words: no standard has one for what is wrong with a descriptor.
+    pub fn name(self) -> &'static str
+        ensures { result.now ≡ names.note_field_name self }
+    {
+        match self {
+            NoteField::DescSize => "DescSize",
+            NoteField::FileCount => "FileCount",
+            NoteField::FileOffset => "FileOffset",
+            NoteField::FileNames => "FileNames",
+        }
+    }
 }
 
 /// The first faulty note among those that are looked at.

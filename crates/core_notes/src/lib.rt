@@ -9,7 +9,6 @@ mod file_list;
 mod first_notes;
 mod process_info;
 mod signal_info;
-mod texts;
 mod thread_state;
 
 pub use auxiliary::{Auxv, AuxvPair, AuxvPairs};

@@ -1,8 +1,7 @@
 // NT_PRPSINFO: a process's state and names.
 ghost use Rattle.std.specs.Prelude.{◌≡◌, ◌+◌, ◌*◌, ◌≤◌, ◌<◌, length, slice_index};
 
-use crate::texts::text_of;
-use elf_view::{part, u32_at, u64_at};
+use elf_view::{part, text_before_nul, u32_at, u64_at};
 
 /// The state and the names of a process (elf_prpsinfo).
 #[derive(Clone, Copy, Debug)]
@@ -103,13 +102,13 @@ impl<'a> PsInfo<'a> {
     pub fn pr_fname(&self) -> &'a [u8]
         ensures { result.now ≡ spec.pr_fname (psinfo_bytes self.now) }
     {
-        text_of(part(self.desc, 40, 16))
+        text_before_nul(part(self.desc, 40, 16))
     }
 
     /// The words of the command line, up to 80 bytes.
     pub fn pr_psargs(&self) -> &'a [u8]
         ensures { result.now ≡ spec.pr_psargs (psinfo_bytes self.now) }
     {
-        text_of(part(self.desc, 56, 80))
+        text_before_nul(part(self.desc, 56, 80))
     }
 }

@@ -1,12 +1,14 @@
 -- The first check that fails, over joined lists and over items.
-use Rattle.std.proofs.Common.{◌≡◌, ◌≤◌, ◌&&◌, not, ltb, ◌^◌, eqb, eq-eqb, length, ℕ, ◌+◌, List, [], ◌∷◌, ◌++◌, Bool, true, false, cond, Option, None, Some, refl, ap, ◌∙◌, sym}
+use Rattle.std.proofs.Common.{◌≡◌, ◌≤◌, ◌&&◌, not, ltb, ◌^◌, eqb, eq-eqb, length, ℕ, zero, suc, ◌+◌, List, [], ◌∷◌, ◌++◌, Bool, true, false, cond, Option, None, Some, refl, ap, subst, ◌∙◌, sym}
+use Rattle.std.proofs.lemmas.Option.{none-some, same_Some}
 use Rattle.std.specs.Option.{option_or, option_map}
-use Rattle.std.specs.Prelude.{is_none}
+use Rattle.std.specs.Prelude.{is_none, slice_get}
 use Rattle.std.specs.List.{list_all, AllByRecursion}
 use Rattle.std.proofs.lemmas.Bool.{false≢true, and_from, ltb-false, leb-true, not-false}
 use Rattle.elf_view.specs.Header.{SegmentView, segments_of}
 use Rattle.elf_view.specs.NoteList.{all_rests}
 use Rattle.elf_view.specs.Sound.{Check, first_failing, first_fault_among, first_fault, header_fault, segment_fault, note_fault, fault_at, next_index, note_checks, segment_checks, is_core, is_within, is_note_whole, AreNotesWhole, IsLoadable, IsSound}
+use Rattle.elf_view.proofs.Rows.{no_fault}
 use Rattle.elf_view.specs.declared.faults.Want.{Want}
 use Rattle.elf_view.specs.declared.faults.Want.TheVariants.{Core}
 use Rattle.elf_view.specs.declared.faults.ElfField.{ElfField}
@@ -62,7 +64,7 @@ notes_pass i (x ∷ xs) h =
 pub sound_notes : (b : List ℕ) → IsSound Core b → AreNotesWhole (all_rests (segments_of b))
 unfolding first_fault
 sound_notes b h =
-    let behind_header = (none_of_either (header_fault Core b) (option_or (segment_fault Core b) (note_fault Core b)) h).1 in
+    let behind_header = (none_of_either (header_fault Core b) (option_or (segment_fault Core b) (note_fault Core b)) (no_fault Core b h)).1 in
     notes_pass 0 (all_rests (segments_of b)) (none_of_either (segment_fault Core b) (note_fault Core b) behind_header).1
 
 -- a check that is passed, and those behind it
@@ -86,7 +88,7 @@ items_pass checks P meaning i (x ∷ xs) h =
 pub sound_segments : (want : Want) (b : List ℕ) → IsSound want b → is_none (segment_fault want b) ≡ true
 unfolding first_fault
 sound_segments want b h =
-    (none_of_either (segment_fault want b) (note_fault want b) (none_of_either (header_fault want b) (option_or (segment_fault want b) (note_fault want b)) h).1).0
+    (none_of_either (segment_fault want b) (note_fault want b) (none_of_either (header_fault want b) (option_or (segment_fault want b) (note_fault want b)) (no_fault want b h)).1).0
 
 loadable : (want : Want) (b : List ℕ) (s : SegmentView) → is_none (first_failing (segment_checks want b s)) ≡ true → s.kind ≡ 1 → IsLoadable s
 loadable want b s h kind =
@@ -115,3 +117,14 @@ note_within want b s core h kind =
 
 pub each_note_within : (b : List ℕ) → IsSound Core b → AllByRecursion (λ (s : SegmentView). s.kind ≡ 4 → s.offset + s.filesz ≤ length b) (segments_of b)
 each_note_within b h = items_pass (segment_checks Core b) (λ (s : SegmentView). s.kind ≡ 4 → s.offset + s.filesz ≤ length b) (λ s. note_within Core b s refl) 0 (segments_of b) (sound_segments Core b h)
+
+at_place : {A : Type 0} → (P : A → Type 0) (xs : List A) (i : ℕ) (x : A) → AllByRecursion P xs → slice_get xs i ≡ Some x → P x
+at_place P [] i x all is = absurd (none-some x is)
+at_place P (y ∷ ys) zero x all is = subst P (same_Some y x is) all.0
+at_place P (y ∷ ys) (suc i) x all is = at_place P ys i x all.1 is
+
+pub loadable_at : (want : Want) (b : List ℕ) (i : ℕ) (s : SegmentView) → IsSound want b → slice_get (segments_of b) i ≡ Some s → s.kind ≡ 1 → IsLoadable s
+loadable_at want b i s sound is = at_place (λ (s : SegmentView). s.kind ≡ 1 → IsLoadable s) (segments_of b) i s (each_loadable want b sound) is
+
+pub note_within_at : (b : List ℕ) (i : ℕ) (s : SegmentView) → IsSound Core b → slice_get (segments_of b) i ≡ Some s → s.kind ≡ 4 → s.offset + s.filesz ≤ length b
+note_within_at b i s sound is = at_place (λ (s : SegmentView). s.kind ≡ 4 → s.offset + s.filesz ≤ length b) (segments_of b) i s (each_note_within b sound) is

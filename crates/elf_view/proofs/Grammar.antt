@@ -1,8 +1,9 @@
 -- The notes in a segment's bytes are the one note list that the bytes spell.
-use Rattle.std.proofs.Common.{◌≡◌, ◌<◌, ◌≤◌, ℕ, zero, suc, ◌+◌, ◌-◌, ◌*◌, List, [], ◌∷◌, ◌++◌, length, map, take, drop, get_or, true, false, cond, eqb, refl, sym, ap, subst, ◌∙◌, inl, inr, min, eq-eqb, arith, lit≤}
+use Rattle.std.proofs.Common.{◌≡◌, ◌<◌, ◌≤◌, ℕ, Bool, zero, suc, ◌+◌, ◌-◌, ◌*◌, List, [], ◌∷◌, ◌++◌, length, map, take, drop, get_or, true, false, cond, eqb, refl, sym, ap, subst, ◌∙◌, inl, inr, min, eq-eqb, arith, lit≤}
 use Rattle.std.specs.List.{AllByRecursion, flat_map, list_all}
 use Rattle.std.proofs.lemmas.List.{append_assoc, length-take-le, length-append, length-take, length-drop, take-append-drop, take_at, drop_at, drop-drop, drop-take, take-take, drop_all, map-append, get_or-take, get_or_append_left}
-use Rattle.std.proofs.lemmas.Bool.{and_parts, and_from, cases_lt}
+use Rattle.std.proofs.lemmas.Bool.{and_parts, and_from, cases_lt, eqb-true}
+use Rattle.std.proofs.lemmas.List.Folds.{list_all-append}
 use Rattle.elf_view.specs.Field.{field, part}
 use Rattle.elf_view.specs.Header.{SegmentView}
 use Rattle.elf_view.specs.NoteList.{NoteView, padded, without_closing_nul, n_namesz, n_descsz, n_type, desc_at, note_len, note_at, rests_past, note_rests, notes_in, segment_rests, all_rests}
@@ -255,3 +256,14 @@ each_found [] whole = tt
 each_found (s ∷ segments) whole =
     let both = whole_of_both (segment_rests s) (all_rests segments) whole in
     (λ h. found s.bytes (subst AreNotesWhole (notes_of_kind s h) both.0), each_found segments both.1)
+
+rests_whole : (s : SegmentView) (t : Bool) → (t ≡ true → AreNotesWhole (note_rests s.bytes)) → AreNotesWhole (cond t (note_rests s.bytes) [])
+rests_whole s true h = h refl
+rests_whole s false h = refl
+
+-- segments whose bytes have a note list have notes that pass
+pub each_whole : (segments : List SegmentView) → AllByRecursion (λ (s : SegmentView). s.kind ≡ 4 → (notes : List NoteView) × IsNoteList s.bytes notes) segments → AreNotesWhole (all_rests segments)
+each_whole [] h = refl
+each_whole (s ∷ segments) h =
+    list_all-append is_note_whole (segment_rests s) (all_rests segments)
+    ∙ and_from _ _ (rests_whole s (eqb s.kind 4) (λ is. let list = h.0 (eqb-true s.kind 4 is) in (again s.bytes list.0 list.1).0)) (each_whole segments h.1)

@@ -1,5 +1,5 @@
 -- The file header, the program headers and their counts (System V gABI, "ELF Header" and "Program Header").
-use Rattle.std.specs.Prelude.{ℕ, ◌+◌, ◌*◌, ◌==◌, if◌then◌else◌, List, map}
+use Rattle.std.specs.Prelude.{ℕ, ◌+◌, ◌*◌, ◌==◌, ◌&&◌, nat_lt, nat_le, if◌then◌else◌, Bool, List, [], ◌∷◌, map}
 use Rattle.std.specs.List.{range_with_len}
 use Rattle.elf_view.specs.Field.{field, part}
 
@@ -64,6 +64,18 @@ segment_from b p = record {
   bytes = part b (field b (p + 8) 8) (field b (p + 32) 8);
 }
 
+-- a segment that lies in memory: PT_LOAD (1)
+abbrev pub is_load : SegmentView → Bool
+is_load s = s.kind == 1
+
+-- the address behind its last, p_vaddr + p_memsz, which may be 2^64
+abbrev pub memory_past : SegmentView → ℕ
+memory_past s = s.vaddr + s.memsz
+
+-- p_vaddr <= a < p_vaddr + p_memsz
+abbrev pub covers : ℕ → SegmentView → Bool
+covers a s = nat_le s.vaddr a && nat_lt a (memory_past s)
+
 -- program header i of the table, whose headers have 56 bytes each
 abbrev pub segment_at : List ℕ → ℕ → SegmentView
 segment_at b i = segment_from b (e_phoff b + 56 * i)
@@ -75,3 +87,17 @@ segments_between b i n = map (segment_at b) (range_with_len i n)
 -- the program headers, in table order
 abbrev pub segments_of : List ℕ → List SegmentView
 segments_of b = segments_between b 0 (segment_count b)
+
+-- a PT_LOAD with the number of its header
+pub record LoadView : Type 0 where
+  pub number : ℕ
+  pub segment : SegmentView
+
+-- the PT_LOADs among program headers, the first of which has number i
+unfoldable pub loads_from : ℕ → List SegmentView → List LoadView
+loads_from i [] = []
+loads_from i (s ∷ ss) = if is_load s then record { number = i; segment = s } ∷ loads_from (i + 1) ss else loads_from (i + 1) ss
+
+-- those of an image, in table order
+abbrev pub loads_of : List ℕ → List LoadView
+loads_of b = loads_from 0 (segments_of b)

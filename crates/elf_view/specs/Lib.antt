@@ -4,6 +4,8 @@ pub mod Sound
 pub mod NoteList
 pub mod SectionTable
 pub mod SegmentWords
+pub mod FieldNames
+pub mod LoadWords
 pub mod NoteWords
 pub mod SectionWords
 pub mod ViewWords

@@ -1,6 +1,6 @@
 -- When an image is accepted: a table of checks, tried in order, each with the field that it is about (System V gABI,
 -- "ELF Header", "Program Header", "Note Section"; the RISC-V ELF psABI; Linux's elfcore notes).
-use Rattle.std.specs.Prelude.{◌≡◌, ◌<◌, ◌≤◌, ℕ, ◌+◌, ◌-◌, ◌*◌, ◌^◌, ◌==◌, ◌&&◌, ◌||◌, not, nat_lt, nat_le, nat_eq, min, Bool, true, false, if◌then◌else◌, List, [], ◌∷◌, ◌++◌, length, slice_index, Option, None, Some, IsTrue, is_none}
+use Rattle.std.specs.Prelude.{◌≡◌, ◌<◌, ◌≤◌, ℕ, ◌+◌, ◌-◌, ◌*◌, ◌^◌, ◌==◌, ◌&&◌, ◌||◌, not, nat_lt, nat_le, nat_eq, min, Bool, true, false, if◌then◌else◌, List, [], ◌∷◌, ◌++◌, length, map, slice_index, slice_get, Option, None, Some, IsTrue, is_none}
 use Rattle.std.specs.Option.{option_or, option_map}
 use Rattle.std.specs.List.{starts_with, list_all}
 use Rattle.elf_view.specs.Header.{e_type, e_machine, e_version, e_phoff, e_shoff, e_phentsize, e_phnum, segment_count, SegmentView, segments_of}
@@ -108,9 +108,43 @@ note_fault Exec b = None
 unfoldable pub first_fault : Want → List ℕ → Option ElfFault
 first_fault want b = option_or (header_fault want b) (option_or (segment_fault want b) (note_fault want b))
 
--- no check fails
+-- A row of the table of checks: whether the check fails, and the fault that it then is.
+abbrev pub Row : Type 0
+Row = Bool × ElfFault
+
+abbrev pub row_of : ℕ → Check → Row
+row_of i check = (check.0, fault_at i check.1)
+
+abbrev pub passes : Row → Bool
+passes row = not row.0
+
+-- the rows of items, the first of which has number i
+unfoldable pub rows_among : {A : Type 0} → (A → List Check) → ℕ → List A → List Row
+rows_among checks i [] = []
+rows_among checks i (x ∷ xs) = map (row_of i) (checks x) ++ rows_among checks (next_index i) xs
+
+-- those of the notes, which an executable has none of
+abbrev pub note_rows : Want → List ℕ → List Row
+note_rows Core b = rows_among note_checks 0 (all_rests (segments_of b))
+note_rows Exec b = []
+
+-- The table: the rows of the header, of the program headers and of the notes.
+unfoldable pub table_rows : Want → List ℕ → List Row
+table_rows want b =
+    map (row_of 0) (header_checks want b) ++ (rows_among (segment_checks want b) 0 (segments_of b) ++ note_rows want b)
+
+-- Each row of the table passes.
 abbrev pub IsSound : Want → List ℕ → Type 0
-IsSound want b = IsTrue (is_none (first_fault want b))
+IsSound want b = IsTrue (list_all passes (table_rows want b))
+
+-- the row at a place of a table is this fault, and each row before it passes
+abbrev pub IsFirstFailing : List Row → ElfFault → ℕ → Type 0
+IsFirstFailing rows fault k =
+    (slice_get rows k ≡ Some (true, fault)) × ((j : ℕ) (row : Row) → j < k → slice_get rows j ≡ Some row → passes row ≡ true)
+
+-- a check passes
+abbrev pub is_passed : Check → Bool
+is_passed check = not check.0
 
 -- What the checks of the header leave to be relied on: the file header is there, at PN_XNUM section header 0 is, and
 -- so is the table of program headers.

@@ -14,9 +14,6 @@ use crate::program_headers::{PT_NOTE, Segment, Segments};
 /// e_phnum where the number of program headers stands in section header 0.
 const PN_XNUM: u16 = 0xffff;
 
-/// The p_type of a segment that lies in memory.
-const PT_LOAD: u32 = 1;
-
 /// The bytes of e_ident.
 fn check_ident(image: &[u8]) -> Result<(), ElfField>
     ensures fault { result_err result ≡ sound.first_failing (sound.ident_checks image.now) }
@@ -139,11 +136,11 @@ fn check_segment(image: &[u8], want: Want, segment: Segment<'_>) -> Result<(), E
     ensures { result_err result
         ≡ sound.first_failing (sound.segment_checks want image.now (segment_view segment.entry)) }
 {
-    let loads = segment.kind == PT_LOAD;
+    let loads = segment.is_load();
     if loads && segment.filesz > segment.memsz {
         return Err(ElfField::PFilesz);
     }
-    if loads && u128::from(segment.vaddr) + u128::from(segment.memsz) > 1 << 64 {
+    if loads && segment.past() > 1 << 64 {
         return Err(ElfField::PMemsz);
     }
     if want == Want::Core

@@ -1,3 +1,7 @@
+// What an image is read as, and why it is refused.
+ghost use Rattle.std.specs.Prelude.{◌≡◌};
+ghost use Rattle.elf_view.specs.FieldNames as names;
+
 use thiserror::Error;
 
 /// What an image is read as.
@@ -44,6 +48,46 @@ pub enum ElfField {
     NNamesz,
     /// A note's descriptor does not fit in its segment.
     NDescsz,
+}
+
+impl ElfField {
+    /// Its name in the System V gABI; `Length` and `Magic` have none there.
+    pub fn name(self) -> &'static str
+        ensures { result.now ≡ names.elf_field_name self }
+    {
+        match self {
+            ElfField::Length => "Length",
+            ElfField::Magic => "Magic",
+            ElfField::EiClass => "EI_CLASS",
+            ElfField::EiData => "EI_DATA",
+            ElfField::EiVersion => "EI_VERSION",
+            ElfField::EType => "e_type",
+            ElfField::EMachine => "e_machine",
+            ElfField::EVersion => "e_version",
+            ElfField::EPhentsize => "e_phentsize",
+            ElfField::EShoff => "e_shoff",
+            ElfField::EPhoff => "e_phoff",
+            ElfField::PFilesz => "p_filesz",
+            ElfField::PMemsz => "p_memsz",
+            ElfField::POffset => "p_offset",
+            ElfField::NNamesz => "n_namesz",
+            ElfField::NDescsz => "n_descsz",
+        }
+    }
+
+    /// Whether it is a field of a program header or of a note, of which there may be many.
+    pub fn has_index(self) -> bool
+        ensures { result ≡ names.has_index self }
+    {
+        matches!(
+            self,
+            ElfField::PFilesz
+                | ElfField::PMemsz
+                | ElfField::POffset
+                | ElfField::NNamesz
+                | ElfField::NDescsz
+        )
+    }
 }
 
 /// Why an image is refused: the first of its checks that fails.

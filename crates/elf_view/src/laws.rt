@@ -1,11 +1,13 @@
 // What the definitions that the contracts cite say together.
-ghost use Rattle.std.specs.Prelude.{◌≡◌, ◌+◌, ◌≤◌, ℕ, List, length};
-ghost use Rattle.std.specs.List.{AllByRecursion, flat_map};
+ghost use Rattle.std.specs.Prelude.{◌≡◌, ◌↔◌, ◌+◌, ◌≤◌, ℕ, List, IsTrue, None, Some, length, slice_get};
+ghost use Rattle.std.specs.List.{AllByRecursion, flat_map, list_all};
+ghost use Rattle.std.specs.List.Sorted.{IsPermutation};
 ghost use Rattle.elf_view.specs.Header.{SegmentView, segments_of};
 ghost use Rattle.elf_view.specs.NoteGrammar.{IsNoteList, segment_notes};
 ghost use Rattle.elf_view.specs.NoteList.{NoteView, note_rests, notes_in};
-ghost use Rattle.elf_view.specs.Sound.{AreNotesWhole, IsLoadable, IsSound};
+ghost use Rattle.elf_view.specs.Sound.{AreNotesWhole, IsFirstFailing, IsLoadable, IsSound, Row, first_fault, header_checks, is_passed, passes, segment_checks, table_rows};
 ghost use Rattle.elf_view.specs.ViewWords.{notes_of};
+ghost use Rattle.elf_view.specs.declared.faults.ElfFault.{ElfFault};
 ghost use Rattle.elf_view.specs.declared.faults.Want.{Want};
 
 use crate::faults::Want;
@@ -20,10 +22,40 @@ pub fn notes_are_the_grammar()
         → AreNotesWhole (note_rests bytes) × (notes_in bytes ≡ notes) }
 {}
 
+/// The fault of an image is that of a row of its table, and every row before it passes; and where there is such a row,
+/// its fault is the image's. It does nothing.
+pub fn the_fault_is_the_first()
+    ensures row { (want : Want) (b : List ℕ) (fault : ElfFault) → first_fault want b ≡ Some fault
+        → (k : ℕ) × IsFirstFailing (table_rows want b) fault k }
+    ensures only { (want : Want) (b : List ℕ) (fault : ElfFault) (k : ℕ) → IsFirstFailing (table_rows want b) fault k
+        → first_fault want b ≡ Some fault }
+{}
+
+/// An image is sound exactly where it has no fault, and in whatever order the rows of its table stand: only which fault
+/// is told hangs on the order. It does nothing.
+pub fn soundness_has_no_order()
+    ensures accepted { (want : Want) (b : List ℕ) → IsSound want b ↔ (first_fault want b ≡ None) }
+    ensures order { (want : Want) (b : List ℕ) (rows : List Row) → IsPermutation (table_rows want b) rows
+        → IsSound want b ↔ IsTrue (list_all passes rows) }
+{}
+
+/// A core is sound where its header and its program headers pass and the bytes of each PT_NOTE have a note list. It does
+/// nothing.
+pub fn note_lists_make_a_core_sound()
+    ensures { (b : List ℕ) → IsTrue (list_all is_passed (header_checks Want.Core b))
+        → AllByRecursion (λ (s : SegmentView). IsTrue (list_all is_passed (segment_checks Want.Core b s))) (segments_of b)
+        → AllByRecursion (λ (s : SegmentView). s.kind ≡ 4 → (notes : List NoteView) × IsNoteList s.bytes notes) (segments_of b)
+        → IsSound Want.Core b }
+{}
+
 /// What the program headers of an accepted image keep to. It does nothing.
 pub fn accepted_segments_fit()
     ensures loads { (want : Want) (b : List ℕ) → IsSound want b
         → AllByRecursion (λ (s : SegmentView). s.kind ≡ 1 → IsLoadable s) (segments_of b) }
     ensures notes { (b : List ℕ) → IsSound Want.Core b
         → AllByRecursion (λ (s : SegmentView). s.kind ≡ 4 → s.offset + s.filesz ≤ length b) (segments_of b) }
+    ensures load_at { (want : Want) (b : List ℕ) (i : ℕ) (s : SegmentView) → IsSound want b
+        → slice_get (segments_of b) i ≡ Some s → s.kind ≡ 1 → IsLoadable s }
+    ensures note_at { (b : List ℕ) (i : ℕ) (s : SegmentView) → IsSound Want.Core b
+        → slice_get (segments_of b) i ≡ Some s → s.kind ≡ 4 → s.offset + s.filesz ≤ length b }
 {}

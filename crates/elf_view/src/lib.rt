@@ -7,6 +7,7 @@
 mod checks;
 mod faults;
 mod laws;
+mod loads;
 mod note_lists;
 mod numbers;
 mod program_headers;
@@ -15,9 +16,13 @@ mod sections;
 mod view;
 
 pub use faults::{ElfFault, ElfField, SectionFault, Want};
-pub use laws::{accepted_segments_fit, notes_are_the_grammar};
+pub use laws::{
+    accepted_segments_fit, note_lists_make_a_core_sound, notes_are_the_grammar,
+    soundness_has_no_order, the_fault_is_the_first,
+};
+pub use loads::{Load, Loads};
 pub use note_lists::{Note, Notes};
-pub use numbers::{part, u16_at, u32_at, u64_at};
+pub use numbers::{part, text_before_nul, u16_at, u32_at, u64_at};
 pub use program_headers::{Segment, Segments};
 pub use sections::Section;
 pub use view::{Elf, Header};

@@ -3,6 +3,7 @@ ghost use Rattle.std.specs.Prelude.{◌≡◌, ◌+◌, ◌≤◌, ◌^◌, ◌<
 ghost use Rattle.elf_view.specs.Field as spec;
 
 use byteorder::{ByteOrder, LittleEndian};
+use memchr::memchr;
 
 /// The little-endian number in the two bytes from place `at` on.
 
@@ -40,4 +41,14 @@ pub fn part(bytes: &[u8], at: u64, size: u64) -> &[u8]
     let rest = &bytes[start..];
     let end = size.min(rest.len() as u64) as usize;
     &rest[..end]
+}
+
+/// The bytes before the first NUL, or all of them where there is none.
+pub fn text_before_nul(bytes: &[u8]) -> &[u8]
+    ensures { result.now ≡ spec.text_before_nul bytes.now }
+{
+    match memchr(0, bytes) {
+        Some(end) => &bytes[..end],
+        None => bytes,
+    }
 }

@@ -5,6 +5,9 @@ ghost use Rattle.elf_view.specs.Header as spec;
 
 use crate::numbers::{part, u32_at, u64_at};
 
+/// The p_type of a segment that lies in memory.
+const PT_LOAD: u32 = 1;
+
 /// The p_type of a segment of notes.
 pub(crate) const PT_NOTE: u32 = 4;
 
@@ -58,6 +61,27 @@ impl<'a> Segment<'a> {
             memsz: u64_at(image, at + 40),
             bytes: part(image, offset, filesz),
         }
+    }
+
+    /// Whether it lies in memory: it is a PT_LOAD.
+    pub fn is_load(&self) -> bool
+        ensures { result ≡ spec.is_load (segment_view self.now) }
+    {
+        self.kind == PT_LOAD
+    }
+
+    /// The address behind its last in memory, p_vaddr + p_memsz. That of a PT_LOAD of an accepted image is at most 2^64.
+    pub fn past(&self) -> u128
+        ensures { result ≡ spec.memory_past (segment_view self.now) }
+    {
+        u128::from(self.vaddr) + u128::from(self.memsz)
+    }
+
+    /// Whether p_vaddr <= `address` < p_vaddr + p_memsz.
+    pub fn covers(&self, address: u64) -> bool
+        ensures { result ≡ spec.covers address (segment_view self.now) }
+    {
+        self.vaddr <= address && u128::from(address) < self.past()
     }
 
     /// The bytes in which its notes stand: none where it is no PT_NOTE.

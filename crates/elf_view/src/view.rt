@@ -6,6 +6,7 @@ ghost use Rattle.elf_view.specs.Sound as sound;
 
 use crate::checks::{check, segment_count};
 use crate::faults::{ElfFault, SectionFault, Want};
+use crate::loads::Loads;
 use crate::note_lists::Notes;
 use crate::numbers::{u16_at, u32_at, u64_at};
 use crate::program_headers::{Segment, Segments};
@@ -31,12 +32,13 @@ pub struct Elf<'a> {
     want: Want,
     /// The headers are there.
     pub ghost whole: { sound.IsHeaderWhole image.now },
-    /// No check fails.
+    /// Each of its checks passes.
     pub ghost sound: { sound.IsSound want image.now },
 }
 
 impl<'a> Elf<'a> {
-    ghost use Rattle.elf_view.specs.Header.{segments_of};
+    ghost use Rattle.elf_view.specs.Header.{segments_of, loads_of};
+    ghost use Rattle.elf_view.specs.LoadWords.{loads_left};
     ghost use Rattle.elf_view.specs.SegmentWords.{segment_view, segments_left};
     ghost use Rattle.elf_view.specs.NoteWords.{notes_left};
     ghost use Rattle.elf_view.specs.SectionTable.{section_count_of, section_of};
@@ -88,6 +90,14 @@ impl<'a> Elf<'a> {
         ensures few { length (segments_left result) < 2 ^ 32 }
     {
         Segments::new(self.image, 0, segment_count(self.image))
+    }
+
+    /// The PT_LOADs, with the numbers of their program headers, in table order.
+    #[tactic(auto, unfolding(crate::specs::LoadWords::loads_left))]
+    pub fn loads(&self) -> Loads<'a>
+        ensures { loads_left result ≡ loads_of (image_of self.now) }
+    {
+        Loads::new(self.segments())
     }
 
     /// The notes of all PT_NOTE segments of a core, in table order. An executable has none here.

@@ -1,29 +1,20 @@
 -- The function of an executable that an address belongs to.
-use Rattle.std.specs.Prelude.{ℕ, List, [], ◌∷◌, ◌++◌, Option, None, Some, Result, Ok, Err, codes}
+use Rattle.std.specs.Prelude.{ℕ, List, [], ◌∷◌, ◌++◌, Option, None, Some, Result, Ok, Err, codes, if◌then◌else◌}
 use Rattle.std.specs.Option.{option_map, option_or}
 use Rattle.script_words.specs.Printing.{shown, hexadecimal}
 use Rattle.elf_view.specs.Sound.{first_fault}
 use Rattle.elf_view.specs.declared.faults.Want.TheVariants.{Exec}
+use Rattle.symbols.specs.FieldNames.{symbol_field_name, has_index}
 use Rattle.symbols.specs.Names.{SymbolView, symbol_in}
 use Rattle.symbols.specs.SymbolTable as table
 use Rattle.symbols.specs.declared.faults.SymbolFault.{SymbolFault}
-use Rattle.symbols.specs.declared.faults.SymbolField.{SymbolField}
-use Rattle.symbols.specs.declared.faults.SymbolField.TheVariants.{EShentsize, EShoff, ShEntsize, ShSize, ShOffset, ShLink, StName}
 use Rattle.image_replies.specs.Reasons.{elf_reason, indexed}
 use Rattle.memory_replies.specs.Words.{hex_word}
 
 -- a fault of the file header, by the field's name; one of a section or a symbol, by its number too
-abbrev pub reason_at : SymbolField → ℕ → List ℕ
-reason_at EShentsize i = codes "e_shentsize"
-reason_at EShoff i = codes "e_shoff"
-reason_at ShEntsize i = indexed (codes "sh_entsize") i
-reason_at ShSize i = indexed (codes "sh_size") i
-reason_at ShOffset i = indexed (codes "sh_offset") i
-reason_at ShLink i = indexed (codes "sh_link") i
-reason_at StName i = indexed (codes "st_name") i
-
 abbrev pub symbol_reason : SymbolFault → List ℕ
-symbol_reason fault = reason_at fault.«field» fault.index
+symbol_reason fault =
+    if has_index fault.«field» then indexed (symbol_field_name fault.«field») fault.index else symbol_field_name fault.«field»
 
 -- the first fault of an executable's headers, or else of its symbol table, as it is told
 unfoldable pub executable_fault : List ℕ → Option (List ℕ)

@@ -12,7 +12,7 @@ use elf_view::{Elf, Want};
 use image_replies::tell_elf_fault;
 use script_streams::{Output, Reply, tell_no, tell_ok};
 use std::alloc::Global;
-use symbols::{Symbol, SymbolError, SymbolFault, SymbolField, Symbols};
+use symbols::{Symbol, SymbolError, SymbolFault, Symbols};
 
 /// Tells `no`, the name of a field and a number.
 fn tell_indexed<O: Output>(reply: &mut Reply, output: &mut O, name: &[u8], index: u64)
@@ -29,14 +29,11 @@ fn tell_indexed<O: Output>(reply: &mut Reply, output: &mut O, name: &[u8], index
 fn tell_symbol_fault<O: Output>(reply: &mut Reply, output: &mut O, fault: SymbolFault)
     ensures { TellsText (telling O.Output output.old output.new reply.old reply.new) (no_reply (spec.symbol_reason fault)) }
 {
-    match fault.field {
-        SymbolField::EShentsize => tell_no(reply, output, b"e_shentsize"),
-        SymbolField::EShoff => tell_no(reply, output, b"e_shoff"),
-        SymbolField::ShEntsize => tell_indexed(reply, output, b"sh_entsize", fault.index),
-        SymbolField::ShSize => tell_indexed(reply, output, b"sh_size", fault.index),
-        SymbolField::ShOffset => tell_indexed(reply, output, b"sh_offset", fault.index),
-        SymbolField::ShLink => tell_indexed(reply, output, b"sh_link", fault.index),
-        SymbolField::StName => tell_indexed(reply, output, b"st_name", fault.index),
+    let name = fault.field.name().as_bytes();
+    if fault.field.has_index() {
+        tell_indexed(reply, output, name, fault.index);
+    } else {
+        tell_no(reply, output, name);
     }
 }
 

@@ -1,13 +1,11 @@
 -- Where the names of a string table end.
 use Rattle.std.proofs.Common.{◌≡◌, ◌<◌, ◌≤◌, ◌+◌, ◌-◌, ℕ, Bool, true, false, List, Some, None, length, get_or, take, drop, min, leb, refl, sym, ap, ⊎_elim, ◌∙◌, arith}
-use Rattle.std.specs.List.{position_or_len, before_first}
 use Rattle.std.proofs.lemmas.Bool.{le-leb, lt-leb, cases_lt}
 use Rattle.std.proofs.lemmas.List.{get_or-drop, length-drop, take_all, drop_all}
 use Rattle.std.proofs.lemmas.List.Elements.{All-from_get_or}
 use Rattle.std.proofs.lemmas.List.Folds.{list_any_at, list_any_none}
-use Rattle.std.proofs.lemmas.List.Sums.{position_or_len_is}
-use Rattle.memchr.specs.Find.{IsFirstByte, IsLastByte, is_byte}
-use Rattle.symbols.specs.SymbolTable.{ends_in_nul, name_at}
+use Rattle.memchr.specs.Find.{IsLastByte, is_byte}
+use Rattle.symbols.specs.SymbolTable.{ends_in_nul}
 
 not_yet : (t : Bool) → (t ≡ true → ⊥) → t ≡ false
 not_yet true h = absurd (h refl)
@@ -39,15 +37,8 @@ last_decides s place last h =
     (λ behind. le-leb place last behind ∙ sym (ended s place last h behind))
     (cases_lt last place)
 
--- the place that was found, and none found
-found_at : (xs : List ℕ) (k : ℕ) → IsFirstByte (is_byte 0) xs (Some k) → position_or_len (is_byte 0) xs ≡ k
-found_at xs k h = position_or_len_is (is_byte 0) xs k 0 (omega (arith, h.0.high)) (λ i lt. not_yet _ (h.0.before i (omega arith) lt)) (λ lt. h.1)
-
-found_none : (xs : List ℕ) → IsFirstByte (is_byte 0) xs None → position_or_len (is_byte 0) xs ≡ length xs
-found_none xs h = position_or_len_is (is_byte 0) xs (length xs) 0 (omega arith) (λ i lt. not_yet _ (h i (omega arith) lt)) (λ lt. absurd (omega arith))
-
 -- the bytes from a place on, which may be past the end
-from_place : (s : List ℕ) (place start : ℕ) → start ≡ min place (length s) → take (length s - start) (drop start s) ≡ drop place s
+pub from_place : (s : List ℕ) (place start : ℕ) → start ≡ min place (length s) → take (length s - start) (drop start s) ≡ drop place s
 from_place s place start is =
     take_all (length s - start) (drop start s) (omega (arith, length-drop start s))
     ∙ ⊎_elim
@@ -57,14 +48,3 @@ from_place s place start is =
     (λ within.
     let same : start ≡ place = omega arith in ap (λ n. drop n s) same)
     (cases_lt (length s) place)
-
--- a name is the bytes before the first NUL, and all of them where there is none
-pub name_found : (s : List ℕ) (place start end : ℕ) → start ≡ min place (length s) → IsFirstByte (is_byte 0) (take (length s - start) (drop start s)) (Some end) → take end (take (length s - start) (drop start s)) ≡ name_at s place
-name_found s place start end is h =
-    let rest = take (length s - start) (drop start s) in
-    ap (λ n. take n rest) (sym (found_at rest end h)) ∙ ap (before_first (is_byte 0)) (from_place s place start is)
-
-pub name_open : (s : List ℕ) (place start : ℕ) → start ≡ min place (length s) → IsFirstByte (is_byte 0) (take (length s - start) (drop start s)) None → take (length s - start) (drop start s) ≡ name_at s place
-name_open s place start is h =
-    let rest = take (length s - start) (drop start s) in
-    sym (take_all (length rest) rest (omega arith)) ∙ ap (λ n. take n rest) (sym (found_none rest h)) ∙ ap (before_first (is_byte 0)) (from_place s place start is)

@@ -6,3 +6,4 @@ pub mod FunctionWords
 pub mod Names
 pub mod SymbolWords
 pub mod Offsets
+pub mod FieldNames

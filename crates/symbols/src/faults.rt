@@ -1,4 +1,5 @@
 ghost use Rattle.std.specs.Prelude.{◌≡◌};
+ghost use Rattle.symbols.specs.FieldNames as names;
 ghost use Rattle.symbols.specs.declared.faults.SymbolError.TheVariants as errors;
 
 use std::alloc::AllocError;
@@ -28,6 +29,30 @@ pub enum SymbolField {
     /// No NUL stands at or behind the place in the string table where a function's name begins.
     #[error("st_name")]
     StName,
+}
+
+impl SymbolField {
+    /// Its name in the System V gABI.
+    pub fn name(self) -> &'static str
+        ensures { result.now ≡ names.symbol_field_name self }
+    {
+        match self {
+            SymbolField::EShentsize => "e_shentsize",
+            SymbolField::EShoff => "e_shoff",
+            SymbolField::ShEntsize => "sh_entsize",
+            SymbolField::ShSize => "sh_size",
+            SymbolField::ShOffset => "sh_offset",
+            SymbolField::ShLink => "sh_link",
+            SymbolField::StName => "st_name",
+        }
+    }
+
+    /// Whether it is a field of a section header or of a symbol, of which there may be many.
+    pub fn has_index(self) -> bool
+        ensures { result ≡ names.has_index self }
+    {
+        !matches!(self, SymbolField::EShentsize | SymbolField::EShoff)
+    }
 }
 
 /// The first fault of a symbol table.

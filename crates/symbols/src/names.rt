@@ -14,8 +14,7 @@ use crate::faults::SymbolError;
 use crate::functions::Function;
 use crate::sorted::{greatest_ends, sorted};
 use crate::tables::symbol_table;
-use elf_view::Elf;
-use memchr::memchr;
+use elf_view::{Elf, text_before_nul};
 use std::alloc::Global;
 
 /// A function of an image.
@@ -49,11 +48,7 @@ fn name_at(strings: &[u8], place: u32) -> &[u8]
     ensures { result.now ≡ spec.name_at strings.now place }
 {
     let start = (place as usize).min(strings.len());
-    let rest = &strings[start..];
-    match memchr(0, rest) {
-        Some(end) => &rest[..end],
-        None => rest,
-    }
+    text_before_nul(&strings[start..])
 }
 
 impl<'a> Symbols<'a> {

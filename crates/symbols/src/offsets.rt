@@ -6,14 +6,11 @@ ghost use Rattle.symbols.specs.Offsets as spec;
 
 use elf_view::{Elf, Segment};
 
-/// The p_type of a segment that lies in memory.
-const PT_LOAD: u32 = 1;
-
 /// Whether a segment is loaded and its bytes in the file have one at an offset.
 fn has_offset(segment: &Segment<'_>, offset: u64) -> bool
     ensures { result ≡ spec.has_offset offset (segment_view segment.now) }
 {
-    if segment.kind != PT_LOAD || offset < segment.offset {
+    if !segment.is_load() || offset < segment.offset {
         return false;
     }
     offset - segment.offset < segment.filesz

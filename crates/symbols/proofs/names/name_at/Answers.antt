@@ -1,9 +1,7 @@
-use Rattle.symbols.proofs.StringEnds.{name_found, name_open}
+use Rattle.std.proofs.Common.{◌∙◌, ap}
+use Rattle.elf_view.specs.Field.{text_before_nul}
+use Rattle.symbols.proofs.StringEnds.{from_place}
 use Rattle.symbols.proofs.names.name_at.Goals as goal
 
-pub returns-in-Some : goal.returns-in-Some
-returns-in-Some c =
-    name_found c.args.strings.now c.args.place c.min-start.result c.in-Some.end c.min-start.ensures c.in-Some.ensures
-
-pub returns-in-None : goal.returns-in-None
-returns-in-None c = name_open c.args.strings.now c.args.place c.min-start.result c.min-start.ensures c.in-None.ensures
+pub returns : goal.returns
+returns c = c.text_before_nul.ensures ∙ ap text_before_nul (from_place c.args.strings.now c.args.place c.min-start.result c.min-start.ensures)

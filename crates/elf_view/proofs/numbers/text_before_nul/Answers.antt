@@ -1,5 +1,5 @@
-use Rattle.core_notes.proofs.NulPlaces.{before_found, before_none}
-use Rattle.core_notes.proofs.texts.text_of.Goals as goal
+use Rattle.elf_view.proofs.NulPlaces.{before_found, before_none}
+use Rattle.elf_view.proofs.numbers.text_before_nul.Goals as goal
 
 pub returns-in-Some : goal.returns-in-Some
 returns-in-Some c = before_found 0 c.args.bytes.now c.in-Some.end c.in-Some.ensures
