@@ -68,7 +68,8 @@ impl From<io::Error> for FileFault {
 
 /// A disk in a file, of the length that the file has when it is made or opened. As long as it is there it holds the file's
 /// advisory lock (flock(2)), so that no two disks change one file at a time: a second one, of another process or of the
-/// same, is refused as `Busy`. A process that ends in any way holds no lock.
+/// same, is refused as `Busy`. Disks for reading alone share a lock with one another. A process that ends in any way holds
+/// no lock.
 ///
 /// Nothing is promised of its bytes, or of what a crash leaves of them: it is not honest by proof, so what else is
 /// proved over a disk holds of it where the file system keeps to the disk model.
@@ -115,16 +116,33 @@ impl FileDisk {
     /// Opens a file that is there. It never waits: where another has the file's lock, it answers `Busy`.
     pub fn open<R: Files<File = File>>(rt: &R, path: &str) -> Result<FileDisk, FileFault> {
         let file = File::options().read(true).write(true).open(rt, path)?;
-        take_lock(&file)?;
+        asked_for(file.try_lock())?;
         FileDisk::from_locked(file)
     }
 
-    /// A disk in a file that is open for reading and writing, and whose lock the caller has taken.
+    /// Opens a file that is there for reading alone, which needs no right to write. It shares the file's lock with others
+    /// that read, so none of them waits for another, and nobody changes the file meanwhile. Its writes answer `Write`; its
+    /// syncs are the file's. It never waits: where another may change the file, it answers `Busy`.
+    pub fn open_for_reading<R: Files<File = File>>(
+        rt: &R,
+        path: &str,
+    ) -> Result<FileDisk, FileFault> {
+        let file = File::open(rt, path)?;
+        asked_for(file.try_lock_shared())?;
+        FileDisk::from_locked(file)
+    }
+
+    /// A disk in a file that is open for reading and writing, and whose lock the caller has taken; or one for reading
+    /// alone in a file that is open for reading, and whose lock the caller shares. A folder, which may be opened for
+    /// reading, is refused as `Folder`.
     pub fn from_locked(file: File) -> Result<FileDisk, FileFault> {
-        let length = file.metadata().map_err(|_| FileFault::Length)?.len();
+        let metadata = file.metadata().map_err(|_| FileFault::Length)?;
+        if metadata.is_dir() {
+            return Err(FileFault::Folder);
+        }
         Ok(FileDisk {
             file,
-            length,
+            length: metadata.len(),
             failures: 0,
         })
     }
@@ -153,7 +171,7 @@ fn made<R: Files<File = File>>(rt: &R, path: &str, length: u64) -> Result<FileDi
         .create_new(true)
         .mode(OWNER_ALONE)
         .open(rt, path)?;
-    take_lock(&file)?;
+    asked_for(file.try_lock())?;
     // The mode that a file is made with loses what the process masks.
     file.set_permissions(Permissions::from_mode(OWNER_ALONE))
         .map_err(|_| FileFault::Length)?;
@@ -165,9 +183,9 @@ fn made<R: Files<File = File>>(rt: &R, path: &str, length: u64) -> Result<FileDi
     })
 }
 
-// Takes the file's lock, or answers that another has it.
-fn take_lock(file: &File) -> Result<(), FileFault> {
-    match file.try_lock() {
+// What came of asking for a file's lock: that another has it, or that it has none here.
+fn asked_for(tried: Result<(), TryLockError>) -> Result<(), FileFault> {
+    match tried {
         Ok(()) => Ok(()),
         Err(TryLockError::WouldBlock) => Err(FileFault::Busy),
         Err(TryLockError::Error(_)) => Err(FileFault::Lock),

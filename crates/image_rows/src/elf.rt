@@ -114,6 +114,25 @@ fn has_header(rt: &impl Abort, elf: &Elf<'_>, kind: u16, segments: u64) {
     assert_eq!(rt; elf.header(), header);
 }
 
+/// The stack alone is loaded, by the second program header, from 0x7000 to before 0x8000.
+fn has_the_stack_loaded(rt: &impl Abort, elf: &Elf<'_>) -> Result<(), Fail> {
+    let mut loads = elf.loads();
+    let stack = loads.next().ok_or("no PT_LOAD")?;
+    let segment = stack.segment;
+    assert_eq!(rt; (stack.number, segment.past()), (1, 0x8000));
+    assert_eq!(rt;
+        [
+            segment.covers(0x6fff),
+            segment.covers(0x7000),
+            segment.covers(0x7fff),
+            segment.covers(0x8000)
+        ],
+        [false, true, true, false]
+    );
+    assert!(rt; loads.next().is_none());
+    Ok(())
+}
+
 /// The sample stack's core.
 fn shows_the_stack(rt: &impl Abort, image: &[u8]) -> Result<(), Fail> {
     let elf = Elf::read(image, Want::Core).ok().ok_or("refused")?;
@@ -122,6 +141,7 @@ fn shows_the_stack(rt: &impl Abort, image: &[u8]) -> Result<(), Fail> {
     let stack = [1, 6, 0x2d8, 0x7000, 0x1000, 0x1000];
     has_segments(rt, &elf, [[4, 0, 0xb0, 0, 0x228, 0], stack])?;
     has_second(rt, &elf, stack);
+    has_the_stack_loaded(rt, &elf)?;
     has_notes(rt, &elf)
 }
 

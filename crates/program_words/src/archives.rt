@@ -11,6 +11,13 @@ use std::fs::{File, TryLockError};
 use std::os::unix::fs::MetadataExt;
 use std::rt::Files;
 
+// What is done to an archive: what only looks needs no right to write its file, and shares its lock.
+#[derive(Clone, Copy, Debug, PartialEq, Eq)]
+pub(crate) enum Access {
+    Looking,
+    Changing,
+}
+
 // How often a file is opened anew that is no longer the one of its path.
 const MOST_TRIES: u32 = 1_000_000;
 
@@ -32,20 +39,26 @@ pub(crate) fn make_archive<R: Files<File = File>>(
     Ok(())
 }
 
-// Takes the disk of an archive in a file. This alone waits: for the file's lock, as long as another process has it.
+// Takes the disk of an archive in a file. This alone waits: for the file's lock, as long as another process has it, or, of
+// what only looks, as long as another changes the archive.
 pub(crate) fn take_disk<R: Files<File = File>>(
     rt: &R,
     place: Place<'_>,
+    access: Access,
 ) -> Result<FileDisk, Refusal> {
-    let taken = take_file(rt, place).and_then(FileDisk::from_locked);
+    let taken = take_file(rt, place, access).and_then(FileDisk::from_locked);
     taken.map_err(|fault| Refusal::File(Word::Archive, fault))
 }
 
 // Opens the file and takes its lock. While it waited, another file may have been put in its place: then it begins again.
-fn take_file<R: Files<File = File>>(rt: &R, place: Place<'_>) -> Result<File, FileFault> {
+fn take_file<R: Files<File = File>>(
+    rt: &R,
+    place: Place<'_>,
+    access: Access,
+) -> Result<File, FileFault> {
     for _ in 0..MOST_TRIES {
-        let file = File::options().read(true).write(true).open(rt, place.path)?;
-        lock(&file, place.waits)?;
+        let file = open_file(rt, place.path, access)?;
+        lock(&file, place.waits, access)?;
         if is_named(rt, place.path, &file)? {
             return Ok(file);
         }
@@ -53,15 +66,33 @@ fn take_file<R: Files<File = File>>(rt: &R, place: Place<'_>) -> Result<File, Fi
     Err(FileFault::Busy)
 }
 
-fn lock(file: &File, waits: bool) -> Result<(), FileFault> {
+fn open_file<R: Files<File = File>>(rt: &R, path: &str, access: Access) -> Result<File, FileFault> {
+    let mut options = File::options();
+    options.read(true).write(access == Access::Changing);
+    Ok(options.open(rt, path)?)
+}
+
+fn lock(file: &File, waits: bool, access: Access) -> Result<(), FileFault> {
     if waits {
-        return file.lock().map_err(|_| FileFault::Lock);
+        return wait_for_lock(file, access);
     }
-    match file.try_lock() {
+    let tried = match access {
+        Access::Looking => file.try_lock_shared(),
+        Access::Changing => file.try_lock(),
+    };
+    match tried {
         Ok(()) => Ok(()),
         Err(TryLockError::WouldBlock) => Err(FileFault::Busy),
         Err(TryLockError::Error(_)) => Err(FileFault::Lock),
     }
+}
+
+fn wait_for_lock(file: &File, access: Access) -> Result<(), FileFault> {
+    let locked = match access {
+        Access::Looking => file.lock_shared(),
+        Access::Changing => file.lock(),
+    };
+    locked.map_err(|_| FileFault::Lock)
 }
 
 // Whether the path still names the file.

@@ -3,7 +3,9 @@ use crate::failures::{Failure, Refusal};
 use crate::grammar::program;
 use crate::raw_words::{is_text, push_escaped};
 use clap::ArgMatches;
+use inspector_cli::makes_room;
 use journal_layout::Shape;
+use script_words::parse_number;
 use std::alloc::{AllocError, Global};
 
 // What the program is asked to do. Files are named by their paths.
@@ -25,11 +27,11 @@ pub(crate) enum Asked<'a> {
         shape: Shape,
         settings: SessionWords<'a>,
     },
-    // A file as a case of an archive; its stream begins by this line.
+    // A file as a case of an archive.
     Store {
         archive: Place<'a>,
         file: &'a str,
-        line: Vec<u8>,
+        lines: StoreLines,
         settings: SessionWords<'a>,
     },
     // The image of a case, in a new file or on the output.
@@ -45,6 +47,15 @@ pub(crate) enum Asked<'a> {
     },
     // Nothing.
     Nothing,
+}
+
+// The lines of a script by which something is stored.
+#[derive(Drop)]
+pub(crate) struct StoreLines {
+    // The line that makes room first, which is empty where none is asked for.
+    pub(crate) room: Vec<u8>,
+    // The line that begins the stream.
+    pub(crate) begin: Vec<u8>,
 }
 
 // The file of an archive, and whether to wait for it where another process has it.
@@ -83,7 +94,10 @@ pub(crate) fn read_words<'a>(alloc: Global, words: &'a [String]) -> Result<Asked
         Some(("store", found)) => Ok(Asked::Store {
             archive: place_of(found)?,
             file: text_of(found, "file")?,
-            line: first_line(alloc, found)?,
+            lines: StoreLines {
+                room: room_line(alloc, found)?,
+                begin: first_line(alloc, found)?,
+            },
             settings: settings_of(found)?,
         }),
         Some(("extract", found)) => Ok(Asked::Extract {
@@ -149,6 +163,38 @@ fn first_line(alloc: Global, found: &ArgMatches<'_>) -> Result<Vec<u8>, Refusal>
         Some(name) if pairs.is_empty() => exec_line(alloc, name, escapes),
         Some(_) => Err(Refusal::BadLine),
     }
+}
+
+// The line of a script that makes room, of the limits that are there; empty where there is none.
+fn room_line(alloc: Global, found: &ArgMatches<'_>) -> Result<Vec<u8>, Refusal> {
+    let mut limits = Vec::new(alloc);
+    for key in ["keep", "bytes", "before"] {
+        if let Some(number) = found.get_str(key) {
+            push_limit(&mut limits, key, number)?;
+        }
+    }
+    if limits.is_empty() {
+        return Ok(limits);
+    }
+    let mut line = b"retire".to_vec(alloc)?;
+    line.extend_from_slice(&limits)?;
+    if makes_room(&line) {
+        Ok(line)
+    } else {
+        Err(Refusal::BadLine)
+    }
+}
+
+// Adds a limit, whose number is as a script has it.
+fn push_limit(line: &mut Vec<u8>, key: &str, number: &str) -> Result<(), Refusal> {
+    if parse_number(number.as_bytes()).is_none() {
+        return Err(Refusal::BadLine);
+    }
+    push_text(line, " ")?;
+    push_text(line, key)?;
+    push_text(line, "=")?;
+    push_text(line, number)?;
+    Ok(())
 }
 
 // The line of a script that these words are.

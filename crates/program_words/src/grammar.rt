@@ -42,12 +42,19 @@ fn argument<'a>(alloc: Global, word: &Word) -> Arg<'a> {
     let argument = Arg::new(alloc, word.id).help(word.help);
     match word.takes {
         Takes::Flag => argument.long(word.id).action(ArgAction::SetTrue),
-        Takes::Words => several(argument.value_name(word.shown)).num_args(1..).required(true),
+        Takes::Words => several(argument.value_name(word.shown))
+            .num_args(1..)
+            .required(true),
         Takes::Pairs => several(argument.value_name(word.shown)).num_args(0..),
-        Takes::Place => argument.value_name(word.shown).required(true).action(ArgAction::Set),
+        Takes::Place => argument
+            .value_name(word.shown)
+            .required(true)
+            .action(ArgAction::Set),
         Takes::NewPlace => argument.value_name(word.shown).action(ArgAction::Set),
         Takes::Text => named(argument, word),
-        Takes::Blocks => named(argument, word).required(true).value_parser(value_parser!(u32)),
+        Takes::Blocks => named(argument, word)
+            .required(true)
+            .value_parser(value_parser!(u32)),
         Takes::Bytes => named(argument, word).value_parser(value_parser!(u64)),
     }
 }
@@ -59,7 +66,10 @@ fn several<'a>(argument: Arg<'a>) -> Arg<'a> {
 
 // A value behind its name.
 fn named<'a>(argument: Arg<'a>, word: &Word) -> Arg<'a> {
-    let argument = argument.long(word.id).value_name(word.shown).action(ArgAction::Set);
+    let argument = argument
+        .long(word.id)
+        .value_name(word.shown)
+        .action(ArgAction::Set);
     match word.default {
         Some(value) => argument.default_value(value),
         None => argument,

@@ -1,9 +1,11 @@
 // What needs no script: an image out of its archive, and one line with its reply.
-use crate::archives::take_disk;
+use crate::archives::{Access, take_disk};
 use crate::asked::Place;
 use crate::failures::{Failure, Refusal, Word};
 use disk_model::FileFault;
-use inspector_cli::{Naming, SessionFault, is_question, open_and_run, read_image, write_image};
+use inspector_cli::{
+    Naming, SessionFault, is_question, only_looks, open_and_run, read_image, write_image,
+};
 use intake::Settings;
 use name_template::Template;
 use script_streams::{Output, ReadInput, Reply, WriteOutput};
@@ -40,7 +42,8 @@ fn extract_to<R: AllocGlobal + Files<File = File>, O: Output>(
     seq: u32,
     output: &mut O,
 ) -> Result<(), Failure> {
-    let disk = take_disk(rt, place).map_err(|refusal| Failure::Aside(refusal))?;
+    let taken = take_disk(rt, place, Access::Looking);
+    let disk = taken.map_err(|refusal| Failure::Aside(refusal))?;
     let (read, disk) = read_image(rt.alloc(), disk, Settings { limit: 0 }, seq);
     drop(disk);
     match write_image(output, &read?) {
@@ -96,7 +99,7 @@ pub(crate) fn ask<R: AllocGlobal + Files<File = File>, O: Output>(
     if !is_question(&line) {
         return Err(Failure::Refused(Refusal::BadLine));
     }
-    let disk = take_disk(rt, place)?;
+    let disk = take_disk(rt, place, access_of(&line))?;
     let mut script = line;
     script.extend_from_slice(b"\n")?;
     let naming = no_naming()?;
@@ -118,6 +121,15 @@ pub(crate) fn ask<R: AllocGlobal + Files<File = File>, O: Output>(
         return Err(Failure::Told);
     }
     Ok(())
+}
+
+// A line that changes nothing needs no right to write the archive's file.
+fn access_of(line: &[u8]) -> Access {
+    if only_looks(line) {
+        Access::Looking
+    } else {
+        Access::Changing
+    }
 }
 
 // No core is named by one line.

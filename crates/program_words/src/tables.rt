@@ -52,7 +52,10 @@ pub(crate) static COMMANDS: [CommandWords; 7] = [
     CommandWords {
         name: "store",
         about: "stores a core file as a case of an archive, named by the template, or an executable",
-        words: &[ARCHIVE, FILE, PAIRS, EXEC, ESCAPE, KEEP, BYTES, BEFORE, NO_WAIT, TEMPLATE, USES_PID, LIMIT],
+        words: &[
+            ARCHIVE, FILE, PAIRS, EXEC, ESCAPE, KEEP, BYTES, BEFORE, NO_WAIT, TEMPLATE, USES_PID,
+            LIMIT,
+        ],
     },
     CommandWords {
         name: "list",

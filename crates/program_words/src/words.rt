@@ -1,8 +1,8 @@
 // The program: what its words ask for, and the status that it ends with.
 ghost use Rattle.std.specs.Prelude.{◌≡◌, ◌≤◌};
 
-use crate::archives::{look_at, make_archive, take_disk};
-use crate::asked::{Asked, Place, SessionWords, read_words};
+use crate::archives::{Access, look_at, make_archive, take_disk};
+use crate::asked::{Asked, Place, SessionWords, StoreLines, read_words};
 use crate::failures::{Failure, Refusal, Word, tell_failure};
 use crate::raw_words::words_of;
 use crate::single::{ask, extract};
@@ -40,8 +40,8 @@ pub fn run_program<R: Env + AllocGlobal + Files<File = File>, I: Input, O: Outpu
 
 /// What the words after the program's name ask for. It answers the status that the program ends with.
 ///
-/// An archive in a file is used by one process at a time: `run` and `store` wait until another one has ended, or, with
-/// `--no-wait`, are refused as `Busy`. While they wait they do not return, as where FILE is a pipe that nobody writes to.
+/// An archive in a file is changed by one process at a time: what changes it waits until another one has ended, and what only
+/// looks at it until none changes it, or, with `--no-wait`, is refused as `Busy`. While they wait they do not return, as where FILE is a pipe that nobody writes to.
 ///
 /// - `format ARCHIVE --half N --data N` makes an archive in a new file, all of whose bytes are written; with `--sparse`
 ///   they are not.
@@ -49,9 +49,14 @@ pub fn run_program<R: Env + AllocGlobal + Files<File = File>, I: Input, O: Outpu
 /// - `memory --half N --data N` runs it over a fresh archive in memory.
 /// - `store ARCHIVE FILE [KEY=VALUE..]` stores a file as a core of which these pairs are known, and with `--exec NAME` in
 ///   place of the pairs as an executable of that name. Its replies are those of the lines `begin` and `end` of a script.
-///   FILE `-` is `input`. With `--escape` the bytes of each VALUE and of NAME are taken as they are.
+///   FILE `-` is `input`. With `--escape` the bytes of each VALUE and of NAME are taken as they are. With `--keep K`,
+///   `--bytes B` or `--before T` the line `retire` of a script with these limits is carried out first, in the same opening,
+///   and its reply goes before the others; where it is refused the file is stored all the same.
+/// - `list ARCHIVE` and `ask ARCHIVE WORD..` carry out one line of a script, `extract ARCHIVE N [FILE]` writes the image of a
+///   case. A line that changes no case, and `extract`, need no right to write the archive's file, and wait for no other that
+///   only looks.
 ///
-/// The last three take `--template T` and `--uses-pid`, by which cores are named, and `--limit N`, the most bytes of an
+/// `run`, `memory` and `store` take `--template T` and `--uses-pid`, by which cores are named, and `--limit N`, the most bytes of an
 /// image. Statuses: 0; 1 where something is refused, with one line `no REASON` on `output` (and, of a file, why in words on
 /// `errors`), or the session ends before its script, with one line `fault NAME` on `errors`; 2 where the words are refused,
 /// with the reason on `errors`. Help goes to `output`, and the status is 0 then. What is refused is looked for in this
@@ -91,13 +96,13 @@ fn answer_words<R: AllocGlobal + Files<File = File>, I: Input, O: Output>(
         Asked::Store {
             archive,
             file,
-            line,
+            lines,
             settings,
         } => {
             let naming = naming_of(settings)?;
             let stored = Stored {
                 archive,
-                line: line.as_slice(),
+                lines: &lines,
                 naming: &naming,
                 limit: settings.limit,
             };
@@ -122,7 +127,7 @@ fn run_file<R: AllocGlobal + Files<File = File>, I: Input, O: Output>(
     output: &mut O,
 ) -> Result<(), Failure> {
     let naming = naming_of(settings)?;
-    let disk = take_disk(rt, place)?;
+    let disk = take_disk(rt, place, Access::Changing)?;
     run_over(rt.alloc(), disk, settings.limit, &naming, input, output)
 }
 
@@ -160,11 +165,11 @@ fn run_over<D: Disk + Drop, I: Input, O: Output>(
     Ok(ended?)
 }
 
-// Into which archive something is stored, and how: its stream begins by this line.
+// Into which archive something is stored, and how.
 #[derive(Clone, Copy)]
 struct Stored<'a> {
     archive: Place<'a>,
-    line: &'a [u8],
+    lines: &'a StoreLines,
     naming: &'a Naming,
     limit: u64,
 }
@@ -179,11 +184,11 @@ fn store<R: AllocGlobal + Files<File = File>, I: Input, O: Output>(
     output: &mut O,
 ) -> Result<(), Failure> {
     if file == "-" {
-        let disk = take_disk(rt, stored.archive)?;
+        let disk = take_disk(rt, stored.archive, Access::Changing)?;
         return store_from(rt.alloc(), disk, stored, input, output);
     }
     let opened = File::open(rt, file);
-    let disk = take_disk(rt, stored.archive)?;
+    let disk = take_disk(rt, stored.archive, Access::Changing)?;
     match opened {
         Ok(file) => store_from(rt.alloc(), disk, stored, &mut ReadInput::new(file), output),
         Err(error) => {
@@ -209,8 +214,8 @@ fn store_from<D: Disk + Drop, I: Input, O: Output>(
         disk,
         settings,
         stored.naming,
-        b"",
-        stored.line,
+        &stored.lines.room,
+        &stored.lines.begin,
         input,
         output,
     );
