@@ -42,12 +42,17 @@ fn read<D: Disk>(
     Ok(disk.read_at(at, bytes))
 }
 
-// Writes three bytes into a disk that has room for them, and makes them stable.
-fn put<D: Disk>(disk: &mut D, at: u64, bytes: &[u8; 3]) -> Result<(), Fail> {
+// Writes three bytes, which have to lie within the disk.
+fn write<D: Disk>(disk: &mut D, at: u64, bytes: &[u8; 3]) -> Result<Result<(), DiskFault>, Fail> {
     if disk.length() < at || disk.length() - at < 3 {
         return Err(Fail::from("these bytes leave the disk"));
     }
-    disk.write_at(at, bytes)?;
+    Ok(disk.write_at(at, bytes))
+}
+
+// Writes three bytes, and makes them stable.
+fn put<D: Disk>(disk: &mut D, at: u64, bytes: &[u8; 3]) -> Result<(), Fail> {
+    write(disk, at, bytes)??;
     disk.sync()?;
     Ok(())
 }
@@ -102,6 +107,49 @@ fn a_file_is_one_disks_at_a_time(rt: HostRuntime) -> Result<(), Fail> {
     from_a_locked_file(&rt, path)?;
     assert_eq!(rt; opened(&rt, path), Ok(()));
     assert_eq!(rt; opened(&rt, "/"), Err(FileFault::Folder));
+    fs::remove_file(&rt, path)?;
+    Ok(())
+}
+
+// Whether the file can be opened as a disk for reading alone.
+fn looked_at<R: Files<File = File>>(rt: &R, path: &str) -> Result<(), FileFault> {
+    match FileDisk::open_for_reading(rt, path) {
+        Ok(_) => Ok(()),
+        Err(fault) => Err(fault),
+    }
+}
+
+// A disk that may only be read: it is synced, and no byte of it is written.
+fn is_only_read<D: Disk>(rt: &impl Abort, disk: &mut D) -> Result<(), Fail> {
+    let mut bytes = [9u8; 5];
+    read(disk, 1, &mut bytes)??;
+    assert_eq!(rt; bytes, [0, 0, 1, 2, 3]);
+    assert_eq!(rt; write(disk, 2, &[7, 7, 7])?, Err(DiskFault::Write));
+    assert_eq!(rt; disk.sync(), Ok(()));
+    read(disk, 1, &mut bytes)??;
+    assert_eq!(rt; bytes, [0, 0, 1, 2, 3]);
+    Ok(())
+}
+
+// The file is two disks at once that are only read, and none meanwhile that could be written.
+fn is_read_by_two<R: Abort + Files<File = File>>(rt: &R, path: &str) -> Result<(), Fail> {
+    let mut disk = FileDisk::open_for_reading(rt, path)?;
+    assert_eq!(rt; looked_at(rt, path), Ok(()));
+    assert_eq!(rt; opened(rt, path), Err(FileFault::Busy));
+    is_only_read(rt, &mut disk)
+}
+
+#[test]
+fn a_file_is_read_by_many(rt: HostRuntime) -> Result<(), Fail> {
+    let path = path_of(&rt, "shared")?;
+    let path = path.as_str();
+    assert_eq!(rt; looked_at(&rt, path), Err(FileFault::Missing));
+    a_file(&rt, path)?;
+    is_read_by_two(&rt, path)?;
+    let disk = FileDisk::open(&rt, path)?;
+    assert_eq!(rt; looked_at(&rt, path), Err(FileFault::Busy));
+    drop(disk);
+    assert_eq!(rt; looked_at(&rt, "/"), Err(FileFault::Folder));
     fs::remove_file(&rt, path)?;
     Ok(())
 }
