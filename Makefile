@@ -12,7 +12,7 @@ help:
 	@echo 'make check [CRATE=name]  proves one crate and those that it stands on, or all'
 	@echo 'make plant CRATE=name    tries wrong bodies on a copy of a crate'
 	@echo 'make fmt                 lays the sources out'
-	@echo 'make install [PREFIX=/usr/local]   installs the program and its manual page'
+	@echo 'make install [PREFIX=/usr/local]   installs the program, its manual page and completion for bash'
 
 try:
 	@echo 'Building without proofs, about a minute. Nothing of what runs here was proved.'
@@ -43,3 +43,4 @@ test:
 install: bin/corekeep
 	install -D -m 755 bin/corekeep "$(DESTDIR)$(PREFIX)/bin/corekeep"
 	install -D -m 644 man/corekeep.1 "$(DESTDIR)$(PREFIX)/share/man/man1/corekeep.1"
+	install -D -m 644 completions/corekeep.bash "$(DESTDIR)$(PREFIX)/share/bash-completion/completions/corekeep"

@@ -1,0 +1,41 @@
+# Completion of corekeep's words for bash. `make install` puts it where bash looks for it.
+_corekeep() {
+    local word=${COMP_WORDS[COMP_CWORD]}
+    local before=${COMP_WORDS[COMP_CWORD-1]}
+    local commands="format run store list ask extract memory"
+    local lines="list free delete pin unpin retire header notes threads regs process signal auxv files maps dump find strings bt symbol"
+    local session="--template --uses-pid --limit"
+    COMPREPLY=()
+    if [ "$COMP_CWORD" -eq 1 ]; then
+        COMPREPLY=($(compgen -W "$commands --help --version" -- "$word"))
+        return
+    fi
+    case $before in
+    --half | --data | --template | --limit | --keep | --bytes | --before | --exec) return ;;
+    esac
+    local options=--help
+    case ${COMP_WORDS[1]} in
+    format) options="--half --data --sparse --help" ;;
+    run) options="--no-wait $session --help" ;;
+    store) options="--exec --escape --keep --bytes --before --no-wait $session --help" ;;
+    list | ask | extract) options="--no-wait --help" ;;
+    memory) options="--half --data $session --help" ;;
+    esac
+    case $word in
+    -*)
+        COMPREPLY=($(compgen -W "$options" -- "$word"))
+        return
+        ;;
+    esac
+    if [ "${COMP_WORDS[1]}" = ask ] && [ "$COMP_CWORD" -eq 3 ]; then
+        COMPREPLY=($(compgen -W "$lines" -- "$word"))
+        return
+    fi
+    if [ "${COMP_WORDS[1]}" = store ] && [ "$COMP_CWORD" -ge 4 ]; then
+        compopt -o nospace 2>/dev/null
+        COMPREPLY=($(compgen -W "comm= exe= host= pid= tid= sig= uid= gid= mode= time= limit=" -- "$word"))
+        return
+    fi
+    COMPREPLY=($(compgen -f -- "$word"))
+}
+complete -o filenames -F _corekeep corekeep
