@@ -1,6 +1,7 @@
 -- What the calls of a disk do to the bytes that it shows, and to those that a crash may leave.
-use Rattle.std.specs.Prelude.{◌≡◌, ◌⊎◌, ℕ, ◌+◌, ◌-◌, ◌^◌, ◌≤◌, min, List, Result, OnErr}
+use Rattle.std.specs.Prelude.{◌≡◌, ◌⊎◌, ℕ, ◌≤◌, List, Result, OnErr}
 use Rattle.disk_model.specs.Places.{SameOutside}
+pub use Rattle.failure_count.specs.Counts.{HasRisen}
 
 -- each new outcome of a crash is an old outcome after a step
 abbrev pub Follows : (List ℕ → List ℕ → Type 0) → (List ℕ → Type 0) → (List ℕ → Type 0) → Type 0
@@ -21,10 +22,6 @@ pub record Elapses {D : Type 0} (clock : D → ℕ) (may_leave : D → List ℕ 
   pub keeps : (t : ℕ) (c : List ℕ) → t ≤ clock old → left_since old t c → left_since new t c
   -- where the clock stands still, a crash leaves nothing new
   pub still : clock new ≡ clock old → (c : List ℕ) → may_leave new c → may_leave old c
-
--- a count of failures rose; a count that is kept in 64 bits and stands at its greatest number is taken as risen
-abbrev pub HasRisen : ℕ → ℕ → Type 0
-HasRisen old new = min (old + 1) (2 ^ 64 - 1) ≤ new
 
 -- a failure is answered only where the count of failures rose
 pub record HasCause {T E : Type 0} (before now : ℕ) (result : Result T E) : Type 0 where

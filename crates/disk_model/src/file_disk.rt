@@ -4,6 +4,7 @@ ghost use Rattle.std.proofs.lemmas.Bool.{false≢true};
 ghost use Rattle.disk_model.specs.Disk.{HasCause};
 
 use crate::{Disk, DiskFault};
+use failure_count::after_failure;
 use std::fs::{File, Permissions, TryLockError};
 use std::io;
 use std::io::ErrorKind;
@@ -82,8 +83,9 @@ pub struct FileDisk {
 }
 
 impl FileDisk {
-    /// Makes a file of so many zeros and opens it. The zeros are written, so that the file system has room for all of
-    /// its bytes from then on, and made durable, and so is its name in its folder. Only its owner may read and write it.
+    /// Makes a file of `length` zeros and opens it, with no failure counted yet. The zeros are written, so that the file
+    /// system has room for all of its bytes from then on, and made durable, and so is its name in its folder. Only its
+    /// owner may read and write it.
     ///
     /// A file that was made stays where a later step fails. It never waits.
     pub fn create<R: Files<File = File>>(
@@ -91,7 +93,8 @@ impl FileDisk {
         path: &str,
         length: u64,
     ) -> Result<FileDisk, FileFault>
-        ensures { IfOk result (λ d. ⟦<FileDisk as Disk>⟧.size d ≡ length) }
+        ensures size { IfOk result (λ d. ⟦<FileDisk as Disk>⟧.size d ≡ length) }
+        ensures uncounted { IfOk result (λ d. ⟦<FileDisk as Disk>⟧.failures d ≡ 0) }
     {
         let disk = made(rt, path, length)?;
         write_zeros(&disk.file, length)?;
@@ -106,15 +109,19 @@ impl FileDisk {
         path: &str,
         length: u64,
     ) -> Result<FileDisk, FileFault>
-        ensures { IfOk result (λ d. ⟦<FileDisk as Disk>⟧.size d ≡ length) }
+        ensures size { IfOk result (λ d. ⟦<FileDisk as Disk>⟧.size d ≡ length) }
+        ensures uncounted { IfOk result (λ d. ⟦<FileDisk as Disk>⟧.failures d ≡ 0) }
     {
         let disk = made(rt, path, length)?;
         make_durable(rt, path, &disk.file)?;
         Ok(disk)
     }
 
-    /// Opens a file that is there. It never waits: where another has the file's lock, it answers `Busy`.
-    pub fn open<R: Files<File = File>>(rt: &R, path: &str) -> Result<FileDisk, FileFault> {
+    /// Opens a file that is there, with no failure counted yet. It never waits: where another has the file's lock, it
+    /// answers `Busy`.
+    pub fn open<R: Files<File = File>>(rt: &R, path: &str) -> Result<FileDisk, FileFault>
+        ensures uncounted { IfOk result (λ d. ⟦<FileDisk as Disk>⟧.failures d ≡ 0) }
+    {
         let file = File::options().read(true).write(true).open(rt, path)?;
         asked_for(file.try_lock())?;
         FileDisk::from_locked(file)
@@ -126,7 +133,9 @@ impl FileDisk {
     pub fn open_for_reading<R: Files<File = File>>(
         rt: &R,
         path: &str,
-    ) -> Result<FileDisk, FileFault> {
+    ) -> Result<FileDisk, FileFault>
+        ensures uncounted { IfOk result (λ d. ⟦<FileDisk as Disk>⟧.failures d ≡ 0) }
+    {
         let file = File::open(rt, path)?;
         asked_for(file.try_lock_shared())?;
         FileDisk::from_locked(file)
@@ -135,7 +144,9 @@ impl FileDisk {
     /// A disk in a file that is open for reading and writing, and whose lock the caller has taken; or one for reading
     /// alone in a file that is open for reading, and whose lock the caller shares. A folder, which may be opened for
     /// reading, is refused as `Folder`.
-    pub fn from_locked(file: File) -> Result<FileDisk, FileFault> {
+    pub fn from_locked(file: File) -> Result<FileDisk, FileFault>
+        ensures uncounted { IfOk result (λ d. ⟦<FileDisk as Disk>⟧.failures d ≡ 0) }
+    {
         let metadata = file.metadata().map_err(|_| FileFault::Length)?;
         if metadata.is_dir() {
             return Err(FileFault::Folder);
@@ -156,14 +167,15 @@ impl FileDisk {
         if outcome.is_ok() {
             return Ok(());
         }
-        self.failures = self.failures.saturating_add(1);
+        self.failures = after_failure(self.failures);
         Err(fault)
     }
 }
 
 // Makes a file of this length, and has its lock.
 fn made<R: Files<File = File>>(rt: &R, path: &str, length: u64) -> Result<FileDisk, FileFault>
-    ensures { IfOk result (λ d. d.length ≡ length) }
+    ensures length { IfOk result (λ d. d.length ≡ length) }
+    ensures uncounted { IfOk result (λ d. d.failures ≡ 0) }
 {
     let file = File::options()
         .read(true)

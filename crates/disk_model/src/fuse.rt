@@ -4,6 +4,7 @@ ghost use Rattle.disk_model.specs.Places.{part, overwritten, SameOutside};
 ghost use Rattle.disk_model.specs.Disk.{Follows, Only, Elapses, HasCause, HasRisen};
 
 use crate::{Disk, DiskFault};
+use failure_count::after_failure;
 
 /// A disk that passes so many calls (reads, writes, syncs) to the one within, and fails all later ones.
 #[derive(Drop)]
@@ -73,7 +74,7 @@ impl<D: Disk> Fuse<D> {
         let admitted = self.calls < self.limit;
         self.calls = self.calls.saturating_add(1);
         if !admitted {
-            self.faults = self.faults.saturating_add(1);
+            self.faults = after_failure(self.faults);
         }
         admitted
     }

@@ -9,6 +9,7 @@ ghost use Rattle.disk_model.specs.NoteLaws.{AllFit-prop, held_kept, shown_bytes,
 use crate::crash::bytes_after_crash;
 use crate::note::Note;
 use crate::{Disk, DiskFault, Pick};
+use failure_count::after_failure;
 use std::alloc::{AllocError, Global};
 
 /// A disk in memory, honest. It makes room for its own notes before it changes a byte, so a write that finds no memory
@@ -199,7 +200,7 @@ impl Disk for MemDisk {
         ensures size { ⟦<MemDisk as Disk>⟧.size self.new ≡ ⟦<MemDisk as Disk>⟧.size self.old }
     {
         let Ok(bytes) = prepare_write(self.alloc, &mut self.notes, from) else {
-            self.failures = self.failures.saturating_add(1);
+            self.failures = after_failure(self.failures);
             return Err(DiskFault::Write);
         };
         overwrite(&mut self.present, at as usize, from);

@@ -4,6 +4,7 @@ ghost use Rattle.disk_model.specs.Places.{part, overwritten, SameOutside};
 ghost use Rattle.disk_model.specs.Disk.{Follows, Only, Elapses, HasCause, HasRisen};
 
 use crate::{Disk, DiskFault};
+use failure_count::after_failure;
 
 /// A disk that fails one call (a read, a write or a sync) and passes all others to the one within.
 #[derive(Drop)]
@@ -74,7 +75,7 @@ impl<D: Disk> OneFault<D> {
         let admitted = self.calls.checked_add(1) != Some(self.at);
         self.calls = self.calls.saturating_add(1);
         if !admitted {
-            self.faults = self.faults.saturating_add(1);
+            self.faults = after_failure(self.faults);
         }
         admitted
     }

@@ -4,7 +4,7 @@ use Rattle.std.proofs.lemmas.Bool.{false≢true}
 use Rattle.std.proofs.lemmas.List.{append-nil, length-drop}
 use Rattle.std.proofs.Math.Seq.{take-append_seam, drop-append_seam, take-length, drop-length}
 use Rattle.std.specs.Prelude.{slice_set, option_map, IsTrue}
-use Rattle.disk_model.specs.Disk.{HasRisen}
+use Rattle.failure_count.specs.CountLaws.{risen_since}
 use Rattle.disk_model.specs.declared.disk.Disk as disk
 use Rattle.intake.specs.declared.faults.ArchiveFault.{ArchiveFault}
 use Rattle.intake.specs.declared.faults.ArchiveFault.TheVariants.{Stopped, NoStream, Disk}
@@ -22,10 +22,6 @@ use Rattle.inspector_cli.proofs.RoomLemmas.{same_bare, still_fits, fits_bare}
 use Rattle.inspector_cli.proofs.SlotLemmas.{set_again, at_set, at_mapped, closed_set}
 use Rattle.intake.specs.StayLaws.{stays_then}
 use Rattle.inspector_cli.proofs.TakeLemmas.{took_piece, took_none, refused_yet}
-
--- a count that rose since a moment rose since each moment before
-risen_since : (a b c : ℕ) → a ≤ b → HasRisen b c → HasRisen a c
-risen_since a b c later risen = omega (arith, risen)
 
 -- what is lent goes back to the end of the block
 module _ (old ws : List ℕ) (used : ℕ) (whole : used + length ws ≡ length old) where

@@ -4,7 +4,7 @@ use Rattle.disk_model.specs.declared.disk.Disk as disk
 use Rattle.intake.specs.Parts.{Parts}
 use Rattle.script_streams.specs.Lines.{IsLine}
 use Rattle.script_streams.specs.Reading.{Gives, Stops}
-use Rattle.script_streams.specs.Streams.{Rose}
+use Rattle.failure_count.specs.Counts.{HasRisen}
 use Rattle.script_streams.specs.Telling.{Tells}
 use Rattle.script_streams.specs.declared.reply.Reply.{Reply}
 use Rattle.script_streams.specs.declared.reader.ScriptBuffer.{ScriptBuffer}
@@ -93,5 +93,5 @@ told_before g naming o p q f i h u v w r old new what (Err stop) first a = (a.0,
 
 -- why a script was not read on, told of the script
 pub halts_as : (before mid after : ℕ) (buffer : ScriptBuffer) (stop : ReadStop) → mid ≡ before → Stops {T = Bool} mid after buffer (Err stop) → Halts {T = Bool} before after buffer (Err (Read stop))
-halts_as before mid after buffer ReadFailed same stops = subst (λ (k : ℕ). Rose k after) same stops
+halts_as before mid after buffer ReadFailed same stops = subst (λ (k : ℕ). HasRisen k after) same stops
 halts_as before mid after buffer TooManyReads same stops = (stops.0 ∙ same, stops.1)

@@ -6,7 +6,7 @@ use Rattle.std.specs.Io.KnownBytes.{Consumes}
 use Rattle.disk_model.specs.declared.disk.Disk as disk
 use Rattle.intake.specs.Marks.{FoundAfterAStop}
 use Rattle.intake.specs.Parts.{Parts}
-use Rattle.script_streams.specs.Streams.{Rose}
+use Rattle.failure_count.specs.Counts.{HasRisen}
 use Rattle.script_streams.specs.Reading.{Gives, held_bytes, reads_made}
 use Rattle.script_streams.specs.Telling.{Told, IsDelivered, has_failed}
 use Rattle.script_streams.specs.declared.reader.ScriptBuffer.{ScriptBuffer}
@@ -75,7 +75,7 @@ module _ {D : Type 0} (g : disk.Ghosts D) (laws : Laws g) (law : FoundAfterAStop
     all_found e.0 e.1 e.2 e.3 e.7 e.6,
   )
 
-  read_failed : (s : Unit {0}) → ScriptEnds g naming reading telling old mid (Err (Read stop.ReadFailed)) → Delivers (Ok s) → Rose fails fails' → SessionEnds g naming streams old new (Err ReadFailed)
+  read_failed : (s : Unit {0}) → ScriptEnds g naming reading telling old mid (Err (Read stop.ReadFailed)) → Delivers (Ok s) → HasRisen fails fails' → SessionEnds g naming streams old new (Err ReadFailed)
   read_failed s e d rose = (
     e.0,
     e.1,

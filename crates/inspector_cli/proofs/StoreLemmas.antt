@@ -15,7 +15,7 @@ use Rattle.intake.specs.Durable.{Durable}
 use Rattle.intake.specs.Marks.{FoundAfterAStop}
 use Rattle.intake.specs.Parts.{Parts, bare_of, bare_stream, contents_of, taken_in}
 use Rattle.intake.specs.Step.{BeginStep, with_stream, longer}
-use Rattle.script_streams.specs.Streams.{Rose}
+use Rattle.failure_count.specs.Counts.{HasRisen}
 use Rattle.script_streams.specs.Telling.{Told, IsDelivered}
 use Rattle.script_streams.specs.declared.reply.Reply.{Reply}
 use Rattle.script_streams.specs.declared.streams.StreamFault.{StreamFault}
@@ -156,7 +156,7 @@ module _ {D : Type 0} (g : disk.Ghosts D) (file mid file' : Option (List ℕ)) (
   pub file_stopped : (stop : TakeStop) → TakesMore g mid file' fails' fails'' old so_far.0 new (Err stop)
       → TakesFile g file file' fails fails'' old new (Err stop)
   file_stopped File more =
-      (so_far.0, consumes_none file mid file' so_far.0 so_far.1 more.0, inl (subst (λ (n : ℕ). Rose n fails'') so_far.3 more.1), more.2)
+      (so_far.0, consumes_none file mid file' so_far.0 so_far.1 more.0, inl (subst (λ (n : ℕ). HasRisen n fails'') so_far.3 more.1), more.2)
   file_stopped (Refused fault) more =
       (so_far.0 ++ more.0, Consumes-trans file mid file' so_far.0 more.0 so_far.1 more.1, more.3)
 

@@ -8,7 +8,7 @@ use Rattle.intake.specs.Calls.{Stays, AbandonCall}
 use Rattle.intake.specs.Parts.{Parts, bare_of}
 use Rattle.intake.specs.Slots.{stream_at}
 use Rattle.intake.specs.State.{Bare}
-use Rattle.script_streams.specs.Streams.{Rose}
+use Rattle.failure_count.specs.Counts.{HasRisen}
 use Rattle.script_streams.specs.declared.streams.Input as input
 use Rattle.script_streams.specs.declared.streams.Output as output
 use Rattle.script_streams.specs.Lines.{IsLine}
@@ -167,7 +167,7 @@ SessionEnds {D} g naming t old new (Ok u) =
     × AnswersAll g naming read out old stages end × Closes g end.archive new × IsFoundAfterAStop g old stages end new
 SessionEnds {D} g naming t old new (Err ReadFailed) =
     (read : List ℕ) × (out : List ℕ) × (stages : List (Stage D)) × (end : Stage D) × Consumes t.input t.input' read × Appends t.taken t.taken' out
-    × AnswersWhole g naming read out old stages end × Closes g end.archive new × IsFoundAfterAStop g old stages end new × Rose t.fails t.fails'
+    × AnswersWhole g naming read out old stages end × Closes g end.archive new × IsFoundAfterAStop g old stages end new × HasRisen t.fails t.fails'
 SessionEnds {D} g naming t old new (Err TooManyReads) =
     (read : List ℕ) × (out : List ℕ) × (stages : List (Stage D)) × (end : Stage D) × Consumes t.input t.input' read × Appends t.taken t.taken' out
     × AnswersWhole g naming read out old stages end × Closes g end.archive new × IsFoundAfterAStop g old stages end new × (2 ^ 40 ≤ length read)
@@ -176,4 +176,4 @@ SessionEnds {D} g naming t old new (Err WriteFailed) =
     × Consumes t.input t.input' (read ++ more) × Appends t.taken t.taken' out
     × ((AnswersAll g naming read (out ++ rest) old stages end × (more ≡ []))
     ⊎ ((w : AnswersWhole g naming read (out ++ rest) old stages end) × ((more ≡ []) ⊎ (w.rest ≡ []))))
-    × Closes g end.archive new × IsFoundAfterAStop g old stages end new × Rose t.lost t.lost'
+    × Closes g end.archive new × IsFoundAfterAStop g old stages end new × HasRisen t.lost t.lost'

@@ -8,7 +8,7 @@ use Rattle.intake.specs.Durable.{Durable}
 use Rattle.intake.specs.Parts.{Parts}
 use Rattle.intake.specs.Slots.{stream_at}
 use Rattle.intake.specs.State.{Bare, BareStream}
-use Rattle.script_streams.specs.Streams.{Rose}
+use Rattle.failure_count.specs.Counts.{HasRisen}
 use Rattle.inspector_cli.specs.declared.session.Naming.{Naming}
 use Rattle.inspector_cli.specs.declared.session.SessionFault.{SessionFault}
 use Rattle.inspector_cli.specs.declared.session.StoreOutcome.{StoreOutcome}
@@ -36,7 +36,7 @@ abbrev pub TakesFile : {D : Type 0} → disk.Ghosts D → Option (List ℕ) → 
 TakesFile g file file' fails fails' old new (Ok u) =
     (raw : List ℕ) × Consumes file file' raw × IsAtEnd file' × Takes g old 0 raw (Ok tt) new
 TakesFile g file file' fails fails' old new (Err File) =
-    (raw : List ℕ) × Consumes file file' raw × (Rose fails fails' ⊎ (2 ^ 40 ≤ length raw)) × Takes g old 0 raw (Ok tt) new
+    (raw : List ℕ) × Consumes file file' raw × (HasRisen fails fails' ⊎ (2 ^ 40 ≤ length raw)) × Takes g old 0 raw (Ok tt) new
 TakesFile g file file' fails fails' old new (Err (Refused fault)) =
     (raw : List ℕ) × Consumes file file' raw × Takes g old 0 raw (Err fault) new
 
@@ -47,7 +47,7 @@ TakesMore g file file' fails fails' begun so_far new (Ok true) =
 TakesMore g file file' fails fails' begun so_far new (Ok false) =
     Consumes file file' [] × IsAtEnd file' × (fails' ≡ fails) × Takes g begun 0 so_far (Ok tt) new
 TakesMore g file file' fails fails' begun so_far new (Err File) =
-    Consumes file file' [] × Rose fails fails' × Takes g begun 0 so_far (Ok tt) new
+    Consumes file file' [] × HasRisen fails fails' × Takes g begun 0 so_far (Ok tt) new
 TakesMore g file file' fails fails' begun so_far new (Err (Refused fault)) =
     (raw : List ℕ) × Consumes file file' raw × (fails' ≡ fails) × Takes g begun 0 (so_far ++ raw) (Err fault) new
 
@@ -132,7 +132,7 @@ StoreEnds {D} g naming t old before line new (Ok outcome) =
     × StoreStages g old (policy_before before) s.told s.room s.stores.filled s.stores.rest end new
 StoreEnds {D} g naming t old before line new (Err WriteFailed) =
     (out : List ℕ) × (rest : List ℕ) × (end : Stage D) × (outcome : StoreOutcome) × (dropped : Result (Unit {0}) ArchiveFault)
-    × (s : Stores g naming t.input t.input' t.fails t.fails' old.archive before line (out ++ rest) end.archive outcome) × AbandonCall g end.archive 0 dropped new × Appends t.taken t.taken' out × Rose t.lost t.lost'
+    × (s : Stores g naming t.input t.input' t.fails t.fails' old.archive before line (out ++ rest) end.archive outcome) × AbandonCall g end.archive 0 dropped new × Appends t.taken t.taken' out × HasRisen t.lost t.lost'
     × StoreStages g old (policy_before before) s.told s.room s.stores.filled s.stores.rest end new
 StoreEnds g naming t old before line new (Err ReadFailed) = ⊥
 StoreEnds g naming t old before line new (Err TooManyReads) = ⊥

@@ -4,17 +4,11 @@ use Rattle.std.proofs.lemmas.List.{append-nil}
 use Rattle.std.proofs.lemmas.Bool.{cases_lt, true≢false, false≢true}
 use Rattle.std.proofs.KnownBytes.{Appends-trans}
 use Rattle.std.specs.Io.KnownBytes.{Appends}
-use Rattle.script_streams.specs.Streams.{Rose}
+use Rattle.failure_count.specs.Counts.{HasRisen}
+use Rattle.failure_count.specs.CountLaws.{risen_since}
 use Rattle.script_streams.specs.Writing.{PassesOn}
 use Rattle.script_streams.specs.Telling.{Told, Tells, has_failed, held_text}
 use Rattle.script_streams.specs.declared.reply.Reply.{Reply}
-
--- one failure more
-rises : (count f f' m : ℕ) → count ≤ f → f ≤ f' → (f < m → f < f') → count < m → count < f'
-rises count f f' m later grows rose small = ⊎_elim (λ below. omega (arith, rose below)) (λ above. omega arith) (cases_lt f m)
-
-rose_later : (count f f' : ℕ) → count ≤ f → Rose f f' → Rose count f'
-rose_later count f f' later rose = (omega (arith, rose.0), rises count f f' (2 ^ 64 - 1) later rose.0 rose.1)
 
 -- a text is passed on behind what was held, or together with it
 module _ (start t t' : Option (List ℕ)) (count f f' : ℕ) (old new : Reply) (told text passed : List ℕ) (is : passed ≡ held_text old ++ text)
@@ -34,7 +28,7 @@ module _ (start t t' : Option (List ℕ)) (count f f' : ℕ) (old new : Reply) (
     split = sym (append_assoc so_far.out so_far.rest text) ∙ ap (λ x. x ++ text) so_far.split;
     held = λ no. absurd (true≢false (sym (now_is ∙ passes.0) ∙ no));
     counted = omega (arith, so_far.counted, passes.2);
-    blamed = λ yes. subst (Rose count) (sym passes.2) (so_far.blamed was_is);
+    blamed = λ yes. subst (HasRisen count) (sym passes.2) (so_far.blamed was_is);
   }
   by_cases false false was_is now_is passes = record {
     out = so_far.out ++ passed;
@@ -52,7 +46,7 @@ module _ (start t t' : Option (List ℕ)) (count f f' : ℕ) (old new : Reply) (
     split = append_assoc so_far.out passes.0 passes.1 ∙ ap (λ x. so_far.out ++ x) passes.2 ∙ whole was_is;
     held = λ no. absurd (true≢false (sym now_is ∙ no));
     counted = omega (arith, so_far.counted, passes.4.0);
-    blamed = λ yes. rose_later count f f' so_far.counted passes.4;
+    blamed = λ yes. risen_since count f f' so_far.counted passes.4;
   }
 
 pub told_on : (t t' : Option (List ℕ)) (f f' : ℕ) (old new : Reply) (text passed : List ℕ) → passed ≡ held_text old ++ text

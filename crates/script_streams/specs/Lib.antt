@@ -1,4 +1,3 @@
-pub mod Streams
 pub mod Lines
 pub mod Reading
 pub mod GoingOn

@@ -1,7 +1,7 @@
 -- What a script's reader has given of what it held and read.
 use Rattle.std.specs.Prelude.{◌≡◌, ℕ, ◌+◌, ◌-◌, ◌*◌, ◌^◌, ◌<◌, ◌≤◌, List, [], ◌∷◌, ◌++◌, length, take, drop, Option, Result, Ok, Err}
 use Rattle.std.specs.Io.KnownBytes.{Consumes, IsAtEnd}
-use Rattle.script_streams.specs.Streams.{Rose}
+use Rattle.failure_count.specs.Counts.{HasRisen}
 use Rattle.script_streams.specs.Lines.{IsLine, KeepsLine}
 use Rattle.script_streams.specs.declared.kept_line.KeptLine.{KeptLine}
 use Rattle.script_streams.specs.declared.reader.ScriptBuffer.{ScriptBuffer}
@@ -58,5 +58,5 @@ GivesRaw before after old new into (Err stop) =
 -- why reading stopped, if it did: the input failed in this call; or 2^40 reads were made, each of which gave a byte
 abbrev pub Stops : {T : Type 0} → ℕ → ℕ → ScriptBuffer → Result T ReadStop → Type 0
 Stops before after new (Ok value) = after ≡ before
-Stops before after new (Err ReadFailed) = Rose before after
+Stops before after new (Err ReadFailed) = HasRisen before after
 Stops before after new (Err TooManyReads) = (after ≡ before) × (reads_made new ≡ 2 ^ 40)

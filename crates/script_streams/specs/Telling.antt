@@ -1,7 +1,7 @@
 -- What an output has taken of the text that it was told.
 use Rattle.std.specs.Prelude.{◌≡◌, ℕ, ◌≤◌, Bool, true, false, List, ◌++◌, Option, Result, Ok, Err}
 use Rattle.std.specs.Io.KnownBytes.{Appends}
-use Rattle.script_streams.specs.Streams.{Rose}
+use Rattle.failure_count.specs.Counts.{HasRisen}
 use Rattle.script_streams.specs.declared.reply.Reply.{Reply}
 use Rattle.script_streams.specs.declared.streams.StreamFault.{StreamFault}
 
@@ -23,7 +23,7 @@ pub record Told (start : Option (List ℕ)) (count : ℕ) (taken : Option (List 
   pub split : out ++ rest ≡ told
   pub held : has_failed reply ≡ false → rest ≡ held_text reply
   pub counted : count ≤ failures
-  pub blamed : has_failed reply ≡ true → Rose count failures
+  pub blamed : has_failed reply ≡ true → HasRisen count failures
 
 -- whatever was told before, this text was told behind it
 abbrev pub Tells : Option (List ℕ) → Option (List ℕ) → ℕ → ℕ → Reply → Reply → List ℕ → Type 0
@@ -35,4 +35,4 @@ Tells before after failures failures' old new text =
 abbrev pub IsDelivered : Option (List ℕ) → ℕ → Option (List ℕ) → ℕ → List ℕ → Result (Unit {0}) StreamFault → Type 0
 IsDelivered start count taken failures told (Ok done) = Appends start taken told
 IsDelivered start count taken failures told (Err fault) =
-    (out : List ℕ) × (rest : List ℕ) × (out ++ rest ≡ told) × Appends start taken out × Rose count failures
+    (out : List ℕ) × (rest : List ℕ) × (out ++ rest ≡ told) × Appends start taken out × HasRisen count failures

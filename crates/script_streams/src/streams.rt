@@ -1,8 +1,9 @@
 //! Where a script comes from, and where replies go.
 ghost use Rattle.std.specs.Prelude.{◌≡◌, ℕ, ◌<◌, ◌≤◌, List, Option, None, length, IfOk, OnOk, OnErr};
 ghost use Rattle.std.specs.Io.KnownBytes.{ReadConsumes, WriteAppends};
-ghost use Rattle.script_streams.specs.Streams.{Rose};
+ghost use Rattle.failure_count.specs.Counts.{HasRisen};
 
+use failure_count::after_failure;
 use std::io::{Read, Write};
 use thiserror::Error;
 
@@ -25,7 +26,7 @@ pub trait Input {
         ensures count { IfOk result (λ n. n ≤ length into.new) }
         ensures bytes { ReadConsumes (remaining self.old) (remaining self.new) result into.new }
         ensures ok { OnOk result (failures self.new ≡ failures self.old) }
-        ensures err { OnErr result (Rose (failures self.old) (failures self.new)) };
+        ensures err { OnErr result (HasRisen (failures self.old) (failures self.new)) };
 }
 
 /// Takes the text of replies.
@@ -42,7 +43,7 @@ pub trait Output {
         ensures count { IfOk result (λ n. (0 < n) × (n ≤ length from.now)) }
         ensures bytes { WriteAppends (taken self.old) (taken self.new) result from.now }
         ensures ok { OnOk result (failures self.new ≡ failures self.old) }
-        ensures err { OnErr result (Rose (failures self.old) (failures self.new)) };
+        ensures err { OnErr result (HasRisen (failures self.old) (failures self.new)) };
 }
 
 /// The bytes of one of std's readers. Each `Err`, of any kind, is a failure.
@@ -74,7 +75,7 @@ impl<R: Read> Input for ReadInput<R> {
         match self.reader.read(into) {
             Ok(count) => Ok(count),
             Err(_) => {
-                self.failures = self.failures.saturating_add(1);
+                self.failures = after_failure(self.failures);
                 Err(StreamFault)
             }
         }
@@ -120,7 +121,7 @@ impl<W: Write> Output for WriteOutput<W> {
     fn write(&mut self, from: &[u8]) -> Result<usize, StreamFault> {
         match self.writer.write(from) {
             Ok(0) | Err(_) => {
-                self.failures = self.failures.saturating_add(1);
+                self.failures = after_failure(self.failures);
                 Err(StreamFault)
             }
             Ok(count) => Ok(count),
