@@ -54,11 +54,6 @@ pub told_on : (t t' : Option (List ℕ)) (f f' : ℕ) (old new : Reply) (text pa
 told_on t t' f f' old new text passed is passes empty start count told so_far =
     by_cases start t t' count f f' old new told text passed is empty so_far (has_failed old) (has_failed new) refl refl passes
 
--- one text behind the other
-pub tells_then : (a b c : Option (List ℕ)) (f g h : ℕ) (old mid new : Reply) (x y : List ℕ) → Tells a b f g old mid x → Tells b c g h mid new y → Tells a c f h old new (x ++ y)
-tells_then a b c f g h old mid new x y first second start count told so_far =
-    subst (Told start count c h new) (append_assoc told x y) (second start count (told ++ x) (first start count told so_far))
-
 -- where no write has failed and nothing is held, all was taken
 pub all_taken : (start t : Option (List ℕ)) (count f : ℕ) (reply : Reply) (told : List ℕ) → Told start count t f reply told → has_failed reply ≡ false → held_text reply ≡ []
     → Appends start t told

@@ -1,5 +1,5 @@
 //! The text of replies, on its way to an output.
-ghost use Rattle.std.specs.Prelude.{◌≡◌, true, false, OnOk, ℕ, ◌+◌, ◌≤◌, List, [], ◌++◌, length, Option, decimal};
+ghost use Rattle.std.specs.Prelude.{◌≡◌, true, false, OnOk, ℕ, ◌+◌, ◌<◌, ◌≤◌, List, [], ◌++◌, length, take, Option, decimal};
 ghost use Rattle.std.specs.List.{flat_map};
 ghost use Rattle.std.specs.Fmt.{signed_decimal};
 ghost use Rattle.script_words.specs.Hex.{hex_of};
@@ -8,10 +8,15 @@ ghost use Rattle.script_streams.specs.Writing.{Writes, PassesOn};
 
 use crate::streams::{Output, StreamFault};
 use arrayvec::ArrayVec;
-use script_words::{print_byte, print_decimal, print_hex_pair, print_hexadecimal, print_signed};
+use script_words::{
+    plain_front, print_byte, print_decimal, print_hex_row, print_hexadecimal, print_signed,
+};
 
 // How many bytes are held at most.
 const MOST_HELD: usize = 8192;
+
+// How many bytes are told as digits at a time.
+const HEX_ROW: usize = 16;
 
 /// Text that an output is told and has not taken yet, in a buffer of a fixed size. Once a write has failed no more is
 /// written, and `finish` says so: so replies are told with no look at each write.
@@ -70,9 +75,29 @@ impl Reply {
         ensures { Tells (O.taken output.old) (O.taken output.new) (O.failures output.old) (O.failures output.new)
             self.old self.new (flat_map shown_byte text.now) }
     {
-        for byte in text {
-            self.tell(output, print_byte(*byte).as_slice());
+        let mut rest = text;
+        while !rest.is_empty() {
+            let count = self.tell_front(output, rest);
+            rest = rest.split_at(count).1;
         }
+    }
+
+    // Tells how the front of a text prints: the bytes that print as themselves as one slice, or else the first byte. Says how
+    // many bytes that are.
+    fn tell_front<O: Output>(&mut self, output: &mut O, text: &[u8]) -> usize
+        requires { 0 < length text.now }
+        ensures some { 0 < result }
+        ensures within { result ≤ length text.now }
+        ensures tells { Tells (O.taken output.old) (O.taken output.new) (O.failures output.old) (O.failures output.new)
+            self.old self.new (flat_map shown_byte (take result text.now)) }
+    {
+        let count = plain_front(text);
+        if count > 0 {
+            self.tell(output, &text[..count]);
+            return count;
+        }
+        self.tell(output, print_byte(text[0]).as_slice());
+        1
     }
 
     /// Tells bytes as pairs of hexadecimal digits, with nothing between them.
@@ -80,8 +105,11 @@ impl Reply {
         ensures { Tells (O.taken output.old) (O.taken output.new) (O.failures output.old) (O.failures output.new)
             self.old self.new (hex_of bytes.now) }
     {
-        for byte in bytes {
-            self.tell(output, print_hex_pair(*byte).as_slice());
+        let mut rest = bytes;
+        while !rest.is_empty() {
+            let (row, left) = rest.split_at(rest.len().min(HEX_ROW));
+            self.tell(output, print_hex_row(row).as_slice());
+            rest = left;
         }
     }
 

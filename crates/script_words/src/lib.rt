@@ -14,5 +14,7 @@ pub use line::{Words, first_visible, is_blank_or_comment, is_plain};
 pub use numbers::{
     parse_case_number, parse_number, parse_number_within, parse_part_length, parse_slot, parse_u32,
 };
-pub use printing::{print_byte, print_decimal, print_hex_pair, print_hexadecimal, print_signed};
+pub use printing::{
+    plain_front, print_byte, print_decimal, print_hex_row, print_hexadecimal, print_signed,
+};
 pub use texts::{decode_hex, decode_text, split_pair};

@@ -1,10 +1,11 @@
 //! How replies print numbers, and the bytes of texts.
-ghost use Rattle.std.specs.Prelude.{◌≡◌, ◌<◌, ◌≤◌, ◌^◌, ℕ, decimal, drop, map, [], ◌∷◌};
+ghost use Rattle.std.specs.Prelude.{◌≡◌, ◌<◌, ◌≤◌, ◌^◌, ℕ, false, decimal, drop, take, map, get_or, length, [], ◌∷◌};
+ghost use Rattle.std.specs.List.{flat_map};
 ghost use Rattle.std.specs.Fmt.{signed_decimal};
 ghost use Rattle.std.specs.Int.Digits.{digits_of};
 ghost use Rattle.std.specs.Char.{digit_char};
-ghost use Rattle.script_words.specs.Hex.{hex_pair};
-ghost use Rattle.script_words.specs.Printing.{shown_byte, hexadecimal, hex_digits};
+ghost use Rattle.script_words.specs.Hex.{hex_of};
+ghost use Rattle.script_words.specs.Printing.{prints_itself, shown_byte, hexadecimal, hex_digits};
 
 use arrayvec::ArrayVec;
 use itoa::Buffer;
@@ -14,7 +15,7 @@ pub fn print_byte(byte: u8) -> ArrayVec<u8, 4>
     ensures { result.items ≡ shown_byte byte }
 {
     let mut spelling = ArrayVec::new();
-    if (0x21..=0x7e).contains(&byte) && byte != b'\\' {
+    if prints_itself(byte) {
         spelling.push(byte);
     } else {
         spelling.push(b'\\');
@@ -25,13 +26,36 @@ pub fn print_byte(byte: u8) -> ArrayVec<u8, 4>
     spelling
 }
 
-/// A byte's two hexadecimal digits, in lower case.
-pub fn print_hex_pair(byte: u8) -> ArrayVec<u8, 2>
-    ensures { result.items ≡ hex_pair byte }
+/// How many bytes at the front of a text print as themselves: those up to the first that does not, or all of them.
+pub fn plain_front(text: &[u8]) -> usize
+    ensures within { result ≤ length text.now }
+    ensures plain { flat_map shown_byte (take result text.now) ≡ take result text.now }
+    ensures longest { (d : ℕ) → result < length text.now → prints_itself (get_or text.now result d) ≡ false }
+{
+    let mut count = 0;
+    while count < text.len() && prints_itself(text[count]) {
+        count += 1;
+    }
+    count
+}
+
+// Whether a byte prints as itself.
+fn prints_itself(byte: u8) -> bool
+    ensures { result ≡ prints_itself byte }
+{
+    (0x21..=0x7e).contains(&byte) && byte != b'\\'
+}
+
+/// At most 16 bytes as pairs of hexadecimal digits, in lower case, with nothing between them.
+pub fn print_hex_row(bytes: &[u8]) -> ArrayVec<u8, 32>
+    requires { length bytes.now ≤ 16 }
+    ensures { result.items ≡ hex_of bytes.now }
 {
     let mut digits = ArrayVec::new();
-    digits.push(hex_digit(byte / 16));
-    digits.push(hex_digit(byte % 16));
+    for byte in bytes {
+        digits.push(hex_digit(*byte / 16));
+        digits.push(hex_digit(*byte % 16));
+    }
     digits
 }
 

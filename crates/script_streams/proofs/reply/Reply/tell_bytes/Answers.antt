@@ -1,0 +1,23 @@
+use Rattle.std.proofs.Common.{◌++◌, [], ◌∙◌, ap, sym, refl, take, append_assoc, take-append-drop}
+use Rattle.std.proofs.lemmas.Grind.{flat_map-append}
+use Rattle.script_words.specs.Printing.{shown_byte}
+use Rattle.script_streams.specs.TellLaws.{tells_then, tells_nothing, tells_as}
+use Rattle.script_streams.proofs.reply.Reply.tell_bytes.Goals as goal
+
+pub loop-rest-init : goal.loop-rest-init
+loop-rest-init g c = record { front = []; split = refl; told = tells_nothing _ _ c.args.self.now }
+
+pub loop-rest-preserved : goal.loop-rest-preserved
+loop-rest-preserved g c =
+    let so_far = c.loop-rest.invariant in
+    let rest = c.loop-rest.rest.now in
+    let piece = take c.tell_front-count.result rest in
+    record {
+      front = so_far.front ++ piece;
+      split = append_assoc so_far.front piece c.split_at.result.1.now
+          ∙ ap (λ back. so_far.front ++ (piece ++ back)) c.split_at.ensures.back
+          ∙ ap (λ all. so_far.front ++ all) (take-append-drop c.tell_front-count.result rest)
+          ∙ so_far.split;
+      told = tells_as _ _ _ _ c.args.self.now c.tell_front-count.new.self _ _ (sym (flat_map-append shown_byte so_far.front piece))
+          (tells_then _ _ _ _ _ _ c.args.self.now c.loop-rest.self c.tell_front-count.new.self _ _ so_far.told c.tell_front-count.ensures.tells);
+    }

@@ -1,0 +1,24 @@
+use Rattle.std.proofs.Common.{◌++◌, ℕ, List, [], ◌∙◌, ap, sym, refl, take, append_assoc, take-append-drop}
+use Rattle.std.proofs.lemmas.Grind.{flat_map-append}
+use Rattle.std.specs.List.{flat_map}
+use Rattle.script_words.specs.Hex.{hex_pair, hex_of}
+use Rattle.script_streams.specs.TellLaws.{tells_then, tells_nothing, tells_as}
+use Rattle.script_streams.proofs.reply.Reply.tell_hex.Goals as goal
+
+pub loop-rest-init : goal.loop-rest-init
+loop-rest-init g c = record { front = []; split = refl; told = tells_nothing _ _ c.args.self.now }
+
+pub loop-rest-preserved : goal.loop-rest-preserved
+loop-rest-preserved g c =
+    let so_far = c.loop-rest.invariant in
+    let rest = c.loop-rest.rest.now in
+    let piece = take c.min.result rest in
+    record {
+      front = so_far.front ++ piece;
+      split = append_assoc so_far.front piece c.split_at.result.1.now
+          ∙ ap (λ back. so_far.front ++ (piece ++ back)) c.split_at.ensures.back
+          ∙ ap (λ all. so_far.front ++ all) (take-append-drop c.min.result rest)
+          ∙ so_far.split;
+      told = tells_as _ _ _ _ c.args.self.now c.tell.new.self _ _ (ap (λ (digits : List ℕ). flat_map hex_pair so_far.front ++ digits) (c.as_slice.ensures.value ∙ c.print_hex_row.ensures ∙ ap hex_of c.split_at.ensures.front) ∙ sym (flat_map-append hex_pair so_far.front piece))
+          (tells_then _ _ _ _ _ _ c.args.self.now c.loop-rest.self c.tell.new.self _ _ so_far.told c.tell.ensures);
+    }
