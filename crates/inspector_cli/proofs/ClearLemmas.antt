@@ -14,16 +14,18 @@ use Rattle.intake.specs.State.{Bare, BareStream}
 use Rattle.intake.specs.Step.{BeginStep, AbandonStep, FinishStep, DeleteStep, PinStep, RetireStep}
 use Rattle.retention.specs.declared.Decision.{Decision}
 use Rattle.retention.specs.declared.Policy.{Policy}
-use Rattle.inspector_cli.specs.declared.session.Naming.{Naming}
+use Rattle.stream_names.specs.declared.naming.Naming.{Naming}
 use Rattle.script_lines.specs.Said.{Said, silence, bad_line, long_line, begin_exec, begin_core, part_of, end_of, drop_of, delete_of, pin_of, retire_by, list_all_cases, count_free, inspect_of, said, raw_length}
 use Rattle.script_streams.specs.Replies.{no_reply, ok_reply}
-use Rattle.inspector_cli.specs.Reply.{Begins, Replies, TakeStep, end_reply, plain_reply, retire_reply, dropped_line, unmet_line, exec_stream, core_stream}
-use Rattle.inspector_cli.specs.Reasons.{reason_of}
+use Rattle.inspector_cli.specs.Reply.{Begins, Replies, TakeStep}
+use Rattle.archive_replies.specs.Texts.{end_reply, plain_reply, retire_reply, dropped_line, unmet_line}
+use Rattle.stream_names.specs.Streams.{exec_stream, core_stream}
+use Rattle.archive_replies.specs.Reasons.{reason_of}
 use Rattle.inspector_cli.specs.Stages.{Stage, Moves, MayLeave}
 use Rattle.inspector_cli.specs.Session.{Item, Run, last_stage, Ending, complete, last_line, cut_part, said_last, EndReplies, LastReplies, Truncates, TakesFront, BreaksOff, AnswersAll, AnswersWhole}
 use Rattle.inspector_cli.specs.Runs.{IsClear}
-use Rattle.inspector_cli.specs.Inspecting.{kind_asked}
-use Rattle.inspector_cli.proofs.InspectLemmas.{asks_leaves}
+use Rattle.case_queries.specs.Inspecting.{kind_asked}
+use Rattle.case_queries.specs.LeaveLaws.{asks_leaves}
 
 -- the first byte of a text, and its fourth
 abbrev first_of : List ℕ → ℕ

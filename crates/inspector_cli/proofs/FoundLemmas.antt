@@ -12,10 +12,11 @@ use Rattle.intake.specs.Lasting.{WhatStandsIsOne}
 use Rattle.intake.specs.Lives.{KeptOverManyStops, Life, IsLived, AreLived, last_acknowledged}
 use Rattle.intake.specs.Marks.{Mark, IsOneOf, Has, FindsOne, HasOne, Run, IsSettled, FoundAfterAStop, last_of}
 use Rattle.intake.specs.State.{Bare}
-use Rattle.inspector_cli.specs.declared.session.Naming.{Naming}
+use Rattle.stream_names.specs.declared.naming.Naming.{Naming}
 use Rattle.script_lines.specs.Said.{Said, end_of}
 use Rattle.script_streams.specs.Replies.{ok_reply}
-use Rattle.inspector_cli.specs.Reply.{Replies, Ends, end_reply}
+use Rattle.inspector_cli.specs.Reply.{Replies, Ends}
+use Rattle.archive_replies.specs.Texts.{end_reply}
 use Rattle.inspector_cli.specs.Runs.{IsClear, IsLifeOf}
 use Rattle.inspector_cli.specs.Session.{last_stage}
 use Rattle.inspector_cli.specs.Stages.{Stage, Moves, mark_at, marks_of}

@@ -12,12 +12,13 @@ use Rattle.intake.specs.State.{Bare, BareStream}
 use Rattle.intake.specs.Step.{FinishStep}
 use Rattle.intake.specs.declared.faults.ArchiveFault.{ArchiveFault}
 use Rattle.intake.specs.declared.faults.ArchiveFault.TheVariants.{Stopped, NoStream, Disk}
-use Rattle.inspector_cli.specs.declared.session.Naming.{Naming}
+use Rattle.stream_names.specs.declared.naming.Naming.{Naming}
 use Rattle.script_lines.specs.Said.{Said, silence, bad_line, long_line, begin_exec, begin_core, part_of, end_of, drop_of, delete_of, pin_of, retire_by, list_all_cases, count_free, inspect_of}
-use Rattle.inspector_cli.specs.Reply.{Begins, Feeds, Ends, Drops, Replies, TakeStep, exec_stream, core_stream}
+use Rattle.inspector_cli.specs.Reply.{Begins, Feeds, Ends, Drops, Replies, TakeStep}
+use Rattle.stream_names.specs.Streams.{exec_stream, core_stream}
 use Rattle.inspector_cli.specs.Told.{is_no, begun, fed, held_then}
-use Rattle.inspector_cli.specs.Inspecting.{kind_asked}
-use Rattle.inspector_cli.proofs.InspectLemmas.{asks_leaves}
+use Rattle.case_queries.specs.Inspecting.{kind_asked}
+use Rattle.case_queries.specs.LeaveLaws.{asks_leaves}
 use Rattle.inspector_cli.proofs.ClearLemmas.{finish_stops, delete_stops, pin_stops, retire_stops}
 use Rattle.inspector_cli.proofs.SlotLemmas.{at_set, at_mapped}
 

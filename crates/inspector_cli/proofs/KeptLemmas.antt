@@ -13,15 +13,17 @@ use Rattle.intake.specs.Lives.{IsAmong}
 use Rattle.intake.specs.Marks.{Mark, mark_of}
 use Rattle.intake.specs.Parts.{Parts, bare_of}
 use Rattle.intake.specs.State.{BareStream}
-use Rattle.inspector_cli.specs.declared.session.Naming.{Naming}
+use Rattle.stream_names.specs.declared.naming.Naming.{Naming}
 use Rattle.script_lines.specs.Said.{Said, silence, bad_line, long_line, begin_exec, begin_core, part_of, end_of, drop_of, delete_of, pin_of, retire_by, list_all_cases, count_free, inspect_of, said, raw_length}
 use Rattle.script_streams.specs.Replies.{no_reply, ok_reply}
-use Rattle.inspector_cli.specs.Reply.{Replies, dropped_line, unmet_line, exec_stream, core_stream}
+use Rattle.inspector_cli.specs.Reply.{Replies}
+use Rattle.archive_replies.specs.Texts.{dropped_line, unmet_line}
+use Rattle.stream_names.specs.Streams.{exec_stream, core_stream}
 use Rattle.inspector_cli.specs.Session.{Ending, complete, last_line, cut_part, said_last, last_stage, LastReplies, EndReplies}
 use Rattle.inspector_cli.specs.Stages.{Stage, Moves, MayLeave, mark_at, marks_of}
 use Rattle.inspector_cli.specs.Stored.{HasImage, Spares}
-use Rattle.inspector_cli.specs.Inspecting.{kind_asked}
-use Rattle.inspector_cli.proofs.InspectLemmas.{asks_leaves}
+use Rattle.case_queries.specs.Inspecting.{kind_asked}
+use Rattle.case_queries.specs.LeaveLaws.{asks_leaves}
 use Rattle.inspector_cli.specs.Told.{Answer, Answers, Session, Finishes, HasLine, MayDrop, Spare, what_of}
 use Rattle.inspector_cli.proofs.StageLemmas.{begins_stays, truncates_stays, broken_stays}
 

@@ -10,7 +10,7 @@ use Rattle.intake.specs.Durable.{StandsFor, durable_in}
 use Rattle.intake.specs.Parts.{Parts, StreamParts, bare_case, bare_stream}
 use Rattle.intake.specs.State.{Bare}
 use Rattle.journal_layout.specs.Layout.{IsWithinLimits}
-use Rattle.inspector_cli.specs.declared.session.Naming.{Naming}
+use Rattle.stream_names.specs.declared.naming.Naming.{Naming}
 use Rattle.inspector_cli.specs.declared.session.LifeFault.{LifeFault}
 use Rattle.inspector_cli.specs.declared.session.LifeFault.TheVariants.{Open, Session}
 use Rattle.inspector_cli.specs.declared.session.MemoryFault.{MemoryFault}

@@ -12,7 +12,7 @@ use Rattle.script_streams.specs.declared.reply.Reply.{Reply}
 use Rattle.intake.specs.StayLaws.{stays_as}
 use Rattle.inspector_cli.specs.declared.script.ScriptStop.{ScriptStop}
 use Rattle.inspector_cli.specs.declared.script.ScriptStop.TheVariants.{Read, Unheard}
-use Rattle.inspector_cli.specs.declared.session.Naming.{Naming}
+use Rattle.stream_names.specs.declared.naming.Naming.{Naming}
 use Rattle.script_lines.specs.Said.{said, silence}
 use Rattle.inspector_cli.specs.Stages.{Stage}
 use Rattle.inspector_cli.specs.Session.{Item, IsItem, spelled, Run, last_stage, ending_text}
@@ -20,7 +20,7 @@ use Rattle.script_streams.specs.Replies.{Telling}
 use Rattle.inspector_cli.specs.Answering.{Reading, CommandEnds, ScriptEnds}
 use Rattle.inspector_cli.proofs.GiveLemmas.{gives_nothing, gives_then, gives_as}
 use Rattle.inspector_cli.proofs.StageLemmas.{Laws, stage_of, line_moves, end_moves, still, broken_stays, run_then, last_then}
-use Rattle.inspector_cli.proofs.TellLemmas.{tells_nothing, tells_then}
+use Rattle.script_streams.specs.TellLaws.{tells_nothing, tells_then}
 
 all_then : (is : List Item) (i : Item) → AllByRecursion IsItem is → IsItem i → AllByRecursion IsItem (is ++ i ∷ [])
 all_then [] i all one = (one, tt)

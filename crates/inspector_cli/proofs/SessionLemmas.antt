@@ -16,7 +16,7 @@ use Rattle.script_streams.specs.declared.streams.StreamFault.{StreamFault}
 use Rattle.inspector_cli.specs.declared.script.ScriptStop.{ScriptStop}
 use Rattle.inspector_cli.specs.declared.script.ScriptStop.TheVariants.{Read, Unheard}
 use Rattle.inspector_cli.specs.declared.session.SessionFault.TheVariants.{ReadFailed, WriteFailed, TooManyReads}
-use Rattle.inspector_cli.specs.declared.session.Naming.{Naming}
+use Rattle.stream_names.specs.declared.naming.Naming.{Naming}
 use Rattle.inspector_cli.specs.Stages.{Stage, IsFoundAfterAStop}
 use Rattle.inspector_cli.specs.Session.{AnswersAll, AnswersWhole, Closes, Streams, SessionEnds}
 use Rattle.script_streams.specs.Replies.{Telling}

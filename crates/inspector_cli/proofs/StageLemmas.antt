@@ -13,16 +13,18 @@ use Rattle.intake.specs.Marks.{Passes, Run as RunOfMarks, Leads, doubted, mark_o
 use Rattle.intake.specs.Parts.{Parts, bare_of}
 use Rattle.intake.specs.State.{BareStream}
 use Rattle.retention.specs.declared.Decision.{Decision}
-use Rattle.inspector_cli.specs.declared.session.Naming.{Naming}
+use Rattle.stream_names.specs.declared.naming.Naming.{Naming}
 use Rattle.script_lines.specs.Said.{Said, silence, bad_line, long_line, begin_exec, begin_core, part_of, end_of, drop_of, delete_of, pin_of, retire_by, list_all_cases, count_free, inspect_of, said, raw_length}
 use Rattle.script_streams.specs.Replies.{no_reply}
-use Rattle.inspector_cli.specs.Reply.{Begins, Replies, end_reply, plain_reply, retire_reply, exec_stream, core_stream}
-use Rattle.inspector_cli.specs.Reasons.{reason_of}
+use Rattle.inspector_cli.specs.Reply.{Begins, Replies}
+use Rattle.archive_replies.specs.Texts.{end_reply, plain_reply, retire_reply}
+use Rattle.stream_names.specs.Streams.{exec_stream, core_stream}
+use Rattle.archive_replies.specs.Reasons.{reason_of}
 use Rattle.inspector_cli.specs.Stages.{Stage, Moves, MayLeave, mark_at, marks_of, IsFoundAfterAStop}
 use Rattle.inspector_cli.specs.Session.{Item, Run, last_stage, Ending, complete, last_line, cut_part, said_last, EndReplies, LastReplies, Truncates, TakesFront, BreaksOff}
 use Rattle.intake.specs.StayLaws.{stays_as, stays_then}
-use Rattle.inspector_cli.specs.Inspecting.{kind_asked}
-use Rattle.inspector_cli.proofs.InspectLemmas.{asks_leaves}
+use Rattle.case_queries.specs.Inspecting.{kind_asked}
+use Rattle.case_queries.specs.LeaveLaws.{asks_leaves}
 
 all_as : {P Q : Durable → Type 0} (xs : List Durable) → ((x : Durable) → P x → Q x) → AllByRecursion P xs → AllByRecursion Q xs
 all_as [] f all = tt

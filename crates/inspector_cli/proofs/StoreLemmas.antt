@@ -19,9 +19,10 @@ use Rattle.failure_count.specs.Counts.{HasRisen}
 use Rattle.script_streams.specs.Telling.{Told, IsDelivered}
 use Rattle.script_streams.specs.declared.reply.Reply.{Reply}
 use Rattle.script_streams.specs.declared.streams.StreamFault.{StreamFault}
-use Rattle.inspector_cli.specs.declared.session.Naming.{Naming}
+use Rattle.stream_names.specs.declared.naming.Naming.{Naming}
 use Rattle.script_lines.specs.Said.{Said, ProcessSaid, silence, bad_line, long_line, begin_exec, begin_core, part_of, end_of, drop_of, delete_of, pin_of, retire_by, list_all_cases, count_free, inspect_of, said}
-use Rattle.inspector_cli.specs.Reply.{Begins, TakeStep, TakeBytes, Takes, exec_unless, exec_stream, core_unless, core_stream, name_fault, core_name}
+use Rattle.inspector_cli.specs.Reply.{Begins, TakeStep, TakeBytes, Takes}
+use Rattle.stream_names.specs.Streams.{exec_unless, exec_stream, core_unless, core_stream, name_fault, core_name}
 use Rattle.inspector_cli.specs.declared.session.SessionFault.TheVariants.{WriteFailed}
 use Rattle.inspector_cli.specs.declared.session.StoreOutcome.{StoreOutcome}
 use Rattle.retention.specs.declared.Policy.{Policy}
@@ -34,7 +35,7 @@ use Rattle.inspector_cli.specs.Session.{Streams}
 use Rattle.inspector_cli.specs.Storing.{first_stream, TakesFile, TakesMore, FileReplies, RestReplies, StoresStream, policy_before, MakesRoom, Stores, said_before, StoreStages, StoreEnds, StoresAlone}
 use Rattle.intake.specs.StayLaws.{stays_none, stays_as, stays_then}
 use Rattle.inspector_cli.proofs.StageLemmas.{Laws, Reaches, stage_of, line_moves, still, begins_stays}
-use Rattle.inspector_cli.proofs.TellLemmas.{tells_then}
+use Rattle.script_streams.specs.TellLaws.{tells_then}
 use Rattle.inspector_cli.proofs.SlotLemmas.{set_again}
 use Rattle.name_template.specs.declared.template.NameFault.{NameFault}
 

@@ -4,7 +4,7 @@ use Rattle.std.proofs.lemmas.List.{append-nil}
 use Rattle.std.specs.List.{flat_map, AllByRecursion}
 use Rattle.disk_model.specs.declared.disk.Disk as disk
 use Rattle.intake.specs.Parts.{Parts}
-use Rattle.inspector_cli.specs.declared.session.Naming.{Naming}
+use Rattle.stream_names.specs.declared.naming.Naming.{Naming}
 use Rattle.script_lines.specs.Said.{Said, silence}
 use Rattle.inspector_cli.specs.Stages.{Stage}
 use Rattle.inspector_cli.specs.Session.{Item, IsItem, spelled, Run, said_last, ending_text, AnswersAll, AnswersWhole, Closes}

@@ -1,10 +1,3 @@
-pub mod Reasons
-pub mod Seeing
-pub mod Gathering
-pub mod GatheringWords
-pub mod Keeping
-pub mod Inspecting
-pub mod Commands
 pub mod Reply
 pub mod Stages
 pub mod Session

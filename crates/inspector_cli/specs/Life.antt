@@ -7,7 +7,7 @@ use Rattle.intake.specs.Calls.{OpenCall}
 use Rattle.intake.specs.Durable.{Durable, StandsFor}
 use Rattle.intake.specs.Marks.{IsSettled, mark_of}
 use Rattle.intake.specs.Parts.{Parts}
-use Rattle.inspector_cli.specs.declared.session.Naming.{Naming}
+use Rattle.stream_names.specs.declared.naming.Naming.{Naming}
 use Rattle.inspector_cli.specs.declared.session.SessionFault.{SessionFault}
 use Rattle.inspector_cli.specs.declared.session.StoreOutcome.{StoreOutcome}
 use Rattle.inspector_cli.specs.declared.session.LifeFault.{LifeFault}

@@ -6,7 +6,7 @@ use Rattle.journal_layout.specs.declared.shape.Shape.{Shape}
 use Rattle.journal_layout.specs.Layout.{IsWithinLimits}
 use Rattle.intake.specs.Parts.{Parts, bare_of}
 use Rattle.intake.specs.State.{Bare}
-use Rattle.inspector_cli.specs.declared.session.Naming.{Naming}
+use Rattle.stream_names.specs.declared.naming.Naming.{Naming}
 use Rattle.inspector_cli.specs.declared.session.LifeFault.TheVariants.{Open, Session}
 use Rattle.inspector_cli.specs.declared.session.MemoryFault.{MemoryFault}
 use Rattle.inspector_cli.specs.declared.session.MemoryFault.TheVariants.{BadShape, OutOfMemory, Disk, Life}

@@ -5,7 +5,7 @@ use Rattle.disk_model.specs.declared.disk.Disk as disk
 use Rattle.intake.specs.Lives.{Life, IsLived}
 use Rattle.intake.specs.Marks.{Run, IsSettled}
 use Rattle.intake.specs.Parts.{Parts}
-use Rattle.inspector_cli.specs.declared.session.Naming.{Naming}
+use Rattle.stream_names.specs.declared.naming.Naming.{Naming}
 use Rattle.inspector_cli.specs.Stages.{Stage, mark_at, marks_of}
 use Rattle.inspector_cli.specs.Session.{AnswersAll, AnswersWhole, Closes}
 

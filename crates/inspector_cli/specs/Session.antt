@@ -12,7 +12,7 @@ use Rattle.failure_count.specs.Counts.{HasRisen}
 use Rattle.script_streams.specs.declared.streams.Input as input
 use Rattle.script_streams.specs.declared.streams.Output as output
 use Rattle.script_streams.specs.Lines.{IsLine}
-use Rattle.inspector_cli.specs.declared.session.Naming.{Naming}
+use Rattle.stream_names.specs.declared.naming.Naming.{Naming}
 use Rattle.script_lines.specs.Said.{Said, silence, part_of, said, raw_length}
 use Rattle.script_streams.specs.Replies.{no_reply}
 use Rattle.inspector_cli.specs.Reply.{Replies, Takes}

@@ -7,9 +7,9 @@ use Rattle.intake.specs.Durable.{Durable, FoundCase, StandsFor}
 use Rattle.intake.specs.Lives.{Life, AreLived, IsAmong, last_acknowledged}
 use Rattle.intake.specs.Marks.{last_of}
 use Rattle.intake.specs.Parts.{Parts, bare_of}
-use Rattle.inspector_cli.specs.declared.session.Naming.{Naming}
+use Rattle.stream_names.specs.declared.naming.Naming.{Naming}
 use Rattle.script_lines.specs.Said.{Said, end_of}
-use Rattle.inspector_cli.specs.Reply.{end_reply}
+use Rattle.archive_replies.specs.Texts.{end_reply}
 use Rattle.inspector_cli.specs.Runs.{IsLifeOf}
 use Rattle.inspector_cli.specs.Stages.{Stage}
 use Rattle.inspector_cli.specs.Session.{IsItem, spelled, AnswersAll, AnswersWhole, Closes, IsQuiet}

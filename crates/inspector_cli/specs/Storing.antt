@@ -9,7 +9,7 @@ use Rattle.intake.specs.Parts.{Parts}
 use Rattle.intake.specs.Slots.{stream_at}
 use Rattle.intake.specs.State.{Bare, BareStream}
 use Rattle.failure_count.specs.Counts.{HasRisen}
-use Rattle.inspector_cli.specs.declared.session.Naming.{Naming}
+use Rattle.stream_names.specs.declared.naming.Naming.{Naming}
 use Rattle.inspector_cli.specs.declared.session.SessionFault.{SessionFault}
 use Rattle.inspector_cli.specs.declared.session.StoreOutcome.{StoreOutcome}
 use Rattle.inspector_cli.specs.declared.session.SessionFault.TheVariants.{ReadFailed, WriteFailed, TooManyReads}
@@ -20,8 +20,9 @@ use Rattle.script_lines.specs.Said.{Said, silence, begin_exec, begin_core, end_o
 use Rattle.inspector_cli.specs.Session.{Streams}
 use Rattle.inspector_cli.specs.Stages.{Stage, Moves, IsFoundAfterAStop}
 use Rattle.script_streams.specs.Replies.{no_reply}
-use Rattle.inspector_cli.specs.Reply.{Begins, Ends, Takes, Retires, exec_stream, core_stream}
-use Rattle.inspector_cli.specs.Reasons.{reason_of}
+use Rattle.inspector_cli.specs.Reply.{Begins, Ends, Takes, Retires}
+use Rattle.stream_names.specs.Streams.{exec_stream, core_stream}
+use Rattle.archive_replies.specs.Reasons.{reason_of}
 
 -- What the first line begins, or why it begins nothing: it begins a stream in slot 0. Any other line is none that is known.
 abbrev pub first_stream : Naming → Said → Result BareStream (List ℕ)

@@ -3,10 +3,11 @@ use Rattle.std.specs.Prelude.{◌≡◌, ◌⊎◌, ℕ, ◌==◌, ◌&&◌, Boo
 use Rattle.std.specs.List.{flat_map, AllByRecursion}
 use Rattle.disk_model.specs.declared.disk.Disk as disk
 use Rattle.intake.specs.Parts.{Parts}
-use Rattle.inspector_cli.specs.declared.session.Naming.{Naming}
+use Rattle.stream_names.specs.declared.naming.Naming.{Naming}
 use Rattle.script_lines.specs.Said.{Said, silence, begin_exec, begin_core, part_of, end_of, drop_of, delete_of, retire_by, said}
 use Rattle.script_streams.specs.Replies.{no_reply, ok_reply}
-use Rattle.inspector_cli.specs.Reply.{Replies, dropped_line}
+use Rattle.inspector_cli.specs.Reply.{Replies}
+use Rattle.archive_replies.specs.Texts.{dropped_line}
 use Rattle.inspector_cli.specs.Stages.{Stage, Moves}
 use Rattle.inspector_cli.specs.Session.{Item, Ending, said_last, EndReplies, BreaksOff, Closes, last_stage}
 

@@ -2,18 +2,19 @@
 ghost use Rattle.std.specs.Prelude.{◌≡◌, [], is_ok};
 ghost use Rattle.intake.specs.Parts.{bare_of};
 ghost use Rattle.script_lines.specs.Commands.{asked_by};
-ghost use Rattle.inspector_cli.specs.Reply.{Ends, Drops, Deletes, Pins, Retires, Frees, list_reply};
+ghost use Rattle.inspector_cli.specs.Reply.{Ends, Drops, Deletes, Pins, Retires, Frees};
+ghost use Rattle.archive_replies.specs.Texts.{list_reply};
 ghost use Rattle.script_streams.specs.Replies.{TellsReply, TellsText, telling};
 ghost use Rattle.inspector_cli.specs.Answering.{AnswersTo};
 
-use crate::begin::{answer_begin, core_stream, exec_stream};
-use crate::session::Naming;
-use crate::telling::{tell_cases, tell_free, tell_outcome, tell_retired, tell_stored};
+use crate::begin::answer_begin;
+use archive_replies::{tell_cases, tell_free, tell_outcome, tell_retired, tell_stored};
 use disk_model::Disk;
 use intake::Archive;
 use retention::Policy;
 use script_lines::Request;
 use script_streams::{Output, Reply, tell_no};
+use stream_names::{Naming, core_stream, exec_stream};
 
 // Answers a line.
 pub(crate) fn answer_plain<O: Output, D: Disk>(

@@ -3,11 +3,12 @@ ghost use Rattle.inspector_cli.specs.Session.{streams_of};
 ghost use Rattle.inspector_cli.specs.Life.{LifeEnds, RunsOver};
 
 use crate::run::run_session;
-use crate::session::{LifeFault, Naming};
+use crate::session::LifeFault;
 use disk_model::Disk;
 use intake::{Archive, Settings};
 use script_streams::{Input, Output};
 use std::alloc::Global;
+use stream_names::Naming;
 
 /// Opens the archive on a disk, runs a session over it, and hands the disk back.
 ///

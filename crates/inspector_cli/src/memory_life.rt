@@ -7,13 +7,14 @@ ghost use Rattle.inspector_cli.specs.Session.{streams_of};
 ghost use Rattle.inspector_cli.specs.Memory.{MemoryEnds, NoDisk};
 
 use crate::life::open_and_run;
-use crate::session::{MemoryFault, Naming};
+use crate::session::MemoryFault;
 use case_journal::format;
 use disk_model::{Disk, MemDisk};
 use intake::Settings;
 use journal_layout::{Half, Shape};
 use script_streams::{Input, Output};
 use std::alloc::Global;
+use stream_names::Naming;
 
 /// Makes an archive of this shape in memory, and runs a session over it, as `run_session` does: what is answered is the text of
 /// the script over an archive with no case, whatever the disk of it is. The archive is gone then.

@@ -4,11 +4,11 @@ ghost use Rattle.intake.specs.Parts.{Parts};
 ghost use Rattle.script_lines.specs.Said.{part_of};
 ghost use Rattle.script_streams.specs.Reading.{Stops, steps_left};
 ghost use Rattle.inspector_cli.specs.Reply.{Takes};
-ghost use Rattle.inspector_cli.specs.declared.session.Naming.{Naming};
+ghost use Rattle.stream_names.specs.declared.naming.Naming.{Naming};
 ghost use Rattle.script_streams.specs.Replies.{TellsText, telling};
 ghost use Rattle.inspector_cli.specs.Answering.{PieceEnds, PartEnds, PartAnswers, SkipEnds, reading};
 
-use crate::telling::tell_outcome;
+use archive_replies::tell_outcome;
 use disk_model::Disk;
 use intake::{Archive, ArchiveFault};
 use script_streams::{Input, Output, ReadStop, Reply, ScriptBuffer, tell_no};

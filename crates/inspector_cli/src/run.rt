@@ -5,11 +5,12 @@ ghost use Rattle.inspector_cli.specs.Answering.{session_fault};
 ghost use Rattle.std.specs.Prelude.{◌≡◌, List};
 
 use crate::script::{ScriptStop, answer_script};
-use crate::session::{Naming, SessionFault};
+use crate::session::SessionFault;
 use disk_model::Disk;
 use intake::{Archive, calls_lead_from_mark_to_mark, found_after_a_stop};
 use script_streams::{Input, Output, ReadStop, Reply, ScriptBuffer};
 use std::alloc::Global;
+use stream_names::Naming;
 
 /// Reads a script to its end, answers its commands in order, and drops the streams that are open then.
 ///

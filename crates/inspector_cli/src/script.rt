@@ -5,23 +5,22 @@ ghost use Rattle.script_streams.specs.Reading.{Stops};
 ghost use Rattle.script_streams.specs.Telling.{has_failed};
 ghost use Rattle.intake.specs.Durable.{Durable};
 ghost use Rattle.script_lines.specs.Said.{said, part_of};
-ghost use Rattle.inspector_cli.specs.declared.session.Naming.{Naming};
+ghost use Rattle.stream_names.specs.declared.naming.Naming.{Naming};
 ghost use Rattle.script_streams.specs.Replies.{telling};
-ghost use Rattle.inspector_cli.specs.Keeping.{AreKept};
-ghost use Rattle.inspector_cli.specs.Seeing.{IsKept};
+ghost use Rattle.case_queries.specs.Keeping.{AreKept};
+ghost use Rattle.case_queries.specs.Seeing.{IsKept};
 ghost use Rattle.inspector_cli.specs.Answering.{CommandEnds, Halts, ScriptEnds, PartAnswers, LastAnswers, reading};
 
 use crate::answers::answer_plain;
-use crate::inspect::answer_query;
-use crate::kept_image::Images;
 use crate::parts::answer_part;
-use crate::session::Naming;
-use crate::telling::tell_outcome;
+use archive_replies::tell_outcome;
+use case_queries::{Images, answer_query};
 use disk_model::Disk;
 use intake::{Archive, calls_lead_from_mark_to_mark};
 use script_lines::{Command, parse_line};
 use script_streams::{Input, KeptLine, LineEnding, Output, ReadStop, Reply, ScriptBuffer, tell_no};
 use std::alloc::Global;
+use stream_names::Naming;
 
 /// Why a script was not answered to its end.
 #[derive(Clone, Copy)]

@@ -1,16 +1,6 @@
 //! A session: the commands of a script and the replies to them.
 use journal_layout::OpenFault;
-use name_template::Template;
 use thiserror::Error;
-
-/// How the core files that are stored are named (core(5), "Naming of core dump files").
-#[derive(Drop)]
-pub struct Naming {
-    /// The template of their names.
-    pub template: Template,
-    /// Whether `.` and the process are added to a name whose template does not show the process.
-    pub uses_pid: bool,
-}
 
 /// What came of a stream that was to be stored, and of the line before it that makes room.
 #[derive(Clone, Copy, PartialEq, Eq, Debug)]
@@ -47,7 +37,7 @@ pub enum LifeFault {
 }
 
 /// Why a session over a fresh archive in memory did not end with its script.
-#[derive(Clone, Copy, PartialEq, Eq, Debug, Error)]
+#[derive(Clone, Copy, Debug, Error)]
 pub enum MemoryFault {
     /// The shape is outside its limits.
     #[error("the shape is outside its limits")]

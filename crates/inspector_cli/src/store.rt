@@ -4,22 +4,22 @@ ghost use Rattle.intake.specs.Durable.{Durable};
 ghost use Rattle.intake.specs.Parts.{Parts, bare_of};
 ghost use Rattle.script_lines.specs.Said.{said};
 ghost use Rattle.script_lines.specs.Commands.{asked_by, said_by};
-ghost use Rattle.inspector_cli.specs.Commands.{stream_found};
+ghost use Rattle.stream_names.specs.Commands.{stream_found};
 ghost use Rattle.inspector_cli.specs.Reply.{Begins, Takes};
 ghost use Rattle.script_streams.specs.Replies.{TellsReply, telling};
 ghost use Rattle.inspector_cli.specs.Session.{streams_of};
 ghost use Rattle.inspector_cli.specs.Storing.{StoreEnds, Stores, StoresStream, RestReplies, first_stream, TakesFile, TakesMore, IsSlotQuiet};
 
 use crate::answers::answer_end;
-use crate::begin::{answer_begin, core_stream, exec_stream};
-use crate::names::NewStream;
+use crate::begin::answer_begin;
 use crate::room::make_room;
-use crate::session::{Naming, SessionFault, StoreOutcome};
-use crate::telling::reason;
+use crate::session::{SessionFault, StoreOutcome};
+use archive_replies::reason;
 use disk_model::Disk;
 use intake::{Archive, ArchiveFault, calls_lead_from_mark_to_mark, found_after_a_stop};
 use script_lines::{Command, Request, parse_text};
 use script_streams::{Input, Output, Reply, tell_no};
+use stream_names::{Naming, NewStream, core_stream, exec_stream};
 
 // How many reads a file may take.
 const MOST_READS: u64 = 1 << 40;

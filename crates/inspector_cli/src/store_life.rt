@@ -2,12 +2,13 @@
 ghost use Rattle.inspector_cli.specs.Session.{streams_of};
 ghost use Rattle.inspector_cli.specs.Life.{LifeEnds, StoresOver};
 
-use crate::session::{LifeFault, Naming, StoreOutcome};
+use crate::session::{LifeFault, StoreOutcome};
 use crate::store::store_stream;
 use disk_model::Disk;
 use intake::{Archive, Settings};
 use script_streams::{Input, Output};
 use std::alloc::Global;
+use stream_names::Naming;
 
 /// Opens the archive on a disk, makes room in it and stores one stream as `store_stream` does, and hands the disk back. Says
 /// whether room was made and whether the case is stored. Crash safety is that of `open_and_run`, the lines being `before` where it

@@ -1,5 +1,5 @@
 use Rattle.std.proofs.Common.{refl}
-use Rattle.inspector_cli.specs.Reply.{plain_reply}
+use Rattle.archive_replies.specs.Texts.{plain_reply}
 use Rattle.inspector_cli.proofs.answers.answer_delete.Goals as goal
 
 pub returns : goal.returns

@@ -1,5 +1,5 @@
 use Rattle.std.proofs.Common.{refl}
-use Rattle.inspector_cli.specs.Reply.{end_reply}
+use Rattle.archive_replies.specs.Texts.{end_reply}
 use Rattle.inspector_cli.proofs.answers.answer_end.Goals as goal
 
 pub returns : goal.returns

@@ -2,8 +2,8 @@ use Rattle.std.proofs.Common.{[], refl}
 use Rattle.std.specs.Prelude.{codes}
 use Rattle.intake.specs.Parts.{bare_of}
 use Rattle.script_streams.specs.Replies.{no_reply}
-use Rattle.inspector_cli.specs.Reply.{list_reply}
-use Rattle.inspector_cli.proofs.TellLemmas.{tells_nothing}
+use Rattle.archive_replies.specs.Texts.{list_reply}
+use Rattle.script_streams.specs.TellLaws.{tells_nothing}
 use Rattle.inspector_cli.proofs.answers.answer_plain.Goals as goal
 
 pub returns-in-Silence : goal.returns-in-Silence

@@ -1,8 +1,8 @@
 use Rattle.std.proofs.Common.{◌≤◌, length, refl, ap, subst, ◌∙◌, arith}
 use Rattle.disk_model.specs.Places.{AreBytes}
-use Rattle.inspector_cli.specs.Reply.{begin_reply}
-use Rattle.inspector_cli.proofs.NameLemmas.{is_name}
-use Rattle.inspector_cli.proofs.TellLemmas.{tells_as}
+use Rattle.archive_replies.specs.Texts.{begin_reply}
+use Rattle.stream_names.specs.NameLaws.{is_name}
+use Rattle.script_streams.specs.TellLaws.{tells_as}
 use Rattle.inspector_cli.proofs.begin.begin_stream.Goals as goal
 
 pub begin-outcome-requires : goal.begin-outcome-requires

@@ -2,8 +2,8 @@ use Rattle.std.proofs.Common.{◌≡◌, [], length, arith, refl}
 use Rattle.std.proofs.lemmas.Result.{err_from_is_err_and}
 use Rattle.std.specs.Prelude.{codes}
 use Rattle.script_streams.specs.Replies.{no_reply}
-use Rattle.inspector_cli.specs.Reply.{plain_reply}
-use Rattle.inspector_cli.proofs.TellLemmas.{tells_then}
+use Rattle.archive_replies.specs.Texts.{plain_reply}
+use Rattle.script_streams.specs.TellLaws.{tells_then}
 use Rattle.inspector_cli.proofs.parts.answer_part.Goals as goal
 
 pub returns-in_err-missing-clause-answers : goal.returns-in_err-missing-clause-answers

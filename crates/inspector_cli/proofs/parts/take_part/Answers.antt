@@ -2,7 +2,7 @@ use Rattle.std.proofs.Common.{◌++◌, [], arith, refl, ◌∙◌}
 use Rattle.std.proofs.lemmas.Result.{err_from_is_err_and}
 use Rattle.inspector_cli.proofs.FeedLemmas.{fed_none}
 use Rattle.inspector_cli.proofs.GiveLemmas.{gives_nothing, gives_then, gives_then_none, joined_length}
-use Rattle.inspector_cli.proofs.TellLemmas.{tells_nothing, tells_then}
+use Rattle.script_streams.specs.TellLaws.{tells_nothing, tells_then}
 use Rattle.inspector_cli.proofs.parts.take_part.Goals as goal
 
 pub loop-missing-init : goal.loop-missing-init

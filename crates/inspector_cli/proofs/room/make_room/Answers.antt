@@ -1,6 +1,6 @@
 use Rattle.std.proofs.Common.{◌≡◌, None, [], refl, sym, ap, ◌∙◌}
 use Rattle.inspector_cli.specs.Storing.{policy_before, retired_by}
-use Rattle.inspector_cli.proofs.TellLemmas.{tells_nothing}
+use Rattle.script_streams.specs.TellLaws.{tells_nothing}
 use Rattle.inspector_cli.proofs.room.make_room.Goals as goal
 
 pub returns-in-None : goal.returns-in-None

@@ -3,7 +3,7 @@ use Rattle.std.proofs.lemmas.Result.{err_from_is_err_and}
 use Rattle.script_lines.specs.Said.{said}
 use Rattle.inspector_cli.specs.Session.{last_line}
 use Rattle.inspector_cli.proofs.LineLemmas.{halts_as, line_answered, told_before}
-use Rattle.inspector_cli.proofs.TellLemmas.{tells_then}
+use Rattle.script_streams.specs.TellLaws.{tells_then}
 use Rattle.inspector_cli.proofs.script.answer_command.Goals as goal
 
 pub returns-in-EndOfInput-clause-answers : goal.returns-in-EndOfInput-clause-answers

@@ -1,7 +1,7 @@
 use Rattle.std.proofs.Common.{refl}
 use Rattle.std.specs.Prelude.{codes}
 use Rattle.script_streams.specs.Replies.{no_reply}
-use Rattle.inspector_cli.specs.Reply.{plain_reply}
+use Rattle.archive_replies.specs.Texts.{plain_reply}
 use Rattle.script_lines.specs.Said.{part_of}
 use Rattle.inspector_cli.proofs.FeedLemmas.{fed_none}
 use Rattle.inspector_cli.proofs.LineLemmas.{last_whole, last_cut}

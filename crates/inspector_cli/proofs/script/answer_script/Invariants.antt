@@ -1,8 +1,8 @@
 use Rattle.std.proofs.Common.{◌≡◌, ◌+◌, cond, List}
 use Rattle.intake.specs.Durable.{Durable}
 use Rattle.script_streams.specs.Reading.{steps_left}
-use Rattle.inspector_cli.specs.Keeping.{AreKept}
-use Rattle.inspector_cli.specs.Seeing.{IsKept}
+use Rattle.case_queries.specs.Keeping.{AreKept}
+use Rattle.case_queries.specs.Seeing.{IsKept}
 use Rattle.inspector_cli.proofs.RunLemmas.{Along}
 use Rattle.inspector_cli.proofs.StageLemmas.{stage_of}
 use Rattle.inspector_cli.proofs.script.answer_script.Given as goal

@@ -2,8 +2,8 @@ use Rattle.std.proofs.Common.{refl, Ok, Err, ap}
 use Rattle.std.specs.Prelude.{codes}
 use Rattle.inspector_cli.specs.declared.store.TakeStop.TheVariants.{File, Refused}
 use Rattle.script_streams.specs.Replies.{no_reply}
-use Rattle.inspector_cli.specs.Reasons.{reason_of}
-use Rattle.inspector_cli.proofs.TellLemmas.{tells_as}
+use Rattle.archive_replies.specs.Reasons.{reason_of}
+use Rattle.script_streams.specs.TellLaws.{tells_as}
 use Rattle.inspector_cli.proofs.store.answer_file.Goals as goal
 
 pub returns-in-Err-File : goal.returns-in-Err-File

@@ -1,7 +1,7 @@
 use Rattle.std.proofs.Common.{◌≡◌, List, ℕ, Result, ap, sym, subst, ◌∙◌}
 use Rattle.intake.specs.State.{BareStream}
 use Rattle.script_lines.specs.Said.{said}
-use Rattle.inspector_cli.specs.Commands.{stream_found}
+use Rattle.stream_names.specs.Commands.{stream_found}
 use Rattle.inspector_cli.specs.Reply.{Begins}
 use Rattle.inspector_cli.specs.Storing.{first_stream}
 use Rattle.inspector_cli.proofs.StoreLemmas.{IsFresh, first_fresh, begun_takes}

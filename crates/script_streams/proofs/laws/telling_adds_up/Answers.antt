@@ -1,7 +1,7 @@
 use Rattle.std.proofs.Common.{sym, subst}
 use Rattle.std.proofs.lemmas.List.{append-nil}
 use Rattle.script_streams.specs.Telling.{Told}
-use Rattle.script_streams.proofs.TellingLemmas.{tells_then}
+use Rattle.script_streams.specs.TellLaws.{tells_then}
 use Rattle.script_streams.proofs.laws.telling_adds_up.Goals as goal
 
 pub returns : goal.returns

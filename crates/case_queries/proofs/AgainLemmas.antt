@@ -1,0 +1,68 @@
+-- Executables that were gathered are gathered again with no byte read.
+use Rattle.std.proofs.Common.{◌≡◌, inr, ⊎_elim, ℕ, Bool, true, false, List, [], ◌∷◌, Result, Ok, Err, Vec, Global, Some, IfOk, map, refl, sym, ap, subst}
+use Rattle.std.proofs.lemmas.Bool.{false≢true}
+use Rattle.address_space.specs.Source.{ExecutableView}
+use Rattle.case_journal.specs.Viewing.{IsQuiet}
+use Rattle.disk_model.specs.MomentLaws.{started}
+use Rattle.disk_model.specs.declared.disk.Disk as disk
+use Rattle.intake.specs.Parts.{Parts, bare_of}
+use Rattle.intake.specs.State.{BareCase}
+use Rattle.intake.specs.StayLaws.{stays_none}
+use Rattle.intake.specs.declared.faults.ArchiveFault.{ArchiveFault}
+use Rattle.case_queries.specs.Gathering.{Gathers, GathersAll, Wanted, wanted_of, with_executable}
+use Rattle.case_queries.specs.GatheringWords.{executable_view, gathered_view}
+use Rattle.case_queries.specs.Keeping.{StayGathered}
+use Rattle.case_queries.specs.Seeing.{AreOfCase, SeesImage}
+use Rattle.case_queries.specs.declared.gather.Executable.{Executable}
+use Rattle.case_queries.specs.LeaveLaws.{Leaves, leaves_as, leaves_then, looks_leaves, gathers_leaves, all_leaves, own_still}
+
+abbrev is_given : {A B : Type 0} → Result A B → Bool
+is_given (Ok x) = true
+is_given (Err f) = false
+
+given_not : {A B : Type 0} (x : A) (f : B) → Ok x ≡ Err f → ⊥
+given_not x f is = false≢true (sym (ap is_given is))
+
+module _ {D : Type 0} (g : disk.Ghosts D) (now : Parts D) (only : (c : List ℕ) → g.left_since now.disk (g.clock now.disk) c → g.may_leave now.disk c) where
+  quiet_still : IsQuiet g now.disk now.disk
+  quiet_still = record {
+    seen = λ honest. refl;
+    crash = λ honest c may. may;
+    moments = λ honest. started g now.disk (g.may_leave now.disk) only;
+    honesty = refl;
+    size = refl;
+  }
+
+  seen_again : (seq : ℕ) (image : List ℕ) → AreOfCase g now seq image → SeesImage g now seq image now
+  seen_again seq image own = record { own = own; state = refl; contents = λ honest. refl; quiet = quiet_still; stays = stays_none g now }
+
+  -- one more before those that are gathered again
+  one_again : (old mid new : Parts D) (x : Wanted) (xs : List Wanted) (image : List ℕ) (views : List ExecutableView) (others : Result (List ExecutableView) ArchiveFault)
+      → ((list : List ExecutableView) → Gathers g mid xs (Ok list) new → Gathers g now xs (Ok list) now)
+      → SeesImage g old x.0 image mid → Leaves g new now → Gathers g mid xs others new → Ok views ≡ with_executable x.1 image others → Gathers g now (x ∷ xs) (Ok views) now
+  one_again old mid new x xs image views (Ok list) more looks leaves gathers is =
+      let behind = leaves_then g mid new now (gathers_leaves g mid new xs (Ok list) gathers) leaves in
+      let all = leaves_then g old mid now (looks_leaves g old mid x.0 (Ok image) looks) behind in
+      (Ok image, now, seen_again x.0 image (own_still g old now x.0 image all looks.own), inr (Ok list, more list gathers, is))
+  one_again old mid new x xs image views (Err f) more looks leaves gathers is = absurd (given_not views f is)
+
+  again : (old new : Parts D) (xs : List Wanted) (views : List ExecutableView) → Leaves g new now → Gathers g old xs (Ok views) new → Gathers g now xs (Ok views) now
+  again old new [] views leaves gathers = (gathers.0, refl)
+  again old new (x ∷ xs) views leaves (Ok image, mid, looks, more) =
+      ⊎_elim
+      (λ short. absurd (given_not views _ short.0))
+      (λ rest. one_again old mid new x xs image views rest.0 (λ list. again mid new xs list leaves) looks leaves rest.1 rest.2)
+      more
+  again old new (x ∷ xs) views leaves (Err f, mid, looks, more) = absurd (given_not views f more.0)
+
+  all_again : (old : Parts D) (b : List ℕ) (views : List ExecutableView) → GathersAll g old (wanted_of b (bare_of old).cases) (Ok views) now → Gathers g now (wanted_of b (bare_of now).cases) (Ok views) now
+  all_again old b views all =
+      let leaves = all_leaves g old now (wanted_of b (bare_of old).cases) (Ok views) all in
+      subst (λ (cases : List BareCase). Gathers g now (wanted_of b cases) (Ok views) now) (sym leaves.cases)
+      (⊎_elim (λ short. absurd (given_not views _ short.0)) (λ gathers. again old now (wanted_of b (bare_of old).cases) views (leaves_as g now now refl) gathers) all)
+
+  -- what was gathered just now may be kept
+  pub stay_gathered : (old : Parts D) (b : List ℕ) (r : Result (Vec Executable Global) ArchiveFault) → GathersAll g old (wanted_of b (bare_of old).cases) (gathered_view r) now
+      → IfOk r (λ v. StayGathered g now b (Some v))
+  stay_gathered old b (Ok v) all = all_again old b (map executable_view v.items) all
+  stay_gathered old b (Err f) all = tt

@@ -1,0 +1,4 @@
+pub mod GatherLemmas
+pub mod AskLemmas
+pub mod AgainLemmas
+pub mod ShowLemmas

@@ -1,0 +1,147 @@
+-- What a line that asks an image leaves of the archive.
+use Rattle.std.proofs.Common.{◌≡◌, ◌⊎◌, inl, inr, ⊎_elim, ℕ, Bool, true, false, List, [], ◌∷◌, Option, None, Some, Result, Ok, Err, Vec, Global, refl, ap, sym, subst, ◌∙◌}
+use Rattle.std.specs.Prelude.{IsTrue}
+use Rattle.address_space.specs.Source.{ExecutableView}
+use Rattle.disk_model.specs.declared.disk.Disk as disk
+use Rattle.image_replies.specs.Core.{core_fault_of}
+use Rattle.image_replies.specs.declared.core_image.CoreFault.{CoreFault}
+use Rattle.intake.specs.Calls.{Stays}
+use Rattle.intake.specs.Contents.{Contents, UnmovedBytes, image_at}
+use Rattle.intake.specs.Parts.{Parts, bare_of, contents_of}
+use Rattle.intake.specs.State.{Bare, BareCase}
+use Rattle.intake.specs.StayLaws.{stays_as, stays_then}
+use Rattle.intake.specs.Step.{ImageStep, case_at}
+use Rattle.intake.specs.declared.faults.ArchiveFault.{ArchiveFault}
+use Rattle.intake.specs.declared.faults.ArchiveFault.TheVariants.{Stopped, BadSlot, SlotBusy, NameTaken, NoStream, TooLong, SpaceFull, NoCase, Pinned, JournalFull, NumbersSpent, OutOfMemory, Disk}
+use Rattle.journal_layout.specs.declared.entry.Kind.{Kind}
+use Rattle.script_lines.specs.Queries.{QuerySaid}
+use Rattle.case_queries.specs.Gathering.{Gathers, GathersAll, Wanted}
+use Rattle.case_queries.specs.Inspecting.{Asks, Shows, ShowsBy, ShowsBeside, ShowsSeen, reads_executables}
+use Rattle.case_queries.specs.Seeing.{AreOfCase, LooksAt}
+
+-- an image that can't be read: the archive stays as it is, or is stopped
+image_cases : (old new : Bare) (seq : ℕ) (f : ArchiveFault) → ImageStep {T = Vec ℕ Global} old seq (Err f) new → new.cases ≡ old.cases
+image_cases old new seq Stopped step = ap (λ (b : Bare). b.cases) step.1
+image_cases old new seq NoCase step = ap (λ (b : Bare). b.cases) step.2
+image_cases old new seq OutOfMemory step = ap (λ (b : Bare). b.cases) step.2
+image_cases old new seq Disk step = ap (λ (b : Bare). b.cases) step.2
+image_cases old new seq BadSlot step = absurd step
+image_cases old new seq SlotBusy step = absurd step
+image_cases old new seq NameTaken step = absurd step
+image_cases old new seq NoStream step = absurd step
+image_cases old new seq TooLong step = absurd step
+image_cases old new seq SpaceFull step = absurd step
+image_cases old new seq Pinned step = absurd step
+image_cases old new seq JournalFull step = absurd step
+image_cases old new seq NumbersSpent step = absurd step
+
+image_halts : (old new : Bare) (seq : ℕ) (f : ArchiveFault) → ImageStep {T = Vec ℕ Global} old seq (Err f) new → old.stopped ≡ true → new.stopped ≡ true
+image_halts old new seq Stopped step stopped = ap (λ (b : Bare). b.stopped) step.1 ∙ stopped
+image_halts old new seq NoCase step stopped = ap (λ (b : Bare). b.stopped) step.2 ∙ stopped
+image_halts old new seq OutOfMemory step stopped = ap (λ (b : Bare). b.stopped) step.2 ∙ stopped
+image_halts old new seq Disk step stopped = ap (λ (b : Bare). b.stopped) step.2
+image_halts old new seq BadSlot step stopped = absurd step
+image_halts old new seq SlotBusy step stopped = absurd step
+image_halts old new seq NameTaken step stopped = absurd step
+image_halts old new seq NoStream step stopped = absurd step
+image_halts old new seq TooLong step stopped = absurd step
+image_halts old new seq SpaceFull step stopped = absurd step
+image_halts old new seq Pinned step stopped = absurd step
+image_halts old new seq JournalFull step stopped = absurd step
+image_halts old new seq NumbersSpent step stopped = absurd step
+
+image_stops : (old new : Bare) (seq : ℕ) (f : ArchiveFault) → ImageStep {T = Vec ℕ Global} old seq (Err f) new → f ≡ Disk → new.stopped ≡ true
+image_stops old new seq f step is = ap (λ (b : Bare). b.stopped) (subst (λ (x : ArchiveFault). ImageStep {T = Vec ℕ Global} old seq (Err x) new) is step).2
+
+unmoved_images : (old new : Contents) (f : ArchiveFault) → UnmovedBytes old f new → new.images ≡ old.images
+unmoved_images old new Disk unmoved = ap (λ (c : Contents). c.images) unmoved
+unmoved_images old new _ unmoved = ap (λ (c : Contents). c.images) unmoved
+
+unmoved_taken : (old new : Contents) (f : ArchiveFault) → UnmovedBytes old f new → (new.taken ≡ old.taken) ⊎ (f ≡ Disk)
+unmoved_taken old new Disk unmoved = inr refl
+unmoved_taken old new _ unmoved = inl (ap (λ (c : Contents). c.taken) unmoved)
+
+-- The cases and their images are as they were, and so are the streams, unless the archive is stopped.
+pub record Leaves {D : Type 0} (g : disk.Ghosts D) (old new : Parts D) : Type 0 where
+  pub stays : Stays g old new
+  pub halts : old.stopped ≡ true → new.stopped ≡ true
+  pub cases : (bare_of new).cases ≡ (bare_of old).cases
+  pub images : IsTrue (g.is_honest old.disk) → (contents_of g.seen new).images ≡ (contents_of g.seen old).images
+  pub taken : IsTrue (g.is_honest old.disk) → ((contents_of g.seen new).taken ≡ (contents_of g.seen old).taken) ⊎ (new.stopped ≡ true)
+
+module _ {D : Type 0} (g : disk.Ghosts D) where
+  pub leaves_as : (old new : Parts D) → new ≡ old → Leaves g old new
+  leaves_as old new is = record {
+    stays = stays_as g old new is;
+    halts = λ stopped. ap (λ (a : Parts D). a.stopped) is ∙ stopped;
+    cases = ap (λ (a : Parts D). (bare_of a).cases) is;
+    images = λ honest. ap (λ (a : Parts D). (contents_of g.seen a).images) is;
+    taken = λ honest. inl (ap (λ (a : Parts D). (contents_of g.seen a).taken) is);
+  }
+
+  pub leaves_then : (a b c : Parts D) → Leaves g a b → Leaves g b c → Leaves g a c
+  leaves_then a b c first second = record {
+    stays = stays_then g a b c first.stays second.stays;
+    halts = λ stopped. second.halts (first.halts stopped);
+    cases = second.cases ∙ first.cases;
+    images = λ honest. second.images (first.stays.honesty ∙ honest) ∙ first.images honest;
+    taken = λ honest.
+        ⊎_elim
+        (λ same. ⊎_elim (λ before. inl (same ∙ before)) (λ stopped. inr (second.halts stopped)) (first.taken honest))
+        (λ stopped. inr stopped)
+        (second.taken (first.stays.honesty ∙ honest));
+  }
+
+  pub looks_leaves : (old new : Parts D) (seq : ℕ) (r : Result (List ℕ) ArchiveFault) → LooksAt g old seq r new → Leaves g old new
+  looks_leaves old new seq (Ok image) looks = record {
+    stays = looks.stays;
+    halts = λ stopped. ap (λ (b : Bare). b.stopped) looks.state ∙ stopped;
+    cases = ap (λ (b : Bare). b.cases) looks.state;
+    images = λ honest. ap (λ (c : Contents). c.images) (looks.contents honest);
+    taken = λ honest. inl (ap (λ (c : Contents). c.taken) (looks.contents honest));
+  }
+  looks_leaves old new seq (Err f) looks = record {
+    stays = looks.stays;
+    halts = image_halts (bare_of old) (bare_of new) seq f looks.step;
+    cases = image_cases (bare_of old) (bare_of new) seq f looks.step;
+    images = λ honest. unmoved_images (contents_of g.seen old) (contents_of g.seen new) f (looks.bytes honest);
+    taken = λ honest.
+        ⊎_elim (λ same. inl same) (λ is. inr (image_stops (bare_of old) (bare_of new) seq f looks.step is))
+        (unmoved_taken (contents_of g.seen old) (contents_of g.seen new) f (looks.bytes honest));
+  }
+
+  pub gathers_leaves : (old new : Parts D) (xs : List Wanted) (r : Result (List ExecutableView) ArchiveFault) → Gathers g old xs r new → Leaves g old new
+  gathers_leaves old new [] r gathers = leaves_as old new gathers.1
+  gathers_leaves old new (x ∷ xs) r (Ok image, mid, looks, more) =
+      leaves_then old mid new (looks_leaves old mid x.0 (Ok image) looks)
+      (⊎_elim (λ short. leaves_as mid new short.1) (λ rest. gathers_leaves mid new xs rest.0 rest.1) more)
+  gathers_leaves old new (x ∷ xs) r (Err f, mid, looks, more) = leaves_then old mid new (looks_leaves old mid x.0 (Err f) looks) (leaves_as mid new more.1)
+
+  pub all_leaves : (old new : Parts D) (xs : List Wanted) (r : Result (List ExecutableView) ArchiveFault) → GathersAll g old xs r new → Leaves g old new
+  all_leaves old new xs r all = ⊎_elim (λ short. leaves_as old new short.1) (λ gathers. gathers_leaves old new xs r gathers) all
+
+  beside_leaves : (old new : Parts D) (kind : Kind) (q : QuerySaid) (b : List ℕ) (fault : Option CoreFault) (reply : List ℕ) → ShowsBeside g old kind q b fault reply new → Leaves g old new
+  beside_leaves old new kind q b (Some fault) reply shows = leaves_as old new shows.1
+  beside_leaves old new kind q b None reply shows = all_leaves old new _ shows.0 shows.1
+
+  pub shows_leaves : (old new : Parts D) (kind : Kind) (q : QuerySaid) (b : List ℕ) (t : Bool) (reply : List ℕ) → ShowsBy g old kind q b t reply new → Leaves g old new
+  shows_leaves old new kind q b true reply shows = beside_leaves old new kind q b (core_fault_of b) reply shows
+  shows_leaves old new kind q b false reply shows = leaves_as old new shows.1
+
+  seen_leaves : (old new : Parts D) (kind : Kind) (q : QuerySaid) (r : Result (List ℕ) ArchiveFault) (reply : List ℕ) → ShowsSeen g old kind q r reply new → Leaves g old new
+  seen_leaves old new kind q (Ok image) reply shows = shows_leaves old new kind q image (reads_executables q) reply shows
+  seen_leaves old new kind q (Err f) reply shows = leaves_as old new shows.1
+
+  pub asks_leaves : (old new : Parts D) (seq : ℕ) (q : QuerySaid) (k : Result Kind (List ℕ)) (reply : List ℕ) → Asks g old seq q k reply new → Leaves g old new
+  asks_leaves old new seq q (Ok kind) reply asks = leaves_then old asks.1 new (looks_leaves old asks.1 seq asks.0 asks.2) (seen_leaves asks.1 new kind q asks.0 reply asks.3)
+  asks_leaves old new seq q (Err reason) reply asks = leaves_as old new asks.1
+
+  -- an image that is kept is still that of its case
+  pub own_still : (old new : Parts D) (seq : ℕ) (image : List ℕ) → Leaves g old new → AreOfCase g old seq image → AreOfCase g new seq image
+  own_still old new seq image leaves own = record {
+    bytes = λ honest.
+        let was = sym leaves.stays.honesty ∙ honest in
+        ap (λ (cs : List BareCase). image_at seq cs (contents_of g.seen new).images) leaves.cases
+        ∙ ap (image_at seq (bare_of old).cases) (leaves.images was) ∙ own.bytes was;
+    long = λ c at. own.long c (ap (case_at seq) (sym leaves.cases) ∙ at);
+  }

@@ -1,0 +1,6 @@
+pub mod Seeing
+pub mod Gathering
+pub mod GatheringWords
+pub mod Keeping
+pub mod Inspecting
+pub mod LeaveLaws

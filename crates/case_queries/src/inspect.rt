@@ -1,0 +1,201 @@
+// The answers to lines that ask an image.
+ghost use Rattle.std.specs.Prelude.{◌≡◌, [], false, IfOk};
+ghost use Rattle.intake.specs.Parts.{bare_of};
+ghost use Rattle.script_streams.specs.Replies.{TellsReply, TellsText, telling, reply_of};
+ghost use Rattle.script_lines.specs.Queries.{query_of, image_query, ask_notes, ask_maps};
+ghost use Rattle.journal_layout.specs.declared.entry.Kind.{Kind};
+ghost use Rattle.case_queries.specs.Inspecting.{Inspects, Shows, answer_of, asked_view, kind_asked, kind_for, want_of};
+ghost use Rattle.case_queries.specs.Keeping.{AreKept, StayGathered};
+ghost use Rattle.case_queries.specs.Seeing.{IsKept};
+
+use crate::gather::Executable;
+use crate::kept_image::{Images, see_image};
+use crate::memory::answer_memory;
+use archive_replies::reason;
+use disk_model::Disk;
+use elf_view::Want;
+use image_replies::{
+    CoreImage, tell_auxv, tell_core_fault, tell_files, tell_header, tell_notes, tell_process,
+    tell_regs, tell_signal, tell_threads,
+};
+use intake::Archive;
+use journal_layout::Kind;
+use memory_replies::{tell_maps, tell_symbol};
+use script_lines::{ImageQuery, Query};
+use script_streams::{Output, Reply, tell_no};
+use std::alloc::Global;
+
+/// Answers a line that asks the image of a case: tells what the layouts give for it, or the first reason why nothing is shown.
+/// The image is kept for the lines that ask the same case next, and with it the executables that are read beside it. Where
+/// memory was refused nothing is kept, so that the line made again has its room.
+pub fn answer_query<O: Output, D: Disk>(
+    seq: u32,
+    query: &Query,
+    images: &mut Images,
+    reply: &mut Reply,
+    output: &mut O,
+    archive: &mut Archive<D>,
+)
+    requires kept { IsKept D.Disk archive.old images.old.kept }
+    requires beside { AreKept D.Disk archive.old images.old.kept }
+    ensures answers { TellsReply (telling O.Output output.old output.new reply.old reply.new) (λ text. Inspects D.Disk archive.old seq (query_of query.now) text archive.new) }
+    ensures kept { IsKept D.Disk archive.new images.new.kept }
+    ensures beside { AreKept D.Disk archive.new images.new.kept }
+{
+    let kind = match kind_asked(seq, query, archive) {
+        Ok(kind) => kind,
+        Err(reason) => {
+            tell_no(reply, output, reason);
+            return;
+        }
+    };
+    match see_image(seq, images.kept.take(), archive) {
+        Ok(seen) => {
+            let mut seen = seen;
+            let has_room = answer_seen(
+                images.alloc,
+                kind,
+                query,
+                &seen.image,
+                &mut seen.executables,
+                reply,
+                output,
+                archive,
+            );
+            if has_room {
+                images.kept = Some(seen);
+            }
+        }
+        Err(fault) => tell_no(reply, output, reason(fault)),
+    }
+}
+
+// The kind of the case that a line asks, or the reason why it shows nothing.
+fn kind_asked<D: Disk>(seq: u32, query: &Query, archive: &Archive<D>) -> Result<Kind, &'static [u8]>
+    ensures asked { asked_view result ≡ kind_asked (bare_of archive.now) seq (query_of query.now) }
+    ensures runs { IfOk result (λ kind. archive.now.stopped ≡ false) }
+{
+    match archive.case(seq) {
+        Ok(entry) => kind_for(query, entry.kind),
+        Err(fault) => Err(reason(fault)),
+    }
+}
+
+// The kind of a case, where the line may ask one of that kind.
+fn kind_for(query: &Query, kind: Kind) -> Result<Kind, &'static [u8]>
+    ensures { asked_view result ≡ kind_for (query_of query.now) kind }
+{
+    match query {
+        Query::Image(query) => image_kind(query, kind),
+        Query::Memory(_) => core_kind(kind),
+        Query::Symbol { .. } => match kind {
+            Kind::Core => Err(b"NotExec"),
+            Kind::Exec => Ok(Kind::Exec),
+        },
+    }
+}
+
+fn image_kind(query: &ImageQuery, kind: Kind) -> Result<Kind, &'static [u8]>
+    ensures { asked_view result ≡ kind_for (image_query query.now) kind }
+{
+    match query {
+        ImageQuery::Header => Ok(kind),
+        ImageQuery::Notes => core_kind(kind),
+        ImageQuery::Threads => core_kind(kind),
+        ImageQuery::Registers { .. } => core_kind(kind),
+        ImageQuery::Process => core_kind(kind),
+        ImageQuery::Signal => core_kind(kind),
+        ImageQuery::AuxiliaryVector => core_kind(kind),
+        ImageQuery::Files => core_kind(kind),
+        ImageQuery::Maps => core_kind(kind),
+    }
+}
+
+fn core_kind(kind: Kind) -> Result<Kind, &'static [u8]>
+    ensures { asked_view result ≡ kind_for ask_notes kind }
+{
+    match kind {
+        Kind::Core => Ok(Kind::Core),
+        Kind::Exec => Err(b"NotCore"),
+    }
+}
+
+// As what an image is read.
+fn want_of(kind: Kind) -> Want
+    ensures { result ≡ want_of kind }
+{
+    match kind {
+        Kind::Core => Want::Core,
+        Kind::Exec => Want::Exec,
+    }
+}
+
+// Answers a line from the image of its case, and from the executables that it reads beside it. Says whether there was memory
+// for it.
+fn answer_seen<O: Output, D: Disk>(
+    alloc: Global,
+    kind: Kind,
+    query: &Query,
+    image: &[u8],
+    executables: &mut Option<Vec<Executable>>,
+    reply: &mut Reply,
+    output: &mut O,
+    archive: &mut Archive<D>,
+) -> bool
+    requires runs { archive.old.stopped ≡ false }
+    requires beside { StayGathered D.Disk archive.old image.now executables.old }
+    ensures answers { TellsReply (telling O.Output output.old output.new reply.old reply.new) (λ text. Shows D.Disk archive.old kind (query_of query.now) image.now text archive.new) }
+    ensures beside { StayGathered D.Disk archive.new image.now executables.new }
+{
+    match query {
+        Query::Image(query) => {
+            tell_image(alloc, kind, query, image, reply, output);
+            true
+        }
+        Query::Memory(query) => answer_memory(
+            alloc,
+            kind,
+            query,
+            image,
+            executables,
+            reply,
+            output,
+            archive,
+        ),
+        Query::Symbol { address } => tell_symbol(alloc, reply, output, image, *address),
+    }
+}
+
+// Tells what an image alone answers.
+fn tell_image<O: Output>(
+    alloc: Global,
+    kind: Kind,
+    query: &ImageQuery,
+    image: &[u8],
+    reply: &mut Reply,
+    output: &mut O,
+)
+    ensures { TellsText (telling O.Output output.old output.new reply.old reply.new) (reply_of (answer_of kind (image_query query.now) image.now [])) }
+{
+    match query {
+        ImageQuery::Header => tell_header(reply, output, image, want_of(kind)),
+        ImageQuery::Notes => tell_notes(reply, output, image),
+        ImageQuery::Threads => tell_threads(reply, output, image),
+        ImageQuery::Registers { thread } => tell_regs(reply, output, image, *thread),
+        ImageQuery::Process => tell_process(reply, output, image),
+        ImageQuery::Signal => tell_signal(reply, output, image),
+        ImageQuery::AuxiliaryVector => tell_auxv(reply, output, image),
+        ImageQuery::Files => tell_files(reply, output, image),
+        ImageQuery::Maps => tell_mappings(alloc, image, reply, output),
+    }
+}
+
+// Tells the mappings of a core.
+fn tell_mappings<O: Output>(alloc: Global, image: &[u8], reply: &mut Reply, output: &mut O)
+    ensures { (kind : Kind) → TellsText (telling O.Output output.old output.new reply.old reply.new) (reply_of (answer_of kind ask_maps image.now [])) }
+{
+    match CoreImage::read(image) {
+        Ok(core) => tell_maps(alloc, reply, output, &core),
+        Err(fault) => tell_core_fault(reply, output, fault),
+    }
+}

@@ -1,0 +1,62 @@
+// The image that the session read last.
+ghost use Rattle.std.specs.Prelude.{◌≡◌, Some, IfOk, IfSome};
+ghost use Rattle.case_queries.specs.Keeping.{AreKept};
+ghost use Rattle.case_queries.specs.Seeing.{IsKept, LooksAt, image_held};
+
+use crate::gather::Executable;
+use disk_model::Disk;
+use intake::{Archive, ArchiveFault};
+use std::alloc::Global;
+
+/// What lines that ask images take memory from, and the image that they keep.
+#[derive(Drop)]
+pub struct Images {
+    /// Where they take memory.
+    pub alloc: Global,
+    /// The image that was read last, if it is kept: none at first, and none behind a line that asks no image.
+    pub kept: Option<KeptImage>,
+}
+
+/// The image of a case, kept for the lines over the same case that come next, and the executables that were gathered for it, if
+/// a line has.
+#[derive(Drop)]
+pub struct KeptImage {
+    pub(crate) seq: u32,
+    pub(crate) image: Vec<u8>,
+    pub(crate) executables: Option<Vec<Executable>>,
+}
+
+// The image of a case: the one that is kept, where it is of that case; or else that one goes with its executables, and the
+// case's is read.
+pub(crate) fn see_image<D: Disk>(
+    seq: u32,
+    kept: Option<KeptImage>,
+    archive: &mut Archive<D>,
+) -> Result<KeptImage, ArchiveFault>
+    requires kept { IsKept D.Disk archive.old kept }
+    requires beside { AreKept D.Disk archive.old kept }
+    ensures seen { LooksAt D.Disk archive.old seq (image_held result) archive.new }
+    ensures kept { IfOk result (λ k. IsKept D.Disk archive.new (Some k)) }
+    ensures beside { IfOk result (λ k. AreKept D.Disk archive.new (Some k)) }
+{
+    if let Some(image) = of_case(seq, kept) {
+        return Ok(image);
+    }
+    let image = archive.image(seq)?;
+    Ok(KeptImage {
+        seq,
+        image,
+        executables: None,
+    })
+}
+
+// The image that is kept, where it is of that case.
+fn of_case(seq: u32, kept: Option<KeptImage>) -> Option<KeptImage>
+    ensures { IfSome result (λ k. (kept ≡ Some k) × (k.seq ≡ seq)) }
+{
+    let image = kept?;
+    if image.seq != seq {
+        return None;
+    }
+    Some(image)
+}

@@ -1,0 +1,11 @@
+//! The answers to lines that ask the image of a case in an archive.
+#![tactic(auto)]
+
+mod gather;
+mod inspect;
+mod kept_image;
+mod memory;
+
+pub use gather::Executable;
+pub use inspect::answer_query;
+pub use kept_image::{Images, KeptImage};

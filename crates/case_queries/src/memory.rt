@@ -1,0 +1,151 @@
+// The answers to lines over a core's memory.
+ghost use Rattle.std.specs.Prelude.{◌≡◌, false, map, Some, IfOk};
+ghost use Rattle.image_replies.specs.CoreWords.{core_bytes};
+ghost use Rattle.script_lines.specs.Queries.{memory_query};
+ghost use Rattle.script_streams.specs.Replies.{TellsReply, telling};
+ghost use Rattle.memory_replies.specs.Answers.{AnswersWith};
+ghost use Rattle.memory_replies.specs.Memory.{attached_view};
+ghost use Rattle.intake.specs.Parts.{bare_of};
+ghost use Rattle.case_queries.specs.Gathering.{GathersAll, wanted_of};
+ghost use Rattle.case_queries.specs.GatheringWords.{executable_view, gathered_view};
+ghost use Rattle.case_queries.specs.Inspecting.{Shows, ShowsCore, answer_of};
+ghost use Rattle.case_queries.specs.Keeping.{StayGathered};
+
+use crate::gather::{Executable, gather, lent};
+use archive_replies::reason;
+use disk_model::Disk;
+use image_replies::{CoreImage, tell_core_fault};
+use intake::{Archive, ArchiveFault};
+use journal_layout::Kind;
+use memory_replies::{Attached, tell_bt, tell_dump, tell_find, tell_strings};
+use script_lines::MemoryQuery;
+use script_streams::{Output, Reply, tell_no};
+use std::alloc::Global;
+
+// Answers a line over a core's memory, with the executables that its process had mapped, where they are stored. They are kept
+// for the lines over the same core that come next. Says whether there was memory for it.
+pub(crate) fn answer_memory<O: Output, D: Disk>(
+    alloc: Global,
+    kind: Kind,
+    query: &MemoryQuery,
+    image: &[u8],
+    kept: &mut Option<Vec<Executable>>,
+    reply: &mut Reply,
+    output: &mut O,
+    archive: &mut Archive<D>,
+) -> bool
+    requires runs { archive.old.stopped ≡ false }
+    requires kept { StayGathered D.Disk archive.old image.now kept.old }
+    ensures answers { TellsReply (telling O.Output output.old output.new reply.old reply.new) (λ text. Shows D.Disk archive.old kind (memory_query query.now) image.now text archive.new) }
+    ensures kept { StayGathered D.Disk archive.new image.now kept.new }
+{
+    match CoreImage::read(image) {
+        Ok(core) => answer_core(alloc, kind, query, &core, kept, reply, output, archive),
+        Err(fault) => {
+            tell_core_fault(reply, output, fault);
+            true
+        }
+    }
+}
+
+// The same of a core that has no fault.
+fn answer_core<O: Output, D: Disk>(
+    alloc: Global,
+    kind: Kind,
+    query: &MemoryQuery,
+    core: &CoreImage<'_>,
+    kept: &mut Option<Vec<Executable>>,
+    reply: &mut Reply,
+    output: &mut O,
+    archive: &mut Archive<D>,
+) -> bool
+    requires runs { archive.old.stopped ≡ false }
+    requires kept { StayGathered D.Disk archive.old (core_bytes core.now) kept.old }
+    ensures answers { TellsReply (telling O.Output output.old output.new reply.old reply.new) (λ text. ShowsCore D.Disk archive.old kind (memory_query query.now) (core_bytes core.now) text archive.new) }
+    ensures kept { StayGathered D.Disk archive.new (core_bytes core.now) kept.new }
+{
+    match gathered(alloc, core, kept.take(), archive) {
+        Ok(executables) => {
+            let has_room = tell_beside(alloc, kind, query, core, &executables, reply, output);
+            *kept = Some(executables);
+            has_room
+        }
+        Err(fault) => {
+            tell_no(reply, output, reason(fault));
+            false
+        }
+    }
+}
+
+// The executables of a core: those that are kept, or else they are read now.
+fn gathered<D: Disk>(
+    alloc: Global,
+    core: &CoreImage<'_>,
+    kept: Option<Vec<Executable>>,
+    archive: &mut Archive<D>,
+) -> Result<Vec<Executable>, ArchiveFault>
+    requires runs { archive.old.stopped ≡ false }
+    requires kept { StayGathered D.Disk archive.old (core_bytes core.now) kept }
+    ensures gathered { GathersAll D.Disk archive.old (wanted_of (core_bytes core.now) (bare_of archive.old).cases) (gathered_view result) archive.new }
+    ensures kept { IfOk result (λ v. StayGathered D.Disk archive.new (core_bytes core.now) (Some v)) }
+{
+    match kept {
+        Some(executables) => Ok(executables),
+        None => gather(alloc, core, archive),
+    }
+}
+
+// Tells what a core and these executables answer. Says whether there was memory for it.
+fn tell_beside<O: Output>(
+    alloc: Global,
+    kind: Kind,
+    query: &MemoryQuery,
+    core: &CoreImage<'_>,
+    executables: &[Executable],
+    reply: &mut Reply,
+    output: &mut O,
+) -> bool
+    ensures { TellsReply (telling O.Output output.old output.new reply.old reply.new) (AnswersWith result (answer_of kind (memory_query query.now) (core_bytes core.now) (map executable_view executables.now))) }
+{
+    match lent(alloc, executables) {
+        Ok(attached) => tell_memory(alloc, kind, query, core, &attached, reply, output),
+        Err(_) => {
+            tell_no(reply, output, b"OutOfMemory");
+            false
+        }
+    }
+}
+
+fn tell_memory<O: Output>(
+    alloc: Global,
+    kind: Kind,
+    query: &MemoryQuery,
+    core: &CoreImage<'_>,
+    attached: &[Attached<'_>],
+    reply: &mut Reply,
+    output: &mut O,
+) -> bool
+    ensures { TellsReply (telling O.Output output.old output.new reply.old reply.new) (AnswersWith result (answer_of kind (memory_query query.now) (core_bytes core.now) (map attached_view attached.now))) }
+{
+    match query {
+        MemoryQuery::Dump { first, length } => {
+            tell_dump(alloc, reply, output, core, attached, *first, *length)
+        }
+        MemoryQuery::Find { needle } => {
+            tell_find(
+                alloc,
+                reply,
+                output,
+                core,
+                attached,
+                needle.bytes.as_slice(),
+            )
+        }
+        MemoryQuery::Strings { least } => {
+            tell_strings(alloc, reply, output, core, attached, *least)
+        }
+        MemoryQuery::Backtrace { thread } => {
+            tell_bt(alloc, reply, output, core, attached, *thread)
+        }
+    }
+}

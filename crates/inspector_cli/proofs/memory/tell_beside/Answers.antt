@@ -1,6 +1,0 @@
-use Rattle.std.proofs.Common.{refl}
-use Rattle.memory_replies.specs.Answers.{memory_reply}
-use Rattle.inspector_cli.proofs.memory.tell_beside.Goals as goal
-
-pub returns-in-Err : goal.returns-in-Err
-returns-in-Err g c = (memory_reply, refl, c.tell_no.ensures)

@@ -1,9 +1,0 @@
-use Rattle.std.proofs.Common.{arith}
-use Rattle.inspector_cli.proofs.CaseLemmas.{one_line_more}
-use Rattle.inspector_cli.proofs.TellLemmas.{tells_then, tells_as}
-use Rattle.inspector_cli.proofs.telling.tell_cases.Goals as goal
-
-pub loop-entry-preserved : goal.loop-entry-preserved
-loop-entry-preserved g c =
-    tells_as _ _ _ _ _ _ _ _ (one_line_more c.args.cases.now c.loop-entry.entry-index c.entry-item.result (omega arith) c.entry-item.is)
-    (tells_then _ _ _ _ _ _ _ _ _ _ _ c.loop-entry.invariant c.tell_case.ensures)

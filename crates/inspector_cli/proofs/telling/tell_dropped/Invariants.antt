@@ -1,8 +1,0 @@
-use Rattle.std.proofs.Common.{take}
-use Rattle.std.specs.List.{flat_map}
-use Rattle.script_streams.specs.Telling.{Tells}
-use Rattle.inspector_cli.specs.Reply.{dropped_line}
-use Rattle.inspector_cli.proofs.telling.tell_dropped.Given as goal
-
-abbrev pub invariant-loop-seq : goal.invariant-loop-seq
-invariant-loop-seq g l = Tells (g.O.Output.taken l.initial.output) (g.O.Output.taken l.output) (g.O.Output.failures l.initial.output) (g.O.Output.failures l.output) l.initial.reply l.reply (flat_map dropped_line (take l.seq-index l.dropped))
