@@ -26,6 +26,23 @@ pub struct FileMap<'a> {
     pub ghost fits: { offset + (past - start) < 2 ^ 64 },
 }
 
+/// An entry of NT_FILE without its name.
+#[derive(Clone, Copy, Debug)]
+pub struct FileEntry {
+    /// Its number among the entries.
+    pub number: u64,
+    /// The first address.
+    pub start: u64,
+    /// The address behind the last.
+    pub past: u64,
+    /// Where the first byte stands in the file, in bytes.
+    pub offset: u64,
+    /// It does not end before it starts.
+    pub ghost ordered: { start ≤ past },
+    /// Its last byte's place in the file is a u64.
+    pub ghost fits: { offset + (past - start) < 2 ^ 64 },
+}
+
 /// The mapped files of a process.
 #[derive(Clone, Copy, Debug)]
 pub struct Files<'a> {
@@ -110,8 +127,20 @@ pub(crate) fn check_files(desc: &[u8]) -> Result<(), NoteField>
     Ok(())
 }
 
+impl FileEntry {
+    ghost use Rattle.std.specs.Prelude.{◌&&◌, nat_le, nat_lt};
+
+    /// Whether it maps an address.
+    fn maps(&self, address: u64) -> bool
+        ensures { result ≡ (nat_le self.now.start address && nat_lt address self.now.past) }
+    {
+        self.start <= address && address < self.past
+    }
+}
+
 impl<'a> Files<'a> {
-    ghost use Rattle.core_notes.specs.FileWords.{files_bytes, files_left};
+    ghost use Rattle.std.specs.Option.{option_map};
+    ghost use Rattle.core_notes.specs.FileWords.{entry_view, files_bytes, files_left};
 
     pub(crate) fn new(desc: &'a [u8]) -> Files<'a>
         requires fits { spec.names_at desc.now ≤ length desc.now }
@@ -119,6 +148,34 @@ impl<'a> Files<'a> {
         ensures { files_bytes result ≡ desc.now }
     {
         Files { desc }
+    }
+
+    /// The entry of that number.
+    fn entry(&self, i: usize) -> FileEntry
+        requires { i < spec.file_count (files_bytes self.now) }
+        ensures { entry_view result ≡ spec.entry_of (files_bytes self.now) i }
+    {
+        FileEntry {
+            number: i as u64,
+            start: u64_at(self.desc, 16 + 24 * i),
+            past: u64_at(self.desc, 24 + 24 * i),
+            offset: u64_at(self.desc, 32 + 24 * i) * u64_at(self.desc, 8),
+        }
+    }
+
+    /// The first entry that maps an address, where there is one. It looks at no name: who wants that takes it from `maps`.
+    pub fn covering(&self, address: u64) -> Option<FileEntry>
+        ensures { option_map entry_view result
+            ≡ option_map spec.unnamed (spec.first_mapping address (spec.files_of (files_bytes self.now))) }
+    {
+        let count = u64_at(self.desc, 0) as usize;
+        for i in 0..count {
+            let entry = self.entry(i);
+            if entry.maps(address) {
+                return Some(entry);
+            }
+        }
+        None
     }
 
     /// The mapped files, in order.
