@@ -1,4 +1,4 @@
-pub mod NulPlaces
+pub mod Names
 pub mod Entries
 pub mod Looking
 pub mod Covering

@@ -1,9 +1,9 @@
 -- NT_FILE (core(5)): a count and a page size; for each mapped file its first address, the address behind the last and its
 -- place in the file in pages; then the names in the same order, each ended by a NUL.
 use Rattle.std.specs.Prelude.{ℕ, zero, suc, ◌+◌, ◌-◌, ◌*◌, ◌^◌, ◌&&◌, not, nat_lt, nat_le, if◌then◌else◌, Bool, List, [], ◌∷◌, length, drop, find, Option, None, Some}
-use Rattle.std.specs.List.{range_with_len, before_first, after_first, list_all, enumerate_from}
+use Rattle.std.specs.List.{range_with_len, after_first, list_all, enumerate_from}
 use Rattle.memchr.specs.Find.{is_byte, places}
-use Rattle.elf_view.specs.Field.{field}
+use Rattle.elf_view.specs.Field.{field, text_before_nul}
 use Rattle.core_notes.specs.declared.faults.NoteField.{NoteField}
 use Rattle.core_notes.specs.declared.faults.NoteField.TheVariants.{FileCount, FileOffset, FileNames}
 
@@ -53,7 +53,7 @@ pub record FileView : Type 0 where
 abbrev pub files_from : List ℕ → ℕ → ℕ → List ℕ → List FileView
 files_from d i zero names = []
 files_from d i (suc n) names =
-    (record { start = file_start d i; past = file_end d i; offset = file_pages d i * page_size d; name = before_first (is_byte 0) names })
+    (record { start = file_start d i; past = file_end d i; offset = file_pages d i * page_size d; name = text_before_nul names })
     ∷ files_from d (i + 1) n (after_first (is_byte 0) names)
 
 -- the mapped files, in order

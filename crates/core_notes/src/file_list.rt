@@ -1,13 +1,14 @@
 // NT_FILE: the mapped files.
 ghost use Rattle.std.specs.Prelude.{◌≡◌, ◌+◌, ◌-◌, ◌*◌, ◌^◌, ◌<◌, ◌≤◌, length, IsTrue, OnOk};
-ghost use Rattle.std.specs.List.{list_all, range_with_len, before_first, after_first};
+ghost use Rattle.std.specs.List.{list_all, range_with_len, after_first};
 ghost use Rattle.std.specs.Result.{result_err};
 ghost use Rattle.memchr.specs.Find.{is_byte};
+ghost use Rattle.elf_view.specs.Field.{text_before_nul};
 ghost use Rattle.core_notes.specs.FileList as spec;
 
 use crate::faults::NoteField;
-use elf_view::u64_at;
-use memchr::{memchr, memchr_iter};
+use elf_view::{part, text_before_nul, u64_at};
+use memchr::memchr_iter;
 
 /// A mapped file of a process.
 #[derive(Clone, Copy, Debug)]
@@ -66,13 +67,12 @@ pub struct FileMaps<'a> {
 
 /// The bytes before the first NUL, and those behind it.
 fn split_name(names: &[u8]) -> (&[u8], &[u8])
-    ensures name { result.0.now ≡ before_first (is_byte 0) names.now }
+    ensures name { result.0.now ≡ text_before_nul names.now }
     ensures others { result.1.now ≡ after_first (is_byte 0) names.now }
 {
-    match memchr(0, names) {
-        Some(end) => (&names[..end], &names[end + 1..]),
-        None => (names, &[]),
-    }
+    let name = text_before_nul(names);
+    let others = part(names, name.len() as u64 + 1, names.len() as u64);
+    (name, others)
 }
 
 /// Whether entry `i` does not end before it starts, and its last byte's place in the file is a u64.
