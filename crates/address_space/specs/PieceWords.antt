@@ -1,8 +1,9 @@
 -- What the code's iterators over pieces and mappings stand for.
-use Rattle.std.specs.Prelude.{List}
+use Rattle.std.specs.Prelude.{List, map}
 use Rattle.std.specs.Option.{option_map}
-use Rattle.elf_view.specs.SegmentWords.{segments_left}
-use Rattle.address_space.specs.Source.{MappingView, mappings_in}
+use Rattle.elf_view.specs.Header.{LoadView}
+use Rattle.elf_view.specs.LoadWords.{loads_left}
+use Rattle.address_space.specs.Source.{MappingView, mapping_in}
 use Rattle.address_space.specs.Pieces.{PieceView, pieces_of}
 use Rattle.address_space.specs.SourceWords.{spot_view}
 use Rattle.address_space.specs.SpaceWords.{space_of}
@@ -19,4 +20,4 @@ mapping_view m = record { start = m.start; memsz = m.memsz; flags = m.flags; fil
 
 -- the mappings that are still to come
 abbrev pub mappings_left : Mappings → List MappingView
-mappings_left m = mappings_in (space_of m.space.now) (segments_left m.segments)
+mappings_left m = map (λ (l : LoadView). mapping_in (space_of m.space.now) l.segment) (loads_left m.loads)

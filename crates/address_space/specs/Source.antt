@@ -4,7 +4,9 @@
 use Rattle.std.specs.Prelude.{ℕ, zero, suc, ◌+◌, ◌-◌, ◌*◌, ◌==◌, ◌&&◌, nat_lt, nat_le, if◌then◌else◌, Bool, List, [], ◌∷◌, ◌++◌, length, map, filter, slice_index, Option, None, Some, find}
 use Rattle.std.specs.Str.{bytes_eq}
 use Rattle.elf_view.specs.Header.{SegmentView}
+pub use Rattle.elf_view.specs.Header.{is_load}
 use Rattle.core_notes.specs.FileList.{FileView}
+pub use Rattle.core_notes.specs.FileList.{is_mapping}
 
 -- an executable that stands for the mapped file of that path: its bytes
 pub record ExecutableView : Type 0 where
@@ -37,10 +39,6 @@ is_covering a s = nat_le s.vaddr a && nat_lt a (s.vaddr + span s)
 -- The segment that decides an address is the first that covers it, in table order.
 unfoldable pub decider : Space → ℕ → Option (ℕ × SegmentView)
 decider space a = first_from (is_covering a) 0 space.segments
-
--- start <= a < past, of a mapped file
-abbrev pub is_mapping : ℕ → FileView → Bool
-is_mapping a f = nat_le f.start a && nat_lt a f.past
 
 -- The mapped file at an address is that of the first entry of NT_FILE that maps it.
 unfoldable pub entry_at : Space → ℕ → Option (ℕ × FileView)
@@ -156,12 +154,6 @@ pub record MappingView : Type 0 where
 abbrev pub mapping_in : Space → SegmentView → MappingView
 mapping_in space s = record { start = s.vaddr; memsz = s.memsz; flags = s.flags; filesz = s.filesz; spot = spot_of s.vaddr (entry_at space s.vaddr) }
 
-abbrev pub is_load : SegmentView → Bool
-is_load s = s.kind == 1
-
--- the mappings of these program headers, and of all, in table order
-unfoldable pub mappings_in : Space → List SegmentView → List MappingView
-mappings_in space segments = map (mapping_in space) (filter is_load segments)
-
-abbrev pub mappings_of : Space → List MappingView
-mappings_of space = mappings_in space space.segments
+-- the mappings, in table order
+unfoldable pub mappings_of : Space → List MappingView
+mappings_of space = map (mapping_in space) (filter is_load space.segments)

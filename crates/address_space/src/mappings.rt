@@ -1,11 +1,8 @@
 // The mappings of a process.
-ghost use Rattle.std.specs.Prelude.{◌≡◌, [], ◌∷◌, MatchOption, filter};
-ghost use Rattle.elf_view.specs.SegmentWords.{segment_view, segments_left};
-ghost use Rattle.address_space.specs.Source as source;
 
 use crate::source::FileSpot;
 use crate::space::AddressSpace;
-use elf_view::{Segment, Segments};
+use elf_view::Loads;
 
 /// A mapping of a process: what a PT_LOAD tells of it.
 #[derive(Clone, Copy, Debug)]
@@ -26,22 +23,7 @@ pub struct Mapping<'a> {
 #[derive(Clone, Copy)]
 pub struct Mappings<'s, 'a> {
     pub(crate) space: &'s AddressSpace<'a>,
-    pub(crate) segments: Segments<'a>,
-}
-
-/// The next program header of a segment that is loaded.
-fn next_load<'a>(segments: &mut Segments<'a>) -> Option<Segment<'a>>
-    ensures { MatchOption result
-        ((filter source.is_load (segments_left segments.old) ≡ []) × (filter source.is_load (segments_left segments.new) ≡ []))
-        (λ s. filter source.is_load (segments_left segments.old)
-        ≡ segment_view s ∷ filter source.is_load (segments_left segments.new)) }
-{
-    while let Some(segment) = segments.next() {
-        if segment.is_load() {
-            return Some(segment);
-        }
-    }
-    None
+    pub(crate) loads: Loads<'a>,
 }
 
 impl<'s, 'a> Iterator for Mappings<'s, 'a> {
@@ -54,9 +36,8 @@ impl<'s, 'a> Iterator for Mappings<'s, 'a> {
 
     ghost remaining = { item_count mappings_left };
 
-    #[tactic(auto, unfolding(crate::specs::Source::mappings_in))]
     fn next(&mut self) -> Option<Mapping<'a>> {
-        let segment = next_load(&mut self.segments)?;
+        let segment = self.loads.next()?.segment;
         Some(Mapping {
             start: segment.vaddr,
             memsz: segment.memsz,

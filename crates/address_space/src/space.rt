@@ -152,13 +152,12 @@ impl<'a> AddressSpace<'a> {
     }
 
     /// The mappings, one for each PT_LOAD, in table order.
-    #[tactic(auto, unfolding(crate::specs::SpaceWords::space_of))]
     pub fn mappings(&self) -> Mappings<'_, 'a>
         ensures { mappings_left result ≡ mappings_of (space_of self.now) }
     {
         Mappings {
             space: self,
-            segments: self.elf.segments(),
+            loads: self.elf.loads(),
         }
     }
 }

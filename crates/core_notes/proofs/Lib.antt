@@ -1,3 +1,5 @@
-pub mod NulPlaces
+pub mod Names
 pub mod Entries
 pub mod Looking
+pub mod Covering
+pub mod Whole

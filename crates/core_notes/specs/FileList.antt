@@ -1,9 +1,9 @@
 -- NT_FILE (core(5)): a count and a page size; for each mapped file its first address, the address behind the last and its
 -- place in the file in pages; then the names in the same order, each ended by a NUL.
-use Rattle.std.specs.Prelude.{ℕ, zero, suc, ◌+◌, ◌-◌, ◌*◌, ◌^◌, ◌&&◌, not, nat_lt, nat_le, if◌then◌else◌, Bool, List, [], ◌∷◌, length, drop, Option, None, Some}
-use Rattle.std.specs.List.{range_with_len, before_first, after_first, list_all}
+use Rattle.std.specs.Prelude.{ℕ, zero, suc, ◌+◌, ◌-◌, ◌*◌, ◌^◌, ◌&&◌, not, nat_lt, nat_le, if◌then◌else◌, Bool, List, [], ◌∷◌, length, drop, find, Option, None, Some}
+use Rattle.std.specs.List.{range_with_len, after_first, list_all, enumerate_from}
 use Rattle.memchr.specs.Find.{is_byte, places}
-use Rattle.elf_view.specs.Field.{field}
+use Rattle.elf_view.specs.Field.{field, text_before_nul}
 use Rattle.core_notes.specs.declared.faults.NoteField.{NoteField}
 use Rattle.core_notes.specs.declared.faults.NoteField.TheVariants.{FileCount, FileOffset, FileNames}
 
@@ -53,9 +53,32 @@ pub record FileView : Type 0 where
 abbrev pub files_from : List ℕ → ℕ → ℕ → List ℕ → List FileView
 files_from d i zero names = []
 files_from d i (suc n) names =
-    (record { start = file_start d i; past = file_end d i; offset = file_pages d i * page_size d; name = before_first (is_byte 0) names })
+    (record { start = file_start d i; past = file_end d i; offset = file_pages d i * page_size d; name = text_before_nul names })
     ∷ files_from d (i + 1) n (after_first (is_byte 0) names)
 
 -- the mapped files, in order
 abbrev pub files_of : List ℕ → List FileView
 files_of d = files_from d 0 (file_count d) (drop (names_at d) d)
+
+-- start <= a < past, of a mapped file
+abbrev pub is_mapping : ℕ → FileView → Bool
+is_mapping a f = nat_le f.start a && nat_lt a f.past
+
+-- the first of the files that maps an address, with its number
+abbrev pub first_mapping : ℕ → List FileView → Option (ℕ × FileView)
+first_mapping a files = find (λ (e : ℕ × FileView). is_mapping a e.1) (enumerate_from 0 files)
+
+-- an entry by its number and its three words, without its name; its place in the file in bytes
+pub record EntryView : Type 0 where
+  pub number : ℕ
+  pub start : ℕ
+  pub past : ℕ
+  pub offset : ℕ
+
+-- what a mapped file is without its name
+abbrev pub unnamed : ℕ × FileView → EntryView
+unnamed e = record { number = e.0; start = e.1.start; past = e.1.past; offset = e.1.offset }
+
+-- entry i of the table
+abbrev pub entry_of : List ℕ → ℕ → EntryView
+entry_of d i = record { number = i; start = file_start d i; past = file_end d i; offset = file_pages d i * page_size d }

@@ -1,7 +1,7 @@
 -- Which notes of a core are looked at, and the first fault among them. Linux names its notes CORE.
-use Rattle.std.specs.Prelude.{ℕ, ◌==◌, ◌&&◌, if◌then◌else◌, Bool, List, [], ◌∷◌, ◌++◌, map, find, filter, Option, None, Some, is_none, IsTrue}
-use Rattle.std.specs.List.{list_all}
-use Rattle.std.specs.Option.{option_map, option_or}
+use Rattle.std.specs.Prelude.{◌≡◌, ℕ, ◌==◌, ◌&&◌, if◌then◌else◌, Bool, List, [], ◌∷◌, ◌++◌, map, find, filter, Option, None, Some, is_none, IsTrue}
+use Rattle.std.specs.List.{AllByRecursion, list_all}
+use Rattle.std.specs.Option.{ForSome, option_map, option_or}
 use Rattle.std.specs.Str.{bytes_eq}
 use Rattle.elf_view.specs.NoteList.{NoteView}
 use Rattle.elf_view.specs.Sound.{next_index}
@@ -90,3 +90,11 @@ is_status_whole note = is_none (fault_if (is_typed 1 note) (status_fault note.de
 
 abbrev pub AreStatusesWhole : List NoteView → Type 0
 AreStatusesWhole notes = IsTrue (list_all is_status_whole notes)
+
+-- No note that is looked at has a fault: no NT_PRSTATUS, and of no other type the first.
+pub record AreTypedWhole (notes : List NoteView) : Type 0 where
+  pub statuses : AllByRecursion (λ d. status_fault d ≡ None) (all_descs 1 notes)
+  pub psinfo : ForSome (first_desc 3 notes) (λ d. psinfo_fault d ≡ None)
+  pub auxv : ForSome (first_desc 6 notes) (λ d. auxv_fault d ≡ None)
+  pub siginfo : ForSome (first_desc 0x53494749 notes) (λ d. siginfo_fault d ≡ None)
+  pub files : ForSome (first_desc 0x46494c45 notes) (λ d. files_fault d ≡ None)

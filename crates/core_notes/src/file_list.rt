@@ -1,13 +1,14 @@
 // NT_FILE: the mapped files.
 ghost use Rattle.std.specs.Prelude.{◌≡◌, ◌+◌, ◌-◌, ◌*◌, ◌^◌, ◌<◌, ◌≤◌, length, IsTrue, OnOk};
-ghost use Rattle.std.specs.List.{list_all, range_with_len, before_first, after_first};
+ghost use Rattle.std.specs.List.{list_all, range_with_len, after_first};
 ghost use Rattle.std.specs.Result.{result_err};
 ghost use Rattle.memchr.specs.Find.{is_byte};
+ghost use Rattle.elf_view.specs.Field.{text_before_nul};
 ghost use Rattle.core_notes.specs.FileList as spec;
 
 use crate::faults::NoteField;
-use elf_view::u64_at;
-use memchr::{memchr, memchr_iter};
+use elf_view::{part, text_before_nul, u64_at};
+use memchr::memchr_iter;
 
 /// A mapped file of a process.
 #[derive(Clone, Copy, Debug)]
@@ -20,6 +21,23 @@ pub struct FileMap<'a> {
     pub offset: u64,
     /// The file's name.
     pub name: &'a [u8],
+    /// It does not end before it starts.
+    pub ghost ordered: { start ≤ past },
+    /// Its last byte's place in the file is a u64.
+    pub ghost fits: { offset + (past - start) < 2 ^ 64 },
+}
+
+/// An entry of NT_FILE without its name.
+#[derive(Clone, Copy, Debug)]
+pub struct FileEntry {
+    /// Its number among the entries.
+    pub number: u64,
+    /// The first address.
+    pub start: u64,
+    /// The address behind the last.
+    pub past: u64,
+    /// Where the first byte stands in the file, in bytes.
+    pub offset: u64,
     /// It does not end before it starts.
     pub ghost ordered: { start ≤ past },
     /// Its last byte's place in the file is a u64.
@@ -49,13 +67,12 @@ pub struct FileMaps<'a> {
 
 /// The bytes before the first NUL, and those behind it.
 fn split_name(names: &[u8]) -> (&[u8], &[u8])
-    ensures name { result.0.now ≡ before_first (is_byte 0) names.now }
+    ensures name { result.0.now ≡ text_before_nul names.now }
     ensures others { result.1.now ≡ after_first (is_byte 0) names.now }
 {
-    match memchr(0, names) {
-        Some(end) => (&names[..end], &names[end + 1..]),
-        None => (names, &[]),
-    }
+    let name = text_before_nul(names);
+    let others = part(names, name.len() as u64 + 1, names.len() as u64);
+    (name, others)
 }
 
 /// Whether entry `i` does not end before it starts, and its last byte's place in the file is a u64.
@@ -110,8 +127,20 @@ pub(crate) fn check_files(desc: &[u8]) -> Result<(), NoteField>
     Ok(())
 }
 
+impl FileEntry {
+    ghost use Rattle.std.specs.Prelude.{◌&&◌, nat_le, nat_lt};
+
+    /// Whether it maps an address.
+    fn maps(&self, address: u64) -> bool
+        ensures { result ≡ (nat_le self.now.start address && nat_lt address self.now.past) }
+    {
+        self.start <= address && address < self.past
+    }
+}
+
 impl<'a> Files<'a> {
-    ghost use Rattle.core_notes.specs.FileWords.{files_bytes, files_left};
+    ghost use Rattle.std.specs.Option.{option_map};
+    ghost use Rattle.core_notes.specs.FileWords.{entry_view, files_bytes, files_left};
 
     pub(crate) fn new(desc: &'a [u8]) -> Files<'a>
         requires fits { spec.names_at desc.now ≤ length desc.now }
@@ -119,6 +148,34 @@ impl<'a> Files<'a> {
         ensures { files_bytes result ≡ desc.now }
     {
         Files { desc }
+    }
+
+    /// The entry of that number.
+    fn entry(&self, i: usize) -> FileEntry
+        requires { i < spec.file_count (files_bytes self.now) }
+        ensures { entry_view result ≡ spec.entry_of (files_bytes self.now) i }
+    {
+        FileEntry {
+            number: i as u64,
+            start: u64_at(self.desc, 16 + 24 * i),
+            past: u64_at(self.desc, 24 + 24 * i),
+            offset: u64_at(self.desc, 32 + 24 * i) * u64_at(self.desc, 8),
+        }
+    }
+
+    /// The first entry that maps an address, where there is one. It looks at no name: who wants that takes it from `maps`.
+    pub fn covering(&self, address: u64) -> Option<FileEntry>
+        ensures { option_map entry_view result
+            ≡ option_map spec.unnamed (spec.first_mapping address (spec.files_of (files_bytes self.now))) }
+    {
+        let count = u64_at(self.desc, 0) as usize;
+        for i in 0..count {
+            let entry = self.entry(i);
+            if entry.maps(address) {
+                return Some(entry);
+            }
+        }
+        None
     }
 
     /// The mapped files, in order.

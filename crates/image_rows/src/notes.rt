@@ -383,6 +383,51 @@ fn the_place_of_a_file_fits(rt: HostRuntime) -> Result<(), Fail> {
     Ok(())
 }
 
+/// A list of three files: one without an address, and two of which the first maps what both have.
+fn lapping_files(alloc: Global) -> Result<Vec<u8>, AllocError> {
+    let of = |start, end, offset, name| FilePart {
+        start,
+        end,
+        offset,
+        name,
+    };
+    files(
+        alloc,
+        4096,
+        &[
+            of(0x3000, 0x3000, 7, b"/none".as_slice()),
+            of(0x2000, 0x4000, 2, b"/high".as_slice()),
+            of(0x1000, 0x3000, 0, b"/low".as_slice()),
+        ],
+    )
+}
+
+/// An address, and the number, the addresses and the place of the entry that is to be found.
+static LOOKUPS: [(u64, Option<(u64, u64, u64, u64)>); 7] = [
+    (0xfff, None),
+    (0x1000, Some((2, 0x1000, 0x3000, 0))),
+    (0x1fff, Some((2, 0x1000, 0x3000, 0))),
+    (0x2000, Some((1, 0x2000, 0x4000, 0x2000))),
+    (0x3000, Some((1, 0x2000, 0x4000, 0x2000))),
+    (0x3fff, Some((1, 0x2000, 0x4000, 0x2000))),
+    (0x4000, None),
+];
+
+#[test]
+fn the_first_entry_that_maps_an_address_is_found(rt: HostRuntime) -> Result<(), Fail> {
+    let desc = lapping_files(rt.alloc())?;
+    let list = descriptors::files(&note_of(&desc)).ok().ok_or("faulty")?;
+    for (address, wanted) in &LOOKUPS {
+        let found = list.covering(*address);
+        assert_eq!(rt;
+            found.map(|e| (e.number, e.start, e.past, e.offset)),
+            *wanted,
+            "{address}"
+        );
+    }
+    Ok(())
+}
+
 /// The first faulty note of a core of these notes is named so.
 fn names_note(
     rt: &(impl AllocGlobal + Abort),

@@ -1,7 +1,7 @@
 -- Where the names of a string table end.
-use Rattle.std.proofs.Common.{◌≡◌, ◌<◌, ◌≤◌, ◌+◌, ◌-◌, ℕ, Bool, true, false, List, Some, None, length, get_or, take, drop, min, leb, refl, sym, ap, ⊎_elim, ◌∙◌, arith}
+use Rattle.std.proofs.Common.{◌≡◌, ◌<◌, ◌≤◌, ◌+◌, ◌-◌, ℕ, Bool, true, false, List, Some, None, length, get_or, take, drop, leb, refl, sym, ap, ⊎_elim, ◌∙◌, arith}
 use Rattle.std.proofs.lemmas.Bool.{le-leb, lt-leb, cases_lt}
-use Rattle.std.proofs.lemmas.List.{get_or-drop, length-drop, take_all, drop_all}
+use Rattle.std.proofs.lemmas.List.{get_or-drop, length-drop, take_all}
 use Rattle.std.proofs.lemmas.List.Elements.{All-from_get_or}
 use Rattle.std.proofs.lemmas.List.Folds.{list_any_at, list_any_none}
 use Rattle.memchr.specs.Find.{IsLastByte, is_byte}
@@ -38,13 +38,5 @@ last_decides s place last h =
     (cases_lt last place)
 
 -- the bytes from a place on, which may be past the end
-pub from_place : (s : List ℕ) (place start : ℕ) → start ≡ min place (length s) → take (length s - start) (drop start s) ≡ drop place s
-from_place s place start is =
-    take_all (length s - start) (drop start s) (omega (arith, length-drop start s))
-    ∙ ⊎_elim
-    (λ past.
-    let end : start ≡ length s = omega arith in
-    ap (λ n. drop n s) end ∙ drop_all (length s) s (omega arith) ∙ sym (drop_all place s (omega arith)))
-    (λ within.
-    let same : start ≡ place = omega arith in ap (λ n. drop n s) same)
-    (cases_lt (length s) place)
+pub from_place : (s : List ℕ) (place : ℕ) → take (length s) (drop place s) ≡ drop place s
+from_place s place = take_all (length s) (drop place s) (omega (arith, length-drop place s))

@@ -2,8 +2,9 @@
 use Rattle.std.specs.Prelude.{ℕ, ◌+◌, ◌*◌, ◌%◌, ◌==◌, ◌&&◌, not, nat_lt, if◌then◌else◌, Bool, List, [], ◌∷◌, drop, find, Option, None, Some, unwrap_or, is_none, Result, Ok, Err}
 use Rattle.std.specs.Option.{option_map, option_or}
 use Rattle.std.specs.Result.{result_unwrap_or}
-use Rattle.std.specs.List.{range_with_len, list_any, before_first}
+use Rattle.std.specs.List.{range_with_len, list_any}
 use Rattle.memchr.specs.Find.{is_byte}
+use Rattle.elf_view.specs.Field.{text_before_nul}
 use Rattle.elf_view.specs.Header.{e_shoff}
 use Rattle.elf_view.specs.SectionTable.{SectionView, section_from, section_count_of}
 use Rattle.elf_view.specs.declared.faults.SectionFault.{SectionFault}
@@ -65,7 +66,7 @@ strings_of b = strings_at b (table_number b)
 
 -- the bytes of a string table from a place on up to a NUL, and whether there is one
 abbrev pub name_at : List ℕ → ℕ → List ℕ
-name_at strings place = before_first (is_byte 0) (drop place strings)
+name_at strings place = text_before_nul (drop place strings)
 
 unfoldable pub ends_in_nul : List ℕ → ℕ → Bool
 ends_in_nul strings place = list_any (is_byte 0) (drop place strings)

@@ -14,7 +14,7 @@ use crate::faults::SymbolError;
 use crate::functions::Function;
 use crate::sorted::{greatest_ends, sorted};
 use crate::tables::symbol_table;
-use elf_view::{Elf, text_before_nul};
+use elf_view::{Elf, part, text_before_nul};
 use std::alloc::Global;
 
 /// A function of an image.
@@ -47,8 +47,7 @@ pub struct Symbols<'a> {
 fn name_at(strings: &[u8], place: u32) -> &[u8]
     ensures { result.now ≡ spec.name_at strings.now place }
 {
-    let start = (place as usize).min(strings.len());
-    text_before_nul(&strings[start..])
+    text_before_nul(part(strings, u64::from(place), strings.len() as u64))
 }
 
 impl<'a> Symbols<'a> {

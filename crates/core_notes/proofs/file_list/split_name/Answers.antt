@@ -1,17 +1,12 @@
-use Rattle.std.proofs.Common.{◌+◌, ◌∙◌}
-use Rattle.std.proofs.lemmas.List.{take_rest}
-use Rattle.core_notes.proofs.NulPlaces.{before_found, after_found, before_none, after_none}
+use Rattle.std.proofs.Common.{◌+◌, length, take, drop, ap, ◌∙◌}
+use Rattle.std.specs.List.{position_or_len}
+use Rattle.memchr.specs.Find.{is_byte}
+use Rattle.core_notes.proofs.Names.{behind_front}
 use Rattle.core_notes.proofs.file_list.split_name.Goals as goal
 
-pub returns-in-Some-clause-name : goal.returns-in-Some-clause-name
-returns-in-Some-clause-name c = before_found 0 c.args.names.now c.in-Some.end c.in-Some.ensures
-
-pub returns-in-Some-clause-others : goal.returns-in-Some-clause-others
-returns-in-Some-clause-others c =
-    take_rest c.args.names.now (c.in-Some.end + 1) ∙ after_found 0 c.args.names.now c.in-Some.end c.in-Some.ensures
-
-pub returns-in-None-clause-name : goal.returns-in-None-clause-name
-returns-in-None-clause-name c = before_none 0 c.args.names.now c.in-None.ensures
-
-pub returns-in-None-clause-others : goal.returns-in-None-clause-others
-returns-in-None-clause-others c = after_none 0 c.args.names.now c.in-None.ensures
+pub returns-clause-others : goal.returns-clause-others
+returns-clause-others c =
+    let names = c.args.names.now in
+    c.part-others.ensures
+    ∙ ap (λ name. take (length names) (drop (length name + 1) names)) c.text_before_nul-name.ensures
+    ∙ behind_front (position_or_len (is_byte 0) names) names
