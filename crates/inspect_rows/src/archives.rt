@@ -138,14 +138,3 @@ pub(crate) fn with_core(alloc: Global, image: &[u8]) -> Result<Archive<MemDisk>,
     )?;
     Ok(archive)
 }
-
-// Over an archive whose first case is this core, these lines are answered so.
-pub(crate) fn core_tells(
-    rt: &(impl AllocGlobal + Abort),
-    image: &[u8],
-    lines: &str,
-    wanted: &str,
-) -> Result<(), Fail> {
-    let mut archive = with_core(rt.alloc(), image)?;
-    tells(rt, &mut archive, lines, wanted)
-}

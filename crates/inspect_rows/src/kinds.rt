@@ -56,14 +56,3 @@ fn a_disk_that_fails_at_the_read(rt: HostRuntime) -> Result<(), Fail> {
         "no Disk\nno Stopped\nno Stopped\n",
     )
 }
-
-#[test]
-fn a_deleted_case_is_not_asked(rt: HostRuntime) -> Result<(), Fail> {
-    let mut archive = opened(rt.alloc(), stored(rt.alloc())?)?;
-    tells(
-        &rt,
-        &mut archive,
-        "threads 1\ndelete 1\nthreads 1\n",
-        "0 4242 11 0x10400\nok\nok\nno NoCase\n",
-    )
-}

@@ -6,11 +6,7 @@ mod archives;
 #[cfg(test)]
 mod executables;
 #[cfg(test)]
-mod images;
-#[cfg(test)]
 mod kinds;
-#[cfg(test)]
-mod memory;
 #[cfg(test)]
 mod reasons;
 #[cfg(test)]
