@@ -1,4 +1,4 @@
-// Which cases lines ask, and what they read of the disk.
+// What lines read of the disk.
 use crate::archives;
 use crate::archives::{opened, tells, with_core};
 use disk_model::{MemDisk, OneFault};

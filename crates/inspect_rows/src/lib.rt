@@ -1,4 +1,4 @@
-//! What lines answer of images that a session stored: tests alone, of what crosses the crates.
+//! What lines read of images that a session stored: tests alone, of what crosses the crates.
 #![tactic(auto)]
 
 #[cfg(test)]
