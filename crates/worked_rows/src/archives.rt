@@ -9,15 +9,20 @@ use std::alloc::Global;
 use std::process::Abort;
 use std::test::Fail;
 
-// A formatted disk of one block in each journal half and four data blocks.
-pub(crate) fn fresh_disk(alloc: Global) -> Result<MemDisk, Fail> {
+// A formatted disk of one block in each journal half and so many data blocks.
+pub(crate) fn disk_of(alloc: Global, data_blocks: u32) -> Result<MemDisk, Fail> {
     let shape = Shape {
         half_blocks: 1,
-        data_blocks: 4,
+        data_blocks,
     };
     let mut disk = MemDisk::new(alloc, shape.length()?)?;
     format(&mut disk, shape)?;
     Ok(disk)
+}
+
+// One of four data blocks.
+pub(crate) fn fresh_disk(alloc: Global) -> Result<MemDisk, Fail> {
+    disk_of(alloc, 4)
 }
 
 // The archive on a disk, whose images have at most so many bytes.

@@ -1,10 +1,19 @@
-//! Worked examples of sessions over disks and streams that fail: tests alone, of what crosses the crates.
+//! Worked examples of sessions over disks and streams that fail, or whose calls are counted: tests alone, of what crosses
+//! the crates.
 #![tactic(auto)]
 
 #[cfg(test)]
 mod archives;
 #[cfg(test)]
+mod executables;
+#[cfg(test)]
 mod faults;
+#[cfg(test)]
+mod images;
+#[cfg(test)]
+mod kinds;
+#[cfg(test)]
+mod reasons;
 #[cfg(test)]
 mod rooms;
 #[cfg(test)]

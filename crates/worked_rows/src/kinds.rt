@@ -1,6 +1,7 @@
 // What lines read of the disk.
-use crate::archives;
-use crate::archives::{opened, tells, with_core};
+use crate::archives::{opened, tells};
+use crate::images;
+use crate::images::with_core;
 use disk_model::{MemDisk, OneFault};
 use elf_view::sample::stack_core;
 use std::alloc::Global;
@@ -15,7 +16,7 @@ fn stored(alloc: Global) -> Result<MemDisk, Fail> {
 
 // How many calls the disk gets from an opening and a session over these lines.
 fn calls(rt: &(impl AllocGlobal + Abort), lines: &str, wanted: &str) -> Result<u64, Fail> {
-    archives::calls(rt, stored(rt.alloc())?, lines, wanted)
+    images::calls(rt, stored(rt.alloc())?, lines, wanted)
 }
 
 #[test]
@@ -48,11 +49,11 @@ fn another_line_between_lets_an_image_go(rt: HostRuntime) -> Result<(), Fail> {
 fn a_disk_that_fails_at_the_read(rt: HostRuntime) -> Result<(), Fail> {
     let before = calls(&rt, "list\n", "1 core 4824 4242 0 0 - core.demo.4242\nok\n")?;
     let disk = OneFault::new(stored(rt.alloc())?, before.saturating_add(1));
-    let mut archive = opened(rt.alloc(), disk)?;
+    let mut archive = opened(rt.alloc(), disk, 1 << 30)?;
     tells(
         &rt,
         &mut archive,
-        "header 1\nheader 1\nheader 2\n",
+        b"header 1\nheader 1\nheader 2\n",
         "no Disk\nno Stopped\nno Stopped\n",
     )
 }

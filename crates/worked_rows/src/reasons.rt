@@ -1,5 +1,6 @@
 // In what order lines over memory are refused.
-use crate::archives::{beside_executable, calls, changed, opened, tells};
+use crate::archives::{opened, tells};
+use crate::images::{beside_executable, calls, changed};
 use disk_model::{MemDisk, OneFault};
 use elf_view::sample::mapped_core;
 use std::alloc::Global;
@@ -33,12 +34,12 @@ static READING: [(&str, &str); 8] = [
 // Where this call of the disk fails the line is refused for that, and those behind it, whatever else is wrong with them.
 fn stops_at(rt: &(impl AllocGlobal + Abort), line: &str, call: u64) -> Result<(), Fail> {
     let disk = OneFault::new(stored(rt.alloc())?, call);
-    let mut archive = opened(rt.alloc(), disk)?;
-    tells(rt, &mut archive, line, "no Disk\n")?;
+    let mut archive = opened(rt.alloc(), disk, 1 << 30)?;
+    tells(rt, &mut archive, line.as_bytes(), "no Disk\n")?;
     tells(
         rt,
         &mut archive,
-        "maps 9\nbt 1 0\nsymbol 2 0\ndump 2 0 65537\n",
+        b"maps 9\nbt 1 0\nsymbol 2 0\ndump 2 0 65537\n",
         "no Stopped\nno Stopped\nno Stopped\nno Stopped\n",
     )
 }
