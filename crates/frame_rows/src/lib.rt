@@ -7,5 +7,3 @@ mod chains;
 mod named;
 #[cfg(test)]
 mod real;
-#[cfg(test)]
-mod told;

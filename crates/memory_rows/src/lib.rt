@@ -13,5 +13,3 @@ mod refused;
 mod shown;
 #[cfg(test)]
 mod small;
-#[cfg(test)]
-mod told;

@@ -5,19 +5,24 @@ use inspector_cli::{Input, Naming, Output, ReadInput, SessionFault, WriteOutput,
 use intake::{Archive, Settings};
 use journal_layout::Shape;
 use name_template::Template;
-use std::alloc::{AllocError, Global};
+use std::alloc::Global;
 use std::process::Abort;
 use std::test::Fail;
 
-// A formatted disk of one block in each journal half and four data blocks.
-pub(crate) fn fresh_disk(alloc: Global) -> Result<MemDisk, Fail> {
+// A formatted disk of one block in each journal half and so many data blocks.
+pub(crate) fn disk_of(alloc: Global, data_blocks: u32) -> Result<MemDisk, Fail> {
     let shape = Shape {
         half_blocks: 1,
-        data_blocks: 4,
+        data_blocks,
     };
     let mut disk = MemDisk::new(alloc, shape.length()?)?;
     format(&mut disk, shape)?;
     Ok(disk)
+}
+
+// One of four data blocks.
+pub(crate) fn fresh_disk(alloc: Global) -> Result<MemDisk, Fail> {
+    disk_of(alloc, 4)
 }
 
 // The archive on a disk, whose images have at most so many bytes.
@@ -47,10 +52,10 @@ pub(crate) fn after_crash(
 }
 
 // Cores are named by this template.
-pub(crate) fn named(template: &[u8], uses_pid: bool) -> Result<Naming, Fail> {
+pub(crate) fn named(template: &[u8]) -> Result<Naming, Fail> {
     Ok(Naming {
         template: Template::parse(template)?,
-        uses_pid,
+        uses_pid: false,
     })
 }
 
@@ -66,26 +71,17 @@ pub(crate) fn session<I: Input, O: Output, D: Disk>(
 }
 
 // What a session over this script writes, which ends well.
-pub(crate) fn replies<D: Disk>(
-    alloc: Global,
-    archive: &mut Archive<D>,
-    naming: &Naming,
-    script: &[u8],
-) -> Result<String, Fail> {
-    let mut text = Vec::new(alloc);
-    let mut input = ReadInput::new(script);
-    let mut output = WriteOutput::new(&mut text);
-    session(alloc, &mut input, &mut output, archive, naming)?;
-    Ok(String::from_utf8(text)?)
-}
-
-// The same, where cores are named `core.%e.%p`.
 pub(crate) fn told<D: Disk>(
     alloc: Global,
     archive: &mut Archive<D>,
     script: &[u8],
 ) -> Result<String, Fail> {
-    replies(alloc, archive, &named(b"core.%e.%p", false)?, script)
+    let naming = named(b"core.%e.%p")?;
+    let mut text = Vec::new(alloc);
+    let mut input = ReadInput::new(script);
+    let mut output = WriteOutput::new(&mut text);
+    session(alloc, &mut input, &mut output, archive, &naming)?;
+    Ok(String::from_utf8(text)?)
 }
 
 // A session over this script writes this text.
@@ -98,43 +94,4 @@ pub(crate) fn tells<D: Disk>(
     let text = told(rt.alloc(), archive, script)?;
     assert_eq!(rt; text.as_str(), wanted);
     Ok(())
-}
-
-// A script, and what a session over it writes.
-pub(crate) type Row<'a> = (&'a [u8], &'a str);
-
-// Sessions over these scripts in turn write these texts.
-pub(crate) fn tells_each<D: Disk>(
-    rt: &(impl AllocGlobal + Abort),
-    archive: &mut Archive<D>,
-    rows: &[Row],
-) -> Result<(), Fail> {
-    for (script, wanted) in rows {
-        tells(rt, archive, script, wanted)?;
-    }
-    Ok(())
-}
-
-// The same over a fresh archive, whose images have at most so many bytes.
-pub(crate) fn tells_fresh(
-    rt: &(impl AllocGlobal + Abort),
-    limit: u64,
-    rows: &[Row],
-) -> Result<(), Fail> {
-    let mut archive = fresh(rt.alloc(), limit)?;
-    tells_each(rt, &mut archive, rows)
-}
-
-// A script with a part of so many bytes between two texts.
-pub(crate) fn with_part(
-    alloc: Global,
-    before: &[u8],
-    size: usize,
-    after: &[u8],
-) -> Result<Vec<u8>, AllocError> {
-    let mut script = before.to_vec(alloc)?;
-    let all = vec![in alloc; b'z'; size]?;
-    script.extend_from_slice(all.as_slice())?;
-    script.extend_from_slice(after)?;
-    Ok(script)
 }

@@ -65,7 +65,7 @@ fn over_broken<D: Disk>(
     archive: &mut Archive<D>,
     rest: &[u8],
 ) -> Result<Vec<u8>, Fail> {
-    let naming = named(b"core.%p", false)?;
+    let naming = named(b"core.%p")?;
     let mut input = Broken { rest, failures: 0 };
     let mut text = Vec::new(rt.alloc());
     let mut output = WriteOutput::new(&mut text);
@@ -98,7 +98,7 @@ fn over_narrow<D: Disk>(
     script: &[u8],
     last: u8,
 ) -> Result<(), Fail> {
-    let naming = named(b"core.%p", false)?;
+    let naming = named(b"core.%p")?;
     let mut input = ReadInput::new(script);
     let mut output = Narrow {
         left: 4,

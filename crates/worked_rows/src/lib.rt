@@ -1,25 +1,20 @@
-//! Worked examples of whole sessions and of the program's words: tests alone, of what crosses the crates.
+//! Worked examples of sessions over disks and streams that fail, or whose calls are counted: tests alone, of what crosses
+//! the crates.
 #![tactic(auto)]
 
 #[cfg(test)]
 mod archives;
 #[cfg(test)]
-mod cases;
-#[cfg(test)]
-mod cores;
+mod executables;
 #[cfg(test)]
 mod faults;
 #[cfg(test)]
-mod files;
+mod images;
 #[cfg(test)]
-mod openings;
+mod kinds;
+#[cfg(test)]
+mod reasons;
 #[cfg(test)]
 mod rooms;
 #[cfg(test)]
-mod sessions;
-#[cfg(test)]
-mod space;
-#[cfg(test)]
 mod stops;
-#[cfg(test)]
-mod words;

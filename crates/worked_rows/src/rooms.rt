@@ -40,7 +40,7 @@ fn stored<D: Disk + Drop>(
     disk: D,
     row: &Row,
 ) -> Result<(String, StoreOutcome, D), Fail> {
-    let naming = named(b"core.%e.%p", false)?;
+    let naming = named(b"core.%e.%p")?;
     let mut text = Vec::new(alloc);
     let image = vec![in alloc; b'z'; row.size]?;
     let mut file = ReadInput::new(image.as_slice());

@@ -1,0 +1,72 @@
+// Archives with images in them, and what lines that ask these read of the disk.
+use crate::archives::{disk_of, fresh, opened, tells, told};
+use disk_model::{Disk, Fuse, MemDisk};
+use elf_view::sample::executable;
+use intake::Archive;
+use std::alloc::Global;
+use std::process::Abort;
+use std::test::Fail;
+
+// How many calls this disk gets from an opening and a session over these lines.
+pub(crate) fn calls(
+    rt: &(impl AllocGlobal + Abort),
+    disk: MemDisk,
+    lines: &str,
+    wanted: &str,
+) -> Result<u64, Fail> {
+    let mut archive = opened(rt.alloc(), Fuse::new(disk, u64::MAX), 1 << 30)?;
+    tells(rt, &mut archive, lines.as_bytes(), wanted)?;
+    Ok(archive.close().calls())
+}
+
+// Stores an image behind this line.
+pub(crate) fn stores<D: Disk>(
+    alloc: Global,
+    archive: &mut Archive<D>,
+    begin: &str,
+    image: &[u8],
+) -> Result<(), Fail> {
+    let mut script = begin.as_bytes().to_vec(alloc)?;
+    let part = format!(in alloc; "\npart 0 {}\n", image.len())?;
+    script.extend_from_slice(part.as_bytes())?;
+    script.extend_from_slice(image)?;
+    script.extend_from_slice(b"end 0\n")?;
+    let text = told(alloc, archive, script.as_slice())?;
+    if !text.ends_with("ok\n") {
+        Err("not stored")?;
+    }
+    Ok(())
+}
+
+// A disk whose archive has the sample executable as its first case, and this core as its second and as its third.
+pub(crate) fn beside_executable(alloc: Global, core: &[u8]) -> Result<MemDisk, Fail> {
+    let mut archive = opened(alloc, disk_of(alloc, 8)?, 1 << 30)?;
+    let exec = executable(alloc)?;
+    stores(alloc, &mut archive, "begin exec 0 /bin/cat", &exec)?;
+    stores(alloc, &mut archive, "begin core 0 comm=demo pid=1", core)?;
+    stores(alloc, &mut archive, "begin core 0 comm=demo pid=2", core)?;
+    Ok(archive.close())
+}
+
+// An image with these bytes set.
+pub(crate) fn changed(image: Vec<u8>, changes: &[(usize, u8)]) -> Vec<u8> {
+    let mut image = image;
+    for (at, byte) in changes {
+        if let Some(place) = image.get_mut(*at) {
+            *place = *byte;
+        }
+    }
+    image
+}
+
+// An archive whose first case is this core.
+pub(crate) fn with_core(alloc: Global, image: &[u8]) -> Result<Archive<MemDisk>, Fail> {
+    let mut archive = fresh(alloc, 1 << 30)?;
+    stores(
+        alloc,
+        &mut archive,
+        "begin core 0 comm=demo pid=4242",
+        image,
+    )?;
+    Ok(archive)
+}
