@@ -2,7 +2,8 @@
 use script_words::{
     Words, decode_hex, decode_text, first_visible, is_blank_or_comment, is_plain,
     parse_case_number, parse_number, parse_number_within, parse_part_length, parse_slot, parse_u32,
-    print_byte, print_decimal, print_hex_pair, print_hexadecimal, print_signed, split_pair,
+    plain_front, print_byte, print_decimal, print_hex_row, print_hexadecimal, print_signed,
+    split_pair,
 };
 use std::process::Abort;
 use std::test::Fail;
@@ -120,7 +121,20 @@ fn printed_bytes(rt: HostRuntime) {
     shows(&rt, print_byte(b'a').as_slice(), b"a");
     shows(&rt, print_byte(b' ').as_slice(), b"\\x20");
     shows(&rt, print_byte(b'\\').as_slice(), b"\\x5c");
-    shows(&rt, print_hex_pair(0xa5).as_slice(), b"a5");
+    shows(&rt, print_hex_row(&[0xa5, 0]).as_slice(), b"a500");
+    shows(&rt, print_hex_row(&[]).as_slice(), b"");
+}
+
+#[test]
+fn bytes_that_print_as_themselves(rt: HostRuntime) {
+    let fronts = [
+        plain_front(b"a!~\\b"),
+        plain_front(b" a"),
+        plain_front(b"ab\x7f"),
+        plain_front(b"-z"),
+        plain_front(b""),
+    ];
+    assert_eq!(rt; fronts, [3, 0, 2, 2, 0]);
 }
 
 #[test]

@@ -1,7 +1,7 @@
 use Rattle.std.proofs.Common.{ap}
 use Rattle.image_replies.specs.Lines.{number_word}
 use Rattle.script_words.specs.Printing.{hexadecimal}
-use Rattle.image_replies.proofs.TextLemmas.{tells_then, tells_as}
+use Rattle.script_streams.specs.TellLaws.{tells_then, tells_as}
 use Rattle.image_replies.proofs.header.tell_segment_line.Goals as goal
 
 pub returns : goal.returns

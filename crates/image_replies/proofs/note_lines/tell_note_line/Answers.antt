@@ -1,6 +1,6 @@
 use Rattle.std.proofs.Common.{ap}
 use Rattle.image_replies.specs.Lines.{address_word}
-use Rattle.image_replies.proofs.TextLemmas.{tells_then, tells_as}
+use Rattle.script_streams.specs.TellLaws.{tells_then, tells_as}
 use Rattle.image_replies.proofs.note_lines.tell_note_line.Goals as goal
 
 pub returns : goal.returns

@@ -3,7 +3,7 @@ use Rattle.std.proofs.Common.{w32}
 use Rattle.image_replies.proofs.TextLemmas.{signed_as}
 use Rattle.std.specs.Prelude.{◌++◌, codes}
 use Rattle.std.specs.Fmt.{signed_decimal}
-use Rattle.image_replies.proofs.TextLemmas.{tells_then, tells_as}
+use Rattle.script_streams.specs.TellLaws.{tells_then, tells_as}
 use Rattle.image_replies.proofs.process.tell_numbers.Goals as goal
 
 pub returns : goal.returns

@@ -4,7 +4,7 @@ use Rattle.image_replies.proofs.TextLemmas.{signed_as}
 use Rattle.std.specs.Prelude.{◌++◌, ◌∷◌, [], codes, decimal}
 use Rattle.std.specs.Fmt.{signed_decimal}
 use Rattle.script_words.specs.Printing.{hexadecimal, shown}
-use Rattle.image_replies.proofs.TextLemmas.{tells_then, tells_as}
+use Rattle.script_streams.specs.TellLaws.{tells_then, tells_as}
 use Rattle.image_replies.proofs.process.tell_state.Goals as goal
 
 pub returns : goal.returns

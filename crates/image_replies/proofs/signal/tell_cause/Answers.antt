@@ -5,7 +5,7 @@ use Rattle.std.specs.Prelude.{◌++◌, codes}
 use Rattle.std.specs.Fmt.{signed_decimal}
 use Rattle.thread_regs.specs.SignalNames.{name_of_signal}
 use Rattle.image_replies.specs.Signal.{name_or_dash}
-use Rattle.image_replies.proofs.TextLemmas.{tells_then, tells_as}
+use Rattle.script_streams.specs.TellLaws.{tells_then, tells_as}
 use Rattle.image_replies.proofs.signal.tell_cause.Goals as goal
 
 pub returns : goal.returns

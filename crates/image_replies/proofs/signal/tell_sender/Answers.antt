@@ -4,7 +4,8 @@ use Rattle.std.specs.Prelude.{◌++◌, codes, decimal}
 use Rattle.core_notes.specs.Descriptor.{si_pid}
 use Rattle.core_notes.specs.DescriptorWords.{siginfo_bytes}
 use Rattle.image_replies.specs.Signal.{sender_line}
-use Rattle.image_replies.proofs.TextLemmas.{tells_then, tells_as, signed_as}
+use Rattle.script_streams.specs.TellLaws.{tells_then, tells_as}
+use Rattle.image_replies.proofs.TextLemmas.{signed_as}
 use Rattle.image_replies.proofs.signal.tell_sender.Goals as goal
 
 pub returns : goal.returns

@@ -1,4 +1,4 @@
-use Rattle.image_replies.proofs.TextLemmas.{tells_then}
+use Rattle.script_streams.specs.TellLaws.{tells_then}
 use Rattle.image_replies.proofs.signal.tell_signal_lines.Goals as goal
 
 pub returns : goal.returns

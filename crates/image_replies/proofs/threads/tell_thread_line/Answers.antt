@@ -3,7 +3,7 @@ use Rattle.std.proofs.Common.{w16, w32, w64}
 use Rattle.image_replies.proofs.TextLemmas.{signed_as}
 use Rattle.std.specs.Fmt.{signed_decimal}
 use Rattle.script_words.specs.Printing.{hexadecimal}
-use Rattle.image_replies.proofs.TextLemmas.{tells_then, tells_as}
+use Rattle.script_streams.specs.TellLaws.{tells_then, tells_as}
 use Rattle.image_replies.proofs.threads.tell_thread_line.Goals as goal
 
 pub returns : goal.returns

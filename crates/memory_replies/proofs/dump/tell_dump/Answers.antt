@@ -1,6 +1,6 @@
 use Rattle.std.proofs.Common.{sym, refl}
 use Rattle.memory_replies.proofs.AnswerLemmas.{range_refused, range_shown}
-use Rattle.memory_replies.proofs.TellLemmas.{tells_then}
+use Rattle.script_streams.specs.TellLaws.{tells_then}
 use Rattle.memory_replies.proofs.dump.tell_dump.Goals as goal
 
 pub returns-in_default : goal.returns-in_default

@@ -2,7 +2,7 @@ use Rattle.std.proofs.Common.{ap, map, refl, ◌∙◌}
 use Rattle.memory_replies.specs.NamedWords.{named_view}
 use Rattle.memory_replies.proofs.FrameLemmas.{thread_missing, thread_shown}
 use Rattle.memory_replies.proofs.SpaceLemmas.{mapped_are}
-use Rattle.memory_replies.proofs.TellLemmas.{tells_then}
+use Rattle.script_streams.specs.TellLaws.{tells_then}
 use Rattle.memory_replies.proofs.frames.tell_bt.Goals as goal
 
 pub returns-in_default : goal.returns-in_default

@@ -2,7 +2,7 @@ use Rattle.std.proofs.Common.{ap}
 use Rattle.std.specs.Prelude.{decimal}
 use Rattle.script_words.specs.Printing.{hexadecimal}
 use Rattle.memory_replies.specs.Backtrace.{frame_line, place_words}
-use Rattle.memory_replies.proofs.TellLemmas.{tells_as, tells_then}
+use Rattle.script_streams.specs.TellLaws.{tells_as, tells_then}
 use Rattle.memory_replies.proofs.frames.tell_frame.Goals as goal
 
 pub returns : goal.returns

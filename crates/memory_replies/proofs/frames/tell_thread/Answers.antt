@@ -2,7 +2,7 @@ use Rattle.std.proofs.Common.{ap, ◌∙◌}
 use Rattle.thread_regs.specs.Register.{register_in}
 use Rattle.thread_regs.specs.ThreadWords.{thread_bytes}
 use Rattle.memory_replies.proofs.FrameLemmas.{thread_is}
-use Rattle.memory_replies.proofs.TellLemmas.{tells_as}
+use Rattle.script_streams.specs.TellLaws.{tells_as}
 use Rattle.memory_replies.proofs.frames.tell_thread.Goals as goal
 
 pub returns : goal.returns

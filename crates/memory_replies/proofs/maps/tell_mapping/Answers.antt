@@ -1,4 +1,4 @@
-use Rattle.memory_replies.proofs.TellLemmas.{tells_then}
+use Rattle.script_streams.specs.TellLaws.{tells_then}
 use Rattle.memory_replies.proofs.maps.tell_mapping.Goals as goal
 
 pub returns : goal.returns

@@ -1,6 +1,6 @@
 use Rattle.std.proofs.Common.{refl}
 use Rattle.memory_replies.proofs.AnswerLemmas.{matches_shown}
-use Rattle.memory_replies.proofs.TellLemmas.{tells_then}
+use Rattle.script_streams.specs.TellLaws.{tells_then}
 use Rattle.memory_replies.proofs.search.tell_find.Goals as goal
 
 pub returns-in_default : goal.returns-in_default

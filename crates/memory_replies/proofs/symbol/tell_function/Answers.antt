@@ -1,6 +1,6 @@
 use Rattle.std.proofs.Common.{ap}
 use Rattle.script_words.specs.Printing.{hexadecimal}
-use Rattle.memory_replies.proofs.TellLemmas.{tells_as, tells_then}
+use Rattle.script_streams.specs.TellLaws.{tells_as, tells_then}
 use Rattle.memory_replies.proofs.symbol.tell_function.Goals as goal
 
 pub returns : goal.returns

@@ -1,7 +1,7 @@
 use Rattle.std.proofs.Common.{◌≡◌, ℕ, ◌-◌, ◌^◌, length, sym, subst, arith}
 use Rattle.address_space.specs.SpaceWords.{space_of}
 use Rattle.memory_replies.specs.Texts.{values_between}
-use Rattle.memory_replies.proofs.TellLemmas.{tells_then}
+use Rattle.script_streams.specs.TellLaws.{tells_then}
 use Rattle.memory_replies.proofs.TextLemmas.{text_len_within, text_values}
 use Rattle.memory_replies.proofs.texts.tell_line.Goals as goal
 

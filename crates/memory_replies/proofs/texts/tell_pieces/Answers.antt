@@ -1,6 +1,7 @@
 use Rattle.std.proofs.Common.{ap}
 use Rattle.std.specs.List.{flat_map}
-use Rattle.memory_replies.proofs.TellLemmas.{tells_as, up_to_end, up_to_then}
+use Rattle.script_streams.specs.TellLaws.{tells_as}
+use Rattle.memory_replies.proofs.TellLemmas.{up_to_end, up_to_then}
 use Rattle.memory_replies.proofs.TextLemmas.{piece_text, shown_pieces}
 use Rattle.memory_replies.proofs.texts.tell_pieces.Goals as goal
 

@@ -1,6 +1,6 @@
 use Rattle.std.proofs.Common.{◌≡◌, ap, arith, ◌∙◌}
 use Rattle.address_space.specs.Source.{value_of}
-use Rattle.memory_replies.proofs.TellLemmas.{tells_as}
+use Rattle.script_streams.specs.TellLaws.{tells_as}
 use Rattle.memory_replies.proofs.TextLemmas.{shown_one}
 use Rattle.memory_replies.proofs.texts.tell_shown.Goals as goal
 

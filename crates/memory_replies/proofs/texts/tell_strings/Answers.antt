@@ -1,6 +1,6 @@
 use Rattle.std.proofs.Common.{refl}
 use Rattle.memory_replies.proofs.TextLemmas.{texts_told}
-use Rattle.memory_replies.proofs.TellLemmas.{tells_then}
+use Rattle.script_streams.specs.TellLaws.{tells_then}
 use Rattle.memory_replies.proofs.texts.tell_strings.Goals as goal
 
 pub returns-in_default : goal.returns-in_default

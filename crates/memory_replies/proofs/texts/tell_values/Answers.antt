@@ -1,5 +1,5 @@
 use Rattle.std.proofs.Common.{arith}
-use Rattle.memory_replies.proofs.TellLemmas.{tells_as, tells_then}
+use Rattle.script_streams.specs.TellLaws.{tells_as, tells_then}
 use Rattle.memory_replies.proofs.TextLemmas.{shown_halves}
 use Rattle.memory_replies.proofs.texts.tell_values.Goals as goal
 
