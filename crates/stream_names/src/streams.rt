@@ -10,9 +10,10 @@ use journal_layout::{Kind, Name};
 use name_template::{Facts, NameFault};
 use script_lines::{NameWord, Process, ProcessWords};
 
-/// The stream that `begin exec` begins, or what is wrong with its name: `TooLong` over 128 bytes, then `NulByte`.
+/// The stream that `begin exec` begins, or what is wrong with its name, as a reply tells it: `TooLong` over 128 bytes, then
+/// `NulByte`.
 pub fn exec_stream(word: &NameWord) -> Result<NewStream, &'static [u8]>
-    ensures { stream_found result ≡ exec_stream (name_text word.now) }
+    ensures refused_or_begun { stream_found result ≡ exec_stream (name_text word.now) }
 {
     let text = word.text.as_slice();
     if text.len() > 128 {
@@ -30,9 +31,10 @@ pub fn exec_stream(word: &NameWord) -> Result<NewStream, &'static [u8]>
     })
 }
 
-/// The stream that `begin core` begins, named by the template, or what is wrong with its name: `Empty`, `TooLong`, `NulByte`.
+/// The stream that `begin core` begins, named by the template, or what is wrong with its name, as a reply tells it: `Empty`,
+/// `TooLong`, `NulByte`.
 pub fn core_stream(told: &ProcessWords<'_>, naming: &Naming) -> Result<NewStream, &'static [u8]>
-    ensures { stream_found result ≡ core_stream naming.now (process_told told.now) }
+    ensures refused_or_begun { stream_found result ≡ core_stream naming.now (process_told told.now) }
 {
     process_stream(&told.read(), naming)
 }
