@@ -29,7 +29,7 @@ abbrev pub AreNames : List Case → BTreeSet (ArrayVec ℕ) → Type 0
 AreNames cases names = (name : List ℕ) → bearers cases name ≡ one_if (has_name names name)
 
 -- These are the flags of so many data blocks, each of which is either one of the cases', once, or free.
-pub record AreSpare (blocks : ℕ) (cases : List Case) (flags : List Bool) : Type 0 where
+pub record IsSpareMap (blocks : ℕ) (cases : List Case) (flags : List Bool) : Type 0 where
   pub size : length flags ≡ blocks
   pub accounts : Accounts (used_blocks cases) flags
 

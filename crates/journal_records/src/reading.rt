@@ -3,7 +3,7 @@ ghost use Rattle.std.specs.Prelude.{◌≡◌, ◌+◌, ◌^◌, ◌<◌, ◌≤
 ghost use Rattle.std.specs.Map.{values_of};
 ghost use Rattle.journal_layout.specs.Case.{case_of};
 ghost use Rattle.journal_layout.specs.Folding.{nothing_yet};
-ghost use Rattle.journal_records.specs.Kept.{Says, AreNames, AreSpare};
+ghost use Rattle.journal_records.specs.Kept.{Says, AreNames, IsSpareMap};
 ghost use Rattle.journal_records.specs.Said.{said_of, TellsFaulty, ReadsAll};
 ghost use Rattle.journal_layout.specs.Stands.{AreRead};
 
@@ -68,7 +68,7 @@ pub fn replay(
     ensures read { IfOk result (λ r. AreRead data_blocks bytes.now (nothing_yet version) (said_of version r) r.size) }
     ensures fault { IfErr result (TellsFaulty data_blocks version at bytes.now) }
     ensures names { IfOk result (λ r. AreNames (map case_of r.entries.items) r.names) }
-    ensures free { IfOk result (λ r. AreSpare data_blocks (map case_of r.entries.items) r.free) }
+    ensures free { IfOk result (λ r. IsSpareMap data_blocks (map case_of r.entries.items) r.free) }
     ensures bounds { IfOk result (λ r. (1 ≤ r.next) × (r.next ≤ 2 ^ 32) × (r.size + 1 ≤ length bytes.now)) }
 {
     let mut cases = Cases::new(alloc, version, data_blocks)?;

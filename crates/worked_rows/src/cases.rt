@@ -10,8 +10,8 @@ use std::test::Fail;
 // How many bytes of its journal's half an archive uses, which is closed and opened again for that.
 fn used(alloc: Global, archive: Archive<MemDisk>) -> Result<(u64, Archive<MemDisk>), Fail> {
     let mut disk = archive.close();
-    let journal = Journal::open(alloc, &mut disk)?;
-    let used = journal.use_bytes();
+    let opened_journal = Journal::open(alloc, &mut disk)?;
+    let used = opened_journal.journal.use_bytes();
     Ok((used, opened(alloc, disk, 1 << 30)?))
 }
 
