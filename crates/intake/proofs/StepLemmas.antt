@@ -58,7 +58,7 @@ pub free_by : (state : Bare) (x name : List ℕ) (r : Bool) → r ≡ is_taken s
 free_by state x name r e off same = ap (is_taken state) (sym same) ∙ sym e ∙ off
 
 -- a name that is not taken is that of no case and no stream
-none_of : {X Y : Type 0} (P : Y → Bool) (f : X → Y) (xs : List X) → list_any P (map f xs) ≡ false → count_by (λ x. P (f x)) xs ≡ 0
+pub none_of : {X Y : Type 0} (P : Y → Bool) (f : X → Y) (xs : List X) → list_any P (map f xs) ≡ false → count_by (λ x. P (f x)) xs ≡ 0
 none_of P f [] e = refl
 none_of P f (x ∷ xs) e =
     let h = or_parts (P (f x)) (list_any P (map f xs)) e in
@@ -101,7 +101,7 @@ names_with a s free once name = both (bytes_eq s.name name) refl
         let c = n.0 in let t = n.1 in omega (arith, f, g, c, t))
 
 -- the test of the cases, in the words of the entries
-list_any-map : {X Y : Type 0} (P : Y → Bool) (f : X → Y) (xs : List X) → list_any P (map f xs) ≡ list_any (λ x. P (f x)) xs
+pub list_any-map : {X Y : Type 0} (P : Y → Bool) (f : X → Y) (xs : List X) → list_any P (map f xs) ≡ list_any (λ x. P (f x)) xs
 list_any-map P f [] = refl
 list_any-map P f (x ∷ xs) = ap (λ b. P (f x) || b) (list_any-map P f xs)
 

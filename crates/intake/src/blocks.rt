@@ -20,15 +20,18 @@ ghost use Rattle.journal_layout.specs.Case.{case_of};
 ghost use Rattle.intake.specs.Closing.{Closes, ClosesBytes, ClosesPadded, Appends, GivesBack};
 ghost use Rattle.intake.specs.Sound.{IsFine};
 ghost use Rattle.intake.specs.StreamView.{parts_of};
-ghost use Rattle.intake.specs.Untouched.{RefusalSpares};
+ghost use Rattle.intake.specs.Names.{KeepsName, GivesNameBack};
+ghost use Rattle.intake.specs.Untouched.{RefusalSpares, SealSpares};
 
 use crate::ArchiveFault;
 use crate::buffer::Buffer;
+use crate::names::{forget_name, keep_name};
 use crate::stream::Stream;
 use case_journal::{Journal, data_blocks_keep};
 use disk_model::Disk;
 use extents::{FreeMap, RunList};
-use journal_layout::{BLOCK, Entry, Shape};
+use journal_layout::{BLOCK, Entry, Name, Shape};
+use std::collections::BTreeSet;
 
 /// Where a data block begins on the disk, in bytes.
 fn block_start(shape: Shape, block: u32) -> u64
@@ -201,9 +204,48 @@ fn last_block<D: Disk>(
     Ok(())
 }
 
-/// Writes the last block of a stream where it is part-filled, with zeros behind its bytes, and makes all that was
-/// written stable.
+/// Writes the last block of a stream where it is part-filled, with zeros behind its bytes, makes all that was
+/// written stable, and keeps its name. `OutOfMemory` may be met for the name once all is written.
 pub(crate) fn seal<D: Disk>(
+    disk: &mut D,
+    shape: Shape,
+    names: &mut BTreeSet<Name>,
+    free: &mut FreeMap,
+    stream: &mut Stream,
+    block: &mut Buffer,
+) -> Result<(), ArchiveFault>
+    requires limits { IsWithinLimits shape }
+    requires disk { D.size disk.old ≡ disk_length shape }
+    requires map { length free.old ≡ shape.data_blocks }
+    requires block { length block.old ≡ 4096 }
+    requires filled { length stream.old.runs ≡ stream.old.length / 4096 }
+    requires held { AreHeld free.old stream.old.runs }
+    ensures step { Closes (free_count free.old) (parts_of block.old stream.old) result
+        (parts_of block.new stream.new) }
+    ensures balance { Balances free.old stream.old.runs free.new stream.new.runs }
+    ensures bytes { IsTrue (D.is_honest disk.old) → OnOk result (ClosesBytes shape (parts_of block.old stream.old)
+        stream.new.runs (D.seen disk.old) (D.seen disk.new)) }
+    ensures padded { IsTrue (D.is_honest disk.old) → OnOk result (ClosesPadded shape (parts_of block.old stream.old)
+        stream.new.runs (D.seen disk.old) (D.seen disk.new)) }
+    ensures names { KeepsName result stream.new.name.items names.old names.new }
+    ensures untouched { SealSpares result disk.old disk.new }
+    ensures others { IsTrue (D.is_honest disk.old)
+        → ChangesFree shape free.old (D.seen disk.old) (D.seen disk.new) }
+    ensures rests { (j : Journaled) → j.standing.shape ≡ shape → Spares free.old j
+        → Guards D.Disk disk.old j → Rests D.Disk disk.old disk.new j }
+    ensures settled { IsTrue (D.is_honest disk.old) → OnOk result (IsSettled D.Disk disk.new) }
+    ensures cause { IsDiskFault result → HasRisen (D.failures disk.old) (D.failures disk.new) }
+    ensures later { D.failures disk.old ≤ D.failures disk.new }
+    ensures honesty { D.is_honest disk.new ≡ D.is_honest disk.old }
+    ensures size { D.size disk.new ≡ D.size disk.old }
+{
+    seal_blocks(disk, shape, free, stream, block)?;
+    keep_name(names, &stream.name)
+}
+
+// Writes the last block of a stream where it is part-filled, with zeros behind its bytes, and makes all that was
+// written stable.
+fn seal_blocks<D: Disk>(
     disk: &mut D,
     shape: Shape,
     free: &mut FreeMap,
@@ -256,10 +298,11 @@ fn make_stable<D: Disk>(disk: &mut D) -> Result<(), ArchiveFault>
     Ok(())
 }
 
-/// Appends the record of a case, which gets the next number. A refusal gives its blocks back.
+/// Appends the record of a case, which gets the next number. A refusal gives its blocks back and forgets its name.
 pub(crate) fn append_case<D: Disk>(
     journal: &mut Journal,
     disk: &mut D,
+    names: &mut BTreeSet<Name>,
     free: &mut FreeMap,
     entry: Entry,
 ) -> Result<u32, ArchiveFault>
@@ -269,6 +312,7 @@ pub(crate) fn append_case<D: Disk>(
     requires storable { MayStore journal.old.standing (case_of entry) }
     requires held { AreHeld free.old entry.runs }
     ensures step { Appends journal.old (case_of entry) result journal.new }
+    ensures names { GivesNameBack result entry.name.items names.old names.new }
     ensures free { GivesBack result free.old entry.runs free.new }
     ensures guards { Guards D.Disk disk.new journal.new }
     // What a crash at any moment leaves stands for the cases before or after, if the disk was met.
@@ -284,6 +328,7 @@ pub(crate) fn append_case<D: Disk>(
     match journal.append_store(disk, entry) {
         Ok(seq) => Ok(seq),
         Err((fault, entry)) => {
+            forget_name(names, &entry.name);
             release(free, entry.runs);
             Err(ArchiveFault::from(fault))
         }

@@ -15,26 +15,34 @@ use Rattle.intake.proofs.archive.Archive.advance.Goals as goal
 pub release-requires : goal.release-requires
 release-requires g c =
     still_held c.self.inside.free c.grow-grown.new.free c.in-Some.stream.runs c.grow-grown.new.stream.runs
-    (stream_held g.D.Disk c.self.inside.disk c.self.inside.journal c.self.inside.settings.limit c.self.inside.free c.self.inside.slots c.args.slot _ (c.self.invariant.runs c.if-self.false) (sym c.in-Some.ensures.stream))
+    (stream_held g.D.Disk c.self.inside.disk c.self.inside.journal c.self.inside.settings.limit c.self.inside.free c.self.inside.slots c.args.slot _ (c.self.invariant.sound.runs c.if-self.false) (sym c.in-Some.ensures.stream))
     c.in-Err.ensures.balance
 
 pub invariant_of-self-in-Err : goal.invariant_of-self-in-Err
 invariant_of-self-in-Err g c =
-    sound_refused g.D.Disk c.self.inside.disk c.grow-grown.new.disk c.self.inside.journal c.self.inside.settings.limit c.self.inside.free c.release.new.free c.self.inside.slots c.take.new.self c.end_streams-self-inside.new.slots c.args.slot _ c.self.inside.stopped c.end_streams-self-inside.result c.in-Err.fault
-    c.self.invariant c.if-self.false (sym c.in-Some.ensures.stream) c.in-Some.ensures.slots
-    (grow_rests g.D.Disk c.self.inside.disk c.grow-grown.new.disk c.self.inside.journal c.self.inside.settings.limit c.self.inside.free c.self.inside.slots (c.self.invariant.runs c.if-self.false) (c.in-Err.ensures.rests c.self.inside.journal (sym c.shape-shape.ensures))).guards
-    (balance_then c.self.inside.free c.grow-grown.new.free c.release.new.free c.in-Some.stream.runs c.grow-grown.new.stream.runs _ c.in-Err.ensures.balance c.release.ensures)
-    c.end_streams-self-inside.ensures
+    record {
+      sound =
+        sound_refused g.D.Disk c.self.inside.disk c.grow-grown.new.disk c.self.inside.journal c.self.inside.settings.limit c.self.inside.free c.release.new.free c.self.inside.slots c.take.new.self c.end_streams-self-inside.new.slots c.args.slot _ c.self.inside.stopped c.end_streams-self-inside.result c.in-Err.fault
+        c.self.invariant.sound c.if-self.false (sym c.in-Some.ensures.stream) c.in-Some.ensures.slots
+        (grow_rests g.D.Disk c.self.inside.disk c.grow-grown.new.disk c.self.inside.journal c.self.inside.settings.limit c.self.inside.free c.self.inside.slots (c.self.invariant.sound.runs c.if-self.false) (c.in-Err.ensures.rests c.self.inside.journal (sym c.shape-shape.ensures))).guards
+        (balance_then c.self.inside.free c.grow-grown.new.free c.release.new.free c.in-Some.stream.runs c.grow-grown.new.stream.runs _ c.in-Err.ensures.balance c.release.ensures)
+        c.end_streams-self-inside.ensures;
+      taken = c.self.invariant.taken;
+    }
 
 pub invariant_of-self-2 : goal.invariant_of-self-2
 invariant_of-self-2 g c =
-    sound_grown g.D.Disk c.self.inside.disk c.grow-grown.new.disk c.self.inside.journal c.self.inside.settings.limit c.self.inside.free c.self.inside.slots c.args.slot c.args.n (parts_of c.in-Some.block c.in-Some.stream) c.self.inside.stopped
-    (c.self.invariant.runs c.if-self.false) c.if-self.false (sym c.in-Some.ensures.stream)
-    c.grow-grown.new.free c.take.new.self c.put.new.self (parts_of c.grow-grown.new.block c.grow-grown.new.stream) c.in_default-grown.field-0 c.self.invariant c.in-Some.ensures.slots c.put.ensures
-    (fits_in g.D.Disk c.self.inside.disk c.grow-grown.new.disk c.self.inside.journal c.self.inside.settings.limit c.self.inside.free c.self.inside.slots c.args.slot c.args.n (parts_of c.in-Some.block c.in-Some.stream) c.self.inside.stopped (c.self.invariant.runs c.if-self.false) c.if-self.false (sym c.in-Some.ensures.stream) (rw (← c.self.view_is) at c.requires))
-    c.in_default-grown.ensures.step c.in_default-grown.ensures.small
-    (grow_rests g.D.Disk c.self.inside.disk c.grow-grown.new.disk c.self.inside.journal c.self.inside.settings.limit c.self.inside.free c.self.inside.slots (c.self.invariant.runs c.if-self.false) (c.in_default-grown.ensures.rests c.self.inside.journal (sym c.shape-shape.ensures))).guards
-    c.in_default-grown.ensures.balance
+    record {
+      sound =
+        sound_grown g.D.Disk c.self.inside.disk c.grow-grown.new.disk c.self.inside.journal c.self.inside.settings.limit c.self.inside.free c.self.inside.slots c.args.slot c.args.n (parts_of c.in-Some.block c.in-Some.stream) c.self.inside.stopped
+        (c.self.invariant.sound.runs c.if-self.false) c.if-self.false (sym c.in-Some.ensures.stream)
+        c.grow-grown.new.free c.take.new.self c.put.new.self (parts_of c.grow-grown.new.block c.grow-grown.new.stream) c.in_default-grown.field-0 c.self.invariant.sound c.in-Some.ensures.slots c.put.ensures
+        (fits_in g.D.Disk c.self.inside.disk c.grow-grown.new.disk c.self.inside.journal c.self.inside.settings.limit c.self.inside.free c.self.inside.slots c.args.slot c.args.n (parts_of c.in-Some.block c.in-Some.stream) c.self.inside.stopped (c.self.invariant.sound.runs c.if-self.false) c.if-self.false (sym c.in-Some.ensures.stream) (rw (← c.self.view_is) at c.requires))
+        c.in_default-grown.ensures.step c.in_default-grown.ensures.small
+        (grow_rests g.D.Disk c.self.inside.disk c.grow-grown.new.disk c.self.inside.journal c.self.inside.settings.limit c.self.inside.free c.self.inside.slots (c.self.invariant.sound.runs c.if-self.false) (c.in_default-grown.ensures.rests c.self.inside.journal (sym c.shape-shape.ensures))).guards
+        c.in_default-grown.ensures.balance;
+      taken = c.self.invariant.taken;
+    }
 
 pub returns-in_default : goal.returns-in_default
 returns-in_default g c = record {
@@ -60,12 +68,12 @@ returns-in-Err g c = record {
       (bare_of (record { disk = c.grow-grown.new.disk; journal = c.self.inside.journal; limit = c.self.inside.settings.limit; streams = c.end_streams-self-inside.new.slots; stopped = c.end_streams-self-inside.result })))
       c.self.view_is
       (advance_err g.D.Disk c.self.inside.disk c.grow-grown.new.disk c.self.inside.journal c.self.inside.settings.limit c.self.inside.free c.self.inside.slots c.args.slot c.args.n (parts_of c.in-Some.block c.in-Some.stream) c.self.inside.stopped
-      (c.self.invariant.runs c.if-self.false) c.if-self.false (sym c.in-Some.ensures.stream)
+      (c.self.invariant.sound.runs c.if-self.false) c.if-self.false (sym c.in-Some.ensures.stream)
       c.end_streams-self-inside.result c.take.new.self c.end_streams-self-inside.new.slots (parts_of c.grow-grown.new.block c.grow-grown.new.stream) c.in-Err.fault
       c.in-Some.ensures.slots c.end_streams-self-inside.ensures c.in-Err.ensures.step);
   bytes = λ honest.
       let real = rw (← c.self.view_is) at honest in
-      let running = c.self.invariant.runs c.if-self.false in
+      let running = c.self.invariant.sound.runs c.if-self.false in
       rw (← c.self.view_is)
       (refused_bytes g.D.Disk c.self.inside.disk c.grow-grown.new.disk c.self.inside.journal c.self.inside.settings.limit c.self.inside.free c.self.inside.slots c.args.slot c.self.inside.stopped c.end_streams-self-inside.result
       running
@@ -82,15 +90,15 @@ pub returns : goal.returns
 returns g c = record {
   step = rw (← c.self.view_is)
       (advance_ok g.D.Disk c.self.inside.disk c.grow-grown.new.disk c.self.inside.journal c.self.inside.settings.limit c.self.inside.free c.self.inside.slots c.args.slot c.args.n (parts_of c.in-Some.block c.in-Some.stream) c.self.inside.stopped
-      (c.self.invariant.runs c.if-self.false) c.if-self.false (sym c.in-Some.ensures.stream)
+      (c.self.invariant.sound.runs c.if-self.false) c.if-self.false (sym c.in-Some.ensures.stream)
       c.take.new.self c.put.new.self (parts_of c.grow-grown.new.block c.grow-grown.new.stream) c.in_default-grown.field-0 c.in-Some.ensures.slots c.put.ensures
-      (fits_in g.D.Disk c.self.inside.disk c.grow-grown.new.disk c.self.inside.journal c.self.inside.settings.limit c.self.inside.free c.self.inside.slots c.args.slot c.args.n (parts_of c.in-Some.block c.in-Some.stream) c.self.inside.stopped (c.self.invariant.runs c.if-self.false) c.if-self.false (sym c.in-Some.ensures.stream) (rw (← c.self.view_is) at c.requires))
+      (fits_in g.D.Disk c.self.inside.disk c.grow-grown.new.disk c.self.inside.journal c.self.inside.settings.limit c.self.inside.free c.self.inside.slots c.args.slot c.args.n (parts_of c.in-Some.block c.in-Some.stream) c.self.inside.stopped (c.self.invariant.sound.runs c.if-self.false) c.if-self.false (sym c.in-Some.ensures.stream) (rw (← c.self.view_is) at c.requires))
       c.in_default-grown.ensures.step);
   bytes = λ honest.
       let real = rw (← c.self.view_is) at honest in
       rw (← c.self.view_is)
       (advance_ok_bytes g.D.Disk c.self.inside.disk c.grow-grown.new.disk c.self.inside.journal c.self.inside.settings.limit c.self.inside.free c.self.inside.slots c.args.slot c.args.n (parts_of c.in-Some.block c.in-Some.stream) c.self.inside.stopped
-      (c.self.invariant.runs c.if-self.false) c.if-self.false (sym c.in-Some.ensures.stream)
+      (c.self.invariant.sound.runs c.if-self.false) c.if-self.false (sym c.in-Some.ensures.stream)
       c.take.new.self c.put.new.self (parts_of c.grow-grown.new.block c.grow-grown.new.stream) c.in_default-grown.field-0
       (subst (λ (x : Shape). ChangesFree x c.self.inside.free (g.D.Disk.seen c.self.inside.disk) (g.D.Disk.seen c.grow-grown.new.disk)) c.shape-shape.ensures (c.in_default-grown.ensures.others real))
       c.in-Some.ensures.slots c.put.ensures
@@ -103,11 +111,11 @@ returns g c = record {
     crash = λ honest.
         let real = rw (← c.self.view_is) at honest in
         rw (← c.self.view_is)
-        (grow_moments g.D.Disk c.self.inside.disk c.grow-grown.new.disk c.self.inside.journal c.self.inside.settings.limit c.self.inside.free c.self.inside.slots (c.self.invariant.runs c.if-self.false) (c.in_default-grown.ensures.rests c.self.inside.journal (sym c.shape-shape.ensures)) real);
+        (grow_moments g.D.Disk c.self.inside.disk c.grow-grown.new.disk c.self.inside.journal c.self.inside.settings.limit c.self.inside.free c.self.inside.slots (c.self.invariant.sound.runs c.if-self.false) (c.in_default-grown.ensures.rests c.self.inside.journal (sym c.shape-shape.ensures)) real);
     durable = λ honest.
         let real = rw (← c.self.view_is) at honest in
         rw (← c.self.view_is)
-        (grow_durable g.D.Disk c.self.inside.disk c.grow-grown.new.disk c.self.inside.journal c.self.inside.settings.limit c.self.inside.free c.self.inside.slots (c.self.invariant.runs c.if-self.false) (c.in_default-grown.ensures.rests c.self.inside.journal (sym c.shape-shape.ensures)) real);
+        (grow_durable g.D.Disk c.self.inside.disk c.grow-grown.new.disk c.self.inside.journal c.self.inside.settings.limit c.self.inside.free c.self.inside.slots (c.self.invariant.sound.runs c.if-self.false) (c.in_default-grown.ensures.rests c.self.inside.journal (sym c.shape-shape.ensures)) real);
   };
   untouched = rw (← c.self.view_is)
       (λ t is none. c.in_default-grown.ensures.idle (needs_none c.self.inside.slots c.args.slot c.args.n (parts_of c.in-Some.block c.in-Some.stream) t (sym c.in-Some.ensures.stream) is none));
