@@ -76,7 +76,7 @@ module _ {D : Type 0} (g : disk.Ghosts D) (d d' : D) (j : Journaled) (most : ℕ
     (let e = closes.1 in let f = free_is g d d' j most flags streams slot 0 s b running on is in omega (arith, e, f)),
     gone_state g d d' j most flags streams slot 0 s b running on is b' dropped streams' gone ends.0 ends.1,
   )
-  seal_err b' dropped streams' s' fault.OutOfMemory gone ends closes = (bare_stream s, may closes, gone_state g d d' j most flags streams slot 0 s b running on is b' dropped streams' gone ends.0 ends.1)
+  seal_err b' dropped streams' s' fault.OutOfMemory gone ends closes = (bare_stream s, may (λ over. closes.1), gone_state g d d' j most flags streams slot 0 s b running on is b' dropped streams' gone ends.0 ends.1)
   seal_err b' dropped streams' s' fault.Disk gone ends closes = (bare_stream s, may closes, halted_state g d d' j most flags streams slot 0 s b running on is b' dropped streams' gone ends.0 ends.1)
   seal_err b' dropped streams' s' _ gone ends closes = absurd closes
 

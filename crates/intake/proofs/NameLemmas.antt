@@ -1,4 +1,4 @@
--- The names of the cases, in a set.
+-- The names of the cases and of the streams, in a set.
 use Rattle.std.proofs.Common.{◌≡◌, inl, inr, ℕ, zero, suc, ◌+◌, ◌<◌, ◌≤◌, Bool, true, false, ◌||◌, cond, nat_eq, List, [], ◌∷◌, ◌++◌, length, map, get_or, take, Option, None, Some, Result, Ok, Err, refl, sym, ap, ◌∙◌, subst, arith}
 use Rattle.std.specs.List.{list_any, count_by}
 use Rattle.std.specs.Str.{bytes_eq}
@@ -17,6 +17,17 @@ use Rattle.journal_layout.specs.LiveCounts.{none_named, named_stored, named_drop
 use Rattle.journal_layout.specs.Record.{Record}
 use Rattle.journal_layout.specs.Soundness.{case_numbered, Rise}
 use Rattle.journal_records.specs.Kept.{AreNames}
+use Rattle.std.specs.Prelude.{option_map, slice_set, replicate}
+use Rattle.std.proofs.lemmas.Bool.{cases_lt, or_parts}
+use Rattle.std.proofs.lemmas.List.{get_or_past}
+use Rattle.std.proofs.lemmas.List.Sums.{sum_by-set}
+use Rattle.intake.specs.declared.faults.ArchiveFault.TheVariants as fault
+use Rattle.intake.specs.Ending.{EndsStreams}
+use Rattle.intake.specs.Lending.{slots_left, with_room}
+use Rattle.intake.specs.Room.{SlotReply}
+use Rattle.intake.specs.Slots.{stream_at}
+use Rattle.intake.specs.Sound.{is_called, streams_named}
+use Rattle.intake.specs.Step.{is_taken, has_name as is_name_in}
 use Rattle.journal_records.specs.Taken.{has_name}
 use Rattle.case_journal.specs.Append.{StoreRefused}
 use Rattle.case_journal.specs.Journaled.{Journaled}
@@ -24,12 +35,12 @@ use Rattle.case_journal.specs.declared.faults.JournalFault.{JournalFault}
 use Rattle.case_journal.specs.declared.faults.JournalFault.TheVariants as journal_fault
 use Rattle.intake.specs.Closing.{Appends}
 use Rattle.intake.specs.Live.{cases_named}
-use Rattle.intake.specs.Names.{KeepsName, ForgetsName, ForgetsNames, is_one_of, items_of, name_of_case, names_gone}
-use Rattle.intake.specs.Parts.{bare_case}
+use Rattle.intake.specs.Names.{KeepsName, ForgetsName, ForgetsNames, is_one_of, items_of, name_of_case, names_gone, AreTaken}
+use Rattle.intake.specs.Parts.{Parts, StreamParts, bare_case, bare_stream, bare_of}
 use Rattle.intake.specs.State.{BareCase}
 use Rattle.intake.specs.declared.faults.ArchiveFault.{ArchiveFault}
 use Rattle.intake.proofs.ListedLemmas.{gone-append}
-use Rattle.intake.proofs.StepLemmas.{list_any-map, none_of}
+use Rattle.intake.proofs.StepLemmas.{list_any-map, called_same, new_name}
 
 one_true : (t : Bool) → 1 ≤ one_if t → t ≡ true
 one_true true some = refl
@@ -55,52 +66,133 @@ some_of P f (x ∷ xs) e = of (P (f x)) refl (some_of P f xs)
         let more = rest (sym (ap (λ t. t || list_any P (map f xs)) here) ∙ e) in
         omega (arith, s, more)
 
--- whether a case has a name, from how many have it
-pub taken_any : (cases : List Case) (q : List ℕ) (t : Bool) → cases_named cases q ≡ one_if t → list_any (λ (c : BareCase). bytes_eq c.name q) (map bare_case cases) ≡ t
-taken_any cases q t count = of (list_any (λ (c : BareCase). bytes_eq c.name q) (map bare_case cases)) refl
+-- a name that is taken is that of a case or of a stream
+some_taken : {D : Type 0} (a : Parts D) (name : List ℕ) → is_taken (bare_of a) name ≡ true → 1 ≤ cases_named a.journal.standing.cases name + streams_named a.streams name
+some_taken a name e = of (list_any (λ (c : BareCase). bytes_eq c.name name) (map bare_case a.journal.standing.cases)) refl
   where
-    of : (r : Bool) → list_any (λ (c : BareCase). bytes_eq c.name q) (map bare_case cases) ≡ r → r ≡ t
-    of true e = (let some = some_of (λ (c : BareCase). bytes_eq c.name q) bare_case cases e in sym (one_true t (omega (arith, some, count))))
-    of false e = (let none = none_of (λ (c : BareCase). bytes_eq c.name q) bare_case cases e in sym (one_false t (omega (arith, none, count))))
+    of : (t : Bool) → list_any (λ (c : BareCase). bytes_eq c.name name) (map bare_case a.journal.standing.cases) ≡ t → 1 ≤ cases_named a.journal.standing.cases name + streams_named a.streams name
+    of true here = (let s = some_of (λ (c : BareCase). bytes_eq c.name name) bare_case a.journal.standing.cases here in omega (arith, s))
+    of false here =
+        let s = some_of (is_name_in name) (option_map bare_stream) a.streams (sym (ap (λ t. t || list_any (is_name_in name) (map (option_map bare_stream) a.streams)) here) ∙ e) in
+        let f = called_same name a.streams in
+        omega (arith, s, f)
 
--- A name that no case has was kept.
-module _ (cases : List Case) (name : List ℕ) (a b : BTreeSet (ArrayVec ℕ)) (are : AreNames cases a) (fresh : is_name_of cases name ≡ false) (keeps : KeepsName (Ok tt) name a b) where
-  none : (q : List ℕ) → bytes_eq name q ≡ true → cases_named cases q ≡ 0
-  none q e = ap (cases_named cases) (sym ((bytes_eq-Decides name q).0 e)) ∙ none_named cases name fresh
+-- whether the set has a name, where it has those that are taken
+pub taken_is : {D : Type 0} (a : Parts D) (names : BTreeSet (ArrayVec ℕ)) (name : List ℕ) → AreTaken a.journal.standing.cases a.streams names → has_name names name ≡ is_taken (bare_of a) name
+taken_is a names name are = of (is_taken (bare_of a) name) refl
+  where
+    of : (t : Bool) → is_taken (bare_of a) name ≡ t → has_name names name ≡ t
+    of true e = (let s = some_taken a name e in let h = are name in one_true (has_name names name) (omega (arith, s, h)))
+    of false e = (let n = new_name a name e in let x = n.0 in let y = n.1 in let h = are name in one_false (has_name names name) (omega (arith, x, y, h)))
 
-  -- it is forgotten again
-  pub kept_back : (c : BTreeSet (ArrayVec ℕ)) → ForgetsName name b c → AreNames cases c
-  kept_back c forgets q = of (bytes_eq name q) refl
-    where
-      of : (t : Bool) → bytes_eq name q ≡ t → cases_named cases q ≡ one_if (has_name c q)
-      of true e = none q e ∙ sym (ap one_if (forgets q ∙ ap (λ t. cond t false (has_name b q)) e))
-      of false e =
-          are q ∙ ap one_if (sym (keeps q ∙ ap (λ t. t || has_name a q) e)) ∙ ap one_if (sym (forgets q ∙ ap (λ t. cond t false (has_name b q)) e))
+-- how many streams have a name, once something else stands in a slot
+named_with : (streams : List (Option StreamParts)) (slot : ℕ) (o o' : Option StreamParts) (q : List ℕ) → slot < length streams → stream_at streams slot ≡ o
+    → streams_named (slice_set streams slot o') q + one_if (is_called q o) ≡ streams_named streams q + one_if (is_called q o')
+named_with streams slot o o' q below there =
+    let s = sum_by-set (λ (x : Option StreamParts). one_if (is_called q x)) streams slot o' None below in
+    let e = ap (λ (x : Option StreamParts). one_if (is_called q x)) there in
+    omega (arith, s, e)
 
-  -- its case is the last one
-  pub kept_more : (x : Case) → x.name ≡ name → AreNames (cases ++ x ∷ []) b
-  kept_more x called q = of (bytes_eq name q) refl
-    where
-      of : (t : Bool) → bytes_eq name q ≡ t → cases_named (cases ++ x ∷ []) q ≡ one_if (has_name b q)
-      of true e =
-          let s = named_stored cases x q in
-          let f : one_if (bytes_eq x.name q) ≡ 1 = ap one_if (ap (λ (n : List ℕ). bytes_eq n q) called ∙ e) in
-          let h : one_if (has_name b q) ≡ 1 = ap one_if (keeps q ∙ ap (λ t. t || has_name a q) e) in
-          omega (arith, s, f, h, none q e)
-      of false e =
-          let s = named_stored cases x q in
-          let f : one_if (bytes_eq x.name q) ≡ 0 = ap one_if (ap (λ (n : List ℕ). bytes_eq n q) called ∙ e) in
-          let h : one_if (has_name b q) ≡ one_if (has_name a q) = ap one_if (keeps q ∙ ap (λ t. t || has_name a q) e) in
-          omega (arith, s, f, h, are q)
+-- a stream stands in one of the slots
+slot_there : (streams : List (Option StreamParts)) (slot : ℕ) (s : StreamParts) → stream_at streams slot ≡ Some s → slot < length streams
+slot_there streams slot s is =
+    elim (cases_lt slot (length streams)) as (λ _. slot < length streams) [ inl lt ↦ lt | inr high ↦ absurd (let e : None ≡ Some s = sym (get_or_past streams slot None high) ∙ is in cc) ]
+
+-- a stream is begun, and its name kept
+pub taken_begun : (cases : List Case) (streams streams' : List (Option StreamParts)) (slot : ℕ) (s : StreamParts) (a b : BTreeSet (ArrayVec ℕ)) → AreTaken cases streams a → slot < length streams → stream_at streams slot ≡ None
+    → streams' ≡ slice_set streams slot (Some s) → has_name a s.name ≡ false → KeepsName (Ok tt) s.name a b → AreTaken cases streams' b
+taken_begun cases streams streams' slot s a b are below none now fresh keeps = subst (λ (x : List (Option StreamParts)). AreTaken cases x b) (sym now) each
+  where
+    each : AreTaken cases (slice_set streams slot (Some s)) b
+    each q = of (bytes_eq s.name q) refl
+      where
+        of : (t : Bool) → bytes_eq s.name q ≡ t → cases_named cases q + streams_named (slice_set streams slot (Some s)) q ≡ one_if (has_name b q)
+        of true e =
+            let n = named_with streams slot None (Some s) q below none in
+            let c : one_if (bytes_eq s.name q) ≡ 1 = ap one_if e in
+            let f : one_if (has_name a q) ≡ 0 = ap one_if (ap (has_name a) (sym ((bytes_eq-Decides s.name q).0 e)) ∙ fresh) in
+            let h : one_if (has_name b q) ≡ 1 = ap one_if (keeps q ∙ ap (λ t. t || has_name a q) e) in
+            omega (arith, n, c, f, h, are q)
+        of false e =
+            let n = named_with streams slot None (Some s) q below none in
+            let c : one_if (bytes_eq s.name q) ≡ 0 = ap one_if e in
+            let h : one_if (has_name b q) ≡ one_if (has_name a q) = ap one_if (keeps q ∙ ap (λ t. t || has_name a q) e) in
+            omega (arith, n, c, h, are q)
+
+-- a stream is dropped, and its name forgotten
+pub taken_dropped : (cases : List Case) (streams streams' : List (Option StreamParts)) (slot : ℕ) (s : StreamParts) (a b : BTreeSet (ArrayVec ℕ)) → AreTaken cases streams a → stream_at streams slot ≡ Some s
+    → streams' ≡ slice_set streams slot None → ForgetsName s.name a b → AreTaken cases streams' b
+taken_dropped cases streams streams' slot s a b are is now forgets = subst (λ (x : List (Option StreamParts)). AreTaken cases x b) (sym now) each
+  where
+    each : AreTaken cases (slice_set streams slot None) b
+    each q = of (bytes_eq s.name q) refl
+      where
+        of : (t : Bool) → bytes_eq s.name q ≡ t → cases_named cases q + streams_named (slice_set streams slot None) q ≡ one_if (has_name b q)
+        of true e =
+            let n = named_with streams slot (Some s) None q (slot_there streams slot s is) is in
+            let c : one_if (bytes_eq s.name q) ≡ 1 = ap one_if e in
+            let h : one_if (has_name b q) ≡ 0 = ap one_if (forgets q ∙ ap (λ t. cond t false (has_name a q)) e) in
+            omega (arith, n, c, h, are q, one_most (has_name a q))
+        of false e =
+            let n = named_with streams slot (Some s) None q (slot_there streams slot s is) is in
+            let c : one_if (bytes_eq s.name q) ≡ 0 = ap one_if e in
+            let h : one_if (has_name b q) ≡ one_if (has_name a q) = ap one_if (forgets q ∙ ap (λ t. cond t false (has_name a q)) e) in
+            omega (arith, n, c, h, are q)
+
+-- another stream of the same name stands in the slot
+pub taken_grown : (cases : List Case) (streams streams' : List (Option StreamParts)) (slot : ℕ) (s s' : StreamParts) (a : BTreeSet (ArrayVec ℕ)) → AreTaken cases streams a → stream_at streams slot ≡ Some s
+    → streams' ≡ slice_set streams slot (Some s') → s'.name ≡ s.name → AreTaken cases streams' a
+taken_grown cases streams streams' slot s s' a are is now same = subst (λ (x : List (Option StreamParts)). AreTaken cases x a) (sym now)
+    (λ q. (let n = named_with streams slot (Some s) (Some s') q (slot_there streams slot s is) is in
+        let e = ap (λ (n : List ℕ). one_if (bytes_eq n q)) same in
+        omega (arith, n, e, are q)))
+
+-- the free part of a slot's block was lent
+pub taken_lent : (cases : List Case) (streams : List (Option StreamParts)) (slot : ℕ) (b : Bool) (r : Result (Unit {0}) ArchiveFault) (ws : List ℕ) (a : BTreeSet (ArrayVec ℕ)) → AreTaken cases streams a
+    → SlotReply b streams slot r → AreTaken cases (slots_left streams slot r ws) a
+taken_lent cases streams slot b (Err f) ws a are reply = are
+taken_lent cases streams slot b (Ok u) ws a are reply = here (stream_at streams slot) refl
+  where
+    here : (o : Option StreamParts) → stream_at streams slot ≡ o → AreTaken cases (slice_set streams slot (option_map (with_room ws) (stream_at streams slot))) a
+    here None is = absurd (reply.1 is)
+    here (Some s) is =
+        subst (λ (o : Option StreamParts). AreTaken cases (slice_set streams slot (option_map (with_room ws) o)) a) (sym is)
+        (taken_grown cases streams (slice_set streams slot (Some (with_room ws s))) slot s (with_room ws s) a are is refl refl)
+
+-- a stream became the last case
+pub taken_stored : (cases : List Case) (streams streams' : List (Option StreamParts)) (slot : ℕ) (s : StreamParts) (x : Case) (a : BTreeSet (ArrayVec ℕ)) → AreTaken cases streams a → stream_at streams slot ≡ Some s
+    → streams' ≡ slice_set streams slot None → x.name ≡ s.name → AreTaken (cases ++ x ∷ []) streams' a
+taken_stored cases streams streams' slot s x a are is now called = subst (λ (xs : List (Option StreamParts)). AreTaken (cases ++ x ∷ []) xs a) (sym now)
+    (λ q. (let n = named_with streams slot (Some s) None q (slot_there streams slot s is) is in
+        let m = named_stored cases x q in
+        let e = ap (λ (n : List ℕ). one_if (bytes_eq n q)) called in
+        omega (arith, n, m, e, are q)))
+
+-- no stream is open yet
+none_called : (n : ℕ) (q : List ℕ) → streams_named (replicate n None) q ≡ 0
+none_called zero q = refl
+none_called (suc n) q = (let s = sum_by-cons (λ (x : Option StreamParts). one_if (is_called q x)) None (replicate n None) in omega (arith, s, none_called n q))
+
+pub taken_opened : (cases : List Case) (streams : List (Option StreamParts)) (a : BTreeSet (ArrayVec ℕ)) → AreNames cases a → streams ≡ replicate 8 None → AreTaken cases streams a
+taken_opened cases streams a are none = subst (λ (x : List (Option StreamParts)). AreTaken cases x a) (sym none)
+    (λ q. (let n = none_called 8 q in let h = are q in omega (arith, n, h)))
+
+-- after a refusal that did not stop it the streams are as they were
+pub still_open : (f : ArchiveFault) (old new : List (Option StreamParts)) (b : Bool) → EndsStreams f old b new → b ≡ false → new ≡ old
+still_open fault.Disk old new b ends on = absurd (let e : true ≡ false = sym ends.0 ∙ on in cc)
+still_open _ old new b ends on = ends.1
+
+pub taken_still : (f : ArchiveFault) (cases : List Case) (old new : List (Option StreamParts)) (b : Bool) (a : BTreeSet (ArrayVec ℕ)) → EndsStreams f old b new → AreTaken cases old a → b ≡ false → AreTaken cases new a
+taken_still f cases old new b a ends are on = subst (λ (x : List (Option StreamParts)). AreTaken cases x a) (sym (still_open f old new b ends on)) are
 
 -- the names of the cases that are left, once those of the dropped ones are forgotten
-pub names_left : (seqs : List ℕ) (cases : List Case) (names : List (ArrayVec ℕ)) (a b : BTreeSet (ArrayVec ℕ)) → AreNames cases a → map items_of names ≡ names_gone seqs cases → ForgetsNames names a b → AreNames (dropped seqs cases) b
-names_left seqs cases names a b are same forgets q = of (is_one_of names q) refl
+pub names_left : (seqs : List ℕ) (cases : List Case) (streams : List (Option StreamParts)) (names : List (ArrayVec ℕ)) (a b : BTreeSet (ArrayVec ℕ)) → AreTaken cases streams a → map items_of names ≡ names_gone seqs cases → ForgetsNames names a b → AreTaken (dropped seqs cases) streams b
+names_left seqs cases streams names a b are same forgets q = of (is_one_of names q) refl
   where
     among : list_any (λ (n : List ℕ). bytes_eq n q) (map name_of_case (gone seqs cases)) ≡ is_one_of names q
     among = ap (list_any (λ (n : List ℕ). bytes_eq n q)) (sym same) ∙ list_any-map (λ (n : List ℕ). bytes_eq n q) items_of names
 
-    of : (t : Bool) → is_one_of names q ≡ t → cases_named (dropped seqs cases) q ≡ one_if (has_name b q)
+    of : (t : Bool) → is_one_of names q ≡ t → cases_named (dropped seqs cases) q + streams_named streams q ≡ one_if (has_name b q)
     of true e =
         let all = named_dropped seqs cases q in
         let some = some_of (λ (n : List ℕ). bytes_eq n q) name_of_case (gone seqs cases) (among ∙ e) in
@@ -112,8 +204,8 @@ names_left seqs cases names a b are same forgets q = of (is_one_of names q) refl
         let h : one_if (has_name b q) ≡ one_if (has_name a q) = ap one_if (forgets q ∙ ap (λ t. cond t false (has_name a q)) e) in
         omega (arith, all, none, h, are q)
 
-pub names_pinned : (seq : ℕ) (flag : Bool) (cases : List Case) (a : BTreeSet (ArrayVec ℕ)) → AreNames cases a → AreNames (with_pin seq flag cases) a
-names_pinned seq flag cases a are q = named_pinned seq flag cases q ∙ are q
+pub names_pinned : (seq : ℕ) (flag : Bool) (cases : List Case) (streams : List (Option StreamParts)) (a : BTreeSet (ArrayVec ℕ)) → AreTaken cases streams a → AreTaken (with_pin seq flag cases) streams a
+names_pinned seq flag cases streams a are q = ap (λ n. n + streams_named streams q) (named_pinned seq flag cases q) ∙ are q
 
 -- a refused record leaves the cases
 still_stored : (j j' : Journaled) (c : Case) (jf : JournalFault) → StoreRefused j c jf j' → j'.standing.cases ≡ j.standing.cases

@@ -15,7 +15,7 @@ use Rattle.intake.specs.Parts.{StreamParts, bare_case, bare_stream}
 use Rattle.intake.specs.Slots.{stream_at}
 use Rattle.intake.specs.State.{BareCase, BareStream}
 use Rattle.intake.specs.Step.{case_at}
-use Rattle.intake.specs.Untouched.{RefusalSpares, SealSpares, FinishSpares}
+use Rattle.intake.specs.Untouched.{RefusalSpares, FinishSpares}
 use Rattle.intake.specs.declared.faults.ArchiveFault.{ArchiveFault}
 use Rattle.intake.specs.declared.faults.ArchiveFault.TheVariants as fault
 use Rattle.intake.proofs.AfterLemmas.{bare_case_at, told_same}
@@ -76,7 +76,7 @@ flag_differs seq flag cases c x found differs at is =
     inside e = cc
 
 -- a seal's refusal, but that of the disk
-pub seal_spares : {D : Type 0} (free : ℕ) (s s' : StreamParts) (f : ArchiveFault) (old new : D) → Closes free s (Err f) s' → SealSpares (Err f) old new → FinishSpares (Err f) old new
+pub seal_spares : {D : Type 0} (free : ℕ) (s s' : StreamParts) (f : ArchiveFault) (old new : D) → Closes free s (Err f) s' → RefusalSpares {T = Unit {0}} (Err f) old new → FinishSpares (Err f) old new
 seal_spares free s s' fault.SpaceFull old new closes spares = spares
 seal_spares free s s' fault.OutOfMemory old new closes spares = tt
 seal_spares free s s' fault.Disk old new closes spares = tt

@@ -27,7 +27,7 @@ Closes free old (Ok u) new =
     ⊎ ((old.len % 4096 ≢ 0) × (0 < free) × (length new.blocks ≡ length old.blocks + 1)
     × (case_from_parts new ≡ case_from_parts (with_blocks old new.blocks)))
 Closes free old (Err SpaceFull) new = (old.len % 4096 ≢ 0) × (free ≡ 0)
-Closes free old (Err OutOfMemory) new = (old.len % 4096 ≢ 0) → 0 < free
+Closes free old (Err OutOfMemory) new = (old.len % 4096 ≢ 0) × (0 < free)
 Closes free old (Err Disk) new = (old.len % 4096 ≢ 0) → 0 < free
 Closes free old (Err _) new = ⊥
 

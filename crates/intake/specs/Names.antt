@@ -1,17 +1,18 @@
--- The names that an archive keeps: those of its live cases.
-use Rattle.std.specs.Prelude.{◌≡◌, ℕ, Bool, false, ◌||◌, if◌then◌else◌, List, map, Option, Result, Ok, Err}
+-- The names that an archive keeps: those of its live cases and of its open streams.
+use Rattle.std.specs.Prelude.{◌≡◌, ◌+◌, ℕ, Bool, false, ◌||◌, if◌then◌else◌, List, map, Option, Result, Ok, Err}
 use Rattle.std.specs.List.{list_any}
 use Rattle.std.specs.Str.{bytes_eq}
 use Rattle.std.specs.BTreeSet.{BTreeSet}
 use Rattle.arrayvec.specs.ArrayVec.{ArrayVec}
+use Rattle.extents.specs.FreeSet.{one_if}
 use Rattle.disk_model.specs.declared.disk.Disk as disk
 use Rattle.journal_layout.specs.Case.{Case}
 use Rattle.journal_layout.specs.Live.{gone}
-use Rattle.journal_records.specs.Kept.{AreNames}
 use Rattle.journal_records.specs.Taken.{has_name}
 use Rattle.case_journal.specs.Journaled.{Journaled}
 use Rattle.intake.specs.Parts.{StreamParts}
-use Rattle.intake.specs.Sound.{IsSound}
+use Rattle.intake.specs.Live.{cases_named}
+use Rattle.intake.specs.Sound.{IsSound, streams_named}
 use Rattle.intake.specs.declared.faults.ArchiveFault.{ArchiveFault}
 use Rattle.intake.specs.declared.faults.ArchiveFault.TheVariants.{OutOfMemory}
 
@@ -47,8 +48,12 @@ name_of_case c = c.name
 abbrev pub names_gone : List ℕ → List Case → List (List ℕ)
 names_gone seqs cases = map name_of_case (gone seqs cases)
 
--- A sound archive, whose set has a name exactly where a live case has it.
+-- The set has a name exactly where one of the cases or of the streams has it, and no two of these have one name.
+abbrev pub AreTaken : List Case → List (Option StreamParts) → BTreeSet (ArrayVec ℕ) → Type 0
+AreTaken cases streams names = (name : List ℕ) → cases_named cases name + streams_named streams name ≡ one_if (has_name names name)
+
+-- A sound archive, whose set has the names of its live cases and of its open streams, until a disk fault stops it.
 pub record IsConsistent {D : Type 0} (g : disk.Ghosts D) (d : D) (j : Journaled) (most : ℕ) (flags : List Bool) (streams : List (Option StreamParts)) (stopped : Bool)
     (names : BTreeSet (ArrayVec ℕ)) : Type 0 where
   pub sound : IsSound g d j most flags streams stopped
-  pub taken : AreNames j.standing.cases names
+  pub taken : stopped ≡ false → AreTaken j.standing.cases streams names

@@ -13,11 +13,6 @@ RefusalSpares (Ok x) old new = Unit {0}
 RefusalSpares (Err Disk) old new = Unit {0}
 RefusalSpares (Err _) old new = new ≡ old
 
--- a seal: the refusal before its first write
-abbrev pub SealSpares : {D : Type 0} → Result (Unit {0}) ArchiveFault → D → D → Type 0
-SealSpares (Err SpaceFull) old new = new ≡ old
-SealSpares _ old new = Unit {0}
-
 -- advance: where the bytes fill no block, too
 abbrev pub AdvanceSpares : {D : Type 0} → Bare → ℕ → ℕ → Result (Unit {0}) ArchiveFault → D → D → Type 0
 AdvanceSpares s slot n (Ok u) old new =

@@ -8,7 +8,6 @@ ghost use Rattle.journal_layout.specs.Stands.{Stands};
 ghost use Rattle.case_journal.specs.Append.{MayFollow};
 ghost use Rattle.journal_layout.specs.Record.{Drop};
 ghost use Rattle.case_journal.specs.Viewing.{ShowsOpening, Finds};
-ghost use Rattle.intake.specs.Step.{is_taken};
 ghost use Rattle.disk_model.specs.Disk.{HasRisen};
 ghost use Rattle.intake.specs.Growth.{IsDiskFault};
 ghost use Rattle.intake.specs.Ending.{EndsStreams};
@@ -20,7 +19,7 @@ use crate::ArchiveFault;
 use crate::blocks::{append_case, grow, release, seal, stops};
 use crate::buffer::Buffer;
 use crate::dropping::{hold_listed, release_listed};
-use crate::names::{copied, forget_names, names_of};
+use crate::names::{copied, forget_name, forget_names, keep_name, names_of};
 use crate::opening::open_parts;
 use crate::reading::read_image;
 use crate::retiring::decide_for;
@@ -51,7 +50,7 @@ pub struct Archive<D: Disk> {
     journal: Journal,
     alloc: Global,
     settings: Settings,
-    // The names of the cases.
+    // The names of the cases and of the open streams.
     names: BTreeSet<Name>,
     // The data blocks that no case and no stream has.
     free: FreeMap,
@@ -146,13 +145,6 @@ impl<D: Disk> Archive<D> {
         })
     }
 
-    // Whether a live case or an open stream has the name.
-    fn is_taken(&self, name: &Name) -> bool
-        ensures { result ≡ is_taken (bare_of self.now) name.now.items }
-    {
-        self.names.contains(name) || self.slots.has_name(name.as_slice())
-    }
-
     /// Begins a stream with no bytes in a slot. Answers, in this order: `Stopped`; `BadSlot`; `SlotBusy`; `NameTaken`;
     /// `OutOfMemory`. A refusal changes nothing.
     pub fn begin(
@@ -184,12 +176,13 @@ impl<D: Disk> Archive<D> {
         if self.slots.is_open(slot) {
             return Err(ArchiveFault::SlotBusy);
         }
-        if self.is_taken(&name) {
+        if self.names.contains(&name) {
             return Err(ArchiveFault::NameTaken);
         }
         let Ok(block) = Buffer::zeros(self.alloc) else {
             return Err(ArchiveFault::OutOfMemory);
         };
+        keep_name(&mut self.names, &name)?;
         self.slots.put(
             slot,
             Stream {
@@ -244,6 +237,7 @@ impl<D: Disk> Archive<D> {
             n,
         );
         if let Err(fault) = grown {
+            forget_name(&mut self.names, &stream.name);
             release(&mut self.free, stream.runs);
             self.stopped = end_streams(fault, &mut self.slots);
             return Err(fault);
@@ -269,12 +263,12 @@ impl<D: Disk> Archive<D> {
         let sealed = seal(
             &mut self.disk,
             shape,
-            &mut self.names,
             &mut self.free,
             &mut stream,
             &mut block,
         );
         if let Err(fault) = sealed {
+            forget_name(&mut self.names, &stream.name);
             release(&mut self.free, stream.runs);
             self.stopped = end_streams(fault, &mut self.slots);
             return Err(fault);
@@ -305,6 +299,7 @@ impl<D: Disk> Archive<D> {
         let Some((stream, _)) = self.slots.take(self.alloc, slot) else {
             return Err(ArchiveFault::NoStream);
         };
+        forget_name(&mut self.names, &stream.name);
         release(&mut self.free, stream.runs);
         Ok(())
     }

@@ -20,12 +20,12 @@ ghost use Rattle.journal_layout.specs.Case.{case_of};
 ghost use Rattle.intake.specs.Closing.{Closes, ClosesBytes, ClosesPadded, Appends, GivesBack};
 ghost use Rattle.intake.specs.Sound.{IsFine};
 ghost use Rattle.intake.specs.StreamView.{parts_of};
-ghost use Rattle.intake.specs.Names.{KeepsName, GivesNameBack};
-ghost use Rattle.intake.specs.Untouched.{RefusalSpares, SealSpares};
+ghost use Rattle.intake.specs.Names.{GivesNameBack};
+ghost use Rattle.intake.specs.Untouched.{RefusalSpares};
 
 use crate::ArchiveFault;
 use crate::buffer::Buffer;
-use crate::names::{forget_name, keep_name};
+use crate::names::forget_name;
 use crate::stream::Stream;
 use case_journal::{Journal, data_blocks_keep};
 use disk_model::Disk;
@@ -139,6 +139,7 @@ pub(crate) fn grow<D: Disk>(
     ensures untouched { RefusalSpares result disk.old disk.new }
     // Bytes that fill no block leave the disk as it is.
     ensures idle { OnOk result ((NeedsBlock stream.old.length n → ⊥) → disk.new ≡ disk.old) }
+    ensures name { stream.new.name ≡ stream.old.name }
     ensures balance { Balances free.old stream.old.runs free.new stream.new.runs }
     ensures bytes { IsTrue (D.is_honest disk.old) → OnOk result (GrowsBytes shape (parts_of block.old stream.old) n
         (parts_of block.new stream.new) (D.seen disk.old) (D.seen disk.new)) }
@@ -180,6 +181,7 @@ fn last_block<D: Disk>(
     requires held { AreHeld free.old stream.old.runs }
     ensures step { Closes (free_count free.old) (parts_of block.old stream.old) result
         (parts_of block.new stream.new) }
+    ensures name { stream.new.name ≡ stream.old.name }
     ensures balance { Balances free.old stream.old.runs free.new stream.new.runs }
     ensures bytes { IsTrue (D.is_honest disk.old) → OnOk result (ClosesBytes shape (parts_of block.old stream.old)
         stream.new.runs (D.seen disk.old) (D.seen disk.new)) }
@@ -204,12 +206,11 @@ fn last_block<D: Disk>(
     Ok(())
 }
 
-/// Writes the last block of a stream where it is part-filled, with zeros behind its bytes, makes all that was
-/// written stable, and keeps its name. `OutOfMemory` may be met for the name once all is written.
+/// Writes the last block of a stream where it is part-filled, with zeros behind its bytes, and makes all that was
+/// written stable.
 pub(crate) fn seal<D: Disk>(
     disk: &mut D,
     shape: Shape,
-    names: &mut BTreeSet<Name>,
     free: &mut FreeMap,
     stream: &mut Stream,
     block: &mut Buffer,
@@ -222,44 +223,7 @@ pub(crate) fn seal<D: Disk>(
     requires held { AreHeld free.old stream.old.runs }
     ensures step { Closes (free_count free.old) (parts_of block.old stream.old) result
         (parts_of block.new stream.new) }
-    ensures balance { Balances free.old stream.old.runs free.new stream.new.runs }
-    ensures bytes { IsTrue (D.is_honest disk.old) → OnOk result (ClosesBytes shape (parts_of block.old stream.old)
-        stream.new.runs (D.seen disk.old) (D.seen disk.new)) }
-    ensures padded { IsTrue (D.is_honest disk.old) → OnOk result (ClosesPadded shape (parts_of block.old stream.old)
-        stream.new.runs (D.seen disk.old) (D.seen disk.new)) }
-    ensures names { KeepsName result stream.new.name.items names.old names.new }
-    ensures untouched { SealSpares result disk.old disk.new }
-    ensures others { IsTrue (D.is_honest disk.old)
-        → ChangesFree shape free.old (D.seen disk.old) (D.seen disk.new) }
-    ensures rests { (j : Journaled) → j.standing.shape ≡ shape → Spares free.old j
-        → Guards D.Disk disk.old j → Rests D.Disk disk.old disk.new j }
-    ensures settled { IsTrue (D.is_honest disk.old) → OnOk result (IsSettled D.Disk disk.new) }
-    ensures cause { IsDiskFault result → HasRisen (D.failures disk.old) (D.failures disk.new) }
-    ensures later { D.failures disk.old ≤ D.failures disk.new }
-    ensures honesty { D.is_honest disk.new ≡ D.is_honest disk.old }
-    ensures size { D.size disk.new ≡ D.size disk.old }
-{
-    seal_blocks(disk, shape, free, stream, block)?;
-    keep_name(names, &stream.name)
-}
-
-// Writes the last block of a stream where it is part-filled, with zeros behind its bytes, and makes all that was
-// written stable.
-fn seal_blocks<D: Disk>(
-    disk: &mut D,
-    shape: Shape,
-    free: &mut FreeMap,
-    stream: &mut Stream,
-    block: &mut Buffer,
-) -> Result<(), ArchiveFault>
-    requires limits { IsWithinLimits shape }
-    requires disk { D.size disk.old ≡ disk_length shape }
-    requires map { length free.old ≡ shape.data_blocks }
-    requires block { length block.old ≡ 4096 }
-    requires filled { length stream.old.runs ≡ stream.old.length / 4096 }
-    requires held { AreHeld free.old stream.old.runs }
-    ensures step { Closes (free_count free.old) (parts_of block.old stream.old) result
-        (parts_of block.new stream.new) }
+    ensures name { stream.new.name ≡ stream.old.name }
     ensures balance { Balances free.old stream.old.runs free.new stream.new.runs }
     ensures bytes { IsTrue (D.is_honest disk.old) → OnOk result (ClosesBytes shape (parts_of block.old stream.old)
         stream.new.runs (D.seen disk.old) (D.seen disk.new)) }

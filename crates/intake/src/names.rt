@@ -1,4 +1,4 @@
-// The names of the live cases, kept in a set so that a name is looked up without going over the cases.
+// The names of the live cases and of the open streams, kept in a set so that a name is looked up without going over these.
 ghost use Rattle.std.specs.Prelude.{◌≡◌, ◌++◌, ◌∷◌, [], ◌≤◌, Err, IfOk, OnOk, IfErr, map, length};
 ghost use Rattle.intake.specs.Names.{KeepsName, ForgetsName, ForgetsNames, items_of, names_gone};
 ghost use Rattle.journal_layout.specs.Case.{case_of};

@@ -1,3 +1,4 @@
+use Rattle.intake.proofs.NameLemmas.{taken_opened}
 use Rattle.std.proofs.Common.{◌∙◌, ap, sym, refl, ℕ, List}
 use Rattle.intake.specs.Durable.{durable_in}
 use Rattle.intake.proofs.HoldLemmas.{opened_sound}
@@ -15,5 +16,5 @@ returns-clause-sound g c most =
           })
           c.in_ok-opened.ensures.live c.in_ok-opened.ensures.runs
           refl refl c.in_ok-opened.ensures.free c.in-Ok.ensures;
-      taken = c.in_ok-opened.ensures.names;
+      taken = λ on. taken_opened j.standing.cases c.in-Ok.slots c.in_ok-opened.opened.names c.in_ok-opened.ensures.names c.in-Ok.ensures;
     }

@@ -1,3 +1,7 @@
+use Rattle.std.proofs.Common.{ℕ}
+use Rattle.arrayvec.specs.ArrayVec.{ArrayVec}
+use Rattle.intake.specs.Names.{ForgetsName}
+use Rattle.intake.proofs.NameLemmas.{taken_dropped, taken_grown, taken_still}
 use Rattle.std.proofs.Common.{rules, arith, ◌∙◌, ap, sym, subst, Option, Err, List}
 use Rattle.journal_layout.specs.declared.shape.Shape.{Shape}
 use Rattle.intake.specs.Growth.{ChangesFree}
@@ -6,7 +10,7 @@ use Rattle.intake.specs.Step.{AdvanceStep}
 use Rattle.intake.specs.StreamView.{parts_of}
 use Rattle.intake.proofs.CountLemmas.{still_held, balance_then}
 use Rattle.intake.proofs.SoundLemmas.{stream_held}
-use Rattle.intake.proofs.AdvanceLemmas.{none_set, sound_refused, refused_bytes, sound_grown, advance_ok, advance_ok_bytes, advance_err, not_stopped, not_missing, fits_in}
+use Rattle.intake.proofs.AdvanceLemmas.{put_back, none_set, sound_refused, refused_bytes, sound_grown, advance_ok, advance_ok_bytes, advance_err, not_stopped, not_missing, fits_in}
 use Rattle.intake.proofs.CrashLemmas.{grow_rests, grow_moments, grow_durable}
 use Rattle.intake.proofs.UntouchedLemmas.{needs_none}
 use Rattle.std.proofs.lemmas.Grind.{common_steps}
@@ -27,7 +31,10 @@ invariant_of-self-in-Err g c =
         (grow_rests g.D.Disk c.self.inside.disk c.grow-grown.new.disk c.self.inside.journal c.self.inside.settings.limit c.self.inside.free c.self.inside.slots (c.self.invariant.sound.runs c.if-self.false) (c.in-Err.ensures.rests c.self.inside.journal (sym c.shape-shape.ensures))).guards
         (balance_then c.self.inside.free c.grow-grown.new.free c.release.new.free c.in-Some.stream.runs c.grow-grown.new.stream.runs _ c.in-Err.ensures.balance c.release.ensures)
         c.end_streams-self-inside.ensures;
-      taken = c.self.invariant.taken;
+      taken = λ on. taken_still c.in-Err.fault c.self.inside.journal.standing.cases c.take.new.self c.end_streams-self-inside.new.slots c.end_streams-self-inside.result c.forget_name.new.names c.end_streams-self-inside.ensures
+          (taken_dropped c.self.inside.journal.standing.cases c.self.inside.slots c.take.new.self c.args.slot _ c.self.inside.names c.forget_name.new.names (c.self.invariant.taken c.if-self.false) (sym c.in-Some.ensures.stream) c.in-Some.ensures.slots
+          (subst (λ (n : ArrayVec ℕ). ForgetsName n.items c.self.inside.names c.forget_name.new.names) c.in-Err.ensures.name c.forget_name.ensures))
+          on;
     }
 
 pub invariant_of-self-2 : goal.invariant_of-self-2
@@ -41,7 +48,10 @@ invariant_of-self-2 g c =
         c.in_default-grown.ensures.step c.in_default-grown.ensures.small
         (grow_rests g.D.Disk c.self.inside.disk c.grow-grown.new.disk c.self.inside.journal c.self.inside.settings.limit c.self.inside.free c.self.inside.slots (c.self.invariant.sound.runs c.if-self.false) (c.in_default-grown.ensures.rests c.self.inside.journal (sym c.shape-shape.ensures))).guards
         c.in_default-grown.ensures.balance;
-      taken = c.self.invariant.taken;
+      taken = λ on. taken_grown c.self.inside.journal.standing.cases c.self.inside.slots c.put.new.self c.args.slot (parts_of c.in-Some.block c.in-Some.stream) (parts_of c.grow-grown.new.block c.grow-grown.new.stream) c.self.inside.names (c.self.invariant.taken on) (sym c.in-Some.ensures.stream)
+          (put_back g.D.Disk c.self.inside.disk c.grow-grown.new.disk c.self.inside.journal c.self.inside.settings.limit c.self.inside.free c.self.inside.slots c.args.slot c.args.n (parts_of c.in-Some.block c.in-Some.stream) c.self.inside.stopped (c.self.invariant.sound.runs c.if-self.false) c.if-self.false (sym c.in-Some.ensures.stream)
+          c.take.new.self c.put.new.self (parts_of c.grow-grown.new.block c.grow-grown.new.stream) c.in-Some.ensures.slots c.put.ensures)
+          (ap (λ (n : ArrayVec ℕ). n.items) c.in_default-grown.ensures.name);
     }
 
 pub returns-in_default : goal.returns-in_default

@@ -1,6 +1,7 @@
-use Rattle.journal_records.specs.Kept.{AreNames}
+use Rattle.std.proofs.Common.{false}
+use Rattle.intake.specs.Names.{AreTaken}
 use Rattle.case_journal.specs.Journaled.{Journaled}
-use Rattle.intake.proofs.NameLemmas.{names_left}
+use Rattle.intake.proofs.NameLemmas.{names_left, taken_still}
 use Rattle.std.proofs.Common.{rules, ◌≡◌, ◌∙◌, sym, subst, List, [], Err}
 use Rattle.intake.specs.Balance.{AreHeld, Balances}
 use Rattle.intake.specs.Contents.{UnmovedBytes}
@@ -43,7 +44,7 @@ invariant_of-self g c =
         c.append_drop.ensures.outside c.append_drop.ensures.others)
         (subst (λ (cs : List Case). Balances c.self.inside.free (used_blocks (gone c.args.seqs.now cs)) c.release_listed.new.free []) c.entries.ensures c.release_listed.ensures);
       taken = let same = rw (← c.self.view_is) at c.requires.names in
-          subst (λ (k : Journaled). AreNames k.standing.cases c.forget_names.new.names) (sym c.in_default.ensures.step.2) (names_left c.args.seqs.now c.self.inside.journal.standing.cases c.args.names.now c.self.inside.names c.forget_names.new.names c.self.invariant.taken same c.forget_names.ensures);
+          λ on. subst (λ (k : Journaled). AreTaken k.standing.cases c.self.inside.slots c.forget_names.new.names) (sym c.in_default.ensures.step.2) (names_left c.args.seqs.now c.self.inside.journal.standing.cases c.self.inside.slots c.args.names.now c.self.inside.names c.forget_names.new.names (c.self.invariant.taken on) same c.forget_names.ensures);
     }
 
 pub returns-in_default-clause-step : goal.returns-in_default-clause-step
@@ -70,7 +71,9 @@ invariant_of-self-2 g c =
         (subst (λ (cs : List Case). Balances c.self.inside.free (used_blocks (gone c.args.seqs.now cs)) c.release_listed.new.free []) c.entries.ensures c.release_listed.ensures)
         (subst (λ (cs : List Case). Balances c.release_listed.new.free [] c.hold_listed.new.free (used_blocks (gone c.args.seqs.now cs)))
         (c.entries-2.ensures ∙ still_cases c.self.inside.journal c.append_drop.new.self (Drop c.args.seqs.now) c.in-Err.fault c.in-Err.ensures.step) c.hold_listed.ensures));
-      taken = subst (λ (cs : List Case). AreNames cs c.self.inside.names) (sym (still_cases c.self.inside.journal c.append_drop.new.self (Drop c.args.seqs.now) c.in-Err.fault c.in-Err.ensures.step)) c.self.invariant.taken;
+      taken = let on = rw (← c.self.view_is) at c.requires.runs in
+          subst (λ (cs : List Case). c.end_streams-self-inside.result ≡ false → AreTaken cs c.end_streams-self-inside.new.slots c.self.inside.names) (sym (still_cases c.self.inside.journal c.append_drop.new.self (Drop c.args.seqs.now) c.in-Err.fault c.in-Err.ensures.step))
+          (taken_still c.from-fault.result c.self.inside.journal.standing.cases c.self.inside.slots c.end_streams-self-inside.new.slots c.end_streams-self-inside.result c.self.inside.names c.end_streams-self-inside.ensures (c.self.invariant.taken on));
     }
 
 pub returns-clause-step : goal.returns-clause-step

@@ -1,10 +1,8 @@
 use Rattle.std.proofs.Common.{◌≡◌, false}
-use Rattle.extents.specs.FreeSet.{one_if}
 use Rattle.journal_layout.specs.Case.{numbered}
-use Rattle.journal_layout.specs.Folding.{is_name_of}
-use Rattle.journal_records.specs.Kept.{AreNames}
-use Rattle.intake.specs.Names.{ForgetsName}
-use Rattle.intake.proofs.NameLemmas.{kept_back, kept_more, still_there}
+use Rattle.arrayvec.specs.ArrayVec.{ArrayVec}
+use Rattle.intake.specs.Names.{ForgetsName, AreTaken}
+use Rattle.intake.proofs.NameLemmas.{taken_dropped, taken_stored, taken_still, still_there}
 use Rattle.std.proofs.Common.{rules, arith, ◌∙◌, ap, sym, subst, Option, Err, List, ℕ, []}
 use Rattle.intake.specs.Parts.{Parts, StreamParts, bare_of, contents_of}
 use Rattle.intake.specs.StreamView.{parts_of}
@@ -49,7 +47,10 @@ invariant_of-self-in-Err g c =
         (grow_rests g.D.Disk c.self.inside.disk c.seal-sealed.new.disk c.self.inside.journal c.self.inside.settings.limit c.self.inside.free c.self.inside.slots (c.self.invariant.sound.runs c.if-self.false) (c.in-Err.ensures.rests c.self.inside.journal (sym c.shape-shape.ensures))).guards
         (balance_then c.self.inside.free c.seal-sealed.new.free c.release.new.free c.in-Some.stream.runs c.seal-sealed.new.stream.runs _ c.in-Err.ensures.balance c.release.ensures)
         c.end_streams-self-inside.ensures;
-      taken = λ q. c.self.invariant.taken q ∙ ap one_if (sym (c.in-Err.ensures.names q));
+      taken = λ on. taken_still c.in-Err.fault c.self.inside.journal.standing.cases c.take.new.self c.end_streams-self-inside.new.slots c.end_streams-self-inside.result c.forget_name.new.names c.end_streams-self-inside.ensures
+          (taken_dropped c.self.inside.journal.standing.cases c.self.inside.slots c.take.new.self c.args.slot _ c.self.inside.names c.forget_name.new.names (c.self.invariant.taken c.if-self.false) (sym c.in-Some.ensures.stream) c.in-Some.ensures.slots
+          (subst (λ (n : ArrayVec ℕ). ForgetsName n.items c.self.inside.names c.forget_name.new.names) c.in-Err.ensures.name c.forget_name.ensures))
+          on;
     }
 
 pub append_case-requires-clause-storable : goal.append_case-requires-clause-storable
@@ -76,11 +77,11 @@ invariant_of-self-in-Err-append_case g c =
         c.in-Some.ensures.slots c.end_streams-self-inside-in-Err-append_case.ensures c.in-Err-append_case.ensures.step c.in-Err-append_case.ensures.guards
         (balance_then c.self.inside.free c.seal-sealed.new.free c.append_case.new.free c.in-Some.stream.runs c.seal-sealed.new.stream.runs _ c.in_default-sealed.ensures.balance
         (subst (λ (x : List ℕ). Balances c.seal-sealed.new.free x c.append_case.new.free []) (ap (λ (x : Case). x.blocks) c.into_entry-entry.ensures) c.in-Err-append_case.ensures.free));
-      taken = subst (λ (cs : List Case). AreNames cs c.append_case.new.names) (sym (still_there c.self.inside.journal c.append_case.new.journal (case_of c.into_entry-entry.result) c.in-Err-append_case.fault c.in-Err-append_case.ensures.step))
-          (kept_back c.self.inside.journal.standing.cases c.seal-sealed.new.stream.name.items c.self.inside.names c.seal-sealed.new.names c.self.invariant.taken (storable g.D.Disk c.self.inside.disk c.seal-sealed.new.disk c.self.inside.journal c.self.inside.settings.limit c.self.inside.free c.self.inside.slots c.args.slot (parts_of c.in-Some.block c.in-Some.stream) c.self.inside.stopped
-    (c.self.invariant.sound.runs c.if-self.false) c.if-self.false (sym c.in-Some.ensures.stream)
-    c.seal-sealed.new.free (parts_of c.seal-sealed.new.block c.seal-sealed.new.stream) c.in_default-sealed.field-0 c.in_default-sealed.ensures.step c.in_default-sealed.ensures.balance).new_name c.in_default-sealed.ensures.names c.append_case.new.names
-          (subst (λ (x : Case). ForgetsName x.name c.seal-sealed.new.names c.append_case.new.names) c.into_entry-entry.ensures c.in-Err-append_case.ensures.names));
+      taken = subst (λ (cs : List Case). c.end_streams-self-inside-in-Err-append_case.result ≡ false → AreTaken cs c.end_streams-self-inside-in-Err-append_case.new.slots c.append_case.new.names) (sym (still_there c.self.inside.journal c.append_case.new.journal (case_of c.into_entry-entry.result) c.in-Err-append_case.fault c.in-Err-append_case.ensures.step))
+          (taken_still c.in-Err-append_case.fault c.self.inside.journal.standing.cases c.take.new.self c.end_streams-self-inside-in-Err-append_case.new.slots c.end_streams-self-inside-in-Err-append_case.result c.append_case.new.names c.end_streams-self-inside-in-Err-append_case.ensures
+          (taken_dropped c.self.inside.journal.standing.cases c.self.inside.slots c.take.new.self c.args.slot _ c.self.inside.names c.append_case.new.names (c.self.invariant.taken c.if-self.false) (sym c.in-Some.ensures.stream) c.in-Some.ensures.slots
+          (subst (λ (n : ArrayVec ℕ). ForgetsName n.items c.self.inside.names c.append_case.new.names) c.in_default-sealed.ensures.name
+          (subst (λ (x : Case). ForgetsName x.name c.self.inside.names c.append_case.new.names) c.into_entry-entry.ensures c.in-Err-append_case.ensures.names))));
     }
 
 pub invariant_of-self-in-Ok : goal.invariant_of-self-in-Ok
@@ -91,11 +92,10 @@ invariant_of-self-in-Ok g c =
         (c.self.invariant.sound.runs c.if-self.false) c.if-self.false (sym c.in-Some.ensures.stream)
         c.append_case.new.journal c.seal-sealed.new.free c.append_case.new.free c.take.new.self (parts_of c.seal-sealed.new.block c.seal-sealed.new.stream) c.in_default-sealed.field-0 c.in-Ok.seq (case_of c.into_entry-entry.result)
         c.self.invariant.sound c.in-Some.ensures.slots c.in_default-sealed.ensures.step c.in_default-sealed.ensures.balance c.in-Ok.ensures.free c.into_entry-entry.ensures c.in-Ok.ensures.step c.in-Ok.ensures.guards;
-      taken = subst (AreNames c.append_case.new.journal.standing.cases) (sym c.in-Ok.ensures.names)
-          (subst (λ (k : Journaled). AreNames k.standing.cases c.seal-sealed.new.names) (sym c.in-Ok.ensures.step.4)
-          (kept_more c.self.inside.journal.standing.cases c.seal-sealed.new.stream.name.items c.self.inside.names c.seal-sealed.new.names c.self.invariant.taken (storable g.D.Disk c.self.inside.disk c.seal-sealed.new.disk c.self.inside.journal c.self.inside.settings.limit c.self.inside.free c.self.inside.slots c.args.slot (parts_of c.in-Some.block c.in-Some.stream) c.self.inside.stopped
-    (c.self.invariant.sound.runs c.if-self.false) c.if-self.false (sym c.in-Some.ensures.stream)
-    c.seal-sealed.new.free (parts_of c.seal-sealed.new.block c.seal-sealed.new.stream) c.in_default-sealed.field-0 c.in_default-sealed.ensures.step c.in_default-sealed.ensures.balance).new_name c.in_default-sealed.ensures.names (numbered c.self.inside.journal.standing.next (case_of c.into_entry-entry.result)) (ap (λ (x : Case). x.name) c.into_entry-entry.ensures)));
+      taken = λ on. subst (AreTaken c.append_case.new.journal.standing.cases c.take.new.self) (sym c.in-Ok.ensures.names)
+          (subst (λ (k : Journaled). AreTaken k.standing.cases c.take.new.self c.self.inside.names) (sym c.in-Ok.ensures.step.4)
+          (taken_stored c.self.inside.journal.standing.cases c.self.inside.slots c.take.new.self c.args.slot _ (numbered c.self.inside.journal.standing.next (case_of c.into_entry-entry.result)) c.self.inside.names (c.self.invariant.taken on) (sym c.in-Some.ensures.stream) c.in-Some.ensures.slots
+          (ap (λ (x : Case). x.name) c.into_entry-entry.ensures ∙ ap (λ (n : ArrayVec ℕ). n.items) c.in_default-sealed.ensures.name)));
     }
 
 pub returns-then-self : goal.returns-then-self

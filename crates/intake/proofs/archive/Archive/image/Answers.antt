@@ -1,3 +1,4 @@
+use Rattle.intake.proofs.NameLemmas.{taken_still}
 use Rattle.std.proofs.Common.{rules, ◌≡◌, ◌∙◌, ◌≤◌, ap, sym, refl, subst, arith, List, ℕ, Some, Err, Vec, Global}
 use Rattle.std.specs.Prelude.{option_map}
 use Rattle.journal_layout.specs.Case.{case_of}
@@ -34,7 +35,7 @@ invariant_of-self-in-Err g c =
       sound =
         sound_unread g.D.Disk c.self.inside.disk c.read_image.new.disk c.self.inside.journal c.self.inside.settings.limit c.self.inside.free c.self.inside.slots c.end_streams-self-inside.new.slots c.self.inside.stopped c.end_streams-self-inside.result
         c.in-Err.fault c.self.invariant.sound c.if-self.false c.read_image.ensures.quiet c.in-Err.ensures.reply c.end_streams-self-inside.ensures;
-      taken = c.self.invariant.taken;
+      taken = taken_still c.in-Err.fault c.self.inside.journal.standing.cases c.self.inside.slots c.end_streams-self-inside.new.slots c.end_streams-self-inside.result c.self.inside.names c.end_streams-self-inside.ensures (c.self.invariant.taken c.if-self.false);
     }
 
 pub returns-in_default : goal.returns-in_default

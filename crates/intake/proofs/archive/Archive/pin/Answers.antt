@@ -1,9 +1,9 @@
-use Rattle.std.proofs.Common.{sym, subst, List}
+use Rattle.std.proofs.Common.{sym, subst, List, false}
 use Rattle.journal_layout.specs.Case.{Case}
-use Rattle.journal_records.specs.Kept.{AreNames}
+use Rattle.intake.specs.Names.{AreTaken}
 use Rattle.case_journal.specs.Journaled.{Journaled}
 use Rattle.intake.proofs.DropLemmas.{still_cases}
-use Rattle.intake.proofs.NameLemmas.{names_pinned}
+use Rattle.intake.proofs.NameLemmas.{names_pinned, taken_still}
 use Rattle.std.proofs.Common.{rules, ◌≡◌, ◌∙◌, refl, ap, sym, subst, Err}
 use Rattle.std.specs.Prelude.{option_map}
 use Rattle.intake.specs.Contents.{UnmovedBytes}
@@ -34,7 +34,7 @@ invariant_of-self g c =
         (done_guards g.D.Disk c.self.inside.disk c.append_pin.new.disk c.self.inside.journal c.append_pin.new.self (Pin c.args.seq c.args.flag) c.in_default-append_pin.ensures.step.2 c.append_pin.ensures.honesty (g.met.D.Disk.counts_now c.append_pin.new.disk) c.append_pin.ensures.keeps
         (λ honest. whole_pinned g.D.Disk c.self.inside.disk c.self.inside.journal c.args.seq c.args.flag (λ b may. (c.self.invariant.sound.runs c.if-self.false).keeps.whole (c.self.invariant.sound.runs c.if-self.false).journal honest b may))
         c.append_pin.ensures.outside c.append_pin.ensures.others);
-      taken = subst (λ (k : Journaled). AreNames k.standing.cases c.self.inside.names) (sym c.in_default-append_pin.ensures.step.2) (names_pinned c.args.seq c.args.flag c.self.inside.journal.standing.cases c.self.inside.names c.self.invariant.taken);
+      taken = λ on. subst (λ (k : Journaled). AreTaken k.standing.cases c.self.inside.slots c.self.inside.names) (sym c.in_default-append_pin.ensures.step.2) (names_pinned c.args.seq c.args.flag c.self.inside.journal.standing.cases c.self.inside.slots c.self.inside.names (c.self.invariant.taken on));
     }
 
 pub invariant_of-self-2 : goal.invariant_of-self-2
@@ -46,7 +46,8 @@ invariant_of-self-2 g c =
         (refusal_guards g.D.Disk c.self.inside.disk c.append_pin.new.disk c.self.inside.journal c.append_pin.new.self (Pin c.args.seq c.args.flag) c.in-Err.fault c.in-Err.ensures.step c.in-Err.ensures.untouched c.append_pin.ensures.keeps (c.self.invariant.sound.runs c.if-self.false).keeps)
         (subst (λ (f : ArchiveFault). EndsStreams f c.self.inside.slots c.end_streams-self-inside.result c.end_streams-self-inside.new.slots) c.from-fault.ensures c.end_streams-self-inside.ensures)
         (λ _. refl);
-      taken = subst (λ (cs : List Case). AreNames cs c.self.inside.names) (sym (still_cases c.self.inside.journal c.append_pin.new.self (Pin c.args.seq c.args.flag) c.in-Err.fault c.in-Err.ensures.step)) c.self.invariant.taken;
+      taken = subst (λ (cs : List Case). c.end_streams-self-inside.result ≡ false → AreTaken cs c.end_streams-self-inside.new.slots c.self.inside.names) (sym (still_cases c.self.inside.journal c.append_pin.new.self (Pin c.args.seq c.args.flag) c.in-Err.fault c.in-Err.ensures.step))
+          (taken_still c.from-fault.result c.self.inside.journal.standing.cases c.self.inside.slots c.end_streams-self-inside.new.slots c.end_streams-self-inside.result c.self.inside.names c.end_streams-self-inside.ensures (c.self.invariant.taken c.if-self.false));
     }
 
 pub returns-then-self : goal.returns-then-self

@@ -1,5 +1,5 @@
 use Rattle.intake.proofs.RestLemmas.{rests_then}
-use Rattle.intake.proofs.blocks.seal_blocks.Goals as goal
+use Rattle.intake.proofs.blocks.seal.Goals as goal
 
 pub returns-clause-rests : goal.returns-clause-rests
 returns-clause-rests g c j shape spares guards =
