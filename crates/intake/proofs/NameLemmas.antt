@@ -40,7 +40,7 @@ use Rattle.intake.specs.Parts.{Parts, StreamParts, bare_case, bare_stream, bare_
 use Rattle.intake.specs.State.{BareCase}
 use Rattle.intake.specs.declared.faults.ArchiveFault.{ArchiveFault}
 use Rattle.intake.proofs.ListedLemmas.{gone-append}
-use Rattle.intake.proofs.StepLemmas.{list_any-map, called_same, new_name}
+use Rattle.intake.proofs.StepLemmas.{list_any-map, none_of, called_same, new_name}
 
 one_true : (t : Bool) → 1 ≤ one_if t → t ≡ true
 one_true true some = refl

@@ -55,7 +55,7 @@ not_open t None both off = refl
 not_open t (Some s) both off = absurd (let h : t ≡ true = both.1 refl in let e : true ≡ false = sym h ∙ off in cc)
 
 -- a name that is not taken is that of no case and no stream
-none_of : {X Y : Type 0} (P : Y → Bool) (f : X → Y) (xs : List X) → list_any P (map f xs) ≡ false → count_by (λ x. P (f x)) xs ≡ 0
+pub none_of : {X Y : Type 0} (P : Y → Bool) (f : X → Y) (xs : List X) → list_any P (map f xs) ≡ false → count_by (λ x. P (f x)) xs ≡ 0
 none_of P f [] e = refl
 none_of P f (x ∷ xs) e =
     let h = or_parts (P (f x)) (list_any P (map f xs)) e in

@@ -182,7 +182,9 @@ impl<D: Disk> Archive<D> {
         let Ok(block) = Buffer::zeros(self.alloc) else {
             return Err(ArchiveFault::OutOfMemory);
         };
-        keep_name(&mut self.names, &name)?;
+        let Ok(()) = keep_name(&mut self.names, &name) else {
+            return Err(ArchiveFault::OutOfMemory);
+        };
         self.slots.put(
             slot,
             Stream {
@@ -296,11 +298,11 @@ impl<D: Disk> Archive<D> {
         if self.stopped {
             return Err(ArchiveFault::Stopped);
         }
-        let Some((stream, _)) = self.slots.take(self.alloc, slot) else {
+        let Some((dropped, _)) = self.slots.take(self.alloc, slot) else {
             return Err(ArchiveFault::NoStream);
         };
-        forget_name(&mut self.names, &stream.name);
-        release(&mut self.free, stream.runs);
+        forget_name(&mut self.names, &dropped.name);
+        release(&mut self.free, dropped.runs);
         Ok(())
     }
 
