@@ -129,8 +129,8 @@ spare_left blocks cases flags spare = record {
       let held : AreHeld flags used = λ k. (let a = spare.accounts k in let u = uses_same k used in omega (arith, a, u)) in
       let bal = given flags back used held refl in
       let all = all_free back (λ k below. one_true (is_free back k)
-          (let e = bal.each k in let a = spare.accounts k in let u = uses_same k used in let l = bal.long in
-          let one = ap one_if (lt-ltb k (length flags) (omega (arith, l, below))) in omega (arith, e, a, u, one))) in
+      (let e = bal.each k in let a = spare.accounts k in let u = uses_same k used in let l = bal.long in
+      let one = ap one_if (lt-ltb k (length flags) (omega (arith, l, below))) in omega (arith, e, a, u, one))) in
       let n = used_length cases in let f = bal.all in let l = bal.long in let z = spare.size in omega (arith, all, n, f, l, z));
 }
 

@@ -144,8 +144,8 @@ pub taken_grown : (cases : List Case) (streams streams' : List (Option StreamPar
     → streams' ≡ slice_set streams slot (Some s') → s'.name ≡ s.name → AreTaken cases streams' a
 taken_grown cases streams streams' slot s s' a are is now same = subst (λ (x : List (Option StreamParts)). AreTaken cases x a) (sym now)
     (λ q. (let n = named_with streams slot (Some s) (Some s') q (slot_there streams slot s is) is in
-        let e = ap (λ (n : List ℕ). one_if (bytes_eq n q)) same in
-        omega (arith, n, e, are q)))
+    let e = ap (λ (n : List ℕ). one_if (bytes_eq n q)) same in
+    omega (arith, n, e, are q)))
 
 -- the free part of a slot's block was lent
 pub taken_lent : (cases : List Case) (streams : List (Option StreamParts)) (slot : ℕ) (b : Bool) (r : Result (Unit {0}) ArchiveFault) (ws : List ℕ) (a : BTreeSet (ArrayVec ℕ)) → AreTaken cases streams a
@@ -164,9 +164,9 @@ pub taken_stored : (cases : List Case) (streams streams' : List (Option StreamPa
     → streams' ≡ slice_set streams slot None → x.name ≡ s.name → AreTaken (cases ++ x ∷ []) streams' a
 taken_stored cases streams streams' slot s x a are is now called = subst (λ (xs : List (Option StreamParts)). AreTaken (cases ++ x ∷ []) xs a) (sym now)
     (λ q. (let n = named_with streams slot (Some s) None q (slot_there streams slot s is) is in
-        let m = named_stored cases x q in
-        let e = ap (λ (n : List ℕ). one_if (bytes_eq n q)) called in
-        omega (arith, n, m, e, are q)))
+    let m = named_stored cases x q in
+    let e = ap (λ (n : List ℕ). one_if (bytes_eq n q)) called in
+    omega (arith, n, m, e, are q)))
 
 -- no stream is open yet
 none_called : (n : ℕ) (q : List ℕ) → streams_named (replicate n None) q ≡ 0

@@ -16,10 +16,7 @@ use journal_layout::OpenFault;
 use std::alloc::Global;
 
 /// Opens the journal on a disk, and makes the slots.
-pub(crate) fn open_parts<D: Disk>(
-    alloc: Global,
-    disk: &mut D,
-) -> Result<(Opened, Slots), OpenFault>
+pub(crate) fn open_parts<D: Disk>(alloc: Global, disk: &mut D) -> Result<(Opened, Slots), OpenFault>
     ensures gives { ShowsOpening D.Disk disk.old (journal_of result) }
     ensures found { (s : Standing) → IsTrue (D.is_honest disk.old) → Stands (D.seen disk.old) s
         → Finds (journal_of result) s }

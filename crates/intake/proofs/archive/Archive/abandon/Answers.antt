@@ -14,8 +14,8 @@ pub invariant_of-self-2 : goal.invariant_of-self-2
 invariant_of-self-2 g c =
     record {
       sound =
-        sound_dropped g.D.Disk c.self.inside.disk c.self.inside.disk c.self.inside.journal c.self.inside.settings.limit c.self.inside.free c.release.new.free c.self.inside.slots c.take.new.self c.args.slot _ c.self.inside.stopped
-        c.self.invariant.sound c.if-self.false (sym c.in-Some.ensures.stream) c.in-Some.ensures.slots (c.self.invariant.sound.runs c.if-self.false).keeps c.release.ensures;
+          sound_dropped g.D.Disk c.self.inside.disk c.self.inside.disk c.self.inside.journal c.self.inside.settings.limit c.self.inside.free c.release.new.free c.self.inside.slots c.take.new.self c.args.slot _ c.self.inside.stopped
+          c.self.invariant.sound c.if-self.false (sym c.in-Some.ensures.stream) c.in-Some.ensures.slots (c.self.invariant.sound.runs c.if-self.false).keeps c.release.ensures;
       taken = λ on. taken_dropped c.self.inside.journal.standing.cases c.self.inside.slots c.take.new.self c.args.slot _ c.self.inside.names c.forget_name.new.names (c.self.invariant.taken on) (sym c.in-Some.ensures.stream) c.in-Some.ensures.slots c.forget_name.ensures;
     }
 

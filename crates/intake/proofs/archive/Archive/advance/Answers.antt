@@ -26,11 +26,11 @@ pub invariant_of-self-in-Err : goal.invariant_of-self-in-Err
 invariant_of-self-in-Err g c =
     record {
       sound =
-        sound_refused g.D.Disk c.self.inside.disk c.grow-grown.new.disk c.self.inside.journal c.self.inside.settings.limit c.self.inside.free c.release.new.free c.self.inside.slots c.take.new.self c.end_streams-self-inside.new.slots c.args.slot _ c.self.inside.stopped c.end_streams-self-inside.result c.in-Err.fault
-        c.self.invariant.sound c.if-self.false (sym c.in-Some.ensures.stream) c.in-Some.ensures.slots
-        (grow_rests g.D.Disk c.self.inside.disk c.grow-grown.new.disk c.self.inside.journal c.self.inside.settings.limit c.self.inside.free c.self.inside.slots (c.self.invariant.sound.runs c.if-self.false) (c.in-Err.ensures.rests c.self.inside.journal (sym c.shape-shape.ensures))).guards
-        (balance_then c.self.inside.free c.grow-grown.new.free c.release.new.free c.in-Some.stream.runs c.grow-grown.new.stream.runs _ c.in-Err.ensures.balance c.release.ensures)
-        c.end_streams-self-inside.ensures;
+          sound_refused g.D.Disk c.self.inside.disk c.grow-grown.new.disk c.self.inside.journal c.self.inside.settings.limit c.self.inside.free c.release.new.free c.self.inside.slots c.take.new.self c.end_streams-self-inside.new.slots c.args.slot _ c.self.inside.stopped c.end_streams-self-inside.result c.in-Err.fault
+          c.self.invariant.sound c.if-self.false (sym c.in-Some.ensures.stream) c.in-Some.ensures.slots
+          (grow_rests g.D.Disk c.self.inside.disk c.grow-grown.new.disk c.self.inside.journal c.self.inside.settings.limit c.self.inside.free c.self.inside.slots (c.self.invariant.sound.runs c.if-self.false) (c.in-Err.ensures.rests c.self.inside.journal (sym c.shape-shape.ensures))).guards
+          (balance_then c.self.inside.free c.grow-grown.new.free c.release.new.free c.in-Some.stream.runs c.grow-grown.new.stream.runs _ c.in-Err.ensures.balance c.release.ensures)
+          c.end_streams-self-inside.ensures;
       taken = λ on. taken_still c.in-Err.fault c.self.inside.journal.standing.cases c.take.new.self c.end_streams-self-inside.new.slots c.end_streams-self-inside.result c.forget_name.new.names c.end_streams-self-inside.ensures
           (taken_dropped c.self.inside.journal.standing.cases c.self.inside.slots c.take.new.self c.args.slot _ c.self.inside.names c.forget_name.new.names (c.self.invariant.taken c.if-self.false) (sym c.in-Some.ensures.stream) c.in-Some.ensures.slots
           (subst (λ (n : ArrayVec ℕ). ForgetsName n.items c.self.inside.names c.forget_name.new.names) c.in-Err.ensures.name c.forget_name.ensures))
@@ -41,13 +41,13 @@ pub invariant_of-self-2 : goal.invariant_of-self-2
 invariant_of-self-2 g c =
     record {
       sound =
-        sound_grown g.D.Disk c.self.inside.disk c.grow-grown.new.disk c.self.inside.journal c.self.inside.settings.limit c.self.inside.free c.self.inside.slots c.args.slot c.args.n (parts_of c.in-Some.block c.in-Some.stream) c.self.inside.stopped
-        (c.self.invariant.sound.runs c.if-self.false) c.if-self.false (sym c.in-Some.ensures.stream)
-        c.grow-grown.new.free c.take.new.self c.put.new.self (parts_of c.grow-grown.new.block c.grow-grown.new.stream) c.in_default-grown.field-0 c.self.invariant.sound c.in-Some.ensures.slots c.put.ensures
-        (fits_in g.D.Disk c.self.inside.disk c.grow-grown.new.disk c.self.inside.journal c.self.inside.settings.limit c.self.inside.free c.self.inside.slots c.args.slot c.args.n (parts_of c.in-Some.block c.in-Some.stream) c.self.inside.stopped (c.self.invariant.sound.runs c.if-self.false) c.if-self.false (sym c.in-Some.ensures.stream) (rw (← c.self.view_is) at c.requires))
-        c.in_default-grown.ensures.step c.in_default-grown.ensures.small
-        (grow_rests g.D.Disk c.self.inside.disk c.grow-grown.new.disk c.self.inside.journal c.self.inside.settings.limit c.self.inside.free c.self.inside.slots (c.self.invariant.sound.runs c.if-self.false) (c.in_default-grown.ensures.rests c.self.inside.journal (sym c.shape-shape.ensures))).guards
-        c.in_default-grown.ensures.balance;
+          sound_grown g.D.Disk c.self.inside.disk c.grow-grown.new.disk c.self.inside.journal c.self.inside.settings.limit c.self.inside.free c.self.inside.slots c.args.slot c.args.n (parts_of c.in-Some.block c.in-Some.stream) c.self.inside.stopped
+          (c.self.invariant.sound.runs c.if-self.false) c.if-self.false (sym c.in-Some.ensures.stream)
+          c.grow-grown.new.free c.take.new.self c.put.new.self (parts_of c.grow-grown.new.block c.grow-grown.new.stream) c.in_default-grown.field-0 c.self.invariant.sound c.in-Some.ensures.slots c.put.ensures
+          (fits_in g.D.Disk c.self.inside.disk c.grow-grown.new.disk c.self.inside.journal c.self.inside.settings.limit c.self.inside.free c.self.inside.slots c.args.slot c.args.n (parts_of c.in-Some.block c.in-Some.stream) c.self.inside.stopped (c.self.invariant.sound.runs c.if-self.false) c.if-self.false (sym c.in-Some.ensures.stream) (rw (← c.self.view_is) at c.requires))
+          c.in_default-grown.ensures.step c.in_default-grown.ensures.small
+          (grow_rests g.D.Disk c.self.inside.disk c.grow-grown.new.disk c.self.inside.journal c.self.inside.settings.limit c.self.inside.free c.self.inside.slots (c.self.invariant.sound.runs c.if-self.false) (c.in_default-grown.ensures.rests c.self.inside.journal (sym c.shape-shape.ensures))).guards
+          c.in_default-grown.ensures.balance;
       taken = λ on. taken_grown c.self.inside.journal.standing.cases c.self.inside.slots c.put.new.self c.args.slot (parts_of c.in-Some.block c.in-Some.stream) (parts_of c.grow-grown.new.block c.grow-grown.new.stream) c.self.inside.names (c.self.invariant.taken on) (sym c.in-Some.ensures.stream)
           (put_back g.D.Disk c.self.inside.disk c.grow-grown.new.disk c.self.inside.journal c.self.inside.settings.limit c.self.inside.free c.self.inside.slots c.args.slot c.args.n (parts_of c.in-Some.block c.in-Some.stream) c.self.inside.stopped (c.self.invariant.sound.runs c.if-self.false) c.if-self.false (sym c.in-Some.ensures.stream)
           c.take.new.self c.put.new.self (parts_of c.grow-grown.new.block c.grow-grown.new.stream) c.in-Some.ensures.slots c.put.ensures)

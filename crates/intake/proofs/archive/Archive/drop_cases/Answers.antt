@@ -36,13 +36,13 @@ pub invariant_of-self : goal.invariant_of-self
 invariant_of-self g c =
     record {
       sound =
-        let on = rw (← c.self.view_is) at c.requires.runs in
-        let may = rw (← c.self.view_is) at c.requires.may in
-        drop_sound_after g.D.Disk c.self.inside.disk c.append_drop.new.disk c.self.inside.journal c.append_drop.new.self c.self.inside.settings.limit c.self.inside.free c.self.inside.slots c.self.inside.slots c.self.inside.stopped c.self.inside.stopped c.args.seqs.now c.self.invariant.sound on c.release_listed.new.free c.in_default.field-0 may c.in_default.ensures.step
-        (done_guards g.D.Disk c.self.inside.disk c.append_drop.new.disk c.self.inside.journal c.append_drop.new.self (Drop c.args.seqs.now) c.in_default.ensures.step.2 c.append_drop.ensures.honesty (g.met.D.Disk.counts_now c.append_drop.new.disk) c.append_drop.ensures.keeps
-        (λ honest. whole_dropped g.D.Disk c.self.inside.disk c.self.inside.journal c.args.seqs.now (λ b may. (c.self.invariant.sound.runs on).keeps.whole (c.self.invariant.sound.runs on).journal honest b may))
-        c.append_drop.ensures.outside c.append_drop.ensures.others)
-        (subst (λ (cs : List Case). Balances c.self.inside.free (used_blocks (gone c.args.seqs.now cs)) c.release_listed.new.free []) c.entries.ensures c.release_listed.ensures);
+          let on = rw (← c.self.view_is) at c.requires.runs in
+          let may = rw (← c.self.view_is) at c.requires.may in
+          drop_sound_after g.D.Disk c.self.inside.disk c.append_drop.new.disk c.self.inside.journal c.append_drop.new.self c.self.inside.settings.limit c.self.inside.free c.self.inside.slots c.self.inside.slots c.self.inside.stopped c.self.inside.stopped c.args.seqs.now c.self.invariant.sound on c.release_listed.new.free c.in_default.field-0 may c.in_default.ensures.step
+          (done_guards g.D.Disk c.self.inside.disk c.append_drop.new.disk c.self.inside.journal c.append_drop.new.self (Drop c.args.seqs.now) c.in_default.ensures.step.2 c.append_drop.ensures.honesty (g.met.D.Disk.counts_now c.append_drop.new.disk) c.append_drop.ensures.keeps
+          (λ honest. whole_dropped g.D.Disk c.self.inside.disk c.self.inside.journal c.args.seqs.now (λ b may. (c.self.invariant.sound.runs on).keeps.whole (c.self.invariant.sound.runs on).journal honest b may))
+          c.append_drop.ensures.outside c.append_drop.ensures.others)
+          (subst (λ (cs : List Case). Balances c.self.inside.free (used_blocks (gone c.args.seqs.now cs)) c.release_listed.new.free []) c.entries.ensures c.release_listed.ensures);
       taken = let same = rw (← c.self.view_is) at c.requires.names in
           λ on. subst (λ (k : Journaled). AreTaken k.standing.cases c.self.inside.slots c.forget_names.new.names) (sym c.in_default.ensures.step.2) (names_left c.args.seqs.now c.self.inside.journal.standing.cases c.self.inside.slots c.args.names.now c.self.inside.names c.forget_names.new.names (c.self.invariant.taken on) same c.forget_names.ensures);
     }
@@ -62,15 +62,15 @@ pub invariant_of-self-2 : goal.invariant_of-self-2
 invariant_of-self-2 g c =
     record {
       sound =
-        let on = rw (← c.self.view_is) at c.requires.runs in
-        sound_refusal g.D.Disk c.self.inside.disk c.append_drop.new.disk c.self.inside.journal c.append_drop.new.self (Drop c.args.seqs.now) c.self.inside.settings.limit c.self.inside.free c.self.inside.slots c.end_streams-self-inside.new.slots c.self.inside.stopped c.end_streams-self-inside.result on
-        c.hold_listed.new.free c.in-Err.fault c.self.invariant.sound c.in-Err.ensures.step
-        (refusal_guards g.D.Disk c.self.inside.disk c.append_drop.new.disk c.self.inside.journal c.append_drop.new.self (Drop c.args.seqs.now) c.in-Err.fault c.in-Err.ensures.step c.in-Err.ensures.untouched c.append_drop.ensures.keeps (c.self.invariant.sound.runs on).keeps)
-        (subst (λ (f : ArchiveFault). EndsStreams f c.self.inside.slots c.end_streams-self-inside.result c.end_streams-self-inside.new.slots) c.from-fault.ensures c.end_streams-self-inside.ensures)
-        (λ _. flags_back c.self.inside.free c.release_listed.new.free c.hold_listed.new.free (used_blocks (gone c.args.seqs.now c.self.inside.journal.standing.cases))
-        (subst (λ (cs : List Case). Balances c.self.inside.free (used_blocks (gone c.args.seqs.now cs)) c.release_listed.new.free []) c.entries.ensures c.release_listed.ensures)
-        (subst (λ (cs : List Case). Balances c.release_listed.new.free [] c.hold_listed.new.free (used_blocks (gone c.args.seqs.now cs)))
-        (c.entries-2.ensures ∙ still_cases c.self.inside.journal c.append_drop.new.self (Drop c.args.seqs.now) c.in-Err.fault c.in-Err.ensures.step) c.hold_listed.ensures));
+          let on = rw (← c.self.view_is) at c.requires.runs in
+          sound_refusal g.D.Disk c.self.inside.disk c.append_drop.new.disk c.self.inside.journal c.append_drop.new.self (Drop c.args.seqs.now) c.self.inside.settings.limit c.self.inside.free c.self.inside.slots c.end_streams-self-inside.new.slots c.self.inside.stopped c.end_streams-self-inside.result on
+          c.hold_listed.new.free c.in-Err.fault c.self.invariant.sound c.in-Err.ensures.step
+          (refusal_guards g.D.Disk c.self.inside.disk c.append_drop.new.disk c.self.inside.journal c.append_drop.new.self (Drop c.args.seqs.now) c.in-Err.fault c.in-Err.ensures.step c.in-Err.ensures.untouched c.append_drop.ensures.keeps (c.self.invariant.sound.runs on).keeps)
+          (subst (λ (f : ArchiveFault). EndsStreams f c.self.inside.slots c.end_streams-self-inside.result c.end_streams-self-inside.new.slots) c.from-fault.ensures c.end_streams-self-inside.ensures)
+          (λ _. flags_back c.self.inside.free c.release_listed.new.free c.hold_listed.new.free (used_blocks (gone c.args.seqs.now c.self.inside.journal.standing.cases))
+          (subst (λ (cs : List Case). Balances c.self.inside.free (used_blocks (gone c.args.seqs.now cs)) c.release_listed.new.free []) c.entries.ensures c.release_listed.ensures)
+          (subst (λ (cs : List Case). Balances c.release_listed.new.free [] c.hold_listed.new.free (used_blocks (gone c.args.seqs.now cs)))
+          (c.entries-2.ensures ∙ still_cases c.self.inside.journal c.append_drop.new.self (Drop c.args.seqs.now) c.in-Err.fault c.in-Err.ensures.step) c.hold_listed.ensures));
       taken = let on = rw (← c.self.view_is) at c.requires.runs in
           subst (λ (cs : List Case). c.end_streams-self-inside.result ≡ false → AreTaken cs c.end_streams-self-inside.new.slots c.self.inside.names) (sym (still_cases c.self.inside.journal c.append_drop.new.self (Drop c.args.seqs.now) c.in-Err.fault c.in-Err.ensures.step))
           (taken_still c.from-fault.result c.self.inside.journal.standing.cases c.self.inside.slots c.end_streams-self-inside.new.slots c.end_streams-self-inside.result c.self.inside.names c.end_streams-self-inside.ensures (c.self.invariant.taken on));

@@ -42,11 +42,11 @@ pub invariant_of-self-in-Err : goal.invariant_of-self-in-Err
 invariant_of-self-in-Err g c =
     record {
       sound =
-        sound_refused g.D.Disk c.self.inside.disk c.seal-sealed.new.disk c.self.inside.journal c.self.inside.settings.limit c.self.inside.free c.release.new.free c.self.inside.slots c.take.new.self c.end_streams-self-inside.new.slots c.args.slot _ c.self.inside.stopped c.end_streams-self-inside.result c.in-Err.fault
-        c.self.invariant.sound c.if-self.false (sym c.in-Some.ensures.stream) c.in-Some.ensures.slots
-        (grow_rests g.D.Disk c.self.inside.disk c.seal-sealed.new.disk c.self.inside.journal c.self.inside.settings.limit c.self.inside.free c.self.inside.slots (c.self.invariant.sound.runs c.if-self.false) (c.in-Err.ensures.rests c.self.inside.journal (sym c.shape-shape.ensures))).guards
-        (balance_then c.self.inside.free c.seal-sealed.new.free c.release.new.free c.in-Some.stream.runs c.seal-sealed.new.stream.runs _ c.in-Err.ensures.balance c.release.ensures)
-        c.end_streams-self-inside.ensures;
+          sound_refused g.D.Disk c.self.inside.disk c.seal-sealed.new.disk c.self.inside.journal c.self.inside.settings.limit c.self.inside.free c.release.new.free c.self.inside.slots c.take.new.self c.end_streams-self-inside.new.slots c.args.slot _ c.self.inside.stopped c.end_streams-self-inside.result c.in-Err.fault
+          c.self.invariant.sound c.if-self.false (sym c.in-Some.ensures.stream) c.in-Some.ensures.slots
+          (grow_rests g.D.Disk c.self.inside.disk c.seal-sealed.new.disk c.self.inside.journal c.self.inside.settings.limit c.self.inside.free c.self.inside.slots (c.self.invariant.sound.runs c.if-self.false) (c.in-Err.ensures.rests c.self.inside.journal (sym c.shape-shape.ensures))).guards
+          (balance_then c.self.inside.free c.seal-sealed.new.free c.release.new.free c.in-Some.stream.runs c.seal-sealed.new.stream.runs _ c.in-Err.ensures.balance c.release.ensures)
+          c.end_streams-self-inside.ensures;
       taken = λ on. taken_still c.in-Err.fault c.self.inside.journal.standing.cases c.take.new.self c.end_streams-self-inside.new.slots c.end_streams-self-inside.result c.forget_name.new.names c.end_streams-self-inside.ensures
           (taken_dropped c.self.inside.journal.standing.cases c.self.inside.slots c.take.new.self c.args.slot _ c.self.inside.names c.forget_name.new.names (c.self.invariant.taken c.if-self.false) (sym c.in-Some.ensures.stream) c.in-Some.ensures.slots
           (subst (λ (n : ArrayVec ℕ). ForgetsName n.items c.self.inside.names c.forget_name.new.names) c.in-Err.ensures.name c.forget_name.ensures))
@@ -71,12 +71,12 @@ pub invariant_of-self-in-Err-append_case : goal.invariant_of-self-in-Err-append_
 invariant_of-self-in-Err-append_case g c =
     record {
       sound =
-        sound_not_stored g.D.Disk c.self.inside.disk c.append_case.new.disk c.self.inside.journal c.self.inside.settings.limit c.self.inside.free c.self.inside.slots c.args.slot (parts_of c.in-Some.block c.in-Some.stream) c.self.inside.stopped
-        (c.self.invariant.sound.runs c.if-self.false) c.if-self.false (sym c.in-Some.ensures.stream)
-        c.append_case.new.journal c.end_streams-self-inside-in-Err-append_case.result c.append_case.new.free c.take.new.self c.end_streams-self-inside-in-Err-append_case.new.slots c.in-Err-append_case.fault (case_of c.into_entry-entry.result) c.self.invariant.sound
-        c.in-Some.ensures.slots c.end_streams-self-inside-in-Err-append_case.ensures c.in-Err-append_case.ensures.step c.in-Err-append_case.ensures.guards
-        (balance_then c.self.inside.free c.seal-sealed.new.free c.append_case.new.free c.in-Some.stream.runs c.seal-sealed.new.stream.runs _ c.in_default-sealed.ensures.balance
-        (subst (λ (x : List ℕ). Balances c.seal-sealed.new.free x c.append_case.new.free []) (ap (λ (x : Case). x.blocks) c.into_entry-entry.ensures) c.in-Err-append_case.ensures.free));
+          sound_not_stored g.D.Disk c.self.inside.disk c.append_case.new.disk c.self.inside.journal c.self.inside.settings.limit c.self.inside.free c.self.inside.slots c.args.slot (parts_of c.in-Some.block c.in-Some.stream) c.self.inside.stopped
+          (c.self.invariant.sound.runs c.if-self.false) c.if-self.false (sym c.in-Some.ensures.stream)
+          c.append_case.new.journal c.end_streams-self-inside-in-Err-append_case.result c.append_case.new.free c.take.new.self c.end_streams-self-inside-in-Err-append_case.new.slots c.in-Err-append_case.fault (case_of c.into_entry-entry.result) c.self.invariant.sound
+          c.in-Some.ensures.slots c.end_streams-self-inside-in-Err-append_case.ensures c.in-Err-append_case.ensures.step c.in-Err-append_case.ensures.guards
+          (balance_then c.self.inside.free c.seal-sealed.new.free c.append_case.new.free c.in-Some.stream.runs c.seal-sealed.new.stream.runs _ c.in_default-sealed.ensures.balance
+          (subst (λ (x : List ℕ). Balances c.seal-sealed.new.free x c.append_case.new.free []) (ap (λ (x : Case). x.blocks) c.into_entry-entry.ensures) c.in-Err-append_case.ensures.free));
       taken = subst (λ (cs : List Case). c.end_streams-self-inside-in-Err-append_case.result ≡ false → AreTaken cs c.end_streams-self-inside-in-Err-append_case.new.slots c.append_case.new.names) (sym (still_there c.self.inside.journal c.append_case.new.journal (case_of c.into_entry-entry.result) c.in-Err-append_case.fault c.in-Err-append_case.ensures.step))
           (taken_still c.in-Err-append_case.fault c.self.inside.journal.standing.cases c.take.new.self c.end_streams-self-inside-in-Err-append_case.new.slots c.end_streams-self-inside-in-Err-append_case.result c.append_case.new.names c.end_streams-self-inside-in-Err-append_case.ensures
           (taken_dropped c.self.inside.journal.standing.cases c.self.inside.slots c.take.new.self c.args.slot _ c.self.inside.names c.append_case.new.names (c.self.invariant.taken c.if-self.false) (sym c.in-Some.ensures.stream) c.in-Some.ensures.slots
@@ -88,10 +88,10 @@ pub invariant_of-self-in-Ok : goal.invariant_of-self-in-Ok
 invariant_of-self-in-Ok g c =
     record {
       sound =
-        sound_with_case g.D.Disk c.self.inside.disk c.append_case.new.disk c.self.inside.journal c.self.inside.settings.limit c.self.inside.free c.self.inside.slots c.args.slot (parts_of c.in-Some.block c.in-Some.stream) c.self.inside.stopped
-        (c.self.invariant.sound.runs c.if-self.false) c.if-self.false (sym c.in-Some.ensures.stream)
-        c.append_case.new.journal c.seal-sealed.new.free c.append_case.new.free c.take.new.self (parts_of c.seal-sealed.new.block c.seal-sealed.new.stream) c.in_default-sealed.field-0 c.in-Ok.seq (case_of c.into_entry-entry.result)
-        c.self.invariant.sound c.in-Some.ensures.slots c.in_default-sealed.ensures.step c.in_default-sealed.ensures.balance c.in-Ok.ensures.free c.into_entry-entry.ensures c.in-Ok.ensures.step c.in-Ok.ensures.guards;
+          sound_with_case g.D.Disk c.self.inside.disk c.append_case.new.disk c.self.inside.journal c.self.inside.settings.limit c.self.inside.free c.self.inside.slots c.args.slot (parts_of c.in-Some.block c.in-Some.stream) c.self.inside.stopped
+          (c.self.invariant.sound.runs c.if-self.false) c.if-self.false (sym c.in-Some.ensures.stream)
+          c.append_case.new.journal c.seal-sealed.new.free c.append_case.new.free c.take.new.self (parts_of c.seal-sealed.new.block c.seal-sealed.new.stream) c.in_default-sealed.field-0 c.in-Ok.seq (case_of c.into_entry-entry.result)
+          c.self.invariant.sound c.in-Some.ensures.slots c.in_default-sealed.ensures.step c.in_default-sealed.ensures.balance c.in-Ok.ensures.free c.into_entry-entry.ensures c.in-Ok.ensures.step c.in-Ok.ensures.guards;
       taken = λ on. subst (AreTaken c.append_case.new.journal.standing.cases c.take.new.self) (sym c.in-Ok.ensures.names)
           (subst (λ (k : Journaled). AreTaken k.standing.cases c.take.new.self c.self.inside.names) (sym c.in-Ok.ensures.step.4)
           (taken_stored c.self.inside.journal.standing.cases c.self.inside.slots c.take.new.self c.args.slot _ (numbered c.self.inside.journal.standing.next (case_of c.into_entry-entry.result)) c.self.inside.names (c.self.invariant.taken on) (sym c.in-Some.ensures.stream) c.in-Some.ensures.slots

@@ -24,8 +24,8 @@ pub invariant_of-self : goal.invariant_of-self
 invariant_of-self g c =
     record {
       sound =
-        sound_read g.D.Disk c.self.inside.disk c.read_image.new.disk c.self.inside.journal c.self.inside.settings.limit c.self.inside.free c.self.inside.slots c.self.inside.stopped
-        c.self.invariant.sound c.if-self.false c.read_image.ensures.quiet;
+          sound_read g.D.Disk c.self.inside.disk c.read_image.new.disk c.self.inside.journal c.self.inside.settings.limit c.self.inside.free c.self.inside.slots c.self.inside.stopped
+          c.self.invariant.sound c.if-self.false c.read_image.ensures.quiet;
       taken = c.self.invariant.taken;
     }
 
@@ -33,8 +33,8 @@ pub invariant_of-self-in-Err : goal.invariant_of-self-in-Err
 invariant_of-self-in-Err g c =
     record {
       sound =
-        sound_unread g.D.Disk c.self.inside.disk c.read_image.new.disk c.self.inside.journal c.self.inside.settings.limit c.self.inside.free c.self.inside.slots c.end_streams-self-inside.new.slots c.self.inside.stopped c.end_streams-self-inside.result
-        c.in-Err.fault c.self.invariant.sound c.if-self.false c.read_image.ensures.quiet c.in-Err.ensures.reply c.end_streams-self-inside.ensures;
+          sound_unread g.D.Disk c.self.inside.disk c.read_image.new.disk c.self.inside.journal c.self.inside.settings.limit c.self.inside.free c.self.inside.slots c.end_streams-self-inside.new.slots c.self.inside.stopped c.end_streams-self-inside.result
+          c.in-Err.fault c.self.invariant.sound c.if-self.false c.read_image.ensures.quiet c.in-Err.ensures.reply c.end_streams-self-inside.ensures;
       taken = taken_still c.in-Err.fault c.self.inside.journal.standing.cases c.self.inside.slots c.end_streams-self-inside.new.slots c.end_streams-self-inside.result c.self.inside.names c.end_streams-self-inside.ensures (c.self.invariant.taken c.if-self.false);
     }
 

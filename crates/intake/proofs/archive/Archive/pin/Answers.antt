@@ -29,11 +29,11 @@ pub invariant_of-self : goal.invariant_of-self
 invariant_of-self g c =
     record {
       sound =
-        pin_sound_after g.D.Disk c.self.inside.disk c.append_pin.new.disk c.self.inside.journal c.append_pin.new.self c.self.inside.settings.limit c.self.inside.free c.self.inside.slots c.self.inside.slots c.self.inside.stopped c.self.inside.stopped
-        c.args.seq c.args.flag (case_of c.in-Some.entry.now) c.self.invariant.sound c.if-self.false c.in-Some.ensures c.in_default-append_pin.field-0 c.in_default-append_pin.ensures.step
-        (done_guards g.D.Disk c.self.inside.disk c.append_pin.new.disk c.self.inside.journal c.append_pin.new.self (Pin c.args.seq c.args.flag) c.in_default-append_pin.ensures.step.2 c.append_pin.ensures.honesty (g.met.D.Disk.counts_now c.append_pin.new.disk) c.append_pin.ensures.keeps
-        (λ honest. whole_pinned g.D.Disk c.self.inside.disk c.self.inside.journal c.args.seq c.args.flag (λ b may. (c.self.invariant.sound.runs c.if-self.false).keeps.whole (c.self.invariant.sound.runs c.if-self.false).journal honest b may))
-        c.append_pin.ensures.outside c.append_pin.ensures.others);
+          pin_sound_after g.D.Disk c.self.inside.disk c.append_pin.new.disk c.self.inside.journal c.append_pin.new.self c.self.inside.settings.limit c.self.inside.free c.self.inside.slots c.self.inside.slots c.self.inside.stopped c.self.inside.stopped
+          c.args.seq c.args.flag (case_of c.in-Some.entry.now) c.self.invariant.sound c.if-self.false c.in-Some.ensures c.in_default-append_pin.field-0 c.in_default-append_pin.ensures.step
+          (done_guards g.D.Disk c.self.inside.disk c.append_pin.new.disk c.self.inside.journal c.append_pin.new.self (Pin c.args.seq c.args.flag) c.in_default-append_pin.ensures.step.2 c.append_pin.ensures.honesty (g.met.D.Disk.counts_now c.append_pin.new.disk) c.append_pin.ensures.keeps
+          (λ honest. whole_pinned g.D.Disk c.self.inside.disk c.self.inside.journal c.args.seq c.args.flag (λ b may. (c.self.invariant.sound.runs c.if-self.false).keeps.whole (c.self.invariant.sound.runs c.if-self.false).journal honest b may))
+          c.append_pin.ensures.outside c.append_pin.ensures.others);
       taken = λ on. subst (λ (k : Journaled). AreTaken k.standing.cases c.self.inside.slots c.self.inside.names) (sym c.in_default-append_pin.ensures.step.2) (names_pinned c.args.seq c.args.flag c.self.inside.journal.standing.cases c.self.inside.slots c.self.inside.names (c.self.invariant.taken on));
     }
 
@@ -41,11 +41,11 @@ pub invariant_of-self-2 : goal.invariant_of-self-2
 invariant_of-self-2 g c =
     record {
       sound =
-        sound_refusal g.D.Disk c.self.inside.disk c.append_pin.new.disk c.self.inside.journal c.append_pin.new.self (Pin c.args.seq c.args.flag) c.self.inside.settings.limit c.self.inside.free c.self.inside.slots c.end_streams-self-inside.new.slots c.self.inside.stopped c.end_streams-self-inside.result c.if-self.false
-        c.self.inside.free c.in-Err.fault c.self.invariant.sound c.in-Err.ensures.step
-        (refusal_guards g.D.Disk c.self.inside.disk c.append_pin.new.disk c.self.inside.journal c.append_pin.new.self (Pin c.args.seq c.args.flag) c.in-Err.fault c.in-Err.ensures.step c.in-Err.ensures.untouched c.append_pin.ensures.keeps (c.self.invariant.sound.runs c.if-self.false).keeps)
-        (subst (λ (f : ArchiveFault). EndsStreams f c.self.inside.slots c.end_streams-self-inside.result c.end_streams-self-inside.new.slots) c.from-fault.ensures c.end_streams-self-inside.ensures)
-        (λ _. refl);
+          sound_refusal g.D.Disk c.self.inside.disk c.append_pin.new.disk c.self.inside.journal c.append_pin.new.self (Pin c.args.seq c.args.flag) c.self.inside.settings.limit c.self.inside.free c.self.inside.slots c.end_streams-self-inside.new.slots c.self.inside.stopped c.end_streams-self-inside.result c.if-self.false
+          c.self.inside.free c.in-Err.fault c.self.invariant.sound c.in-Err.ensures.step
+          (refusal_guards g.D.Disk c.self.inside.disk c.append_pin.new.disk c.self.inside.journal c.append_pin.new.self (Pin c.args.seq c.args.flag) c.in-Err.fault c.in-Err.ensures.step c.in-Err.ensures.untouched c.append_pin.ensures.keeps (c.self.invariant.sound.runs c.if-self.false).keeps)
+          (subst (λ (f : ArchiveFault). EndsStreams f c.self.inside.slots c.end_streams-self-inside.result c.end_streams-self-inside.new.slots) c.from-fault.ensures c.end_streams-self-inside.ensures)
+          (λ _. refl);
       taken = subst (λ (cs : List Case). c.end_streams-self-inside.result ≡ false → AreTaken cs c.end_streams-self-inside.new.slots c.self.inside.names) (sym (still_cases c.self.inside.journal c.append_pin.new.self (Pin c.args.seq c.args.flag) c.in-Err.fault c.in-Err.ensures.step))
           (taken_still c.from-fault.result c.self.inside.journal.standing.cases c.self.inside.slots c.end_streams-self-inside.new.slots c.end_streams-self-inside.result c.self.inside.names c.end_streams-self-inside.ensures (c.self.invariant.taken c.if-self.false));
     }
