@@ -39,10 +39,10 @@ static UNPINNED: [Row; 3] = [
 
 // The bytes of the journal that are in use.
 fn used_bytes(alloc: Global, disk: &mut MemDisk) -> Result<u64, Fail> {
-    let Ok(journal) = Journal::open(alloc, disk) else {
+    let Ok(found) = Journal::open(alloc, disk) else {
         return Err(Fail::from("the journal was not opened"));
     };
-    Ok(journal.use_bytes())
+    Ok(found.journal.use_bytes())
 }
 
 // Makes the calls on the archive of a disk, and counts the bytes of the journal that are in use then.

@@ -22,6 +22,8 @@ use Rattle.journal_records.specs.Said.{TellsFaulty}
 use Rattle.case_journal.specs.declared.front.ArchiveFront.{ArchiveFront}
 use Rattle.case_journal.specs.Journaled.{Journaled}
 use Rattle.case_journal.specs.Keeping.{Keeps}
+use Rattle.case_journal.specs.Opening.{journal_of}
+use Rattle.case_journal.specs.declared.open.Opened.{Opened}
 use Rattle.case_journal.specs.Viewing.{IsView, IsQuiet, Shows, ShowsFront, ShowsOpening, Gives, Finds, front_view}
 use Rattle.case_journal.proofs.StandLemmas.{headers_stay, half_low}
 
@@ -113,14 +115,15 @@ module _ {D : Type 0} (g : disk.Ghosts D) where
       found (Err (Damaged at which)) gives = stands_or_refused shows.shown s (Damaged at which) there gives
 
   -- the cases that are found are live
-  pub live_by : (d : D) (r : Result Journaled OpenFault) → ShowsOpening g d r → IfOk r (λ (j : Journaled). AreLive j.standing.shape.data_blocks j.standing.cases j.standing.next)
-  live_by d (Ok j) shows = stands_live shows.shown j.standing shows.gives
+  pub live_by : (d : D) (r : Result Opened OpenFault) → ShowsOpening g d (journal_of r)
+      → IfOk r (λ (o : Opened). AreLive o.journal.standing.shape.data_blocks o.journal.standing.cases o.journal.standing.next)
+  live_by d (Ok o) shows = stands_live shows.shown o.journal.standing shows.gives
   live_by d (Err fault) shows = tt
 
   -- and is what every crash leaves, once it was settled
-  pub keeps_by : (old mid new : D) (r : Result Journaled OpenFault) → IsQuiet g old mid → IsQuiet g mid new → (IsTrue (g.is_honest old) → Only (g.seen old) (g.may_leave mid))
-      → ShowsOpening g old r → IfOk r (λ (j : Journaled). g.size new ≡ disk_length j.standing.shape) → IfOk r (Keeps g new)
-  keeps_by old mid new (Ok j) first second settled shows size =
+  pub keeps_by : (old mid new : D) (r : Result Opened OpenFault) → IsQuiet g old mid → IsQuiet g mid new → (IsTrue (g.is_honest old) → Only (g.seen old) (g.may_leave mid))
+      → ShowsOpening g old (journal_of r) → IfOk r (λ (o : Opened). g.size new ≡ disk_length o.journal.standing.shape) → IfOk r (λ (o : Opened). Keeps g new o.journal)
+  keeps_by old mid new (Ok o) first second settled shows size =
       record {
         size = size;
         holds = λ runs honest.
@@ -129,10 +132,10 @@ module _ {D : Type 0} (g : disk.Ghosts D) where
             let left : (c : List ℕ) → g.may_leave new c → c ≡ g.seen old = λ c now. settled honest_old c (second.crash still c now) in
             let seen : g.seen new ≡ g.seen old = second.seen still ∙ first.seen honest_old in
             record {
-              stands = λ c now. subst (λ (b : List ℕ). Stands b j.standing) (shows.view.is honest_old ∙ sym (left c now)) shows.gives;
+              stands = λ c now. subst (λ (b : List ℕ). Stands b o.journal.standing) (shows.view.is honest_old ∙ sym (left c now)) shows.gives;
               headers = λ c now. let e : c ≡ g.seen new = left c now ∙ sym seen in record {
-                first = ap (λ (b : List ℕ). part b (half_start j.standing.shape A) 32) e;
-                second = ap (λ (b : List ℕ). part b (half_start j.standing.shape B) 32) e;
+                first = ap (λ (b : List ℕ). part b (half_start o.journal.standing.shape A) 32) e;
+                second = ap (λ (b : List ℕ). part b (half_start o.journal.standing.shape B) 32) e;
               };
             };
       }

@@ -15,3 +15,4 @@ pub use faults::{FormatFault, JournalFault};
 pub use formatting::format;
 pub use journal::Journal;
 pub use laws::data_blocks_keep;
+pub use open::Opened;

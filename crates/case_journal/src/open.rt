@@ -7,14 +7,18 @@ ghost use Rattle.journal_layout.specs.Stands.{Stands, records_start};
 ghost use Rattle.journal_layout.specs.Standing.{Standing};
 ghost use Rattle.journal_layout.specs.Live.{AreLive};
 ghost use Rattle.case_journal.specs.Keeping.{Keeps};
+ghost use Rattle.case_journal.specs.Opening.{journal_of};
 ghost use Rattle.case_journal.specs.Viewing.{IsView, Shows, ShowsOpening, IsQuiet, IsOpenRefusal, Finds};
+ghost use Rattle.journal_records.specs.Kept.{AreNames, IsSpareMap};
 
 use crate::Journal;
 use crate::front::{ArchiveFront, read_front, read_part};
 use disk_model::Disk;
-use journal_layout::OpenFault;
+use extents::FreeMap;
+use journal_layout::{Name, OpenFault};
 use journal_records::replay;
 use std::alloc::Global;
+use std::collections::BTreeSet;
 
 // The bytes of a half's header.
 const HEADER: u64 = 32;
@@ -61,11 +65,25 @@ fn read_records<D: Disk>(
     Ok(bytes)
 }
 
+/// What an opening finds: the journal, and what reading its records gathered.
+#[derive(Drop)]
+pub struct Opened {
+    /// The open journal.
+    pub journal: Journal,
+    /// The names of its cases.
+    pub names: BTreeSet<Name>,
+    /// The data blocks that no case of it has.
+    pub free: FreeMap,
+}
+
 // Reads the journal of a disk, whose front was read.
-fn read_journal<D: Disk>(alloc: Global, disk: &mut D) -> Result<Journal, OpenFault>
-    ensures shows { (b : List ℕ) → IsView D.Disk disk.old b → ShowsOpening D.Disk disk.new result }
-    ensures size { IfOk result (λ j. D.size disk.new ≡ disk_length j.standing.shape) }
-    ensures runs { IfOk result (λ j. j.stopped ≡ false) }
+fn read_journal<D: Disk>(alloc: Global, disk: &mut D) -> Result<Opened, OpenFault>
+    ensures shows { (b : List ℕ) → IsView D.Disk disk.old b
+        → ShowsOpening D.Disk disk.new (journal_of result) }
+    ensures size { IfOk result (λ o. D.size disk.new ≡ disk_length o.journal.standing.shape) }
+    ensures runs { IfOk result (λ o. o.journal.stopped ≡ false) }
+    ensures names { IfOk result (λ o. AreNames o.journal.standing.cases o.names) }
+    ensures free { IfOk result (λ o. IsSpareMap o.journal.standing.shape.data_blocks o.journal.standing.cases o.free) }
     ensures quiet { IsQuiet D.Disk disk.old disk.new }
     ensures cause { result ≡ Err OpenFault.Disk
         → HasRisen (D.failures disk.old) (D.failures disk.new) }
@@ -75,31 +93,40 @@ fn read_journal<D: Disk>(alloc: Global, disk: &mut D) -> Result<Journal, OpenFau
     let bytes = read_records(alloc, disk, front)?;
     let at = front.shape.half_start(front.half) + HEADER;
     let read = replay(alloc, &bytes, at, front.version, front.shape.data_blocks)?;
-    Ok(Journal {
-        shape: front.shape,
-        half: front.half,
-        version: front.version,
-        generation: front.generation,
-        entries: read.entries,
-        next: read.next,
-        used: HEADER + read.size,
-        stopped: false,
+    Ok(Opened {
+        journal: Journal {
+            shape: front.shape,
+            half: front.half,
+            version: front.version,
+            generation: front.generation,
+            entries: read.entries,
+            next: read.next,
+            used: HEADER + read.size,
+            stopped: false,
+        },
+        names: read.names,
+        free: read.free,
     })
 }
 
 impl Journal {
     /// Opens the journal on a disk, beginning with a sync, and answers the first check of the layout that fails: where a
     /// crash left what stands for some cases, none does. It reads each half's header, and the rest of the half that is
-    /// taken in one read. `Disk`: the disk failed. `OutOfMemory`: there was no memory. Both may be met before a check.
-    pub fn open<D: Disk>(alloc: Global, disk: &mut D) -> Result<Journal, OpenFault>
+    /// taken in one read. Answers the names of the cases and the blocks that they leave free with it. `Disk`: the disk
+    /// failed. `OutOfMemory`: there was no memory. Both may be met before a check.
+    pub fn open<D: Disk>(alloc: Global, disk: &mut D) -> Result<Opened, OpenFault>
         // The answer is the opening of some list of bytes as long as the disk, on an honest disk of its bytes.
-        ensures gives { ShowsOpening D.Disk disk.old result }
+        ensures gives { ShowsOpening D.Disk disk.old (journal_of result) }
         // What the disk stands for is found, and nothing but the disk and the memory refuses it.
-        ensures found { (s : Standing) → IsTrue (D.is_honest disk.old) → Stands (D.seen disk.old) s → Finds result s }
-        ensures keeps { IfOk result (Keeps D.Disk disk.new) }
+        ensures found { (s : Standing) → IsTrue (D.is_honest disk.old) → Stands (D.seen disk.old) s
+            → Finds (journal_of result) s }
+        ensures keeps { IfOk result (λ o. Keeps D.Disk disk.new o.journal) }
         // What the cases of any archive are like: their numbers rise, no block is used twice, and so on.
-        ensures live { IfOk result (λ j. AreLive j.standing.shape.data_blocks j.standing.cases j.standing.next) }
-        ensures runs { IfOk result (λ j. j.stopped ≡ false) }
+        ensures live { IfOk result (λ o. AreLive o.journal.standing.shape.data_blocks o.journal.standing.cases o.journal.standing.next) }
+        ensures runs { IfOk result (λ o. o.journal.stopped ≡ false) }
+        // The set has the names of the cases, and the map the data blocks that none of them has.
+        ensures names { IfOk result (λ o. AreNames o.journal.standing.cases o.names) }
+        ensures free { IfOk result (λ o. IsSpareMap o.journal.standing.shape.data_blocks o.journal.standing.cases o.free) }
         // A crash meanwhile leaves what one before could have left.
         ensures any_moment { IsTrue (D.is_honest disk.old)
             → LeavesOnly D.Disk disk.old disk.new (D.may_leave disk.old) }

@@ -1,5 +1,5 @@
 -- The bytes of a block that is written, and those that it spares.
-use Rattle.std.proofs.Common.{◌≡◌, ◌≢◌, inl, inr, ⊎_elim, ℕ, zero, suc, ◌+◌, ◌-◌, ◌%◌, ◌<◌, ◌≤◌, List, [], ◌∷◌, ◌++◌, length, take, drop, replicate, refl, sym, ap, ◌∙◌, arith, Result, Ok, Err, append_assoc, Bool}
+use Rattle.std.proofs.Common.{◌≡◌, ◌≢◌, inl, inr, ⊎_elim, ℕ, zero, suc, ◌+◌, ◌-◌, ◌%◌, ◌<◌, ◌≤◌, List, [], ◌∷◌, ◌++◌, length, take, drop, replicate, refl, sym, ap, ◌∙◌, arith, Result, Ok, Err, append_assoc, Bool, subst}
 use Rattle.std.specs.Prelude.{OnOk}
 use Rattle.std.proofs.lemmas.Bool.{cases_eq, cases_lt, eq-eqb}
 use Rattle.std.specs.Prelude.{◌==◌}
@@ -14,8 +14,9 @@ use Rattle.case_journal.specs.Journaled.{Journaled}
 use Rattle.intake.specs.Balance.{AreHeld}
 use Rattle.intake.specs.Blocks.{block_start, block_bytes, joined}
 use Rattle.intake.specs.Contents.{zero_block, advanced, next_free}
-use Rattle.intake.specs.Growth.{ChangesFree, Adds, NeedsBlock, lengthened, refreshed}
+use Rattle.intake.specs.Growth.{DiskReply, BlockReply, ChangesFree, Adds, NeedsBlock, lengthened, refreshed}
 use Rattle.intake.specs.Parts.{StreamParts, taken_in}
+use Rattle.intake.specs.declared.faults.ArchiveFault.{ArchiveFault}
 use Rattle.intake.proofs.CountLemmas.{not_held}
 
 pub on_ok : {T E : Type 0} (r : Result T E) (P Q : Type 0) → OnOk r P → (P → Q) → OnOk r Q
@@ -125,3 +126,8 @@ taken_refreshed j flags a b s n blocks size held needs adds =
     ap (λ (k : ℕ). drop k zero_block) m ∙ ap next_free (sym nothing) in
     ap (λ (x : List ℕ). record { bytes = x; free = drop ((s.len + n) % 4096) zero_block }) bytes
     ∙ ap (λ (x : List ℕ). record { bytes = joined j.standing.shape a s.blocks ++ take u s.block ++ take n (drop u s.block); free = x }) free
+
+-- where a block was there, the disk's answer is that of the block
+pub block_reply : (free : ℕ) (r : Result (Unit {0}) ArchiveFault) → 0 < free → DiskReply r → BlockReply free r
+block_reply free (Ok u) some reply = some
+block_reply free (Err f) some reply = subst (λ (x : ArchiveFault). BlockReply free (Err x)) (sym reply) some

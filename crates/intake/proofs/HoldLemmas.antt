@@ -1,5 +1,5 @@
 -- How the blocks of cases are marked as used.
-use Rattle.std.proofs.Common.{◌≡◌, ℕ, zero, suc, Option, None, ◌+◌, ◌<◌, ◌≤◌, ◌-◌, Bool, true, false, List, [], ◌∷◌, ◌++◌, length, map, get_or, take, drop, replicate, refl, sym, ap, ◌∙◌, subst, arith, Result, Ok, Err}
+use Rattle.std.proofs.Common.{◌≡◌, cond, ℕ, zero, suc, Option, None, ◌+◌, ◌<◌, ◌≤◌, ◌-◌, Bool, true, false, List, [], ◌∷◌, ◌++◌, length, map, get_or, take, drop, replicate, refl, sym, ap, ◌∙◌, subst, arith, Result, Ok, Err}
 use Rattle.std.specs.Prelude.{nat_lt}
 use Rattle.std.specs.Result.{IsOk}
 use Rattle.std.specs.List.{All}
@@ -17,7 +17,13 @@ use Rattle.extents.specs.FreeLaws.{uses_append, uses_inside, free_below, length_
 use Rattle.journal_layout.specs.Case.{Case, case_of}
 use Rattle.journal_layout.specs.LiveCounts.{blocks_of-append}
 use Rattle.journal_layout.specs.declared.entry.Entry.{Entry}
-use Rattle.intake.specs.Balance.{AreFree, Balances}
+use Rattle.extents.specs.FreeSet.{with_runs, free_count}
+use Rattle.std.proofs.lemmas.Bool.{lt-ltb}
+use Rattle.journal_layout.specs.Folding.{used_blocks}
+use Rattle.journal_layout.specs.LiveCounts.{case_uses_same, used_length}
+use Rattle.journal_records.specs.Kept.{IsSpareMap}
+use Rattle.intake.proofs.CountLemmas.{given, uses_same}
+use Rattle.intake.specs.Balance.{AreFree, AreHeld, Balances}
 use Rattle.intake.specs.Live.{case_uses}
 use Rattle.intake.specs.Parts.{StreamParts}
 use Rattle.intake.specs.Sound.{IsSound, IsFineIfOpen, LeaveFree, stream_uses, stream_blocks, streams_named}
@@ -103,36 +109,30 @@ runs_free flags blocks runs is free = subst (AreFree flags) (sym (ap blocks_of i
 pub runs_some : (blocks : List ℕ) (runs : List Run) → runs ≡ runs_of blocks → All (λ (r : Run). 1 ≤ r.count) runs
 runs_some blocks runs is = subst (All (λ (r : Run). 1 ≤ r.count)) (sym is) (runs_have_blocks blocks)
 
--- The case at index i, those before it marked as used.
-module _ (blocks : ℕ) (entries : List Entry) (i : ℕ) (e : Entry) (flags : List Bool) (within : i < length entries) (is : e ≡ get_or entries i e)
-    (apart : (k : ℕ) → case_uses (map case_of entries) k ≤ one_if (nat_lt k blocks)) (so_far : LeaveFree blocks (take i (map case_of entries)) flags) where
-  low : i < length (map case_of entries)
-  low = omega (arith, length-map entries case_of)
+all_free : (xs : List Bool) → ((k : ℕ) → k < length xs → is_free xs k ≡ true) → free_count xs ≡ length xs
+all_free [] all = refl
+all_free (f ∷ rest) all =
+    let here : f ≡ true = all 0 (omega arith) in
+    let more : free_count rest ≡ length rest = all_free rest (λ k below. all (suc k) (omega (arith, below))) in
+    let s = sum_by-cons (λ (t : Bool). cond t 1 0) f rest in
+    let e : one_if f ≡ 1 = ap one_if here in
+    omega (arith, s, e, more)
 
-  here_is : get_or (map case_of entries) i (case_of e) ≡ case_of e
-  here_is = get_or-map case_of entries i e (case_of e) within ∙ ap case_of (sym is)
-
-  pub case_free : AreFree flags (case_of e).blocks
-  case_free k =
-      let m = sum_by_more_le (λ (c : Case). uses c.blocks k) (map case_of entries) i (case_of e) low in
-      let h = ap (λ (c : Case). uses c.blocks k) here_is in
-      let a = apart k in
-      let o = so_far.once k in
-      omega (arith, m, h, a, o)
-
-  pub one_more : (new : List Bool) → Balances flags [] new (case_of e).blocks → LeaveFree blocks (take (i + 1) (map case_of entries)) new
-  one_more new bal =
-      let more : take (i + 1) (map case_of entries) ≡ take i (map case_of entries) ++ case_of e ∷ [] =
-      take_more (map case_of entries) i (case_of e) low ∙ ap (λ (c : Case). take i (map case_of entries) ++ c ∷ []) here_is in
-      subst (λ (cs : List Case). LeaveFree blocks cs new) (sym more) (record {
-        long = bal.long ∙ so_far.long;
-        once = λ k. (let a = sum_by-append (λ (c : Case). uses c.blocks k) (take i (map case_of entries)) (case_of e ∷ []) in
-            let n = sum_by-cons (λ (c : Case). uses c.blocks k) (case_of e) [] in
-            let b = bal.each k in let o = so_far.once k in omega (arith, a, n, b, o));
-        total = (let a = sum_by-append (λ (c : Case). length c.blocks) (take i (map case_of entries)) (case_of e ∷ []) in
-            let n = sum_by-cons (λ (c : Case). length c.blocks) (case_of e) [] in
-            let b = bal.all in let o = so_far.total in omega (arith, a, n, b, o));
-      })
+-- what the cases leave free, counted
+pub spare_left : (blocks : ℕ) (cases : List Case) (flags : List Bool) → IsSpareMap blocks cases flags → LeaveFree blocks cases flags
+spare_left blocks cases flags spare = record {
+  long = spare.size;
+  once = λ k. (let a = spare.accounts k in let u = case_uses_same k cases in let l = ap (λ (n : ℕ). one_if (nat_lt k n)) spare.size in omega (arith, a, u, l));
+  total =
+      (let used = used_blocks cases in
+      let back = with_runs flags (runs_of used) in
+      let held : AreHeld flags used = λ k. (let a = spare.accounts k in let u = uses_same k used in omega (arith, a, u)) in
+      let bal = given flags back used held refl in
+      let all = all_free back (λ k below. one_true (is_free back k)
+      (let e = bal.each k in let a = spare.accounts k in let u = uses_same k used in let l = bal.long in
+      let one = ap one_if (lt-ltb k (length flags) (omega (arith, l, below))) in omega (arith, e, a, u, one))) in
+      let n = used_length cases in let f = bal.all in let l = bal.long in let z = spare.size in omega (arith, all, n, f, l, z));
+}
 
 none_fine : (most n : ℕ) → All (IsFineIfOpen most) (replicate n None)
 none_fine most zero = All-nil (IsFineIfOpen most)
@@ -141,7 +141,7 @@ none_fine most (suc n) = All-cons (IsFineIfOpen most) None (replicate n None) tt
 -- an archive that was just opened
 pub opened_sound : {D : Type 0} (g : disk.Ghosts D) (d d' : D) (j : Journaled) (most : ℕ) (shape : Shape) (flags : List Bool) (cases : List Case) (streams : List (Option StreamParts))
     → ShowsOpening g d (Ok j) → Guards g d' j → AreLive j.standing.shape.data_blocks j.standing.cases j.standing.next → j.stopped ≡ false
-    → shape ≡ j.standing.shape → cases ≡ j.standing.cases → LeaveFree shape.data_blocks cases flags → streams ≡ replicate 8 None → IsSound g d' j most flags streams false
+    → shape ≡ j.standing.shape → cases ≡ j.standing.cases → IsSpareMap shape.data_blocks cases flags → streams ≡ replicate 8 None → IsSound g d' j most flags streams false
 opened_sound g d d' j most shape flags cases streams shows keeps live on same are leave none =
     subst (λ (x : List (Option StreamParts)). IsSound g d' j most flags x false) (sym none) (record {
       shape = stands_limits shows.shown j.standing shows.gives;
@@ -161,4 +161,4 @@ opened_sound g d d' j most shape flags cases streams shows keeps live on same ar
     })
   where
     free : LeaveFree j.standing.shape.data_blocks j.standing.cases flags
-    free = subst (λ (s : Shape). LeaveFree s.data_blocks j.standing.cases flags) same (subst (λ (cs : List Case). LeaveFree shape.data_blocks cs flags) are leave)
+    free = spare_left j.standing.shape.data_blocks j.standing.cases flags (subst (λ (s : Shape). IsSpareMap s.data_blocks j.standing.cases flags) same (subst (λ (cs : List Case). IsSpareMap shape.data_blocks cs flags) are leave))

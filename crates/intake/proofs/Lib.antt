@@ -32,3 +32,4 @@ pub mod MakingLemmas
 pub mod RunCountLemmas
 pub mod AnswerLemmas
 pub mod FactLemmas
+pub mod NameLemmas

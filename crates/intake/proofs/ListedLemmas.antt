@@ -11,7 +11,7 @@ use Rattle.journal_layout.specs.LiveLaws.{used-append}
 use Rattle.journal_layout.specs.declared.entry.Entry.{Entry}
 use Rattle.intake.specs.Balance.{AreFree, AreHeld, Balances}
 
-gone-append : (seqs : List ℕ) (xs ys : List Case) → gone seqs (xs ++ ys) ≡ gone seqs xs ++ gone seqs ys
+pub gone-append : (seqs : List ℕ) (xs ys : List Case) → gone seqs (xs ++ ys) ≡ gone seqs xs ++ gone seqs ys
 gone-append seqs [] ys = refl
 gone-append seqs (c ∷ rest) ys =
     elim (is_among seqs c.seq) as (λ t. cond t (c ∷ gone seqs (rest ++ ys)) (gone seqs (rest ++ ys)) ≡ cond t (c ∷ gone seqs rest) (gone seqs rest) ++ gone seqs ys) [

@@ -113,6 +113,10 @@ retire_may j policy dropped unmet live decision rises some =
         (droppable policy decision.count j.standing.cases j.standing.cases
         (found j.standing.cases (recursion_from_All (Contains j.standing.cases) j.standing.cases (All-contains_itself j.standing.cases))))
 
+pub retire_rises : (j : Journaled) (policy : Policy) (dropped : List ℕ) (unmet : Bool) → AreLive j.standing.shape.data_blocks j.standing.cases j.standing.next
+    → IsDecision policy (map brief_of (map bare_case j.standing.cases)) dropped unmet → IsStrictlyIncreasing dropped → 0 < length dropped → Rise 0 dropped
+retire_rises j policy dropped unmet live decision rises some = (retire_may j policy dropped unmet live decision rises some).1
+
 -- the step of a refusal
 pub retire_err : (s : Bare) (policy : Policy) (dropped : List ℕ) (unmet : Bool) (f : ArchiveFault) (after : Bare) → Retires s policy dropped unmet → DropStep s dropped (Err f) after → RetireStep s policy (Err f) after
 retire_err s policy dropped unmet fault.JournalFull after r step = (dropped, unmet, r, step.0, step.1)

@@ -16,14 +16,6 @@ use Rattle.intake.specs.Parts.{StreamParts, bare_stream}
 use Rattle.intake.specs.Step.{has_name}
 use Rattle.intake.specs.StreamView.{parts_of, parts_in}
 
-list_any-map : {X Y : Type 0} (P : Y → Bool) (f : X → Y) (xs : List X) → list_any P (map f xs) ≡ list_any (λ x. P (f x)) xs
-list_any-map P f [] = refl
-list_any-map P f (x ∷ xs) = ap (λ b. P (f x) || b) (list_any-map P f xs)
-
--- a test of the names, in the words of the slots
-pub any_in : (name : List ℕ) (slots : List Slot) → list_any (λ s. has_name name (option_map bare_stream (parts_in s))) slots ≡ list_any (has_name name) (map (option_map bare_stream) (map parts_in slots))
-any_in name slots = sym (list_any-map (has_name name) (option_map bare_stream) (map parts_in slots) ∙ list_any-map (λ (o : Option StreamParts). has_name name (option_map bare_stream o)) parts_in slots)
-
 -- slots that hold nothing
 pub all_closed : (now : List Slot) (old : List Slot) → length now ≡ length old → All (λ (s : Slot). parts_in s ≡ None) now → map parts_in now ≡ closed (map parts_in old)
 all_closed [] [] long none = refl

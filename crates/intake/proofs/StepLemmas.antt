@@ -54,11 +54,8 @@ pub not_open : (t : Bool) (o : Option StreamParts) → IsTrue t ↔ IsSome o →
 not_open t None both off = refl
 not_open t (Some s) both off = absurd (let h : t ≡ true = both.1 refl in let e : true ≡ false = sym h ∙ off in cc)
 
-pub free_by : (state : Bare) (x name : List ℕ) (r : Bool) → r ≡ is_taken state x → r ≡ false → x ≡ name → is_taken state name ≡ false
-free_by state x name r e off same = ap (is_taken state) (sym same) ∙ sym e ∙ off
-
 -- a name that is not taken is that of no case and no stream
-none_of : {X Y : Type 0} (P : Y → Bool) (f : X → Y) (xs : List X) → list_any P (map f xs) ≡ false → count_by (λ x. P (f x)) xs ≡ 0
+pub none_of : {X Y : Type 0} (P : Y → Bool) (f : X → Y) (xs : List X) → list_any P (map f xs) ≡ false → count_by (λ x. P (f x)) xs ≡ 0
 none_of P f [] e = refl
 none_of P f (x ∷ xs) e =
     let h = or_parts (P (f x)) (list_any P (map f xs)) e in
@@ -66,7 +63,7 @@ none_of P f (x ∷ xs) e =
     let g : one_if (P (f x)) ≡ 0 = ap one_if h.0 in
     omega (arith, s, g, none_of P f xs h.1)
 
-called_same : (name : List ℕ) (streams : List (Option StreamParts)) → count_by (λ o. has_name name (option_map bare_stream o)) streams ≡ streams_named streams name
+pub called_same : (name : List ℕ) (streams : List (Option StreamParts)) → count_by (λ o. has_name name (option_map bare_stream o)) streams ≡ streams_named streams name
 called_same name [] = refl
 called_same name (o ∷ rest) =
     let s = sum_by-cons (λ y. cond (has_name name (option_map bare_stream y)) 1 0) o rest in
@@ -101,23 +98,9 @@ names_with a s free once name = both (bytes_eq s.name name) refl
         let c = n.0 in let t = n.1 in omega (arith, f, g, c, t))
 
 -- the test of the cases, in the words of the entries
-list_any-map : {X Y : Type 0} (P : Y → Bool) (f : X → Y) (xs : List X) → list_any P (map f xs) ≡ list_any (λ x. P (f x)) xs
+pub list_any-map : {X Y : Type 0} (P : Y → Bool) (f : X → Y) (xs : List X) → list_any P (map f xs) ≡ list_any (λ x. P (f x)) xs
 list_any-map P f [] = refl
 list_any-map P f (x ∷ xs) = ap (λ b. P (f x) || b) (list_any-map P f xs)
-
-pub among_cases : (entries : List Entry) (cases : List Case) (name : List ℕ) → map case_of entries ≡ cases
-    → list_any (λ (e : Entry). bytes_eq e.name.items name) entries ≡ list_any (λ (c : BareCase). bytes_eq c.name name) (map bare_case cases)
-among_cases entries cases name is =
-    sym (list_any-map (λ (c : Case). bytes_eq c.name name) case_of entries) ∙ ap (list_any (λ (c : Case). bytes_eq c.name name)) is
-    ∙ sym (list_any-map (λ (c : BareCase). bytes_eq c.name name) bare_case cases)
-
-pub first_true : (a b x y : Bool) → x ≡ true → x ≡ a → x ≡ (a || b)
-first_true true b x y on e = on
-first_true false b x y on e = absurd (let f : true ≡ false = sym on ∙ e in cc)
-
-pub second_of : (a b x y : Bool) → x ≡ false → x ≡ a → y ≡ b → y ≡ (a || b)
-second_of true b x y off e f = absurd (let g : false ≡ true = sym off ∙ e in cc)
-second_of false b x y off e f = f
 
 -- a stream is begun
 module _ {D : Type 0} (g : disk.Ghosts D) (d : D) (j : Journaled) (most : ℕ) (flags : List Bool) (streams streams' : List (Option StreamParts)) (slot : ℕ) (s : StreamParts) (b : Bool)

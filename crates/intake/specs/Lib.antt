@@ -14,6 +14,7 @@ pub mod Live
 pub mod Lives
 pub mod Making
 pub mod Marks
+pub mod Names
 pub mod Opened
 pub mod Parts
 pub mod Reading

@@ -5,6 +5,7 @@ use Rattle.journal_layout.specs.declared.entry.Entry.{Entry}
 use Rattle.journal_layout.specs.declared.faults.OpenFault.{OpenFault}
 use Rattle.journal_layout.specs.Case.{case_of}
 use Rattle.case_journal.specs.Journaled.{Journaled}
+use Rattle.case_journal.specs.declared.open.Opened.{Opened}
 use Rattle.intake.specs.declared.faults.ArchiveFault.{ArchiveFault}
 use Rattle.intake.specs.declared.faults.ArchiveFault.TheVariants as fault
 use Rattle.intake.specs.Parts.{Parts, StreamParts, bare_case, bare_of}
@@ -20,9 +21,9 @@ abbrev pub journal_in : {D : Type 0} → Result (Parts D) (OpenFault × D) → R
 journal_in (Ok a) = Ok a.journal
 journal_in (Err e) = Err e.0
 
--- the same before the archive is put together of its journal, the flags of the free blocks and the slots
-abbrev pub journal_of : Result (Journaled × List Bool × List (Option StreamParts)) OpenFault → Result Journaled OpenFault
-journal_of (Ok parts) = Ok parts.0
+-- the same before the archive is put together of what the opening of its journal found and the slots
+abbrev pub journal_of : Result (Opened × List (Option StreamParts)) OpenFault → Result Journaled OpenFault
+journal_of (Ok parts) = Ok parts.0.journal
 journal_of (Err fault) = Err fault
 
 -- an archive that was just opened with this limit

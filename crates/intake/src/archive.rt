@@ -8,20 +8,18 @@ ghost use Rattle.journal_layout.specs.Stands.{Stands};
 ghost use Rattle.case_journal.specs.Append.{MayFollow};
 ghost use Rattle.journal_layout.specs.Record.{Drop};
 ghost use Rattle.case_journal.specs.Viewing.{ShowsOpening, Finds};
-ghost use Rattle.intake.specs.Step.{is_taken};
 ghost use Rattle.disk_model.specs.Disk.{HasRisen};
 ghost use Rattle.intake.specs.Growth.{IsDiskFault};
 ghost use Rattle.intake.specs.Ending.{EndsStreams};
-ghost use Rattle.std.specs.List.{list_any};
-ghost use Rattle.std.specs.Str.{bytes_eq};
+ghost use Rattle.intake.specs.Names.{items_of, names_gone};
 ghost use Rattle.journal_layout.specs.Soundness.{IsName};
 ghost use Rattle.intake.specs.Untouched.{RefusalSpares};
-ghost use Rattle.journal_layout.specs.declared.entry.Entry.{Entry};
 
 use crate::ArchiveFault;
 use crate::blocks::{append_case, grow, release, seal, stops};
 use crate::buffer::Buffer;
 use crate::dropping::{hold_listed, release_listed};
+use crate::names::{copied, forget_name, forget_names, keep_name, names_of};
 use crate::opening::open_parts;
 use crate::reading::read_image;
 use crate::retiring::decide_for;
@@ -34,6 +32,7 @@ use extents::{FreeMap, RunList};
 use journal_layout::{Entry, Kind, Name, OpenFault};
 use retention::{Decision, Policy};
 use std::alloc::Global;
+use std::collections::BTreeSet;
 use std::marker::Model;
 
 /// How an archive is opened.
@@ -51,6 +50,8 @@ pub struct Archive<D: Disk> {
     journal: Journal,
     alloc: Global,
     settings: Settings,
+    // The names of the cases and of the open streams.
+    names: BTreeSet<Name>,
     // The data blocks that no case and no stream has.
     free: FreeMap,
     slots: Slots,
@@ -63,7 +64,7 @@ impl<D: Disk> Model for Archive<D> {
 
     ghost Value = { Parts D };
 
-    ghost use Rattle.intake.specs.Sound.{IsSound};
+    ghost use Rattle.intake.specs.Names.{IsConsistent};
 
     ghost view = { λ a. record {
       disk = a.disk;
@@ -73,7 +74,7 @@ impl<D: Disk> Model for Archive<D> {
       stopped = a.stopped;
     } };
 
-    ghost invariant = { λ a. IsSound D.Disk a.disk a.journal a.settings.limit a.free a.slots a.stopped };
+    ghost invariant = { λ a. IsConsistent D.Disk a.disk a.journal a.settings.limit a.free a.slots a.stopped a.names };
 }
 
 impl<D: Disk> Archive<D> {
@@ -94,12 +95,13 @@ impl<D: Disk> Archive<D> {
     {
         let mut disk = disk;
         match open_parts(alloc, &mut disk) {
-            Ok((journal, free, slots)) => Ok(Archive {
+            Ok((opened, slots)) => Ok(Archive {
                 disk,
-                journal,
+                journal: opened.journal,
                 alloc,
                 settings,
-                free,
+                names: opened.names,
+                free: opened.free,
                 slots,
                 stopped: false,
             }),
@@ -143,13 +145,6 @@ impl<D: Disk> Archive<D> {
         })
     }
 
-    // Whether a live case or an open stream has the name.
-    fn is_taken(&self, name: &[u8]) -> bool
-        ensures { result ≡ is_taken (bare_of self.now) name.now }
-    {
-        has_entry(self.journal.entries(), name) || self.slots.has_name(name)
-    }
-
     /// Begins a stream with no bytes in a slot. Answers, in this order: `Stopped`; `BadSlot`; `SlotBusy`; `NameTaken`;
     /// `OutOfMemory`. A refusal changes nothing.
     pub fn begin(
@@ -181,10 +176,13 @@ impl<D: Disk> Archive<D> {
         if self.slots.is_open(slot) {
             return Err(ArchiveFault::SlotBusy);
         }
-        if self.is_taken(name.as_slice()) {
+        if self.names.contains(&name) {
             return Err(ArchiveFault::NameTaken);
         }
         let Ok(block) = Buffer::zeros(self.alloc) else {
+            return Err(ArchiveFault::OutOfMemory);
+        };
+        let Ok(()) = keep_name(&mut self.names, &name) else {
             return Err(ArchiveFault::OutOfMemory);
         };
         self.slots.put(
@@ -241,6 +239,7 @@ impl<D: Disk> Archive<D> {
             n,
         );
         if let Err(fault) = grown {
+            forget_name(&mut self.names, &stream.name);
             release(&mut self.free, stream.runs);
             self.stopped = end_streams(fault, &mut self.slots);
             return Err(fault);
@@ -271,12 +270,19 @@ impl<D: Disk> Archive<D> {
             &mut block,
         );
         if let Err(fault) = sealed {
+            forget_name(&mut self.names, &stream.name);
             release(&mut self.free, stream.runs);
             self.stopped = end_streams(fault, &mut self.slots);
             return Err(fault);
         }
         let entry = stream.into_entry();
-        match append_case(&mut self.journal, &mut self.disk, &mut self.free, entry) {
+        match append_case(
+            &mut self.journal,
+            &mut self.disk,
+            &mut self.names,
+            &mut self.free,
+            entry,
+        ) {
             Ok(seq) => Ok(seq),
             Err(fault) => {
                 self.stopped = end_streams(fault, &mut self.slots);
@@ -292,10 +298,11 @@ impl<D: Disk> Archive<D> {
         if self.stopped {
             return Err(ArchiveFault::Stopped);
         }
-        let Some((stream, _)) = self.slots.take(self.alloc, slot) else {
+        let Some((dropped, _)) = self.slots.take(self.alloc, slot) else {
             return Err(ArchiveFault::NoStream);
         };
-        release(&mut self.free, stream.runs);
+        forget_name(&mut self.names, &dropped.name);
+        release(&mut self.free, dropped.runs);
         Ok(())
     }
 
@@ -322,8 +329,9 @@ impl<D: Disk> Archive<D> {
         Err(fault)
     }
 
-    // Drops the cases of these numbers, which may be dropped. Answers, in this order: `JournalFull`; `OutOfMemory`; `Disk`.
-    fn drop_cases(&mut self, seqs: &[u32]) -> Result<(), ArchiveFault>
+    // Drops the cases of these numbers and names, which may be dropped. Answers, in this order: `JournalFull`; `OutOfMemory`; `Disk`.
+    fn drop_cases(&mut self, seqs: &[u32], names: &[Name]) -> Result<(), ArchiveFault>
+        requires names { map items_of names.now ≡ names_gone seqs.now self.old.journal.standing.cases }
         requires runs { self.old.stopped ≡ false }
         requires may { MayFollow self.old.journal.standing (Drop seqs.now) }
         ensures step { DropStep (bare_of self.old) seqs.now result (bare_of self.new) }
@@ -338,6 +346,7 @@ impl<D: Disk> Archive<D> {
     {
         release_listed(&mut self.free, self.journal.entries(), seqs);
         let Err(fault) = self.journal.append_drop(&mut self.disk, seqs) else {
+            forget_names(&mut self.names, names);
             return Ok(());
         };
         hold_listed(&mut self.free, self.journal.entries(), seqs);
@@ -361,7 +370,8 @@ impl<D: Disk> Archive<D> {
         if entry.pinned {
             return Err(ArchiveFault::Pinned);
         }
-        self.drop_cases(&[seq])
+        let name = copied(&entry.name);
+        self.drop_cases(&[seq], &[name])
     }
 
     /// Drops the cases that the rule drops under this policy, and answers what it says; where it drops none, nothing is
@@ -379,7 +389,11 @@ impl<D: Disk> Archive<D> {
         if decision.dropped.is_empty() {
             return Ok(decision);
         }
-        if let Err(fault) = self.drop_cases(decision.dropped.as_slice()) {
+        let seqs = decision.dropped.as_slice();
+        let Ok(names) = names_of(self.alloc, self.journal.entries(), seqs) else {
+            return Err(ArchiveFault::OutOfMemory);
+        };
+        if let Err(fault) = self.drop_cases(seqs, &names) {
             return Err(fault);
         }
         Ok(decision)
@@ -433,11 +447,4 @@ fn end_streams(fault: ArchiveFault, slots: &mut Slots) -> bool
         slots.close_all();
     }
     stopped
-}
-
-// Whether an entry has the name.
-fn has_entry(entries: &[Entry], name: &[u8]) -> bool
-    ensures { result ≡ list_any (λ (e : Entry). bytes_eq e.name.items name.now) entries.now }
-{
-    entries.iter().any(|entry| entry.name.as_slice() == name)
 }

@@ -20,15 +20,18 @@ ghost use Rattle.journal_layout.specs.Case.{case_of};
 ghost use Rattle.intake.specs.Closing.{Closes, ClosesBytes, ClosesPadded, Appends, GivesBack};
 ghost use Rattle.intake.specs.Sound.{IsFine};
 ghost use Rattle.intake.specs.StreamView.{parts_of};
+ghost use Rattle.intake.specs.Names.{GivesNameBack};
 ghost use Rattle.intake.specs.Untouched.{RefusalSpares};
 
 use crate::ArchiveFault;
 use crate::buffer::Buffer;
+use crate::names::forget_name;
 use crate::stream::Stream;
 use case_journal::{Journal, data_blocks_keep};
 use disk_model::Disk;
 use extents::{FreeMap, RunList};
-use journal_layout::{BLOCK, Entry, Shape};
+use journal_layout::{BLOCK, Entry, Name, Shape};
+use std::collections::BTreeSet;
 
 /// Where a data block begins on the disk, in bytes.
 fn block_start(shape: Shape, block: u32) -> u64
@@ -136,6 +139,7 @@ pub(crate) fn grow<D: Disk>(
     ensures untouched { RefusalSpares result disk.old disk.new }
     // Bytes that fill no block leave the disk as it is.
     ensures idle { OnOk result ((NeedsBlock stream.old.length n → ⊥) → disk.new ≡ disk.old) }
+    ensures name { stream.new.name ≡ stream.old.name }
     ensures balance { Balances free.old stream.old.runs free.new stream.new.runs }
     ensures bytes { IsTrue (D.is_honest disk.old) → OnOk result (GrowsBytes shape (parts_of block.old stream.old) n
         (parts_of block.new stream.new) (D.seen disk.old) (D.seen disk.new)) }
@@ -177,6 +181,7 @@ fn last_block<D: Disk>(
     requires held { AreHeld free.old stream.old.runs }
     ensures step { Closes (free_count free.old) (parts_of block.old stream.old) result
         (parts_of block.new stream.new) }
+    ensures name { stream.new.name ≡ stream.old.name }
     ensures balance { Balances free.old stream.old.runs free.new stream.new.runs }
     ensures bytes { IsTrue (D.is_honest disk.old) → OnOk result (ClosesBytes shape (parts_of block.old stream.old)
         stream.new.runs (D.seen disk.old) (D.seen disk.new)) }
@@ -218,6 +223,7 @@ pub(crate) fn seal<D: Disk>(
     requires held { AreHeld free.old stream.old.runs }
     ensures step { Closes (free_count free.old) (parts_of block.old stream.old) result
         (parts_of block.new stream.new) }
+    ensures name { stream.new.name ≡ stream.old.name }
     ensures balance { Balances free.old stream.old.runs free.new stream.new.runs }
     ensures bytes { IsTrue (D.is_honest disk.old) → OnOk result (ClosesBytes shape (parts_of block.old stream.old)
         stream.new.runs (D.seen disk.old) (D.seen disk.new)) }
@@ -256,10 +262,11 @@ fn make_stable<D: Disk>(disk: &mut D) -> Result<(), ArchiveFault>
     Ok(())
 }
 
-/// Appends the record of a case, which gets the next number. A refusal gives its blocks back.
+/// Appends the record of a case, which gets the next number. A refusal gives its blocks back and forgets its name.
 pub(crate) fn append_case<D: Disk>(
     journal: &mut Journal,
     disk: &mut D,
+    names: &mut BTreeSet<Name>,
     free: &mut FreeMap,
     entry: Entry,
 ) -> Result<u32, ArchiveFault>
@@ -269,6 +276,7 @@ pub(crate) fn append_case<D: Disk>(
     requires storable { MayStore journal.old.standing (case_of entry) }
     requires held { AreHeld free.old entry.runs }
     ensures step { Appends journal.old (case_of entry) result journal.new }
+    ensures names { GivesNameBack result entry.name.items names.old names.new }
     ensures free { GivesBack result free.old entry.runs free.new }
     ensures guards { Guards D.Disk disk.new journal.new }
     // What a crash at any moment leaves stands for the cases before or after, if the disk was met.
@@ -284,6 +292,7 @@ pub(crate) fn append_case<D: Disk>(
     match journal.append_store(disk, entry) {
         Ok(seq) => Ok(seq),
         Err((fault, entry)) => {
+            forget_name(names, &entry.name);
             release(free, entry.runs);
             Err(ArchiveFault::from(fault))
         }

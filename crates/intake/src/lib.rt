@@ -7,6 +7,7 @@ mod buffer;
 mod dropping;
 mod faults;
 mod laws;
+mod names;
 mod opening;
 mod reading;
 mod retiring;

@@ -1,10 +1,8 @@
 // The eight slots for streams.
 ghost use Rattle.std.specs.Prelude.{◌≡◌, ◌<◌, ◌≤◌, ◌≢◌, false, ◌↔◌, None, Some, IfOk, IsTrue, IsSome, replicate, length, map, drop, option_map, option_copied, slice_set};
-ghost use Rattle.std.specs.List.{list_any, All};
+ghost use Rattle.std.specs.List.{All};
 ghost use Rattle.intake.specs.declared.slots.Slot.{Slot};
 ghost use Rattle.std.specs.Borrow.{sem};
-ghost use Rattle.intake.specs.Step.{has_name};
-ghost use Rattle.intake.specs.Parts.{bare_stream};
 ghost use Rattle.intake.specs.Slots.{stream_at, closed};
 ghost use Rattle.intake.specs.Room.{IsFreeFrom};
 ghost use Rattle.intake.specs.StreamView.{parts_of, parts_in, taken_parts};
@@ -71,13 +69,6 @@ impl Slots {
     {
         let slot = &self.slots[usize::from(slot)];
         slot.stream.is_some()
-    }
-
-    /// Whether a stream that is open has the name.
-    pub(crate) fn has_name(&self, name: &[u8]) -> bool
-        ensures { result ≡ list_any (has_name name.now) (map (option_map bare_stream) self.now) }
-    {
-        any_named(&self.slots, name)
     }
 
     /// Takes the stream out of a slot, with its block, if there is one.
@@ -172,21 +163,5 @@ fn close_each(slots: &mut [Slot])
 {
     for place in 0..slots.len() {
         slots[place].stream = None;
-    }
-}
-
-// Whether a stream that is open has the name.
-fn any_named(slots: &[Slot], name: &[u8]) -> bool
-    ensures { result ≡ list_any (λ s. has_name name.now (option_map bare_stream (parts_in s))) slots.now }
-{
-    slots.iter().any(|slot| is_named(slot, name))
-}
-
-fn is_named(slot: &Slot, name: &[u8]) -> bool
-    ensures { result ≡ has_name name.now (option_map bare_stream (parts_in slot.now)) }
-{
-    match &slot.stream {
-        Some(stream) => stream.name.as_slice() == name,
-        None => false,
     }
 }

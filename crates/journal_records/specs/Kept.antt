@@ -1,7 +1,9 @@
 -- What the working state of a reading says, and what holds of it.
-use Rattle.std.specs.Prelude.{◌≡◌, ℕ, ◌^◌, ◌≤◌, List, length, Option, None, Result, Ok, Err}
+use Rattle.std.specs.Prelude.{◌≡◌, ℕ, ◌^◌, ◌≤◌, Bool, List, length, Option, None, Result, Ok, Err}
 use Rattle.std.specs.List.{count_by}
 use Rattle.std.specs.Str.{bytes_eq}
+use Rattle.std.specs.BTreeSet.{BTreeSet}
+use Rattle.arrayvec.specs.ArrayVec.{ArrayVec}
 use Rattle.extents.specs.FreeSet.{one_if}
 use Rattle.journal_layout.specs.declared.faults.OpenFault.{OpenFault}
 use Rattle.journal_layout.specs.declared.faults.OpenFault.TheVariants.{OutOfMemory}
@@ -22,13 +24,22 @@ said_by c = record { version = c.version; cases = cases_of c.live.entries; next 
 abbrev pub bearers : List Case → List ℕ → ℕ
 bearers cases name = count_by (λ (c : Case). bytes_eq c.name name) cases
 
+-- the set has a name exactly where one of the cases has it, and no two of them have one name
+abbrev pub AreNames : List Case → BTreeSet (ArrayVec ℕ) → Type 0
+AreNames cases names = (name : List ℕ) → bearers cases name ≡ one_if (has_name names name)
+
+-- These are the flags of so many data blocks, each of which is either one of the cases', once, or free.
+pub record IsSpareMap (blocks : ℕ) (cases : List Case) (flags : List Bool) : Type 0 where
+  pub size : length flags ≡ blocks
+  pub accounts : Accounts (used_blocks cases) flags
+
 -- The entries stand under their numbers, all below the next one. The names are those of the entries, each of one entry,
 -- and each block is either one of an entry's, or free.
 pub record AreKept (c : Cases) : Type 0 where
   pub numbered : AreNumbered 0 c.next c.live.entries
   pub some : 1 ≤ c.next
   pub bound : c.next ≤ 2 ^ 32
-  pub names : (name : List ℕ) → bearers (cases_of c.live.entries) name ≡ one_if (has_name c.names name)
+  pub names : AreNames (cases_of c.live.entries) c.names
   pub accounts : Accounts (used_blocks (cases_of c.live.entries)) c.free
 
 -- The state says this, on so many data blocks.

@@ -34,6 +34,7 @@ pub record IsThrough (limit version : ℕ) (bytes : List ℕ) (used : ℕ) (c : 
   pub closed : slice_index bytes used ≢ 165
   pub kept : AreKept c
   pub room : used + 1 ≤ length bytes
+  pub free : length c.free ≡ limit
 
 abbrev pub ReadsAll : ℕ → ℕ → ℕ → List ℕ → Result ℕ OpenFault → Cases → Type 0
 ReadsAll limit version at bytes (Ok used) c = IsThrough limit version bytes used c

@@ -1,21 +1,28 @@
 // The records of a half, one after another.
-ghost use Rattle.std.specs.Prelude.{◌≡◌, ◌+◌, ◌^◌, ◌<◌, ◌≤◌, length, IfOk, IfErr};
+ghost use Rattle.std.specs.Prelude.{◌≡◌, ◌+◌, ◌^◌, ◌<◌, ◌≤◌, length, map, IfOk, IfErr};
 ghost use Rattle.std.specs.Map.{values_of};
+ghost use Rattle.journal_layout.specs.Case.{case_of};
 ghost use Rattle.journal_layout.specs.Folding.{nothing_yet};
-ghost use Rattle.journal_records.specs.Kept.{Says};
+ghost use Rattle.journal_records.specs.Kept.{Says, AreNames, IsSpareMap};
 ghost use Rattle.journal_records.specs.Said.{said_of, TellsFaulty, ReadsAll};
 ghost use Rattle.journal_layout.specs.Stands.{AreRead};
 
 use crate::cases::Cases;
 use crate::{GATE_OPEN, Live};
-use journal_layout::{Entry, OpenFault};
+use extents::FreeMap;
+use journal_layout::{Entry, Name, OpenFault};
 use std::alloc::{AllocError, Global};
+use std::collections::BTreeSet;
 
 /// What the records of a half say.
 #[derive(Drop)]
 pub struct Replayed {
     /// The live cases, in the order of their numbers.
     pub entries: Vec<Entry>,
+    /// The names of the live cases.
+    pub names: BTreeSet<Name>,
+    /// The data blocks that no live case has.
+    pub free: FreeMap,
     /// The number of the next case, 1 to 2^32.
     pub next: u64,
     /// The bytes of the records. The gate behind them is not open.
@@ -60,6 +67,8 @@ pub fn replay(
     requires blocks { data_blocks ≤ 16777216 }
     ensures read { IfOk result (λ r. AreRead data_blocks bytes.now (nothing_yet version) (said_of version r) r.size) }
     ensures fault { IfErr result (TellsFaulty data_blocks version at bytes.now) }
+    ensures names { IfOk result (λ r. AreNames (map case_of r.entries.items) r.names) }
+    ensures free { IfOk result (λ r. IsSpareMap data_blocks (map case_of r.entries.items) r.free) }
     ensures bounds { IfOk result (λ r. (1 ≤ r.next) × (r.next ≤ 2 ^ 32) × (r.size + 1 ≤ length bytes.now)) }
 {
     let mut cases = Cases::new(alloc, version, data_blocks)?;
@@ -67,8 +76,8 @@ pub fn replay(
     let Cases {
         version: _,
         live,
-        names: _,
-        free: _,
+        names,
+        free,
         next,
     } = cases;
     let Ok(entries) = entries_of(alloc, live) else {
@@ -76,6 +85,8 @@ pub fn replay(
     };
     Ok(Replayed {
         entries,
+        names,
+        free,
         next,
         size: size as u64,
     })

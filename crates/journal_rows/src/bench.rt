@@ -165,7 +165,10 @@ impl<D: Disk + Drop> Bench<D> {
     pub fn open(alloc: Global, disk: D) -> Result<Bench<D>, (OpenFault, D)> {
         let mut disk = disk;
         match Journal::open(alloc, &mut disk) {
-            Ok(journal) => Ok(Bench { disk, journal }),
+            Ok(opened) => Ok(Bench {
+                disk,
+                journal: opened.journal,
+            }),
             Err(fault) => Err((fault, disk)),
         }
     }

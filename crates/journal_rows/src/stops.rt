@@ -39,10 +39,10 @@ fn check_disk(
     before: usize,
     after: usize,
 ) -> Result<(), Fail> {
-    let Ok(journal) = Journal::open(alloc, disk) else {
+    let Ok(found) = Journal::open(alloc, disk) else {
         return Err(Fail::from("the journal was not opened again"));
     };
-    if !course.is_shown(&journal, before) && !course.is_shown(&journal, after) {
+    if !course.is_shown(&found.journal, before) && !course.is_shown(&found.journal, after) {
         return Err(Fail::from("the journal shows neither state"));
     }
     Ok(())

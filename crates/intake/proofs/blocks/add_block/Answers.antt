@@ -1,7 +1,8 @@
+use Rattle.extents.specs.FreeSet.{free_count}
 use Rattle.std.proofs.Common.{◌∙◌, ap, sym, arith, subst, List, ℕ, ◌++◌}
 use Rattle.intake.specs.Balance.{Balances}
 use Rattle.intake.proofs.CountLemmas.{none_free, some_free, taken_in_use, returned, taken_one, one_block, first_free}
-use Rattle.intake.proofs.BlockLemmas.{on_ok, block_written}
+use Rattle.intake.proofs.BlockLemmas.{block_reply, on_ok, block_written}
 use Rattle.intake.proofs.blocks.add_block.Goals as goal
 
 pub returns-in_default-clause-reply : goal.returns-in_default-clause-reply
@@ -36,3 +37,6 @@ returns-clause-added g c honest =
       written = block_written c.args.shape c.in-Some.run'.start _ _ c.args.bytes.now
           (let w = t.within in let m = c.requires.map in let s = t.some in omega (arith, long)) c.requires.bytes written;
     })
+
+pub returns-clause-reply : goal.returns-clause-reply
+returns-clause-reply g c = block_reply (free_count c.args.free.now) c.write_data.result (some_free c.args.free.now c.take.new.self c.in-Some.run' c.in-Some.ensures) c.write_data.ensures.reply

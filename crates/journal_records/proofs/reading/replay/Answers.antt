@@ -1,11 +1,13 @@
 use Rattle.std.proofs.Common.{◌≡◌, ℕ, refl, length, map, sym, ap, ◌∙◌, subst}
-use Rattle.journal_layout.specs.Case.{case_of}
-use Rattle.journal_layout.specs.Folding.{Folded, nothing_yet}
+use Rattle.std.proofs.Common.{List, Bool}
+use Rattle.journal_layout.specs.Case.{Case, case_of}
+use Rattle.journal_layout.specs.Folding.{Folded, nothing_yet, used_blocks}
 use Rattle.journal_layout.specs.Stands.{AreRead}
-use Rattle.journal_records.specs.Kept.{said_by}
+use Rattle.journal_records.specs.Kept.{said_by, AreNames}
 use Rattle.journal_records.proofs.LiveLemmas.{cases_values}
 use Rattle.journal_records.proofs.SaysLemmas.{folded_same}
 use Rattle.journal_records.specs.Live.{cases_of}
+use Rattle.journal_records.specs.Taken.{Accounts}
 use Rattle.journal_records.proofs.AlongLemmas.{read_all}
 use Rattle.journal_records.proofs.reading.replay.Goals as goal
 
@@ -22,3 +24,14 @@ returns-clause-read c =
     subst (λ (n : ℕ). AreRead n c.args.bytes.now (nothing_yet v) said c.in_ok-size.size) c.in_ok-cases.ensures.says.size
     (subst (λ (w : ℕ). AreRead (length c.in_ok-cases.cases.free) c.args.bytes.now (nothing_yet w) said c.in_ok-size.size) made
     (read_all (length c.in_ok-cases.cases.free) c.in_ok-cases.cases.version c.args.bytes.now (said_by cases) said c.in_ok-size.size through.along through.closed same))
+
+pub returns-clause-names : goal.returns-clause-names
+returns-clause-names c = subst (λ (cs : List Case). AreNames cs c.read_records.new.cases.names) (cases_values c.read_records.new.cases.live.entries ∙ ap (map case_of) (sym c.in-Ok.ensures)) c.in_ok-size.ensures.kept.names
+
+pub returns-clause-free : goal.returns-clause-free
+returns-clause-free c =
+    let cases = c.read_records.new.cases in
+    record {
+      size = c.in_ok-size.ensures.free ∙ c.in_ok-cases.ensures.says.size;
+      accounts = subst (λ (cs : List Case). Accounts (used_blocks cs) cases.free) (cases_values cases.live.entries ∙ ap (map case_of) (sym c.in-Ok.ensures)) c.in_ok-size.ensures.kept.accounts;
+    }

@@ -1,3 +1,4 @@
+use Rattle.case_journal.specs.Opening.{journal_of}
 use Rattle.case_journal.specs.Viewing.{ShowsOpening}
 use Rattle.case_journal.proofs.OpenLemmas.{some_view, view_after, view_before, finds_by, keeps_by, live_by}
 use Rattle.case_journal.proofs.journal.Journal.open.Goals as goal
@@ -8,7 +9,7 @@ returns-in_default-clause-gives g c =
     let b = some_view g.D.Disk c.args.disk.now (g.met.D.Disk.whole c.args.disk.now) in
     record { shown = b.0; view = b.1; gives = tt }
 
-shows : (g : given.Over) (c : goal.After-read_journal g) → ShowsOpening g.D.Disk c.args.disk.now c.read_journal.result
+shows : (g : given.Over) (c : goal.After-read_journal g) → ShowsOpening g.D.Disk c.args.disk.now (journal_of c.read_journal.result)
 shows g c =
     let b = some_view g.D.Disk c.args.disk.now (g.met.D.Disk.whole c.args.disk.now) in
     let quiet = c.settle.ensures.quiet in
@@ -19,7 +20,7 @@ pub returns-clause-gives : goal.returns-clause-gives
 returns-clause-gives g c = shows g c
 
 pub returns-clause-found : goal.returns-clause-found
-returns-clause-found g c s honest stands = finds_by g.D.Disk c.args.disk.now c.read_journal.result s honest (shows g c) stands
+returns-clause-found g c s honest stands = finds_by g.D.Disk c.args.disk.now (journal_of c.read_journal.result) s honest (shows g c) stands
 
 pub returns-clause-keeps : goal.returns-clause-keeps
 returns-clause-keeps g c =

@@ -1,28 +1,69 @@
-use Rattle.std.proofs.Common.{arith, refl, rules}
-use Rattle.intake.specs.Parts.{bare_of}
+use Rattle.std.proofs.Common.{◌≡◌, length, map}
+use Rattle.std.specs.Prelude.{option_map}
+use Rattle.std.proofs.lemmas.List.{length-map}
+use Rattle.intake.specs.Parts.{bare_stream}
+use Rattle.std.proofs.Common.{arith, refl, rules, sym, ap, ◌∙◌}
+use Rattle.extents.specs.FreeSet.{one_if}
+use Rattle.intake.proofs.NameLemmas.{taken_is, taken_begun}
 use Rattle.intake.specs.StayLaws.{stays_still}
 use Rattle.intake.proofs.SoundLemmas.{fine_new}
-use Rattle.intake.proofs.StepLemmas.{free_by, not_open, sound_begun, begin_step, begin_bytes}
+use Rattle.intake.proofs.StepLemmas.{none_there, not_open, sound_begun, begin_step, begin_bytes}
 use Rattle.intake.proofs.archive.Archive.begin.Goals as goal
 
-pub invariant_of-self : goal.invariant_of-self
-invariant_of-self g c =
-    sound_begun g.D.Disk c.self.inside.disk c.self.inside.journal c.self.inside.settings.limit c.self.inside.free c.self.inside.slots c.put.new.self c.args.slot _ c.self.inside.stopped
-    c.self.invariant c.if-self.false (omega arith) (not_open _ _ c.is_open.ensures c.if-is_open.false)
-    (rw (← c.self.view_is) at (free_by (bare_of c.args.self.now) _ c.args.name.items _ c.is_taken.ensures c.if-is_taken.false c.as_slice.ensures.value)) c.put.ensures
-    (fine_new c.self.inside.settings.limit _ c.requires.name c.ranges.pid.fits c.ranges.signal.fits c.ranges.time.fits refl c.new.ensures c.in-Ok.ensures)
-    c.new.ensures
+pub invariant_of-self-2 : goal.invariant_of-self-2
+invariant_of-self-2 g c =
+    record {
+      sound =
+          sound_begun g.D.Disk c.self.inside.disk c.self.inside.journal c.self.inside.settings.limit c.self.inside.free c.self.inside.slots c.put.new.self c.args.slot _ c.self.inside.stopped
+          c.self.invariant.sound c.if-self.false (omega arith) (not_open _ _ c.is_open.ensures c.if-is_open.false)
+          (sym (taken_is (record { disk = c.self.inside.disk; journal = c.self.inside.journal; limit = c.self.inside.settings.limit; streams = c.self.inside.slots; stopped = c.self.inside.stopped }) c.self.inside.names c.args.name.items (c.self.invariant.taken c.if-self.false)) ∙ sym c.contains.ensures ∙ c.if-contains.false) c.put.ensures
+          (fine_new c.self.inside.settings.limit _ c.requires.name c.ranges.pid.fits c.ranges.signal.fits c.ranges.time.fits refl c.new.ensures c.in-Ok.ensures)
+          c.new.ensures;
+      taken = λ on. taken_begun c.self.inside.journal.standing.cases c.self.inside.slots c.put.new.self c.args.slot _ c.self.inside.names c.keep_name.new.names (c.self.invariant.taken on) (let e = c.self.invariant.sound.slots in omega arith) (not_open _ _ c.is_open.ensures c.if-is_open.false) c.put.ensures
+          (sym c.contains.ensures ∙ c.if-contains.false) c.in-Ok-keep_name.ensures.names;
+    }
 
 pub returns : goal.returns
 returns g c = record {
   step = rw (← c.self.view_is)
       (begin_step g.D.Disk c.self.inside.disk c.self.inside.journal c.self.inside.settings.limit c.self.inside.free c.self.inside.slots c.put.new.self c.args.slot _ c.self.inside.stopped
-      c.self.invariant c.if-self.false (omega arith) (not_open _ _ c.is_open.ensures c.if-is_open.false)
-      (rw (← c.self.view_is) at (free_by (bare_of c.args.self.now) _ c.args.name.items _ c.is_taken.ensures c.if-is_taken.false c.as_slice.ensures.value)) c.put.ensures tt);
+      c.self.invariant.sound c.if-self.false (omega arith) (not_open _ _ c.is_open.ensures c.if-is_open.false)
+      (sym (taken_is (record { disk = c.self.inside.disk; journal = c.self.inside.journal; limit = c.self.inside.settings.limit; streams = c.self.inside.slots; stopped = c.self.inside.stopped }) c.self.inside.names c.args.name.items (c.self.invariant.taken c.if-self.false)) ∙ sym c.contains.ensures ∙ c.if-contains.false) c.put.ensures tt);
   bytes = rw (← c.self.view_is)
       (begin_bytes g.D.Disk c.self.inside.disk c.self.inside.journal c.self.inside.settings.limit c.self.inside.free c.self.inside.slots c.put.new.self c.args.slot _ c.self.inside.stopped
-      c.self.invariant c.if-self.false (omega arith) (not_open _ _ c.is_open.ensures c.if-is_open.false)
-      (rw (← c.self.view_is) at (free_by (bare_of c.args.self.now) _ c.args.name.items _ c.is_taken.ensures c.if-is_taken.false c.as_slice.ensures.value)) c.put.ensures tt refl c.new.ensures c.in-Ok.ensures);
+      c.self.invariant.sound c.if-self.false (omega arith) (not_open _ _ c.is_open.ensures c.if-is_open.false)
+      (sym (taken_is (record { disk = c.self.inside.disk; journal = c.self.inside.journal; limit = c.self.inside.settings.limit; streams = c.self.inside.slots; stopped = c.self.inside.stopped }) c.self.inside.names c.args.name.items (c.self.invariant.taken c.if-self.false)) ∙ sym c.contains.ensures ∙ c.if-contains.false) c.put.ensures tt refl c.new.ensures c.in-Ok.ensures);
+  disk = search rules;
+  stays = stays_still g.D.Disk c.args.self.now _ (search rules) (search rules);
+}
+
+pub invariant_of-self : goal.invariant_of-self
+invariant_of-self g c =
+    record {
+      sound = c.self.invariant.sound;
+      taken = λ on q. c.self.invariant.taken on q ∙ ap one_if (sym (c.in_default-keep_name.ensures.names q));
+    }
+
+pub returns-then-contains : goal.returns-then-contains
+returns-then-contains g c = record {
+  step = rw (← c.self.view_is) (c.if-self.false, (let e : length (map (option_map bare_stream) c.self.inside.slots) ≡ length c.self.inside.slots = simp length-map in let f = c.self.invariant.sound.slots in omega arith), none_there c.self.inside.slots c.args.slot (not_open _ _ c.is_open.ensures c.if-is_open.false), (sym (taken_is (record { disk = c.self.inside.disk; journal = c.self.inside.journal; limit = c.self.inside.settings.limit; streams = c.self.inside.slots; stopped = c.self.inside.stopped }) c.self.inside.names c.args.name.items (c.self.invariant.taken c.if-self.false)) ∙ sym c.contains.ensures ∙ c.if-contains.true), refl);
+  bytes = search rules;
+  disk = search rules;
+  stays = stays_still g.D.Disk c.args.self.now _ (search rules) (search rules);
+}
+
+pub returns-in_default : goal.returns-in_default
+returns-in_default g c = record {
+  step = rw (← c.self.view_is) ((c.if-self.false, (let e : length (map (option_map bare_stream) c.self.inside.slots) ≡ length c.self.inside.slots = simp length-map in let f = c.self.invariant.sound.slots in omega arith), none_there c.self.inside.slots c.args.slot (not_open _ _ c.is_open.ensures c.if-is_open.false), (sym (taken_is (record { disk = c.self.inside.disk; journal = c.self.inside.journal; limit = c.self.inside.settings.limit; streams = c.self.inside.slots; stopped = c.self.inside.stopped }) c.self.inside.names c.args.name.items (c.self.invariant.taken c.if-self.false)) ∙ sym c.contains.ensures ∙ c.if-contains.false)), refl);
+  bytes = search rules;
+  disk = search rules;
+  stays = stays_still g.D.Disk c.args.self.now _ (search rules) (search rules);
+}
+
+pub returns-in_default-keep_name : goal.returns-in_default-keep_name
+returns-in_default-keep_name g c = record {
+  step = rw (← c.self.view_is) ((c.if-self.false, (let e : length (map (option_map bare_stream) c.self.inside.slots) ≡ length c.self.inside.slots = simp length-map in let f = c.self.invariant.sound.slots in omega arith), none_there c.self.inside.slots c.args.slot (not_open _ _ c.is_open.ensures c.if-is_open.false), (sym (taken_is (record { disk = c.self.inside.disk; journal = c.self.inside.journal; limit = c.self.inside.settings.limit; streams = c.self.inside.slots; stopped = c.self.inside.stopped }) c.self.inside.names c.args.name.items (c.self.invariant.taken c.if-self.false)) ∙ sym c.contains.ensures ∙ c.if-contains.false)), refl);
+  bytes = search rules;
   disk = search rules;
   stays = stays_still g.D.Disk c.args.self.now _ (search rules) (search rules);
 }

@@ -1,3 +1,4 @@
+use Rattle.intake.proofs.NameLemmas.{taken_still}
 use Rattle.std.proofs.Common.{rules, ◌≡◌, ◌∙◌, ◌≤◌, ap, sym, refl, subst, arith, List, ℕ, Some, Err, Vec, Global}
 use Rattle.std.specs.Prelude.{option_map}
 use Rattle.journal_layout.specs.Case.{case_of}
@@ -14,20 +15,28 @@ use Rattle.intake.proofs.archive.Archive.image.Goals as goal
 
 pub read_image-requires-clause-lies : goal.read_image-requires-clause-lies
 read_image-requires-clause-lies g c =
-    let running = c.self.invariant.runs c.if-self.false in
+    let running = c.self.invariant.sound.runs c.if-self.false in
     let all : case_blocks c.self.inside.journal.standing.cases ≤ c.self.inside.journal.standing.shape.data_blocks = (let t = running.total in omega (arith, t)) in
     subst (λ (s : Shape). LiesIn s.data_blocks c.in-Some.stored.now.runs c.in-Some.stored.now.length) (sym c.shape-shape.ensures)
     (case_lies c.self.inside.journal.standing.shape.data_blocks c.self.inside.journal.standing.cases c.self.inside.journal.standing.next c.args.seq (case_of c.in-Some.stored.now) running.cases all c.in-Some.ensures)
 
 pub invariant_of-self : goal.invariant_of-self
 invariant_of-self g c =
-    sound_read g.D.Disk c.self.inside.disk c.read_image.new.disk c.self.inside.journal c.self.inside.settings.limit c.self.inside.free c.self.inside.slots c.self.inside.stopped
-    c.self.invariant c.if-self.false c.read_image.ensures.quiet
+    record {
+      sound =
+          sound_read g.D.Disk c.self.inside.disk c.read_image.new.disk c.self.inside.journal c.self.inside.settings.limit c.self.inside.free c.self.inside.slots c.self.inside.stopped
+          c.self.invariant.sound c.if-self.false c.read_image.ensures.quiet;
+      taken = c.self.invariant.taken;
+    }
 
 pub invariant_of-self-in-Err : goal.invariant_of-self-in-Err
 invariant_of-self-in-Err g c =
-    sound_unread g.D.Disk c.self.inside.disk c.read_image.new.disk c.self.inside.journal c.self.inside.settings.limit c.self.inside.free c.self.inside.slots c.end_streams-self-inside.new.slots c.self.inside.stopped c.end_streams-self-inside.result
-    c.in-Err.fault c.self.invariant c.if-self.false c.read_image.ensures.quiet c.in-Err.ensures.reply c.end_streams-self-inside.ensures
+    record {
+      sound =
+          sound_unread g.D.Disk c.self.inside.disk c.read_image.new.disk c.self.inside.journal c.self.inside.settings.limit c.self.inside.free c.self.inside.slots c.end_streams-self-inside.new.slots c.self.inside.stopped c.end_streams-self-inside.result
+          c.in-Err.fault c.self.invariant.sound c.if-self.false c.read_image.ensures.quiet c.in-Err.ensures.reply c.end_streams-self-inside.ensures;
+      taken = taken_still c.in-Err.fault c.self.inside.journal.standing.cases c.self.inside.slots c.end_streams-self-inside.new.slots c.end_streams-self-inside.result c.self.inside.names c.end_streams-self-inside.ensures (c.self.invariant.taken c.if-self.false);
+    }
 
 pub returns-in_default : goal.returns-in_default
 returns-in_default g c = record {
@@ -70,7 +79,7 @@ returns-in-Ok g c = record {
     size = search rules;
     crash = λ honest.
         let real = rw (← c.self.view_is) at honest in
-        let running = c.self.invariant.runs c.if-self.false in
+        let running = c.self.invariant.sound.runs c.if-self.false in
         rw (← c.self.view_is) (read_moments g.D.Disk c.self.inside.disk c.read_image.new.disk c.self.inside.journal running.keeps running.journal real c.read_image.ensures.quiet);
     durable = search rules;
   };
@@ -100,7 +109,7 @@ returns-in-Err g c = record {
     size = search rules;
     crash = λ honest.
         let real = rw (← c.self.view_is) at honest in
-        let running = c.self.invariant.runs c.if-self.false in
+        let running = c.self.invariant.sound.runs c.if-self.false in
         rw (← c.self.view_is) (read_moments g.D.Disk c.self.inside.disk c.read_image.new.disk c.self.inside.journal running.keeps running.journal real c.read_image.ensures.quiet);
     durable = search rules;
   };

@@ -5,4 +5,4 @@ pub returns-clause-stands : goal.returns-clause-stands
 returns-clause-stands g c on honest b may =
     let real = rw (← c.self.view_is) at honest in
     let left = rw (← c.self.view_is) at may in
-    rw (← c.self.view_is) (stands_now g.D.Disk c.self.inside.disk c.self.inside.journal (c.self.invariant.runs on).keeps (c.self.invariant.runs on).journal real b left)
+    rw (← c.self.view_is) (stands_now g.D.Disk c.self.inside.disk c.self.inside.journal (c.self.invariant.sound.runs on).keeps (c.self.invariant.sound.runs on).journal real b left)

@@ -12,8 +12,8 @@ returns-in-Ok g c = record {
   found_again = search rules;
   state = search rules;
   settled = λ honest b may.
-      let running = (c.in-Ok.ensures.sound c.args.settings.limit).runs refl in
-      stands_now g.D.Disk c.open_parts.new.disk c.in-Ok.journal running.keeps running.journal (c.open_parts.ensures.honesty ∙ honest) b may;
+      let running = (c.in-Ok.ensures.sound c.args.settings.limit).sound.runs refl in
+      stands_now g.D.Disk c.open_parts.new.disk c.in-Ok.opened.journal running.keeps running.journal (c.open_parts.ensures.honesty ∙ honest) b may;
   any_moment = search rules;
   seen = search rules;
   cause = search rules;

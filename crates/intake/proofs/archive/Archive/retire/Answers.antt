@@ -1,3 +1,7 @@
+use Rattle.std.proofs.Common.{map}
+use Rattle.journal_layout.specs.Soundness.{Rise}
+use Rattle.intake.specs.Names.{items_of, names_gone}
+use Rattle.intake.proofs.RetireLemmas.{retire_rises}
 use Rattle.std.proofs.Common.{◌≡◌, ◌≢◌, ◌∙◌, inl, inr, ap, sym, subst, refl, List, [], ℕ, Result, Ok, Err, rules}
 use Rattle.journal_layout.specs.Case.{Case}
 use Rattle.journal_layout.specs.Record.{Drop}
@@ -20,21 +24,32 @@ use Rattle.intake.proofs.archive.Archive.retire.Goals as goal
 
 pub decide_for-requires : goal.decide_for-requires
 decide_for-requires g c =
-    entries_rise c.self.inside.journal.standing.shape.data_blocks c.entries.result.now c.self.inside.journal.standing.cases c.self.inside.journal.standing.next c.entries.ensures (c.self.invariant.runs c.if-self.false).cases
+    entries_rise c.self.inside.journal.standing.shape.data_blocks c.entries.result.now c.self.inside.journal.standing.cases c.self.inside.journal.standing.next c.entries.ensures (c.self.invariant.sound.runs c.if-self.false).cases
 
 pub drop_cases-requires-clause-may : goal.drop_cases-requires-clause-may
 drop_cases-requires-clause-may g c =
     let some : c.in-Ok.decision.dropped.items ≢ [] = search rules in
     rw (← c.self.view_is)
-    (subst (λ (xs : List ℕ). MayFollow c.self.inside.journal.standing (Drop xs)) (sym c.as_slice.ensures.value)
-    (retire_may c.self.inside.journal c.args.policy.now c.in-Ok.decision.dropped.items c.in-Ok.decision.unmet (c.self.invariant.runs c.if-self.false).cases
+    (subst (λ (xs : List ℕ). MayFollow c.self.inside.journal.standing (Drop xs)) (sym c.as_slice-seqs.ensures.value)
+    (retire_may c.self.inside.journal c.args.policy.now c.in-Ok.decision.dropped.items c.in-Ok.decision.unmet (c.self.invariant.sound.runs c.if-self.false).cases
     (decision_of c.args.policy.now c.entries.result.now c.self.inside.journal.standing.cases c.in-Ok.decision.dropped.items c.in-Ok.decision.unmet c.entries.ensures c.in-Ok.ensures.decision) c.in-Ok.ensures.rising (some_dropped c.in-Ok.decision.dropped.items some)))
+
+pub names_of-requires : goal.names_of-requires
+names_of-requires g c =
+    let some : c.in-Ok.decision.dropped.items ≢ [] = search rules in
+    subst (Rise 0) (sym c.as_slice-seqs.ensures.value)
+    (retire_rises c.self.inside.journal c.args.policy.now c.in-Ok.decision.dropped.items c.in-Ok.decision.unmet (c.self.invariant.sound.runs c.if-self.false).cases
+    (decision_of c.args.policy.now c.entries.result.now c.self.inside.journal.standing.cases c.in-Ok.decision.dropped.items c.in-Ok.decision.unmet c.entries.ensures c.in-Ok.ensures.decision) c.in-Ok.ensures.rising (some_dropped c.in-Ok.decision.dropped.items some))
+
+pub drop_cases-requires-clause-names : goal.drop_cases-requires-clause-names
+drop_cases-requires-clause-names g c =
+    rw (← c.self.view_is) (ap (map items_of) c.deref.ensures.value ∙ c.in-Ok-names_of.ensures ∙ ap (names_gone c.as_slice-seqs.result.now) c.entries-2.ensures)
 
 pub returns-then-self : goal.returns-then-self
 returns-then-self g c = record {
   step = search rules;
   bytes = search rules;
-  changes = changes_none g.D.Disk Decision c.self.inside.disk c.self.inside.journal c.self.inside.settings.limit c.self.inside.free c.self.inside.slots c.self.inside.stopped _ _ _ c.self.invariant c.self.view_is (λ fault. cc);
+  changes = changes_none g.D.Disk Decision c.self.inside.disk c.self.inside.journal c.self.inside.settings.limit c.self.inside.free c.self.inside.slots c.self.inside.stopped _ _ _ c.self.invariant.sound c.self.view_is (λ fault. cc);
   full = λ honest e. absurd (cc);
   untouched = search rules;
 }
@@ -43,7 +58,7 @@ pub returns-in_default : goal.returns-in_default
 returns-in_default g c = record {
   step = search rules;
   bytes = search rules;
-  changes = changes_none g.D.Disk Decision c.self.inside.disk c.self.inside.journal c.self.inside.settings.limit c.self.inside.free c.self.inside.slots c.self.inside.stopped _ _ _ c.self.invariant c.self.view_is (λ fault. cc);
+  changes = changes_none g.D.Disk Decision c.self.inside.disk c.self.inside.journal c.self.inside.settings.limit c.self.inside.free c.self.inside.slots c.self.inside.stopped _ _ _ c.self.invariant.sound c.self.view_is (λ fault. cc);
   full = λ honest e. absurd (cc);
   untouched = search rules;
 }
@@ -56,7 +71,7 @@ returns-then-is_empty g c = record {
       let none = none_dropped c.in-Ok.decision.dropped.items (search rules) in
       rw none (ap (λ (x : List (List ℕ)). record (contents_of g.D.Disk.seen c.args.self.now) { images = x })
       (sym (all_stay (λ (x : Case). image_in c.args.self.now.journal.standing.shape (g.D.Disk.seen c.args.self.now.disk) x.blocks x.len) c.args.self.now.journal.standing.cases)));
-  changes = changes_none g.D.Disk Decision c.self.inside.disk c.self.inside.journal c.self.inside.settings.limit c.self.inside.free c.self.inside.slots c.self.inside.stopped _ _ _ c.self.invariant c.self.view_is (λ fault. fault);
+  changes = changes_none g.D.Disk Decision c.self.inside.disk c.self.inside.journal c.self.inside.settings.limit c.self.inside.free c.self.inside.slots c.self.inside.stopped _ _ _ c.self.invariant.sound c.self.view_is (λ fault. fault);
   full = λ honest e. absurd (cc);
   untouched = λ none. search rules;
 }
@@ -66,7 +81,7 @@ returns-in-Err g c = record {
   step = let some : c.in-Ok.decision.dropped.items ≢ [] = search rules in
       retire_err (bare_of c.args.self.now) c.args.policy.now c.in-Ok.decision.dropped.items c.in-Ok.decision.unmet c.in-Err.fault (bare_of c.drop_cases.new.self)
       (rw (← c.self.view_is) (c.if-self.false, (decision_of c.args.policy.now c.entries.result.now c.self.inside.journal.standing.cases c.in-Ok.decision.dropped.items c.in-Ok.decision.unmet c.entries.ensures c.in-Ok.ensures.decision), some))
-      (subst (λ (xs : List ℕ). DropStep (bare_of c.args.self.now) xs (Err c.in-Err.fault) (bare_of c.drop_cases.new.self)) c.as_slice.ensures.value c.in-Err.ensures.step);
+      (subst (λ (xs : List ℕ). DropStep (bare_of c.args.self.now) xs (Err c.in-Err.fault) (bare_of c.drop_cases.new.self)) c.as_slice-seqs.ensures.value c.in-Err.ensures.step);
   bytes = search rules;
   changes = record {
     honesty = c.in-Err.ensures.changes.honesty;
@@ -80,10 +95,10 @@ returns-in-Err g c = record {
         let x : Durable = durable_of g.D.Disk.seen c.args.self.now in
         let y : Durable = durable_of g.D.Disk.seen c.drop_cases.new.self in
         adds_weakened g.D.Disk c.args.self.now.disk c.drop_cases.new.self.disk
-        (Leaves {T = Unit {0}} x (Err c.in-Err.fault) y (λ z. z ≡ without x c.as_slice.result.now))
+        (Leaves {T = Unit {0}} x (Err c.in-Err.fault) y (λ z. z ≡ without x c.as_slice-seqs.result.now))
         (Leaves {T = Decision} x (Err c.in-Err.fault) y (MayBeRetired (bare_of c.args.self.now) c.args.policy.now x))
-        (λ b h. leaves_of (Unit {0}) Decision c.in-Err.fault x y y (λ z. z ≡ without x c.as_slice.result.now) (MayBeRetired (bare_of c.args.self.now) c.args.policy.now x) b
-        (λ z is. (c.in-Ok.decision.dropped.items, c.in-Ok.decision.unmet, retires, is ∙ ap (without x) c.as_slice.ensures.value)) h)
+        (λ b h. leaves_of (Unit {0}) Decision c.in-Err.fault x y y (λ z. z ≡ without x c.as_slice-seqs.result.now) (MayBeRetired (bare_of c.args.self.now) c.args.policy.now x) b
+        (λ z is. (c.in-Ok.decision.dropped.items, c.in-Ok.decision.unmet, retires, is ∙ ap (without x) c.as_slice-seqs.ensures.value)) h)
         (c.in-Err.ensures.changes.crash honest);
     stands = c.in-Err.ensures.changes.stands;
   };
@@ -94,7 +109,7 @@ returns-in-Err g c = record {
 pub returns : goal.returns
 returns g c = record {
   step = let some : c.in-Ok.decision.dropped.items ≢ [] = search rules in
-      let step = subst (λ (xs : List ℕ). DropStep (bare_of c.args.self.now) xs (Ok c.in_default-drop_cases.field-0) (bare_of c.drop_cases.new.self)) c.as_slice.ensures.value c.in_default-drop_cases.ensures.step in (
+      let step = subst (λ (xs : List ℕ). DropStep (bare_of c.args.self.now) xs (Ok c.in_default-drop_cases.field-0) (bare_of c.drop_cases.new.self)) c.as_slice-seqs.ensures.value c.in_default-drop_cases.ensures.step in (
         rw (← c.self.view_is) c.if-self.false,
         rw (← c.self.view_is) (decision_of c.args.policy.now c.entries.result.now c.self.inside.journal.standing.cases c.in-Ok.decision.dropped.items c.in-Ok.decision.unmet c.entries.ensures c.in-Ok.ensures.decision),
         inr (some, step.0, step.1),
