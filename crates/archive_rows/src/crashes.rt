@@ -23,7 +23,7 @@ fn store_well<D: Disk>(archive: &mut Archive<D>, name: &[u8], length: u64) -> Re
     Ok(())
 }
 
-// The calls of the disk until an image of so many bytes is stored: the last one is the last sync.
+// The calls of the disk until an image of `length` bytes is stored: the last one is the last sync.
 fn calls_of_store(alloc: Global, disk: &MemDisk, name: &[u8], length: u64) -> Result<u64, Fail> {
     let mut archive = faulty(alloc, disk, 0)?;
     store_well(&mut archive, name, length)?;
@@ -63,7 +63,7 @@ fn fail_store(
     Ok(archive.close().into_inner())
 }
 
-// Whether one case stands, an executable with this number and name and of so many bytes.
+// Whether one case stands, an executable with this number, name and length.
 fn has_one<D: Disk>(archive: &Archive<D>, seq: u32, name: &[u8], length: u64) -> bool {
     let Ok(entries) = archive.cases() else {
         return false;

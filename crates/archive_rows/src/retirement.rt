@@ -55,7 +55,7 @@ fn used_after(alloc: Global, disk: MemDisk, rows: &[Row]) -> Result<(u64, MemDis
     Ok((used_bytes(alloc, &mut disk)?, disk))
 }
 
-// After the calls so many bytes of the journal are in use. Answers the disk.
+// After the calls `bytes` bytes of the journal are in use. Answers the disk.
 fn uses(
     rt: &(impl AllocGlobal + Abort),
     disk: MemDisk,

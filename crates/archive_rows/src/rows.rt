@@ -24,9 +24,9 @@ pub enum Call {
     Pin(u32, bool),
     /// The case of this number ends.
     Delete(u32),
-    /// Where at most so many cases are to stay, these end, and the limit does not hold even then or it does.
+    /// Where at most this number of cases is to stay, these end, and the limit does not hold even then or it does.
     Keep(u64, &'static [u32], bool),
-    /// So many of four data blocks are free.
+    /// This number of the four data blocks is free.
     Free(u32),
     /// The case of this number lies in these runs of blocks.
     Runs(u32, &'static [Run]),
@@ -96,7 +96,7 @@ fn has_cases<D: Disk>(archive: &Archive<D>, cases: &[(u32, bool)]) -> bool {
     true
 }
 
-// Whether so many cases stand.
+// Whether `count` cases stand.
 fn has_count<D: Disk>(archive: &Archive<D>, count: usize) -> bool {
     match archive.cases() {
         Ok(entries) => entries.len() == count,
@@ -104,7 +104,7 @@ fn has_count<D: Disk>(archive: &Archive<D>, count: usize) -> bool {
     }
 }
 
-// Whether so many blocks of four are free.
+// Whether `free` of the four data blocks are free.
 fn is_free<D: Disk>(archive: &Archive<D>, free: u32) -> bool {
     archive.free_blocks()
         == Ok(Space {

@@ -85,8 +85,8 @@ fn take<D: Disk>(archive: &mut Archive<D>, step: &Step) -> Result<Result<(), Arc
 enum Ending {
     // All calls were made.
     Whole,
-    // The disk failed: so many calls that change the cases were answered before, and with the one that failed there are
-    // so many.
+    // The disk failed: how many calls that change the cases were answered before, and how many there are with the one
+    // that failed.
     Failed { before: usize, after: usize },
 }
 
@@ -165,7 +165,7 @@ fn shows<D: Disk>(archive: &mut Archive<D>, state: &State) -> bool {
         && have_images(archive, state.cases)
 }
 
-// Whether the archive shows the state after so many changes. It then gives the next case the number that follows those
+// Whether the archive shows the state after `done` changes. It then gives the next case the number that follows those
 // given before.
 fn is_after<D: Disk>(archive: &mut Archive<D>, done: usize) -> Result<bool, Fail> {
     let Some(state) = states().get(done) else {
@@ -277,7 +277,7 @@ fn open_and_run<D: Disk + Drop>(alloc: Global, disk: D) -> Result<(Ending, D), F
     }
 }
 
-// Stops the disk after so many calls, with these crashes. Answers how many changes were answered, or `None` where nothing
+// Stops the disk after `limit` calls, with these crashes. Answers how many changes were answered, or `None` where nothing
 // was stopped.
 fn stop_after(alloc: Global, limit: u64, picks: &[Pick]) -> Result<Option<usize>, Fail> {
     let (ending, disk) = open_and_run(alloc, Fuse::new(formatted(alloc, SHAPE)?, limit))?;

@@ -154,7 +154,7 @@ fn a_file_is_read_by_many(rt: HostRuntime) -> Result<(), Fail> {
     Ok(())
 }
 
-// A new file of so many bytes is as long, has its blocks unless it is sparse, and is its owner's alone.
+// A new file of `length` bytes is as long, has its blocks unless it is sparse, and is its owner's alone.
 fn has_room<R: Abort + Files<File = File>>(
     rt: &R,
     path: &str,

@@ -54,7 +54,7 @@ fn fails<R: Abort + AllocGlobal>(
     Ok(())
 }
 
-// So many cases, this next number, and so many bytes of records.
+// The number of cases, the next number, and the bytes of the records.
 fn says(rt: &impl Abort, said: &Replayed, cases: usize, next: u64, size: u64) {
     let found = (said.entries.len(), said.next, said.size);
     assert_eq!(rt; found, (cases, next, size));

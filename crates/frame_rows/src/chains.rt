@@ -178,7 +178,7 @@ fn each_of_the_sixteen_bytes_is_wanted(rt: HostRuntime) -> Result<(), Fail> {
     )
 }
 
-/// A chain of so many frames, 16 bytes each from 0x10000 on, whose last link is `last`.
+/// A chain of `frames` frames, 16 bytes each from 0x10000 on, whose last link is `last`.
 fn chain_of(alloc: Global, frames: u64, last: u64) -> Result<Vec<u8>, AllocError> {
     let mut bytes = Vec::new(alloc);
     for i in 0..frames {

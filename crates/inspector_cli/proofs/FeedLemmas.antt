@@ -67,7 +67,7 @@ some_of f (Some x) y is = (x, refl, inside is)
     inside : Some (f x) ≡ Some y → f x ≡ y
     inside e = cc
 
--- so many bytes are the whole room of a stream that stands there
+-- n bytes are the whole room of a stream that stands there
 fills_room : (x : StreamParts) (n : ℕ) → n ≡ length (drop (x.len % 4096) x.block) → 0 < n → x.len % 4096 + n ≡ length x.block
 fills_room x n is some = let e = length-drop (x.len % 4096) x.block in omega (arith, is, e, some)
 

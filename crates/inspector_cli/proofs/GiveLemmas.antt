@@ -46,6 +46,6 @@ first_of taken most size into room few same is = let e = length-take-le size roo
 pub took_as : (b new : Bare) (slot n m : ℕ) (r : Result (Unit {0}) ArchiveFault) → n ≡ m → TakeStep b slot n r new → TakeStep b slot m r new
 took_as b new slot n m r is step = subst (λ (k : ℕ). TakeStep b slot k r new) is step
 
--- a part's bytes and its next piece, of so many bytes
+-- a part's bytes and its next piece, of n bytes
 pub joined_length : (raw piece : List ℕ) (n : ℕ) → length piece ≡ n → length raw + n ≡ length (raw ++ piece)
 joined_length raw piece n is = omega (arith, length-append raw piece)

@@ -131,7 +131,7 @@ module _ {D : Type 0} (g : disk.Ghosts D) (old new : Parts D) (slot : ℕ) where
   begun_takes (Ok s) text accepted none begins is = ok_takes s begins.0 none begins.1 (sym is ∙ begins.3)
   begun_takes (Err reason) text accepted none begins is = absurd (true≢false (sym is ∙ begins.2))
 
--- so many reads each gave a byte, and the bytes are taken
+-- each of a number of reads gave a byte, and the bytes are taken
 abbrev pub FileAlong : {D : Type 0} → disk.Ghosts D → Option (List ℕ) → Option (List ℕ) → ℕ → ℕ → Parts D → ℕ → Parts D → Type 0
 FileAlong g file file' fails fails' old reads new =
     (raw : List ℕ) × Consumes file file' raw × (reads ≤ length raw) × (fails' ≡ fails) × Takes g old 0 raw (Ok tt) new

@@ -10,7 +10,7 @@ use Rattle.intake.specs.Step.{AdvanceStep, FindsNoBlock, with_stream, longer, ha
 use Rattle.inspector_cli.specs.Reply.{IsWall, MayTake, IsOpen, TakeStep}
 use Rattle.inspector_cli.proofs.SlotLemmas.{set_again, at_set, closed_set, sum_set}
 
--- so many bytes fit into what is left of the stream's block
+-- n bytes fit into what is left of the stream's block
 abbrev pub FitsBlock : Option BareStream → ℕ → Type 0
 FitsBlock None n = Unit {0}
 FitsBlock (Some s) n = s.len % 4096 + n ≤ 4096

@@ -41,7 +41,7 @@ TakesFile g file file' fails fails' old new (Err File) =
 TakesFile g file file' fails fails' old new (Err (Refused fault)) =
     (raw : List ℕ) × Consumes file file' raw × Takes g old 0 raw (Err fault) new
 
--- the next bytes of a file behind so many are taken, or there are none; or they are refused, or could not be read
+-- the next bytes of a file are taken behind those so far, or there are none; or they are refused, or could not be read
 abbrev pub TakesMore : {D : Type 0} → disk.Ghosts D → Option (List ℕ) → Option (List ℕ) → ℕ → ℕ → Parts D → List ℕ → Parts D → Result Bool TakeStop → Type 0
 TakesMore g file file' fails fails' begun so_far new (Ok true) =
     (raw : List ℕ) × Consumes file file' raw × (0 < length raw) × (fails' ≡ fails) × Takes g begun 0 (so_far ++ raw) (Ok tt) new

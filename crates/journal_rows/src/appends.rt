@@ -147,7 +147,7 @@ pub fn stores<D: Disk + Drop>(
     Ok(())
 }
 
-/// So many cases the journal shows, and so many bytes of the half are used.
+/// The journal shows `cases` cases, and `bytes` bytes of the half are used.
 pub fn has_sizes(rt: &impl Abort, journal: &Journal, cases: usize, bytes: u64) {
     assert_eq!(rt;
         (journal.entries().len(), journal.use_bytes()),
@@ -167,7 +167,7 @@ pub fn filled(alloc: Global) -> Result<Bench<MemDisk>, Fail> {
     Ok(bench)
 }
 
-// Whether the journal shows this state and so many bytes.
+// Whether the journal shows this state and uses `used` bytes.
 fn has_used(journal: &Journal, state: &State, used: u64) -> bool {
     shows(journal, state) && journal.use_bytes() == used
 }

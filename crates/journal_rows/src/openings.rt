@@ -186,7 +186,7 @@ fn a_store_record_goes_with_those_before_it(rt: HostRuntime) -> Result<(), Fail>
     opens(&rt, &SECOND, None)
 }
 
-// A record of two runs, with a name of eight bytes. The second run is of so many blocks from there on.
+// A record of two runs, with a name of eight bytes. The second run is of `count` blocks from `start` on.
 fn two_runs(start: u8, count: u8) -> [u8; 80] {
     let mut record = [0; 80];
     record[..56].copy_from_slice(&STORE[..56]);

@@ -162,7 +162,7 @@ impl Course {
         }
     }
 
-    /// Whether the journal shows the state after so many steps.
+    /// Whether the journal shows the state after `done` steps.
     pub fn is_shown(self, journal: &Journal, done: usize) -> bool {
         match self {
             Course::Fresh => match STATES.get(done) {

@@ -63,7 +63,7 @@ fn check_crashes(
     Ok(())
 }
 
-// Stops the disk after so many calls. Answers how many steps were done, or `None` where nothing was stopped.
+// Stops the disk after `limit` calls. Answers how many steps were done, or `None` where nothing was stopped.
 fn stop_after(
     alloc: Global,
     course: Course,

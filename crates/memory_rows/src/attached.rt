@@ -110,7 +110,7 @@ fn mapped(start: u64, end: u64) -> FilePart<'static> {
     }
 }
 
-/// A segment of so many addresses, with the bytes that were dumped.
+/// A segment of `memsz` addresses, with the bytes that were dumped.
 fn part(vaddr: u64, memsz: u64, bytes: &[u8]) -> LoadPart<'_> {
     LoadPart {
         flags: 4,

@@ -51,7 +51,7 @@ fn names(rt: HostRuntime) -> Result<(), Fail> {
     Ok(())
 }
 
-// The name that is a host of so many bytes, at most 129, each of them `byte`.
+// The name that is a host of `count` bytes, at most 129, each of them `byte`.
 fn host_named(byte: u8, count: usize) -> Result<Name, Fail> {
     let bytes = [byte; 129];
     let process = facts(b"", b"", &bytes[..count.min(129)]);
@@ -70,7 +70,7 @@ fn refused(template: &[u8], process: &Facts<'_>) -> Option<NameFault> {
     template.expand(process, false).err()
 }
 
-// Why a host of so many bytes is no name.
+// Why a host of `count` bytes is no name.
 fn host_refused(byte: u8, count: usize) -> Option<NameFault> {
     let bytes = [byte; 129];
     refused(b"%h", &facts(b"", b"", &bytes[..count.min(129)]))

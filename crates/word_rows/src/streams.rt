@@ -8,7 +8,7 @@ use script_streams::{
 use std::process::Abort;
 use std::test::Fail;
 
-// An input of which each read gives at most so many bytes. The read of a place past the end fails or ends the input.
+// An input of which each read gives at most `size` bytes. The read of a place past the end fails or ends the input.
 #[derive(Drop)]
 struct Pieces<'a> {
     rest: &'a [u8],
@@ -37,7 +37,7 @@ impl Input for Pieces<'_> {
     }
 }
 
-// An output that takes one byte at a time, and fails after so many.
+// An output that takes one byte at a time, and fails after `left` of them.
 #[derive(Drop)]
 struct Narrow {
     left: u8,
@@ -130,7 +130,7 @@ fn script_of(rest: &[u8], size: usize, fails: bool) -> Script<'_> {
     }
 }
 
-// An output that takes so many bytes.
+// An output that takes `left` bytes.
 fn takes_at_most(left: u8) -> Narrow {
     Narrow {
         left,
@@ -139,7 +139,7 @@ fn takes_at_most(left: u8) -> Narrow {
     }
 }
 
-// Lines, a part, and a last line with no newline, from reads of so many bytes.
+// Lines, a part, and a last line with no newline, from reads of `size` bytes.
 fn reads_all(rt: &impl Abort, size: usize) -> Result<(), ReadStop> {
     let mut script = script_of(b"part 0 2\nhelist\n\nend", size, false);
     line_is(rt, &mut script, LineEnding::Newline, b"part 0 2")?;
@@ -158,7 +158,7 @@ fn lines_and_parts(rt: HostRuntime) -> Result<(), Fail> {
     Ok(())
 }
 
-// Whether a line of so many bytes, at most 3,000, each of them `byte`, is too long, and whether it is blank or a comment.
+// Whether a line of `count` bytes, at most 3,000, each of them `byte`, is too long, and whether it is blank or a comment.
 fn long_line(byte: u8, count: usize) -> Result<(bool, bool), ReadStop> {
     let bytes = [byte; 3000];
     let mut script = script_of(&bytes[..count.min(3000)], 700, false);

@@ -9,7 +9,7 @@ use std::alloc::Global;
 use std::process::Abort;
 use std::test::Fail;
 
-// A formatted disk of one block in each journal half and so many data blocks.
+// A formatted disk of one block in each journal half and `data_blocks` data blocks.
 pub(crate) fn disk_of(alloc: Global, data_blocks: u32) -> Result<MemDisk, Fail> {
     let shape = Shape {
         half_blocks: 1,
@@ -25,7 +25,7 @@ pub(crate) fn fresh_disk(alloc: Global) -> Result<MemDisk, Fail> {
     disk_of(alloc, 4)
 }
 
-// The archive on a disk, whose images have at most so many bytes.
+// The archive on a disk, whose images have at most `limit` bytes.
 pub(crate) fn opened<D: Disk + Drop>(
     alloc: Global,
     disk: D,
@@ -37,7 +37,7 @@ pub(crate) fn opened<D: Disk + Drop>(
     }
 }
 
-// A fresh archive, whose images have at most so many bytes.
+// A fresh archive, whose images have at most `limit` bytes.
 pub(crate) fn fresh(alloc: Global, limit: u64) -> Result<Archive<MemDisk>, Fail> {
     opened(alloc, fresh_disk(alloc)?, limit)
 }

@@ -33,7 +33,7 @@ impl Input for Broken<'_> {
     }
 }
 
-// An output that takes one byte at a time, and fails after so many.
+// An output that takes one byte at a time, and fails after `left` of them.
 #[derive(Drop)]
 struct Narrow {
     left: u8,
