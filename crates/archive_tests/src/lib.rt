@@ -7,9 +7,13 @@ mod bench;
 #[cfg(test)]
 mod calls;
 #[cfg(test)]
+mod courses;
+#[cfg(test)]
 mod crashes;
 #[cfg(test)]
 mod images;
+#[cfg(test)]
+mod refused;
 #[cfg(test)]
 mod retirement;
 #[cfg(test)]

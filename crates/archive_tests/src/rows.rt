@@ -80,8 +80,8 @@ fn keep<D: Disk>(
     }
 }
 
-// Whether these are the numbers and the pins of the cases.
-fn has_cases<D: Disk>(archive: &Archive<D>, cases: &[(u32, bool)]) -> bool {
+/// Whether these are the numbers and the pins of the cases.
+pub fn has_cases<D: Disk>(archive: &Archive<D>, cases: &[(u32, bool)]) -> bool {
     let Ok(entries) = archive.cases() else {
         return false;
     };
@@ -104,8 +104,8 @@ fn has_count<D: Disk>(archive: &Archive<D>, count: usize) -> bool {
     }
 }
 
-// Whether `free` of the four data blocks are free.
-fn is_free<D: Disk>(archive: &Archive<D>, free: u32) -> bool {
+/// Whether `free` of the four data blocks are free.
+pub fn is_free<D: Disk>(archive: &Archive<D>, free: u32) -> bool {
     archive.free_blocks()
         == Ok(Space {
             free,
@@ -113,8 +113,11 @@ fn is_free<D: Disk>(archive: &Archive<D>, free: u32) -> bool {
         })
 }
 
-// Makes the call.
-fn make<D: Disk>(archive: &mut Archive<D>, call: &Call) -> Result<Result<(), ArchiveFault>, Fail> {
+/// Makes the call.
+pub fn make<D: Disk>(
+    archive: &mut Archive<D>,
+    call: &Call,
+) -> Result<Result<(), ArchiveFault>, Fail> {
     match call {
         Call::Begin(slot, name) => begin(archive, *slot, name),
         Call::Put(slot, seed, from, end) => Ok(put(archive, *slot, *seed, *from, *end)),

@@ -225,9 +225,6 @@ pub struct State {
     pub next: u32,
 }
 
-/// How many calls of the script change the cases.
-pub const CHANGES: usize = 19;
-
 static STATES: [State; 20] = [
     State {
         cases: &[],

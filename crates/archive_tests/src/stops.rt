@@ -1,14 +1,15 @@
-// Stops and faults at each disk call of the script, and what the archive shows once it is opened again.
+// Stops and faults at each disk call of two scripts, and what the archive shows once it is opened again.
 use crate::bench::{
-    SETTINGS, begin, crashed, formatted, has_image, is_image, name_of, opened, put, put_nothing,
-    store,
+    SETTINGS, begin, crashed, has_image, is_image, name_of, opened, put, put_nothing, store,
 };
-use crate::script::{CHANGES, Image, SHAPE, State, Step, script, states};
+use crate::courses::Course;
+use crate::script::{Image, SHAPE, State, Step};
 use disk_model::{Disk, Fuse, MemDisk, OneFault, Pick};
 use intake::{Archive, ArchiveFault};
 use journal_layout::{Entry, OpenFault};
 use retention::Policy;
 use std::alloc::Global;
+use std::process::Abort;
 use std::test::Fail;
 
 // Of what was written since the last sync nothing is left, or its first bytes, or all of it.
@@ -91,9 +92,9 @@ enum Ending {
 }
 
 // Makes the calls up to the first that the disk fails.
-fn run<D: Disk>(archive: &mut Archive<D>) -> Result<Ending, Fail> {
+fn run<D: Disk>(archive: &mut Archive<D>, course: Course) -> Result<Ending, Fail> {
     let mut done = 0usize;
-    for step in script() {
+    for step in course.steps() {
         let after = done.saturating_add(usize::from(step.changes()));
         match take(archive, step)? {
             Ok(()) => done = after,
@@ -167,8 +168,8 @@ fn shows<D: Disk>(archive: &mut Archive<D>, state: &State) -> bool {
 
 // Whether the archive shows the state after `done` changes. It then gives the next case the number that follows those
 // given before.
-fn is_after<D: Disk>(archive: &mut Archive<D>, done: usize) -> Result<bool, Fail> {
-    let Some(state) = states().get(done) else {
+fn is_after<D: Disk>(archive: &mut Archive<D>, course: Course, done: usize) -> Result<bool, Fail> {
+    let Some(state) = course.states().get(done) else {
         return Err(Fail::from("there is no such state"));
     };
     if !shows(archive, state) {
@@ -181,9 +182,15 @@ fn is_after<D: Disk>(archive: &mut Archive<D>, done: usize) -> Result<bool, Fail
 }
 
 // Opens the archive, which shows the state after one of these numbers of changes.
-fn check_disk(alloc: Global, disk: MemDisk, before: usize, after: usize) -> Result<(), Fail> {
+fn check_disk(
+    alloc: Global,
+    disk: MemDisk,
+    course: Course,
+    before: usize,
+    after: usize,
+) -> Result<(), Fail> {
     let mut archive = opened(alloc, disk)?;
-    if is_after(&mut archive, before)? || is_after(&mut archive, after)? {
+    if is_after(&mut archive, course, before)? || is_after(&mut archive, course, after)? {
         return Ok(());
     }
     Err(Fail::from("the archive shows neither state"))
@@ -194,11 +201,12 @@ fn check_crashes(
     alloc: Global,
     disk: &MemDisk,
     picks: &[Pick],
+    course: Course,
     before: usize,
     after: usize,
 ) -> Result<(), Fail> {
     for pick in picks {
-        check_disk(alloc, crashed(disk, *pick)?, before, after)?;
+        check_disk(alloc, crashed(disk, *pick)?, course, before, after)?;
     }
     Ok(())
 }
@@ -251,8 +259,8 @@ fn is_stopped<D: Disk>(archive: &mut Archive<D>) -> Result<bool, Fail> {
 }
 
 // Makes the calls up to the first that the disk fails, which stops the archive.
-fn run_to_stop<D: Disk>(archive: &mut Archive<D>) -> Result<Ending, Fail> {
-    let ending = run(archive)?;
+fn run_to_stop<D: Disk>(archive: &mut Archive<D>, course: Course) -> Result<Ending, Fail> {
+    let ending = run(archive, course)?;
     if matches!(ending, Ending::Failed { .. }) && !is_stopped(archive)? {
         return Err(Fail::from("the fault did not stop the archive"));
     }
@@ -260,10 +268,14 @@ fn run_to_stop<D: Disk>(archive: &mut Archive<D>) -> Result<Ending, Fail> {
 }
 
 // The same once the archive of a disk is opened, where the disk may fail too. Answers the disk.
-fn open_and_run<D: Disk + Drop>(alloc: Global, disk: D) -> Result<(Ending, D), Fail> {
+fn open_and_run<D: Disk + Drop>(
+    alloc: Global,
+    disk: D,
+    course: Course,
+) -> Result<(Ending, D), Fail> {
     match Archive::open(alloc, disk, SETTINGS) {
         Ok(mut archive) => {
-            let ending = run_to_stop(&mut archive)?;
+            let ending = run_to_stop(&mut archive, course)?;
             Ok((ending, archive.close()))
         }
         Err((OpenFault::Disk, disk)) => {
@@ -279,16 +291,24 @@ fn open_and_run<D: Disk + Drop>(alloc: Global, disk: D) -> Result<(Ending, D), F
 
 // Stops the disk after `limit` calls, with these crashes. Answers how many changes were answered, or `None` where nothing
 // was stopped.
-fn stop_after(alloc: Global, limit: u64, picks: &[Pick]) -> Result<Option<usize>, Fail> {
-    let (ending, disk) = open_and_run(alloc, Fuse::new(formatted(alloc, SHAPE)?, limit))?;
+fn stop_after(
+    alloc: Global,
+    course: Course,
+    begun: &MemDisk,
+    limit: u64,
+    picks: &[Pick],
+) -> Result<Option<usize>, Fail> {
+    let disk = Fuse::new(crashed(begun, Pick::Nothing)?, limit);
+    let (ending, disk) = open_and_run(alloc, disk, course)?;
     let left = disk.into_inner();
     match ending {
         Ending::Whole => {
-            check_crashes(alloc, &left, picks, CHANGES, CHANGES)?;
+            let all = course.changes();
+            check_crashes(alloc, &left, picks, course, all, all)?;
             Ok(None)
         }
         Ending::Failed { before, after } => {
-            check_crashes(alloc, &left, picks, before, after)?;
+            check_crashes(alloc, &left, picks, course, before, after)?;
             Ok(Some(before))
         }
     }
@@ -296,11 +316,12 @@ fn stop_after(alloc: Global, limit: u64, picks: &[Pick]) -> Result<Option<usize>
 
 // Stops the disk after each number of calls, with these crashes. Each call that changes the cases is stopped somewhere,
 // and none is passed over.
-fn stop_everywhere(alloc: Global, picks: &[Pick]) -> Result<(), Fail> {
+fn stop_everywhere(alloc: Global, course: Course, picks: &[Pick]) -> Result<(), Fail> {
+    let begun = course.begins(alloc)?;
     let mut last = 0usize;
     for limit in 0..1000 {
-        let Some(done) = stop_after(alloc, limit, picks)? else {
-            if last.saturating_add(1) != CHANGES {
+        let Some(done) = stop_after(alloc, course, &begun, limit, picks)? else {
+            if last.saturating_add(1) != course.changes() {
                 return Err(Fail::from("the last change was not stopped"));
             }
             return Ok(());
@@ -317,35 +338,50 @@ fn stop_everywhere(alloc: Global, picks: &[Pick]) -> Result<(), Fail> {
 fn a_stop_with_cut_writes_leaves_the_cases_from_before_or_after(
     rt: HostRuntime,
 ) -> Result<(), Fail> {
-    stop_everywhere(rt.alloc(), &CUT)
+    stop_everywhere(rt.alloc(), Course::Streams, &CUT)
 }
 
 #[test]
 fn a_stop_with_filled_writes_leaves_the_cases_from_before_or_after(
     rt: HostRuntime,
 ) -> Result<(), Fail> {
-    stop_everywhere(rt.alloc(), &FILLED)
+    stop_everywhere(rt.alloc(), Course::Streams, &FILLED)
+}
+
+#[test]
+fn a_stop_while_the_journal_is_written_anew_leaves_the_cases_from_before_or_after(
+    rt: HostRuntime,
+) -> Result<(), Fail> {
+    stop_everywhere(rt.alloc(), Course::Anew, &CUT)?;
+    stop_everywhere(rt.alloc(), Course::Anew, &FILLED)
 }
 
 // Fails this call of the disk alone. Answers how many changes were answered, or `None` where nothing failed.
-fn fault_at(alloc: Global, call: u64) -> Result<Option<usize>, Fail> {
-    let (ending, disk) = open_and_run(alloc, OneFault::new(formatted(alloc, SHAPE)?, call))?;
+fn fault_at(
+    alloc: Global,
+    course: Course,
+    begun: &MemDisk,
+    call: u64,
+) -> Result<Option<usize>, Fail> {
+    let disk = OneFault::new(crashed(begun, Pick::Nothing)?, call);
+    let (ending, disk) = open_and_run(alloc, disk, course)?;
     let Ending::Failed { before, after } = ending else {
         return Ok(None);
     };
     if disk.calls() != call {
         return Err(Fail::from("the disk was called after the fault"));
     }
-    check_disk(alloc, disk.into_inner(), before, after)?;
+    check_disk(alloc, disk.into_inner(), course, before, after)?;
     Ok(Some(before))
 }
 
-#[test]
-fn a_fault_stops_the_archive(rt: HostRuntime) -> Result<(), Fail> {
+// Each call fails alone, and none of the changes is passed over.
+fn fault_everywhere(rt: &(impl AllocGlobal + Abort), course: Course) -> Result<(), Fail> {
+    let begun = course.begins(rt.alloc())?;
     let mut last = 0usize;
     for call in 1..1000 {
-        let Some(done) = fault_at(rt.alloc(), call)? else {
-            assert_eq!(rt; last.saturating_add(1), CHANGES);
+        let Some(done) = fault_at(rt.alloc(), course, &begun, call)? else {
+            assert_eq!(rt; last.saturating_add(1), course.changes());
             return Ok(());
         };
         assert!(rt;
@@ -355,4 +391,16 @@ fn a_fault_stops_the_archive(rt: HostRuntime) -> Result<(), Fail> {
         last = done;
     }
     Err(Fail::from("the script never came to its end"))
+}
+
+#[test]
+fn a_fault_stops_the_archive(rt: HostRuntime) -> Result<(), Fail> {
+    fault_everywhere(&rt, Course::Streams)
+}
+
+#[test]
+fn a_fault_while_the_journal_is_written_anew_stops_the_archive(
+    rt: HostRuntime,
+) -> Result<(), Fail> {
+    fault_everywhere(&rt, Course::Anew)
 }

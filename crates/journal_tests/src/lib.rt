@@ -9,7 +9,11 @@ mod bench;
 #[cfg(test)]
 mod compactions;
 #[cfg(test)]
+mod formats;
+#[cfg(test)]
 mod openings;
+#[cfg(test)]
+mod refused;
 #[cfg(test)]
 mod states;
 #[cfg(test)]
