@@ -9,7 +9,7 @@ use Rattle.intake.specs.declared.faults.ArchiveFault.TheVariants as fault
 use Rattle.intake.specs.Calls.{ChangesNoCase}
 use Rattle.intake.specs.Durable.{Durable}
 use Rattle.intake.specs.Growth.{IsDiskFault}
-use Rattle.intake.specs.Marks.{Passes, AnswersItems as RunOfMarks, LeadsToMark, doubted, mark_of, FoundAfterAStop, StaysLead, FinishLeads, DeleteLeads, PinLeads, RetireLeads}
+use Rattle.intake.specs.Marks.{Passes, IsRunOfMarks, LeadsToMark, doubted, mark_of, FoundAfterAStop, StaysLead, FinishLeads, DeleteLeads, PinLeads, RetireLeads}
 use Rattle.intake.specs.Parts.{Parts, state_of}
 use Rattle.intake.specs.State.{StreamFacts}
 use Rattle.retention.specs.declared.Decision.{Decision}
@@ -147,7 +147,7 @@ module _ {D : Type 0} (g : disk.Ghosts D) where
   -- the stages of a session are a run of marks
   pub marks_run : (naming : Naming) (old : Stage D) (is : List Item) (out : List ℕ) (ss : List (Stage D)) (end : Stage D) (new : Parts D) → AnswersItems g naming old is out ss
       → Passes g (mark_at g.seen (last_stage old ss)) (mark_at g.seen end) → Passes g (mark_at g.seen end) (mark_of g.seen new end.in_doubt)
-      → RunOfMarks g (mark_at g.seen old) (marks_of g.seen ss end new)
+      → IsRunOfMarks g (mark_at g.seen old) (marks_of g.seen ss end new)
   marks_run naming old [] out [] end new run last closed = (last, (closed, tt))
   marks_run naming old [] out (t ∷ ts) end new run last closed = absurd run
   marks_run naming old (j ∷ js) out [] end new run last closed = absurd run
