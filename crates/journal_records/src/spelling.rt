@@ -5,12 +5,14 @@ ghost use Rattle.extents.specs.Runs.{runs_of};
 ghost use Rattle.journal_layout.specs.Case.{case_of, numbered};
 ghost use Rattle.journal_layout.specs.Layout.{number_bytes};
 ghost use Rattle.journal_layout.specs.Record.{Store, Drop, Pin, Next, Label, kind_byte, run_bytes, seq_bytes, store_facts, rounded, plain_size, record_size, plain, behind_gate, spelling};
+ghost use Rattle.journal_layout.specs.Folding.{sizes};
+ghost use Rattle.journal_layout.specs.Rewriting.{label_records};
 ghost use Rattle.journal_records.specs.Spelling.{stored_as};
 
 use crate::rounded;
 use byteorder::{ByteOrder, LittleEndian};
 use extents::Run;
-use journal_layout::{Entry, Kind};
+use journal_layout::{Entry, Kind, Label};
 use std::alloc::{AllocError, Global};
 
 /// The byte that opens a gate.
@@ -22,6 +24,19 @@ pub fn store_size(entry: &Entry) -> u64
     ensures { (seq : ℕ) → result ≡ record_size (Store (numbered seq (case_of entry.now))) }
 {
     rounded(48 + 8 * entry.runs.runs().len() as u64 + entry.name.len() as u64)
+}
+
+/// The bytes of the records that say a case with this label: its Store record, and the label's where it is not empty.
+pub fn case_size(entry: &Entry, label: &Label) -> u64
+    requires { length entry.now.runs ≤ 2 ^ 52 }
+    ensures { (seq : ℕ) → result
+        ≡ record_size (Store (numbered seq (case_of entry.now))) + sizes (label_records seq label.now.items) }
+{
+    let store = rounded(48 + 8 * entry.runs.runs().len() as u64 + entry.name.len() as u64);
+    if label.is_empty() {
+        return store;
+    }
+    store + rounded(16 + label.len() as u64)
 }
 
 /// The bytes of the Drop record of so many cases.
