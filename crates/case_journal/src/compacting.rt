@@ -164,14 +164,14 @@ impl Journal {
         ensures untouched { PutLeaves result disk.old disk.new }
         ensures cause { result ≡ Err JournalFault.Disk → HasRisen (D.failures disk.old) (D.failures disk.new) }
     {
-        let measure = room_beside(&self.entries, self.shape, self.generation, change)?;
+        let measure = room_beside(self.entries.as_slice(), self.shape, self.generation, change)?;
         let target = self.target(next);
         let half = self.shape.half_length();
         write_beside(
             self.alloc(),
             disk,
             target,
-            &self.entries,
+            self.entries.as_slice(),
             change,
             measure,
             half,

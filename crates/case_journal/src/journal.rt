@@ -21,11 +21,12 @@ ghost use Rattle.case_journal.specs.Compacting.{PutLeaves};
 
 use crate::JournalFault;
 use crate::compacting::{Place, room_beside};
+use crate::live_entries::{LiveEntries, find_entry};
 use crate::publish::publish;
 use disk_model::Disk;
 use journal_layout::{Entry, Half, Shape};
 use journal_records::{PIN_SIZE, drop_record, drop_size, pin_record, store_record, store_size};
-use journal_snapshot::{Change, is_listed};
+use journal_snapshot::Change;
 use std::alloc::Global;
 use std::marker::Model;
 
@@ -39,7 +40,7 @@ pub struct Journal {
     pub(crate) version: u32,
     pub(crate) generation: u64,
     // In the order of their numbers.
-    pub(crate) entries: Vec<Entry>,
+    pub(crate) entries: LiveEntries,
     // The number of the next case, at most 2^32.
     pub(crate) next: u64,
     // The bytes of the taken half's header and records.
@@ -62,14 +63,14 @@ impl Model for Journal {
         half = j.half;
         version = j.version;
         generation = j.generation;
-        cases = map case_of j.entries.items;
+        cases = map case_of j.entries.entries;
         next = j.next;
         used = j.used;
       };
       stopped = j.stopped;
     } };
 
-    ghost invariant = { λ j. IsKept j.shape j.version (map case_of j.entries.items) j.next j.used };
+    ghost invariant = { λ j. IsKept j.shape j.version (map case_of j.entries.entries) j.next j.used };
 }
 
 impl Journal {
@@ -77,14 +78,14 @@ impl Journal {
     pub fn entries(&self) -> &[Entry]
         ensures { map case_of result.now ≡ self.now.standing.cases }
     {
-        &self.entries
+        self.entries.as_slice()
     }
 
     /// The case of this number, if it is live.
     pub fn entry(&self, seq: u32) -> Option<&Entry>
         ensures { option_map (λ (e : _). case_of e.now) result ≡ case_numbered seq self.now.standing.cases }
     {
-        find_entry(&self.entries, seq)
+        find_entry(self.entries.as_slice(), seq)
     }
 
     /// The number of the next case, at most 2^32.
@@ -125,7 +126,12 @@ impl Journal {
     {
         if !self.fits(size) {
             let change = Change::Store(0, entry);
-            room_beside(&self.entries, self.shape, self.generation, &change)?;
+            room_beside(
+                self.entries.as_slice(),
+                self.shape,
+                self.generation,
+                &change,
+            )?;
         }
         Ok(())
     }
@@ -261,7 +267,7 @@ impl Journal {
             return Err((JournalFault::NumbersSpent, entry));
         }
         let seq = self.next as u32;
-        let Ok(()) = self.entries.reserve(1) else {
+        let Ok(()) = self.entries.reserve() else {
             return Err((JournalFault::OutOfMemory, entry));
         };
         match self.put_store(disk, seq, &entry, size) {
@@ -272,7 +278,7 @@ impl Journal {
                     place.used,
                 );
                 self.next += 1;
-                self.entries.push(Entry { seq, ..entry }).unwrap();
+                self.entries.push(Entry { seq, ..entry });
                 Ok(seq)
             }
             Err(fault) => {
@@ -367,7 +373,7 @@ impl Journal {
 
     // The allocator of the entries.
     pub(crate) fn alloc(&self) -> Global {
-        *self.entries.allocator()
+        self.entries.allocator()
     }
 
     // Leaves out the entries of these numbers, which rise.
@@ -375,51 +381,13 @@ impl Journal {
         requires { Rise 0 seqs.now }
         ensures { self.new ≡ left self.old seqs.now }
     {
-        keep_others(&mut self.entries, seqs);
+        self.entries.leave_out(seqs);
     }
 
     // Sets the flag of the entry of this number.
     fn pin_entry(&mut self, seq: u32, flag: bool)
         ensures { self.new ≡ repinned self.old seq flag }
     {
-        set_pin(&mut self.entries, seq, flag);
-    }
-}
-
-// Keeps the entries that have none of these numbers, which rise.
-fn keep_others(entries: &mut Vec<Entry>, seqs: &[u32])
-    requires { Rise 0 seqs.now }
-    ensures { map case_of entries.new.items ≡ dropped seqs.now (map case_of entries.old.items) }
-{
-    entries.retain(|entry| !is_listed(seqs, entry.seq));
-}
-
-// Where the entry of this number stands among entries whose numbers rise.
-fn place_of(entries: &[Entry], seq: u32) -> Option<usize>
-    requires { Rise 0 (map seq_of_case (map case_of entries.now)) }
-    ensures found { IfSome result (λ place. (place < length entries.now) × HoldsAt (λ (e : Entry). e.seq ≡ seq) entries.now place) }
-    ensures absent { result ≡ None → case_numbered seq (map case_of entries.now) ≡ None }
-{
-    entries.binary_search_by_key(&seq, |entry| entry.seq).ok()
-}
-
-// Sets the flag of the entry of this number, if there is one.
-fn set_pin(entries: &mut [Entry], seq: u32, flag: bool)
-    requires { Rise 0 (map seq_of_case (map case_of entries.old)) }
-    ensures { map case_of entries.new ≡ with_pin seq flag (map case_of entries.old) }
-{
-    if let Some(place) = place_of(entries, seq) {
-        entries[place].pinned = flag;
-    }
-}
-
-// The entry of this number, if there is one.
-fn find_entry(entries: &[Entry], seq: u32) -> Option<&Entry>
-    requires { Rise 0 (map seq_of_case (map case_of entries.now)) }
-    ensures { option_map (λ (e : _). case_of e.now) result ≡ case_numbered seq (map case_of entries.now) }
-{
-    match place_of(entries, seq) {
-        Some(place) => Some(&entries[place]),
-        None => None,
+        self.entries.set_pin(seq, flag);
     }
 }

@@ -13,6 +13,7 @@ ghost use Rattle.journal_records.specs.Kept.{AreNames, IsSpareMap};
 
 use crate::Journal;
 use crate::front::{ArchiveFront, read_front, read_part};
+use crate::live_entries::LiveEntries;
 use disk_model::Disk;
 use extents::FreeMap;
 use journal_layout::{Name, OpenFault};
@@ -99,7 +100,7 @@ fn read_journal<D: Disk>(alloc: Global, disk: &mut D) -> Result<Opened, OpenFaul
             half: front.half,
             version: front.version,
             generation: front.generation,
-            entries: read.entries,
+            entries: LiveEntries::new(read.entries),
             next: read.next,
             used: HEADER + read.size,
             stopped: false,

@@ -4,7 +4,7 @@ use Rattle.journal_layout.specs.Case.{case_of}
 use Rattle.journal_layout.specs.Folding.{is_among}
 use Rattle.journal_layout.specs.declared.entry.Entry.{Entry}
 use Rattle.case_journal.proofs.EntryLemmas.{others_are}
-use Rattle.case_journal.proofs.journal.keep_others.Goals as goal
+use Rattle.case_journal.proofs.live_entries.keep_unlisted.Goals as goal
 
 pub returns : goal.returns
 returns c =

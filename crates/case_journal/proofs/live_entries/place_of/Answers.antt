@@ -3,7 +3,7 @@ use Rattle.std.specs.List.{HoldsAt}
 use Rattle.std.proofs.lemmas.List.Sorted.{answers_always}
 use Rattle.journal_layout.specs.declared.entry.Entry.{Entry}
 use Rattle.case_journal.proofs.SeqLemmas.{place_found}
-use Rattle.case_journal.proofs.journal.place_of.Goals as goal
+use Rattle.case_journal.proofs.live_entries.place_of.Goals as goal
 
 pub returns-clause-found : goal.returns-clause-found
 returns-clause-found c =

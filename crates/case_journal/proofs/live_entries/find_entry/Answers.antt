@@ -2,7 +2,7 @@ use Rattle.std.proofs.Common.{Option, Some, sym, ap, ◌∙◌}
 use Rattle.journal_layout.specs.declared.entry.Entry.{Entry}
 use Rattle.journal_layout.specs.Case.{Case, case_of}
 use Rattle.case_journal.proofs.EntryLemmas.{found_at}
-use Rattle.case_journal.proofs.journal.find_entry.Goals as goal
+use Rattle.case_journal.proofs.live_entries.find_entry.Goals as goal
 
 pub returns-in-Some : goal.returns-in-Some
 returns-in-Some c =
