@@ -12,7 +12,7 @@ ghost use Rattle.journal_layout.specs.Folding.{with_pin, dropped, is_among};
 ghost use Rattle.journal_layout.specs.Soundness.{case_numbered, Rise};
 ghost use Rattle.journal_layout.specs.Standing.{store_of};
 ghost use Rattle.journal_layout.specs.Rewriting.{fits};
-ghost use Rattle.case_journal.specs.Journaled.{Journaled, halted, goes_on};
+ghost use Rattle.case_journal.specs.Journaled.{Journaled, halted, after_append};
 ghost use Rattle.case_journal.specs.Keeping.{Keeps, LeavesEither, LeavesOutside};
 ghost use Rattle.case_journal.specs.Append.{MayStore, MayFollow, StoreStep, AppendStep, IsStoreDiskFault, RefusalLeaves, StoreRefusalLeaves};
 ghost use Rattle.case_journal.specs.Entering.{left, repinned, PutStep};
@@ -144,7 +144,7 @@ impl Journal {
         ensures step { BehindStep self.now.standing (length behind.now) result }
         ensures run { (r : Record) → IsPut self.now.standing r behind.now → RunsAppend D.Disk disk.old disk.new self.now.standing r }
         ensures kept { (r : Record) → IsPut self.now.standing r behind.now
-            → OnOk result (Keeps D.Disk disk.new (goes_on self.now r)) }
+            → OnOk result (Keeps D.Disk disk.new (after_append self.now r)) }
         ensures cause { result ≡ Err JournalFault.Disk → HasRisen (D.failures disk.old) (D.failures disk.new) }
     {
         let gate = self.shape.half_start(self.half) + self.used;
@@ -173,7 +173,7 @@ impl Journal {
         requires sound { MayFollow self.now.standing (Store (numbered seq (case_of entry.now))) }
         ensures step { PutStep self.now.standing (Store (numbered seq (case_of entry.now))) result }
         ensures run { RunsAppend D.Disk disk.old disk.new self.now.standing (Store (numbered seq (case_of entry.now))) }
-        ensures kept { OnOk result (Keeps D.Disk disk.new (goes_on self.now (Store (numbered seq (case_of entry.now))))) }
+        ensures kept { OnOk result (Keeps D.Disk disk.new (after_append self.now (Store (numbered seq (case_of entry.now))))) }
         ensures untouched { PutLeaves result disk.old disk.new }
         ensures cause { result ≡ Err JournalFault.Disk → HasRisen (D.failures disk.old) (D.failures disk.new) }
     {
@@ -193,7 +193,7 @@ impl Journal {
         requires sound { MayFollow self.now.standing (Drop seqs.now) }
         ensures step { PutStep self.now.standing (Drop seqs.now) result }
         ensures run { RunsAppend D.Disk disk.old disk.new self.now.standing (Drop seqs.now) }
-        ensures kept { OnOk result (Keeps D.Disk disk.new (goes_on self.now (Drop seqs.now))) }
+        ensures kept { OnOk result (Keeps D.Disk disk.new (after_append self.now (Drop seqs.now))) }
         ensures untouched { PutLeaves result disk.old disk.new }
         ensures cause { result ≡ Err JournalFault.Disk → HasRisen (D.failures disk.old) (D.failures disk.new) }
     {
@@ -216,7 +216,7 @@ impl Journal {
         ensures step { PutStep self.now.standing (Pin seq flag) result }
         ensures never { result ≡ Err JournalFault.OutOfMemory → fits self.now.standing (Pin seq flag) ≡ false }
         ensures run { RunsAppend D.Disk disk.old disk.new self.now.standing (Pin seq flag) }
-        ensures kept { OnOk result (Keeps D.Disk disk.new (goes_on self.now (Pin seq flag))) }
+        ensures kept { OnOk result (Keeps D.Disk disk.new (after_append self.now (Pin seq flag))) }
         ensures untouched { PutLeaves result disk.old disk.new }
         ensures cause { result ≡ Err JournalFault.Disk → HasRisen (D.failures disk.old) (D.failures disk.new) }
     {

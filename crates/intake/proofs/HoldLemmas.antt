@@ -26,7 +26,7 @@ use Rattle.intake.proofs.CountLemmas.{given, uses_same}
 use Rattle.intake.specs.Balance.{AreFree, AreHeld, Balances}
 use Rattle.intake.specs.Live.{case_uses}
 use Rattle.intake.specs.Parts.{StreamParts}
-use Rattle.intake.specs.Sound.{IsSound, IsFineIfOpen, LeaveFree, stream_uses, stream_blocks, streams_named}
+use Rattle.intake.specs.Sound.{IsArchiveSound, IsFineIfOpen, LeaveFree, stream_uses, stream_blocks, streams_named}
 use Rattle.disk_model.specs.declared.disk.Disk as disk
 use Rattle.journal_layout.specs.declared.shape.Shape.{Shape}
 use Rattle.journal_layout.specs.Live.{AreLive}
@@ -141,9 +141,9 @@ none_fine most (suc n) = All-cons (IsFineIfOpen most) None (replicate n None) tt
 -- an archive that was just opened
 pub opened_sound : {D : Type 0} (g : disk.Ghosts D) (d d' : D) (j : Journaled) (most : ℕ) (shape : Shape) (flags : List Bool) (cases : List Case) (streams : List (Option StreamParts))
     → ShowsOpening g d (Ok j) → Guards g d' j → AreLive j.standing.shape.data_blocks j.standing.cases j.standing.next → j.stopped ≡ false
-    → shape ≡ j.standing.shape → cases ≡ j.standing.cases → IsSpareMap shape.data_blocks cases flags → streams ≡ replicate 8 None → IsSound g d' j most flags streams false
+    → shape ≡ j.standing.shape → cases ≡ j.standing.cases → IsSpareMap shape.data_blocks cases flags → streams ≡ replicate 8 None → IsArchiveSound g d' j most flags streams false
 opened_sound g d d' j most shape flags cases streams shows keeps live on same are leave none =
-    subst (λ (x : List (Option StreamParts)). IsSound g d' j most flags x false) (sym none) (record {
+    subst (λ (x : List (Option StreamParts)). IsArchiveSound g d' j most flags x false) (sym none) (record {
       shape = stands_limits shows.shown j.standing shows.gives;
       slots = refl;
       runs = λ _. record {

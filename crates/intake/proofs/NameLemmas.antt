@@ -36,8 +36,8 @@ use Rattle.case_journal.specs.declared.faults.JournalFault.TheVariants as journa
 use Rattle.intake.specs.Closing.{Appends}
 use Rattle.intake.specs.Live.{cases_named}
 use Rattle.intake.specs.Names.{KeepsName, ForgetsName, ForgetsNames, is_one_of, items_of, name_of_case, names_gone, AreTaken}
-use Rattle.intake.specs.Parts.{Parts, StreamParts, bare_case, bare_stream, bare_of}
-use Rattle.intake.specs.State.{BareCase}
+use Rattle.intake.specs.Parts.{Parts, StreamParts, case_facts, stream_facts, state_of}
+use Rattle.intake.specs.State.{CaseFacts}
 use Rattle.intake.specs.declared.faults.ArchiveFault.{ArchiveFault}
 use Rattle.intake.proofs.ListedLemmas.{gone-append}
 use Rattle.intake.proofs.StepLemmas.{list_any-map, none_of, called_same, new_name}
@@ -67,21 +67,21 @@ some_of P f (x ∷ xs) e = of (P (f x)) refl (some_of P f xs)
         omega (arith, s, more)
 
 -- a name that is taken is that of a case or of a stream
-some_taken : {D : Type 0} (a : Parts D) (name : List ℕ) → is_taken (bare_of a) name ≡ true → 1 ≤ cases_named a.journal.standing.cases name + streams_named a.streams name
-some_taken a name e = of (list_any (λ (c : BareCase). bytes_eq c.name name) (map bare_case a.journal.standing.cases)) refl
+some_taken : {D : Type 0} (a : Parts D) (name : List ℕ) → is_taken (state_of a) name ≡ true → 1 ≤ cases_named a.journal.standing.cases name + streams_named a.streams name
+some_taken a name e = of (list_any (λ (c : CaseFacts). bytes_eq c.name name) (map case_facts a.journal.standing.cases)) refl
   where
-    of : (t : Bool) → list_any (λ (c : BareCase). bytes_eq c.name name) (map bare_case a.journal.standing.cases) ≡ t → 1 ≤ cases_named a.journal.standing.cases name + streams_named a.streams name
-    of true here = (let s = some_of (λ (c : BareCase). bytes_eq c.name name) bare_case a.journal.standing.cases here in omega (arith, s))
+    of : (t : Bool) → list_any (λ (c : CaseFacts). bytes_eq c.name name) (map case_facts a.journal.standing.cases) ≡ t → 1 ≤ cases_named a.journal.standing.cases name + streams_named a.streams name
+    of true here = (let s = some_of (λ (c : CaseFacts). bytes_eq c.name name) case_facts a.journal.standing.cases here in omega (arith, s))
     of false here =
-        let s = some_of (is_name_in name) (option_map bare_stream) a.streams (sym (ap (λ t. t || list_any (is_name_in name) (map (option_map bare_stream) a.streams)) here) ∙ e) in
+        let s = some_of (is_name_in name) (option_map stream_facts) a.streams (sym (ap (λ t. t || list_any (is_name_in name) (map (option_map stream_facts) a.streams)) here) ∙ e) in
         let f = called_same name a.streams in
         omega (arith, s, f)
 
 -- whether the set has a name, where it has those that are taken
-pub taken_is : {D : Type 0} (a : Parts D) (names : BTreeSet (ArrayVec ℕ)) (name : List ℕ) → AreTaken a.journal.standing.cases a.streams names → has_name names name ≡ is_taken (bare_of a) name
-taken_is a names name are = of (is_taken (bare_of a) name) refl
+pub taken_is : {D : Type 0} (a : Parts D) (names : BTreeSet (ArrayVec ℕ)) (name : List ℕ) → AreTaken a.journal.standing.cases a.streams names → has_name names name ≡ is_taken (state_of a) name
+taken_is a names name are = of (is_taken (state_of a) name) refl
   where
-    of : (t : Bool) → is_taken (bare_of a) name ≡ t → has_name names name ≡ t
+    of : (t : Bool) → is_taken (state_of a) name ≡ t → has_name names name ≡ t
     of true e = (let s = some_taken a name e in let h = are name in one_true (has_name names name) (omega (arith, s, h)))
     of false e = (let n = new_name a name e in let x = n.0 in let y = n.1 in let h = are name in one_false (has_name names name) (omega (arith, x, y, h)))
 

@@ -12,7 +12,7 @@ use Rattle.intake.specs.declared.stream.Stream.{Stream}
 use Rattle.intake.specs.declared.faults.ArchiveFault.{ArchiveFault}
 use Rattle.intake.specs.declared.faults.ArchiveFault.TheVariants as fault
 use Rattle.intake.specs.Slots.{stream_at, closed}
-use Rattle.intake.specs.Parts.{StreamParts, bare_stream}
+use Rattle.intake.specs.Parts.{StreamParts, stream_facts}
 use Rattle.intake.specs.Step.{has_name}
 use Rattle.intake.specs.StreamView.{parts_of, parts_in}
 

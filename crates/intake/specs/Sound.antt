@@ -74,7 +74,7 @@ pub record IsRunning {D : Type 0} (g : disk.Ghosts D) (d : D) (j : Journaled) (m
   pub total : free_count flags + case_blocks j.standing.cases + stream_blocks streams ≡ j.standing.shape.data_blocks
   pub named : (name : List ℕ) → cases_named j.standing.cases name + streams_named streams name ≤ 1
 
-pub record IsSound {D : Type 0} (g : disk.Ghosts D) (d : D) (j : Journaled) (most : ℕ) (flags : List Bool) (streams : List (Option StreamParts)) (stopped : Bool) : Type 0 where
+pub record IsArchiveSound {D : Type 0} (g : disk.Ghosts D) (d : D) (j : Journaled) (most : ℕ) (flags : List Bool) (streams : List (Option StreamParts)) (stopped : Bool) : Type 0 where
   pub shape : IsWithinLimits j.standing.shape
   pub slots : length streams ≡ 8
   pub runs : stopped ≡ false → IsRunning g d j most flags streams

@@ -7,7 +7,7 @@ ghost use Rattle.journal_layout.specs.Standing.{Standing};
 ghost use Rattle.journal_layout.specs.Stands.{Stands};
 ghost use Rattle.case_journal.specs.Append.{MayFollow};
 ghost use Rattle.journal_layout.specs.Record.{Drop};
-ghost use Rattle.case_journal.specs.Viewing.{ShowsOpening, Finds};
+ghost use Rattle.case_journal.specs.Viewing.{ShowsOpening, FindsStanding};
 ghost use Rattle.disk_model.specs.Disk.{HasRisen};
 ghost use Rattle.intake.specs.Growth.{IsDiskFault};
 ghost use Rattle.intake.specs.Ending.{EndsStreams};
@@ -78,8 +78,8 @@ impl<D: Disk> Model for Archive<D> {
 }
 
 impl<D: Disk> Archive<D> {
-    ghost use Rattle.intake.specs.Parts.{Parts, StreamParts, bare_of, contents_of};
-    ghost use Rattle.intake.specs.State.{Bare, BareStream};
+    ghost use Rattle.intake.specs.Parts.{Parts, StreamParts, state_of, contents_of};
+    ghost use Rattle.intake.specs.State.{ArchiveState, StreamFacts};
     ghost use Rattle.intake.specs.Step.{RoomReply, FreeReply, DropStep, IsLastGeneration};
     ghost use Rattle.intake.specs.Contents.{DropBytes};
     ghost use Rattle.intake.specs.Opened.{CaseReply, CasesReply};
@@ -134,7 +134,7 @@ impl<D: Disk> Archive<D> {
 
     /// How many data blocks are free, and how many there are. Answers `Stopped` alone.
     pub fn free_blocks(&self) -> Result<Space, ArchiveFault>
-        ensures { FreeReply (bare_of self.now) result }
+        ensures { FreeReply (state_of self.now) result }
     {
         if self.stopped {
             return Err(ArchiveFault::Stopped);
@@ -205,7 +205,7 @@ impl<D: Disk> Archive<D> {
     /// lends nothing. Answers, in this order: `Stopped`; `NoStream`.
     pub fn room(&mut self, slot: u8) -> (Result<(), ArchiveFault>, &mut [u8])
         ensures* writes_back { sem 𝓛 (LendsRoom D.row D.Disk self.entry slot result) }
-        ensures reply { RoomReply (bare_of self.old) slot result.0 }
+        ensures reply { RoomReply (state_of self.old) slot result.0 }
         ensures lent { result.1.now ≡ room_of self.old slot result.0 }
         ensures never_empty { OnOk result.0 (0 < length result.1.now) }
         ensures fits { OnOk result.0 (FitsFree (stream_at self.old.streams slot)
@@ -334,14 +334,14 @@ impl<D: Disk> Archive<D> {
         requires names { map items_of names.now ≡ names_gone seqs.now self.old.journal.standing.cases }
         requires runs { self.old.stopped ≡ false }
         requires may { MayFollow self.old.journal.standing (Drop seqs.now) }
-        ensures step { DropStep (bare_of self.old) seqs.now result (bare_of self.new) }
+        ensures step { DropStep (state_of self.old) seqs.now result (state_of self.new) }
         ensures bytes { IsTrue (D.is_honest self.old.disk)
-            → DropBytes (bare_of self.old) (contents_of D.seen self.old) seqs.now result
+            → DropBytes (state_of self.old) (contents_of D.seen self.old) seqs.now result
             (contents_of D.seen self.new) }
         ensures changes { Changes (Unit {0}) D.Disk self.old result self.new
             (λ x. x ≡ without (durable_of D.seen self.old) seqs.now) }
         ensures full { IsTrue (D.is_honest self.old.disk) → result ≡ Err ArchiveFault.JournalFull
-            → IsLastGeneration (bare_of self.old) }
+            → IsLastGeneration (state_of self.old) }
         ensures untouched { RefusalSpares result self.old.disk self.new.disk }
     {
         release_listed(&mut self.free, self.journal.entries(), seqs);

@@ -1,7 +1,7 @@
 use Rattle.std.proofs.Common.{◌≡◌, length, map}
 use Rattle.std.specs.Prelude.{option_map}
 use Rattle.std.proofs.lemmas.List.{length-map}
-use Rattle.intake.specs.Parts.{bare_stream}
+use Rattle.intake.specs.Parts.{stream_facts}
 use Rattle.std.proofs.Common.{arith, refl, rules, sym, ap, ◌∙◌}
 use Rattle.extents.specs.FreeSet.{one_if}
 use Rattle.intake.proofs.NameLemmas.{taken_is, taken_begun}
@@ -46,7 +46,7 @@ invariant_of-self g c =
 
 pub returns-then-contains : goal.returns-then-contains
 returns-then-contains g c = record {
-  step = rw (← c.self.view_is) (c.if-self.false, (let e : length (map (option_map bare_stream) c.self.inside.slots) ≡ length c.self.inside.slots = simp length-map in let f = c.self.invariant.sound.slots in omega arith), none_there c.self.inside.slots c.args.slot (not_open _ _ c.is_open.ensures c.if-is_open.false), (sym (taken_is (record { disk = c.self.inside.disk; journal = c.self.inside.journal; limit = c.self.inside.settings.limit; streams = c.self.inside.slots; stopped = c.self.inside.stopped }) c.self.inside.names c.args.name.items (c.self.invariant.taken c.if-self.false)) ∙ sym c.contains.ensures ∙ c.if-contains.true), refl);
+  step = rw (← c.self.view_is) (c.if-self.false, (let e : length (map (option_map stream_facts) c.self.inside.slots) ≡ length c.self.inside.slots = simp length-map in let f = c.self.invariant.sound.slots in omega arith), none_there c.self.inside.slots c.args.slot (not_open _ _ c.is_open.ensures c.if-is_open.false), (sym (taken_is (record { disk = c.self.inside.disk; journal = c.self.inside.journal; limit = c.self.inside.settings.limit; streams = c.self.inside.slots; stopped = c.self.inside.stopped }) c.self.inside.names c.args.name.items (c.self.invariant.taken c.if-self.false)) ∙ sym c.contains.ensures ∙ c.if-contains.true), refl);
   bytes = search rules;
   disk = search rules;
   stays = stays_still g.D.Disk c.args.self.now _ (search rules) (search rules);
@@ -54,7 +54,7 @@ returns-then-contains g c = record {
 
 pub returns-in_default : goal.returns-in_default
 returns-in_default g c = record {
-  step = rw (← c.self.view_is) ((c.if-self.false, (let e : length (map (option_map bare_stream) c.self.inside.slots) ≡ length c.self.inside.slots = simp length-map in let f = c.self.invariant.sound.slots in omega arith), none_there c.self.inside.slots c.args.slot (not_open _ _ c.is_open.ensures c.if-is_open.false), (sym (taken_is (record { disk = c.self.inside.disk; journal = c.self.inside.journal; limit = c.self.inside.settings.limit; streams = c.self.inside.slots; stopped = c.self.inside.stopped }) c.self.inside.names c.args.name.items (c.self.invariant.taken c.if-self.false)) ∙ sym c.contains.ensures ∙ c.if-contains.false)), refl);
+  step = rw (← c.self.view_is) ((c.if-self.false, (let e : length (map (option_map stream_facts) c.self.inside.slots) ≡ length c.self.inside.slots = simp length-map in let f = c.self.invariant.sound.slots in omega arith), none_there c.self.inside.slots c.args.slot (not_open _ _ c.is_open.ensures c.if-is_open.false), (sym (taken_is (record { disk = c.self.inside.disk; journal = c.self.inside.journal; limit = c.self.inside.settings.limit; streams = c.self.inside.slots; stopped = c.self.inside.stopped }) c.self.inside.names c.args.name.items (c.self.invariant.taken c.if-self.false)) ∙ sym c.contains.ensures ∙ c.if-contains.false)), refl);
   bytes = search rules;
   disk = search rules;
   stays = stays_still g.D.Disk c.args.self.now _ (search rules) (search rules);
@@ -62,7 +62,7 @@ returns-in_default g c = record {
 
 pub returns-in_default-keep_name : goal.returns-in_default-keep_name
 returns-in_default-keep_name g c = record {
-  step = rw (← c.self.view_is) ((c.if-self.false, (let e : length (map (option_map bare_stream) c.self.inside.slots) ≡ length c.self.inside.slots = simp length-map in let f = c.self.invariant.sound.slots in omega arith), none_there c.self.inside.slots c.args.slot (not_open _ _ c.is_open.ensures c.if-is_open.false), (sym (taken_is (record { disk = c.self.inside.disk; journal = c.self.inside.journal; limit = c.self.inside.settings.limit; streams = c.self.inside.slots; stopped = c.self.inside.stopped }) c.self.inside.names c.args.name.items (c.self.invariant.taken c.if-self.false)) ∙ sym c.contains.ensures ∙ c.if-contains.false)), refl);
+  step = rw (← c.self.view_is) ((c.if-self.false, (let e : length (map (option_map stream_facts) c.self.inside.slots) ≡ length c.self.inside.slots = simp length-map in let f = c.self.invariant.sound.slots in omega arith), none_there c.self.inside.slots c.args.slot (not_open _ _ c.is_open.ensures c.if-is_open.false), (sym (taken_is (record { disk = c.self.inside.disk; journal = c.self.inside.journal; limit = c.self.inside.settings.limit; streams = c.self.inside.slots; stopped = c.self.inside.stopped }) c.self.inside.names c.args.name.items (c.self.invariant.taken c.if-self.false)) ∙ sym c.contains.ensures ∙ c.if-contains.false)), refl);
   bytes = search rules;
   disk = search rules;
   stays = stays_still g.D.Disk c.args.self.now _ (search rules) (search rules);

@@ -7,7 +7,7 @@ use Rattle.intake.specs.Balance.{AreHeld, Balances}
 use Rattle.intake.specs.Contents.{UnmovedBytes}
 use Rattle.intake.specs.Ending.{EndsStreams}
 use Rattle.intake.specs.Faults.{fault_of}
-use Rattle.intake.specs.Parts.{Parts, bare_of, contents_of}
+use Rattle.intake.specs.Parts.{Parts, state_of, contents_of}
 use Rattle.intake.specs.Step.{DropStep}
 use Rattle.intake.specs.declared.faults.ArchiveFault.{ArchiveFault}
 use Rattle.case_journal.specs.declared.faults.JournalFault.TheVariants as journal_fault
@@ -79,8 +79,8 @@ invariant_of-self-2 g c =
 pub returns-clause-step : goal.returns-clause-step
 returns-clause-step g c =
     let on = rw (← c.self.view_is) at c.requires.runs in
-    subst (λ (f : ArchiveFault). DropStep (bare_of c.args.self.now) c.args.seqs.now (Err f) (bare_of (record { disk = c.append_drop.new.disk; journal = c.append_drop.new.self; limit = c.self.inside.settings.limit; streams = c.end_streams-self-inside.new.slots; stopped = c.end_streams-self-inside.result }))) (sym c.from-fault.ensures)
-    (subst (λ (a : Parts g.row.D.Denot). DropStep (bare_of a) c.args.seqs.now (Err (fault_of c.in-Err.fault)) (bare_of (record { disk = c.append_drop.new.disk; journal = c.append_drop.new.self; limit = c.self.inside.settings.limit; streams = c.end_streams-self-inside.new.slots; stopped = c.end_streams-self-inside.result }))) c.self.view_is
+    subst (λ (f : ArchiveFault). DropStep (state_of c.args.self.now) c.args.seqs.now (Err f) (state_of (record { disk = c.append_drop.new.disk; journal = c.append_drop.new.self; limit = c.self.inside.settings.limit; streams = c.end_streams-self-inside.new.slots; stopped = c.end_streams-self-inside.result }))) (sym c.from-fault.ensures)
+    (subst (λ (a : Parts g.row.D.Denot). DropStep (state_of a) c.args.seqs.now (Err (fault_of c.in-Err.fault)) (state_of (record { disk = c.append_drop.new.disk; journal = c.append_drop.new.self; limit = c.self.inside.settings.limit; streams = c.end_streams-self-inside.new.slots; stopped = c.end_streams-self-inside.result }))) c.self.view_is
     (drop_err g.D.Disk c.self.inside.disk c.append_drop.new.disk c.self.inside.journal c.append_drop.new.self c.self.inside.settings.limit c.self.inside.free c.self.inside.slots c.end_streams-self-inside.new.slots c.self.inside.stopped c.end_streams-self-inside.result c.args.seqs.now c.self.invariant.sound on c.in-Err.fault c.in-Err.ensures.step (subst (λ (f : ArchiveFault). EndsStreams f c.self.inside.slots c.end_streams-self-inside.result c.end_streams-self-inside.new.slots) c.from-fault.ensures c.end_streams-self-inside.ensures)))
 
 pub returns-clause-bytes : goal.returns-clause-bytes

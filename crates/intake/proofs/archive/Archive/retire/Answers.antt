@@ -7,13 +7,13 @@ use Rattle.journal_layout.specs.Case.{Case}
 use Rattle.journal_layout.specs.Record.{Drop}
 use Rattle.case_journal.specs.Append.{MayFollow}
 use Rattle.intake.specs.Blocks.{image_in}
-use Rattle.intake.specs.Parts.{bare_of, contents_of}
+use Rattle.intake.specs.Parts.{state_of, contents_of}
 use Rattle.intake.specs.Step.{DropStep}
 use Rattle.intake.proofs.RetireLemmas.{all_stay, decision_of, entries_rise, none_dropped, retire_err, retire_may, some_dropped}
 use Rattle.disk_model.specs.MomentLaws.{adds_weakened}
 use Rattle.intake.specs.Durable.{Durable, durable_of, without}
 use Rattle.intake.specs.Guarding.{Leaves, MayBeRetired}
-use Rattle.intake.specs.Step.{Retires}
+use Rattle.intake.specs.Step.{RetiresSome}
 use Rattle.retention.specs.declared.Decision.{Decision}
 use Rattle.intake.specs.declared.faults.ArchiveFault.{ArchiveFault}
 use Rattle.intake.specs.declared.faults.ArchiveFault.TheVariants as fault
@@ -79,9 +79,9 @@ returns-then-is_empty g c = record {
 pub returns-in-Err : goal.returns-in-Err
 returns-in-Err g c = record {
   step = let some : c.in-Ok.decision.dropped.items ≢ [] = search rules in
-      retire_err (bare_of c.args.self.now) c.args.policy.now c.in-Ok.decision.dropped.items c.in-Ok.decision.unmet c.in-Err.fault (bare_of c.drop_cases.new.self)
+      retire_err (state_of c.args.self.now) c.args.policy.now c.in-Ok.decision.dropped.items c.in-Ok.decision.unmet c.in-Err.fault (state_of c.drop_cases.new.self)
       (rw (← c.self.view_is) (c.if-self.false, (decision_of c.args.policy.now c.entries.result.now c.self.inside.journal.standing.cases c.in-Ok.decision.dropped.items c.in-Ok.decision.unmet c.entries.ensures c.in-Ok.ensures.decision), some))
-      (subst (λ (xs : List ℕ). DropStep (bare_of c.args.self.now) xs (Err c.in-Err.fault) (bare_of c.drop_cases.new.self)) c.as_slice-seqs.ensures.value c.in-Err.ensures.step);
+      (subst (λ (xs : List ℕ). DropStep (state_of c.args.self.now) xs (Err c.in-Err.fault) (state_of c.drop_cases.new.self)) c.as_slice-seqs.ensures.value c.in-Err.ensures.step);
   bytes = search rules;
   changes = record {
     honesty = c.in-Err.ensures.changes.honesty;
@@ -90,14 +90,14 @@ returns-in-Err g c = record {
     cause = c.in-Err.ensures.changes.cause;
     crash = λ honest.
         let some : c.in-Ok.decision.dropped.items ≢ [] = search rules in
-        let retires : Retires (bare_of c.args.self.now) c.args.policy.now c.in-Ok.decision.dropped.items c.in-Ok.decision.unmet =
+        let retires : RetiresSome (state_of c.args.self.now) c.args.policy.now c.in-Ok.decision.dropped.items c.in-Ok.decision.unmet =
         rw (← c.self.view_is) (c.if-self.false, (decision_of c.args.policy.now c.entries.result.now c.self.inside.journal.standing.cases c.in-Ok.decision.dropped.items c.in-Ok.decision.unmet c.entries.ensures c.in-Ok.ensures.decision), some) in
         let x : Durable = durable_of g.D.Disk.seen c.args.self.now in
         let y : Durable = durable_of g.D.Disk.seen c.drop_cases.new.self in
         adds_weakened g.D.Disk c.args.self.now.disk c.drop_cases.new.self.disk
         (Leaves {T = Unit {0}} x (Err c.in-Err.fault) y (λ z. z ≡ without x c.as_slice-seqs.result.now))
-        (Leaves {T = Decision} x (Err c.in-Err.fault) y (MayBeRetired (bare_of c.args.self.now) c.args.policy.now x))
-        (λ b h. leaves_of (Unit {0}) Decision c.in-Err.fault x y y (λ z. z ≡ without x c.as_slice-seqs.result.now) (MayBeRetired (bare_of c.args.self.now) c.args.policy.now x) b
+        (Leaves {T = Decision} x (Err c.in-Err.fault) y (MayBeRetired (state_of c.args.self.now) c.args.policy.now x))
+        (λ b h. leaves_of (Unit {0}) Decision c.in-Err.fault x y y (λ z. z ≡ without x c.as_slice-seqs.result.now) (MayBeRetired (state_of c.args.self.now) c.args.policy.now x) b
         (λ z is. (c.in-Ok.decision.dropped.items, c.in-Ok.decision.unmet, retires, is ∙ ap (without x) c.as_slice-seqs.ensures.value)) h)
         (c.in-Err.ensures.changes.crash honest);
     stands = c.in-Err.ensures.changes.stands;
@@ -109,7 +109,7 @@ returns-in-Err g c = record {
 pub returns : goal.returns
 returns g c = record {
   step = let some : c.in-Ok.decision.dropped.items ≢ [] = search rules in
-      let step = subst (λ (xs : List ℕ). DropStep (bare_of c.args.self.now) xs (Ok c.in_default-drop_cases.field-0) (bare_of c.drop_cases.new.self)) c.as_slice-seqs.ensures.value c.in_default-drop_cases.ensures.step in (
+      let step = subst (λ (xs : List ℕ). DropStep (state_of c.args.self.now) xs (Ok c.in_default-drop_cases.field-0) (state_of c.drop_cases.new.self)) c.as_slice-seqs.ensures.value c.in_default-drop_cases.ensures.step in (
         rw (← c.self.view_is) c.if-self.false,
         rw (← c.self.view_is) (decision_of c.args.policy.now c.entries.result.now c.self.inside.journal.standing.cases c.in-Ok.decision.dropped.items c.in-Ok.decision.unmet c.entries.ensures c.in-Ok.ensures.decision),
         inr (some, step.0, step.1),
