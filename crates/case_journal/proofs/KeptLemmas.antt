@@ -5,10 +5,11 @@ use Rattle.journal_layout.specs.Layout.{IsWithinLimits, half_length}
 use Rattle.journal_layout.specs.Front.{is_known}
 use Rattle.journal_layout.specs.Case.{Case}
 use Rattle.journal_layout.specs.Record.{Store}
-use Rattle.journal_layout.specs.Folding.{nothing_yet, dropped, with_pin}
+use Rattle.journal_layout.specs.Folding.{Folded, nothing_yet, dropped, with_pin}
 use Rattle.journal_layout.specs.Soundness.{IsSound}
 use Rattle.journal_layout.specs.Stands.{AreRead}
-use Rattle.journal_layout.specs.Live.{AreLive}
+use Rattle.journal_layout.specs.LabelledLaws.{labelled_stored, labelled_dropped, labelled_pinned, labelled_read}
+use Rattle.journal_layout.specs.Live.{AreLive, AreLabelled}
 use Rattle.journal_layout.specs.LiveLaws.{live_stored, live_dropped, live_pinned, live_read}
 use Rattle.case_journal.specs.Kept.{IsKept}
 
@@ -19,6 +20,7 @@ module _ (shape : Shape) (version : ℕ) (cases : List Case) (next used : ℕ) (
     limits = kept.limits;
     known = kept.known;
     live = subst (λ (cs : List Case). AreLive shape.data_blocks cs next) (sym is) (live_dropped shape.data_blocks cases next seqs kept.live);
+    labels = subst (λ (cs : List Case). AreLabelled version cs) (sym is) (labelled_dropped version seqs cases kept.labels);
     numbers = kept.numbers;
     header = kept.header;
     gate = kept.gate;
@@ -30,6 +32,7 @@ module _ (shape : Shape) (version : ℕ) (cases : List Case) (next used : ℕ) (
     limits = kept.limits;
     known = kept.known;
     live = subst (λ (cs : List Case). AreLive shape.data_blocks cs next) (sym is) (live_pinned shape.data_blocks cases next seq flag kept.live);
+    labels = subst (λ (cs : List Case). AreLabelled version cs) (sym is) (labelled_pinned version seq flag cases kept.labels);
     numbers = kept.numbers;
     header = kept.header;
     gate = kept.gate;
@@ -44,6 +47,7 @@ module _ (shape : Shape) (version : ℕ) (cases : List Case) (next used : ℕ) (
         limits = kept.limits;
         known = kept.known;
         live = subst (λ (n : ℕ). AreLive shape.data_blocks after (n + 1)) number (subst (λ (cs : List Case). AreLive shape.data_blocks cs (c.seq + 1)) (sym is) live);
+        labels = subst (λ (cs : List Case). AreLabelled version cs) (sym is) (labelled_stored version cases c kept.labels sound.2.no_label);
         numbers = (let high = sound.1 in omega arith);
         header = header;
         gate = gate;
@@ -54,5 +58,14 @@ pub kept_read : (shape : Shape) (cases : List Case) (version next n : ℕ) (byte
     → AreRead shape.data_blocks bytes (nothing_yet version) (record { version = version; cases = cases; next = next }) n → 32 + n + 1 ≤ half_length shape
     → IsKept shape version cases next (32 + n)
 kept_read shape cases version next n bytes limits known read room =
-    let live = live_read shape.data_blocks version bytes (record { version = version; cases = cases; next = next }) n read in
-    record { limits = limits; known = known; live = live; numbers = live.numbers; header = omega arith; gate = room }
+    let said : Folded = record { version = version; cases = cases; next = next } in
+    let live = live_read shape.data_blocks version bytes said n read in
+    record {
+      limits = limits;
+      known = known;
+      live = live;
+      labels = labelled_read shape.data_blocks version bytes said n read;
+      numbers = live.numbers;
+      header = omega arith;
+      gate = room;
+    }

@@ -122,6 +122,7 @@ impl Journal {
     fn room_for(&self, entry: &Entry, size: u64) -> Result<(), JournalFault>
         requires size { size ≡ record_size (store_of self.now.standing (case_of entry.now)) }
         requires short { length entry.now.runs ≤ 2 ^ 52 }
+        requires no_label { entry.now.label.items ≡ [] }
         ensures { HasRoomFor self.now.standing (store_of self.now.standing (case_of entry.now)) result }
     {
         if !self.fits(size) {
@@ -178,7 +179,12 @@ impl Journal {
         ensures cause { result ≡ Err JournalFault.Disk → HasRisen (D.failures disk.old) (D.failures disk.new) }
     {
         if !self.fits(size) {
-            return self.put_beside(disk, &Change::Store(seq, entry), self.next + 1);
+            return self.put_beside(
+                disk,
+                &Change::Store(seq, entry),
+                self.version,
+                self.next + 1,
+            );
         }
         let Ok(record) = store_record(self.alloc(), seq, entry, size) else {
             return Err(JournalFault::OutOfMemory);
@@ -199,7 +205,7 @@ impl Journal {
     {
         let size = drop_size(seqs);
         if !self.fits(size) {
-            return self.put_beside(disk, &Change::Drop(seqs), self.next);
+            return self.put_beside(disk, &Change::Drop(seqs), self.version, self.next);
         }
         let Ok(record) = drop_record(self.alloc(), seqs, size) else {
             return Err(JournalFault::OutOfMemory);
@@ -221,7 +227,7 @@ impl Journal {
         ensures cause { result ≡ Err JournalFault.Disk → HasRisen (D.failures disk.old) (D.failures disk.new) }
     {
         if !self.fits(PIN_SIZE) {
-            return self.put_beside(disk, &Change::Pin(seq, flag), self.next);
+            return self.put_beside(disk, &Change::Pin(seq, flag), self.version, self.next);
         }
         self.put_behind(disk, &pin_record(seq, flag))
     }
