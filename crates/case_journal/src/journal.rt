@@ -111,7 +111,7 @@ impl Journal {
     }
 
     // Whether a record of so many bytes, and the gate behind it, go behind those that stand there.
-    fn fits(&self, size: u64) -> bool
+    pub(crate) fn fits(&self, size: u64) -> bool
         ensures room { result ≡ nat_lt (self.now.standing.used + size) (half_length self.now.standing.shape) }
         ensures small { result ≡ true → size ≤ 16777216 }
     {
@@ -138,7 +138,11 @@ impl Journal {
     }
 
     // Puts a record behind those that stand there, whatever record it is. Answers where the next one goes.
-    fn put_behind<D: Disk>(&self, disk: &mut D, behind: &[u8]) -> Result<Place, JournalFault>
+    pub(crate) fn put_behind<D: Disk>(
+        &self,
+        disk: &mut D,
+        behind: &[u8],
+    ) -> Result<Place, JournalFault>
         requires keeps { Keeps D.Disk disk.old self.now }
         requires runs { self.now.stopped ≡ false }
         requires room { self.now.standing.used + length behind.now + 1 ≤ half_length self.now.standing.shape }
