@@ -344,12 +344,12 @@ impl<D: Disk> Archive<D> {
             → IsLastGeneration (bare_of self.old) }
         ensures untouched { RefusalSpares result self.old.disk self.new.disk }
     {
-        release_listed(&mut self.free, self.journal.entries(), seqs);
+        release_listed(&mut self.free, &self.journal, seqs);
         let Err(fault) = self.journal.append_drop(&mut self.disk, seqs) else {
             forget_names(&mut self.names, names);
             return Ok(());
         };
-        hold_listed(&mut self.free, self.journal.entries(), seqs);
+        hold_listed(&mut self.free, &self.journal, seqs);
         let fault = ArchiveFault::from(fault);
         self.stopped = end_streams(fault, &mut self.slots);
         Err(fault)
