@@ -147,9 +147,7 @@ impl Journal {
         ensures untouched { PutLeaves result disk.old disk.new }
         ensures cause { result ≡ Err JournalFault.Disk → HasRisen (D.failures disk.old) (D.failures disk.new) }
     {
-        let Ok(record) = label_record(self.alloc(), seq, label, label_size(label)) else {
-            return Err(JournalFault::OutOfMemory);
-        };
+        let record = label_record(self.alloc(), seq, label, label_size(label))?;
         self.put_behind(disk, &record)
     }
 

@@ -3,7 +3,7 @@ ghost use Rattle.std.specs.Prelude.{◌≡◌, ◌+◌, ◌<◌, ◌≤◌, ◌+
 ghost use Rattle.std.specs.List.{HoldsAt, remove};
 ghost use Rattle.journal_layout.specs.declared.entry.Entry.{Entry};
 ghost use Rattle.journal_layout.specs.Case.{case_of};
-ghost use Rattle.journal_layout.specs.Folding.{dropped, with_pin, with_label, is_among};
+ghost use Rattle.journal_layout.specs.Folding.{dropped, with_pin, with_label};
 ghost use Rattle.journal_layout.specs.Live.{seq_of_case};
 ghost use Rattle.journal_layout.specs.Soundness.{Rise, case_numbered};
 
