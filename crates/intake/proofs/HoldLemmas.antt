@@ -1,12 +1,12 @@
 -- How the blocks of cases are marked as used.
-use Rattle.std.proofs.Common.{◌≡◌, cond, ℕ, zero, suc, Option, None, ◌+◌, ◌<◌, ◌≤◌, ◌-◌, Bool, true, false, List, [], ◌∷◌, ◌++◌, length, map, get_or, take, drop, replicate, refl, sym, ap, ◌∙◌, subst, arith, Result, Ok, Err}
+use Rattle.std.proofs.Common.{◌≡◌, cond, ℕ, zero, suc, Option, None, ◌+◌, ◌<◌, ◌≤◌, ◌-◌, Bool, true, false, List, [], ◌∷◌, ◌++◌, length, get_or, take, drop, replicate, refl, sym, ap, ◌∙◌, subst, arith, Result, Ok, Err}
 use Rattle.std.specs.Prelude.{nat_lt}
 use Rattle.std.specs.Result.{IsOk}
 use Rattle.std.specs.List.{All}
-use Rattle.std.proofs.lemmas.List.{append-nil, drop_more, get_or-map, length-append, length-map, take-append-drop, take_more}
+use Rattle.std.proofs.lemmas.List.{append-nil, drop_more, length-append, take-append-drop, take_more}
 use Rattle.std.proofs.lemmas.List.FromFn.{length-range_with_len}
 use Rattle.std.proofs.lemmas.List.Elements.{All-cons, All-get_or, All-nil}
-use Rattle.std.proofs.lemmas.List.Sums.{sum_by-append, sum_by-cons, sum_by_more_le}
+use Rattle.std.proofs.lemmas.List.Sums.{sum_by-cons}
 use Rattle.extents.specs.declared.run_list.Run.{Run}
 use Rattle.extents.specs.declared.free_map.UseFault.TheVariants.{OutOfRange, InUse}
 use Rattle.extents.specs.declared.free_map.UseFault.{UseFault}
@@ -14,9 +14,8 @@ use Rattle.extents.specs.Runs.{run_blocks, blocks_of, runs_of}
 use Rattle.extents.specs.RunLaws.{blocks_of_runs, runs_have_blocks}
 use Rattle.extents.specs.FreeSet.{is_free, uses, one_if, Marks}
 use Rattle.extents.specs.FreeLaws.{uses_append, uses_inside, free_below, length_without, marked_one, marked_count}
-use Rattle.journal_layout.specs.Case.{Case, case_of}
+use Rattle.journal_layout.specs.Case.{Case}
 use Rattle.journal_layout.specs.LiveCounts.{blocks_of-append}
-use Rattle.journal_layout.specs.declared.entry.Entry.{Entry}
 use Rattle.extents.specs.FreeSet.{with_runs, free_count}
 use Rattle.std.proofs.lemmas.Bool.{lt-ltb}
 use Rattle.journal_layout.specs.Folding.{used_blocks}
@@ -24,7 +23,6 @@ use Rattle.journal_layout.specs.LiveCounts.{case_uses_same, used_length}
 use Rattle.journal_records.specs.Kept.{IsSpareMap}
 use Rattle.intake.proofs.CountLemmas.{given, uses_same}
 use Rattle.intake.specs.Balance.{AreFree, AreHeld, Balances}
-use Rattle.intake.specs.Live.{case_uses}
 use Rattle.intake.specs.Parts.{StreamParts}
 use Rattle.intake.specs.Sound.{IsArchiveSound, IsFineIfOpen, LeaveFree, stream_uses, stream_blocks, streams_named}
 use Rattle.disk_model.specs.declared.disk.Disk as disk

@@ -170,7 +170,7 @@ all_weakened P Q implies (x ∷ xs) all = (implies x all.0, all_weakened P Q imp
 leads_weakened : {D : Type 0} (T : Type 0) (g : disk.Ghosts D) (old new : Parts D) (r : Result T ArchiveFault) (P Q : Durable → Type 0) → ((x : Durable) → P x → Q x) → LeadsToMark T g old r new P → LeadsToMark T g old r new Q
 leads_weakened T g old new r P Q implies leads before = let lead = leads before in (lead.0, all_weakened P Q implies lead.0 lead.1, lead.2)
 
--- whether an image of so many bytes may lie in so many runs
+-- whether an image of `len` bytes may lie in `runs` runs
 fits_or_not : (len runs : ℕ) → MayHaveRuns len runs ⊎ (MayHaveRuns len runs → ⊥)
 fits_or_not len runs =
     elim (cases_lt (blocks_for len) runs) as (λ _. MayHaveRuns len runs ⊎ (MayHaveRuns len runs → ⊥)) [

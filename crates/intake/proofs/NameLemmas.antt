@@ -1,24 +1,21 @@
 -- The names of the cases and of the streams, in a set.
-use Rattle.std.proofs.Common.{◌≡◌, inl, inr, ℕ, zero, suc, ◌+◌, ◌<◌, ◌≤◌, Bool, true, false, ◌||◌, cond, nat_eq, List, [], ◌∷◌, ◌++◌, length, map, get_or, take, Option, None, Some, Result, Ok, Err, refl, sym, ap, ◌∙◌, subst, arith}
+use Rattle.std.proofs.Common.{◌≡◌, inl, inr, ℕ, zero, suc, ◌+◌, ◌<◌, ◌≤◌, Bool, true, false, ◌||◌, cond, List, [], ◌∷◌, ◌++◌, length, map, get_or, take, Option, None, Some, Result, Ok, Err, refl, sym, ap, ◌∙◌, subst, arith}
 use Rattle.std.specs.List.{list_any, count_by}
 use Rattle.std.specs.Str.{bytes_eq}
 use Rattle.std.specs.BTreeSet.{BTreeSet}
 use Rattle.arrayvec.specs.ArrayVec.{ArrayVec}
-use Rattle.std.proofs.lemmas.Bool.{cases_eq, ne_eqb, eq-eqb}
 use Rattle.std.proofs.lemmas.List.{get_or-map, length-map, map-append, take_more}
 use Rattle.std.proofs.lemmas.List.Sums.{sum_by-cons}
 use Rattle.std.proofs.lemmas.Slice.Eq.{bytes_eq-Decides}
 use Rattle.extents.specs.FreeSet.{one_if}
 use Rattle.journal_layout.specs.declared.entry.Entry.{Entry}
-use Rattle.journal_layout.specs.Case.{Case, case_of, numbered}
-use Rattle.journal_layout.specs.Folding.{dropped, is_name_of, with_pin}
-use Rattle.journal_layout.specs.Live.{gone, seq_of_case}
-use Rattle.journal_layout.specs.LiveCounts.{none_named, named_stored, named_dropped, named_pinned}
-use Rattle.journal_layout.specs.Record.{Record}
-use Rattle.journal_layout.specs.Soundness.{case_numbered, Rise}
+use Rattle.journal_layout.specs.Case.{Case, case_of}
+use Rattle.journal_layout.specs.Folding.{dropped, with_pin}
+use Rattle.journal_layout.specs.Live.{gone}
+use Rattle.journal_layout.specs.LiveCounts.{named_stored, named_dropped, named_pinned}
 use Rattle.journal_records.specs.Kept.{AreNames}
 use Rattle.std.specs.Prelude.{option_map, slice_set, replicate}
-use Rattle.std.proofs.lemmas.Bool.{cases_lt, or_parts}
+use Rattle.std.proofs.lemmas.Bool.{cases_lt}
 use Rattle.std.proofs.lemmas.List.{get_or_past}
 use Rattle.std.proofs.lemmas.List.Sums.{sum_by-set}
 use Rattle.intake.specs.declared.faults.ArchiveFault.TheVariants as fault
@@ -252,29 +249,3 @@ names_more seqs entries i e within is =
     ap (names_gone seqs) (take_more cases i (case_of e) low ∙ ap (λ (c : Case). take i cases ++ c ∷ []) here)
     ∙ ap (map name_of_case) (gone-append seqs (take i cases) (case_of e ∷ []))
     ∙ map-append name_of_case (gone seqs (take i cases)) (gone seqs (case_of e ∷ []))
-
--- the only case of a number
-
-gone_none : (seq last : ℕ) (cases : List Case) → seq ≤ last → Rise last (map seq_of_case cases) → gone (seq ∷ []) cases ≡ []
-gone_none seq last [] low rise = refl
-gone_none seq last (c ∷ rest) low rise =
-    let other : nat_eq c.seq seq ≡ false = ne_eqb c.seq seq (λ e. let r = rise.0 in omega (arith, e, low, r)) in
-    ap (λ t. cond (t || false) (c ∷ gone (seq ∷ []) rest) (gone (seq ∷ []) rest)) other
-    ∙ gone_none seq c.seq rest (let r = rise.0 in omega (arith, low, r)) rise.1
-
-pub gone_one : (seq last : ℕ) (cases : List Case) (c : Case) → Rise last (map seq_of_case cases) → Some c ≡ case_numbered seq cases → gone (seq ∷ []) cases ≡ c ∷ []
-gone_one seq last [] c rise is = absurd (cc)
-gone_one seq last (x ∷ rest) c rise is =
-    elim (cases_eq x.seq seq) as (λ _. gone (seq ∷ []) (x ∷ rest) ≡ c ∷ []) [
-      | inl same ↦
-          let e = eq-eqb x.seq seq same in
-          let found : Some c ≡ Some x = is ∙ ap (λ t. cond t (Some x) (case_numbered seq rest)) e in
-          let one : c ≡ x = cc in
-          ap (λ t. cond (t || false) (x ∷ gone (seq ∷ []) rest) (gone (seq ∷ []) rest)) e
-          ∙ ap (λ (l : List Case). x ∷ l) (gone_none seq x.seq rest (omega (arith, same)) rise.1)
-          ∙ ap (λ (y : Case). y ∷ []) (sym one)
-      | inr other ↦
-          let e = ne_eqb x.seq seq other in
-          ap (λ t. cond (t || false) (x ∷ gone (seq ∷ []) rest) (gone (seq ∷ []) rest)) e
-          ∙ gone_one seq x.seq rest c rise.1 (is ∙ ap (λ t. cond t (Some x) (case_numbered seq rest)) e)
-    ]

@@ -7,8 +7,6 @@ use Rattle.std.proofs.lemmas.List.{map-set, length-map}
 use Rattle.std.proofs.lemmas.List.Sums.{sum_by-cons}
 use Rattle.std.proofs.lemmas.Bool.{or_parts}
 use Rattle.std.proofs.lemmas.Slice.Eq.{bytes_eq-Decides}
-use Rattle.journal_layout.specs.Case.{Case, case_of}
-use Rattle.journal_layout.specs.declared.entry.Entry.{Entry}
 use Rattle.case_journal.specs.Journaled.{Journaled}
 use Rattle.extents.specs.FreeSet.{one_if}
 use Rattle.intake.specs.Contents.{Taken, zero_block, empty_taken, with_taken}
@@ -16,7 +14,7 @@ use Rattle.intake.specs.Live.{cases_named}
 use Rattle.intake.specs.Parts.{Parts, StreamParts, state_of, case_facts, stream_facts, taken_in, contents_of}
 use Rattle.intake.specs.Slots.{stream_at}
 use Rattle.intake.specs.Sound.{streams_named, is_called}
-use Rattle.intake.specs.State.{ArchiveState, CaseFacts, StreamFacts}
+use Rattle.intake.specs.State.{CaseFacts, StreamFacts}
 use Rattle.intake.specs.Step.{has_name, is_taken, with_stream}
 use Rattle.disk_model.specs.declared.disk.Disk as disk
 use Rattle.intake.specs.Balance.{Balances}

@@ -88,7 +88,7 @@ with_images (c ∷ cases) (image ∷ images) = record {
 abbrev pub durable_part : ArchiveState → Contents → Durable
 durable_part s c = record { cases = with_images s.cases c.images; next = s.next }
 
--- with the image of a stream as the last case, in so many runs of blocks
+-- with the image of a stream as the last case, in `runs` runs of blocks
 abbrev pub with_case : Durable → StreamFacts → ℕ → List ℕ → Durable
 with_case x s runs image = record {
   cases = x.cases ++ record {

@@ -44,7 +44,7 @@ Leaves old r new doubt c = StandsFor c old ⊎ LeavesNew r new doubt c
 abbrev pub LeavesStored : {T : Type 0} → Result T ArchiveFault → Durable → Durable → List ℕ → Type 0
 LeavesStored r old new c = Leaves old r new (λ x. x ≡ new) c
 
--- The stream in the slot is the last case, with the bytes that it took, in so many runs of blocks.
+-- The stream in the slot is the last case, with the bytes that it took, in `runs` runs of blocks.
 abbrev pub StoresIn : ℕ → ArchiveState → Contents → Durable → ℕ → Durable → Type 0
 StoresIn runs s c old slot x =
     (stream : StreamFacts) × (taken : Taken) × (stream_at s.streams slot ≡ Some stream) × (stream_at c.taken slot ≡ Some taken)

@@ -27,7 +27,7 @@ pub data Call : Type 0 where
   begin_in : ℕ → StreamFacts → Call
   -- the free part of a slot's block is lent, and its borrower leaves these bytes in it
   lend_of : ℕ → List ℕ → Call
-  -- so many of these bytes are taken
+  -- the first of the lent bytes are taken, this number of them
   advance_by : ℕ → ℕ → Call
   -- the stream in a slot becomes a case
   finish_of : ℕ → Call

@@ -14,7 +14,6 @@ use Rattle.intake.specs.Parts.{StreamParts}
 use Rattle.intake.specs.Live.{cases_named}
 use Rattle.intake.specs.Sound.{IsArchiveSound, streams_named}
 use Rattle.intake.specs.declared.faults.ArchiveFault.{ArchiveFault}
-use Rattle.intake.specs.declared.faults.ArchiveFault.TheVariants.{OutOfMemory}
 
 -- the set has this name as well, unless there was no memory; any other as before
 abbrev pub KeepsName : Result (Unit {0}) ArchiveFault → List ℕ → BTreeSet (ArrayVec ℕ) → BTreeSet (ArrayVec ℕ) → Type 0

@@ -1,5 +1,5 @@
 -- What an opening answers, and the cases that an archive shows.
-use Rattle.std.specs.Prelude.{◌≡◌, ℕ, Bool, false, true, List, Option, None, Result, Ok, Err, map, replicate}
+use Rattle.std.specs.Prelude.{◌≡◌, ℕ, false, true, List, Option, None, Result, Ok, Err, map, replicate}
 use Rattle.std.specs.Borrow.{Bor}
 use Rattle.journal_layout.specs.declared.entry.Entry.{Entry}
 use Rattle.journal_layout.specs.declared.faults.OpenFault.{OpenFault}

@@ -31,7 +31,7 @@ stream_blocks streams = sum_by (λ (o : Option StreamParts). length (held_by o))
 abbrev pub case_blocks : List Case → ℕ
 case_blocks cases = sum_by (λ (c : Case). length c.blocks) cases
 
--- These are the flags of so many blocks, of which the cases leave free those that none of them uses.
+-- These are the flags of all data blocks, of which the cases leave free those that none of them uses.
 pub record LeaveFree (blocks : ℕ) (cases : List Case) (flags : List Bool) : Type 0 where
   pub long : length flags ≡ blocks
   pub once : (k : ℕ) → one_if (is_free flags k) + case_uses cases k ≡ one_if (nat_lt k blocks)

@@ -40,11 +40,11 @@ pub record ArchiveState : Type 0 where
   pub streams : List (Option StreamFacts)
   pub stopped : Bool
 
--- the blocks that hold so many bytes
+-- the blocks that hold `len` bytes
 abbrev pub blocks_for : ℕ → ℕ
 blocks_for len = (len + 4095) / 4096
 
--- the blocks that a stream of so many bytes has filled
+-- the blocks that a stream has filled
 abbrev pub filled_by : Option StreamFacts → ℕ
 filled_by None = 0
 filled_by (Some s) = s.len / 4096

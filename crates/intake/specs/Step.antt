@@ -84,11 +84,11 @@ AdvanceStep old slot n (Err Disk) new =
     (s : StreamFacts) × MayGrow old slot n s × (FindsNoBlock old s n → ⊥) × (new ≡ halted old)
 AdvanceStep old slot n (Err _) new = ⊥
 
--- the bytes of the record of a case of this name in so many runs
+-- the bytes of the record of a case of this name in `runs` runs
 abbrev pub record_size : List ℕ → ℕ → ℕ
 record_size name runs = rounded (48 + 8 * runs + length name)
 
--- a case of so many bytes may lie in so many runs
+-- a case of `len` bytes may lie in `runs` runs
 abbrev pub MayHaveRuns : ℕ → ℕ → Type 0
 MayHaveRuns len runs = (runs ≤ blocks_for len) × (0 < len → 0 < runs)
 
@@ -97,7 +97,7 @@ MayHaveRuns len runs = (runs ≤ blocks_for len) × (0 < len → 0 < runs)
 abbrev pub snapshot_size : List CaseFacts → ℕ
 snapshot_size cases = 48 + sum_by (λ (c : CaseFacts). record_size c.name c.runs) cases
 
--- A record of so many bytes, behind which these cases stand, has room with the gate behind it: behind the records that are there,
+-- A record of `size` bytes, behind which these cases stand, has room with the gate behind it: behind the records that are there,
 -- or in the journal's other half, where these cases are written anew and a generation is left for it.
 abbrev pub HasRecordRoom : ArchiveState → ℕ → List CaseFacts → Type 0
 HasRecordRoom s size cases =
@@ -114,7 +114,7 @@ IsFull s size cases =
     (half_length s.shape < s.used + size + 1)
     × ((half_length s.shape < snapshot_size cases + 1) ⊎ IsLastGeneration s)
 
--- the same state with these cases, by a record of so many bytes: it stands behind the others where it fits there, and else the
+-- the same state with these cases, by a record of `size` bytes: it stands behind the others where it fits there, and else the
 -- cases stand in the other half, written anew
 abbrev pub recorded : ArchiveState → ℕ → List CaseFacts → ArchiveState
 recorded s size cases = record s {
@@ -194,7 +194,7 @@ case_at seq (c ∷ rest) = if c.seq == seq then Some c else case_at seq rest
 abbrev pub HasCase : ArchiveState → ℕ → CaseFacts → Type 0
 HasCase old seq c = (old.stopped ≡ false) × (case_at seq old.cases ≡ Some c)
 
--- the bytes of the record that drops so many cases
+-- the bytes of the record that drops `count` cases
 abbrev pub drop_size : ℕ → ℕ
 drop_size n = rounded (12 + 4 * n)
 

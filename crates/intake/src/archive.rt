@@ -179,12 +179,8 @@ impl<D: Disk> Archive<D> {
         if self.names.contains(&name) {
             return Err(ArchiveFault::NameTaken);
         }
-        let Ok(block) = Buffer::zeros(self.alloc) else {
-            return Err(ArchiveFault::OutOfMemory);
-        };
-        let Ok(()) = keep_name(&mut self.names, &name) else {
-            return Err(ArchiveFault::OutOfMemory);
-        };
+        let block = Buffer::zeros(self.alloc)?;
+        keep_name(&mut self.names, &name)?;
         self.slots.put(
             slot,
             Stream {
@@ -344,12 +340,12 @@ impl<D: Disk> Archive<D> {
             → IsLastGeneration (state_of self.old) }
         ensures untouched { RefusalSpares result self.old.disk self.new.disk }
     {
-        release_listed(&mut self.free, self.journal.entries(), seqs);
+        release_listed(&mut self.free, &self.journal, seqs);
         let Err(fault) = self.journal.append_drop(&mut self.disk, seqs) else {
             forget_names(&mut self.names, names);
             return Ok(());
         };
-        hold_listed(&mut self.free, self.journal.entries(), seqs);
+        hold_listed(&mut self.free, &self.journal, seqs);
         let fault = ArchiveFault::from(fault);
         self.stopped = end_streams(fault, &mut self.slots);
         Err(fault)
@@ -383,19 +379,13 @@ impl<D: Disk> Archive<D> {
         if self.stopped {
             return Err(ArchiveFault::Stopped);
         }
-        let Ok(decision) = decide_for(self.alloc, self.journal.entries(), policy) else {
-            return Err(ArchiveFault::OutOfMemory);
-        };
+        let decision = decide_for(self.alloc, self.journal.entries(), policy)?;
         if decision.dropped.is_empty() {
             return Ok(decision);
         }
         let seqs = decision.dropped.as_slice();
-        let Ok(names) = names_of(self.alloc, self.journal.entries(), seqs) else {
-            return Err(ArchiveFault::OutOfMemory);
-        };
-        if let Err(fault) = self.drop_cases(seqs, &names) {
-            return Err(fault);
-        }
+        let names = names_of(self.alloc, self.journal.entries(), seqs)?;
+        self.drop_cases(seqs, &names)?;
         Ok(decision)
     }
 

@@ -66,9 +66,7 @@ fn write_data<D: Disk>(
     ensures size { D.size disk.new ≡ D.size disk.old }
 {
     data_blocks_keep();
-    let Ok(()) = disk.write_at(block_start(shape, block), bytes) else {
-        return Err(ArchiveFault::Disk);
-    };
+    disk.write_at(block_start(shape, block), bytes)?;
     Ok(())
 }
 
@@ -256,9 +254,7 @@ fn make_stable<D: Disk>(disk: &mut D) -> Result<(), ArchiveFault>
     ensures honesty { D.is_honest disk.new ≡ D.is_honest disk.old }
     ensures size { D.size disk.new ≡ D.size disk.old }
 {
-    let Ok(()) = disk.sync() else {
-        return Err(ArchiveFault::Disk);
-    };
+    disk.sync()?;
     Ok(())
 }
 

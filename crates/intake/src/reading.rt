@@ -34,9 +34,7 @@ fn read_run<D: Disk>(
     ensures later { D.failures disk.old ≤ D.failures disk.new }
 {
     let at = shape.data_start() + BLOCK * u64::from(run.start);
-    let Ok(()) = disk.read_at(at, into) else {
-        return Err(ArchiveFault::Disk);
-    };
+    disk.read_at(at, into)?;
     Ok(())
 }
 
@@ -89,9 +87,7 @@ pub(crate) fn read_image<D: Disk>(
 {
     // The last block is read whole.
     let size = BLOCK * entry.length.div_ceil(BLOCK);
-    let Ok(mut image) = vec![in alloc; 0u8; size as usize] else {
-        return Err(ArchiveFault::OutOfMemory);
-    };
+    let mut image = vec![in alloc; 0u8; size as usize]?;
     read_runs(disk, shape, entry.runs.runs(), &mut image)?;
     image.truncate(entry.length as usize);
     Ok(image)

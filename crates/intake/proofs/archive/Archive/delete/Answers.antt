@@ -1,6 +1,6 @@
 use Rattle.std.proofs.Common.{List, ℕ, [], ◌∷◌, map}
 use Rattle.intake.specs.Names.{name_of_case}
-use Rattle.intake.proofs.NameLemmas.{gone_one}
+use Rattle.intake.proofs.ListedLemmas.{gone_one}
 use Rattle.std.proofs.Common.{rules, ◌∙◌, ap, sym, refl}
 use Rattle.std.specs.Prelude.{option_map}
 use Rattle.intake.specs.Parts.{state_of, case_facts}
