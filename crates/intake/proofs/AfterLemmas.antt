@@ -106,7 +106,7 @@ module _ {D : Type 0} (g : disk.Ghosts D) (d d' : D) (j j' : Journaled) (r : Rec
       ∙ ap (λ (x : List (Option StreamFacts)). record (state_of before) { streams = x; stopped = true })
       (ap (map (option_map stream_facts)) same ∙ closed_map stream_facts streams)
 
-  moved : (flags' : List Bool) → IsArchiveSound g d j most flags streams b → j' ≡ j → Guards g d' j' → b' ≡ false → streams' ≡ streams → flags' ≡ flags → IsArchiveSound g d' j' most flags' streams' b'
+  pub moved : (flags' : List Bool) → IsArchiveSound g d j most flags streams b → j' ≡ j → Guards g d' j' → b' ≡ false → streams' ≡ streams → flags' ≡ flags → IsArchiveSound g d' j' most flags' streams' b'
   moved flags' sound is keeps off same back =
       subst (λ (k : Journaled). IsArchiveSound g d' k most flags' streams' b') (sym is)
       (subst (λ (x : List (Option StreamParts)). IsArchiveSound g d' j most flags' x b') (sym same)
@@ -158,7 +158,7 @@ module _ {D : Type 0} (seen : D → List ℕ) (d d' : D) (j : Journaled) (most :
       ∙ ap (λ (x : List (Option Taken)). record { images = map (λ (c : Case). image_in j.standing.shape (seen d) c.blocks c.len) j.standing.cases; taken = x })
       (closed_map (taken_in j (seen d')) streams ∙ ap closed (taken_behind j (seen d) (seen d') outside streams))
 
-  stay : (j' : Journaled) (b' : Bool) (streams' : List (Option StreamParts)) → j' ≡ j → streams' ≡ streams
+  pub stay : (j' : Journaled) (b' : Bool) (streams' : List (Option StreamParts)) → j' ≡ j → streams' ≡ streams
       → contents_of seen (record { disk = d'; journal = j'; limit = most; streams = streams'; stopped = b' }) ≡ contents_of seen past
   stay j' b' streams' is same =
       ap (λ (k : Journaled). contents_of seen (record { disk = d'; journal = k; limit = most; streams = streams'; stopped = b' })) is
