@@ -16,7 +16,7 @@ use Rattle.journal_snapshot.specs.ChangeLaws.{snapshot_bytes_are}
 use Rattle.journal_snapshot.specs.Measuring.{snapshot_bytes}
 use Rattle.journal_snapshot.specs.Writing.{written_case, written_added}
 use Rattle.case_journal.specs.declared.faults.JournalFault.{JournalFault}
-use Rattle.case_journal.specs.declared.faults.JournalFault.TheVariants.{Stopped, JournalFull, NumbersSpent, OutOfMemory, Disk}
+use Rattle.case_journal.specs.declared.faults.JournalFault.TheVariants.{Stopped, JournalFull, NumbersSpent, OutOfMemory, Disk, OldVersion}
 use Rattle.case_journal.specs.Journaled.{Journaled}
 use Rattle.case_journal.specs.Append.{HasRoom, StoreRefused}
 use Rattle.case_journal.specs.Compacting.{FindsRoom, noted}
@@ -47,6 +47,7 @@ module _ (s : Standing) (es : List Entry) (b : Bor Entry) (same : s.cases ≡ ma
   room_lacking size NumbersSpent is unfit found = absurd found
   room_lacking size OutOfMemory is unfit found = absurd found
   room_lacking size Disk is unfit found = absurd found
+  room_lacking size OldVersion is unfit found = absurd found
 
   pub room_beside_is : (m : Measure) → FindsRoom s.shape s.generation (change.Store 0 b) es (Ok m) → HasRoom s stored
   room_beside_is m found = inr (omega (arith, found.0.0, found.0.1, size_is), found.1)
@@ -61,6 +62,7 @@ store_refused j c Stopped runs room = absurd room
 store_refused j c NumbersSpent runs room = absurd room
 store_refused j c OutOfMemory runs room = absurd room
 store_refused j c Disk runs room = absurd room
+store_refused j c OldVersion runs room = absurd room
 
 -- the record is not written
 pub put_refused : (j : Journaled) (c : Case) (seq : ℕ) (f : JournalFault) → j.stopped ≡ false → j.standing.next < 2 ^ 32 → seq ≡ j.standing.next → PutStep j.standing (Store (numbered seq c)) (Err f)
@@ -74,3 +76,4 @@ put_refused j c seq f runs left number step =
     of Disk step = (runs, step, left, refl)
     of Stopped step = absurd step
     of NumbersSpent step = absurd step
+    of OldVersion step = absurd step

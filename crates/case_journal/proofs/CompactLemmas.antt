@@ -1,5 +1,5 @@
 -- What is written anew of an open journal.
-use Rattle.std.proofs.Common.{◌≡◌, inl, inr, ◌+◌, ◌<◌, ◌≤◌, ◌^◌, ◌*◌, ◌∙◌, ◌++◌, ℕ, List, Some, true, Ok, Err, ⊎_elim, map, length, get_or, refl, sym, ap, subst, arith}
+use Rattle.std.proofs.Common.{◌≡◌, inl, inr, ◌+◌, ◌<◌, ◌≤◌, ◌^◌, ◌*◌, ◌∙◌, ◌++◌, ℕ, List, Some, true, Ok, Err, ⊎_elim, map, length, get_or, sym, ap, subst, arith}
 use Rattle.std.proofs.Math.ListN.{get_or-map}
 use Rattle.std.proofs.lemmas.List.{length-map}
 use Rattle.journal_layout.specs.declared.entry.Entry.{Entry}
@@ -27,7 +27,7 @@ use Rattle.case_journal.specs.declared.compacting.Place.{Place}
 use Rattle.case_journal.specs.Journaled.{Journaled}
 use Rattle.case_journal.specs.Compacting.{HasSnapshotRoom, BesideStep, FindsRoom, IsWriteAnswer}
 use Rattle.case_journal.specs.declared.faults.JournalFault.{JournalFault}
-use Rattle.case_journal.specs.declared.faults.JournalFault.TheVariants.{Stopped, JournalFull, NumbersSpent, OutOfMemory, Disk}
+use Rattle.case_journal.specs.declared.faults.JournalFault.TheVariants.{Stopped, JournalFull, NumbersSpent, OutOfMemory, Disk, OldVersion}
 
 -- the image of a live case lies in no more blocks than an image may have
 pub live_short : (limit next : ℕ) (es : List Entry) → AreLive limit (map case_of es) next → AreShort es
@@ -76,6 +76,7 @@ module _ (s : Standing) (ch : Change) (es : List Entry) (same : s.cases ≡ map 
   room_refused NumbersSpent found = absurd found
   room_refused OutOfMemory found = absurd found
   room_refused Disk found = absurd found
+  room_refused OldVersion found = absurd found
 
   -- the write is refused
   pub write_refused : (e : JournalFault) (m : Measure) → FindsRoom s.shape s.generation ch es (Ok m) → IsWriteAnswer (Err e) → BesideStep s f (Err e)
@@ -84,6 +85,7 @@ module _ (s : Standing) (ch : Change) (es : List Entry) (same : s.cases ≡ map 
   write_refused Stopped m found answer = absurd answer
   write_refused JournalFull m found answer = absurd answer
   write_refused NumbersSpent m found answer = absurd answer
+  write_refused OldVersion m found answer = absurd answer
 
   -- it is written
   pub write_done : (p : Place) (m : Measure) → p ≡ record { half = other_half s.half; generation = s.generation + 1; used = m.used } → FindsRoom s.shape s.generation ch es (Ok m) → BesideStep s f (Ok p)

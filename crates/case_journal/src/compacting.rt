@@ -94,12 +94,8 @@ pub(crate) fn write_beside<D: Disk>(
     ensures cause { result ≡ Err JournalFault.Disk → HasRisen (D.failures disk.old) (D.failures disk.new) }
     ensures later { D.failures disk.old ≤ D.failures disk.new }
 {
-    let Ok(mut buffer) = Vec::with_capacity(alloc, measure.largest as usize) else {
-        return Err(JournalFault::OutOfMemory);
-    };
-    let Ok(()) = rewrite(disk, target, entries, change, &mut buffer) else {
-        return Err(JournalFault::Disk);
-    };
+    let mut buffer = Vec::with_capacity(alloc, measure.largest as usize)?;
+    rewrite(disk, target, entries, change, &mut buffer)?;
     Ok(())
 }
 

@@ -1,4 +1,10 @@
 // Why a call of the journal is refused.
+ghost use Rattle.std.specs.Prelude.{◌≡◌};
+ghost use Rattle.case_journal.specs.declared.faults.FormatFault.TheVariants as format_faults;
+ghost use Rattle.case_journal.specs.declared.faults.JournalFault.TheVariants as journal_faults;
+
+use disk_model::DiskFault;
+use std::alloc::AllocError;
 use thiserror::Error;
 
 /// Why an archive was not made.
@@ -12,7 +18,7 @@ pub enum FormatFault {
     Disk,
 }
 
-/// Why a record was not appended, in the order in which it is checked.
+/// Why a record was not appended. They are checked in this order, `OldVersion` right behind `Stopped`.
 #[derive(Clone, Copy, Debug, PartialEq, Eq, Error)]
 pub enum JournalFault {
     /// A disk fault has stopped the journal until it is opened again.
@@ -30,4 +36,31 @@ pub enum JournalFault {
     /// The disk failed. The record may stand on it or not, and the journal is stopped.
     #[error("the disk failed")]
     Disk,
+    /// The archive is of version 1 of the layout, which keeps no labels.
+    #[error("the archive's version keeps no labels")]
+    OldVersion,
+}
+
+impl From<DiskFault> for FormatFault {
+    ghost from_gives = { λ _ fault. fault ≡ format_faults.Disk };
+
+    fn from(_fault: DiskFault) -> FormatFault {
+        FormatFault::Disk
+    }
+}
+
+impl From<DiskFault> for JournalFault {
+    ghost from_gives = { λ _ fault. fault ≡ journal_faults.Disk };
+
+    fn from(_fault: DiskFault) -> JournalFault {
+        JournalFault::Disk
+    }
+}
+
+impl From<AllocError> for JournalFault {
+    ghost from_gives = { λ _ fault. fault ≡ journal_faults.OutOfMemory };
+
+    fn from(_error: AllocError) -> JournalFault {
+        JournalFault::OutOfMemory
+    }
 }

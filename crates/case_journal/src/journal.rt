@@ -1,14 +1,11 @@
 // An open journal, and its appends.
-ghost use Rattle.std.specs.Prelude.{◌≡◌, ◌≢◌, ◌+◌, ◌*◌, ◌<◌, ◌≤◌, ◌^◌, nat_lt, true, false, Bool, ◌++◌, ◌∷◌, [], length, map, IsTrue, OnOk, IfOk, IfErr, IfSome, None, Err, Ok, ℕ, vec_len, vec_capacity, option_map};
-ghost use Rattle.std.specs.List.{HoldsAt};
-ghost use Rattle.journal_layout.specs.Live.{seq_of_case};
+ghost use Rattle.std.specs.Prelude.{◌≡◌, ◌+◌, ◌*◌, ◌<◌, ◌≤◌, ◌^◌, nat_lt, true, false, [], length, map, IsTrue, OnOk, IfErr, Err, option_map};
 ghost use Rattle.journal_layout.specs.declared.entry.Entry.{Entry};
 ghost use Rattle.disk_model.specs.Places.{SameOutside};
 ghost use Rattle.disk_model.specs.Disk.{HasRisen};
 ghost use Rattle.journal_layout.specs.Case.{case_of, numbered};
 ghost use Rattle.journal_layout.specs.Record.{Record, Store, Drop, Pin, record_size, behind_gate};
 ghost use Rattle.journal_layout.specs.Layout.{IsWithinLimits, disk_length, half_start, half_length};
-ghost use Rattle.journal_layout.specs.Folding.{with_pin, dropped, is_among};
 ghost use Rattle.journal_layout.specs.Soundness.{case_numbered, Rise};
 ghost use Rattle.journal_layout.specs.Standing.{store_of};
 ghost use Rattle.journal_layout.specs.Rewriting.{fits};
@@ -111,7 +108,7 @@ impl Journal {
     }
 
     // Whether a record of so many bytes, and the gate behind it, go behind those that stand there.
-    fn fits(&self, size: u64) -> bool
+    pub(crate) fn fits(&self, size: u64) -> bool
         ensures room { result ≡ nat_lt (self.now.standing.used + size) (half_length self.now.standing.shape) }
         ensures small { result ≡ true → size ≤ 16777216 }
     {
@@ -138,7 +135,11 @@ impl Journal {
     }
 
     // Puts a record behind those that stand there, whatever record it is. Answers where the next one goes.
-    fn put_behind<D: Disk>(&self, disk: &mut D, behind: &[u8]) -> Result<Place, JournalFault>
+    pub(crate) fn put_behind<D: Disk>(
+        &self,
+        disk: &mut D,
+        behind: &[u8],
+    ) -> Result<Place, JournalFault>
         requires keeps { Keeps D.Disk disk.old self.now }
         requires runs { self.now.stopped ≡ false }
         requires room { self.now.standing.used + length behind.now + 1 ≤ half_length self.now.standing.shape }
@@ -149,9 +150,7 @@ impl Journal {
         ensures cause { result ≡ Err JournalFault.Disk → HasRisen (D.failures disk.old) (D.failures disk.new) }
     {
         let gate = self.shape.half_start(self.half) + self.used;
-        let Ok(()) = publish(disk, gate, behind) else {
-            return Err(JournalFault::Disk);
-        };
+        publish(disk, gate, behind)?;
         Ok(Place {
             half: self.half,
             generation: self.generation,
@@ -186,9 +185,7 @@ impl Journal {
                 self.next + 1,
             );
         }
-        let Ok(record) = store_record(self.alloc(), seq, entry, size) else {
-            return Err(JournalFault::OutOfMemory);
-        };
+        let record = store_record(self.alloc(), seq, entry, size)?;
         self.put_behind(disk, &record)
     }
 
@@ -207,9 +204,7 @@ impl Journal {
         if !self.fits(size) {
             return self.put_beside(disk, &Change::Drop(seqs), self.version, self.next);
         }
-        let Ok(record) = drop_record(self.alloc(), seqs, size) else {
-            return Err(JournalFault::OutOfMemory);
-        };
+        let record = drop_record(self.alloc(), seqs, size)?;
         self.put_behind(disk, &record)
     }
 

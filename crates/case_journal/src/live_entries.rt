@@ -3,11 +3,11 @@ ghost use Rattle.std.specs.Prelude.{◌≡◌, ◌+◌, ◌<◌, ◌≤◌, ◌+
 ghost use Rattle.std.specs.List.{HoldsAt, remove};
 ghost use Rattle.journal_layout.specs.declared.entry.Entry.{Entry};
 ghost use Rattle.journal_layout.specs.Case.{case_of};
-ghost use Rattle.journal_layout.specs.Folding.{dropped, with_pin, is_among};
+ghost use Rattle.journal_layout.specs.Folding.{dropped, with_pin, with_label};
 ghost use Rattle.journal_layout.specs.Live.{seq_of_case};
 ghost use Rattle.journal_layout.specs.Soundness.{Rise, case_numbered};
 
-use journal_layout::Entry;
+use journal_layout::{Entry, Label};
 use journal_snapshot::is_listed;
 use std::alloc::{AllocError, Global};
 use std::marker::Model;
@@ -133,6 +133,17 @@ impl LiveEntries {
         if let Some(place) = place_of(self.as_slice(), seq) {
             let at = self.first + place;
             self.all[at].pinned = flag;
+        }
+    }
+
+    /// Sets the label of the entry of this number, if there is one.
+    pub(crate) fn set_label(&mut self, seq: u32, label: Label)
+        requires { Rise 0 (map seq_of_case (map case_of self.old.entries)) }
+        ensures { map case_of self.new.entries ≡ with_label seq label.items (map case_of self.old.entries) }
+    {
+        if let Some(place) = place_of(self.as_slice(), seq) {
+            let at = self.first + place;
+            self.all[at].label = label;
         }
     }
 }

@@ -142,9 +142,7 @@ impl Journal {
         ensures honesty { D.is_honest disk.new ≡ D.is_honest disk.old }
         ensures size { D.size disk.new ≡ D.size disk.old }
     {
-        let Ok(()) = settle(disk) else {
-            return Err(OpenFault::Disk);
-        };
+        settle(disk)?;
         read_journal(alloc, disk)
     }
 }
