@@ -77,22 +77,22 @@ module _ {D : Type 0} (g : disk.Ghosts D) (d d' : D) (j j' : Journaled) (most : 
   abbrev new : Parts D
   new = record { disk = d'; journal = j'; limit = most; streams = streams'; stopped = b' }
 
-  abbrev done : Parts D
-  done = record { disk = d'; journal = j'; limit = most; streams = streams; stopped = b }
+  abbrev once_done : Parts D
+  once_done = record { disk = d'; journal = j'; limit = most; streams = streams; stopped = b }
 
   -- the cases take as many bytes in both versions
   anew : ◌≡◌ {A = ℕ} (standing_upgraded j.standing).used (snapshot_size (map case_facts j.standing.cases))
   anew = snapshot_is (in_version_two (folded_of j.standing))
 
-  upgraded_state : j' ≡ running (standing_upgraded j.standing) → state_of done ≡ anew_in_two (state_of old)
+  upgraded_state : j' ≡ running (standing_upgraded j.standing) → state_of once_done ≡ anew_in_two (state_of old)
   upgraded_state is =
       ap (λ (k : Journaled). state_of (record { disk = d'; journal = k; limit = most; streams = streams; stopped = b })) is
       ∙ ap (λ (n : ℕ). record (anew_in_two (state_of old)) { used = n }) anew
 
-  still_state : j' ≡ j → state_of done ≡ state_of old
+  still_state : j' ≡ j → state_of once_done ≡ state_of old
   still_state is = ap (λ (k : Journaled). state_of (record { disk = d'; journal = k; limit = most; streams = streams; stopped = b })) is
 
-  pub upgrade_ok : (u : Unit {0}) → JournalStep j (Ok u) j' → UpgradeStep (state_of old) (Ok u) (state_of done)
+  pub upgrade_ok : (u : Unit {0}) → JournalStep j (Ok u) j' → UpgradeStep (state_of old) (Ok u) (state_of once_done)
   upgrade_ok u step = (
     on,
     ⊎_elim
@@ -208,7 +208,7 @@ module _ {D : Type 0} (g : disk.Ghosts D) (d d' : D) (j j' : Journaled) (most : 
   refused_cases journal_fault.OldVersion step = absurd step
 
   -- the same bytes
-  pub upgrade_bytes : (u : Unit {0}) → JournalStep j (Ok u) j' → Behind g d d' j (g.seen d) (g.seen d') → contents_of g.seen done ≡ contents_of g.seen old
+  pub upgrade_bytes : (u : Unit {0}) → JournalStep j (Ok u) j' → Behind g d d' j (g.seen d) (g.seen d') → contents_of g.seen once_done ≡ contents_of g.seen old
   upgrade_bytes u step others =
       ⊎_elim
       (λ kept. ap (λ (k : Journaled). contents_of g.seen (record { disk = d'; journal = k; limit = most; streams = streams; stopped = b })) kept.1 ∙ same_bytes g.seen d d' j most streams b others b)
