@@ -4,19 +4,29 @@
 
    EIO, ENOSPC, EINTR   the call fails so, and does nothing
    SHORT                it takes or gives one byte, if it was asked for several
+   ONES                 it does so, and each call of that name behind it
+   ZERO                 it takes or gives no byte, and does not fail
    KILL                 the process is killed before the call
-   TEAR                 it takes half of its bytes, and the process is killed */
+   TEAR                 it takes half of its bytes, and the process is killed
+
+   With FAULT_READS a read of standard input gives at most so many bytes, so that a script comes in many reads, and its
+   replies go in many writes.
+
+   FAULT_TRACE names a file to which is added what the archive's file and standard output took: for each pwrite, fsync and
+   write of descriptor 1 that did something a record of three numbers of 8 bytes, the first letter of its kind (W, S or A),
+   its place and how many bytes, and then the bytes. */
 #define _GNU_SOURCE
 #include <dlfcn.h>
 #include <errno.h>
 #include <fcntl.h>
 #include <signal.h>
+#include <stdint.h>
 #include <stdlib.h>
 #include <string.h>
 #include <sys/types.h>
 #include <unistd.h>
 
-enum kind { NONE, FAILS, SHORT, KILL, TEAR };
+enum kind { NONE, FAILS, SHORT, ONES, ZERO, KILL, TEAR };
 
 struct fault {
     enum kind kind;
@@ -28,41 +38,8 @@ struct fault {
 static struct fault fault;
 static int is_read;
 static long calls;
-
-static void read_fault(void) {
-    const char *text = getenv("FAULT");
-    const char *first, *second;
-    is_read = 1;
-    if (!text || !(first = strchr(text, ':')) || !(second = strchr(first + 1, ':')))
-        return;
-    if (!strncmp(text, "SHORT:", 6))
-        fault.kind = SHORT;
-    else if (!strncmp(text, "KILL:", 5))
-        fault.kind = KILL;
-    else if (!strncmp(text, "TEAR:", 5))
-        fault.kind = TEAR;
-    else {
-        fault.kind = FAILS;
-        fault.error = !strncmp(text, "EIO:", 4) ? EIO : !strncmp(text, "EINTR:", 6) ? EINTR : ENOSPC;
-    }
-    if ((size_t)(second - first - 1) < sizeof fault.call)
-        memcpy(fault.call, first + 1, (size_t)(second - first - 1));
-    fault.number = atol(second + 1);
-}
-
-/* Whether the fault is that of this call, which is counted. */
-static int is_met(const char *call) {
-    const char *path = getenv("FAULT_MET");
-    if (!is_read)
-        read_fault();
-    if (fault.kind == NONE || strcmp(fault.call, call) || calls++ != fault.number)
-        return 0;
-    if (path)
-        close(open(path, O_WRONLY | O_CREAT, 0600));
-    if (fault.kind == KILL)
-        kill(getpid(), SIGKILL);
-    return 1;
-}
+static size_t most_read;
+static int trace = -1;
 
 #define REAL(type, name) type real = (type)dlsym(RTLD_NEXT, name)
 
@@ -72,35 +49,112 @@ typedef ssize_t (*pread_type)(int, void *, size_t, off_t);
 typedef ssize_t (*pwrite_type)(int, const void *, size_t, off_t);
 typedef int (*fsync_type)(int);
 
+static void read_settings(void) {
+    const char *reads = getenv("FAULT_READS"), *path = getenv("FAULT_TRACE");
+    is_read = 1;
+    most_read = reads ? (size_t)atol(reads) : 0;
+    if (path)
+        trace = open(path, O_WRONLY | O_CREAT | O_APPEND | O_CLOEXEC, 0600);
+}
+
+static int begins(const char *text, const char *word) {
+    return !strncmp(text, word, strlen(word));
+}
+
+static void read_fault(void) {
+    const char *text = getenv("FAULT");
+    const char *first, *second;
+    read_settings();
+    if (!text || !(first = strchr(text, ':')) || !(second = strchr(first + 1, ':')))
+        return;
+    fault.kind = begins(text, "SHORT:")  ? SHORT
+                 : begins(text, "ONES:") ? ONES
+                 : begins(text, "ZERO:") ? ZERO
+                 : begins(text, "KILL:") ? KILL
+                 : begins(text, "TEAR:") ? TEAR
+                                         : FAILS;
+    fault.error = begins(text, "EIO:") ? EIO : begins(text, "EINTR:") ? EINTR : ENOSPC;
+    if ((size_t)(second - first - 1) < sizeof fault.call)
+        memcpy(fault.call, first + 1, (size_t)(second - first - 1));
+    fault.number = atol(second + 1);
+}
+
+/* Whether the fault is that of this call, which is counted. */
+static int is_met(const char *call) {
+    const char *path = getenv("FAULT_MET");
+    long number;
+    if (!is_read)
+        read_fault();
+    if (fault.kind == NONE || strcmp(fault.call, call))
+        return 0;
+    number = calls++;
+    if (fault.kind == ONES ? number < fault.number : number != fault.number)
+        return 0;
+    if (path && number == fault.number)
+        close(open(path, O_WRONLY | O_CREAT, 0600));
+    if (fault.kind == KILL)
+        kill(getpid(), SIGKILL);
+    return 1;
+}
+
+/* How many of so many bytes the call moves that meets the fault, which is not one that fails. */
+static size_t moved(size_t size) {
+    if (fault.kind == ZERO)
+        return 0;
+    if (fault.kind == TEAR)
+        return size / 2;
+    return size ? 1 : 0;
+}
+
 static ssize_t failed(void) {
     errno = fault.error;
     return -1;
 }
 
+/* Ends the process where the call that it has made was to be torn. */
+static ssize_t torn(ssize_t done) {
+    if (fault.kind == TEAR)
+        kill(getpid(), SIGKILL);
+    return done;
+}
+
+/* Adds a call to the trace. */
+static void tell(char kind, off_t at, ssize_t size, const void *bytes) {
+    REAL(write_type, "write");
+    int64_t numbers[3] = {kind, at, size};
+    if (trace < 0 || size < 0)
+        return;
+    if (real(trace, numbers, sizeof numbers) != sizeof numbers || real(trace, bytes, (size_t)size) != size)
+        abort();
+}
+
 ssize_t read(int file, void *into, size_t size) {
     REAL(read_type, "read");
-    if (!is_met("read"))
+    int met = is_met("read");
+    if (file == 0 && most_read && size > most_read)
+        size = most_read;
+    if (!met)
         return real(file, into, size);
-    return fault.kind == FAILS ? failed() : real(file, into, size ? 1 : 0);
+    return fault.kind == FAILS ? failed() : real(file, into, moved(size));
 }
 
 ssize_t write(int file, const void *from, size_t size) {
+    ssize_t done;
     REAL(write_type, "write");
-    if (!is_met("write"))
-        return real(file, from, size);
-    if (fault.kind == FAILS)
+    int met = is_met("write");
+    if (met && fault.kind == FAILS)
         return failed();
-    size = real(file, from, fault.kind == TEAR ? size / 2 : size ? 1 : 0);
-    if (fault.kind == TEAR)
-        kill(getpid(), SIGKILL);
-    return size;
+    done = real(file, from, met ? moved(size) : size);
+    if (file == 1)
+        tell('A', 0, done, from);
+    return met ? torn(done) : done;
 }
 
 ssize_t pread64(int file, void *into, size_t size, off_t at) {
     REAL(pread_type, "pread64");
     if (!is_met("pread"))
         return real(file, into, size, at);
-    return fault.kind == FAILS ? failed() : real(file, into, size ? 1 : 0, at);
+    return fault.kind == FAILS ? failed() : real(file, into, moved(size), at);
 }
 
 ssize_t pread(int file, void *into, size_t size, off_t at) {
@@ -110,14 +164,12 @@ ssize_t pread(int file, void *into, size_t size, off_t at) {
 ssize_t pwrite64(int file, const void *from, size_t size, off_t at) {
     ssize_t done;
     REAL(pwrite_type, "pwrite64");
-    if (!is_met("pwrite"))
-        return real(file, from, size, at);
-    if (fault.kind == FAILS)
+    int met = is_met("pwrite");
+    if (met && fault.kind == FAILS)
         return failed();
-    done = real(file, from, fault.kind == TEAR ? size / 2 : size ? 1 : 0, at);
-    if (fault.kind == TEAR)
-        kill(getpid(), SIGKILL);
-    return done;
+    done = real(file, from, met ? moved(size) : size, at);
+    tell('W', at, done, from);
+    return met ? torn(done) : done;
 }
 
 ssize_t pwrite(int file, const void *from, size_t size, off_t at) {
@@ -125,8 +177,11 @@ ssize_t pwrite(int file, const void *from, size_t size, off_t at) {
 }
 
 int fsync(int file) {
+    int done;
     REAL(fsync_type, "fsync");
-    if (!is_met("fsync") || fault.kind == SHORT)
-        return real(file);
-    return (int)failed();
+    if (is_met("fsync") && fault.kind == FAILS)
+        return (int)failed();
+    done = real(file);
+    tell('S', 0, done, "");
+    return done;
 }

@@ -4,22 +4,22 @@ use Rattle.std.proofs.lemmas.List.{append-nil, take_more}
 use Rattle.std.specs.List.{flat_map}
 use Rattle.journal_layout.specs.declared.entry.Entry.{Entry}
 use Rattle.journal_layout.specs.Case.{case_of}
-use Rattle.intake.specs.Parts.{bare_case}
+use Rattle.intake.specs.Parts.{case_facts}
 use Rattle.archive_replies.specs.Texts.{case_line}
 
 abbrev pub lines_of : List Entry → List ℕ
-lines_of es = flat_map case_line (map bare_case (map case_of es))
+lines_of es = flat_map case_line (map case_facts (map case_of es))
 
 lines_append : (xs ys : List Entry) → lines_of (xs ++ ys) ≡ lines_of xs ++ lines_of ys
 lines_append [] ys = refl
 lines_append (x ∷ xs) ys =
-    ap (λ t. case_line (bare_case (case_of x)) ++ t) (lines_append xs ys)
-    ∙ sym (append_assoc (case_line (bare_case (case_of x))) (lines_of xs) (lines_of ys))
+    ap (λ t. case_line (case_facts (case_of x)) ++ t) (lines_append xs ys)
+    ∙ sym (append_assoc (case_line (case_facts (case_of x))) (lines_of xs) (lines_of ys))
 
 pub one_line_more : (es : List Entry) (i : ℕ) (e : Entry) → i < length es → e ≡ get_or es i e
-    → lines_of (take i es) ++ case_line (bare_case (case_of e)) ≡ lines_of (take (i + 1) es)
+    → lines_of (take i es) ++ case_line (case_facts (case_of e)) ≡ lines_of (take (i + 1) es)
 one_line_more es i e within is =
     sym (ap lines_of (take_more es i e within)
     ∙ lines_append (take i es) (get_or es i e ∷ [])
-    ∙ ap (λ t. lines_of (take i es) ++ t) (append-nil (case_line (bare_case (case_of (get_or es i e)))))
-    ∙ ap (λ (x : Entry). lines_of (take i es) ++ case_line (bare_case (case_of x))) (sym is))
+    ∙ ap (λ t. lines_of (take i es) ++ t) (append-nil (case_line (case_facts (case_of (get_or es i e)))))
+    ∙ ap (λ (x : Entry). lines_of (take i es) ++ case_line (case_facts (case_of x))) (sym is))

@@ -7,7 +7,7 @@ use Rattle.script_words.specs.Printing.{shown}
 use Rattle.script_streams.specs.Replies.{ok_reply, no_reply}
 use Rattle.intake.specs.declared.faults.ArchiveFault.{ArchiveFault}
 use Rattle.intake.specs.declared.space.Space.{Space}
-use Rattle.intake.specs.State.{BareCase}
+use Rattle.intake.specs.State.{CaseFacts}
 use Rattle.retention.specs.declared.Decision.{Decision}
 use Rattle.archive_replies.specs.Reasons.{reason_of}
 
@@ -56,11 +56,11 @@ abbrev pub number_word : ℕ → List ℕ
 number_word n = decimal n ++ 32 ∷ []
 
 -- `N KIND LENGTH PID SIGNAL TIME PIN NAME`
-abbrev pub case_line : BareCase → List ℕ
+abbrev pub case_line : CaseFacts → List ℕ
 case_line c =
     number_word c.seq ++ (kind_name c.kind ++ (32 ∷ [] ++ (number_word c.len ++ (number_word c.pid ++ (number_word c.signal
     ++ (number_word c.time ++ (pin_name c.pinned ++ (32 ∷ [] ++ (shown c.name ++ 10 ∷ [])))))))))
 
 -- a line for each case
-abbrev pub list_reply : Bool → List BareCase → List ℕ
+abbrev pub list_reply : Bool → List CaseFacts → List ℕ
 list_reply stopped cases = if stopped then no_reply (codes "Stopped") else flat_map case_line cases ++ ok_reply

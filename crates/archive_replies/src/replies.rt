@@ -2,7 +2,7 @@
 ghost use Rattle.std.specs.Prelude.{◌≡◌, ◌++◌, map};
 ghost use Rattle.std.specs.List.{flat_map};
 ghost use Rattle.journal_layout.specs.Case.{case_of};
-ghost use Rattle.intake.specs.Parts.{bare_case};
+ghost use Rattle.intake.specs.Parts.{case_facts};
 ghost use Rattle.script_streams.specs.Replies.{ok_reply, no_reply, TellsText, telling};
 ghost use Rattle.archive_replies.specs.Texts.{plain_reply, begin_reply, end_reply, retire_reply, dropped_line, free_reply, number_word, case_line, kind_name, pin_name};
 
@@ -107,7 +107,7 @@ pub fn tell_free<O: Output>(reply: &mut Reply, output: &mut O, outcome: Result<S
 
 /// Tells a line for each case.
 pub fn tell_cases<O: Output>(reply: &mut Reply, output: &mut O, cases: &[Entry])
-    ensures { TellsText (telling O.Output output.old output.new reply.old reply.new) (flat_map case_line (map bare_case
+    ensures { TellsText (telling O.Output output.old output.new reply.old reply.new) (flat_map case_line (map case_facts
         (map case_of cases.now)) ++ ok_reply) }
 {
     for entry in cases {
@@ -118,7 +118,7 @@ pub fn tell_cases<O: Output>(reply: &mut Reply, output: &mut O, cases: &[Entry])
 
 // Tells the line of a case.
 fn tell_case<O: Output>(reply: &mut Reply, output: &mut O, entry: &Entry)
-    ensures { TellsText (telling O.Output output.old output.new reply.old reply.new) (case_line (bare_case (case_of entry.now))) }
+    ensures { TellsText (telling O.Output output.old output.new reply.old reply.new) (case_line (case_facts (case_of entry.now))) }
 {
     tell_number(reply, output, entry.seq as u64);
     reply.tell(output, kind_word(entry.kind));

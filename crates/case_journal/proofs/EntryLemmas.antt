@@ -1,7 +1,8 @@
 -- Entries and the cases that they are: one looked up by its number, some left out, one pinned.
-use Rattle.std.proofs.Common.{◌≡◌, inl, inr, ℕ, zero, suc, ◌<◌, ◌≤◌, Bool, true, false, cond, not, List, [], ◌∷◌, length, map, get_or, set, refl, sym, ap, arith, None, Some}
+use Rattle.std.proofs.Common.{◌≡◌, inl, inr, ℕ, zero, suc, ◌+◌, ◌<◌, ◌≤◌, Bool, true, false, ◌||◌, cond, not, List, [], ◌∷◌, length, map, get_or, set, drop, refl, sym, ap, ◌∙◌, arith, None, Some}
+use Rattle.std.proofs.lemmas.List.{drop-drop, drop-set-add, get_or-drop}
 use Rattle.std.proofs.lemmas.Bool.{eq-eqb, ne_eqb, cases_eq}
-use Rattle.std.specs.List.{filter}
+use Rattle.std.specs.List.{HoldsAt, filter, remove}
 use Rattle.journal_layout.specs.declared.entry.Entry.{Entry}
 use Rattle.journal_layout.specs.Case.{Case, case_of}
 use Rattle.journal_layout.specs.Folding.{dropped, with_pin, is_among}
@@ -79,3 +80,53 @@ pinned_at last seq flag (x ∷ rest) (suc i) e rise within is =
     let low : i < length rest = omega (arith, within) in
     let above = entry_above x.seq rest i e rise.1 low in
     rw (ne_eqb x.seq seq (λ same. absurd (omega (arith, same, is)))) (ap (λ (l : List Case). case_of x ∷ l) (pinned_at x.seq seq flag rest i e rise.1 low is))
+
+-- where no case has a number, none is left out by it
+pub dropped_none : (seq : ℕ) (cases : List Case) → case_numbered seq cases ≡ None → dropped (seq ∷ []) cases ≡ cases
+dropped_none seq [] none = refl
+dropped_none seq (c ∷ rest) none =
+    elim (cases_eq c.seq seq) as (λ _. dropped (seq ∷ []) (c ∷ rest) ≡ c ∷ rest) [
+      | inl same ↦ absurd (let e = rw (eq-eqb c.seq seq same) at none in cc)
+      | inr other ↦
+          let e = ne_eqb c.seq seq other in
+          ap (λ (t : Bool). cond (not (t || false)) (c ∷ dropped (seq ∷ []) rest) (dropped (seq ∷ []) rest)) e
+          ∙ ap (λ (l : List Case). c ∷ l) (dropped_none seq rest (rw e at none))
+    ]
+
+-- nor of those whose numbers are greater
+dropped_above : (last seq : ℕ) (cases : List Case) → seq ≤ last → Rise last (map seq_of_case cases) → dropped (seq ∷ []) cases ≡ cases
+dropped_above last seq [] low rise = refl
+dropped_above last seq (c ∷ rest) low rise =
+    let above = rise.0 in
+    ap (λ (t : Bool). cond (not (t || false)) (c ∷ dropped (seq ∷ []) rest) (dropped (seq ∷ []) rest)) (ne_eqb c.seq seq (λ same. absurd (omega (arith, same))))
+    ∙ ap (λ (l : List Case). c ∷ l) (dropped_above c.seq seq rest (omega arith) rise.1)
+
+-- without the entry of a number the others are the cases left by it
+pub removed_at : (last seq : ℕ) (es : List Entry) (i : ℕ) → Rise last (seqs_of es) → i < length es → HoldsAt (λ (e : Entry). e.seq ≡ seq) es i
+    → map case_of (remove es i) ≡ dropped (seq ∷ []) (map case_of es)
+removed_at last seq [] i rise within is = absurd (omega arith)
+removed_at last seq (x ∷ rest) zero rise within is =
+    sym (ap (λ (t : Bool). cond (not (t || false)) (case_of x ∷ dropped (seq ∷ []) (map case_of rest)) (dropped (seq ∷ []) (map case_of rest))) (eq-eqb x.seq seq (is x))
+    ∙ dropped_above x.seq seq (map case_of rest) (omega (arith, is x)) rise.1)
+removed_at last seq (x ∷ rest) (suc i) rise within is =
+    let low : i < length rest = omega (arith, within) in
+    let above = entry_above x.seq rest i x rise.1 low in
+    ap (λ (l : List Case). case_of x ∷ l) (removed_at x.seq seq rest i rise.1 low is)
+    ∙ sym (ap (λ (t : Bool). cond (not (t || false)) (case_of x ∷ dropped (seq ∷ []) (map case_of rest)) (dropped (seq ∷ []) (map case_of rest))) (ne_eqb x.seq seq (λ same. absurd (omega (arith, same, is x)))))
+
+-- the live entries among all, where one of them is taken out, and where a flag is set
+pub live_removed : (es : List Entry) (first i : ℕ) → first + i < length es → drop first (remove es (first + i)) ≡ remove (drop first es) i
+live_removed es zero i within = let e : zero + i ≡ i = omega arith in rw e refl
+live_removed [] (suc n) i within = absurd (omega arith)
+live_removed (x ∷ rest) (suc n) i within = let e : suc n + i ≡ suc (n + i) = omega arith in rw e (live_removed rest n i (omega (arith, within)))
+
+pub first_removed : (es : List Entry) (first place : ℕ) → place ≤ 0 → drop (first + 1) es ≡ remove (drop first es) place
+first_removed es first zero low = sym (drop-drop 1 first es)
+first_removed es first (suc p) low = absurd (omega arith)
+
+pub live_pinned : (es : List Entry) (first i seq : ℕ) (flag : Bool) (e : Entry) → Rise 0 (seqs_of (drop first es)) → i < length (drop first es) → (get_or (drop first es) i e).seq ≡ seq
+    → map case_of (drop first (set es (first + i) (record (get_or es (first + i) e) { pinned = flag }))) ≡ with_pin seq flag (map case_of (drop first es))
+live_pinned es first i seq flag e rise within is =
+    ap (map case_of) (drop-set-add first es i (record (get_or es (first + i) e) { pinned = flag })
+    ∙ ap (λ (x : Entry). set (drop first es) i (record x { pinned = flag })) (sym (get_or-drop first es i e)))
+    ∙ pinned_at 0 seq flag (drop first es) i e rise within is

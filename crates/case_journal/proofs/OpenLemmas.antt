@@ -24,7 +24,7 @@ use Rattle.case_journal.specs.Journaled.{Journaled}
 use Rattle.case_journal.specs.Keeping.{Keeps}
 use Rattle.case_journal.specs.Opening.{journal_of}
 use Rattle.case_journal.specs.declared.open.Opened.{Opened}
-use Rattle.case_journal.specs.Viewing.{IsView, IsQuiet, Shows, ShowsFront, ShowsOpening, Gives, Finds, front_view}
+use Rattle.case_journal.specs.Viewing.{IsView, OnlyReads, Shows, ShowsFront, ShowsOpening, Gives, FindsStanding, front_view}
 use Rattle.case_journal.proofs.StandLemmas.{headers_stay, half_low}
 
 module _ {D : Type 0} (g : disk.Ghosts D) where
@@ -87,26 +87,26 @@ module _ {D : Type 0} (g : disk.Ghosts D) where
       by_cases false e = (replicate (g.size d) 0, record { long = length-replicate {A = ℕ} (g.size d) 0; is = λ honest. absurd (not_honest d e honest) })
 
   -- a view stays one over reads and syncs
-  pub view_after : (old new : D) (b : List ℕ) → IsQuiet g old new → IsView g old b → IsView g new b
+  pub view_after : (old new : D) (b : List ℕ) → OnlyReads g old new → IsView g old b → IsView g new b
   view_after old new b quiet view = record {
     long = view.long ∙ sym quiet.size;
     is = λ honest. let still = subst IsTrue quiet.honesty honest in view.is still ∙ sym (quiet.seen still);
   }
 
-  pub view_before : (old new : D) (b : List ℕ) → IsQuiet g old new → IsView g new b → IsView g old b
+  pub view_before : (old new : D) (b : List ℕ) → OnlyReads g old new → IsView g new b → IsView g old b
   view_before old new b quiet view = record {
     long = view.long ∙ quiet.size;
     is = λ honest. view.is (subst IsTrue (sym quiet.honesty) honest) ∙ quiet.seen honest;
   }
 
   -- what stands is found
-  pub finds_by : (d : D) (r : Result Journaled OpenFault) (s : Standing) → IsTrue (g.is_honest d) → ShowsOpening g d r → Stands (g.seen d) s → Finds r s
+  pub finds_by : (d : D) (r : Result Journaled OpenFault) (s : Standing) → IsTrue (g.is_honest d) → ShowsOpening g d r → Stands (g.seen d) s → FindsStanding r s
   finds_by d r s honest shows stands = found r shows.gives
     where
       there : Stands shows.shown s
       there = subst (λ (b : List ℕ). Stands b s) (sym (shows.view.is honest)) stands
 
-      found : (r : Result Journaled OpenFault) → Gives r shows.shown → Finds r s
+      found : (r : Result Journaled OpenFault) → Gives r shows.shown → FindsStanding r s
       found (Ok j) gives = stands_once shows.shown j.standing s gives there
       found (Err Disk) gives = tt
       found (Err OutOfMemory) gives = tt
@@ -121,7 +121,7 @@ module _ {D : Type 0} (g : disk.Ghosts D) where
   live_by d (Err fault) shows = tt
 
   -- and is what every crash leaves, once it was settled
-  pub keeps_by : (old mid new : D) (r : Result Opened OpenFault) → IsQuiet g old mid → IsQuiet g mid new → (IsTrue (g.is_honest old) → Only (g.seen old) (g.may_leave mid))
+  pub keeps_by : (old mid new : D) (r : Result Opened OpenFault) → OnlyReads g old mid → OnlyReads g mid new → (IsTrue (g.is_honest old) → Only (g.seen old) (g.may_leave mid))
       → ShowsOpening g old (journal_of r) → IfOk r (λ (o : Opened). g.size new ≡ disk_length o.journal.standing.shape) → IfOk r (λ (o : Opened). Keeps g new o.journal)
   keeps_by old mid new (Ok o) first second settled shows size =
       record {

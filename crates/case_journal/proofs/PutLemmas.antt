@@ -18,7 +18,7 @@ use Rattle.journal_snapshot.specs.Holding.{Holds, SameHeaders}
 use Rattle.case_journal.specs.declared.compacting.Place.{Place}
 use Rattle.case_journal.specs.declared.faults.JournalFault.{JournalFault}
 use Rattle.case_journal.specs.declared.faults.JournalFault.TheVariants.{Stopped, JournalFull, NumbersSpent, OutOfMemory, Disk}
-use Rattle.case_journal.specs.Journaled.{Journaled, running, goes_on}
+use Rattle.case_journal.specs.Journaled.{Journaled, running, after_append}
 use Rattle.case_journal.specs.Keeping.{Keeps, LeavesEither}
 use Rattle.case_journal.specs.Append.{HasRoom, MayFollow, AppendStep}
 use Rattle.case_journal.specs.Compacting.{BesideStep, RunsBeside, CompactStep, PutLeaves, beside, compacted, moved, noted}
@@ -100,7 +100,7 @@ module _ (j : Journaled) (runs : j.stopped ≡ false) where
 
   -- where its cases are changed, the journal is the one after the record
   pub placed_is : (r : Record) (p : Place) → p ≡ place_after j.standing r
-      → record { standing = record (moved j p).standing { cases = (appended j.standing r).cases; next = (appended j.standing r).next }; stopped = j.stopped } ≡ goes_on j r
+      → record { standing = record (moved j p).standing { cases = (appended j.standing r).cases; next = (appended j.standing r).next }; stopped = j.stopped } ≡ after_append j r
   placed_is r p is =
       ap (λ (q : Place). record { standing = record (moved j q).standing { cases = (appended j.standing r).cases; next = (appended j.standing r).next }; stopped = j.stopped }) is
       ∙ ap (λ (t : Bool). record { standing = appended j.standing r; stopped = t }) runs

@@ -9,7 +9,7 @@ use Rattle.journal_layout.specs.declared.entry.Entry.{Entry}
 use Rattle.journal_layout.specs.Folding.{after}
 use Rattle.case_journal.specs.Refusing.{LeavesDisk}
 use Rattle.case_journal.specs.Compacting.{HasSnapshotRoom, LacksSnapshotRoom}
-use Rattle.case_journal.specs.Journaled.{Journaled, halted, goes_on}
+use Rattle.case_journal.specs.Journaled.{Journaled, halted, after_append}
 use Rattle.case_journal.specs.declared.faults.JournalFault.{JournalFault}
 use Rattle.case_journal.specs.declared.faults.JournalFault.TheVariants.{Stopped, JournalFull, NumbersSpent, OutOfMemory, Disk}
 
@@ -30,7 +30,7 @@ MayFollow s r = IsSound s.shape.data_blocks (folded_of s) r
 
 -- A record's append: refused in the order of the faults, each under its condition.
 abbrev pub AppendStep : Journaled → Record → Result (Unit {0}) JournalFault → Journaled → Type 0
-AppendStep old r (Ok u) new = (old.stopped ≡ false) × HasRoom old.standing r × (new ≡ goes_on old r)
+AppendStep old r (Ok u) new = (old.stopped ≡ false) × HasRoom old.standing r × (new ≡ after_append old r)
 AppendStep old r (Err Stopped) new = (old.stopped ≡ true) × (new ≡ old)
 AppendStep old r (Err JournalFull) new = (old.stopped ≡ false) × LacksRoom old.standing r × (new ≡ old)
 AppendStep old r (Err NumbersSpent) new = ⊥
@@ -51,7 +51,7 @@ StoreRefused old c Disk new =
 abbrev pub StoreStep : Journaled → Case → Result ℕ (JournalFault × Entry) → Journaled → Type 0
 StoreStep old c (Ok seq) new =
     (old.stopped ≡ false) × HasRoom old.standing (store_of old.standing c) × (old.standing.next < 2 ^ 32)
-    × (seq ≡ old.standing.next) × (new ≡ goes_on old (store_of old.standing c))
+    × (seq ≡ old.standing.next) × (new ≡ after_append old (store_of old.standing c))
 StoreStep old c (Err e) new = StoreRefused old c e.0 new
 
 -- the answer is that the disk failed

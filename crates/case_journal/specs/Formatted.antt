@@ -5,7 +5,7 @@ use Rattle.journal_layout.specs.declared.shape.Shape.{Shape}
 use Rattle.journal_layout.specs.declared.shape.Half.TheVariants.{A, B}
 use Rattle.journal_layout.specs.Layout.{superblock, half_header, half_start}
 
--- so many zeros
+-- n zeros
 unfoldable pub zeros : ℕ → List ℕ
 zeros n = replicate n 0
 

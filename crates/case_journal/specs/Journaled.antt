@@ -18,5 +18,5 @@ abbrev pub halted : Journaled → Journaled
 halted j = record j { stopped = true }
 
 -- the same after one record more
-abbrev pub goes_on : Journaled → Record → Journaled
-goes_on j r = running (appended j.standing r)
+abbrev pub after_append : Journaled → Record → Journaled
+after_append j r = running (appended j.standing r)

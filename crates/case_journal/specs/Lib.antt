@@ -5,6 +5,7 @@ pub mod Formatted
 pub mod Journaled
 pub mod Keeping
 pub mod Kept
+pub mod LiveList
 pub mod Opening
 pub mod Publishing
 pub mod Putting

@@ -30,7 +30,7 @@ pub record Shows {D : Type 0} (g : disk.Ghosts D) (d : D) (at : ℕ) (bytes b : 
   pub there : part shown at (length bytes) ≡ bytes
 
 -- What a call that only reads and syncs leaves of a disk.
-pub record IsQuiet {D : Type 0} (g : disk.Ghosts D) (old new : D) : Type 0 where
+pub record OnlyReads {D : Type 0} (g : disk.Ghosts D) (old new : D) : Type 0 where
   pub seen : IsTrue (g.is_honest old) → g.seen new ≡ g.seen old
   pub crash : IsTrue (g.is_honest old) → (c : List ℕ) → g.may_leave new c → g.may_leave old c
   pub moments : IsTrue (g.is_honest old) → LeavesOnly g old new (g.may_leave old)
@@ -111,11 +111,11 @@ pub record ShowsOpening {D : Type 0} (g : disk.Ghosts D) (d : D) (r : Result Jou
   pub gives : Gives r shown
 
 -- only the disk and the memory refuse what is found
-abbrev pub Finds : Result Journaled OpenFault → Standing → Type 0
-Finds (Ok j) s = j.standing ≡ s
-Finds (Err Disk) s = Unit {0}
-Finds (Err OutOfMemory) s = Unit {0}
-Finds (Err fault) s = ⊥
+abbrev pub FindsStanding : Result Journaled OpenFault → Standing → Type 0
+FindsStanding (Ok j) s = j.standing ≡ s
+FindsStanding (Err Disk) s = Unit {0}
+FindsStanding (Err OutOfMemory) s = Unit {0}
+FindsStanding (Err fault) s = ⊥
 
 -- a fault of the disk or of the memory
 abbrev pub IsOpenRefusal : {T : Type 0} → Result T OpenFault → Type 0

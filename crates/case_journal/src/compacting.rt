@@ -93,12 +93,8 @@ pub(crate) fn write_beside<D: Disk>(
     ensures cause { result ≡ Err JournalFault.Disk → HasRisen (D.failures disk.old) (D.failures disk.new) }
     ensures later { D.failures disk.old ≤ D.failures disk.new }
 {
-    let Ok(mut buffer) = Vec::with_capacity(alloc, measure.largest as usize) else {
-        return Err(JournalFault::OutOfMemory);
-    };
-    let Ok(()) = rewrite(disk, target, entries, change, &mut buffer) else {
-        return Err(JournalFault::Disk);
-    };
+    let mut buffer = Vec::with_capacity(alloc, measure.largest as usize)?;
+    rewrite(disk, target, entries, change, &mut buffer)?;
     Ok(())
 }
 
@@ -164,14 +160,14 @@ impl Journal {
         ensures untouched { PutLeaves result disk.old disk.new }
         ensures cause { result ≡ Err JournalFault.Disk → HasRisen (D.failures disk.old) (D.failures disk.new) }
     {
-        let measure = room_beside(&self.entries, self.shape, self.generation, change)?;
+        let measure = room_beside(self.entries.as_slice(), self.shape, self.generation, change)?;
         let target = self.target(next);
         let half = self.shape.half_length();
         write_beside(
             self.alloc(),
             disk,
             target,
-            &self.entries,
+            self.entries.as_slice(),
             change,
             measure,
             half,

@@ -1,4 +1,10 @@
 // Why a call of the journal is refused.
+ghost use Rattle.std.specs.Prelude.{◌≡◌};
+ghost use Rattle.case_journal.specs.declared.faults.FormatFault.TheVariants as format_faults;
+ghost use Rattle.case_journal.specs.declared.faults.JournalFault.TheVariants as journal_faults;
+
+use disk_model::DiskFault;
+use std::alloc::AllocError;
 use thiserror::Error;
 
 /// Why an archive was not made.
@@ -30,4 +36,28 @@ pub enum JournalFault {
     /// The disk failed. The record may stand on it or not, and the journal is stopped.
     #[error("the disk failed")]
     Disk,
+}
+
+impl From<DiskFault> for FormatFault {
+    ghost from_gives = { λ _ fault. fault ≡ format_faults.Disk };
+
+    fn from(_fault: DiskFault) -> FormatFault {
+        FormatFault::Disk
+    }
+}
+
+impl From<DiskFault> for JournalFault {
+    ghost from_gives = { λ _ fault. fault ≡ journal_faults.Disk };
+
+    fn from(_fault: DiskFault) -> JournalFault {
+        JournalFault::Disk
+    }
+}
+
+impl From<AllocError> for JournalFault {
+    ghost from_gives = { λ _ fault. fault ≡ journal_faults.OutOfMemory };
+
+    fn from(_error: AllocError) -> JournalFault {
+        JournalFault::OutOfMemory
+    }
 }

@@ -96,11 +96,7 @@ pub fn format<D: Disk>(disk: &mut D, shape: Shape) -> Result<(), FormatFault>
     if !is_shape_of(disk.length(), shape) {
         return Err(FormatFault::BadShape);
     }
-    let Ok(()) = write_headers(disk, shape) else {
-        return Err(FormatFault::Disk);
-    };
-    let Ok(()) = write_stable(disk, 0, &[GATE_OPEN]) else {
-        return Err(FormatFault::Disk);
-    };
+    write_headers(disk, shape)?;
+    write_stable(disk, 0, &[GATE_OPEN])?;
     Ok(())
 }

@@ -3,7 +3,7 @@ ghost use Rattle.std.specs.Prelude.{◌≡◌, true, ℕ, List, ◌+◌, ◌≤�
 ghost use Rattle.disk_model.specs.Disk.{HasCause, HasRisen};
 ghost use Rattle.journal_layout.specs.Layout.{disk_length, IsWithinLimits};
 ghost use Rattle.journal_layout.specs.Front.{is_archive, is_known, shape_at, is_shape_of, shape_opening, header_at, generation_fault, taken_half};
-ghost use Rattle.case_journal.specs.Viewing.{IsView, Shows, ShowsHeader, ShowsHeaders, ShowsShape, ShowsFront, IsQuiet, FrontIs, header_of};
+ghost use Rattle.case_journal.specs.Viewing.{IsView, Shows, ShowsHeader, ShowsHeaders, ShowsShape, ShowsFront, OnlyReads, FrontIs, header_of};
 
 use byteorder::{ByteOrder, LittleEndian};
 use disk_model::Disk;
@@ -163,7 +163,7 @@ pub(crate) fn read_part<D: Disk>(disk: &mut D, at: u64, into: &mut [u8]) -> Resu
     requires { at + length into.old ≤ D.size disk.old }
     ensures shows { (b : List ℕ) → IsView D.Disk disk.old b
         → OnOk result (Shows D.Disk disk.new at into.new b) }
-    ensures quiet { IsQuiet D.Disk disk.old disk.new }
+    ensures quiet { OnlyReads D.Disk disk.old disk.new }
     ensures only { IsOkUnless result OpenFault.Disk }
     ensures cause { HasCause (D.failures disk.old) (D.failures disk.new) result }
 {
@@ -179,7 +179,7 @@ fn read_header<D: Disk>(disk: &mut D, shape: Shape, half: Half) -> Result<HalfHe
     requires size { D.size disk.old ≡ disk_length shape }
     ensures shows { (b : List ℕ) → IsView D.Disk disk.old b
         → IfOk result (λ h. ShowsHeader D.Disk disk.new shape half (header_of h) b) }
-    ensures quiet { IsQuiet D.Disk disk.old disk.new }
+    ensures quiet { OnlyReads D.Disk disk.old disk.new }
     ensures only { IsOkUnless result OpenFault.Disk }
     ensures cause { HasCause (D.failures disk.old) (D.failures disk.new) result }
 {
@@ -194,7 +194,7 @@ fn read_headers<D: Disk>(disk: &mut D, shape: Shape) -> Result<(HalfHeader, Half
     requires size { D.size disk.old ≡ disk_length shape }
     ensures shows { (b : List ℕ) → IsView D.Disk disk.old b
         → IfOk result (λ r. ShowsHeaders D.Disk disk.new shape (header_of r.0) (header_of r.1) b) }
-    ensures quiet { IsQuiet D.Disk disk.old disk.new }
+    ensures quiet { OnlyReads D.Disk disk.old disk.new }
     ensures only { IsOkUnless result OpenFault.Disk }
     ensures cause { HasCause (D.failures disk.old) (D.failures disk.new) result }
 {
@@ -207,7 +207,7 @@ fn read_headers<D: Disk>(disk: &mut D, shape: Shape) -> Result<(HalfHeader, Half
 fn read_superblock<D: Disk>(disk: &mut D) -> Result<Shape, OpenFault>
     ensures shows { (b : List ℕ) → IsView D.Disk disk.old b → ShowsShape D.Disk disk.new result b }
     ensures shape { IfOk result (λ s. IsWithinLimits s × (D.size disk.new ≡ disk_length s)) }
-    ensures quiet { IsQuiet D.Disk disk.old disk.new }
+    ensures quiet { OnlyReads D.Disk disk.old disk.new }
     ensures cause { result ≡ Err OpenFault.Disk
         → HasRisen (D.failures disk.old) (D.failures disk.new) }
     ensures later { D.failures disk.old ≤ D.failures disk.new }
@@ -226,7 +226,7 @@ pub(crate) fn read_front<D: Disk>(disk: &mut D) -> Result<ArchiveFront, OpenFaul
     ensures shows { (b : List ℕ) → IsView D.Disk disk.old b → ShowsFront D.Disk disk.new result b }
     ensures shape { IfOk result (λ t. IsWithinLimits t.shape × (D.size disk.new ≡ disk_length t.shape)) }
     ensures known { IfOk result (λ t. is_known t.version ≡ true) }
-    ensures quiet { IsQuiet D.Disk disk.old disk.new }
+    ensures quiet { OnlyReads D.Disk disk.old disk.new }
     ensures cause { result ≡ Err OpenFault.Disk
         → HasRisen (D.failures disk.old) (D.failures disk.new) }
     ensures later { D.failures disk.old ≤ D.failures disk.new }

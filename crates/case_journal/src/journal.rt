@@ -1,18 +1,15 @@
 // An open journal, and its appends.
-ghost use Rattle.std.specs.Prelude.{◌≡◌, ◌≢◌, ◌+◌, ◌*◌, ◌<◌, ◌≤◌, ◌^◌, nat_lt, true, false, Bool, ◌++◌, ◌∷◌, [], length, map, IsTrue, OnOk, IfOk, IfErr, IfSome, None, Err, Ok, ℕ, vec_len, vec_capacity, option_map};
-ghost use Rattle.std.specs.List.{HoldsAt};
-ghost use Rattle.journal_layout.specs.Live.{seq_of_case};
+ghost use Rattle.std.specs.Prelude.{◌≡◌, ◌+◌, ◌*◌, ◌<◌, ◌≤◌, ◌^◌, nat_lt, true, false, length, map, IsTrue, OnOk, IfErr, Err, option_map};
 ghost use Rattle.journal_layout.specs.declared.entry.Entry.{Entry};
 ghost use Rattle.disk_model.specs.Places.{SameOutside};
 ghost use Rattle.disk_model.specs.Disk.{HasRisen};
 ghost use Rattle.journal_layout.specs.Case.{case_of, numbered};
 ghost use Rattle.journal_layout.specs.Record.{Record, Store, Drop, Pin, record_size, behind_gate};
 ghost use Rattle.journal_layout.specs.Layout.{IsWithinLimits, disk_length, half_start, half_length};
-ghost use Rattle.journal_layout.specs.Folding.{with_pin, dropped, is_among};
 ghost use Rattle.journal_layout.specs.Soundness.{case_numbered, Rise};
 ghost use Rattle.journal_layout.specs.Standing.{store_of};
 ghost use Rattle.journal_layout.specs.Rewriting.{fits};
-ghost use Rattle.case_journal.specs.Journaled.{Journaled, halted, goes_on};
+ghost use Rattle.case_journal.specs.Journaled.{Journaled, halted, after_append};
 ghost use Rattle.case_journal.specs.Keeping.{Keeps, LeavesEither, LeavesOutside};
 ghost use Rattle.case_journal.specs.Append.{MayStore, MayFollow, StoreStep, AppendStep, IsStoreDiskFault, RefusalLeaves, StoreRefusalLeaves};
 ghost use Rattle.case_journal.specs.Entering.{left, repinned, PutStep};
@@ -21,11 +18,12 @@ ghost use Rattle.case_journal.specs.Compacting.{PutLeaves};
 
 use crate::JournalFault;
 use crate::compacting::{Place, room_beside};
+use crate::live_entries::{LiveEntries, find_entry};
 use crate::publish::publish;
 use disk_model::Disk;
 use journal_layout::{Entry, Half, Shape};
 use journal_records::{PIN_SIZE, drop_record, drop_size, pin_record, store_record, store_size};
-use journal_snapshot::{Change, is_listed};
+use journal_snapshot::Change;
 use std::alloc::Global;
 use std::marker::Model;
 
@@ -39,7 +37,7 @@ pub struct Journal {
     pub(crate) version: u32,
     pub(crate) generation: u64,
     // In the order of their numbers.
-    pub(crate) entries: Vec<Entry>,
+    pub(crate) entries: LiveEntries,
     // The number of the next case, at most 2^32.
     pub(crate) next: u64,
     // The bytes of the taken half's header and records.
@@ -62,14 +60,14 @@ impl Model for Journal {
         half = j.half;
         version = j.version;
         generation = j.generation;
-        cases = map case_of j.entries.items;
+        cases = map case_of j.entries.entries;
         next = j.next;
         used = j.used;
       };
       stopped = j.stopped;
     } };
 
-    ghost invariant = { λ j. IsKept j.shape j.version (map case_of j.entries.items) j.next j.used };
+    ghost invariant = { λ j. IsKept j.shape j.version (map case_of j.entries.entries) j.next j.used };
 }
 
 impl Journal {
@@ -77,14 +75,14 @@ impl Journal {
     pub fn entries(&self) -> &[Entry]
         ensures { map case_of result.now ≡ self.now.standing.cases }
     {
-        &self.entries
+        self.entries.as_slice()
     }
 
     /// The case of this number, if it is live.
     pub fn entry(&self, seq: u32) -> Option<&Entry>
         ensures { option_map (λ (e : _). case_of e.now) result ≡ case_numbered seq self.now.standing.cases }
     {
-        find_entry(&self.entries, seq)
+        find_entry(self.entries.as_slice(), seq)
     }
 
     /// The number of the next case, at most 2^32.
@@ -109,7 +107,7 @@ impl Journal {
         self.shape
     }
 
-    // Whether a record of so many bytes, and the gate behind it, go behind those that stand there.
+    // Whether a record of `size` bytes, and the gate behind it, go behind those that stand there.
     fn fits(&self, size: u64) -> bool
         ensures room { result ≡ nat_lt (self.now.standing.used + size) (half_length self.now.standing.shape) }
         ensures small { result ≡ true → size ≤ 16777216 }
@@ -125,7 +123,12 @@ impl Journal {
     {
         if !self.fits(size) {
             let change = Change::Store(0, entry);
-            room_beside(&self.entries, self.shape, self.generation, &change)?;
+            room_beside(
+                self.entries.as_slice(),
+                self.shape,
+                self.generation,
+                &change,
+            )?;
         }
         Ok(())
     }
@@ -138,13 +141,11 @@ impl Journal {
         ensures step { BehindStep self.now.standing (length behind.now) result }
         ensures run { (r : Record) → IsPut self.now.standing r behind.now → RunsAppend D.Disk disk.old disk.new self.now.standing r }
         ensures kept { (r : Record) → IsPut self.now.standing r behind.now
-            → OnOk result (Keeps D.Disk disk.new (goes_on self.now r)) }
+            → OnOk result (Keeps D.Disk disk.new (after_append self.now r)) }
         ensures cause { result ≡ Err JournalFault.Disk → HasRisen (D.failures disk.old) (D.failures disk.new) }
     {
         let gate = self.shape.half_start(self.half) + self.used;
-        let Ok(()) = publish(disk, gate, behind) else {
-            return Err(JournalFault::Disk);
-        };
+        publish(disk, gate, behind)?;
         Ok(Place {
             half: self.half,
             generation: self.generation,
@@ -167,16 +168,14 @@ impl Journal {
         requires sound { MayFollow self.now.standing (Store (numbered seq (case_of entry.now))) }
         ensures step { PutStep self.now.standing (Store (numbered seq (case_of entry.now))) result }
         ensures run { RunsAppend D.Disk disk.old disk.new self.now.standing (Store (numbered seq (case_of entry.now))) }
-        ensures kept { OnOk result (Keeps D.Disk disk.new (goes_on self.now (Store (numbered seq (case_of entry.now))))) }
+        ensures kept { OnOk result (Keeps D.Disk disk.new (after_append self.now (Store (numbered seq (case_of entry.now))))) }
         ensures untouched { PutLeaves result disk.old disk.new }
         ensures cause { result ≡ Err JournalFault.Disk → HasRisen (D.failures disk.old) (D.failures disk.new) }
     {
         if !self.fits(size) {
             return self.put_beside(disk, &Change::Store(seq, entry), self.next + 1);
         }
-        let Ok(record) = store_record(self.alloc(), seq, entry, size) else {
-            return Err(JournalFault::OutOfMemory);
-        };
+        let record = store_record(self.alloc(), seq, entry, size)?;
         self.put_behind(disk, &record)
     }
 
@@ -187,7 +186,7 @@ impl Journal {
         requires sound { MayFollow self.now.standing (Drop seqs.now) }
         ensures step { PutStep self.now.standing (Drop seqs.now) result }
         ensures run { RunsAppend D.Disk disk.old disk.new self.now.standing (Drop seqs.now) }
-        ensures kept { OnOk result (Keeps D.Disk disk.new (goes_on self.now (Drop seqs.now))) }
+        ensures kept { OnOk result (Keeps D.Disk disk.new (after_append self.now (Drop seqs.now))) }
         ensures untouched { PutLeaves result disk.old disk.new }
         ensures cause { result ≡ Err JournalFault.Disk → HasRisen (D.failures disk.old) (D.failures disk.new) }
     {
@@ -195,9 +194,7 @@ impl Journal {
         if !self.fits(size) {
             return self.put_beside(disk, &Change::Drop(seqs), self.next);
         }
-        let Ok(record) = drop_record(self.alloc(), seqs, size) else {
-            return Err(JournalFault::OutOfMemory);
-        };
+        let record = drop_record(self.alloc(), seqs, size)?;
         self.put_behind(disk, &record)
     }
 
@@ -210,7 +207,7 @@ impl Journal {
         ensures step { PutStep self.now.standing (Pin seq flag) result }
         ensures never { result ≡ Err JournalFault.OutOfMemory → fits self.now.standing (Pin seq flag) ≡ false }
         ensures run { RunsAppend D.Disk disk.old disk.new self.now.standing (Pin seq flag) }
-        ensures kept { OnOk result (Keeps D.Disk disk.new (goes_on self.now (Pin seq flag))) }
+        ensures kept { OnOk result (Keeps D.Disk disk.new (after_append self.now (Pin seq flag))) }
         ensures untouched { PutLeaves result disk.old disk.new }
         ensures cause { result ≡ Err JournalFault.Disk → HasRisen (D.failures disk.old) (D.failures disk.new) }
     {
@@ -261,7 +258,7 @@ impl Journal {
             return Err((JournalFault::NumbersSpent, entry));
         }
         let seq = self.next as u32;
-        let Ok(()) = self.entries.reserve(1) else {
+        let Ok(()) = self.entries.reserve() else {
             return Err((JournalFault::OutOfMemory, entry));
         };
         match self.put_store(disk, seq, &entry, size) {
@@ -272,7 +269,7 @@ impl Journal {
                     place.used,
                 );
                 self.next += 1;
-                self.entries.push(Entry { seq, ..entry }).unwrap();
+                self.entries.push(Entry { seq, ..entry });
                 Ok(seq)
             }
             Err(fault) => {
@@ -367,7 +364,7 @@ impl Journal {
 
     // The allocator of the entries.
     pub(crate) fn alloc(&self) -> Global {
-        *self.entries.allocator()
+        self.entries.allocator()
     }
 
     // Leaves out the entries of these numbers, which rise.
@@ -375,51 +372,13 @@ impl Journal {
         requires { Rise 0 seqs.now }
         ensures { self.new ≡ left self.old seqs.now }
     {
-        keep_others(&mut self.entries, seqs);
+        self.entries.leave_out(seqs);
     }
 
     // Sets the flag of the entry of this number.
     fn pin_entry(&mut self, seq: u32, flag: bool)
         ensures { self.new ≡ repinned self.old seq flag }
     {
-        set_pin(&mut self.entries, seq, flag);
-    }
-}
-
-// Keeps the entries that have none of these numbers, which rise.
-fn keep_others(entries: &mut Vec<Entry>, seqs: &[u32])
-    requires { Rise 0 seqs.now }
-    ensures { map case_of entries.new.items ≡ dropped seqs.now (map case_of entries.old.items) }
-{
-    entries.retain(|entry| !is_listed(seqs, entry.seq));
-}
-
-// Where the entry of this number stands among entries whose numbers rise.
-fn place_of(entries: &[Entry], seq: u32) -> Option<usize>
-    requires { Rise 0 (map seq_of_case (map case_of entries.now)) }
-    ensures found { IfSome result (λ place. (place < length entries.now) × HoldsAt (λ (e : Entry). e.seq ≡ seq) entries.now place) }
-    ensures absent { result ≡ None → case_numbered seq (map case_of entries.now) ≡ None }
-{
-    entries.binary_search_by_key(&seq, |entry| entry.seq).ok()
-}
-
-// Sets the flag of the entry of this number, if there is one.
-fn set_pin(entries: &mut [Entry], seq: u32, flag: bool)
-    requires { Rise 0 (map seq_of_case (map case_of entries.old)) }
-    ensures { map case_of entries.new ≡ with_pin seq flag (map case_of entries.old) }
-{
-    if let Some(place) = place_of(entries, seq) {
-        entries[place].pinned = flag;
-    }
-}
-
-// The entry of this number, if there is one.
-fn find_entry(entries: &[Entry], seq: u32) -> Option<&Entry>
-    requires { Rise 0 (map seq_of_case (map case_of entries.now)) }
-    ensures { option_map (λ (e : _). case_of e.now) result ≡ case_numbered seq (map case_of entries.now) }
-{
-    match place_of(entries, seq) {
-        Some(place) => Some(&entries[place]),
-        None => None,
+        self.entries.set_pin(seq, flag);
     }
 }

@@ -8,6 +8,7 @@ mod formatting;
 mod front;
 mod journal;
 mod laws;
+mod live_entries;
 mod open;
 mod publish;
 

@@ -8,11 +8,12 @@ ghost use Rattle.journal_layout.specs.Standing.{Standing};
 ghost use Rattle.journal_layout.specs.Live.{AreLive};
 ghost use Rattle.case_journal.specs.Keeping.{Keeps};
 ghost use Rattle.case_journal.specs.Opening.{journal_of};
-ghost use Rattle.case_journal.specs.Viewing.{IsView, Shows, ShowsOpening, IsQuiet, IsOpenRefusal, Finds};
+ghost use Rattle.case_journal.specs.Viewing.{IsView, Shows, ShowsOpening, OnlyReads, IsOpenRefusal, FindsStanding};
 ghost use Rattle.journal_records.specs.Kept.{AreNames, IsSpareMap};
 
 use crate::Journal;
 use crate::front::{ArchiveFront, read_front, read_part};
+use crate::live_entries::LiveEntries;
 use disk_model::Disk;
 use extents::FreeMap;
 use journal_layout::{Name, OpenFault};
@@ -25,7 +26,7 @@ const HEADER: u64 = 32;
 
 // Makes stable what was written, so that what reads give is what a crash leaves.
 fn settle<D: Disk>(disk: &mut D) -> Result<(), OpenFault>
-    ensures quiet { IsQuiet D.Disk disk.old disk.new }
+    ensures quiet { OnlyReads D.Disk disk.old disk.new }
     ensures settled { IsTrue (D.is_honest disk.old) → OnOk result (Only (D.seen disk.old) (D.may_leave disk.new)) }
     ensures only { IsOkUnless result OpenFault.Disk }
     ensures cause { HasCause (D.failures disk.old) (D.failures disk.new) result }
@@ -47,7 +48,7 @@ fn read_records<D: Disk>(
     ensures shows { (b : List ℕ) → IsView D.Disk disk.old b
         → IfOk result (λ v. Shows D.Disk disk.new (records_start front.shape front.half) v.items b) }
     ensures long { IfOk result (λ v. length v.items ≡ half_length front.shape - 32) }
-    ensures quiet { IsQuiet D.Disk disk.old disk.new }
+    ensures quiet { OnlyReads D.Disk disk.old disk.new }
     ensures only { IsOpenRefusal result }
     ensures cause { result ≡ Err OpenFault.Disk
         → HasRisen (D.failures disk.old) (D.failures disk.new) }
@@ -84,7 +85,7 @@ fn read_journal<D: Disk>(alloc: Global, disk: &mut D) -> Result<Opened, OpenFaul
     ensures runs { IfOk result (λ o. o.journal.stopped ≡ false) }
     ensures names { IfOk result (λ o. AreNames o.journal.standing.cases o.names) }
     ensures free { IfOk result (λ o. IsSpareMap o.journal.standing.shape.data_blocks o.journal.standing.cases o.free) }
-    ensures quiet { IsQuiet D.Disk disk.old disk.new }
+    ensures quiet { OnlyReads D.Disk disk.old disk.new }
     ensures cause { result ≡ Err OpenFault.Disk
         → HasRisen (D.failures disk.old) (D.failures disk.new) }
     ensures later { D.failures disk.old ≤ D.failures disk.new }
@@ -99,7 +100,7 @@ fn read_journal<D: Disk>(alloc: Global, disk: &mut D) -> Result<Opened, OpenFaul
             half: front.half,
             version: front.version,
             generation: front.generation,
-            entries: read.entries,
+            entries: LiveEntries::new(read.entries),
             next: read.next,
             used: HEADER + read.size,
             stopped: false,
@@ -119,7 +120,7 @@ impl Journal {
         ensures gives { ShowsOpening D.Disk disk.old (journal_of result) }
         // What the disk stands for is found, and nothing but the disk and the memory refuses it.
         ensures found { (s : Standing) → IsTrue (D.is_honest disk.old) → Stands (D.seen disk.old) s
-            → Finds (journal_of result) s }
+            → FindsStanding (journal_of result) s }
         ensures keeps { IfOk result (λ o. Keeps D.Disk disk.new o.journal) }
         // What the cases of any archive are like: their numbers rise, no block is used twice, and so on.
         ensures live { IfOk result (λ o. AreLive o.journal.standing.shape.data_blocks o.journal.standing.cases o.journal.standing.next) }
@@ -139,9 +140,7 @@ impl Journal {
         ensures honesty { D.is_honest disk.new ≡ D.is_honest disk.old }
         ensures size { D.size disk.new ≡ D.size disk.old }
     {
-        let Ok(()) = settle(disk) else {
-            return Err(OpenFault::Disk);
-        };
+        settle(disk)?;
         read_journal(alloc, disk)
     }
 }

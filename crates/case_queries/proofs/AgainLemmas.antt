@@ -2,11 +2,11 @@
 use Rattle.std.proofs.Common.{◌≡◌, inr, ⊎_elim, ℕ, Bool, true, false, List, [], ◌∷◌, Result, Ok, Err, Vec, Global, Some, IfOk, map, refl, sym, ap, subst}
 use Rattle.std.proofs.lemmas.Bool.{false≢true}
 use Rattle.address_space.specs.Source.{ExecutableView}
-use Rattle.case_journal.specs.Viewing.{IsQuiet}
+use Rattle.case_journal.specs.Viewing.{OnlyReads}
 use Rattle.disk_model.specs.MomentLaws.{started}
 use Rattle.disk_model.specs.declared.disk.Disk as disk
-use Rattle.intake.specs.Parts.{Parts, bare_of}
-use Rattle.intake.specs.State.{BareCase}
+use Rattle.intake.specs.Parts.{Parts, state_of}
+use Rattle.intake.specs.State.{CaseFacts}
 use Rattle.intake.specs.StayLaws.{stays_none}
 use Rattle.intake.specs.declared.faults.ArchiveFault.{ArchiveFault}
 use Rattle.case_queries.specs.Gathering.{Gathers, GathersAll, Wanted, wanted_of, with_executable}
@@ -24,7 +24,7 @@ given_not : {A B : Type 0} (x : A) (f : B) → Ok x ≡ Err f → ⊥
 given_not x f is = false≢true (sym (ap is_given is))
 
 module _ {D : Type 0} (g : disk.Ghosts D) (now : Parts D) (only : (c : List ℕ) → g.left_since now.disk (g.clock now.disk) c → g.may_leave now.disk c) where
-  quiet_still : IsQuiet g now.disk now.disk
+  quiet_still : OnlyReads g now.disk now.disk
   quiet_still = record {
     seen = λ honest. refl;
     crash = λ honest c may. may;
@@ -55,14 +55,14 @@ module _ {D : Type 0} (g : disk.Ghosts D) (now : Parts D) (only : (c : List ℕ)
       more
   again old new (x ∷ xs) views leaves (Err f, mid, looks, more) = absurd (given_not views f more.0)
 
-  all_again : (old : Parts D) (b : List ℕ) (views : List ExecutableView) → GathersAll g old (wanted_of b (bare_of old).cases) (Ok views) now → Gathers g now (wanted_of b (bare_of now).cases) (Ok views) now
+  all_again : (old : Parts D) (b : List ℕ) (views : List ExecutableView) → GathersAll g old (wanted_of b (state_of old).cases) (Ok views) now → Gathers g now (wanted_of b (state_of now).cases) (Ok views) now
   all_again old b views all =
-      let leaves = all_leaves g old now (wanted_of b (bare_of old).cases) (Ok views) all in
-      subst (λ (cases : List BareCase). Gathers g now (wanted_of b cases) (Ok views) now) (sym leaves.cases)
-      (⊎_elim (λ short. absurd (given_not views _ short.0)) (λ gathers. again old now (wanted_of b (bare_of old).cases) views (leaves_as g now now refl) gathers) all)
+      let leaves = all_leaves g old now (wanted_of b (state_of old).cases) (Ok views) all in
+      subst (λ (cases : List CaseFacts). Gathers g now (wanted_of b cases) (Ok views) now) (sym leaves.cases)
+      (⊎_elim (λ short. absurd (given_not views _ short.0)) (λ gathers. again old now (wanted_of b (state_of old).cases) views (leaves_as g now now refl) gathers) all)
 
   -- what was gathered just now may be kept
-  pub stay_gathered : (old : Parts D) (b : List ℕ) (r : Result (Vec Executable Global) ArchiveFault) → GathersAll g old (wanted_of b (bare_of old).cases) (gathered_view r) now
+  pub stay_gathered : (old : Parts D) (b : List ℕ) (r : Result (Vec Executable Global) ArchiveFault) → GathersAll g old (wanted_of b (state_of old).cases) (gathered_view r) now
       → IfOk r (λ v. StayGathered g now b (Some v))
   stay_gathered old b (Ok v) all = all_again old b (map executable_view v.items) all
   stay_gathered old b (Err f) all = tt

@@ -16,8 +16,8 @@ use Rattle.image_replies.specs.Core.{core_fault_of}
 use Rattle.image_replies.specs.Lines.{in_core}
 use Rattle.image_replies.specs.Reasons.{core_reason}
 use Rattle.image_replies.specs.declared.core_image.CoreFault.{CoreFault}
-use Rattle.intake.specs.Parts.{Parts, bare_of}
-use Rattle.intake.specs.State.{Bare, BareCase}
+use Rattle.intake.specs.Parts.{Parts, state_of}
+use Rattle.intake.specs.State.{ArchiveState, CaseFacts}
 use Rattle.intake.specs.Step.{case_at}
 use Rattle.intake.specs.declared.faults.ArchiveFault.{ArchiveFault}
 use Rattle.journal_layout.specs.declared.entry.Kind.{Kind}
@@ -44,13 +44,13 @@ kind_for (ask_symbol address) Exec = Ok Exec
 kind_for q Core = Ok Core
 kind_for q Exec = Err (codes "NotCore")
 
-abbrev pub kind_found : QuerySaid → Option BareCase → Result Kind (List ℕ)
+abbrev pub kind_found : QuerySaid → Option CaseFacts → Result Kind (List ℕ)
 kind_found q None = Err (codes "NoCase")
 kind_found q (Some c) = kind_for q c.kind
 
 -- The kind of the case that a line asks; or why it shows nothing, whatever the image: the archive is stopped, or has no such
 -- case, or it is of the other kind.
-abbrev pub kind_asked : Bare → ℕ → QuerySaid → Result Kind (List ℕ)
+abbrev pub kind_asked : ArchiveState → ℕ → QuerySaid → Result Kind (List ℕ)
 kind_asked s seq q = if s.stopped then Err (codes "Stopped") else kind_found q (case_at seq s.cases)
 
 -- as what an image is read
@@ -97,7 +97,7 @@ ToldBeside kind q b (Err f) reply = reply ≡ no_reply (reason_of f)
 -- a core that has no fault, with the executables that are read beside it
 abbrev pub ShowsCore : {D : Type 0} → disk.Ghosts D → Parts D → Kind → QuerySaid → List ℕ → List ℕ → Parts D → Type 0
 ShowsCore g old kind q b reply new =
-    (r : Result (List ExecutableView) ArchiveFault) × GathersAll g old (wanted_of b (bare_of old).cases) r new × ToldBeside kind q b r reply
+    (r : Result (List ExecutableView) ArchiveFault) × GathersAll g old (wanted_of b (state_of old).cases) r new × ToldBeside kind q b r reply
 
 -- the executables are read where the core has no fault
 abbrev pub ShowsBeside : {D : Type 0} → disk.Ghosts D → Parts D → Kind → QuerySaid → List ℕ → Option CoreFault → List ℕ → Parts D → Type 0
@@ -124,7 +124,7 @@ Asks {D} g old seq q (Ok kind) reply new = (r : Result (List ℕ) ArchiveFault) 
 -- A line that asks the image of a case: it is refused by the first reason that stands, or shows what the layouts give for the
 -- bytes of that image, and of the stored executables that it names.
 abbrev pub Inspects : {D : Type 0} → disk.Ghosts D → Parts D → ℕ → QuerySaid → List ℕ → Parts D → Type 0
-Inspects g old seq q reply new = Asks g old seq q (kind_asked (bare_of old) seq q) reply new
+Inspects g old seq q reply new = Asks g old seq q (kind_asked (state_of old) seq q) reply new
 
 -- the kind that code tells, or the reason
 abbrev pub asked_view : Result Kind (Bor (List ℕ)) → Result Kind (List ℕ)

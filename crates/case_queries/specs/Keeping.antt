@@ -2,7 +2,7 @@
 use Rattle.std.specs.Prelude.{ℕ, List, map, Option, None, Some, Ok, Vec}
 use Rattle.std.specs.Global.{Global}
 use Rattle.disk_model.specs.declared.disk.Disk as disk
-use Rattle.intake.specs.Parts.{Parts, bare_of}
+use Rattle.intake.specs.Parts.{Parts, state_of}
 use Rattle.case_queries.specs.Gathering.{Gathers, wanted_of}
 use Rattle.case_queries.specs.GatheringWords.{executable_view}
 use Rattle.case_queries.specs.declared.gather.Executable.{Executable}
@@ -11,7 +11,7 @@ use Rattle.case_queries.specs.declared.kept_image.KeptImage.{KeptImage}
 -- Executables that are kept are what gathering for a core of these bytes may give here, with no byte read and nothing changed.
 abbrev pub StayGathered : {D : Type 0} → disk.Ghosts D → Parts D → List ℕ → Option (Vec Executable Global) → Type 0
 StayGathered g a b None = Unit {0}
-StayGathered g a b (Some v) = Gathers g a (wanted_of b (bare_of a).cases) (Ok (map executable_view v.items)) a
+StayGathered g a b (Some v) = Gathers g a (wanted_of b (state_of a).cases) (Ok (map executable_view v.items)) a
 
 -- those that are kept with an image were gathered for that image
 abbrev pub AreKept : {D : Type 0} → disk.Ghosts D → Parts D → Option KeptImage → Type 0

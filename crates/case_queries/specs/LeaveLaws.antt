@@ -5,10 +5,10 @@ use Rattle.address_space.specs.Source.{ExecutableView}
 use Rattle.disk_model.specs.declared.disk.Disk as disk
 use Rattle.image_replies.specs.Core.{core_fault_of}
 use Rattle.image_replies.specs.declared.core_image.CoreFault.{CoreFault}
-use Rattle.intake.specs.Calls.{Stays}
+use Rattle.intake.specs.Calls.{ChangesNoCase}
 use Rattle.intake.specs.Contents.{Contents, UnmovedBytes, image_at}
-use Rattle.intake.specs.Parts.{Parts, bare_of, contents_of}
-use Rattle.intake.specs.State.{Bare, BareCase}
+use Rattle.intake.specs.Parts.{Parts, state_of, contents_of}
+use Rattle.intake.specs.State.{ArchiveState, CaseFacts}
 use Rattle.intake.specs.StayLaws.{stays_as, stays_then}
 use Rattle.intake.specs.Step.{ImageStep, case_at}
 use Rattle.intake.specs.declared.faults.ArchiveFault.{ArchiveFault}
@@ -20,11 +20,11 @@ use Rattle.case_queries.specs.Inspecting.{Asks, Shows, ShowsBy, ShowsBeside, Sho
 use Rattle.case_queries.specs.Seeing.{AreOfCase, LooksAt}
 
 -- an image that can't be read: the archive stays as it is, or is stopped
-image_cases : (old new : Bare) (seq : ℕ) (f : ArchiveFault) → ImageStep {T = Vec ℕ Global} old seq (Err f) new → new.cases ≡ old.cases
-image_cases old new seq Stopped step = ap (λ (b : Bare). b.cases) step.1
-image_cases old new seq NoCase step = ap (λ (b : Bare). b.cases) step.2
-image_cases old new seq OutOfMemory step = ap (λ (b : Bare). b.cases) step.2
-image_cases old new seq Disk step = ap (λ (b : Bare). b.cases) step.2
+image_cases : (old new : ArchiveState) (seq : ℕ) (f : ArchiveFault) → ImageStep {T = Vec ℕ Global} old seq (Err f) new → new.cases ≡ old.cases
+image_cases old new seq Stopped step = ap (λ (b : ArchiveState). b.cases) step.1
+image_cases old new seq NoCase step = ap (λ (b : ArchiveState). b.cases) step.2
+image_cases old new seq OutOfMemory step = ap (λ (b : ArchiveState). b.cases) step.2
+image_cases old new seq Disk step = ap (λ (b : ArchiveState). b.cases) step.2
 image_cases old new seq BadSlot step = absurd step
 image_cases old new seq SlotBusy step = absurd step
 image_cases old new seq NameTaken step = absurd step
@@ -35,11 +35,11 @@ image_cases old new seq Pinned step = absurd step
 image_cases old new seq JournalFull step = absurd step
 image_cases old new seq NumbersSpent step = absurd step
 
-image_halts : (old new : Bare) (seq : ℕ) (f : ArchiveFault) → ImageStep {T = Vec ℕ Global} old seq (Err f) new → old.stopped ≡ true → new.stopped ≡ true
-image_halts old new seq Stopped step stopped = ap (λ (b : Bare). b.stopped) step.1 ∙ stopped
-image_halts old new seq NoCase step stopped = ap (λ (b : Bare). b.stopped) step.2 ∙ stopped
-image_halts old new seq OutOfMemory step stopped = ap (λ (b : Bare). b.stopped) step.2 ∙ stopped
-image_halts old new seq Disk step stopped = ap (λ (b : Bare). b.stopped) step.2
+image_halts : (old new : ArchiveState) (seq : ℕ) (f : ArchiveFault) → ImageStep {T = Vec ℕ Global} old seq (Err f) new → old.stopped ≡ true → new.stopped ≡ true
+image_halts old new seq Stopped step stopped = ap (λ (b : ArchiveState). b.stopped) step.1 ∙ stopped
+image_halts old new seq NoCase step stopped = ap (λ (b : ArchiveState). b.stopped) step.2 ∙ stopped
+image_halts old new seq OutOfMemory step stopped = ap (λ (b : ArchiveState). b.stopped) step.2 ∙ stopped
+image_halts old new seq Disk step stopped = ap (λ (b : ArchiveState). b.stopped) step.2
 image_halts old new seq BadSlot step stopped = absurd step
 image_halts old new seq SlotBusy step stopped = absurd step
 image_halts old new seq NameTaken step stopped = absurd step
@@ -50,8 +50,8 @@ image_halts old new seq Pinned step stopped = absurd step
 image_halts old new seq JournalFull step stopped = absurd step
 image_halts old new seq NumbersSpent step stopped = absurd step
 
-image_stops : (old new : Bare) (seq : ℕ) (f : ArchiveFault) → ImageStep {T = Vec ℕ Global} old seq (Err f) new → f ≡ Disk → new.stopped ≡ true
-image_stops old new seq f step is = ap (λ (b : Bare). b.stopped) (subst (λ (x : ArchiveFault). ImageStep {T = Vec ℕ Global} old seq (Err x) new) is step).2
+image_stops : (old new : ArchiveState) (seq : ℕ) (f : ArchiveFault) → ImageStep {T = Vec ℕ Global} old seq (Err f) new → f ≡ Disk → new.stopped ≡ true
+image_stops old new seq f step is = ap (λ (b : ArchiveState). b.stopped) (subst (λ (x : ArchiveFault). ImageStep {T = Vec ℕ Global} old seq (Err x) new) is step).2
 
 unmoved_images : (old new : Contents) (f : ArchiveFault) → UnmovedBytes old f new → new.images ≡ old.images
 unmoved_images old new Disk unmoved = ap (λ (c : Contents). c.images) unmoved
@@ -63,9 +63,9 @@ unmoved_taken old new _ unmoved = inl (ap (λ (c : Contents). c.taken) unmoved)
 
 -- The cases and their images are as they were, and so are the streams, unless the archive is stopped.
 pub record Leaves {D : Type 0} (g : disk.Ghosts D) (old new : Parts D) : Type 0 where
-  pub stays : Stays g old new
+  pub stays : ChangesNoCase g old new
   pub halts : old.stopped ≡ true → new.stopped ≡ true
-  pub cases : (bare_of new).cases ≡ (bare_of old).cases
+  pub cases : (state_of new).cases ≡ (state_of old).cases
   pub images : IsTrue (g.is_honest old.disk) → (contents_of g.seen new).images ≡ (contents_of g.seen old).images
   pub taken : IsTrue (g.is_honest old.disk) → ((contents_of g.seen new).taken ≡ (contents_of g.seen old).taken) ⊎ (new.stopped ≡ true)
 
@@ -74,7 +74,7 @@ module _ {D : Type 0} (g : disk.Ghosts D) where
   leaves_as old new is = record {
     stays = stays_as g old new is;
     halts = λ stopped. ap (λ (a : Parts D). a.stopped) is ∙ stopped;
-    cases = ap (λ (a : Parts D). (bare_of a).cases) is;
+    cases = ap (λ (a : Parts D). (state_of a).cases) is;
     images = λ honest. ap (λ (a : Parts D). (contents_of g.seen a).images) is;
     taken = λ honest. inl (ap (λ (a : Parts D). (contents_of g.seen a).taken) is);
   }
@@ -95,18 +95,18 @@ module _ {D : Type 0} (g : disk.Ghosts D) where
   pub looks_leaves : (old new : Parts D) (seq : ℕ) (r : Result (List ℕ) ArchiveFault) → LooksAt g old seq r new → Leaves g old new
   looks_leaves old new seq (Ok image) looks = record {
     stays = looks.stays;
-    halts = λ stopped. ap (λ (b : Bare). b.stopped) looks.state ∙ stopped;
-    cases = ap (λ (b : Bare). b.cases) looks.state;
+    halts = λ stopped. ap (λ (b : ArchiveState). b.stopped) looks.state ∙ stopped;
+    cases = ap (λ (b : ArchiveState). b.cases) looks.state;
     images = λ honest. ap (λ (c : Contents). c.images) (looks.contents honest);
     taken = λ honest. inl (ap (λ (c : Contents). c.taken) (looks.contents honest));
   }
   looks_leaves old new seq (Err f) looks = record {
     stays = looks.stays;
-    halts = image_halts (bare_of old) (bare_of new) seq f looks.step;
-    cases = image_cases (bare_of old) (bare_of new) seq f looks.step;
+    halts = image_halts (state_of old) (state_of new) seq f looks.step;
+    cases = image_cases (state_of old) (state_of new) seq f looks.step;
     images = λ honest. unmoved_images (contents_of g.seen old) (contents_of g.seen new) f (looks.bytes honest);
     taken = λ honest.
-        ⊎_elim (λ same. inl same) (λ is. inr (image_stops (bare_of old) (bare_of new) seq f looks.step is))
+        ⊎_elim (λ same. inl same) (λ is. inr (image_stops (state_of old) (state_of new) seq f looks.step is))
         (unmoved_taken (contents_of g.seen old) (contents_of g.seen new) f (looks.bytes honest));
   }
 
@@ -141,7 +141,7 @@ module _ {D : Type 0} (g : disk.Ghosts D) where
   own_still old new seq image leaves own = record {
     bytes = λ honest.
         let was = sym leaves.stays.honesty ∙ honest in
-        ap (λ (cs : List BareCase). image_at seq cs (contents_of g.seen new).images) leaves.cases
-        ∙ ap (image_at seq (bare_of old).cases) (leaves.images was) ∙ own.bytes was;
+        ap (λ (cs : List CaseFacts). image_at seq cs (contents_of g.seen new).images) leaves.cases
+        ∙ ap (image_at seq (state_of old).cases) (leaves.images was) ∙ own.bytes was;
     long = λ c at. own.long c (ap (case_at seq) (sym leaves.cases) ∙ at);
   }

@@ -1,29 +1,29 @@
 -- The image of a case, as the lines that ask it see it.
 use Rattle.std.specs.Prelude.{◌≡◌, ℕ, List, length, Option, None, Some, Result, Ok, Err, IsTrue}
 use Rattle.disk_model.specs.declared.disk.Disk as disk
-use Rattle.case_journal.specs.Viewing.{IsQuiet}
-use Rattle.intake.specs.Calls.{ImageCall, Stays}
+use Rattle.case_journal.specs.Viewing.{OnlyReads}
+use Rattle.intake.specs.Calls.{ImageCall, ChangesNoCase}
 use Rattle.intake.specs.Contents.{image_at}
-use Rattle.intake.specs.Parts.{Parts, bare_of, contents_of}
-use Rattle.intake.specs.State.{BareCase}
+use Rattle.intake.specs.Parts.{Parts, state_of, contents_of}
+use Rattle.intake.specs.State.{CaseFacts}
 use Rattle.intake.specs.Step.{case_at}
 use Rattle.intake.specs.declared.faults.ArchiveFault.{ArchiveFault}
 use Rattle.case_queries.specs.declared.kept_image.KeptImage.{KeptImage}
 
 -- These are the bytes of a live case of this number: on an honest disk those of its image, on any disk as many as it has.
 pub record AreOfCase {D : Type 0} (g : disk.Ghosts D) (a : Parts D) (seq : ℕ) (image : List ℕ) : Type 0 where
-  pub bytes : IsTrue (g.is_honest a.disk) → image_at seq (bare_of a).cases (contents_of g.seen a).images ≡ Some image
-  pub long : (c : BareCase) → case_at seq (bare_of a).cases ≡ Some c → length image ≡ c.len
+  pub bytes : IsTrue (g.is_honest a.disk) → image_at seq (state_of a).cases (contents_of g.seen a).images ≡ Some image
+  pub long : (c : CaseFacts) → case_at seq (state_of a).cases ≡ Some c → length image ≡ c.len
 
 -- The image of a case is seen, whether it is read now or was kept since it was: the archive shows what it showed, and a crash
 -- leaves what it left.
 pub record SeesImage {D : Type 0} (g : disk.Ghosts D) (old : Parts D) (seq : ℕ) (image : List ℕ) (new : Parts D) : Type 0 where
   pub own : AreOfCase g old seq image
-  pub state : bare_of new ≡ bare_of old
+  pub state : state_of new ≡ state_of old
   pub contents : IsTrue (g.is_honest old.disk) → contents_of g.seen new ≡ contents_of g.seen old
   -- no byte of the disk is written
-  pub quiet : IsQuiet g old.disk new.disk
-  pub stays : Stays g old new
+  pub quiet : OnlyReads g old.disk new.disk
+  pub stays : ChangesNoCase g old new
 
 -- it is seen, or why it can't be read
 abbrev pub LooksAt : {D : Type 0} → disk.Ghosts D → Parts D → ℕ → Result (List ℕ) ArchiveFault → Parts D → Type 0

@@ -1,7 +1,7 @@
 // The executables that a line over memory reads beside its core.
 ghost use Rattle.std.specs.Prelude.{◌≡◌, ◌∷◌, ◌++◌, [], false, map, IfOk, OnOk};
 ghost use Rattle.image_replies.specs.CoreWords.{core_bytes};
-ghost use Rattle.intake.specs.Parts.{bare_case, bare_of};
+ghost use Rattle.intake.specs.Parts.{case_facts, state_of};
 ghost use Rattle.journal_layout.specs.Case.{case_of};
 ghost use Rattle.memory_replies.specs.Memory.{attached_view};
 ghost use Rattle.case_queries.specs.Gathering.{Gathers, GathersAll, wanted_of, is_wanted};
@@ -37,7 +37,7 @@ pub(crate) fn gather<D: Disk>(
     archive: &mut Archive<D>,
 ) -> Result<Vec<Executable>, ArchiveFault>
     requires { archive.old.stopped ≡ false }
-    ensures { GathersAll D.Disk archive.old (wanted_of (core_bytes core.now) (bare_of archive.old).cases) (gathered_view result) archive.new }
+    ensures { GathersAll D.Disk archive.old (wanted_of (core_bytes core.now) (state_of archive.old).cases) (gathered_view result) archive.new }
 {
     let Ok(wanted) = wanted_in(alloc, core, archive) else {
         return Err(ArchiveFault::OutOfMemory);
@@ -52,7 +52,7 @@ fn wanted_in<D: Disk>(
     archive: &Archive<D>,
 ) -> Result<Vec<WantedCase>, AllocError>
     requires { archive.now.stopped ≡ false }
-    ensures { IfOk result (λ v. map wanted_view v.items ≡ wanted_of (core_bytes core.now) (bare_of archive.now).cases) }
+    ensures { IfOk result (λ v. map wanted_view v.items ≡ wanted_of (core_bytes core.now) (state_of archive.now).cases) }
 {
     match archive.cases() {
         Ok(entries) => wanted_among(alloc, core, entries),
@@ -65,7 +65,7 @@ fn wanted_among(
     core: &CoreImage<'_>,
     entries: &[Entry],
 ) -> Result<Vec<WantedCase>, AllocError>
-    ensures { IfOk result (λ v. map wanted_view v.items ≡ wanted_of (core_bytes core.now) (map bare_case (map case_of entries.now))) }
+    ensures { IfOk result (λ v. map wanted_view v.items ≡ wanted_of (core_bytes core.now) (map case_facts (map case_of entries.now))) }
 {
     let mut wanted = Vec::new(alloc);
     for entry in entries {
@@ -79,7 +79,7 @@ fn add_wanted(
     entry: &Entry,
     wanted: &mut Vec<WantedCase>,
 ) -> Result<(), AllocError>
-    ensures { OnOk result (map wanted_view wanted.new.items ≡ map wanted_view wanted.old.items ++ wanted_of (core_bytes core.now) (bare_case (case_of entry.now) ∷ [])) }
+    ensures { OnOk result (map wanted_view wanted.new.items ≡ map wanted_view wanted.old.items ++ wanted_of (core_bytes core.now) (case_facts (case_of entry.now) ∷ [])) }
 {
     if is_wanted(core, entry) {
         wanted.push(WantedCase {
@@ -91,7 +91,7 @@ fn add_wanted(
 }
 
 fn is_wanted(core: &CoreImage<'_>, entry: &Entry) -> bool
-    ensures { result ≡ is_wanted (core_bytes core.now) (bare_case (case_of entry.now)) }
+    ensures { result ≡ is_wanted (core_bytes core.now) (case_facts (case_of entry.now)) }
 {
     match entry.kind {
         Kind::Core => false,

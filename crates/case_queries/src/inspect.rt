@@ -1,6 +1,6 @@
 // The answers to lines that ask an image.
 ghost use Rattle.std.specs.Prelude.{◌≡◌, [], false, IfOk};
-ghost use Rattle.intake.specs.Parts.{bare_of};
+ghost use Rattle.intake.specs.Parts.{state_of};
 ghost use Rattle.script_streams.specs.Replies.{TellsReply, TellsText, telling, reply_of};
 ghost use Rattle.script_lines.specs.Queries.{query_of, image_query, ask_notes, ask_maps};
 ghost use Rattle.journal_layout.specs.declared.entry.Kind.{Kind};
@@ -72,7 +72,7 @@ pub fn answer_query<O: Output, D: Disk>(
 
 // The kind of the case that a line asks, or the reason why it shows nothing.
 fn kind_asked<D: Disk>(seq: u32, query: &Query, archive: &Archive<D>) -> Result<Kind, &'static [u8]>
-    ensures asked { asked_view result ≡ kind_asked (bare_of archive.now) seq (query_of query.now) }
+    ensures asked { asked_view result ≡ kind_asked (state_of archive.now) seq (query_of query.now) }
     ensures runs { IfOk result (λ kind. archive.now.stopped ≡ false) }
 {
     match archive.case(seq) {

@@ -5,7 +5,7 @@ ghost use Rattle.script_lines.specs.Queries.{memory_query};
 ghost use Rattle.script_streams.specs.Replies.{TellsReply, telling};
 ghost use Rattle.memory_replies.specs.Answers.{AnswersWith};
 ghost use Rattle.memory_replies.specs.Memory.{attached_view};
-ghost use Rattle.intake.specs.Parts.{bare_of};
+ghost use Rattle.intake.specs.Parts.{state_of};
 ghost use Rattle.case_queries.specs.Gathering.{GathersAll, wanted_of};
 ghost use Rattle.case_queries.specs.GatheringWords.{executable_view, gathered_view};
 ghost use Rattle.case_queries.specs.Inspecting.{Shows, ShowsCore, answer_of};
@@ -86,7 +86,7 @@ fn gathered<D: Disk>(
 ) -> Result<Vec<Executable>, ArchiveFault>
     requires runs { archive.old.stopped ≡ false }
     requires kept { StayGathered D.Disk archive.old (core_bytes core.now) kept }
-    ensures gathered { GathersAll D.Disk archive.old (wanted_of (core_bytes core.now) (bare_of archive.old).cases) (gathered_view result) archive.new }
+    ensures gathered { GathersAll D.Disk archive.old (wanted_of (core_bytes core.now) (state_of archive.old).cases) (gathered_view result) archive.new }
     ensures kept { IfOk result (λ v. StayGathered D.Disk archive.new (core_bytes core.now) (Some v)) }
 {
     match kept {

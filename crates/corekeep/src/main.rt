@@ -1,7 +1,7 @@
 //! The program: its standard streams and its status.
 #![tactic(auto)]
 
-use program_words::run_program;
+use command_line::run_program;
 use script_streams::{ReadInput, WriteOutput};
 use std::fs::File;
 use std::io;

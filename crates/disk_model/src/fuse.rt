@@ -6,7 +6,7 @@ ghost use Rattle.disk_model.specs.Disk.{Follows, Only, Elapses, HasCause, HasRis
 use crate::{Disk, DiskFault};
 use failure_count::after_failure;
 
-/// A disk that passes so many calls (reads, writes, syncs) to the one within, and fails all later ones.
+/// A disk that passes a number of calls (reads, writes, syncs) to the one within, and fails all later ones.
 #[derive(Drop)]
 pub struct Fuse<D> {
     inner: D,

@@ -39,7 +39,7 @@ pub struct MemDisk {
 impl MemDisk {
     ghost use Rattle.disk_model.specs.MemDisk.{held_by};
 
-    /// A disk of so many zeros.
+    /// A disk of `length` zeros.
     pub fn new(alloc: Global, length: u64) -> Result<MemDisk, AllocError>
         ensures zeros { IfOk result (λ d. ⟦<MemDisk as Disk>⟧.seen d ≡ replicate length 0) }
         ensures size { IfOk result (λ d. ⟦<MemDisk as Disk>⟧.size d ≡ length) }

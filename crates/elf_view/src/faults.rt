@@ -110,7 +110,7 @@ pub enum SectionFault {
     /// Section header 0, or the table of section headers, is not all in the image.
     #[error("e_shoff")]
     EShoff,
-    /// There are not so many sections.
+    /// There are fewer sections.
     #[error("NoSection")]
     NoSection,
 }

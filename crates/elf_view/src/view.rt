@@ -76,7 +76,7 @@ impl<'a> Elf<'a> {
         self.image
     }
 
-    /// Program header `i`, or `None` where there are not so many.
+    /// Program header `i`, or `None` where there are fewer.
     pub fn segment(&self, i: u64) -> Option<Segment<'a>>
         ensures { option_map segment_view result ≡ slice_get (segments_of (image_of self.now)) i }
     {
@@ -118,7 +118,7 @@ impl<'a> Elf<'a> {
     }
 
     /// Section `i`, or the first that holds of: the section headers have another size, they are not all in the image,
-    /// there are not so many.
+    /// there are fewer.
     pub fn section(&self, i: u64) -> Result<Section<'a>, SectionFault>
         ensures { section_result result ≡ section_of (image_of self.now) i }
     {

@@ -136,7 +136,7 @@ uses_inside run k from below = uses_range_inside run.start run.count k from belo
 pub uses_outside : (run : Run) (k : ℕ) → (k < run.start) ⊎ (run.start + run.count ≤ k) → uses (run_blocks run) k ≡ 0
 uses_outside run k out = uses_range_outside run.start run.count k out
 
--- the run of so many blocks from start on
+-- the run of `count` blocks from `start` on
 abbrev pub run_of : ℕ → ℕ → Run
 run_of start count = record { start = start; count = count }
 

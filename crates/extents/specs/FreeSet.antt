@@ -67,7 +67,7 @@ Marks old run (Ok _) new = (run.start + run.count ≤ length old) × AllFree old
 Marks old run (Err OutOfRange) new = (length old < run.start + run.count) × (new ≡ old)
 Marks old run (Err InUse) new = (run.start + run.count ≤ length old) × HasUsed old run × (new ≡ old)
 
--- The run is the longest stretch of free blocks from the lowest one on, up to so many, and it is free no longer.
+-- The run is the longest stretch of free blocks from the lowest one on, at most `want` blocks, and it is free no longer.
 pub record Takes (old : List Bool) (want : ℕ) (run : Run) (new : List Bool) : Type 0 where
   pub some : 1 ≤ run.count
   pub at_most : run.count ≤ want
@@ -77,7 +77,7 @@ pub record Takes (old : List Bool) (want : ℕ) (run : Run) (new : List Bool) : 
   pub longest : (run.count ≡ want) ⊎ (is_free old (run.start + run.count) ≡ false)
   pub taken : new ≡ without old run
 
--- What taking up to so many blocks answers and leaves.
+-- What taking at most `want` blocks answers and leaves.
 abbrev pub TakesOrNone : List Bool → ℕ → Option Run → List Bool → Type 0
 TakesOrNone old want (Some run) new = Takes old want run new
 TakesOrNone old want None new = NoneFree old × (new ≡ old)
@@ -93,7 +93,7 @@ abbrev pub IsLowest : List Bool → Option ℕ → Type 0
 IsLowest flags (Some k) = (is_free flags k ≡ true) × ((j : ℕ) → j < k → is_free flags j ≡ false)
 IsLowest flags None = NoneFree flags
 
--- So many blocks from start on are free without a gap, up to so many.
+-- The `count` blocks from `start` on are free without a gap, and no more follow, or `want` of them are enough.
 pub record IsStretch (flags : List Bool) (start want count : ℕ) : Type 0 where
   pub at_most : count ≤ want
   pub free : AllFree flags (record { start = start; count = count })

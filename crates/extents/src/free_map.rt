@@ -20,7 +20,8 @@ pub enum UseFault {
     InUse,
 }
 
-/// Which of so many blocks are free. Contracts see it as a list of flags, one for each block, true where it is free.
+/// Which of an archive's data blocks are free. Contracts see it as a list of flags, one for each block, true where it is
+/// free.
 #[derive(Drop)]
 pub struct FreeMap {
     // A bit for each block, the lowest bit of the first word first, set where the block is free. The last word's bits past

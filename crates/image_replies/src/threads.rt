@@ -74,7 +74,7 @@ fn tell_thread_line<O: Output>(reply: &mut Reply, output: &mut O, index: u128, t
 }
 
 /// Tells the registers of a thread of a core, or the first that holds of: the core or a typed note is at fault, there are
-/// not so many threads (`no NoThread`).
+/// fewer threads (`no NoThread`).
 pub fn tell_regs<O: Output>(reply: &mut Reply, output: &mut O, image: &[u8], thread: u64)
     ensures { TellsText (telling O.Output output.old output.new reply.old reply.new) (reply_of (spec.regs_answer image.now thread)) }
 {

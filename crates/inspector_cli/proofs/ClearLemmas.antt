@@ -9,8 +9,8 @@ use Rattle.intake.specs.declared.faults.ArchiveFault.{ArchiveFault}
 use Rattle.intake.specs.declared.faults.ArchiveFault.TheVariants.{Stopped, BadSlot, SlotBusy, NameTaken, NoStream, TooLong, SpaceFull, NoCase, Pinned, JournalFull, NumbersSpent, OutOfMemory, Disk}
 use Rattle.intake.specs.Durable.{Durable}
 use Rattle.intake.specs.Growth.{IsDiskFault}
-use Rattle.intake.specs.Parts.{Parts, bare_of}
-use Rattle.intake.specs.State.{Bare, BareStream}
+use Rattle.intake.specs.Parts.{Parts, state_of}
+use Rattle.intake.specs.State.{ArchiveState, StreamFacts}
 use Rattle.intake.specs.Step.{BeginStep, AbandonStep, FinishStep, DeleteStep, PinStep, RetireStep}
 use Rattle.retention.specs.declared.Decision.{Decision}
 use Rattle.retention.specs.declared.Policy.{Policy}
@@ -22,7 +22,7 @@ use Rattle.archive_replies.specs.Texts.{end_reply, plain_reply, retire_reply, dr
 use Rattle.stream_names.specs.Streams.{exec_stream, core_stream}
 use Rattle.archive_replies.specs.Reasons.{reason_of}
 use Rattle.inspector_cli.specs.Stages.{Stage, Moves, MayLeave}
-use Rattle.inspector_cli.specs.Session.{Item, Run, last_stage, Ending, complete, last_line, cut_part, said_last, EndReplies, LastReplies, Truncates, TakesFront, BreaksOff, AnswersAll, AnswersWhole}
+use Rattle.inspector_cli.specs.Session.{Item, AnswersItems, last_stage, Ending, complete, last_line, cut_part, said_last, EndReplies, LastReplies, Truncates, TakesFront, BreaksOff, AnswersAll, AnswersWhole}
 use Rattle.inspector_cli.specs.Runs.{IsClear}
 use Rattle.case_queries.specs.Inspecting.{kind_asked}
 use Rattle.case_queries.specs.LeaveLaws.{asks_leaves}
@@ -77,29 +77,29 @@ retire_told (Ok d) is = decision_told d.dropped.items d.unmet is
 retire_told (Err f) is = told_as_disk f is
 
 -- a disk fault stops the archive
-pub finish_stops : (old new : Bare) (slot : ℕ) (r : Result ℕ ArchiveFault) → FinishStep old slot r new → IsDiskFault r → new.stopped ≡ true
+pub finish_stops : (old new : ArchiveState) (slot : ℕ) (r : Result ℕ ArchiveFault) → FinishStep old slot r new → IsDiskFault r → new.stopped ≡ true
 finish_stops old new slot (Ok seq) step is = absurd is
-finish_stops old new slot (Err f) step is = ap (λ (b : Bare). b.stopped) (subst (λ (x : ArchiveFault). FinishStep old slot (Err x) new) is step).2
+finish_stops old new slot (Err f) step is = ap (λ (b : ArchiveState). b.stopped) (subst (λ (x : ArchiveFault). FinishStep old slot (Err x) new) is step).2
 
-pub delete_stops : (old new : Bare) (seq : ℕ) (r : Result (Unit {0}) ArchiveFault) → DeleteStep old seq r new → IsDiskFault r → new.stopped ≡ true
+pub delete_stops : (old new : ArchiveState) (seq : ℕ) (r : Result (Unit {0}) ArchiveFault) → DeleteStep old seq r new → IsDiskFault r → new.stopped ≡ true
 delete_stops old new seq (Ok u) step is = absurd is
-delete_stops old new seq (Err f) step is = ap (λ (b : Bare). b.stopped) (subst (λ (x : ArchiveFault). DeleteStep old seq (Err x) new) is step).4
+delete_stops old new seq (Err f) step is = ap (λ (b : ArchiveState). b.stopped) (subst (λ (x : ArchiveFault). DeleteStep old seq (Err x) new) is step).4
 
-pub pin_stops : (old new : Bare) (seq : ℕ) (flag : Bool) (r : Result (Unit {0}) ArchiveFault) → PinStep old seq flag r new → IsDiskFault r → new.stopped ≡ true
+pub pin_stops : (old new : ArchiveState) (seq : ℕ) (flag : Bool) (r : Result (Unit {0}) ArchiveFault) → PinStep old seq flag r new → IsDiskFault r → new.stopped ≡ true
 pin_stops old new seq flag (Ok u) step is = absurd is
-pin_stops old new seq flag (Err f) step is = ap (λ (b : Bare). b.stopped) (subst (λ (x : ArchiveFault). PinStep old seq flag (Err x) new) is step).4
+pin_stops old new seq flag (Err f) step is = ap (λ (b : ArchiveState). b.stopped) (subst (λ (x : ArchiveFault). PinStep old seq flag (Err x) new) is step).4
 
-pub retire_stops : (old new : Bare) (policy : Policy) (r : Result Decision ArchiveFault) → RetireStep old policy r new → IsDiskFault r → new.stopped ≡ true
+pub retire_stops : (old new : ArchiveState) (policy : Policy) (r : Result Decision ArchiveFault) → RetireStep old policy r new → IsDiskFault r → new.stopped ≡ true
 retire_stops old new policy (Ok d) step is = absurd is
-retire_stops old new policy (Err f) step is = ap (λ (b : Bare). b.stopped) (subst (λ (x : ArchiveFault). RetireStep old policy (Err x) new) is step).4
+retire_stops old new policy (Err f) step is = ap (λ (b : ArchiveState). b.stopped) (subst (λ (x : ArchiveFault). RetireStep old policy (Err x) new) is step).4
 
 -- a stopped archive stays so
-begin_stays : (old new : Bare) (slot : ℕ) (s : BareStream) (r : Result (Unit {0}) ArchiveFault) → BeginStep old slot s r new → old.stopped ≡ true → new.stopped ≡ true
-begin_stays old new slot s (Ok x) step stopped = ap (λ (b : Bare). b.stopped) step.1 ∙ stopped
-begin_stays old new slot s (Err Stopped) step stopped = ap (λ (b : Bare). b.stopped) step.1 ∙ stopped
-begin_stays old new slot s (Err BadSlot) step stopped = ap (λ (b : Bare). b.stopped) step.2 ∙ stopped
-begin_stays old new slot s (Err SlotBusy) step stopped = ap (λ (b : Bare). b.stopped) step.3 ∙ stopped
-begin_stays old new slot s (Err NameTaken) step stopped = ap (λ (b : Bare). b.stopped) step.4 ∙ stopped
+begin_stays : (old new : ArchiveState) (slot : ℕ) (s : StreamFacts) (r : Result (Unit {0}) ArchiveFault) → BeginStep old slot s r new → old.stopped ≡ true → new.stopped ≡ true
+begin_stays old new slot s (Ok x) step stopped = ap (λ (b : ArchiveState). b.stopped) step.1 ∙ stopped
+begin_stays old new slot s (Err Stopped) step stopped = ap (λ (b : ArchiveState). b.stopped) step.1 ∙ stopped
+begin_stays old new slot s (Err BadSlot) step stopped = ap (λ (b : ArchiveState). b.stopped) step.2 ∙ stopped
+begin_stays old new slot s (Err SlotBusy) step stopped = ap (λ (b : ArchiveState). b.stopped) step.3 ∙ stopped
+begin_stays old new slot s (Err NameTaken) step stopped = ap (λ (b : ArchiveState). b.stopped) step.4 ∙ stopped
 begin_stays old new slot s (Err NoStream) step stopped = absurd step
 begin_stays old new slot s (Err TooLong) step stopped = absurd step
 begin_stays old new slot s (Err SpaceFull) step stopped = absurd step
@@ -107,48 +107,48 @@ begin_stays old new slot s (Err NoCase) step stopped = absurd step
 begin_stays old new slot s (Err Pinned) step stopped = absurd step
 begin_stays old new slot s (Err JournalFull) step stopped = absurd step
 begin_stays old new slot s (Err NumbersSpent) step stopped = absurd step
-begin_stays old new slot s (Err OutOfMemory) step stopped = ap (λ (b : Bare). b.stopped) step.1 ∙ stopped
+begin_stays old new slot s (Err OutOfMemory) step stopped = ap (λ (b : ArchiveState). b.stopped) step.1 ∙ stopped
 begin_stays old new slot s (Err Disk) step stopped = absurd step
 
-take_stays : (old new : Bare) (slot n : ℕ) (r : Result (Unit {0}) ArchiveFault) → TakeStep old slot n r new → old.stopped ≡ true → new.stopped ≡ true
-take_stays old new slot n (Ok x) step stopped = ap (λ (b : Bare). b.stopped) step.3 ∙ stopped
-take_stays old new slot n (Err Stopped) step stopped = ap (λ (b : Bare). b.stopped) step.1 ∙ stopped
+take_stays : (old new : ArchiveState) (slot n : ℕ) (r : Result (Unit {0}) ArchiveFault) → TakeStep old slot n r new → old.stopped ≡ true → new.stopped ≡ true
+take_stays old new slot n (Ok x) step stopped = ap (λ (b : ArchiveState). b.stopped) step.3 ∙ stopped
+take_stays old new slot n (Err Stopped) step stopped = ap (λ (b : ArchiveState). b.stopped) step.1 ∙ stopped
 take_stays old new slot n (Err BadSlot) step stopped = absurd step
 take_stays old new slot n (Err SlotBusy) step stopped = absurd step
 take_stays old new slot n (Err NameTaken) step stopped = absurd step
-take_stays old new slot n (Err NoStream) step stopped = ap (λ (b : Bare). b.stopped) step.2 ∙ stopped
-take_stays old new slot n (Err TooLong) step stopped = ap (λ (b : Bare). b.stopped) step.4 ∙ stopped
-take_stays old new slot n (Err SpaceFull) step stopped = ap (λ (b : Bare). b.stopped) step.6 ∙ stopped
+take_stays old new slot n (Err NoStream) step stopped = ap (λ (b : ArchiveState). b.stopped) step.2 ∙ stopped
+take_stays old new slot n (Err TooLong) step stopped = ap (λ (b : ArchiveState). b.stopped) step.4 ∙ stopped
+take_stays old new slot n (Err SpaceFull) step stopped = ap (λ (b : ArchiveState). b.stopped) step.6 ∙ stopped
 take_stays old new slot n (Err NoCase) step stopped = absurd step
 take_stays old new slot n (Err Pinned) step stopped = absurd step
 take_stays old new slot n (Err JournalFull) step stopped = absurd step
 take_stays old new slot n (Err NumbersSpent) step stopped = absurd step
-take_stays old new slot n (Err OutOfMemory) step stopped = ap (λ (b : Bare). b.stopped) step.5 ∙ stopped
-take_stays old new slot n (Err Disk) step stopped = ap (λ (b : Bare). b.stopped) step.5
+take_stays old new slot n (Err OutOfMemory) step stopped = ap (λ (b : ArchiveState). b.stopped) step.5 ∙ stopped
+take_stays old new slot n (Err Disk) step stopped = ap (λ (b : ArchiveState). b.stopped) step.5
 
-finish_stays : (old new : Bare) (slot : ℕ) (r : Result ℕ ArchiveFault) → FinishStep old slot r new → old.stopped ≡ true → new.stopped ≡ true
-finish_stays old new slot (Ok x) step stopped = ap (λ (b : Bare). b.stopped) step.7 ∙ stopped
-finish_stays old new slot (Err Stopped) step stopped = ap (λ (b : Bare). b.stopped) step.1 ∙ stopped
+finish_stays : (old new : ArchiveState) (slot : ℕ) (r : Result ℕ ArchiveFault) → FinishStep old slot r new → old.stopped ≡ true → new.stopped ≡ true
+finish_stays old new slot (Ok x) step stopped = ap (λ (b : ArchiveState). b.stopped) step.7 ∙ stopped
+finish_stays old new slot (Err Stopped) step stopped = ap (λ (b : ArchiveState). b.stopped) step.1 ∙ stopped
 finish_stays old new slot (Err BadSlot) step stopped = absurd step
 finish_stays old new slot (Err SlotBusy) step stopped = absurd step
 finish_stays old new slot (Err NameTaken) step stopped = absurd step
-finish_stays old new slot (Err NoStream) step stopped = ap (λ (b : Bare). b.stopped) step.2 ∙ stopped
+finish_stays old new slot (Err NoStream) step stopped = ap (λ (b : ArchiveState). b.stopped) step.2 ∙ stopped
 finish_stays old new slot (Err TooLong) step stopped = absurd step
-finish_stays old new slot (Err SpaceFull) step stopped = ap (λ (b : Bare). b.stopped) step.5 ∙ stopped
+finish_stays old new slot (Err SpaceFull) step stopped = ap (λ (b : ArchiveState). b.stopped) step.5 ∙ stopped
 finish_stays old new slot (Err NoCase) step stopped = absurd step
 finish_stays old new slot (Err Pinned) step stopped = absurd step
-finish_stays old new slot (Err JournalFull) step stopped = ap (λ (b : Bare). b.stopped) step.5 ∙ stopped
-finish_stays old new slot (Err NumbersSpent) step stopped = ap (λ (b : Bare). b.stopped) step.6 ∙ stopped
-finish_stays old new slot (Err OutOfMemory) step stopped = ap (λ (b : Bare). b.stopped) step.2 ∙ stopped
-finish_stays old new slot (Err Disk) step stopped = ap (λ (b : Bare). b.stopped) step.2
+finish_stays old new slot (Err JournalFull) step stopped = ap (λ (b : ArchiveState). b.stopped) step.5 ∙ stopped
+finish_stays old new slot (Err NumbersSpent) step stopped = ap (λ (b : ArchiveState). b.stopped) step.6 ∙ stopped
+finish_stays old new slot (Err OutOfMemory) step stopped = ap (λ (b : ArchiveState). b.stopped) step.2 ∙ stopped
+finish_stays old new slot (Err Disk) step stopped = ap (λ (b : ArchiveState). b.stopped) step.2
 
-abandon_stays : (old new : Bare) (slot : ℕ) (r : Result (Unit {0}) ArchiveFault) → AbandonStep old slot r new → old.stopped ≡ true → new.stopped ≡ true
-abandon_stays old new slot (Ok x) step stopped = ap (λ (b : Bare). b.stopped) step.2 ∙ stopped
-abandon_stays old new slot (Err Stopped) step stopped = ap (λ (b : Bare). b.stopped) step.1 ∙ stopped
+abandon_stays : (old new : ArchiveState) (slot : ℕ) (r : Result (Unit {0}) ArchiveFault) → AbandonStep old slot r new → old.stopped ≡ true → new.stopped ≡ true
+abandon_stays old new slot (Ok x) step stopped = ap (λ (b : ArchiveState). b.stopped) step.2 ∙ stopped
+abandon_stays old new slot (Err Stopped) step stopped = ap (λ (b : ArchiveState). b.stopped) step.1 ∙ stopped
 abandon_stays old new slot (Err BadSlot) step stopped = absurd step
 abandon_stays old new slot (Err SlotBusy) step stopped = absurd step
 abandon_stays old new slot (Err NameTaken) step stopped = absurd step
-abandon_stays old new slot (Err NoStream) step stopped = ap (λ (b : Bare). b.stopped) step.2 ∙ stopped
+abandon_stays old new slot (Err NoStream) step stopped = ap (λ (b : ArchiveState). b.stopped) step.2 ∙ stopped
 abandon_stays old new slot (Err TooLong) step stopped = absurd step
 abandon_stays old new slot (Err SpaceFull) step stopped = absurd step
 abandon_stays old new slot (Err NoCase) step stopped = absurd step
@@ -158,41 +158,41 @@ abandon_stays old new slot (Err NumbersSpent) step stopped = absurd step
 abandon_stays old new slot (Err OutOfMemory) step stopped = absurd step
 abandon_stays old new slot (Err Disk) step stopped = absurd step
 
-delete_stays : (old new : Bare) (seq : ℕ) (r : Result (Unit {0}) ArchiveFault) → DeleteStep old seq r new → old.stopped ≡ true → new.stopped ≡ true
-delete_stays old new seq (Ok x) step stopped = ap (λ (b : Bare). b.stopped) step.4 ∙ stopped
-delete_stays old new seq (Err Stopped) step stopped = ap (λ (b : Bare). b.stopped) step.1 ∙ stopped
+delete_stays : (old new : ArchiveState) (seq : ℕ) (r : Result (Unit {0}) ArchiveFault) → DeleteStep old seq r new → old.stopped ≡ true → new.stopped ≡ true
+delete_stays old new seq (Ok x) step stopped = ap (λ (b : ArchiveState). b.stopped) step.4 ∙ stopped
+delete_stays old new seq (Err Stopped) step stopped = ap (λ (b : ArchiveState). b.stopped) step.1 ∙ stopped
 delete_stays old new seq (Err BadSlot) step stopped = absurd step
 delete_stays old new seq (Err SlotBusy) step stopped = absurd step
 delete_stays old new seq (Err NameTaken) step stopped = absurd step
 delete_stays old new seq (Err NoStream) step stopped = absurd step
 delete_stays old new seq (Err TooLong) step stopped = absurd step
 delete_stays old new seq (Err SpaceFull) step stopped = absurd step
-delete_stays old new seq (Err NoCase) step stopped = ap (λ (b : Bare). b.stopped) step.2 ∙ stopped
-delete_stays old new seq (Err Pinned) step stopped = ap (λ (b : Bare). b.stopped) step.3 ∙ stopped
-delete_stays old new seq (Err JournalFull) step stopped = ap (λ (b : Bare). b.stopped) step.4 ∙ stopped
+delete_stays old new seq (Err NoCase) step stopped = ap (λ (b : ArchiveState). b.stopped) step.2 ∙ stopped
+delete_stays old new seq (Err Pinned) step stopped = ap (λ (b : ArchiveState). b.stopped) step.3 ∙ stopped
+delete_stays old new seq (Err JournalFull) step stopped = ap (λ (b : ArchiveState). b.stopped) step.4 ∙ stopped
 delete_stays old new seq (Err NumbersSpent) step stopped = absurd step
-delete_stays old new seq (Err OutOfMemory) step stopped = ap (λ (b : Bare). b.stopped) step.4 ∙ stopped
-delete_stays old new seq (Err Disk) step stopped = ap (λ (b : Bare). b.stopped) step.4
+delete_stays old new seq (Err OutOfMemory) step stopped = ap (λ (b : ArchiveState). b.stopped) step.4 ∙ stopped
+delete_stays old new seq (Err Disk) step stopped = ap (λ (b : ArchiveState). b.stopped) step.4
 
-pin_stays : (old new : Bare) (seq : ℕ) (flag : Bool) (r : Result (Unit {0}) ArchiveFault) → PinStep old seq flag r new → old.stopped ≡ true → new.stopped ≡ true
-pin_stays old new seq flag (Ok x) step stopped = ⊎_elim (λ same. ap (λ (b : Bare). b.stopped) same.1 ∙ stopped) (λ more. ap (λ (b : Bare). b.stopped) more.2 ∙ stopped) step.2
-pin_stays old new seq flag (Err Stopped) step stopped = ap (λ (b : Bare). b.stopped) step.1 ∙ stopped
+pin_stays : (old new : ArchiveState) (seq : ℕ) (flag : Bool) (r : Result (Unit {0}) ArchiveFault) → PinStep old seq flag r new → old.stopped ≡ true → new.stopped ≡ true
+pin_stays old new seq flag (Ok x) step stopped = ⊎_elim (λ same. ap (λ (b : ArchiveState). b.stopped) same.1 ∙ stopped) (λ more. ap (λ (b : ArchiveState). b.stopped) more.2 ∙ stopped) step.2
+pin_stays old new seq flag (Err Stopped) step stopped = ap (λ (b : ArchiveState). b.stopped) step.1 ∙ stopped
 pin_stays old new seq flag (Err BadSlot) step stopped = absurd step
 pin_stays old new seq flag (Err SlotBusy) step stopped = absurd step
 pin_stays old new seq flag (Err NameTaken) step stopped = absurd step
 pin_stays old new seq flag (Err NoStream) step stopped = absurd step
 pin_stays old new seq flag (Err TooLong) step stopped = absurd step
 pin_stays old new seq flag (Err SpaceFull) step stopped = absurd step
-pin_stays old new seq flag (Err NoCase) step stopped = ap (λ (b : Bare). b.stopped) step.2 ∙ stopped
+pin_stays old new seq flag (Err NoCase) step stopped = ap (λ (b : ArchiveState). b.stopped) step.2 ∙ stopped
 pin_stays old new seq flag (Err Pinned) step stopped = absurd step
-pin_stays old new seq flag (Err JournalFull) step stopped = ap (λ (b : Bare). b.stopped) step.4 ∙ stopped
+pin_stays old new seq flag (Err JournalFull) step stopped = ap (λ (b : ArchiveState). b.stopped) step.4 ∙ stopped
 pin_stays old new seq flag (Err NumbersSpent) step stopped = absurd step
-pin_stays old new seq flag (Err OutOfMemory) step stopped = ap (λ (b : Bare). b.stopped) step.4 ∙ stopped
-pin_stays old new seq flag (Err Disk) step stopped = ap (λ (b : Bare). b.stopped) step.4
+pin_stays old new seq flag (Err OutOfMemory) step stopped = ap (λ (b : ArchiveState). b.stopped) step.4 ∙ stopped
+pin_stays old new seq flag (Err Disk) step stopped = ap (λ (b : ArchiveState). b.stopped) step.4
 
-retire_stays : (old new : Bare) (policy : Policy) (r : Result Decision ArchiveFault) → RetireStep old policy r new → old.stopped ≡ true → new.stopped ≡ true
-retire_stays old new policy (Ok x) step stopped = ⊎_elim (λ same. ap (λ (b : Bare). b.stopped) same.1 ∙ stopped) (λ more. ap (λ (b : Bare). b.stopped) more.2 ∙ stopped) step.2
-retire_stays old new policy (Err Stopped) step stopped = ap (λ (b : Bare). b.stopped) step.1 ∙ stopped
+retire_stays : (old new : ArchiveState) (policy : Policy) (r : Result Decision ArchiveFault) → RetireStep old policy r new → old.stopped ≡ true → new.stopped ≡ true
+retire_stays old new policy (Ok x) step stopped = ⊎_elim (λ same. ap (λ (b : ArchiveState). b.stopped) same.1 ∙ stopped) (λ more. ap (λ (b : ArchiveState). b.stopped) more.2 ∙ stopped) step.2
+retire_stays old new policy (Err Stopped) step stopped = ap (λ (b : ArchiveState). b.stopped) step.1 ∙ stopped
 retire_stays old new policy (Err BadSlot) step stopped = absurd step
 retire_stays old new policy (Err SlotBusy) step stopped = absurd step
 retire_stays old new policy (Err NameTaken) step stopped = absurd step
@@ -201,10 +201,10 @@ retire_stays old new policy (Err TooLong) step stopped = absurd step
 retire_stays old new policy (Err SpaceFull) step stopped = absurd step
 retire_stays old new policy (Err NoCase) step stopped = absurd step
 retire_stays old new policy (Err Pinned) step stopped = absurd step
-retire_stays old new policy (Err JournalFull) step stopped = ap (λ (b : Bare). b.stopped) step.4 ∙ stopped
+retire_stays old new policy (Err JournalFull) step stopped = ap (λ (b : ArchiveState). b.stopped) step.4 ∙ stopped
 retire_stays old new policy (Err NumbersSpent) step stopped = absurd step
-retire_stays old new policy (Err OutOfMemory) step stopped = ap (λ (b : Bare). b.stopped) step.1 ∙ stopped
-retire_stays old new policy (Err Disk) step stopped = ap (λ (b : Bare). b.stopped) step.4
+retire_stays old new policy (Err OutOfMemory) step stopped = ap (λ (b : ArchiveState). b.stopped) step.1 ∙ stopped
+retire_stays old new policy (Err Disk) step stopped = ap (λ (b : ArchiveState). b.stopped) step.4
 
 module _ {D : Type 0} (g : disk.Ghosts D) where
   -- A stopped archive stays so; and where anything is in doubt because of the reply, the archive is stopped.
@@ -220,9 +220,9 @@ module _ {D : Type 0} (g : disk.Ghosts D) where
   same_stops : (old new : Parts D) → new ≡ old → old.stopped ≡ true → new.stopped ≡ true
   same_stops old new is stopped = ap (λ (x : Parts D). x.stopped) is ∙ stopped
 
-  begins_stay : (old new : Parts D) (slot : ℕ) (found : Result BareStream (List ℕ)) (reply : List ℕ) (accepted : Bool) → Begins g old slot found reply new accepted
+  begins_stay : (old new : Parts D) (slot : ℕ) (found : Result StreamFacts (List ℕ)) (reply : List ℕ) (accepted : Bool) → Begins g old slot found reply new accepted
       → old.stopped ≡ true → new.stopped ≡ true
-  begins_stay old new slot (Ok s) reply accepted begins = begin_stays (bare_of old) (bare_of new) slot s begins.0 begins.1.step
+  begins_stay old new slot (Ok s) reply accepted begins = begin_stays (state_of old) (state_of new) slot s begins.0 begins.1.step
   begins_stay old new slot (Err reason) reply accepted begins = same_stops old new begins.1
 
   -- a line that changes no case leaves nothing in doubt
@@ -235,32 +235,32 @@ module _ {D : Type 0} (g : disk.Ghosts D) where
   line_halts naming old new long_line raw reply r = still old new long_line reply (λ x none. none) (same_stops old new r.1)
   line_halts naming old new (begin_exec slot name) raw reply r = still old new (begin_exec slot name) reply (λ x none. none) (begins_stay old new slot (exec_stream name) reply r.0 r.1)
   line_halts naming old new (begin_core slot process) raw reply r = still old new (begin_core slot process) reply (λ x none. none) (begins_stay old new slot (core_stream naming process) reply r.0 r.1)
-  line_halts naming old new (part_of slot n) raw reply r = still old new (part_of slot n) reply (λ x none. none) (take_stays (bare_of old) (bare_of new) slot (length raw) r.0 r.1.step)
+  line_halts naming old new (part_of slot n) raw reply r = still old new (part_of slot n) reply (λ x none. none) (take_stays (state_of old) (state_of new) slot (length raw) r.0 r.1.step)
   line_halts naming old new (end_of slot) raw reply r = (
-    finish_stays (bare_of old) (bare_of new) slot r.1.0 r.1.1.step,
-    λ doubts told all. inr (finish_stops (bare_of old) (bare_of new) slot r.1.0 r.1.1.step (end_told r.1.0 (sym r.1.2 ∙ told))),
+    finish_stays (state_of old) (state_of new) slot r.1.0 r.1.1.step,
+    λ doubts told all. inr (finish_stops (state_of old) (state_of new) slot r.1.0 r.1.1.step (end_told r.1.0 (sym r.1.2 ∙ told))),
   )
-  line_halts naming old new (drop_of slot) raw reply r = still old new (drop_of slot) reply (λ x none. none) (abandon_stays (bare_of old) (bare_of new) slot r.0 r.1.step)
+  line_halts naming old new (drop_of slot) raw reply r = still old new (drop_of slot) reply (λ x none. none) (abandon_stays (state_of old) (state_of new) slot r.0 r.1.step)
   line_halts naming old new (delete_of seq) raw reply r = (
-    delete_stays (bare_of old) (bare_of new) seq r.0 r.1.step,
-    λ doubts told all. inr (delete_stops (bare_of old) (bare_of new) seq r.0 r.1.step (plain_told r.0 (sym r.2 ∙ told))),
+    delete_stays (state_of old) (state_of new) seq r.0 r.1.step,
+    λ doubts told all. inr (delete_stops (state_of old) (state_of new) seq r.0 r.1.step (plain_told r.0 (sym r.2 ∙ told))),
   )
   line_halts naming old new (pin_of seq flag) raw reply r = (
-    pin_stays (bare_of old) (bare_of new) seq flag r.0 r.1.step,
-    λ doubts told all. inr (pin_stops (bare_of old) (bare_of new) seq flag r.0 r.1.step (plain_told r.0 (sym r.2 ∙ told))),
+    pin_stays (state_of old) (state_of new) seq flag r.0 r.1.step,
+    λ doubts told all. inr (pin_stops (state_of old) (state_of new) seq flag r.0 r.1.step (plain_told r.0 (sym r.2 ∙ told))),
   )
   line_halts naming old new (retire_by policy) raw reply r = (
-    retire_stays (bare_of old) (bare_of new) policy r.0 r.1.step,
-    λ doubts told all. inr (retire_stops (bare_of old) (bare_of new) policy r.0 r.1.step (retire_told r.0 (sym r.2 ∙ told))),
+    retire_stays (state_of old) (state_of new) policy r.0 r.1.step,
+    λ doubts told all. inr (retire_stops (state_of old) (state_of new) policy r.0 r.1.step (retire_told r.0 (sym r.2 ∙ told))),
   )
   line_halts naming old new list_all_cases raw reply r = still old new list_all_cases reply (λ x none. none) (same_stops old new r.1)
   line_halts naming old new count_free raw reply r = still old new count_free reply (λ x none. none) (same_stops old new r.3)
-  line_halts naming old new (inspect_of seq query) raw reply r = still old new (inspect_of seq query) reply (λ x none. none) (asks_leaves g old new seq query (kind_asked (bare_of old) seq query) reply r).halts
+  line_halts naming old new (inspect_of seq query) raw reply r = still old new (inspect_of seq query) reply (λ x none. none) (asks_leaves g old new seq query (kind_asked (state_of old) seq query) reply r).halts
 
   cut_halts : (old new : Parts D) (what : Said) (raw reply : List ℕ) → Truncates g old what raw reply new → Halts old what reply new
   cut_halts old new (part_of slot n) raw reply cut =
       still old new (part_of slot n) reply (λ x none. none)
-      (λ stopped. abandon_stays (bare_of cut.0) (bare_of new) slot cut.2 cut.4.step (take_stays (bare_of old) (bare_of cut.0) slot (length raw) cut.1 cut.3.step stopped))
+      (λ stopped. abandon_stays (state_of cut.0) (state_of new) slot cut.2 cut.4.step (take_stays (state_of old) (state_of cut.0) slot (length raw) cut.1 cut.3.step stopped))
   cut_halts old new _ raw reply cut = absurd cut
 
   last_halts : (naming : Naming) (n : ℕ) (old new : Parts D) (what : Said) (reply : List ℕ) → LastReplies g naming n old what reply new → Halts old what reply new
@@ -273,7 +273,7 @@ module _ {D : Type 0} (g : disk.Ghosts D) where
   end_halts naming old new (cut_part line raw) reply r = cut_halts old new (said line) raw reply r
 
   front_stays : (old new : Parts D) (what : Said) (raw : List ℕ) → TakesFront g old what raw new → old.stopped ≡ true → new.stopped ≡ true
-  front_stays old new (part_of slot n) raw front = take_stays (bare_of old) (bare_of new) slot (length raw) front.0 front.1.step
+  front_stays old new (part_of slot n) raw front = take_stays (state_of old) (state_of new) slot (length raw) front.0 front.1.step
   front_stays old new _ raw front = absurd front
 
   pub broken_halts : (old new : Parts D) (rest : List ℕ) → BreaksOff g old rest new → Halts old silence [] new
@@ -288,7 +288,7 @@ module _ {D : Type 0} (g : disk.Ghosts D) where
       let none : moves.doubts ≡ [] = ⊎_elim (λ is. is) (λ told. ⊎_elim (λ is. is) (λ stopped. absurd (wrong stopped)) (halts.1 moves.doubts told.0 told.1)) moves.doubted in
       moves.in_doubt ∙ ap (λ (x : List Durable). x ++ old.in_doubt) none ∙ clear ran
 
-  run_clear : (naming : Naming) (old : Stage D) (is : List Item) (out : List ℕ) (ss : List (Stage D)) → IsClear old → Run g naming old is out ss → AllByRecursion IsClear ss × IsClear (last_stage old ss)
+  run_clear : (naming : Naming) (old : Stage D) (is : List Item) (out : List ℕ) (ss : List (Stage D)) → IsClear old → AnswersItems g naming old is out ss → AllByRecursion IsClear ss × IsClear (last_stage old ss)
   run_clear naming old [] out [] clear run = (tt, clear)
   run_clear naming old [] out (s ∷ ss) clear run = absurd run
   run_clear naming old (i ∷ is) out [] clear run = absurd run

@@ -9,16 +9,16 @@ use Rattle.disk_model.specs.declared.disk.Disk as disk
 use Rattle.intake.specs.declared.faults.ArchiveFault.{ArchiveFault}
 use Rattle.intake.specs.declared.faults.ArchiveFault.TheVariants.{Stopped, NoStream, Disk}
 use Rattle.intake.specs.Blocks.{joined}
-use Rattle.intake.specs.Calls.{Stays, AdvanceCall}
+use Rattle.intake.specs.Calls.{ChangesNoCase, AdvanceCall}
 use Rattle.intake.specs.Contents.{Contents, Taken, AdvanceBytes, with_taken, without_streams, advanced, next_free}
 use Rattle.intake.specs.Lending.{refilled, with_room}
-use Rattle.intake.specs.Parts.{Parts, StreamParts, bare_of, contents_of, taken_in}
+use Rattle.intake.specs.Parts.{Parts, StreamParts, state_of, contents_of, taken_in}
 use Rattle.intake.specs.Room.{room_left, free_part, FitsFree}
 use Rattle.intake.specs.Slots.{stream_at}
-use Rattle.intake.specs.State.{Bare, BareStream}
+use Rattle.intake.specs.State.{ArchiveState, StreamFacts}
 use Rattle.inspector_cli.specs.Reply.{TakeStep, TakeBytes, Takes}
 use Rattle.inspector_cli.proofs.GiveLemmas.{took_as}
-use Rattle.inspector_cli.proofs.RoomLemmas.{same_bare, still_fits, fits_bare}
+use Rattle.inspector_cli.proofs.RoomLemmas.{states_agree, still_fits, fits_state}
 use Rattle.inspector_cli.proofs.SlotLemmas.{set_again, at_set, at_mapped, closed_set}
 use Rattle.intake.specs.StayLaws.{stays_then}
 use Rattle.inspector_cli.proofs.TakeLemmas.{took_piece, took_none, refused_yet}
@@ -67,7 +67,7 @@ some_of f (Some x) y is = (x, refl, inside is)
     inside : Some (f x) ≡ Some y → f x ≡ y
     inside e = cc
 
--- so many bytes are the whole room of a stream that stands there
+-- n bytes are the whole room of a stream that stands there
 fills_room : (x : StreamParts) (n : ℕ) → n ≡ length (drop (x.len % 4096) x.block) → 0 < n → x.len % 4096 + n ≡ length x.block
 fills_room x n is some = let e = length-drop (x.len % 4096) x.block in omega (arith, is, e, some)
 
@@ -77,7 +77,7 @@ module _ {D : Type 0} (g : disk.Ghosts D) (begun a : Parts D) (slot : ℕ) (so_f
   abbrev pub lent : Parts D
   lent = room_left a slot (Ok u) ws
 
-  pub lent_stays : Stays g begun lent
+  pub lent_stays : ChangesNoCase g begun lent
   lent_stays = record { honesty = taken.stays.honesty; later = taken.stays.later; size = taken.stays.size; crash = taken.stays.crash; durable = taken.stays.durable }
 
   pub lent_bytes : IsTrue (g.is_honest begun.disk) → (t : Taken) × (stream_at (contents_of g.seen begun).taken slot ≡ Some t)
@@ -106,7 +106,7 @@ module _ {D : Type 0} (g : disk.Ghosts D) (begun a : Parts D) (slot : ℕ) (so_f
   -- nothing more was taken
   pub lent_takes : Takes g begun slot so_far (Ok tt) lent
   lent_takes = record {
-    step = subst (λ (x : Bare). TakeStep (bare_of begun) slot (length so_far) (Ok tt) x) (sym (same_bare a slot (Ok u) ws)) taken.step;
+    step = subst (λ (x : ArchiveState). TakeStep (state_of begun) slot (length so_far) (Ok tt) x) (sym (states_agree a slot (Ok u) ws)) taken.step;
     bytes = λ honest. (let b = lent_bytes honest in (b.0, ws, b.1, b.2));
     cause = λ fault. absurd fault;
     stays = lent_stays;
@@ -114,13 +114,13 @@ module _ {D : Type 0} (g : disk.Ghosts D) (begun a : Parts D) (slot : ℕ) (so_f
 
   module _ (new : Parts D) (n m : ℕ) (raw : List ℕ) (r : Result (Unit {0}) ArchiveFault) (is : raw ≡ take n ws) (size : length raw ≡ n) (few : n ≤ m)
       (fits : FitsFree (stream_at a.streams slot) m) (call : AdvanceCall g lent slot n r new) where
-    stepped : TakeStep (bare_of begun) slot (length (so_far ++ raw)) r (bare_of new)
+    stepped : TakeStep (state_of begun) slot (length (so_far ++ raw)) r (state_of new)
     stepped =
-        took_as (bare_of begun) (bare_of new) slot (length so_far + n) (length (so_far ++ raw)) r (omega (arith, size, length-append so_far raw))
-        (took_piece (bare_of begun) (bare_of lent) (bare_of new) slot (length so_far) n u r lent_takes.step
-        (fits_bare lent slot n (still_fits a slot (Ok u) ws n m few fits)) call.step)
+        took_as (state_of begun) (state_of new) slot (length so_far + n) (length (so_far ++ raw)) r (omega (arith, size, length-append so_far raw))
+        (took_piece (state_of begun) (state_of lent) (state_of new) slot (length so_far) n u r lent_takes.step
+        (fits_state lent slot n (still_fits a slot (Ok u) ws n m few fits)) call.step)
 
-    fed_bytes : (v : Result (Unit {0}) ArchiveFault) → r ≡ v → IsTrue (g.is_honest begun.disk) → TakeStep (bare_of begun) slot (length (so_far ++ raw)) v (bare_of new)
+    fed_bytes : (v : Result (Unit {0}) ArchiveFault) → r ≡ v → IsTrue (g.is_honest begun.disk) → TakeStep (state_of begun) slot (length (so_far ++ raw)) v (state_of new)
         → AdvanceBytes (contents_of g.seen lent) slot n v (contents_of g.seen new) → TakeBytes (contents_of g.seen begun) slot (so_far ++ raw) v (contents_of g.seen new)
     fed_bytes (Ok v) same honest took b = (
       l.0,
@@ -151,7 +151,7 @@ module _ {D : Type 0} (g : disk.Ghosts D) (begun a : Parts D) (slot : ℕ) (so_f
     fed_bytes (Err Stopped) same honest took b = absurd (false≢true (sym taken.step.1.0 ∙ took.0))
     fed_bytes (Err NoStream) same honest took b = absurd (no_stream taken.step.0 taken.step.1.1 took.1)
       where
-        no_stream : (s : BareStream) → stream_at (bare_of begun).streams slot ≡ Some s → stream_at (bare_of begun).streams slot ≡ None → ⊥
+        no_stream : (s : StreamFacts) → stream_at (state_of begun).streams slot ≡ Some s → stream_at (state_of begun).streams slot ≡ None → ⊥
         no_stream s there none = cc
     fed_bytes (Err Disk) same honest took b =
         let l = lent_bytes honest in
@@ -185,7 +185,7 @@ lent_length into room size most same is =
 -- no byte yet
 pub fed_none : {D : Type 0} (g : disk.Ghosts D) (a new : Parts D) (slot : ℕ) (r : Result (Unit {0}) ArchiveFault) → AdvanceCall g a slot 0 r new → Takes g a slot [] r new
 fed_none g a new slot r call = record {
-  step = took_none (bare_of a) (bare_of new) slot r call.step;
+  step = took_none (state_of a) (state_of new) slot r call.step;
   bytes = λ honest. same r (call.bytes honest);
   cause = call.cause;
   stays = call.stays;
@@ -199,8 +199,8 @@ fed_none g a new slot r call = record {
 pub fed_past : {D : Type 0} (g : disk.Ghosts D) (begun a : Parts D) (slot : ℕ) (so_far raw : List ℕ) (f : ArchiveFault) → Takes g begun slot so_far (Err f) a → Takes g begun slot (so_far ++ raw) (Err f) a
 fed_past g begun a slot so_far raw f taken = record {
   step =
-      took_as (bare_of begun) (bare_of a) slot (length so_far + length raw) (length (so_far ++ raw)) (Err f) (sym (length-append so_far raw))
-      (refused_yet (bare_of begun) (bare_of a) slot (length so_far) (length raw) f taken.step);
+      took_as (state_of begun) (state_of a) slot (length so_far + length raw) (length (so_far ++ raw)) (Err f) (sym (length-append so_far raw))
+      (refused_yet (state_of begun) (state_of a) slot (length so_far) (length raw) f taken.step);
   bytes = taken.bytes;
   cause = taken.cause;
   stays = taken.stays;

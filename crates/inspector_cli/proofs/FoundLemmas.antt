@@ -10,8 +10,8 @@ use Rattle.intake.specs.Contents.{Taken}
 use Rattle.intake.specs.Durable.{Durable, StandsFor, durable_of}
 use Rattle.intake.specs.Lasting.{WhatStandsIsOne}
 use Rattle.intake.specs.Lives.{KeptOverManyStops, Life, IsLived, AreLived, last_acknowledged}
-use Rattle.intake.specs.Marks.{Mark, IsOneOf, Has, FindsOne, HasOne, Run, IsSettled, FoundAfterAStop, last_of}
-use Rattle.intake.specs.State.{Bare}
+use Rattle.intake.specs.Marks.{Mark, IsOneOf, Has, FindsOne, HasOne, IsRunOfMarks, IsMarkSettled, FoundAfterAStop, last_of}
+use Rattle.intake.specs.State.{ArchiveState}
 use Rattle.stream_names.specs.declared.naming.Naming.{Naming}
 use Rattle.script_lines.specs.Said.{Said, end_of}
 use Rattle.script_streams.specs.Replies.{ok_reply}
@@ -24,7 +24,7 @@ use Rattle.inspector_cli.specs.Stored.{Stored, IsFresh, HasImage, Spares, Spared
 use Rattle.inspector_cli.specs.Told.{Answer, Answers, Session, IsHad, what_of, is_no, held_then, held_behind, parts_in, Finishes}
 use Rattle.inspector_cli.proofs.ClearLemmas.{line_halts, clear_on}
 use Rattle.inspector_cli.proofs.HeldLemmas.{IsHeld, taken_at, none_taken, then_held}
-use Rattle.inspector_cli.proofs.KeptLemmas.{Lasts, rest_keeps, among_last}
+use Rattle.inspector_cli.proofs.KeptLemmas.{LastingLaws, rest_keeps, among_last}
 
 -- the number that a reply tells is one
 told_once : (seq n : ℕ) → seq < 2 ^ 64 → n < 2 ^ 64 → end_reply (Ok seq) ≡ end_reply (Ok n) → seq ≡ n
@@ -107,7 +107,7 @@ module _ {D : Type 0} (g : disk.Ghosts D) (naming : Naming) where
     has : HasImage n bytes (durable_of g.seen new.archive)
     none : new.in_doubt ≡ []
 
-  module _ (lasts : Lasts g) (old new : Stage D) (slot n : ℕ) (raw reply : List ℕ) (held : Option (List ℕ)) (stands : Stands slot old held) (moves : Moves g old (end_of slot) reply new) (number : n < 2 ^ 64) (told : reply ≡ end_reply (Ok n)) where
+  module _ (lasts : LastingLaws g) (old new : Stage D) (slot n : ℕ) (raw reply : List ℕ) (held : Option (List ℕ)) (stands : Stands slot old held) (moves : Moves g old (end_of slot) reply new) (number : n < 2 ^ 64) (told : reply ≡ end_reply (Ok n)) where
     adds : (stored : Bool) → Ends g old.archive slot reply new.archive stored → Adds old new slot n held
     adds stored (Err f, call, answered, is) = absurd (false≢true (ap is_no (sym told ∙ answered)))
     adds stored (Ok seq, call, answered, is) =
@@ -120,7 +120,7 @@ module _ {D : Type 0} (g : disk.Ghosts D) (naming : Naming) where
           bytes = m.1.1.bytes;
           is = ⊎_elim (λ stopped. absurd (false≢true (sym runs ∙ stopped))) (λ holds. sym holds ∙ taken) stands.has;
           has = subst (HasImage n m.1.1.bytes) (sym m.1.5) (_, among_last (durable_of g.seen old.archive).cases _, sym call.step.6 ∙ same, refl);
-          none = clear_on g old new (end_of slot) reply stands.clear halts moves (ap (λ (b : Bare). b.stopped) call.step.7 ∙ runs);
+          none = clear_on g old new (end_of slot) reply stands.clear halts moves (ap (λ (b : ArchiveState). b.stopped) call.step.7 ∙ runs);
         }
 
 -- lists of marks that all have something
@@ -148,7 +148,7 @@ length_mapped : {X Y : Type 0} (f : X → Y) (xs : List X) → length (map f xs)
 length_mapped f [] = refl
 length_mapped f (x ∷ xs) = ap suc (length_mapped f xs)
 
-module _ {D : Type 0} (g : disk.Ghosts D) (lasts : Lasts g) (law : FoundAfterAStop g) (one : WhatStandsIsOne) (kept : KeptOverManyStops g) (n : ℕ) (bytes : List ℕ) where
+module _ {D : Type 0} (g : disk.Ghosts D) (lasts : LastingLaws g) (law : FoundAfterAStop g) (one : WhatStandsIsOne) (kept : KeptOverManyStops g) (n : ℕ) (bytes : List ℕ) where
   abbrev HoldsIt : Mark D → Type 0
   HoldsIt m = HasImage n bytes m.durable × AllByRecursion (HasImage n bytes) m.in_doubt
 
@@ -166,11 +166,11 @@ module _ {D : Type 0} (g : disk.Ghosts D) (lasts : Lasts g) (law : FoundAfterASt
   marks_have m [] c x holds all stands found = mark_has m c x holds stands found
   marks_have m (k ∷ ks) c x holds all stands found = ⊎_elim (λ here. mark_has m c x holds stands here) (λ there. marks_have k ks c x all.0 all.1 stands there) found
 
-  run_ends : (m : Mark D) (ns : List (Mark D)) → IsTrue (g.is_honest m.disk) → IsSettled g m → Run g m ns → IsTrue (g.is_honest (last_of m ns).disk) × IsSettled g (last_of m ns)
+  run_ends : (m : Mark D) (ns : List (Mark D)) → IsTrue (g.is_honest m.disk) → IsMarkSettled g m → IsRunOfMarks g m ns → IsTrue (g.is_honest (last_of m ns).disk) × IsMarkSettled g (last_of m ns)
   run_ends m [] honest settled run = (honest, settled)
   run_ends m (k ∷ ks) honest settled run = run_ends k ks (run.0.honesty ∙ honest) (run.0.settled honest settled) run.1
 
-  from_here : (m : Mark D) (ns : List (Mark D)) → IsTrue (g.is_honest m.disk) → IsSettled g m → Run g m ns → (c : List ℕ) → g.left_since (last_of m ns).disk (g.clock m.disk) c → FindsOne c m ns
+  from_here : (m : Mark D) (ns : List (Mark D)) → IsTrue (g.is_honest m.disk) → IsMarkSettled g m → IsRunOfMarks g m ns → (c : List ℕ) → g.left_since (last_of m ns).disk (g.clock m.disk) c → FindsOne c m ns
   from_here m [] honest settled run = law m [] honest settled run
   from_here m (k ∷ ks) honest settled run = (law m (k ∷ ks) honest settled run).0
 
@@ -209,7 +209,7 @@ module _ {D : Type 0} (g : disk.Ghosts D) (lasts : Lasts g) (law : FoundAfterASt
       (life_finds l lived.0 holds all, later_find k ks ss lived.2 parts.0 parts.1 spared.3)
 
 -- the session in which the case is stored
-module _ {D : Type 0} (g : disk.Ghosts D) (lasts : Lasts g) (s : Session D) (n : ℕ) (honest : IsTrue (g.is_honest s.first.archive.disk)) (had : IsHad g s) (fresh : IsFresh s) (t : Stored s n) where
+module _ {D : Type 0} (g : disk.Ghosts D) (lasts : LastingLaws g) (s : Session D) (n : ℕ) (honest : IsTrue (g.is_honest s.first.archive.disk)) (had : IsHad g s) (fresh : IsFresh s) (t : Stored s n) where
   cut : Cut g s.naming s.first t.before t.line t.after s.stages
   cut = cut_at g s.naming s.first t.before t.line t.after s.stages (subst (λ (list : List Answer). Answers g s.naming s.first list s.stages) t.answers had.answered)
 
@@ -264,7 +264,7 @@ module _ {D : Type 0} (g : disk.Ghosts D) (lasts : Lasts g) (s : Session D) (n :
         let long : length (map (mark_at g.seen) cut.front) ≡ length t.before = length_mapped (mark_at g.seen) cut.front ∙ cut.long in
         behind (HoldsIt g lasts law one kept n bytes) l.first (map (mark_at g.seen) cut.front) back l.acknowledged l.later marks_cut (omega (arith, long, answered)) all_hold
 
-pub stored_found : {D : Type 0} (g : disk.Ghosts D) (lasts : Lasts g) (law : FoundAfterAStop g) (one : WhatStandsIsOne) (kept : KeptOverManyStops g) (s : Session D) (later : List (Session D)) (l : Life D) (ls : List (Life D)) (n : ℕ) (bytes : List ℕ) (t : Stored s n)
+pub stored_found : {D : Type 0} (g : disk.Ghosts D) (lasts : LastingLaws g) (law : FoundAfterAStop g) (one : WhatStandsIsOne) (kept : KeptOverManyStops g) (s : Session D) (later : List (Session D)) (l : Life D) (ls : List (Life D)) (n : ℕ) (bytes : List ℕ) (t : Stored s n)
     → IsHad g s → IsFresh s → Spares s n t.after → parts_in t.slot t.before ≡ Some bytes → IsLifeOf g.seen s.first s.stages s.end s.closed l → length t.before < length l.acknowledged
     → Spared g n later ls → AreLived g l ls → AllByRecursion (FindsImage g n bytes) (l ∷ ls)
 stored_found g lasts law one kept s later l ls n bytes t had fresh spares are is answered spared lived =

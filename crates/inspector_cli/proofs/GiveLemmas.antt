@@ -4,7 +4,7 @@ use Rattle.std.proofs.lemmas.List.{append-nil}
 use Rattle.std.proofs.KnownBytes.{Consumes-nil, Consumes-trans}
 use Rattle.intake.specs.declared.faults.ArchiveFault.{ArchiveFault}
 use Rattle.std.specs.Prelude.{Result}
-use Rattle.intake.specs.State.{Bare}
+use Rattle.intake.specs.State.{ArchiveState}
 use Rattle.script_streams.specs.Reading.{Gives, held_bytes}
 use Rattle.script_streams.specs.declared.reader.ScriptBuffer.{ScriptBuffer}
 use Rattle.inspector_cli.specs.Reply.{TakeStep}
@@ -43,9 +43,9 @@ pub first_of : (taken most size : ℕ) (into room : List ℕ) → taken ≤ leng
     → (taken ≤ length room) × (taken ≤ most)
 first_of taken most size into room few same is = let e = length-take-le size room (omega arith) in (omega (arith, e), omega (arith, e))
 
-pub took_as : (b new : Bare) (slot n m : ℕ) (r : Result (Unit {0}) ArchiveFault) → n ≡ m → TakeStep b slot n r new → TakeStep b slot m r new
+pub took_as : (b new : ArchiveState) (slot n m : ℕ) (r : Result (Unit {0}) ArchiveFault) → n ≡ m → TakeStep b slot n r new → TakeStep b slot m r new
 took_as b new slot n m r is step = subst (λ (k : ℕ). TakeStep b slot k r new) is step
 
--- a part's bytes and its next piece, of so many bytes
+-- a part's bytes and its next piece, of n bytes
 pub joined_length : (raw piece : List ℕ) (n : ℕ) → length piece ≡ n → length raw + n ≡ length (raw ++ piece)
 joined_length raw piece n is = omega (arith, length-append raw piece)

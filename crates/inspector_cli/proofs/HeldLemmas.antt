@@ -6,9 +6,9 @@ use Rattle.std.specs.Prelude.{replicate, option_map, slice_set, IsTrue}
 use Rattle.disk_model.specs.declared.disk.Disk as disk
 use Rattle.intake.specs.Contents.{Contents, Taken, RefusedBytes, UnmovedBytes, empty_taken}
 use Rattle.intake.specs.Opened.{IsOpened}
-use Rattle.intake.specs.Parts.{Parts, StreamParts, bare_of, bare_stream, contents_of, taken_in}
+use Rattle.intake.specs.Parts.{Parts, StreamParts, state_of, stream_facts, contents_of, taken_in}
 use Rattle.intake.specs.Slots.{stream_at}
-use Rattle.intake.specs.State.{Bare, BareStream}
+use Rattle.intake.specs.State.{ArchiveState, StreamFacts}
 use Rattle.intake.specs.Step.{FinishStep}
 use Rattle.intake.specs.declared.faults.ArchiveFault.{ArchiveFault}
 use Rattle.intake.specs.declared.faults.ArchiveFault.TheVariants.{Stopped, NoStream, Disk}
@@ -58,13 +58,13 @@ module _ {D : Type 0} (g : disk.Ghosts D) (slot : ℕ) where
   IsHeld a held = (a.stopped ≡ true) ⊎ (taken_at a ≡ held)
 
   -- where no stream stands, none has taken anything
-  pub none_taken : (a : Parts D) (s : ℕ) → stream_at (bare_of a).streams s ≡ None → stream_at (slots_of a) s ≡ None
+  pub none_taken : (a : Parts D) (s : ℕ) → stream_at (state_of a).streams s ≡ None → stream_at (slots_of a) s ≡ None
   none_taken a s none =
       at_mapped (taken_in a.journal (g.seen a.disk)) a.streams s
-      ∙ ap (option_map (taken_in a.journal (g.seen a.disk))) (none_of bare_stream (stream_at a.streams s) (sym (at_mapped bare_stream a.streams s) ∙ none))
+      ∙ ap (option_map (taken_in a.journal (g.seen a.disk))) (none_of stream_facts (stream_at a.streams s) (sym (at_mapped stream_facts a.streams s) ∙ none))
 
-  slots_long : (a : Parts D) → length (slots_of a) ≡ length (bare_of a).streams
-  slots_long a = length-map a.streams (option_map (taken_in a.journal (g.seen a.disk))) ∙ sym (length-map a.streams (option_map bare_stream))
+  slots_long : (a : Parts D) → length (slots_of a) ≡ length (state_of a).streams
+  slots_long a = length-map a.streams (option_map (taken_in a.journal (g.seen a.disk))) ∙ sym (length-map a.streams (option_map stream_facts))
 
   unmoved : (old new : Parts D) → new ≡ old → IsHeld new (taken_at old)
   unmoved old new is = inr (ap taken_at is)
@@ -101,7 +101,7 @@ module _ {D : Type 0} (g : disk.Ghosts D) (slot : ℕ) where
     refused Disk bytes stopped none failed = inl (failed refl)
     refused _ bytes stopped none failed = emptied (ap (λ (c : Contents). c.taken) bytes)
 
-  begins_held : (old new : Parts D) (s : ℕ) (found : Result BareStream (List ℕ)) (reply : List ℕ) (accepted : Bool) → Begins g old s found reply new accepted
+  begins_held : (old new : Parts D) (s : ℕ) (found : Result StreamFacts (List ℕ)) (reply : List ℕ) (accepted : Bool) → Begins g old s found reply new accepted
       → IsHeld new (cond (s == slot) (begun (is_no reply) (taken_at old)) (taken_at old))
   begins_held old new s (Err reason) reply accepted b =
       let said_no : is_no reply ≡ true = ap is_no b.0 in
@@ -136,18 +136,18 @@ module _ {D : Type 0} (g : disk.Ghosts D) (slot : ℕ) where
       let said_no : is_no reply ≡ true = ap is_no told in
       subst (λ (t : Bool). IsHeld new (cond (s == slot) (fed t raw (taken_at old)) (taken_at old))) (sym said_no)
       (refused old new s f (takes.bytes honest)
-      (λ is. stays (subst (λ (x : ArchiveFault). TakeStep (bare_of old) s (length raw) (Err x) (bare_of new)) is takes.step).0)
-      (λ is. none_taken old s (subst (λ (x : ArchiveFault). TakeStep (bare_of old) s (length raw) (Err x) (bare_of new)) is takes.step).1)
-      (λ is. ap (λ (b : Bare). b.stopped) (subst (λ (x : ArchiveFault). TakeStep (bare_of old) s (length raw) (Err x) (bare_of new)) is takes.step).5))
+      (λ is. stays (subst (λ (x : ArchiveFault). TakeStep (state_of old) s (length raw) (Err x) (state_of new)) is takes.step).0)
+      (λ is. none_taken old s (subst (λ (x : ArchiveFault). TakeStep (state_of old) s (length raw) (Err x) (state_of new)) is takes.step).1)
+      (λ is. ap (λ (b : ArchiveState). b.stopped) (subst (λ (x : ArchiveFault). TakeStep (state_of old) s (length raw) (Err x) (state_of new)) is takes.step).5))
 
   ends_held : (old new : Parts D) (s : ℕ) (reply : List ℕ) (stored : Bool) → IsTrue (g.is_honest old.disk) → (old.stopped ≡ true → new.stopped ≡ true) → Ends g old s reply new stored
       → IsHeld new (cond (s == slot) None (taken_at old))
   ends_held old new s reply stored honest stays (Ok seq, call, told, is) = emptied old new s (ap (λ (c : Contents). c.taken) (call.bytes honest).2)
   ends_held old new s reply stored honest stays (Err f, call, told, is) =
       refused old new s f (call.bytes honest)
-      (λ is. stays (subst (λ (x : ArchiveFault). FinishStep (bare_of old) s (Err x) (bare_of new)) is call.step).0)
-      (λ is. none_taken old s (subst (λ (x : ArchiveFault). FinishStep (bare_of old) s (Err x) (bare_of new)) is call.step).1)
-      (λ is. finish_stops (bare_of old) (bare_of new) s (Err f) call.step is)
+      (λ is. stays (subst (λ (x : ArchiveFault). FinishStep (state_of old) s (Err x) (state_of new)) is call.step).0)
+      (λ is. none_taken old s (subst (λ (x : ArchiveFault). FinishStep (state_of old) s (Err x) (state_of new)) is call.step).1)
+      (λ is. finish_stops (state_of old) (state_of new) s (Err f) call.step is)
 
   drops_held : (old new : Parts D) (s : ℕ) (reply : List ℕ) → Drops g old s reply new → IsHeld new (cond (s == slot) None (taken_at old))
   drops_held old new s reply (Ok u, call, told) = emptied old new s (ap (λ (c : Contents). c.taken) call.bytes)
@@ -172,18 +172,18 @@ module _ {D : Type 0} (g : disk.Ghosts D) (slot : ℕ) where
   line_held naming old new (drop_of s) raw reply honest stays r = drops_held old new s reply r
   line_held naming old new (delete_of seq) raw reply honest stays (Ok u, call, told) = inr (ap (λ (c : Contents). bytes_in c.taken slot) (call.bytes honest))
   line_held naming old new (delete_of seq) raw reply honest stays (Err f, call, told) =
-      unmoved_held old new f (call.bytes honest) (λ is. delete_stops (bare_of old) (bare_of new) seq (Err f) call.step is)
+      unmoved_held old new f (call.bytes honest) (λ is. delete_stops (state_of old) (state_of new) seq (Err f) call.step is)
   line_held naming old new (pin_of seq flag) raw reply honest stays (Ok u, call, told) = inr (ap (λ (c : Contents). bytes_in c.taken slot) (call.bytes honest))
   line_held naming old new (pin_of seq flag) raw reply honest stays (Err f, call, told) =
-      unmoved_held old new f (call.bytes honest) (λ is. pin_stops (bare_of old) (bare_of new) seq flag (Err f) call.step is)
+      unmoved_held old new f (call.bytes honest) (λ is. pin_stops (state_of old) (state_of new) seq flag (Err f) call.step is)
   line_held naming old new (retire_by policy) raw reply honest stays (Ok d, call, told) = inr (ap (λ (c : Contents). bytes_in c.taken slot) (call.bytes honest))
   line_held naming old new (retire_by policy) raw reply honest stays (Err f, call, told) =
-      unmoved_held old new f (call.bytes honest) (λ is. retire_stops (bare_of old) (bare_of new) policy (Err f) call.step is)
+      unmoved_held old new f (call.bytes honest) (λ is. retire_stops (state_of old) (state_of new) policy (Err f) call.step is)
   line_held naming old new list_all_cases raw reply honest stays r = unmoved old new r.1
   line_held naming old new count_free raw reply honest stays r = unmoved old new r.3
   line_held naming old new (inspect_of seq query) raw reply honest stays r =
       ⊎_elim (λ same. inr (ap (λ (xs : List (Option Taken)). bytes_in xs slot) same)) (λ stopped. inl stopped)
-      ((asks_leaves g old new seq query (kind_asked (bare_of old) seq query) reply r).taken honest)
+      ((asks_leaves g old new seq query (kind_asked (state_of old) seq query) reply r).taken honest)
 
   pub then_held : (naming : Naming) (old new : Parts D) (what : Said) (raw reply : List ℕ) (held : Option (List ℕ)) → IsTrue (g.is_honest old.disk) → (old.stopped ≡ true → new.stopped ≡ true) → Replies g naming old what raw reply new
       → IsHeld old held → IsHeld new (held_then slot what raw (is_no reply) held)
@@ -196,6 +196,6 @@ none_open zero slot = refl
 none_open (suc n) zero = refl
 none_open (suc n) (suc slot) = none_open n slot
 
-pub opening_quiet : {D : Type 0} (limit : ℕ) (a : Parts D) → IsOpened limit a → (slot : ℕ) → stream_at (bare_of a).streams slot ≡ None
+pub opening_quiet : {D : Type 0} (limit : ℕ) (a : Parts D) → IsOpened limit a → (slot : ℕ) → stream_at (state_of a).streams slot ≡ None
 opening_quiet limit a opened slot =
-    at_mapped bare_stream a.streams slot ∙ ap (λ (xs : List (Option StreamParts)). option_map bare_stream (stream_at xs slot)) opened.streams ∙ ap (option_map bare_stream) (none_open 8 slot)
+    at_mapped stream_facts a.streams slot ∙ ap (λ (xs : List (Option StreamParts)). option_map stream_facts (stream_at xs slot)) opened.streams ∙ ap (option_map stream_facts) (none_open 8 slot)

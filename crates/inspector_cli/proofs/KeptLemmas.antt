@@ -6,13 +6,13 @@ use Rattle.std.specs.Prelude.{codes, ◌||◌, IsTrue}
 use Rattle.std.specs.List.{filter, flat_map, AllByRecursion}
 use Rattle.disk_model.specs.declared.disk.Disk as disk
 use Rattle.journal_layout.specs.Folding.{is_among}
-use Rattle.intake.specs.Calls.{Stays}
+use Rattle.intake.specs.Calls.{ChangesNoCase}
 use Rattle.intake.specs.Durable.{Durable, FoundCase, durable_of, without, flagged, with_case}
 use Rattle.intake.specs.Lasts.{FinishLasts, DeleteLasts, PinLasts, RetireLasts, RefusalsLast}
 use Rattle.intake.specs.Lives.{IsAmong}
 use Rattle.intake.specs.Marks.{Mark, mark_of}
-use Rattle.intake.specs.Parts.{Parts, bare_of}
-use Rattle.intake.specs.State.{BareStream}
+use Rattle.intake.specs.Parts.{Parts, state_of}
+use Rattle.intake.specs.State.{StreamFacts}
 use Rattle.stream_names.specs.declared.naming.Naming.{Naming}
 use Rattle.script_lines.specs.Said.{Said, silence, bad_line, long_line, begin_exec, begin_core, part_of, end_of, drop_of, delete_of, pin_of, retire_by, list_all_cases, count_free, inspect_of, said, raw_length}
 use Rattle.script_streams.specs.Replies.{no_reply, ok_reply}
@@ -28,14 +28,14 @@ use Rattle.inspector_cli.specs.Told.{Answer, Answers, Session, Finishes, HasLine
 use Rattle.inspector_cli.proofs.StageLemmas.{begins_stays, truncates_stays, broken_stays}
 
 -- what each call does to the cases
-pub record Lasts {D : Type 0} (g : disk.Ghosts D) : Type 0 where
+pub record LastingLaws {D : Type 0} (g : disk.Ghosts D) : Type 0 where
   pub finish : FinishLasts g
   pub delete : DeleteLasts g
   pub pin : PinLasts g
   pub retire : RetireLasts g
   pub refusals : RefusalsLast g
 
-pub lasts_of : {D : Type 0} (g : disk.Ghosts D) → FinishLasts g → DeleteLasts g → PinLasts g → RetireLasts g → RefusalsLast g → Lasts g
+pub lasts_of : {D : Type 0} (g : disk.Ghosts D) → FinishLasts g → DeleteLasts g → PinLasts g → RetireLasts g → RefusalsLast g → LastingLaws g
 lasts_of g finish delete pin retire refusals = record { finish = finish; delete = delete; pin = pin; retire = retire; refusals = refusals }
 
 among_more : (xs ys : List FoundCase) (c : FoundCase) → IsAmong xs c → IsAmong (xs ++ ys) c
@@ -92,7 +92,7 @@ has_line n (seq ∷ seqs) rest among =
     (eqb_tells n seq)
 
 module _ (n : ℕ) (bytes : List ℕ) where
-  pub with_case_keeps : (x : Durable) (s : BareStream) (runs : ℕ) (image : List ℕ) → HasImage n bytes x → HasImage n bytes (with_case x s runs image)
+  pub with_case_keeps : (x : Durable) (s : StreamFacts) (runs : ℕ) (image : List ℕ) → HasImage n bytes x → HasImage n bytes (with_case x s runs image)
   with_case_keeps x s runs image (c, among, seq, is) = (c, among_more x.cases _ c among, seq, is)
 
   without_keeps : (x : Durable) (seqs : List ℕ) → is_among seqs n ≡ false → HasImage n bytes x → HasImage n bytes (without x seqs)
@@ -107,11 +107,11 @@ module _ (n : ℕ) (bytes : List ℕ) where
     (elim (c.seq == number) as (λ t. (cond t (record c { pinned = flag }) c).image ≡ bytes) [ true ↦ is | false ↦ is ]),
   )
 
-  module _ {D : Type 0} (g : disk.Ghosts D) (lasts : Lasts g) (naming : Naming) where
+  module _ {D : Type 0} (g : disk.Ghosts D) (lasts : LastingLaws g) (naming : Naming) where
     abbrev Has : Parts D → Type 0
     Has a = HasImage n bytes (durable_of g.seen a)
 
-    stays_keeps : (old new : Parts D) → IsTrue (g.is_honest old.disk) → Stays g old new → Has old → Has new
+    stays_keeps : (old new : Parts D) → IsTrue (g.is_honest old.disk) → ChangesNoCase g old new → Has old → Has new
     stays_keeps old new honest stays has = subst (HasImage n bytes) (sym (stays.durable honest)) has
 
     as_it_was : (old new : Parts D) → new ≡ old → Has old → Has new
@@ -153,7 +153,7 @@ module _ (n : ℕ) (bytes : List ℕ) where
         same_keeps old new (lasts.refusals old new f honest (inr (inr (inr (policy, call))))) has
     line_keeps old new list_all_cases raw reply honest r spares has = as_it_was old new r.1 has
     line_keeps old new count_free raw reply honest r spares has = as_it_was old new r.3 has
-    line_keeps old new (inspect_of seq query) raw reply honest r spares has = stays_keeps old new honest (asks_leaves g old new seq query (kind_asked (bare_of old) seq query) reply r).stays has
+    line_keeps old new (inspect_of seq query) raw reply honest r spares has = stays_keeps old new honest (asks_leaves g old new seq query (kind_asked (state_of old) seq query) reply r).stays has
 
     -- what a line would have left, had the disk not failed, has the case
     doubt_keeps : (old : Parts D) (what : Said) (reply : List ℕ) (x : Durable) → reply ≡ no_reply (codes "Disk") → (MayDrop n what reply → ⊥) → Has old → MayLeave g old what x → HasImage n bytes x
@@ -220,10 +220,10 @@ all_marks : {D : Type 0} (P : Mark D → Type 0) (xs ys : List (Mark D)) → All
 all_marks P [] ys all more = more
 all_marks P (x ∷ xs) ys all more = (all.0, all_marks P xs ys all.1 more)
 
-module _ (n : ℕ) (bytes : List ℕ) {D : Type 0} (g : disk.Ghosts D) (lasts : Lasts g) where
+module _ (n : ℕ) (bytes : List ℕ) {D : Type 0} (g : disk.Ghosts D) (lasts : LastingLaws g) where
   -- the marks behind a stage that holds the case, to the close of the archive, hold it
   pub rest_keeps : (s : Session D) (m : Stage D) (after : List Answer) (rest : List (Stage D)) → Answers g s.naming m after rest → Spares s n after → Keeps n bytes g lasts s.naming m
-      → Finishes g s.naming (last_stage m rest).archive s.last s.reply s.end.archive → Moves g (last_stage m rest) s.last s.reply s.end → Stays g s.end.archive s.closed
+      → Finishes g s.naming (last_stage m rest).archive s.last s.reply s.end.archive → Moves g (last_stage m rest) s.last s.reply s.end → ChangesNoCase g s.end.archive s.closed
       → AllByRecursion (Holds n bytes g lasts s.naming) (marks_of g.seen rest s.end s.closed)
   rest_keeps s m after rest answers spares keeps finishes moves stays =
       let run = answers_keep n bytes g lasts s.naming m after rest answers spares.0 keeps in

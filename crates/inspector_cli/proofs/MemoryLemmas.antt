@@ -7,8 +7,8 @@ use Rattle.journal_layout.specs.Stands.{Stands}
 use Rattle.journal_layout.specs.declared.shape.Half.TheVariants.{A}
 use Rattle.journal_layout.specs.declared.shape.Shape.{Shape}
 use Rattle.intake.specs.Durable.{StandsFor, durable_in}
-use Rattle.intake.specs.Parts.{Parts, StreamParts, bare_case, bare_stream}
-use Rattle.intake.specs.State.{Bare}
+use Rattle.intake.specs.Parts.{Parts, StreamParts, case_facts, stream_facts}
+use Rattle.intake.specs.State.{ArchiveState}
 use Rattle.journal_layout.specs.Layout.{IsWithinLimits}
 use Rattle.stream_names.specs.declared.naming.Naming.{Naming}
 use Rattle.inspector_cli.specs.declared.session.LifeFault.{LifeFault}
@@ -16,23 +16,23 @@ use Rattle.inspector_cli.specs.declared.session.LifeFault.TheVariants.{Open, Ses
 use Rattle.inspector_cli.specs.declared.session.MemoryFault.{MemoryFault}
 use Rattle.inspector_cli.specs.declared.session.MemoryFault.TheVariants.{Life}
 use Rattle.inspector_cli.specs.Session.{Streams}
-use Rattle.inspector_cli.specs.Life.{Lives, LifeEnds, RunsOver}
+use Rattle.inspector_cli.specs.Life.{OpensThen, LifeEnds, RunsOver}
 use Rattle.inspector_cli.specs.Memory.{OverFresh, MemoryEnds}
 
-abbrev bare_from : Standing → ℕ → List (Option StreamParts) → Bool → Bare
-bare_from s limit streams stopped = record {
+abbrev state_from : Standing → ℕ → List (Option StreamParts) → Bool → ArchiveState
+state_from s limit streams stopped = record {
   shape = s.shape;
   limit = limit;
-  cases = map bare_case s.cases;
+  cases = map case_facts s.cases;
   next = s.next;
   used = s.used;
   generation = s.generation;
-  streams = map (option_map bare_stream) streams;
+  streams = map (option_map stream_facts) streams;
   stopped = stopped;
 }
 
 pub over_fresh : {D : Type 0} (g : disk.Ghosts D) (shape : Shape) (limit : ℕ) (before after : D) (Goes : Parts D → Parts D → Type 0) → IsTrue (g.is_honest before) → Stands (g.seen before) (fresh shape A 1 1)
-    → Lives g limit before after Goes → OverFresh g shape limit Goes
+    → OpensThen g limit before after Goes → OverFresh g shape limit Goes
 over_fresh g shape limit before after Goes honest stands lives =
     let a = lives.opened in
     let opened = lives.opening.state in
@@ -40,10 +40,10 @@ over_fresh g shape limit before after Goes honest stands lives =
       opened = a;
       honest = lives.opening.honesty ∙ honest;
       fresh =
-          ap (λ (s : Standing). bare_from s a.limit a.streams a.stopped) (lives.opening.found (fresh shape A 1 1) honest stands)
-          ∙ ap (λ (n : ℕ). bare_from (fresh shape A 1 1) n a.streams a.stopped) opened.limit
-          ∙ ap (λ (x : List (Option StreamParts)). bare_from (fresh shape A 1 1) limit x a.stopped) opened.streams
-          ∙ ap (λ (b : Bool). bare_from (fresh shape A 1 1) limit (replicate 8 None) b) opened.runs;
+          ap (λ (s : Standing). state_from s a.limit a.streams a.stopped) (lives.opening.found (fresh shape A 1 1) honest stands)
+          ∙ ap (λ (n : ℕ). state_from (fresh shape A 1 1) n a.streams a.stopped) opened.limit
+          ∙ ap (λ (x : List (Option StreamParts)). state_from (fresh shape A 1 1) limit x a.stopped) opened.streams
+          ∙ ap (λ (b : Bool). state_from (fresh shape A 1 1) limit (replicate 8 None) b) opened.runs;
       closed = lives.closed;
       goes = lives.goes;
     }

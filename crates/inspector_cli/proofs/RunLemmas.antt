@@ -15,7 +15,7 @@ use Rattle.inspector_cli.specs.declared.script.ScriptStop.TheVariants.{Read, Unh
 use Rattle.stream_names.specs.declared.naming.Naming.{Naming}
 use Rattle.script_lines.specs.Said.{said, silence}
 use Rattle.inspector_cli.specs.Stages.{Stage}
-use Rattle.inspector_cli.specs.Session.{Item, IsItem, spelled, Run, last_stage, ending_text}
+use Rattle.inspector_cli.specs.Session.{Item, IsItem, spelled, AnswersItems, last_stage, ending_text}
 use Rattle.script_streams.specs.Replies.{Telling}
 use Rattle.inspector_cli.specs.Answering.{Reading, CommandEnds, ScriptEnds}
 use Rattle.inspector_cli.proofs.GiveLemmas.{gives_nothing, gives_then, gives_as}
@@ -34,7 +34,7 @@ text_then (j ∷ js) i = append_assoc (spelled j) (flat_map spelled js) (spelled
 abbrev pub Along : {D : Type 0} → disk.Ghosts D → Naming → Reading → Telling → Stage D → Parts D → Bool → Type 0
 Along {D} g naming r t old new true =
     (items : List Item) × (out : List ℕ) × (stages : List (Stage D)) × AllByRecursion IsItem items × Gives r.before r.after r.buffer r.buffer' (flat_map spelled items)
-    × Run g naming old items out stages × ((last_stage old stages).archive ≡ new) × Tells t.taken t.taken' t.failures t.failures' t.reply t.reply' out
+    × AnswersItems g naming old items out stages × ((last_stage old stages).archive ≡ new) × Tells t.taken t.taken' t.failures t.failures' t.reply t.reply' out
 Along g naming r t old new false = ScriptEnds g naming r t old new (Ok tt)
 
 module _ {D : Type 0} (g : disk.Ghosts D) where
@@ -122,7 +122,7 @@ module _ {D : Type 0} (g : disk.Ghosts D) where
             each = so_far.3;
             rest = e.0;
             cut = refl;
-            run = subst (λ (text : List ℕ). Run g naming old so_far.0 text so_far.2) (sym (append-nil so_far.1)) so_far.5;
+            run = subst (λ (text : List ℕ). AnswersItems g naming old so_far.0 text so_far.2) (sym (append-nil so_far.1)) so_far.5;
             broken = e.3;
             moves = m.1;
           },
@@ -144,7 +144,7 @@ module _ {D : Type 0} (g : disk.Ghosts D) where
             each = so_far.3;
             rest = [];
             cut = sym (append-nil (flat_map spelled so_far.0));
-            run = subst (λ (text : List ℕ). Run g naming old so_far.0 text so_far.2) (sym (append-nil so_far.1)) so_far.5;
+            run = subst (λ (text : List ℕ). AnswersItems g naming old so_far.0 text so_far.2) (sym (append-nil so_far.1)) so_far.5;
             broken = inl (tt, e.2);
             moves = m.1;
           },

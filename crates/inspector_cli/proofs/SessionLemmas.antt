@@ -18,7 +18,7 @@ use Rattle.inspector_cli.specs.declared.script.ScriptStop.TheVariants.{Read, Unh
 use Rattle.inspector_cli.specs.declared.session.SessionFault.TheVariants.{ReadFailed, WriteFailed, TooManyReads}
 use Rattle.stream_names.specs.declared.naming.Naming.{Naming}
 use Rattle.inspector_cli.specs.Stages.{Stage, IsFoundAfterAStop}
-use Rattle.inspector_cli.specs.Session.{AnswersAll, AnswersWhole, Closes, Streams, SessionEnds}
+use Rattle.inspector_cli.specs.Session.{AnswersAll, AnswersWhole, DropsStreams, Streams, SessionEnds}
 use Rattle.script_streams.specs.Replies.{Telling}
 use Rattle.inspector_cli.specs.Answering.{Reading, Halts, ScriptEnds, session_fault}
 use Rattle.inspector_cli.proofs.StageLemmas.{Laws, found_after}
@@ -36,7 +36,7 @@ counted a b old new given empty up none most gives =
     let e = ap length (same_bytes a b old new given empty up gives) in let n = gives.counted in omega (arith, e, n, none, most)
 
 module _ {D : Type 0} (g : disk.Ghosts D) (laws : Laws g) (law : FoundAfterAStop g) (naming : Naming) (a b : Option (List ℕ)) (x y : ScriptBuffer) (fails fails' : ℕ) (o p q : Option (List ℕ)) (f i h : ℕ) (u v : Reply)
-    (old : Stage D) (mid new : Parts D) (empty : held_bytes x ≡ []) (unread : reads_made x ≡ 0) (begun : Told o f o f u []) (closes : Closes g mid new) where
+    (old : Stage D) (mid new : Parts D) (empty : held_bytes x ≡ []) (unread : reads_made x ≡ 0) (begun : Told o f o f u []) (closes : DropsStreams g mid new) where
   abbrev pub reading : Reading
   reading = record { before = a; after = b; buffer = x; buffer' = y }
 
@@ -50,8 +50,8 @@ module _ {D : Type 0} (g : disk.Ghosts D) (laws : Laws g) (law : FoundAfterAStop
   abbrev pub Delivers : Result (Unit {0}) StreamFault → Type 0
   Delivers r = (start : Option (List ℕ)) (count : ℕ) (told : List ℕ) → Told start count p i v told → IsDelivered start count q h told r
 
-  closes_from : (end : Stage D) → end.archive ≡ mid → Closes g end.archive new
-  closes_from end is = subst (λ (m : Parts D). Closes g m new) (sym is) closes
+  closes_from : (end : Stage D) → end.archive ≡ mid → DropsStreams g end.archive new
+  closes_from end is = subst (λ (m : Parts D). DropsStreams g m new) (sym is) closes
 
   all_found : (read out : List ℕ) (stages : List (Stage D)) (end : Stage D) → end.archive ≡ mid → AnswersAll g naming read out old stages end → IsFoundAfterAStop g old stages end new
   all_found read out stages end is all =

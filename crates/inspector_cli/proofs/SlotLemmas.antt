@@ -2,7 +2,7 @@
 use Rattle.std.proofs.Common.{◌≡◌, ℕ, zero, suc, ◌+◌, ◌/◌, List, [], ◌∷◌, map, Option, Some, None, refl, ap, arith}
 use Rattle.std.proofs.lemmas.List.Sums.{sum_by-cons}
 use Rattle.std.specs.Prelude.{sum_by, option_map, slice_set}
-use Rattle.intake.specs.State.{BareStream, filled_by}
+use Rattle.intake.specs.State.{StreamFacts, filled_by}
 use Rattle.intake.specs.Slots.{stream_at, closed}
 
 pub set_again : {X : Type 0} (xs : List (Option X)) (slot : ℕ) (a b : Option X) → slice_set (slice_set xs slot a) slot b ≡ slice_set xs slot b
@@ -20,7 +20,7 @@ closed_set [] slot a = refl
 closed_set (x ∷ xs) zero a = refl
 closed_set (x ∷ xs) (suc slot) a = ap (λ ys. None ∷ ys) (closed_set xs slot a)
 
-pub sum_set : (xs : List (Option BareStream)) (slot : ℕ) (s t : BareStream) → stream_at xs slot ≡ Some s
+pub sum_set : (xs : List (Option StreamFacts)) (slot : ℕ) (s t : StreamFacts) → stream_at xs slot ≡ Some s
     → sum_by filled_by (slice_set xs slot (Some t)) + s.len / 4096 ≡ sum_by filled_by xs + t.len / 4096
 sum_set [] slot s t is = cc
 sum_set (x ∷ xs) zero s t is =

@@ -6,12 +6,12 @@ use Rattle.std.specs.Prelude.{codes}
 use Rattle.disk_model.specs.declared.disk.Disk as disk
 use Rattle.intake.specs.declared.faults.ArchiveFault.{ArchiveFault}
 use Rattle.intake.specs.declared.faults.ArchiveFault.TheVariants as fault
-use Rattle.intake.specs.Calls.{Stays}
+use Rattle.intake.specs.Calls.{ChangesNoCase}
 use Rattle.intake.specs.Durable.{Durable}
 use Rattle.intake.specs.Growth.{IsDiskFault}
-use Rattle.intake.specs.Marks.{Passes, Run as RunOfMarks, Leads, doubted, mark_of, FoundAfterAStop, StaysLead, FinishLeads, DeleteLeads, PinLeads, RetireLeads}
-use Rattle.intake.specs.Parts.{Parts, bare_of}
-use Rattle.intake.specs.State.{BareStream}
+use Rattle.intake.specs.Marks.{Passes, IsRunOfMarks, LeadsToMark, doubted, mark_of, FoundAfterAStop, StaysLead, FinishLeads, DeleteLeads, PinLeads, RetireLeads}
+use Rattle.intake.specs.Parts.{Parts, state_of}
+use Rattle.intake.specs.State.{StreamFacts}
 use Rattle.retention.specs.declared.Decision.{Decision}
 use Rattle.stream_names.specs.declared.naming.Naming.{Naming}
 use Rattle.script_lines.specs.Said.{Said, silence, bad_line, long_line, begin_exec, begin_core, part_of, end_of, drop_of, delete_of, pin_of, retire_by, list_all_cases, count_free, inspect_of, said, raw_length}
@@ -21,7 +21,7 @@ use Rattle.archive_replies.specs.Texts.{end_reply, plain_reply, retire_reply}
 use Rattle.stream_names.specs.Streams.{exec_stream, core_stream}
 use Rattle.archive_replies.specs.Reasons.{reason_of}
 use Rattle.inspector_cli.specs.Stages.{Stage, Moves, MayLeave, mark_at, marks_of, IsFoundAfterAStop}
-use Rattle.inspector_cli.specs.Session.{Item, Run, last_stage, Ending, complete, last_line, cut_part, said_last, EndReplies, LastReplies, Truncates, TakesFront, BreaksOff}
+use Rattle.inspector_cli.specs.Session.{Item, AnswersItems, last_stage, Ending, complete, last_line, cut_part, said_last, EndReplies, LastReplies, Truncates, TakesFront, BreaksOff}
 use Rattle.intake.specs.StayLaws.{stays_as, stays_then}
 use Rattle.case_queries.specs.Inspecting.{kind_asked}
 use Rattle.case_queries.specs.LeaveLaws.{asks_leaves}
@@ -49,19 +49,19 @@ doubts_told T (Ok x) reply P more is all = inl refl
 doubts_told T (Err fault.Disk) reply P more is all = inr (is refl, all)
 doubts_told T (Err _) reply P more is all = inl refl
 
-pub begins_stays : {D : Type 0} (g : disk.Ghosts D) (old new : Parts D) (slot : ℕ) (found : Result BareStream (List ℕ)) (reply : List ℕ) (accepted : Bool) → Begins g old slot found reply new accepted → Stays g old new
+pub begins_stays : {D : Type 0} (g : disk.Ghosts D) (old new : Parts D) (slot : ℕ) (found : Result StreamFacts (List ℕ)) (reply : List ℕ) (accepted : Bool) → Begins g old slot found reply new accepted → ChangesNoCase g old new
 begins_stays g old new slot (Ok s) reply accepted begins = begins.1.stays
 begins_stays g old new slot (Err reason) reply accepted begins = stays_as g old new begins.1
 
-pub truncates_stays : {D : Type 0} (g : disk.Ghosts D) (old new : Parts D) (what : Said) (raw reply : List ℕ) → Truncates g old what raw reply new → Stays g old new
+pub truncates_stays : {D : Type 0} (g : disk.Ghosts D) (old new : Parts D) (what : Said) (raw reply : List ℕ) → Truncates g old what raw reply new → ChangesNoCase g old new
 truncates_stays g old new (part_of slot n) raw reply cut = stays_then g old cut.0 new cut.3.stays cut.4.stays
 truncates_stays g old new _ raw reply cut = absurd cut
 
-front_stays : {D : Type 0} (g : disk.Ghosts D) (old new : Parts D) (what : Said) (raw : List ℕ) → TakesFront g old what raw new → Stays g old new
+front_stays : {D : Type 0} (g : disk.Ghosts D) (old new : Parts D) (what : Said) (raw : List ℕ) → TakesFront g old what raw new → ChangesNoCase g old new
 front_stays g old new (part_of slot n) raw front = front.1.stays
 front_stays g old new _ raw front = absurd front
 
-pub broken_stays : {D : Type 0} (g : disk.Ghosts D) (old new : Parts D) (rest : List ℕ) → BreaksOff g old rest new → Stays g old new
+pub broken_stays : {D : Type 0} (g : disk.Ghosts D) (old new : Parts D) (rest : List ℕ) → BreaksOff g old rest new → ChangesNoCase g old new
 broken_stays g old new rest broken = ⊎_elim (λ none. stays_as g old new none.1) (λ cut. front_stays g old new (said cut.0) cut.1 cut.5) broken
 
 abbrev pub stage_of : {D : Type 0} → Parts D → List Durable → Stage D
@@ -83,11 +83,11 @@ module _ {D : Type 0} (g : disk.Ghosts D) (laws : Laws g) (old : Stage D) (new :
   abbrev pub Reaches : Said → List ℕ → Type 0
   Reaches what reply = (more : List Durable) × Moves g old what reply (stage_of new (more ++ old.in_doubt))
 
-  pub still : (what : Said) (reply : List ℕ) → Stays g old.archive new → Reaches what reply
+  pub still : (what : Said) (reply : List ℕ) → ChangesNoCase g old.archive new → Reaches what reply
   still what reply stays = ([], record { doubts = []; in_doubt = refl; doubted = inl refl; passes = laws.stays old.archive new old.in_doubt stays })
 
   changed : (T : Type 0) (what : Said) (reply : List ℕ) (r : Result T ArchiveFault) (doubt : Durable → Type 0) → ((x : Durable) → doubt x → MayLeave g old.archive what x)
-      → (IsDiskFault r → reply ≡ no_reply (codes "Disk")) → Leads T g old.archive r new doubt → Reaches what reply
+      → (IsDiskFault r → reply ≡ no_reply (codes "Disk")) → LeadsToMark T g old.archive r new doubt → Reaches what reply
   changed T what reply r doubt may is leads =
       let l = leads old.in_doubt in (
         doubted {T = T} r l.0,
@@ -117,7 +117,7 @@ module _ {D : Type 0} (g : disk.Ghosts D) (laws : Laws g) (old : Stage D) (new :
       changed Decision (retire_by policy) reply r.0 _ (λ x may. may) (λ is. r.2 ∙ retire_disk r.0 is) (laws.retire old.archive new policy r.0 r.1)
   line_moves naming list_all_cases raw reply r = still list_all_cases reply (stays_as g old.archive new r.1)
   line_moves naming count_free raw reply r = still count_free reply (stays_as g old.archive new r.3)
-  line_moves naming (inspect_of seq query) raw reply r = still (inspect_of seq query) reply (asks_leaves g old.archive new seq query (kind_asked (bare_of old.archive) seq query) reply r).stays
+  line_moves naming (inspect_of seq query) raw reply r = still (inspect_of seq query) reply (asks_leaves g old.archive new seq query (kind_asked (state_of old.archive) seq query) reply r).stays
 
   last_moves : (naming : Naming) (n : ℕ) (what : Said) (reply : List ℕ) → LastReplies g naming n old.archive what reply new → Reaches what reply
   last_moves naming zero what reply r = line_moves naming what [] reply r
@@ -130,9 +130,9 @@ module _ {D : Type 0} (g : disk.Ghosts D) (laws : Laws g) (old : Stage D) (new :
 
 module _ {D : Type 0} (g : disk.Ghosts D) where
   -- a run and one line more
-  pub run_then : (naming : Naming) (old : Stage D) (is : List Item) (out : List ℕ) (ss : List (Stage D)) (i : Item) (reply : List ℕ) (s : Stage D) → Run g naming old is out ss
+  pub run_then : (naming : Naming) (old : Stage D) (is : List Item) (out : List ℕ) (ss : List (Stage D)) (i : Item) (reply : List ℕ) (s : Stage D) → AnswersItems g naming old is out ss
       → Replies g naming (last_stage old ss).archive (said i.line) i.raw reply s.archive → Moves g (last_stage old ss) (said i.line) reply s
-      → Run g naming old (is ++ i ∷ []) (out ++ reply) (ss ++ s ∷ [])
+      → AnswersItems g naming old (is ++ i ∷ []) (out ++ reply) (ss ++ s ∷ [])
   run_then naming old [] out [] i reply s run replies moves =
       (reply, [], replies, moves, refl, ap (λ x. x ++ reply) run ∙ sym (append-nil reply))
   run_then naming old [] out (t ∷ ts) i reply s run replies moves = absurd run
@@ -145,15 +145,15 @@ module _ {D : Type 0} (g : disk.Ghosts D) where
   last_then old s (t ∷ ts) = last_then t s ts
 
   -- the stages of a session are a run of marks
-  pub marks_run : (naming : Naming) (old : Stage D) (is : List Item) (out : List ℕ) (ss : List (Stage D)) (end : Stage D) (new : Parts D) → Run g naming old is out ss
+  pub marks_run : (naming : Naming) (old : Stage D) (is : List Item) (out : List ℕ) (ss : List (Stage D)) (end : Stage D) (new : Parts D) → AnswersItems g naming old is out ss
       → Passes g (mark_at g.seen (last_stage old ss)) (mark_at g.seen end) → Passes g (mark_at g.seen end) (mark_of g.seen new end.in_doubt)
-      → RunOfMarks g (mark_at g.seen old) (marks_of g.seen ss end new)
+      → IsRunOfMarks g (mark_at g.seen old) (marks_of g.seen ss end new)
   marks_run naming old [] out [] end new run last closed = (last, (closed, tt))
   marks_run naming old [] out (t ∷ ts) end new run last closed = absurd run
   marks_run naming old (j ∷ js) out [] end new run last closed = absurd run
   marks_run naming old (j ∷ js) out (t ∷ ts) end new run last closed = (run.3.passes, marks_run naming t js run.1 ts end new run.4 last closed)
 
   pub found_after : (laws : Laws g) → FoundAfterAStop g → (naming : Naming) (old : Stage D) (is : List Item) (out : List ℕ) (ss : List (Stage D)) (end : Stage D) (new : Parts D)
-      → Run g naming old is out ss → Passes g (mark_at g.seen (last_stage old ss)) (mark_at g.seen end) → Stays g end.archive new → IsFoundAfterAStop g old ss end new
+      → AnswersItems g naming old is out ss → Passes g (mark_at g.seen (last_stage old ss)) (mark_at g.seen end) → ChangesNoCase g end.archive new → IsFoundAfterAStop g old ss end new
   found_after laws found naming old is out ss end new run last closes honest settled =
       found (mark_at g.seen old) (marks_of g.seen ss end new) honest settled (marks_run naming old is out ss end new run last (laws.stays end.archive new end.in_doubt closes))

@@ -7,13 +7,13 @@ use Rattle.std.proofs.lemmas.Bool.{cases_Bool, true≢false, false≢true}
 use Rattle.std.specs.Prelude.{slice_set, option_map, codes, ◌==◌, if◌then◌else◌}
 use Rattle.intake.specs.declared.faults.ArchiveFault.{ArchiveFault}
 use Rattle.intake.specs.Slots.{stream_at}
-use Rattle.intake.specs.State.{Bare, BareStream}
+use Rattle.intake.specs.State.{ArchiveState, StreamFacts}
 use Rattle.disk_model.specs.declared.disk.Disk as disk
-use Rattle.intake.specs.Calls.{Stays, BeginCall, AbandonCall}
+use Rattle.intake.specs.Calls.{ChangesNoCase, BeginCall, AbandonCall}
 use Rattle.intake.specs.Contents.{Contents, Taken, BeginBytes, empty_taken, zero_block}
 use Rattle.intake.specs.Durable.{Durable}
 use Rattle.intake.specs.Marks.{FoundAfterAStop}
-use Rattle.intake.specs.Parts.{Parts, bare_of, bare_stream, contents_of, taken_in}
+use Rattle.intake.specs.Parts.{Parts, state_of, stream_facts, contents_of, taken_in}
 use Rattle.intake.specs.Step.{BeginStep, with_stream, longer}
 use Rattle.failure_count.specs.Counts.{HasRisen}
 use Rattle.script_streams.specs.Telling.{Told, IsDelivered}
@@ -40,7 +40,7 @@ use Rattle.inspector_cli.proofs.SlotLemmas.{set_again}
 use Rattle.name_template.specs.declared.template.NameFault.{NameFault}
 
 -- the stream, if there is one, has no bytes yet
-abbrev pub IsFresh : Result BareStream (List ℕ) → Type 0
+abbrev pub IsFresh : Result StreamFacts (List ℕ) → Type 0
 IsFresh (Ok s) = s.len ≡ 0
 IsFresh (Err reason) = Unit {0}
 
@@ -58,7 +58,7 @@ core_is_fresh process (Err fault) = tt
 pub core_fresh : (naming : Naming) (process : ProcessSaid) → IsFresh (core_stream naming process)
 core_fresh naming process = core_is_fresh process (core_name naming process)
 
-unless_zero : (slot : ℕ) (r : Result BareStream (List ℕ)) (reason : List ℕ) → IsFresh r → IsFresh (if slot == 0 then r else Err reason)
+unless_zero : (slot : ℕ) (r : Result StreamFacts (List ℕ)) (reason : List ℕ) → IsFresh r → IsFresh (if slot == 0 then r else Err reason)
 unless_zero slot r reason fresh = ⊎_elim (λ first. rw first fresh) (λ other. rw other tt) (cases_Bool (slot == 0))
 
 pub first_fresh : (naming : Naming) (what : Said) → IsFresh (first_stream naming what)
@@ -83,18 +83,18 @@ set_there (x ∷ xs) zero a there = refl
 set_there (x ∷ xs) (suc slot) a there = set_there xs slot a (omega arith)
 
 -- a stream with no bytes has taken none
-fresh_takes : (old : Bare) (slot : ℕ) (s : BareStream) → s.len ≡ 0 → old.stopped ≡ false → slot < length old.streams
+fresh_takes : (old : ArchiveState) (slot : ℕ) (s : StreamFacts) → s.len ≡ 0 → old.stopped ≡ false → slot < length old.streams
     → TakeStep (with_stream old slot (Some s)) slot 0 (Ok tt) (with_stream old slot (Some s))
 fresh_takes old slot s none runs there = (
   s,
   (runs, set_there old.streams slot (Some s) there),
   (omega (arith, none), λ m wall. omega (arith, wall.1, none)),
-  ap (λ (xs : List (Option BareStream)). record old { streams = xs })
+  ap (λ (xs : List (Option StreamFacts)). record old { streams = xs })
       (sym (set_again old.streams slot (Some s) (Some (longer s 0)) ∙ ap (λ (n : ℕ). slice_set old.streams slot (Some (record s { len = n }))) (omega arith))),
 )
 
-begun_step : (old new : Bare) (slot : ℕ) (s : BareStream) → s.len ≡ 0 → BeginStep old slot s (Ok tt) new → TakeStep new slot 0 (Ok tt) new
-begun_step old new slot s none step = subst (λ (b : Bare). TakeStep b slot 0 (Ok tt) b) (sym step.1) (fresh_takes old slot s none step.0.0 step.0.1)
+begun_step : (old new : ArchiveState) (slot : ℕ) (s : StreamFacts) → s.len ≡ 0 → BeginStep old slot s (Ok tt) new → TakeStep new slot 0 (Ok tt) new
+begun_step old new slot s none step = subst (λ (b : ArchiveState). TakeStep b slot 0 (Ok tt) b) (sym step.1) (fresh_takes old slot s none step.0.0 step.0.1)
 
 -- what stands in a slot has taken what it has
 at_again : {X : Type 0} (xs : List (Option X)) (slot : ℕ) (x : X) → stream_at xs slot ≡ Some x → slice_set xs slot (Some x) ≡ xs
@@ -103,7 +103,7 @@ at_again (y ∷ ys) zero x is = ap (λ (o : Option _). o ∷ ys) (sym is)
 at_again (y ∷ ys) (suc slot) x is = ap (λ zs. y ∷ zs) (at_again ys slot x is)
 
 module _ {D : Type 0} (g : disk.Ghosts D) (old new : Parts D) (slot : ℕ) where
-  begun_bytes : slot < length (bare_of old).streams → BeginBytes (contents_of g.seen old) slot (Ok tt) (contents_of g.seen new)
+  begun_bytes : slot < length (state_of old).streams → BeginBytes (contents_of g.seen old) slot (Ok tt) (contents_of g.seen new)
       → TakeBytes (contents_of g.seen new) slot [] (Ok tt) (contents_of g.seen new)
   begun_bytes there bytes =
       let here : stream_at (contents_of g.seen new).taken slot ≡ Some empty_taken =
@@ -111,27 +111,27 @@ module _ {D : Type 0} (g : disk.Ghosts D) (old new : Parts D) (slot : ℕ) where
       ∙ set_there (contents_of g.seen old).taken slot (Some empty_taken) (there_too there) in
       (empty_taken, zero_block, here, ap (λ (l : List (Option Taken)). record (contents_of g.seen new) { taken = l }) (sym (at_again (contents_of g.seen new).taken slot empty_taken here)))
     where
-      there_too : slot < length (bare_of old).streams → slot < length (contents_of g.seen old).taken
+      there_too : slot < length (state_of old).streams → slot < length (contents_of g.seen old).taken
       there_too below =
-          let a = length-map old.streams (option_map bare_stream) in
+          let a = length-map old.streams (option_map stream_facts) in
           let b = length-map old.streams (option_map (taken_in old.journal (g.seen old.disk))) in
           omega (arith, a, b, below)
 
-  ok_takes : (s : BareStream) (r : Result (Unit {0}) ArchiveFault) → s.len ≡ 0 → BeginCall g old slot s r new → true ≡ is_ok r → Takes g new slot [] (Ok tt) new
+  ok_takes : (s : StreamFacts) (r : Result (Unit {0}) ArchiveFault) → s.len ≡ 0 → BeginCall g old slot s r new → true ≡ is_ok r → Takes g new slot [] (Ok tt) new
   ok_takes s (Ok u) none call is = record {
-    step = begun_step (bare_of old) (bare_of new) slot s none call.step;
+    step = begun_step (state_of old) (state_of new) slot s none call.step;
     bytes = λ honest. begun_bytes call.step.0.1 call.bytes;
     cause = λ fault. absurd fault;
     stays = stays_none g new;
   }
   ok_takes s (Err fault) none call is = absurd (true≢false is)
 
-  pub begun_takes : (found : Result BareStream (List ℕ)) (text : List ℕ) (accepted : Bool) → IsFresh found
+  pub begun_takes : (found : Result StreamFacts (List ℕ)) (text : List ℕ) (accepted : Bool) → IsFresh found
       → Begins g old slot found text new accepted → accepted ≡ true → Takes g new slot [] (Ok tt) new
   begun_takes (Ok s) text accepted none begins is = ok_takes s begins.0 none begins.1 (sym is ∙ begins.3)
   begun_takes (Err reason) text accepted none begins is = absurd (true≢false (sym is ∙ begins.2))
 
--- so many reads each gave a byte, and the bytes are taken
+-- each of a number of reads gave a byte, and the bytes are taken
 abbrev pub FileAlong : {D : Type 0} → disk.Ghosts D → Option (List ℕ) → Option (List ℕ) → ℕ → ℕ → Parts D → ℕ → Parts D → Type 0
 FileAlong g file file' fails fails' old reads new =
     (raw : List ℕ) × Consumes file file' raw × (reads ≤ length raw) × (fails' ≡ fails) × Takes g old 0 raw (Ok tt) new
@@ -191,7 +191,7 @@ module _ {D : Type 0} (g : disk.Ghosts D) where
     first.2,
   )
 
-  file_stays : (file file' : Option (List ℕ)) (fails fails' : ℕ) (old new : Parts D) (r : Result (Unit {0}) TakeStop) → TakesFile g file file' fails fails' old new r → Stays g old new
+  file_stays : (file file' : Option (List ℕ)) (fails fails' : ℕ) (old new : Parts D) (r : Result (Unit {0}) TakeStop) → TakesFile g file file' fails fails' old new r → ChangesNoCase g old new
   file_stays file file' fails fails' old new (Ok u) takes = takes.3.stays
   file_stays file file' fails fails' old new (Err File) takes = takes.3.stays
   file_stays file file' fails fails' old new (Err (Refused fault)) takes = takes.2.stays
@@ -203,8 +203,8 @@ module _ {D : Type 0} (g : disk.Ghosts D) where
     end_reaches (Err File) reply stored ends = still g laws old new (end_of 0) reply (stays_as g old.archive new ends.1)
     end_reaches (Err (Refused fault)) reply stored ends = still g laws old new (end_of 0) reply (stays_as g old.archive new ends.1)
 
-  rest_moves : (laws : Laws g) (naming : Naming) (file file' : Option (List ℕ)) (fails fails' : ℕ) (old : Stage D) (mid filled new : Parts D) (accepted : Bool) (rest : List ℕ) (stored : Bool) → Stays g old.archive mid
-      → RestReplies g file file' fails fails' mid accepted filled rest new stored → Stays g old.archive filled × Reaches g laws (stage_of filled old.in_doubt) new (end_of 0) rest
+  rest_moves : (laws : Laws g) (naming : Naming) (file file' : Option (List ℕ)) (fails fails' : ℕ) (old : Stage D) (mid filled new : Parts D) (accepted : Bool) (rest : List ℕ) (stored : Bool) → ChangesNoCase g old.archive mid
+      → RestReplies g file file' fails fails' mid accepted filled rest new stored → ChangesNoCase g old.archive filled × Reaches g laws (stage_of filled old.in_doubt) new (end_of 0) rest
   rest_moves laws naming file file' fails fails' old mid filled new true rest stored begun goes = (
     stays_then g old.archive mid filled begun (file_stays file file' fails fails' mid filled goes.0 goes.1),
     end_reaches laws naming (stage_of filled old.in_doubt) new goes.0 rest stored goes.2,
@@ -220,7 +220,7 @@ module _ {D : Type 0} (g : disk.Ghosts D) where
   room_moves laws naming old room (Some policy) told made makes = line_moves g laws old room naming (retire_by policy) [] told makes.0
 
   pub stages_of : (laws : Laws g) → FoundAfterAStop g → (naming : Naming) (file file' : Option (List ℕ)) (fails fails' : ℕ) (old : Stage D) (before line replies : List ℕ) (end : Parts D) (outcome : StoreOutcome) (new : Parts D)
-      → (s : Stores g naming file file' fails fails' old.archive before line replies end outcome) → Stays g end new
+      → (s : Stores g naming file file' fails fails' old.archive before line replies end outcome) → ChangesNoCase g end new
       → (in_doubt : List Durable) × StoreStages g old (policy_before before) s.told s.room s.stores.filled s.stores.rest (stage_of end in_doubt) new
   stages_of laws found naming file file' fails fails' old before line replies end outcome new s closes =
       let r = room_moves laws naming old s.room (policy_before before) s.told outcome.made_room s.makes_room in
@@ -281,7 +281,7 @@ stores_alone {D} g naming file file' fails fails' old before line replies end ne
         text = s.all ∙ ap (λ (x : List ℕ). x ++ s.more) room.0 ∙ t.text;
       };
       made = room.2;
-      takes = subst (λ (a : Parts D). Stays g a t.filled) room.1 stages.takes;
+      takes = subst (λ (a : Parts D). ChangesNoCase g a t.filled) room.1 stages.takes;
       moves = subst (λ (xs : List Durable). Moves g (stage_of t.filled xs) (end_of 0) t.rest end) same stages.moves;
       found = λ honest settled. (found honest settled).1;
     }

@@ -5,22 +5,22 @@ use Rattle.std.specs.Prelude.{slice_set, sum_by}
 use Rattle.intake.specs.declared.faults.ArchiveFault.{ArchiveFault}
 use Rattle.intake.specs.declared.faults.ArchiveFault.TheVariants.{Stopped, BadSlot, SlotBusy, NameTaken, NoStream, TooLong, SpaceFull, NoCase, Pinned, JournalFull, NumbersSpent, OutOfMemory, Disk}
 use Rattle.intake.specs.Slots.{stream_at}
-use Rattle.intake.specs.State.{Bare, BareStream, blocks_in, filled_by}
+use Rattle.intake.specs.State.{ArchiveState, StreamFacts, blocks_in, filled_by}
 use Rattle.intake.specs.Step.{AdvanceStep, FindsNoBlock, with_stream, longer, halted}
 use Rattle.inspector_cli.specs.Reply.{IsWall, MayTake, IsOpen, TakeStep}
 use Rattle.inspector_cli.proofs.SlotLemmas.{set_again, at_set, closed_set, sum_set}
 
--- so many bytes fit into what is left of the stream's block
-abbrev pub FitsBlock : Option BareStream → ℕ → Type 0
+-- n bytes fit into what is left of the stream's block
+abbrev pub FitsBlock : Option StreamFacts → ℕ → Type 0
 FitsBlock None n = Unit {0}
 FitsBlock (Some s) n = s.len % 4096 + n ≤ 4096
 
 -- the state in the middle of a part
-abbrev pub midway : Bare → ℕ → BareStream → ℕ → Bare
+abbrev pub midway : ArchiveState → ℕ → StreamFacts → ℕ → ArchiveState
 midway b slot s k = with_stream b slot (Some (longer s k))
 
 -- the blocks in use there
-in_use : (b : Bare) (slot k : ℕ) (s : BareStream) → stream_at b.streams slot ≡ Some s
+in_use : (b : ArchiveState) (slot k : ℕ) (s : StreamFacts) → stream_at b.streams slot ≡ Some s
     → blocks_in (midway b slot s k) + s.len / 4096 ≡ blocks_in b + (s.len + k) / 4096
 in_use b slot k s is =
     let e : sum_by filled_by (slice_set b.streams slot (Some (longer s k))) + s.len / 4096 ≡ sum_by filled_by b.streams + (s.len + k) / 4096 =
@@ -46,7 +46,7 @@ some_is x y e = cc
 none_is : {X : Type 0} (x : X) → Some x ≡ None → ⊥
 none_is x e = cc
 
-module _ (b : Bare) (slot k n : ℕ) (s : BareStream) (stands : IsOpen b slot s) (may : MayTake b s k) (fits : (s.len + k) % 4096 + n ≤ 4096) where
+module _ (b : ArchiveState) (slot k n : ℕ) (s : StreamFacts) (stands : IsOpen b slot s) (may : MayTake b s k) (fits : (s.len + k) % 4096 + n ≤ 4096) where
   here : stream_at (midway b slot s k).streams slot ≡ Some (longer s k)
   here = at_set b.streams slot s (Some (longer s k)) stands.1
 
@@ -61,33 +61,33 @@ module _ (b : Bare) (slot k n : ℕ) (s : BareStream) (stands : IsOpen b slot s)
   may_more low free = (omega arith, λ m wall. ⊎_elim (λ lt. lt) (λ ge. (let x = met m wall (omega arith) in absurd (free (x.0, x.1, x.2)))) (cases_lt (s.len + (k + n)) m))
 
   dropped : with_stream (midway b slot s k) slot None ≡ with_stream b slot None
-  dropped = ap (λ (xs : List (Option BareStream)). record b { streams = xs }) (set_again b.streams slot (Some (longer s k)) None)
+  dropped = ap (λ (xs : List (Option StreamFacts)). record b { streams = xs }) (set_again b.streams slot (Some (longer s k)) None)
 
   stopped : halted (midway b slot s k) ≡ halted b
-  stopped = ap (λ (xs : List (Option BareStream)). record b { stopped = true; streams = xs }) (closed_set b.streams slot (Some (longer s k)))
+  stopped = ap (λ (xs : List (Option StreamFacts)). record b { stopped = true; streams = xs }) (closed_set b.streams slot (Some (longer s k)))
 
   longer_yet : longer (longer s k) n ≡ longer s (k + n)
   longer_yet = ap (λ (len : ℕ). record s { len = len }) (add_assoc s.len k n)
 
   went_on : with_stream (midway b slot s k) slot (Some (longer (longer s k) n)) ≡ with_stream b slot (Some (longer s (k + n)))
   went_on =
-      ap (λ (xs : List (Option BareStream)). record b { streams = xs })
-      (set_again b.streams slot (Some (longer s k)) (Some (longer (longer s k) n)) ∙ ap (λ (t : BareStream). slice_set b.streams slot (Some t)) longer_yet)
+      ap (λ (xs : List (Option StreamFacts)). record b { streams = xs })
+      (set_again b.streams slot (Some (longer s k)) (Some (longer (longer s k) n)) ∙ ap (λ (t : StreamFacts). slice_set b.streams slot (Some t)) longer_yet)
 
-  which : (t : BareStream) → stream_at (midway b slot s k).streams slot ≡ Some t → t ≡ longer s k
+  which : (t : StreamFacts) → stream_at (midway b slot s k).streams slot ≡ Some t → t ≡ longer s k
   which t is = some_is t (longer s k) (sym is ∙ here)
 
-  pub piece_taken : (r : Result (Unit {0}) ArchiveFault) (new : Bare) → AdvanceStep (midway b slot s k) slot n r new → TakeStep b slot (k + n) r new
+  pub piece_taken : (r : Result (Unit {0}) ArchiveFault) (new : ArchiveState) → AdvanceStep (midway b slot s k) slot n r new → TakeStep b slot (k + n) r new
   piece_taken (Ok u) new step =
       let is = which step.0 step.1.1 in
-      let low : s.len + k + n ≤ b.limit = subst (λ (t : BareStream). t.len + n ≤ b.limit) is step.1.2 in
-      let free = subst (λ (t : BareStream). FindsNoBlock (midway b slot s k) t n → ⊥) is step.2 in
-      (s, stands, may_more low free, step.3 ∙ ap (λ (t : BareStream). with_stream (midway b slot s k) slot (Some (longer t n))) is ∙ went_on)
+      let low : s.len + k + n ≤ b.limit = subst (λ (t : StreamFacts). t.len + n ≤ b.limit) is step.1.2 in
+      let free = subst (λ (t : StreamFacts). FindsNoBlock (midway b slot s k) t n → ⊥) is step.2 in
+      (s, stands, may_more low free, step.3 ∙ ap (λ (t : StreamFacts). with_stream (midway b slot s k) slot (Some (longer t n))) is ∙ went_on)
   piece_taken (Err Stopped) new step = absurd (false≢true (sym stands.0 ∙ step.0))
   piece_taken (Err NoStream) new step = absurd (none_is (longer s k) (sym here ∙ step.1))
   piece_taken (Err TooLong) new step =
       let is = which step.0 step.2 in
-      let high : b.limit < s.len + k + n = subst (λ (t : BareStream). b.limit < t.len + n) is step.3 in (
+      let high : b.limit < s.len + k + n = subst (λ (t : StreamFacts). b.limit < t.len + n) is step.3 in (
         s,
         stands,
         omega arith,
@@ -96,8 +96,8 @@ module _ (b : Bare) (slot k n : ℕ) (s : BareStream) (stands : IsOpen b slot s)
       )
   piece_taken (Err SpaceFull) new step =
       let is = which step.0 step.1.1 in
-      let low : s.len + k + n ≤ b.limit = subst (λ (t : BareStream). t.len + n ≤ b.limit) is step.1.2 in
-      let none = subst (λ (t : BareStream). FindsNoBlock (midway b slot s k) t n) is step.2 in (
+      let low : s.len + k + n ≤ b.limit = subst (λ (t : StreamFacts). t.len + n ≤ b.limit) is step.1.2 in
+      let none = subst (λ (t : StreamFacts). FindsNoBlock (midway b slot s k) t n) is step.2 in (
         s,
         s.len + (k + n),
         stands,
@@ -108,13 +108,13 @@ module _ (b : Bare) (slot k n : ℕ) (s : BareStream) (stands : IsOpen b slot s)
       )
   piece_taken (Err OutOfMemory) new step =
       let is = which step.0 step.1.1 in
-      let low : s.len + k + n ≤ b.limit = subst (λ (t : BareStream). t.len + n ≤ b.limit) is step.1.2 in
-      let free = subst (λ (t : BareStream). FindsNoBlock (midway b slot s k) t n → ⊥) is step.2 in
+      let low : s.len + k + n ≤ b.limit = subst (λ (t : StreamFacts). t.len + n ≤ b.limit) is step.1.2 in
+      let free = subst (λ (t : StreamFacts). FindsNoBlock (midway b slot s k) t n → ⊥) is step.2 in
       (s, k + n, stands, omega arith, may_more low free, step.3 ∙ dropped)
   piece_taken (Err Disk) new step =
       let is = which step.0 step.1.1 in
-      let low : s.len + k + n ≤ b.limit = subst (λ (t : BareStream). t.len + n ≤ b.limit) is step.1.2 in
-      let free = subst (λ (t : BareStream). FindsNoBlock (midway b slot s k) t n → ⊥) is step.2 in
+      let low : s.len + k + n ≤ b.limit = subst (λ (t : StreamFacts). t.len + n ≤ b.limit) is step.1.2 in
+      let free = subst (λ (t : StreamFacts). FindsNoBlock (midway b slot s k) t n → ⊥) is step.2 in
       (s, k + n, stands, omega arith, may_more low free, step.3 ∙ stopped)
   piece_taken (Err BadSlot) new step = absurd step
   piece_taken (Err SlotBusy) new step = absurd step
@@ -125,15 +125,15 @@ module _ (b : Bare) (slot k n : ℕ) (s : BareStream) (stands : IsOpen b slot s)
   piece_taken (Err NumbersSpent) new step = absurd step
 
 -- the next piece of a part
-pub took_piece : (b mid new : Bare) (slot k n : ℕ) (u : Unit {0}) (r : Result (Unit {0}) ArchiveFault) → TakeStep b slot k (Ok u) mid → FitsBlock (stream_at mid.streams slot) n
+pub took_piece : (b mid new : ArchiveState) (slot k n : ℕ) (u : Unit {0}) (r : Result (Unit {0}) ArchiveFault) → TakeStep b slot k (Ok u) mid → FitsBlock (stream_at mid.streams slot) n
     → AdvanceStep mid slot n r new → TakeStep b slot (k + n) r new
 took_piece b mid new slot k n u r taken fits step =
-    let f = subst (λ (x : Bare). FitsBlock (stream_at x.streams slot) n) taken.3 fits in
-    let g : FitsBlock (Some (longer taken.0 k)) n = subst (λ (o : Option BareStream). FitsBlock o n) (at_set b.streams slot taken.0 (Some (longer taken.0 k)) taken.1.1) f in
-    piece_taken b slot k n taken.0 taken.1 taken.2 g r new (subst (λ (x : Bare). AdvanceStep x slot n r new) taken.3 step)
+    let f = subst (λ (x : ArchiveState). FitsBlock (stream_at x.streams slot) n) taken.3 fits in
+    let g : FitsBlock (Some (longer taken.0 k)) n = subst (λ (o : Option StreamFacts). FitsBlock o n) (at_set b.streams slot taken.0 (Some (longer taken.0 k)) taken.1.1) f in
+    piece_taken b slot k n taken.0 taken.1 taken.2 g r new (subst (λ (x : ArchiveState). AdvanceStep x slot n r new) taken.3 step)
 
 -- no byte yet
-pub took_none : (b new : Bare) (slot : ℕ) (r : Result (Unit {0}) ArchiveFault) → AdvanceStep b slot 0 r new → TakeStep b slot 0 r new
+pub took_none : (b new : ArchiveState) (slot : ℕ) (r : Result (Unit {0}) ArchiveFault) → AdvanceStep b slot 0 r new → TakeStep b slot 0 r new
 took_none b new slot (Ok u) step = (step.0, (step.1.0, step.1.1), (step.1.2, λ m wall. omega (arith, wall.1)), step.3)
 took_none b new slot (Err Stopped) step = step
 took_none b new slot (Err NoStream) step = step
@@ -150,7 +150,7 @@ took_none b new slot (Err JournalFull) step = absurd step
 took_none b new slot (Err NumbersSpent) step = absurd step
 
 -- a part that is refused stays so, however many bytes follow
-pub refused_yet : (b new : Bare) (slot k n : ℕ) (f : ArchiveFault) → TakeStep b slot k (Err f) new → TakeStep b slot (k + n) (Err f) new
+pub refused_yet : (b new : ArchiveState) (slot k n : ℕ) (f : ArchiveFault) → TakeStep b slot k (Err f) new → TakeStep b slot (k + n) (Err f) new
 refused_yet b new slot k n Stopped step = step
 refused_yet b new slot k n NoStream step = step
 refused_yet b new slot k n TooLong step = (step.0, step.1, omega (arith, step.2), step.3, step.4)

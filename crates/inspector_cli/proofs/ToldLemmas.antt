@@ -7,7 +7,7 @@ use Rattle.intake.specs.Parts.{Parts}
 use Rattle.stream_names.specs.declared.naming.Naming.{Naming}
 use Rattle.script_lines.specs.Said.{Said, silence}
 use Rattle.inspector_cli.specs.Stages.{Stage}
-use Rattle.inspector_cli.specs.Session.{Item, IsItem, spelled, Run, said_last, ending_text, AnswersAll, AnswersWhole, Closes}
+use Rattle.inspector_cli.specs.Session.{Item, IsItem, spelled, AnswersItems, said_last, ending_text, AnswersAll, AnswersWhole, DropsStreams}
 use Rattle.inspector_cli.specs.Stored.{IsToldAs}
 use Rattle.inspector_cli.specs.Told.{Answer, Answers, Session}
 
@@ -16,7 +16,7 @@ module _ {D : Type 0} (g : disk.Ghosts D) (naming : Naming) where
   Told old is out ss =
       (list : List Answer) × (map (λ (a : Answer). a.item) list ≡ is) × (flat_map (λ (a : Answer). a.reply) list ≡ out) × Answers g naming old list ss
 
-  told : (old : Stage D) (is : List Item) (out : List ℕ) (ss : List (Stage D)) → Run g naming old is out ss → Told old is out ss
+  told : (old : Stage D) (is : List Item) (out : List ℕ) (ss : List (Stage D)) → AnswersItems g naming old is out ss → Told old is out ss
   told old [] out [] run = ([], refl, sym run, tt)
   told old [] out (s ∷ ss) run = absurd run
   told old (i ∷ is) out [] run = absurd run
@@ -36,7 +36,7 @@ module _ {D : Type 0} (g : disk.Ghosts D) (naming : Naming) where
   IsSome read out old stages end new =
       (answers : List Answer) × (last : Said) × (reply : List ℕ) × IsToldAs g read out (session_of old stages end new answers last reply)
 
-  all_told : (read out : List ℕ) (old : Stage D) (stages : List (Stage D)) (end : Stage D) (new : Parts D) → AnswersAll g naming read out old stages end → Closes g end.archive new → IsSome read out old stages end new
+  all_told : (read out : List ℕ) (old : Stage D) (stages : List (Stage D)) (end : Stage D) (new : Parts D) → AnswersAll g naming read out old stages end → DropsStreams g end.archive new → IsSome read out old stages end new
   all_told read out old stages end new all closes =
       let t = told old all.items all.replies stages all.run in (
         t.0,
@@ -51,7 +51,7 @@ module _ {D : Type 0} (g : disk.Ghosts D) (naming : Naming) where
         },
       )
 
-  whole_told : (read out : List ℕ) (old : Stage D) (stages : List (Stage D)) (end : Stage D) (new : Parts D) → AnswersWhole g naming read out old stages end → Closes g end.archive new → IsSome read out old stages end new
+  whole_told : (read out : List ℕ) (old : Stage D) (stages : List (Stage D)) (end : Stage D) (new : Parts D) → AnswersWhole g naming read out old stages end → DropsStreams g end.archive new → IsSome read out old stages end new
   whole_told read out old stages end new whole closes =
       let t = told old whole.items out stages whole.run in (
         t.0,
@@ -67,6 +67,6 @@ module _ {D : Type 0} (g : disk.Ghosts D) (naming : Naming) where
       )
 
   pub session_told : (read out : List ℕ) (old : Stage D) (stages : List (Stage D)) (end : Stage D) (new : Parts D)
-      → AnswersAll g naming read out old stages end ⊎ AnswersWhole g naming read out old stages end → Closes g end.archive new → IsSome read out old stages end new
+      → AnswersAll g naming read out old stages end ⊎ AnswersWhole g naming read out old stages end → DropsStreams g end.archive new → IsSome read out old stages end new
   session_told read out old stages end new answers closes =
       ⊎_elim (λ all. all_told read out old stages end new all closes) (λ whole. whole_told read out old stages end new whole closes) answers

@@ -41,19 +41,19 @@ GivesBytes r given = Gives r.before r.after r.buffer r.buffer' given
 abbrev pub IsReadUp : Reading → Type 0
 IsReadUp r = IsUsedUp r.after r.buffer'
 
--- so many bytes of a part are thrown away, up to the number that is wanted, or they end
+-- n bytes of a part are thrown away, up to the number that is wanted, or they end
 abbrev pub SkipEnds : Reading → ℕ → Result ℕ ReadStop → Type 0
 SkipEnds r most (Ok n) = (raw : List ℕ) × (length raw ≡ n) × (n ≤ most) × GivesBytes r raw × (n ≡ 0 → IsReadUp r)
 SkipEnds r most (Err stop) = GivesBytes r [] × (held_bytes r.buffer' ≡ [])
 
--- so many bytes of a part are taken, up to the number that is wanted, or they end
+-- a number of bytes of a part is taken, up to the number that is wanted, or they end
 abbrev pub PieceEnds : {D : Type 0} → disk.Ghosts D → Reading → Parts D → ℕ → List ℕ → ℕ → Result (Unit {0}) ArchiveFault → Parts D → Result (ℕ × Result (Unit {0}) ArchiveFault) ReadStop → Type 0
 PieceEnds g r begun slot so_far most verdict new (Ok x) =
     (raw : List ℕ) × (length raw ≡ x.0) × (x.0 ≤ most) × GivesBytes r raw × (x.0 ≡ 0 → IsReadUp r) × Takes g begun slot (so_far ++ raw) x.1 new
 PieceEnds g r begun slot so_far most verdict new (Err stop) =
     GivesBytes r [] × (held_bytes r.buffer' ≡ []) × Takes g begun slot so_far verdict new
 
--- the bytes of a part are taken; so many of them are missing where the input ended
+-- the bytes of a part are taken; it is told how many of them are missing where the input ended
 abbrev pub PartEnds : {D : Type 0} → disk.Ghosts D → Reading → Parts D → ℕ → ℕ → Parts D → Result (ℕ × Result (Unit {0}) ArchiveFault) ReadStop → Type 0
 PartEnds g r old slot count new (Ok x) =
     (raw : List ℕ) × (length raw + x.0 ≡ count) × GivesBytes r raw × (x.0 ≢ 0 → IsReadUp r) × Takes g old slot raw x.1 new

@@ -5,7 +5,7 @@ use Rattle.journal_layout.specs.declared.faults.OpenFault.{OpenFault}
 use Rattle.journal_layout.specs.declared.faults.OpenFault.TheVariants as fault
 use Rattle.intake.specs.Calls.{OpenCall}
 use Rattle.intake.specs.Durable.{Durable, StandsFor}
-use Rattle.intake.specs.Marks.{IsSettled, mark_of}
+use Rattle.intake.specs.Marks.{IsMarkSettled, mark_of}
 use Rattle.intake.specs.Parts.{Parts}
 use Rattle.stream_names.specs.declared.naming.Naming.{Naming}
 use Rattle.inspector_cli.specs.declared.session.SessionFault.{SessionFault}
@@ -16,13 +16,13 @@ use Rattle.inspector_cli.specs.Session.{Streams, SessionEnds}
 use Rattle.inspector_cli.specs.Storing.{StoreEnds}
 
 -- The opening with all that it promises, of its moments too; and what was done over the archive that it answered.
-pub record Lives {D : Type 0} (g : disk.Ghosts D) (limit : ℕ) (before after : D) (Goes : Parts D → Parts D → Type 0) : Type 0 where
+pub record OpensThen {D : Type 0} (g : disk.Ghosts D) (limit : ℕ) (before after : D) (Goes : Parts D → Parts D → Type 0) : Type 0 where
   pub opened : Parts D
   -- exactly the archive that the disk stood for: its cases, its shape and the bytes of its journal that are in use; its limit
   -- is the one that was given, and no stream is open; a crash meanwhile leaves what one before could have left
   pub opening : OpenCall g limit before (Ok opened)
   -- a crash from then on leaves that
-  pub settled : IsTrue (g.is_honest before) → IsSettled g (mark_of g.seen opened [])
+  pub settled : IsTrue (g.is_honest before) → IsMarkSettled g (mark_of g.seen opened [])
   pub closed : Parts D
   pub disk : after ≡ closed.disk
   pub goes : Goes opened closed
@@ -30,7 +30,7 @@ pub record Lives {D : Type 0} (g : disk.Ghosts D) (limit : ℕ) (before after : 
 -- The opening is refused by the first check of the layout that fails, or the disk or the memory failed: Disk only where the
 -- count of failures rose. The disk that is handed back reads as it did, and a crash meanwhile leaves what one before could
 -- have left.
-pub record IsRefused {D : Type 0} (g : disk.Ghosts D) (limit : ℕ) (before after : D) (f : OpenFault) : Type 0 where
+pub record IsOpeningRefused {D : Type 0} (g : disk.Ghosts D) (limit : ℕ) (before after : D) (f : OpenFault) : Type 0 where
   pub opening : OpenCall g limit before (Err (f, after))
   -- where the disk stood for an archive, nothing but the disk and the memory refuses it
   pub kind : (x : Durable) → IsTrue (g.is_honest before) → StandsFor (g.seen before) x → (f ≡ fault.Disk) ⊎ (f ≡ fault.OutOfMemory)
@@ -41,9 +41,9 @@ IsUntouched t = (t.input' ≡ t.input) × (t.fails' ≡ t.fails) × (t.taken' �
 
 -- From the opening of an archive on: what goes on over it by its answer, or why it was not opened.
 abbrev pub LifeEnds : {D : Type 0} {T : Type 0} → disk.Ghosts D → ℕ → Streams → D → Result T LifeFault → D → (Result T SessionFault → Parts D → Parts D → Type 0) → Type 0
-LifeEnds g limit t before (Ok x) after Goes = Lives g limit before after (Goes (Ok x))
-LifeEnds g limit t before (Err (Session f)) after Goes = Lives g limit before after (Goes (Err f))
-LifeEnds g limit t before (Err (Open f)) after Goes = IsRefused g limit before after f × IsUntouched t
+LifeEnds g limit t before (Ok x) after Goes = OpensThen g limit before after (Goes (Ok x))
+LifeEnds g limit t before (Err (Session f)) after Goes = OpensThen g limit before after (Goes (Err f))
+LifeEnds g limit t before (Err (Open f)) after Goes = IsOpeningRefused g limit before after f × IsUntouched t
 
 -- a session over an archive behind which nothing is in doubt
 abbrev pub RunsOver : {D : Type 0} → disk.Ghosts D → Naming → Streams → Result (Unit {0}) SessionFault → Parts D → Parts D → Type 0

@@ -4,8 +4,8 @@ use Rattle.disk_model.specs.declared.disk.Disk as disk
 use Rattle.journal_layout.specs.declared.faults.OpenFault.TheVariants as fault
 use Rattle.journal_layout.specs.declared.shape.Shape.{Shape}
 use Rattle.journal_layout.specs.Layout.{IsWithinLimits}
-use Rattle.intake.specs.Parts.{Parts, bare_of}
-use Rattle.intake.specs.State.{Bare}
+use Rattle.intake.specs.Parts.{Parts, state_of}
+use Rattle.intake.specs.State.{ArchiveState}
 use Rattle.stream_names.specs.declared.naming.Naming.{Naming}
 use Rattle.inspector_cli.specs.declared.session.LifeFault.TheVariants.{Open, Session}
 use Rattle.inspector_cli.specs.declared.session.MemoryFault.{MemoryFault}
@@ -14,7 +14,7 @@ use Rattle.inspector_cli.specs.Session.{Streams}
 use Rattle.inspector_cli.specs.Life.{IsUntouched, RunsOver}
 
 -- an archive of this shape with no case, that has just been opened
-abbrev pub fresh_archive : Shape → ℕ → Bare
+abbrev pub fresh_archive : Shape → ℕ → ArchiveState
 fresh_archive shape limit = record {
   shape = shape;
   limit = limit;
@@ -30,7 +30,7 @@ fresh_archive shape limit = record {
 pub record OverFresh {D : Type 0} (g : disk.Ghosts D) (shape : Shape) (limit : ℕ) (Goes : Parts D → Parts D → Type 0) : Type 0 where
   pub opened : Parts D
   pub honest : IsTrue (g.is_honest opened.disk)
-  pub fresh : bare_of opened ≡ fresh_archive shape limit
+  pub fresh : state_of opened ≡ fresh_archive shape limit
   pub closed : Parts D
   pub goes : Goes opened closed
 

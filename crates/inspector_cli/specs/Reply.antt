@@ -8,11 +8,11 @@ use Rattle.intake.specs.declared.faults.ArchiveFault.{ArchiveFault}
 use Rattle.intake.specs.declared.space.Space.{Space}
 use Rattle.intake.specs.declared.faults.ArchiveFault.TheVariants.{Stopped, NoStream, TooLong, SpaceFull, OutOfMemory, Disk}
 use Rattle.disk_model.specs.declared.disk.Disk as disk
-use Rattle.intake.specs.Calls.{Stays, HasDiskCause, BeginCall, AbandonCall, FinishCall, DeleteCall, PinCall, RetireCall}
+use Rattle.intake.specs.Calls.{ChangesNoCase, HasDiskCause, BeginCall, AbandonCall, FinishCall, DeleteCall, PinCall, RetireCall}
 use Rattle.intake.specs.Contents.{Contents, Taken, RefusedBytes, with_taken}
-use Rattle.intake.specs.Parts.{Parts, bare_of, contents_of}
+use Rattle.intake.specs.Parts.{Parts, state_of, contents_of}
 use Rattle.intake.specs.Slots.{stream_at}
-use Rattle.intake.specs.State.{Bare, BareCase, BareStream, blocks_in}
+use Rattle.intake.specs.State.{ArchiveState, CaseFacts, StreamFacts, blocks_in}
 use Rattle.intake.specs.Step.{FreeReply, with_stream, halted, longer}
 use Rattle.retention.specs.declared.Decision.{Decision}
 use Rattle.retention.specs.declared.Policy.{Policy}
@@ -23,40 +23,40 @@ use Rattle.case_queries.specs.Inspecting.{Inspects}
 use Rattle.script_lines.specs.Said.{Said, ProcessSaid, silence, bad_line, long_line, begin_exec, begin_core, part_of, end_of, drop_of, delete_of, pin_of, retire_by, list_all_cases, count_free, inspect_of}
 
 -- `begin`: what is wrong with the name comes first. It is accepted or not.
-abbrev pub Begins : {D : Type 0} → disk.Ghosts D → Parts D → ℕ → Result BareStream (List ℕ) → List ℕ → Parts D → Bool → Type 0
+abbrev pub Begins : {D : Type 0} → disk.Ghosts D → Parts D → ℕ → Result StreamFacts (List ℕ) → List ℕ → Parts D → Bool → Type 0
 Begins g old slot (Err reason) reply new accepted = (reply ≡ no_reply reason) × (new ≡ old) × (accepted ≡ false)
 Begins g old slot (Ok stream) reply new accepted =
     (result : Result (Unit {0}) ArchiveFault) × BeginCall g old slot stream result new × (reply ≡ begin_reply stream.name result) × (accepted ≡ is_ok result)
 
 -- the bytes of a stream at which the next block that it fills would find none free: m is the first multiple of 4,096 above
 -- its length for which the blocks in use, and those that it fills before m, are all that there are
-abbrev pub IsWall : Bare → BareStream → ℕ → Type 0
+abbrev pub IsWall : ArchiveState → StreamFacts → ℕ → Type 0
 IsWall s stream m =
     (m % 4096 ≡ 0) × (stream.len < m) × (blocks_in s + m / 4096 ≡ s.shape.data_blocks + stream.len / 4096 + 1)
 
 -- n bytes more can be taken, whatever pieces they come in
-abbrev pub MayTake : Bare → BareStream → ℕ → Type 0
+abbrev pub MayTake : ArchiveState → StreamFacts → ℕ → Type 0
 MayTake s stream n = (stream.len + n ≤ s.limit) × ((m : ℕ) → IsWall s stream m → stream.len + n < m)
 
 -- the stream stands in its slot
-abbrev pub IsOpen : Bare → ℕ → BareStream → Type 0
+abbrev pub IsOpen : ArchiveState → ℕ → StreamFacts → Type 0
 IsOpen s slot stream = (s.stopped ≡ false) × (stream_at s.streams slot ≡ Some stream)
 
 -- n bytes more as one step, whatever pieces they come in: of the limit and the full disk that is told which the bytes meet
 -- first. Where memory or the disk failed, that was while some of them were taken.
-abbrev pub TakeStep : Bare → ℕ → ℕ → Result (Unit {0}) ArchiveFault → Bare → Type 0
+abbrev pub TakeStep : ArchiveState → ℕ → ℕ → Result (Unit {0}) ArchiveFault → ArchiveState → Type 0
 TakeStep old slot n (Ok u) new =
-    (s : BareStream) × IsOpen old slot s × MayTake old s n × (new ≡ with_stream old slot (Some (longer s n)))
+    (s : StreamFacts) × IsOpen old slot s × MayTake old s n × (new ≡ with_stream old slot (Some (longer s n)))
 TakeStep old slot n (Err Stopped) new = (old.stopped ≡ true) × (new ≡ old)
 TakeStep old slot n (Err NoStream) new = (old.stopped ≡ false) × (stream_at old.streams slot ≡ None) × (new ≡ old)
 TakeStep old slot n (Err TooLong) new =
-    (s : BareStream) × IsOpen old slot s × (old.limit < s.len + n) × ((m : ℕ) → IsWall old s m → old.limit < m) × (new ≡ with_stream old slot None)
+    (s : StreamFacts) × IsOpen old slot s × (old.limit < s.len + n) × ((m : ℕ) → IsWall old s m → old.limit < m) × (new ≡ with_stream old slot None)
 TakeStep old slot n (Err SpaceFull) new =
-    (s : BareStream) × (m : ℕ) × IsOpen old slot s × IsWall old s m × (m ≤ s.len + n) × (m ≤ old.limit) × (new ≡ with_stream old slot None)
+    (s : StreamFacts) × (m : ℕ) × IsOpen old slot s × IsWall old s m × (m ≤ s.len + n) × (m ≤ old.limit) × (new ≡ with_stream old slot None)
 TakeStep old slot n (Err OutOfMemory) new =
-    (s : BareStream) × (k : ℕ) × IsOpen old slot s × (k ≤ n) × MayTake old s k × (new ≡ with_stream old slot None)
+    (s : StreamFacts) × (k : ℕ) × IsOpen old slot s × (k ≤ n) × MayTake old s k × (new ≡ with_stream old slot None)
 TakeStep old slot n (Err Disk) new =
-    (s : BareStream) × (k : ℕ) × IsOpen old slot s × (k ≤ n) × MayTake old s k × (new ≡ halted old)
+    (s : StreamFacts) × (k : ℕ) × IsOpen old slot s × (k ≤ n) × MayTake old s k × (new ≡ halted old)
 TakeStep old slot n (Err _) new = ⊥
 
 -- the bytes of a stream once these were taken; what stands behind them in its block is left open
@@ -67,10 +67,10 @@ TakeBytes old slot raw (Err f) new = RefusedBytes old slot f new
 
 -- these bytes are taken as one step
 pub record Takes {D : Type 0} (g : disk.Ghosts D) (old : Parts D) (slot : ℕ) (raw : List ℕ) (r : Result (Unit {0}) ArchiveFault) (new : Parts D) : Type 0 where
-  pub step : TakeStep (bare_of old) slot (length raw) r (bare_of new)
+  pub step : TakeStep (state_of old) slot (length raw) r (state_of new)
   pub bytes : IsTrue (g.is_honest old.disk) → TakeBytes (contents_of g.seen old) slot raw r (contents_of g.seen new)
   pub cause : HasDiskCause g old r new
-  pub stays : Stays g old new
+  pub stays : ChangesNoCase g old new
 
 -- `part`: its bytes are taken
 abbrev pub Feeds : {D : Type 0} → disk.Ghosts D → Parts D → ℕ → List ℕ → List ℕ → Parts D → Type 0
@@ -95,7 +95,7 @@ abbrev pub Retires : {D : Type 0} → disk.Ghosts D → Parts D → Policy → L
 Retires g old policy reply new = (result : Result Decision ArchiveFault) × RetireCall g old policy result new × (reply ≡ retire_reply result)
 
 abbrev pub Frees : {D : Type 0} → Parts D → List ℕ → Parts D → Type 0
-Frees old reply new = (result : Result Space ArchiveFault) × FreeReply (bare_of old) result × (reply ≡ free_reply result) × (new ≡ old)
+Frees old reply new = (result : Result Space ArchiveFault) × FreeReply (state_of old) result × (reply ≡ free_reply result) × (new ≡ old)
 
 -- the reply, and the archive behind it, where these bytes stood behind the line, as many as it says
 abbrev pub Replies : {D : Type 0} → disk.Ghosts D → Naming → Parts D → Said → List ℕ → List ℕ → Parts D → Type 0
@@ -110,6 +110,6 @@ Replies g naming old (drop_of slot) raw reply new = Drops g old slot reply new
 Replies g naming old (delete_of seq) raw reply new = Deletes g old seq reply new
 Replies g naming old (pin_of seq flag) raw reply new = Pins g old seq flag reply new
 Replies g naming old (retire_by policy) raw reply new = Retires g old policy reply new
-Replies g naming old list_all_cases raw reply new = (reply ≡ list_reply (bare_of old).stopped (bare_of old).cases) × (new ≡ old)
+Replies g naming old list_all_cases raw reply new = (reply ≡ list_reply (state_of old).stopped (state_of old).cases) × (new ≡ old)
 Replies g naming old count_free raw reply new = Frees old reply new
 Replies g naming old (inspect_of seq query) raw reply new = Inspects g old seq query reply new

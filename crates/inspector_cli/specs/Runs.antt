@@ -3,21 +3,21 @@ use Rattle.std.specs.Prelude.{◌≡◌, ◌⊎◌, ℕ, false, List, [], ◌++�
 use Rattle.std.specs.List.{AllByRecursion}
 use Rattle.disk_model.specs.declared.disk.Disk as disk
 use Rattle.intake.specs.Lives.{Life, IsLived}
-use Rattle.intake.specs.Marks.{Run, IsSettled}
+use Rattle.intake.specs.Marks.{IsRunOfMarks, IsMarkSettled}
 use Rattle.intake.specs.Parts.{Parts}
 use Rattle.stream_names.specs.declared.naming.Naming.{Naming}
 use Rattle.inspector_cli.specs.Stages.{Stage, mark_at, marks_of}
-use Rattle.inspector_cli.specs.Session.{AnswersAll, AnswersWhole, Closes}
+use Rattle.inspector_cli.specs.Session.{AnswersAll, AnswersWhole, DropsStreams}
 
 -- The stages of a whole script, of its end, and of the archive when its streams are dropped are marks of a run.
 abbrev pub WholeIsARun : {D : Type 0} → disk.Ghosts D → Type 0
 WholeIsARun {D} g = (naming : Naming) (read out : List ℕ) (old : Stage D) (stages : List (Stage D)) (end : Stage D) (new : Parts D)
-    → AnswersAll g naming read out old stages end → Closes g end.archive new → Run g (mark_at g.seen old) (marks_of g.seen stages end new)
+    → AnswersAll g naming read out old stages end → DropsStreams g end.archive new → IsRunOfMarks g (mark_at g.seen old) (marks_of g.seen stages end new)
 
 -- So are those of a script that could not be read on.
 abbrev pub FrontIsARun : {D : Type 0} → disk.Ghosts D → Type 0
 FrontIsARun {D} g = (naming : Naming) (read out : List ℕ) (old : Stage D) (stages : List (Stage D)) (end : Stage D) (new : Parts D)
-    → AnswersWhole g naming read out old stages end → Closes g end.archive new → Run g (mark_at g.seen old) (marks_of g.seen stages end new)
+    → AnswersWhole g naming read out old stages end → DropsStreams g end.archive new → IsRunOfMarks g (mark_at g.seen old) (marks_of g.seen stages end new)
 
 -- nothing is in doubt, unless a disk fault has stopped the archive
 abbrev pub IsClear : {D : Type 0} → Stage D → Type 0
@@ -35,5 +35,5 @@ IsLifeOf seen old stages end new l = (l.first ≡ mark_at seen old) × (l.acknow
 -- From an opening of an honest disk on it is lived, wherever the acknowledged marks end: so sessions with stops between them
 -- are lives that are kept.
 abbrev pub SessionsAreLived : {D : Type 0} → disk.Ghosts D → Type 0
-SessionsAreLived {D} g = (naming : Naming) (read out : List ℕ) (old : Stage D) (stages : List (Stage D)) (end : Stage D) (new : Parts D) (l : Life D) → IsTrue (g.is_honest old.archive.disk) → IsSettled g (mark_at g.seen old)
-    → AnswersAll g naming read out old stages end ⊎ AnswersWhole g naming read out old stages end → Closes g end.archive new → IsLifeOf g.seen old stages end new l → IsLived g l
+SessionsAreLived {D} g = (naming : Naming) (read out : List ℕ) (old : Stage D) (stages : List (Stage D)) (end : Stage D) (new : Parts D) (l : Life D) → IsTrue (g.is_honest old.archive.disk) → IsMarkSettled g (mark_at g.seen old)
+    → AnswersAll g naming read out old stages end ⊎ AnswersWhole g naming read out old stages end → DropsStreams g end.archive new → IsLifeOf g.seen old stages end new l → IsLived g l

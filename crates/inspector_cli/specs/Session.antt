@@ -4,10 +4,10 @@ use Rattle.std.specs.List.{flat_map, AllByRecursion}
 use Rattle.std.specs.Io.KnownBytes.{Consumes, Appends, IsAtEnd}
 use Rattle.intake.specs.declared.faults.ArchiveFault.{ArchiveFault}
 use Rattle.disk_model.specs.declared.disk.Disk as disk
-use Rattle.intake.specs.Calls.{Stays, AbandonCall}
-use Rattle.intake.specs.Parts.{Parts, bare_of}
+use Rattle.intake.specs.Calls.{ChangesNoCase, AbandonCall}
+use Rattle.intake.specs.Parts.{Parts, state_of}
 use Rattle.intake.specs.Slots.{stream_at}
-use Rattle.intake.specs.State.{Bare}
+use Rattle.intake.specs.State.{ArchiveState}
 use Rattle.failure_count.specs.Counts.{HasRisen}
 use Rattle.script_streams.specs.declared.streams.Input as input
 use Rattle.script_streams.specs.declared.streams.Output as output
@@ -53,13 +53,13 @@ IsEnding (last_line line) = IsLine line × (0 < length line)
 IsEnding (cut_part line raw) = IsLine line × (length raw < raw_length (said line))
 
 -- The replies to items, one behind the other, and how the archive stands behind each.
-abbrev pub Run : {D : Type 0} → disk.Ghosts D → Naming → Stage D → List Item → List ℕ → List (Stage D) → Type 0
-Run g naming old [] out [] = out ≡ []
-Run g naming old [] out (s ∷ ss) = ⊥
-Run g naming old (i ∷ is) out [] = ⊥
-Run g naming old (i ∷ is) out (s ∷ ss) =
+abbrev pub AnswersItems : {D : Type 0} → disk.Ghosts D → Naming → Stage D → List Item → List ℕ → List (Stage D) → Type 0
+AnswersItems g naming old [] out [] = out ≡ []
+AnswersItems g naming old [] out (s ∷ ss) = ⊥
+AnswersItems g naming old (i ∷ is) out [] = ⊥
+AnswersItems g naming old (i ∷ is) out (s ∷ ss) =
     (reply : List ℕ) × (more : List ℕ) × Replies g naming old.archive (said i.line) i.raw reply s.archive × Moves g old (said i.line) reply s
-    × Run g naming s is more ss × (out ≡ reply ++ more)
+    × AnswersItems g naming s is more ss × (out ≡ reply ++ more)
 
 -- how it stands behind the last of them
 abbrev pub last_stage : {D : Type 0} → Stage D → List (Stage D) → Stage D
@@ -97,7 +97,7 @@ pub record AnswersAll {D : Type 0} (g : disk.Ghosts D) (naming : Naming) (read o
   pub ends : IsEnding ending
   pub cut : read ≡ flat_map spelled items ++ ending_text ending
   pub replies : List ℕ
-  pub run : Run g naming old items replies stages
+  pub run : AnswersItems g naming old items replies stages
   pub last : List ℕ
   pub final : EndReplies g naming (last_stage old stages).archive ending last new.archive
   pub moves : Moves g (last_stage old stages) (said_last ending) last new
@@ -120,19 +120,19 @@ pub record AnswersWhole {D : Type 0} (g : disk.Ghosts D) (naming : Naming) (read
   pub each : AllByRecursion IsItem items
   pub rest : List ℕ
   pub cut : read ≡ flat_map spelled items ++ rest
-  pub run : Run g naming old items out stages
+  pub run : AnswersItems g naming old items out stages
   pub broken : BreaksOff g (last_stage old stages).archive rest new.archive
   pub moves : Moves g (last_stage old stages) silence [] new
 
 -- no stream is open in any slot
-abbrev pub IsQuiet : Bare → Type 0
-IsQuiet s = (slot : ℕ) → stream_at s.streams slot ≡ None
+abbrev pub HasNoStream : ArchiveState → Type 0
+HasNoStream s = (slot : ℕ) → stream_at s.streams slot ≡ None
 
 -- the streams are dropped, and nothing else is
-pub record Closes {D : Type 0} (g : disk.Ghosts D) (old new : Parts D) : Type 0 where
-  pub quiet : IsQuiet (bare_of new)
-  pub kept : bare_of new ≡ record (bare_of old) { streams = (bare_of new).streams }
-  pub stays : Stays g old new
+pub record DropsStreams {D : Type 0} (g : disk.Ghosts D) (old new : Parts D) : Type 0 where
+  pub quiet : HasNoStream (state_of new)
+  pub kept : state_of new ≡ record (state_of old) { streams = (state_of new).streams }
+  pub stays : ChangesNoCase g old new
 
 -- what the streams of a session are before and after it
 pub record Streams : Type 0 where
@@ -164,16 +164,16 @@ streams_of i o input input' output output' = record {
 abbrev pub SessionEnds : {D : Type 0} → disk.Ghosts D → Naming → Streams → Stage D → Parts D → Result (Unit {0}) SessionFault → Type 0
 SessionEnds {D} g naming t old new (Ok u) =
     (read : List ℕ) × (out : List ℕ) × (stages : List (Stage D)) × (end : Stage D) × Consumes t.input t.input' read × IsAtEnd t.input' × Appends t.taken t.taken' out
-    × AnswersAll g naming read out old stages end × Closes g end.archive new × IsFoundAfterAStop g old stages end new
+    × AnswersAll g naming read out old stages end × DropsStreams g end.archive new × IsFoundAfterAStop g old stages end new
 SessionEnds {D} g naming t old new (Err ReadFailed) =
     (read : List ℕ) × (out : List ℕ) × (stages : List (Stage D)) × (end : Stage D) × Consumes t.input t.input' read × Appends t.taken t.taken' out
-    × AnswersWhole g naming read out old stages end × Closes g end.archive new × IsFoundAfterAStop g old stages end new × HasRisen t.fails t.fails'
+    × AnswersWhole g naming read out old stages end × DropsStreams g end.archive new × IsFoundAfterAStop g old stages end new × HasRisen t.fails t.fails'
 SessionEnds {D} g naming t old new (Err TooManyReads) =
     (read : List ℕ) × (out : List ℕ) × (stages : List (Stage D)) × (end : Stage D) × Consumes t.input t.input' read × Appends t.taken t.taken' out
-    × AnswersWhole g naming read out old stages end × Closes g end.archive new × IsFoundAfterAStop g old stages end new × (2 ^ 40 ≤ length read)
+    × AnswersWhole g naming read out old stages end × DropsStreams g end.archive new × IsFoundAfterAStop g old stages end new × (2 ^ 40 ≤ length read)
 SessionEnds {D} g naming t old new (Err WriteFailed) =
     (read : List ℕ) × (more : List ℕ) × (out : List ℕ) × (rest : List ℕ) × (stages : List (Stage D)) × (end : Stage D)
     × Consumes t.input t.input' (read ++ more) × Appends t.taken t.taken' out
     × ((AnswersAll g naming read (out ++ rest) old stages end × (more ≡ []))
     ⊎ ((w : AnswersWhole g naming read (out ++ rest) old stages end) × ((more ≡ []) ⊎ (w.rest ≡ []))))
-    × Closes g end.archive new × IsFoundAfterAStop g old stages end new × HasRisen t.lost t.lost'
+    × DropsStreams g end.archive new × IsFoundAfterAStop g old stages end new × HasRisen t.lost t.lost'

@@ -4,8 +4,8 @@ use Rattle.std.specs.List.{AllByRecursion}
 use Rattle.disk_model.specs.declared.disk.Disk as disk
 use Rattle.intake.specs.Durable.{Durable, durable_of, without, flagged}
 use Rattle.intake.specs.Guarding.{MayBeStored, MayBeRetired}
-use Rattle.intake.specs.Marks.{Mark, Passes, IsSettled, IsFoundSince, mark_of}
-use Rattle.intake.specs.Parts.{Parts, bare_of, contents_of}
+use Rattle.intake.specs.Marks.{Mark, Passes, IsMarkSettled, IsFoundSince, mark_of}
+use Rattle.intake.specs.Parts.{Parts, state_of, contents_of}
 use Rattle.script_lines.specs.Said.{Said, end_of, delete_of, pin_of, retire_by}
 use Rattle.script_streams.specs.Replies.{no_reply}
 
@@ -20,10 +20,10 @@ mark_at seen s = mark_of seen s.archive s.in_doubt
 
 -- what a line would have left, had the disk not failed
 abbrev pub MayLeave : {D : Type 0} → disk.Ghosts D → Parts D → Said → Durable → Type 0
-MayLeave g old (end_of slot) x = MayBeStored (bare_of old) (contents_of g.seen old) (durable_of g.seen old) slot x
+MayLeave g old (end_of slot) x = MayBeStored (state_of old) (contents_of g.seen old) (durable_of g.seen old) slot x
 MayLeave g old (delete_of seq) x = x ≡ without (durable_of g.seen old) (seq ∷ [])
 MayLeave g old (pin_of seq flag) x = x ≡ flagged (durable_of g.seen old) seq flag
-MayLeave g old (retire_by policy) x = MayBeRetired (bare_of old) policy (durable_of g.seen old) x
+MayLeave g old (retire_by policy) x = MayBeRetired (state_of old) policy (durable_of g.seen old) x
 MayLeave g old _ x = ⊥
 
 -- A line leads from stage to stage: a crash meanwhile leaves what one before could have left, or what one of the two has.
@@ -42,4 +42,4 @@ marks_of seen stages end new = map (mark_at seen) stages ++ mark_at seen end ∷
 -- the cases of that stage or of a later one, each image byte for byte; or what is in doubt there.
 abbrev pub IsFoundAfterAStop : {D : Type 0} → disk.Ghosts D → Stage D → List (Stage D) → Stage D → Parts D → Type 0
 IsFoundAfterAStop g old stages end new =
-    IsTrue (g.is_honest old.archive.disk) → IsSettled g (mark_at g.seen old) → IsFoundSince g (mark_at g.seen old) (marks_of g.seen stages end new)
+    IsTrue (g.is_honest old.archive.disk) → IsMarkSettled g (mark_at g.seen old) → IsFoundSince g (mark_at g.seen old) (marks_of g.seen stages end new)

@@ -6,13 +6,13 @@ use Rattle.intake.specs.Calls.{OpenCall}
 use Rattle.intake.specs.Durable.{Durable, FoundCase, StandsFor}
 use Rattle.intake.specs.Lives.{Life, AreLived, IsAmong, last_acknowledged}
 use Rattle.intake.specs.Marks.{last_of}
-use Rattle.intake.specs.Parts.{Parts, bare_of}
+use Rattle.intake.specs.Parts.{Parts, state_of}
 use Rattle.stream_names.specs.declared.naming.Naming.{Naming}
 use Rattle.script_lines.specs.Said.{Said, end_of}
 use Rattle.archive_replies.specs.Texts.{end_reply}
 use Rattle.inspector_cli.specs.Runs.{IsLifeOf}
 use Rattle.inspector_cli.specs.Stages.{Stage}
-use Rattle.inspector_cli.specs.Session.{IsItem, spelled, AnswersAll, AnswersWhole, Closes, IsQuiet}
+use Rattle.inspector_cli.specs.Session.{IsItem, spelled, AnswersAll, AnswersWhole, DropsStreams, HasNoStream}
 use Rattle.inspector_cli.specs.Told.{Answer, Session, IsHad, MayDrop, Spare, what_of, parts_in, commands_of, text_of}
 
 -- A session that was answered, to its end or as far as it could be read, is one with a reply to each command: its commands are
@@ -26,7 +26,7 @@ pub record IsToldAs {D : Type 0} (g : disk.Ghosts D) (read out : List ℕ) (s : 
 
 abbrev pub SessionsAreTold : {D : Type 0} → disk.Ghosts D → Type 0
 SessionsAreTold {D} g = (naming : Naming) (read out : List ℕ) (old : Stage D) (stages : List (Stage D)) (end : Stage D) (new : Parts D)
-    → AnswersAll g naming read out old stages end ⊎ AnswersWhole g naming read out old stages end → Closes g end.archive new
+    → AnswersAll g naming read out old stages end ⊎ AnswersWhole g naming read out old stages end → DropsStreams g end.archive new
     → (answers : List Answer) × (last : Said) × (reply : List ℕ)
     × IsToldAs g read out (record { naming = naming; first = old; answers = answers; stages = stages; last = last; reply = reply; end = end; closed = new })
 
@@ -43,12 +43,12 @@ pub record Stored {D : Type 0} (s : Session D) (n : ℕ) : Type 0 where
 
 -- no stream is open when the session begins, and nothing is in doubt
 pub record IsFresh {D : Type 0} (s : Session D) : Type 0 where
-  pub quiet : IsQuiet (bare_of s.first.archive)
+  pub quiet : HasNoStream (state_of s.first.archive)
   pub clear : s.first.in_doubt ≡ []
 
 -- So it is when an archive has been opened.
 abbrev pub AnOpeningIsQuiet : {D : Type 0} → disk.Ghosts D → Type 0
-AnOpeningIsQuiet {D} g = (limit : ℕ) (before : D) (a : Parts D) → OpenCall g limit before (Ok a) → IsQuiet (bare_of a)
+AnOpeningIsQuiet {D} g = (limit : ℕ) (before : D) (a : Parts D) → OpenCall g limit before (Ok a) → HasNoStream (state_of a)
 
 -- the case of this number is there, and its image is these bytes
 abbrev pub HasImage : ℕ → List ℕ → Durable → Type 0

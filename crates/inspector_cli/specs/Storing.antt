@@ -3,11 +3,11 @@ use Rattle.std.specs.Prelude.{◌≡◌, ◌⊎◌, ℕ, ◌^◌, ◌<◌, ◌�
 use Rattle.std.specs.Io.KnownBytes.{Consumes, Appends, IsAtEnd}
 use Rattle.intake.specs.declared.faults.ArchiveFault.{ArchiveFault}
 use Rattle.disk_model.specs.declared.disk.Disk as disk
-use Rattle.intake.specs.Calls.{Stays, AbandonCall}
+use Rattle.intake.specs.Calls.{ChangesNoCase, AbandonCall}
 use Rattle.intake.specs.Durable.{Durable}
 use Rattle.intake.specs.Parts.{Parts}
 use Rattle.intake.specs.Slots.{stream_at}
-use Rattle.intake.specs.State.{Bare, BareStream}
+use Rattle.intake.specs.State.{ArchiveState, StreamFacts}
 use Rattle.failure_count.specs.Counts.{HasRisen}
 use Rattle.stream_names.specs.declared.naming.Naming.{Naming}
 use Rattle.inspector_cli.specs.declared.session.SessionFault.{SessionFault}
@@ -25,7 +25,7 @@ use Rattle.stream_names.specs.Streams.{exec_stream, core_stream}
 use Rattle.archive_replies.specs.Reasons.{reason_of}
 
 -- What the first line begins, or why it begins nothing: it begins a stream in slot 0. Any other line is none that is known.
-abbrev pub first_stream : Naming → Said → Result BareStream (List ℕ)
+abbrev pub first_stream : Naming → Said → Result StreamFacts (List ℕ)
 first_stream naming (begin_exec slot name) = if slot == 0 then exec_stream name else Err (codes "BadLine")
 first_stream naming (begin_core slot process) = if slot == 0 then core_stream naming process else Err (codes "BadLine")
 first_stream naming long_line = Err (codes "LineTooLong")
@@ -41,7 +41,7 @@ TakesFile g file file' fails fails' old new (Err File) =
 TakesFile g file file' fails fails' old new (Err (Refused fault)) =
     (raw : List ℕ) × Consumes file file' raw × Takes g old 0 raw (Err fault) new
 
--- the next bytes of a file behind so many are taken, or there are none; or they are refused, or could not be read
+-- the next bytes of a file are taken behind those so far, or there are none; or they are refused, or could not be read
 abbrev pub TakesMore : {D : Type 0} → disk.Ghosts D → Option (List ℕ) → Option (List ℕ) → ℕ → ℕ → Parts D → List ℕ → Parts D → Result Bool TakeStop → Type 0
 TakesMore g file file' fails fails' begun so_far new (Ok true) =
     (raw : List ℕ) × Consumes file file' raw × (0 < length raw) × (fails' ≡ fails) × Takes g begun 0 (so_far ++ raw) (Ok tt) new
@@ -106,7 +106,7 @@ pub record Stores {D : Type 0} (g : disk.Ghosts D) (naming : Naming) (file file'
   pub all : replies ≡ told ++ more
 
 -- no stream is open in slot 0
-abbrev pub IsSlotQuiet : Bare → Type 0
+abbrev pub IsSlotQuiet : ArchiveState → Type 0
 IsSlotQuiet s = stream_at s.streams 0 ≡ None
 
 -- what the line before says: `retire` by its policy, or nothing
@@ -120,7 +120,7 @@ pub record StoreStages {D : Type 0} (g : disk.Ghosts D) (old : Stage D) (policy 
   -- what is in doubt when room is made
   pub in_doubt : List Durable
   pub makes_room : Moves g old (said_before policy) told (record { archive = room; in_doubt = in_doubt })
-  pub takes : Stays g room filled
+  pub takes : ChangesNoCase g room filled
   pub moves : Moves g (record { archive = filled; in_doubt = in_doubt }) (end_of 0) reply end
   pub found : IsFoundAfterAStop g old (record { archive = room; in_doubt = in_doubt } ∷ record { archive = filled; in_doubt = in_doubt } ∷ []) end new
 
@@ -144,7 +144,7 @@ pub record IsAlone {D : Type 0} (g : disk.Ghosts D) (naming : Naming) (file file
     (replies : List ℕ) (end : Stage D) (new : Parts D) (outcome : StoreOutcome) : Type 0 where
   pub stores : StoresStream g naming file file' fails fails' old.archive line replies end.archive outcome.is_stored
   pub made : outcome.made_room ≡ true
-  pub takes : Stays g old.archive stores.filled
+  pub takes : ChangesNoCase g old.archive stores.filled
   pub moves : Moves g (record { archive = stores.filled; in_doubt = old.in_doubt }) (end_of 0) stores.rest end
   pub found : IsFoundAfterAStop g old (record { archive = stores.filled; in_doubt = old.in_doubt } ∷ []) end new
 

@@ -9,7 +9,7 @@ use Rattle.script_streams.specs.Replies.{no_reply, ok_reply}
 use Rattle.inspector_cli.specs.Reply.{Replies}
 use Rattle.archive_replies.specs.Texts.{dropped_line}
 use Rattle.inspector_cli.specs.Stages.{Stage, Moves}
-use Rattle.inspector_cli.specs.Session.{Item, Ending, said_last, EndReplies, BreaksOff, Closes, last_stage}
+use Rattle.inspector_cli.specs.Session.{Item, Ending, said_last, EndReplies, BreaksOff, DropsStreams, last_stage}
 
 -- a command and the reply to it
 pub record Answer : Type 0 where
@@ -51,7 +51,7 @@ pub record IsHad {D : Type 0} (g : disk.Ghosts D) (s : Session D) : Type 0 where
   pub answered : Answers g s.naming s.first s.answers s.stages
   pub finishes : Finishes g s.naming (last_stage s.first s.stages).archive s.last s.reply s.end.archive
   pub moves : Moves g (last_stage s.first s.stages) s.last s.reply s.end
-  pub closes : Closes g s.end.archive s.closed
+  pub closes : DropsStreams g s.end.archive s.closed
 
 -- the commands of a session, and the whole text of its replies
 abbrev pub commands_of : {D : Type 0} → Session D → List Item

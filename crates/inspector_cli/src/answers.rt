@@ -1,6 +1,6 @@
 // The answers to lines that no bytes stand behind.
 ghost use Rattle.std.specs.Prelude.{◌≡◌, [], is_ok};
-ghost use Rattle.intake.specs.Parts.{bare_of};
+ghost use Rattle.intake.specs.Parts.{state_of};
 ghost use Rattle.script_lines.specs.Commands.{asked_by};
 ghost use Rattle.inspector_cli.specs.Reply.{Ends, Drops, Deletes, Pins, Retires, Frees};
 ghost use Rattle.archive_replies.specs.Texts.{list_reply};
@@ -123,7 +123,7 @@ pub(crate) fn answer_retire<O: Output, D: Disk>(
 
 // Answers `list`.
 fn answer_list<O: Output, D: Disk>(reply: &mut Reply, output: &mut O, archive: &Archive<D>)
-    ensures { TellsText (telling O.Output output.old output.new reply.old reply.new) (list_reply (bare_of archive.now).stopped (bare_of archive.now).cases) }
+    ensures { TellsText (telling O.Output output.old output.new reply.old reply.new) (list_reply (state_of archive.now).stopped (state_of archive.now).cases) }
 {
     match archive.cases() {
         Ok(cases) => tell_cases(reply, output, cases),

@@ -1,6 +1,6 @@
 // A session from its first line to its end.
 ghost use Rattle.intake.specs.Durable.{Durable};
-ghost use Rattle.inspector_cli.specs.Session.{SessionEnds, Closes, streams_of};
+ghost use Rattle.inspector_cli.specs.Session.{SessionEnds, DropsStreams, streams_of};
 ghost use Rattle.inspector_cli.specs.Answering.{session_fault};
 ghost use Rattle.std.specs.Prelude.{◌≡◌, List};
 
@@ -66,7 +66,7 @@ fn session_fault(stop: ScriptStop) -> SessionFault
 
 // Drops the streams that are open.
 fn close_streams<D: Disk>(archive: &mut Archive<D>)
-    ensures { Closes D.Disk archive.old archive.new }
+    ensures { DropsStreams D.Disk archive.old archive.new }
 {
     for slot in 0..8u8 {
         let _ = archive.abandon(slot);

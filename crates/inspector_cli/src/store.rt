@@ -1,7 +1,7 @@
 // One stream, stored from its own input, with room made for it before.
 ghost use Rattle.std.specs.Prelude.{◌≡◌, ℕ, true, List, [], Ok};
 ghost use Rattle.intake.specs.Durable.{Durable};
-ghost use Rattle.intake.specs.Parts.{Parts, bare_of};
+ghost use Rattle.intake.specs.Parts.{Parts, state_of};
 ghost use Rattle.script_lines.specs.Said.{said};
 ghost use Rattle.script_lines.specs.Commands.{asked_by, said_by};
 ghost use Rattle.stream_names.specs.Commands.{stream_found};
@@ -56,7 +56,7 @@ pub fn store_stream<I: Input, O: Output, D: Disk>(
 ) -> Result<StoreOutcome, SessionFault>
     ensures ends { (doubts : List Durable) → StoreEnds D.Disk naming.now (streams_of I.Input O.Output file.old file.new output.old output.new)
         (record { archive = archive.old; in_doubt = doubts }) before.now line.now archive.new result }
-    ensures quiet { IsSlotQuiet (bare_of archive.new) }
+    ensures quiet { IsSlotQuiet (state_of archive.new) }
 {
     calls_lead_from_mark_to_mark::<D>();
     found_after_a_stop::<D>();

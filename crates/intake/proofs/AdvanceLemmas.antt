@@ -19,15 +19,15 @@ use Rattle.intake.specs.Contents.{Taken, advanced, with_taken, without_streams, 
 use Rattle.intake.specs.Ending.{EndsStreams}
 use Rattle.intake.specs.Growth.{ChangesFree, NeedsBlock, Grows}
 use Rattle.intake.specs.Live.{case_uses}
-use Rattle.intake.specs.Parts.{Parts, StreamParts, bare_of, bare_stream, taken_in, contents_of}
+use Rattle.intake.specs.Parts.{Parts, StreamParts, state_of, stream_facts, taken_in, contents_of}
 use Rattle.intake.specs.Room.{FitsFree}
 use Rattle.intake.specs.Slots.{stream_at, closed}
-use Rattle.intake.specs.Sound.{IsSound, IsRunning, IsFine, IsFineIfOpen, held_by, stream_uses}
-use Rattle.intake.specs.State.{BareStream, blocks_in}
+use Rattle.intake.specs.Sound.{IsArchiveSound, IsRunning, IsFine, IsFineIfOpen, held_by, stream_uses}
+use Rattle.intake.specs.State.{StreamFacts, blocks_in}
 use Rattle.intake.specs.Step.{AdvanceStep, MayGrow, FindsNoBlock, longer, with_stream, halted}
 use Rattle.intake.proofs.BlockLemmas.{joined_other}
 use Rattle.intake.proofs.SoundLemmas.{sound_with, sound_dropped, sound_halted, slot_below, in_use, fine_at, length-zero_block}
-use Rattle.intake.proofs.StepLemmas.{bare_with, some_there}
+use Rattle.intake.proofs.StepLemmas.{state_with, some_there}
 
 one_if_most : (t : Bool) → one_if t ≤ 1
 one_if_most true = omega arith
@@ -123,14 +123,14 @@ module _ {D : Type 0} (g : disk.Ghosts D) (d d' : D) (j : Journaled) (most : ℕ
 
 -- a refused stream is gone, and a disk fault stops the archive
 pub sound_refused : {D : Type 0} (g : disk.Ghosts D) (d d' : D) (j : Journaled) (most : ℕ) (flags flags' : List Bool) (streams dropped streams' : List (Option StreamParts)) (slot : ℕ) (s : StreamParts) (b b' : Bool) (f : ArchiveFault)
-    → IsSound g d j most flags streams b → b ≡ false → stream_at streams slot ≡ Some s → dropped ≡ slice_set streams slot None → Guards g d' j → Balances flags s.blocks flags' [] → EndsStreams f dropped b' streams'
-    → IsSound g d' j most flags' streams' b'
+    → IsArchiveSound g d j most flags streams b → b ≡ false → stream_at streams slot ≡ Some s → dropped ≡ slice_set streams slot None → Guards g d' j → Balances flags s.blocks flags' [] → EndsStreams f dropped b' streams'
+    → IsArchiveSound g d' j most flags' streams' b'
 sound_refused g d d' j most flags flags' streams dropped streams' slot s b b' fault.Disk sound on is gone keeps bal ends =
-    subst (λ (t : Bool). IsSound g d' j most flags' streams' t) (sym ends.0)
-    (subst (λ (x : List (Option StreamParts)). IsSound g d' j most flags' x true) (sym ends.1)
+    subst (λ (t : Bool). IsArchiveSound g d' j most flags' streams' t) (sym ends.0)
+    (subst (λ (x : List (Option StreamParts)). IsArchiveSound g d' j most flags' x true) (sym ends.1)
     (sound_halted g d d' j j most flags flags' streams dropped b sound refl (ap length gone ∙ length-set streams slot None)))
 sound_refused g d d' j most flags flags' streams dropped streams' slot s b b' _ sound on is gone keeps bal ends =
-    subst (λ (t : Bool). IsSound g d' j most flags' streams' t) (on ∙ sym ends.0)
+    subst (λ (t : Bool). IsArchiveSound g d' j most flags' streams' t) (on ∙ sym ends.0)
     (sound_dropped g d d' j most flags flags' streams streams' slot s b sound on is (ends.1 ∙ gone) keeps bal)
 
 -- a stream that grows stays fine
@@ -167,24 +167,24 @@ fine_grown free most s s' n u fine fits grows small =
 fills : (len n : ℕ) → n ≢ 0 → (len + n) % 4096 ≡ 0 → len % 4096 + n ≤ 4096 → len % 4096 + n ≡ 4096
 fills len n some whole fits = omega arith
 
-same_bare : (free most : ℕ) (s s' : StreamParts) (n : ℕ) (u : Unit {0}) → Grows free most s n (Ok u) s' → bare_stream s' ≡ longer (bare_stream s) n
-same_bare free most s s' n u grows = ⊎_elim (λ h. ap bare_stream h.1) (λ h. ap bare_stream h.3) grows.1
+states_agree : (free most : ℕ) (s s' : StreamParts) (n : ℕ) (u : Unit {0}) → Grows free most s n (Ok u) s' → stream_facts s' ≡ longer (stream_facts s) n
+states_agree free most s s' n u grows = ⊎_elim (λ h. ap stream_facts h.1) (λ h. ap stream_facts h.3) grows.1
 
 module _ {D : Type 0} (g : disk.Ghosts D) (d d' : D) (j : Journaled) (most : ℕ) (flags : List Bool) (streams : List (Option StreamParts)) (slot n : ℕ) (s : StreamParts) (b : Bool)
     (running : IsRunning g d j most flags streams) (on : b ≡ false) (is : stream_at streams slot ≡ Some s) where
   abbrev before : Parts D
   before = record { disk = d; journal = j; limit = most; streams = streams; stopped = b }
 
-  pub free_is : free_count flags + blocks_in (bare_of before) ≡ j.standing.shape.data_blocks
+  pub free_is : free_count flags + blocks_in (state_of before) ≡ j.standing.shape.data_blocks
   free_is = in_use g d j most flags streams b running
 
-  may : s.len + n ≤ most → MayGrow (bare_of before) slot n (bare_stream s)
+  may : s.len + n ≤ most → MayGrow (state_of before) slot n (stream_facts s)
   may short = (on, some_there streams slot s is, short)
 
-  there : NeedsBlock s.len n → 0 < free_count flags → FindsNoBlock (bare_of before) (bare_stream s) n → ⊥
+  there : NeedsBlock s.len n → 0 < free_count flags → FindsNoBlock (state_of before) (stream_facts s) n → ⊥
   there needs some none = (let e = none.2 in omega (arith, free_is))
 
-  not_there : NeedsBlock s.len n → free_count flags ≡ 0 → FindsNoBlock (bare_of before) (bare_stream s) n
+  not_there : NeedsBlock s.len n → free_count flags ≡ 0 → FindsNoBlock (state_of before) (stream_facts s) n
   not_there needs none = (needs.0, (let e = needs.1 in omega arith), (omega (arith, free_is, none)))
 
   pub put_back : (dropped streams' : List (Option StreamParts)) (s' : StreamParts) → dropped ≡ slice_set streams slot None → streams' ≡ slice_set dropped slot (Some s') → streams' ≡ slice_set streams slot (Some s')
@@ -192,36 +192,36 @@ module _ {D : Type 0} (g : disk.Ghosts D) (d d' : D) (j : Journaled) (most : ℕ
 
   pub advance_ok : (dropped streams' : List (Option StreamParts)) (s' : StreamParts) (u : Unit {0}) → dropped ≡ slice_set streams slot None → streams' ≡ slice_set dropped slot (Some s') → s.len % 4096 + n ≤ 4096
       → Grows (free_count flags) most s n (Ok u) s'
-      → AdvanceStep (bare_of before) slot n (Ok u) (bare_of (record { disk = d'; journal = j; limit = most; streams = streams'; stopped = b }))
+      → AdvanceStep (state_of before) slot n (Ok u) (state_of (record { disk = d'; journal = j; limit = most; streams = streams'; stopped = b }))
   advance_ok dropped streams' s' u gone put fits grows = (
-    bare_stream s,
+    stream_facts s,
     may grows.0,
     (λ none. ⊎_elim (λ h. h.0 (none.0, fills s.len n none.0 none.1 fits)) (λ h. there h.0 h.1 none) grows.1),
-    ap (λ (x : List (Option StreamParts)). bare_of (record { disk = d'; journal = j; limit = most; streams = x; stopped = b })) (put_back dropped streams' s' gone put)
-        ∙ bare_with d d' j most streams slot (Some s') b
-        ∙ ap (λ (t : BareStream). with_stream (bare_of before) slot (Some t)) (same_bare (free_count flags) most s s' n u grows),
+    ap (λ (x : List (Option StreamParts)). state_of (record { disk = d'; journal = j; limit = most; streams = x; stopped = b })) (put_back dropped streams' s' gone put)
+        ∙ state_with d d' j most streams slot (Some s') b
+        ∙ ap (λ (t : StreamFacts). with_stream (state_of before) slot (Some t)) (states_agree (free_count flags) most s s' n u grows),
   )
 
   pub gone_state : (b' : Bool) (dropped streams' : List (Option StreamParts)) → dropped ≡ slice_set streams slot None → b' ≡ false → streams' ≡ dropped
-      → bare_of (record { disk = d'; journal = j; limit = most; streams = streams'; stopped = b' }) ≡ with_stream (bare_of before) slot None
+      → state_of (record { disk = d'; journal = j; limit = most; streams = streams'; stopped = b' }) ≡ with_stream (state_of before) slot None
   gone_state b' dropped streams' gone still same =
-      ap (λ (t : Bool). bare_of (record { disk = d'; journal = j; limit = most; streams = streams'; stopped = t })) (still ∙ sym on)
-      ∙ ap (λ (x : List (Option StreamParts)). bare_of (record { disk = d'; journal = j; limit = most; streams = x; stopped = b })) (same ∙ gone)
-      ∙ bare_with d d' j most streams slot None b
+      ap (λ (t : Bool). state_of (record { disk = d'; journal = j; limit = most; streams = streams'; stopped = t })) (still ∙ sym on)
+      ∙ ap (λ (x : List (Option StreamParts)). state_of (record { disk = d'; journal = j; limit = most; streams = x; stopped = b })) (same ∙ gone)
+      ∙ state_with d d' j most streams slot None b
 
   pub halted_state : (b' : Bool) (dropped streams' : List (Option StreamParts)) → dropped ≡ slice_set streams slot None → b' ≡ true → streams' ≡ closed dropped
-      → bare_of (record { disk = d'; journal = j; limit = most; streams = streams'; stopped = b' }) ≡ halted (bare_of before)
+      → state_of (record { disk = d'; journal = j; limit = most; streams = streams'; stopped = b' }) ≡ halted (state_of before)
   halted_state b' dropped streams' gone off same =
-      ap (λ (t : Bool). bare_of (record { disk = d'; journal = j; limit = most; streams = streams'; stopped = t })) off
-      ∙ ap (λ (x : List (Option BareStream)). record (bare_of before) { streams = x; stopped = true })
-      (ap (map (option_map bare_stream)) (same ∙ ap closed gone ∙ closed_set streams slot None) ∙ closed_map bare_stream streams)
+      ap (λ (t : Bool). state_of (record { disk = d'; journal = j; limit = most; streams = streams'; stopped = t })) off
+      ∙ ap (λ (x : List (Option StreamFacts)). record (state_of before) { streams = x; stopped = true })
+      (ap (map (option_map stream_facts)) (same ∙ ap closed gone ∙ closed_set streams slot None) ∙ closed_map stream_facts streams)
 
   pub advance_err : (b' : Bool) (dropped streams' : List (Option StreamParts)) (s' : StreamParts) (f : ArchiveFault) → dropped ≡ slice_set streams slot None → EndsStreams f dropped b' streams' → Grows (free_count flags) most s n (Err f) s'
-      → AdvanceStep (bare_of before) slot n (Err f) (bare_of (record { disk = d'; journal = j; limit = most; streams = streams'; stopped = b' }))
-  advance_err b' dropped streams' s' fault.TooLong gone ends grows = (bare_stream s, on, some_there streams slot s is, grows, gone_state b' dropped streams' gone ends.0 ends.1)
-  advance_err b' dropped streams' s' fault.SpaceFull gone ends grows = (bare_stream s, may grows.0, not_there grows.1 grows.2, gone_state b' dropped streams' gone ends.0 ends.1)
-  advance_err b' dropped streams' s' fault.OutOfMemory gone ends grows = (bare_stream s, may grows.0, there grows.1 grows.2, gone_state b' dropped streams' gone ends.0 ends.1)
-  advance_err b' dropped streams' s' fault.Disk gone ends grows = (bare_stream s, may grows.0, there grows.1 grows.2, halted_state b' dropped streams' gone ends.0 ends.1)
+      → AdvanceStep (state_of before) slot n (Err f) (state_of (record { disk = d'; journal = j; limit = most; streams = streams'; stopped = b' }))
+  advance_err b' dropped streams' s' fault.TooLong gone ends grows = (stream_facts s, on, some_there streams slot s is, grows, gone_state b' dropped streams' gone ends.0 ends.1)
+  advance_err b' dropped streams' s' fault.SpaceFull gone ends grows = (stream_facts s, may grows.0, not_there grows.1 grows.2, gone_state b' dropped streams' gone ends.0 ends.1)
+  advance_err b' dropped streams' s' fault.OutOfMemory gone ends grows = (stream_facts s, may grows.0, there grows.1 grows.2, gone_state b' dropped streams' gone ends.0 ends.1)
+  advance_err b' dropped streams' s' fault.Disk gone ends grows = (stream_facts s, may grows.0, there grows.1 grows.2, halted_state b' dropped streams' gone ends.0 ends.1)
   advance_err b' dropped streams' s' _ gone ends grows = absurd grows
 
   pub not_stopped : (s' : StreamParts) (f : ArchiveFault) → Grows (free_count flags) most s n (Err f) s' → f ≡ fault.Stopped → ⊥
@@ -236,14 +236,14 @@ module _ {D : Type 0} (g : disk.Ghosts D) (d d' : D) (j : Journaled) (most : ℕ
   pub fine_of : IsFine most s
   fine_of = subst (IsFineIfOpen most) is (fine_at most streams slot running.streams_fine)
 
-  pub sound_grown : (flags' : List Bool) (dropped streams' : List (Option StreamParts)) (s' : StreamParts) (u : Unit {0}) → IsSound g d j most flags streams b → dropped ≡ slice_set streams slot None → streams' ≡ slice_set dropped slot (Some s')
-      → s.len % 4096 + n ≤ 4096 → Grows (free_count flags) most s n (Ok u) s' → s.len + n < 2 ^ 64 → Guards g d' j → Balances flags s.blocks flags' s'.blocks → IsSound g d' j most flags' streams' b
+  pub sound_grown : (flags' : List Bool) (dropped streams' : List (Option StreamParts)) (s' : StreamParts) (u : Unit {0}) → IsArchiveSound g d j most flags streams b → dropped ≡ slice_set streams slot None → streams' ≡ slice_set dropped slot (Some s')
+      → s.len % 4096 + n ≤ 4096 → Grows (free_count flags) most s n (Ok u) s' → s.len + n < 2 ^ 64 → Guards g d' j → Balances flags s.blocks flags' s'.blocks → IsArchiveSound g d' j most flags' streams' b
   sound_grown flags' dropped streams' s' u sound gone put fits grows small keeps bal =
-      subst (λ (x : List (Option StreamParts)). IsSound g d' j most flags' x b) (sym (put_back dropped streams' s' gone put))
+      subst (λ (x : List (Option StreamParts)). IsArchiveSound g d' j most flags' x b) (sym (put_back dropped streams' s' gone put))
       (sound_with g d d' j most flags flags' streams slot (Some s) (Some s') b sound on (slot_below g d j most flags streams slot s b sound is) is keeps bal
       (fine_grown (free_count flags) most s s' n u fine_of fits grows small)
       (λ name. (let m = running.named name in
-      let e : one_if (bytes_eq s'.name name) ≡ one_if (bytes_eq s.name name) = ap (λ (t : BareStream). one_if (bytes_eq t.name name)) (same_bare (free_count flags) most s s' n u grows) in
+      let e : one_if (bytes_eq s'.name name) ≡ one_if (bytes_eq s.name name) = ap (λ (t : StreamFacts). one_if (bytes_eq t.name name)) (states_agree (free_count flags) most s s' n u grows) in
       omega (arith, m, e))))
 
   pub advance_ok_bytes : (dropped streams' : List (Option StreamParts)) (s' : StreamParts) (u : Unit {0}) → ChangesFree j.standing.shape flags (g.seen d) (g.seen d') → dropped ≡ slice_set streams slot None → streams' ≡ slice_set dropped slot (Some s')

@@ -13,7 +13,7 @@ use Rattle.journal_layout.specs.Record.{Record}
 use Rattle.journal_layout.specs.Soundness.{case_numbered}
 use Rattle.journal_layout.specs.Standing.{folded_of}
 use Rattle.case_journal.specs.Append.{AppendStep, MayFollow}
-use Rattle.case_journal.specs.Journaled.{Journaled, goes_on, halted}
+use Rattle.case_journal.specs.Journaled.{Journaled, after_append, halted}
 use Rattle.intake.specs.Guarding.{Guards}
 use Rattle.case_journal.specs.declared.faults.JournalFault.{JournalFault}
 use Rattle.case_journal.specs.declared.faults.JournalFault.TheVariants as journal_fault
@@ -24,39 +24,39 @@ use Rattle.intake.specs.Contents.{Taken, UnmovedBytes, without_streams}
 use Rattle.intake.specs.Ending.{EndsStreams}
 use Rattle.intake.specs.Faults.{fault_of}
 use Rattle.intake.specs.Live.{case_uses, cases_named}
-use Rattle.intake.specs.Parts.{Parts, StreamParts, bare_of, bare_case, bare_stream, taken_in, contents_of}
+use Rattle.intake.specs.Parts.{Parts, StreamParts, state_of, case_facts, stream_facts, taken_in, contents_of}
 use Rattle.intake.specs.Slots.{closed}
-use Rattle.intake.specs.Sound.{IsSound, case_blocks}
-use Rattle.intake.specs.State.{BareCase, BareStream}
-use Rattle.intake.specs.Step.{case_at, halted as halted_bare}
+use Rattle.intake.specs.Sound.{IsArchiveSound, case_blocks}
+use Rattle.intake.specs.State.{CaseFacts, StreamFacts}
+use Rattle.intake.specs.Step.{case_at, halted as halted_facts}
 use Rattle.intake.proofs.AdvanceLemmas.{closed_map}
 use Rattle.intake.proofs.SoundLemmas.{sound_halted}
 use Rattle.intake.proofs.StoreLemmas.{images_behind, taken_behind}
 
 -- a case by its number, without its blocks
-pub bare_case_at : (seq : ℕ) (cases : List Case) → case_at seq (map bare_case cases) ≡ option_map bare_case (case_numbered seq cases)
-bare_case_at seq [] = refl
-bare_case_at seq (c ∷ rest) =
-    elim (c.seq == seq) as (λ t. cond t (Some (bare_case c)) (case_at seq (map bare_case rest)) ≡ option_map bare_case (cond t (Some c) (case_numbered seq rest)))
-    [ true ↦ refl | false ↦ bare_case_at seq rest ]
+pub case_facts_at : (seq : ℕ) (cases : List Case) → case_at seq (map case_facts cases) ≡ option_map case_facts (case_numbered seq cases)
+case_facts_at seq [] = refl
+case_facts_at seq (c ∷ rest) =
+    elim (c.seq == seq) as (λ t. cond t (Some (case_facts c)) (case_at seq (map case_facts rest)) ≡ option_map case_facts (cond t (Some c) (case_numbered seq rest)))
+    [ true ↦ refl | false ↦ case_facts_at seq rest ]
 
 pub flag_cases : (seq : ℕ) (flag : Bool) (cases : List Case)
-    → map bare_case (with_pin seq flag cases) ≡ map (λ (c : BareCase). cond (c.seq == seq) (record c { pinned = flag }) c) (map bare_case cases)
+    → map case_facts (with_pin seq flag cases) ≡ map (λ (c : CaseFacts). cond (c.seq == seq) (record c { pinned = flag }) c) (map case_facts cases)
 flag_cases seq flag [] = refl
 flag_cases seq flag (c ∷ rest) =
-    elim (c.seq == seq) as (λ t. bare_case (cond t (record c { pinned = flag }) c) ∷ map bare_case (with_pin seq flag rest)
-    ≡ cond t (record (bare_case c) { pinned = flag }) (bare_case c) ∷ map (λ (x : BareCase). cond (x.seq == seq) (record x { pinned = flag }) x) (map bare_case rest)) [
-      | true ↦ ap (λ (l : List BareCase). record (bare_case c) { pinned = flag } ∷ l) (flag_cases seq flag rest)
-      | false ↦ ap (λ (l : List BareCase). bare_case c ∷ l) (flag_cases seq flag rest)
+    elim (c.seq == seq) as (λ t. case_facts (cond t (record c { pinned = flag }) c) ∷ map case_facts (with_pin seq flag rest)
+    ≡ cond t (record (case_facts c) { pinned = flag }) (case_facts c) ∷ map (λ (x : CaseFacts). cond (x.seq == seq) (record x { pinned = flag }) x) (map case_facts rest)) [
+      | true ↦ ap (λ (l : List CaseFacts). record (case_facts c) { pinned = flag } ∷ l) (flag_cases seq flag rest)
+      | false ↦ ap (λ (l : List CaseFacts). case_facts c ∷ l) (flag_cases seq flag rest)
     ]
 
 -- a record was appended: blocks of dropped cases are free, and nothing else changes hands
 pub sound_after : {D : Type 0} (g : disk.Ghosts D) (d d' : D) (j : Journaled) (r : Record) (most : ℕ) (flags flags' : List Bool) (streams : List (Option StreamParts)) (b : Bool)
-    → IsSound g d j most flags streams b → b ≡ false → Guards g d' (goes_on j r) → MayFollow j.standing r → length flags' ≡ length flags
+    → IsArchiveSound g d j most flags streams b → b ≡ false → Guards g d' (after_append j r) → MayFollow j.standing r → length flags' ≡ length flags
     → ((k : ℕ) → one_if (is_free flags' k) + case_uses (after r (folded_of j.standing)).cases k ≡ one_if (is_free flags k) + case_uses j.standing.cases k)
     → free_count flags' + case_blocks (after r (folded_of j.standing)).cases ≡ free_count flags + case_blocks j.standing.cases
     → ((name : List ℕ) → cases_named (after r (folded_of j.standing)).cases name ≤ cases_named j.standing.cases name)
-    → IsSound g d' (goes_on j r) most flags' streams b
+    → IsArchiveSound g d' (after_append j r) most flags' streams b
 sound_after g d d' j r most flags flags' streams b sound on keeps may long each all names =
     let was = sound.runs on in
     record {
@@ -83,25 +83,25 @@ module _ {D : Type 0} (g : disk.Ghosts D) (d d' : D) (j j' : Journaled) (r : Rec
   abbrev pub then : Parts D
   then = record { disk = d'; journal = j'; limit = most; streams = streams'; stopped = b' }
 
-  pub same_state : b' ≡ false → streams' ≡ streams → j' ≡ j → bare_of then ≡ bare_of before
+  pub same_state : b' ≡ false → streams' ≡ streams → j' ≡ j → state_of then ≡ state_of before
   same_state off same is =
-      ap (λ (k : Journaled). bare_of (record { disk = d'; journal = k; limit = most; streams = streams'; stopped = b' })) is
-      ∙ ap (λ (x : List (Option StreamParts)). bare_of (record { disk = d'; journal = j; limit = most; streams = x; stopped = b' })) same
-      ∙ ap (λ (t : Bool). bare_of (record { disk = d'; journal = j; limit = most; streams = streams; stopped = t })) (off ∙ sym on)
+      ap (λ (k : Journaled). state_of (record { disk = d'; journal = k; limit = most; streams = streams'; stopped = b' })) is
+      ∙ ap (λ (x : List (Option StreamParts)). state_of (record { disk = d'; journal = j; limit = most; streams = x; stopped = b' })) same
+      ∙ ap (λ (t : Bool). state_of (record { disk = d'; journal = j; limit = most; streams = streams; stopped = t })) (off ∙ sym on)
 
-  pub halted_now : b' ≡ true → streams' ≡ closed streams → j' ≡ halted j → bare_of then ≡ halted_bare (bare_of before)
+  pub halted_now : b' ≡ true → streams' ≡ closed streams → j' ≡ halted j → state_of then ≡ halted_facts (state_of before)
   halted_now off same is =
-      ap (λ (k : Journaled). bare_of (record { disk = d'; journal = k; limit = most; streams = streams'; stopped = b' })) is
-      ∙ ap (λ (t : Bool). bare_of (record { disk = d'; journal = halted j; limit = most; streams = streams'; stopped = t })) off
-      ∙ ap (λ (x : List (Option BareStream)). record (bare_of before) { streams = x; stopped = true })
-      (ap (map (option_map bare_stream)) same ∙ closed_map bare_stream streams)
+      ap (λ (k : Journaled). state_of (record { disk = d'; journal = k; limit = most; streams = streams'; stopped = b' })) is
+      ∙ ap (λ (t : Bool). state_of (record { disk = d'; journal = halted j; limit = most; streams = streams'; stopped = t })) off
+      ∙ ap (λ (x : List (Option StreamFacts)). record (state_of before) { streams = x; stopped = true })
+      (ap (map (option_map stream_facts)) same ∙ closed_map stream_facts streams)
 
-  moved : (flags' : List Bool) → IsSound g d j most flags streams b → j' ≡ j → Guards g d' j' → b' ≡ false → streams' ≡ streams → flags' ≡ flags → IsSound g d' j' most flags' streams' b'
+  moved : (flags' : List Bool) → IsArchiveSound g d j most flags streams b → j' ≡ j → Guards g d' j' → b' ≡ false → streams' ≡ streams → flags' ≡ flags → IsArchiveSound g d' j' most flags' streams' b'
   moved flags' sound is keeps off same back =
-      subst (λ (k : Journaled). IsSound g d' k most flags' streams' b') (sym is)
-      (subst (λ (x : List (Option StreamParts)). IsSound g d' j most flags' x b') (sym same)
-      (subst (λ (f : List Bool). IsSound g d' j most f streams b') (sym back)
-      (subst (λ (t : Bool). IsSound g d' j most flags streams t) (on ∙ sym off) (record {
+      subst (λ (k : Journaled). IsArchiveSound g d' k most flags' streams' b') (sym is)
+      (subst (λ (x : List (Option StreamParts)). IsArchiveSound g d' j most flags' x b') (sym same)
+      (subst (λ (f : List Bool). IsArchiveSound g d' j most f streams b') (sym back)
+      (subst (λ (t : Bool). IsArchiveSound g d' j most flags streams t) (on ∙ sym off) (record {
         shape = sound.shape;
         slots = sound.slots;
         runs = λ _. (let was = sound.runs on in record {
@@ -118,15 +118,15 @@ module _ {D : Type 0} (g : disk.Ghosts D) (d d' : D) (j j' : Journaled) (r : Rec
       }))))
 
   -- the archive stays sound
-  pub sound_refusal : (flags' : List Bool) (jf : JournalFault) → IsSound g d j most flags streams b → AppendStep j r (Err jf) j' → Guards g d' j' → EndsStreams (fault_of jf) streams b' streams'
-      → (b' ≡ false → flags' ≡ flags) → IsSound g d' j' most flags' streams' b'
+  pub sound_refusal : (flags' : List Bool) (jf : JournalFault) → IsArchiveSound g d j most flags streams b → AppendStep j r (Err jf) j' → Guards g d' j' → EndsStreams (fault_of jf) streams b' streams'
+      → (b' ≡ false → flags' ≡ flags) → IsArchiveSound g d' j' most flags' streams' b'
   sound_refusal flags' journal_fault.Stopped sound step keeps ends back = absurd (let e : true ≡ false = sym step.0 ∙ (sound.runs on).journal in cc)
   sound_refusal flags' journal_fault.JournalFull sound step keeps ends back = moved flags' sound step.2 keeps ends.0 ends.1 (back ends.0)
   sound_refusal flags' journal_fault.NumbersSpent sound step keeps ends back = absurd step
   sound_refusal flags' journal_fault.OutOfMemory sound step keeps ends back = moved flags' sound step.2 keeps ends.0 ends.1 (back ends.0)
   sound_refusal flags' journal_fault.Disk sound step keeps ends back =
-      subst (λ (t : Bool). IsSound g d' j' most flags' streams' t) (sym ends.0)
-      (subst (λ (x : List (Option StreamParts)). IsSound g d' j' most flags' x true) (sym ends.1)
+      subst (λ (t : Bool). IsArchiveSound g d' j' most flags' streams' t) (sym ends.0)
+      (subst (λ (x : List (Option StreamParts)). IsArchiveSound g d' j' most flags' x true) (sym ends.1)
       (sound_halted g d d' j j' most flags flags' streams streams b sound (ap (λ (k : Journaled). k.standing.shape) step.2) refl))
 
 -- its bytes

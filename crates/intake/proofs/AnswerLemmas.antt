@@ -13,8 +13,8 @@ use Rattle.intake.specs.Calls.{FinishCall}
 use Rattle.intake.specs.Durable.{Durable, FoundCase, durable_of, found_case, without, flagged}
 use Rattle.intake.specs.Lasting.{number_of}
 use Rattle.intake.specs.Making.{Call, ReplyTo, Makes, Made, AreMade, StaysOpen, archive_after, taken_over, begin_in, lend_of, advance_by, finish_of, abandon_of, delete_of, pin_of, retire_by, image_of, find_case, list_cases, count_free, ask_stopped}
-use Rattle.intake.specs.Parts.{Parts, bare_of, contents_of}
-use Rattle.intake.specs.State.{Bare, BareStream}
+use Rattle.intake.specs.Parts.{Parts, state_of, contents_of}
+use Rattle.intake.specs.State.{ArchiveState, StreamFacts}
 use Rattle.intake.specs.Contents.{image_at}
 use Rattle.intake.proofs.ImageLemmas.{image_found}
 use Rattle.intake.proofs.LastingLemmas.{numbers_above}
@@ -164,7 +164,7 @@ found_numbered seq find image number same (c ∷ cs) =
     by_test more true = ap (λ (x : List ℕ). Some x) (same c)
     by_test more false = more
 
-image_of_case : {D : Type 0} (seen : D → List ℕ) (a : Parts D) (seq : ℕ) → image_at seq (bare_of a).cases (contents_of seen a).images ≡ found_image seq (durable_of seen a).cases
+image_of_case : {D : Type 0} (seen : D → List ℕ) (a : Parts D) (seq : ℕ) → image_at seq (state_of a).cases (contents_of seen a).images ≡ found_image seq (durable_of seen a).cases
 image_of_case seen a seq =
     image_found seq (λ (c : Case). image_in a.journal.standing.shape (seen a.disk) c.blocks c.len) a.journal.standing.cases
     ∙ sym (found_numbered seq (found_case a.journal.standing.shape (seen a.disk)) (λ (c : Case). image_in a.journal.standing.shape (seen a.disk) c.blocks c.len) (λ c. refl) (λ c. refl) a.journal.standing.cases)
@@ -186,10 +186,10 @@ module _ {D : Type 0} (g : disk.Ghosts D) (counts : (d : D) (t : ℕ) (c : List 
       → IsOrIsGone seq c.image (durable_of g.seen stored)
   just_stored last stored slot seq c honest finish number cases =
       let real = finish.changes.honesty ∙ honest in
-      let runs : stored.stopped ≡ false = ap (λ (b : Bare). b.stopped) finish.step.7 ∙ finish.step.2.0 in
+      let runs : stored.stopped ≡ false = ap (λ (b : ArchiveState). b.stopped) finish.step.7 ∙ finish.step.2.0 in
       let stands = finish.changes.stands runs real (g.seen stored.disk) (stays_seen stored.disk real) in
       let numbers = numbers_above (g.seen stored.disk) (durable_of g.seen stored) stands (live (g.seen stored.disk) stands.standing stands.stands) in
-      let next = ap (λ (b : Bare). b.next) finish.step.7 in
+      let next = ap (λ (b : ArchiveState). b.next) finish.step.7 in
       let given = finish.step.6 in (
         omega (arith, next, given),
         inl (ap (found_image seq) cases
@@ -197,7 +197,7 @@ module _ {D : Type 0} (g : disk.Ghosts D) (counts : (d : D) (t : ℕ) (c : List 
       )
 
   -- what is answered of a case's image, after whatever other calls, is what its stream's calls took
-  pub image_answered : (old begun : Parts D) (slot : ℕ) (s : BareStream) (u : Unit {0}) (made : List (Made D)) (stored : Parts D) (seq : ℕ) (later : List (Made D)) (image : Vec ℕ Global) (last : Parts D)
+  pub image_answered : (old begun : Parts D) (slot : ℕ) (s : StreamFacts) (u : Unit {0}) (made : List (Made D)) (stored : Parts D) (seq : ℕ) (later : List (Made D)) (image : Vec ℕ Global) (last : Parts D)
       → IsTrue (g.is_honest old.disk) → Makes g old (begin_in slot s) (Ok u) begun → AreMade g begun made → StaysOpen slot made → Makes g (archive_after begun made) (finish_of slot) (Ok seq) stored
       → AreMade g stored later → Makes g (archive_after stored later) (image_of seq) (Ok image) last → image.items ≡ taken_over g.seen slot begun made
   image_answered old begun slot s u made stored seq later image last honest begin all stays finish then answer =

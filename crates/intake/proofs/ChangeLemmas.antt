@@ -8,13 +8,13 @@ use Rattle.intake.specs.Calls.{Changes, CloseCall}
 use Rattle.intake.specs.Durable.{Durable, StandsFor, durable_in, durable_of}
 use Rattle.intake.specs.Growth.{IsDiskFault}
 use Rattle.intake.specs.Guarding.{Leaves}
-use Rattle.intake.specs.Parts.{Parts, StreamParts, bare_stream}
+use Rattle.intake.specs.Parts.{Parts, StreamParts, stream_facts}
 use Rattle.intake.specs.Slots.{stream_at, closed}
-use Rattle.intake.specs.Sound.{IsSound}
+use Rattle.intake.specs.Sound.{IsArchiveSound}
 use Rattle.intake.specs.declared.faults.ArchiveFault.{ArchiveFault}
 use Rattle.intake.proofs.RestLemmas.{stands_now}
 
-mapped_none : (xs : List (Option StreamParts)) (slot : ℕ) → stream_at (map (option_map bare_stream) (slice_set xs slot None)) slot ≡ None
+mapped_none : (xs : List (Option StreamParts)) (slot : ℕ) → stream_at (map (option_map stream_facts) (slice_set xs slot None)) slot ≡ None
 mapped_none [] slot = refl
 mapped_none (x ∷ xs) zero = refl
 mapped_none (x ∷ xs) (suc slot) = mapped_none xs slot
@@ -25,24 +25,24 @@ closed_at f (x ∷ xs) zero = refl
 closed_at f (x ∷ xs) (suc slot) = closed_at f xs slot
 
 -- a sound archive that is stopped has no stream
-pub stopped_quiet : {D : Type 0} (g : disk.Ghosts D) (d : D) (j : Journaled) (most : ℕ) (flags : List Bool) (streams : List (Option StreamParts)) (stopped : Bool) (slot : ℕ) → IsSound g d j most flags streams stopped
-    → stopped ≡ true → stream_at (map (option_map bare_stream) streams) slot ≡ None
+pub stopped_quiet : {D : Type 0} (g : disk.Ghosts D) (d : D) (j : Journaled) (most : ℕ) (flags : List Bool) (streams : List (Option StreamParts)) (stopped : Bool) (slot : ℕ) → IsArchiveSound g d j most flags streams stopped
+    → stopped ≡ true → stream_at (map (option_map stream_facts) streams) slot ≡ None
 stopped_quiet g d j most flags streams stopped slot sound on =
-    ap (λ (xs : List (Option StreamParts)). stream_at (map (option_map bare_stream) xs) slot) (sound.none on) ∙ closed_at bare_stream streams slot
+    ap (λ (xs : List (Option StreamParts)). stream_at (map (option_map stream_facts) xs) slot) (sound.none on) ∙ closed_at stream_facts streams slot
 
 -- a stream that was taken out of its slot is there no more
-pub taken_quiet : (old new : List (Option StreamParts)) (slot : ℕ) → new ≡ slice_set old slot None → stream_at (map (option_map bare_stream) new) slot ≡ None
-taken_quiet old new slot is = ap (λ (xs : List (Option StreamParts)). stream_at (map (option_map bare_stream) xs) slot) is ∙ mapped_none old slot
+pub taken_quiet : (old new : List (Option StreamParts)) (slot : ℕ) → new ≡ slice_set old slot None → stream_at (map (option_map stream_facts) new) slot ≡ None
+taken_quiet old new slot is = ap (λ (xs : List (Option StreamParts)). stream_at (map (option_map stream_facts) xs) slot) is ∙ mapped_none old slot
 
 module _ {D : Type 0} (g : disk.Ghosts D) where
   -- a crash now leaves what a sound archive shows, unless it is stopped
-  pub sound_stands : (d : D) (j : Journaled) (most : ℕ) (flags : List Bool) (streams : List (Option StreamParts)) (stopped : Bool) → IsSound g d j most flags streams stopped
+  pub sound_stands : (d : D) (j : Journaled) (most : ℕ) (flags : List Bool) (streams : List (Option StreamParts)) (stopped : Bool) → IsArchiveSound g d j most flags streams stopped
       → stopped ≡ false → IsTrue (g.is_honest d) → (c : List ℕ) → g.may_leave d c → StandsFor c (durable_in (g.seen d) j.standing)
   sound_stands d j most flags streams stopped sound on honest c may = let running = sound.runs on in stands_now g d j running.keeps running.journal honest c may
 
   -- nothing is done, and the answer is not that the disk failed
   pub changes_none : (T : Type 0) (d : D) (j : Journaled) (most : ℕ) (flags : List Bool) (streams : List (Option StreamParts)) (stopped : Bool) (a : Parts D) (r : Result T ArchiveFault) (doubt : Durable → Type 0)
-      → IsSound g d j most flags streams stopped → record { disk = d; journal = j; limit = most; streams = streams; stopped = stopped } ≡ a → (IsDiskFault r → ⊥) → Changes T g a r a doubt
+      → IsArchiveSound g d j most flags streams stopped → record { disk = d; journal = j; limit = most; streams = streams; stopped = stopped } ≡ a → (IsDiskFault r → ⊥) → Changes T g a r a doubt
   changes_none T d j most flags streams stopped a r doubt sound is none = record {
     honesty = refl;
     later = omega arith;
@@ -54,7 +54,7 @@ module _ {D : Type 0} (g : disk.Ghosts D) where
   }
 
   -- an archive that is closed
-  pub closes : (d : D) (j : Journaled) (most : ℕ) (flags : List Bool) (streams : List (Option StreamParts)) (stopped : Bool) → IsSound g d j most flags streams stopped → (IsTrue (g.is_honest d) → g.may_leave d (g.seen d))
+  pub closes : (d : D) (j : Journaled) (most : ℕ) (flags : List Bool) (streams : List (Option StreamParts)) (stopped : Bool) → IsArchiveSound g d j most flags streams stopped → (IsTrue (g.is_honest d) → g.may_leave d (g.seen d))
       → CloseCall g (record { disk = d; journal = j; limit = most; streams = streams; stopped = stopped }) d
   closes d j most flags streams stopped sound may = record {
     disk = refl;

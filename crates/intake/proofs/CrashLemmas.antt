@@ -11,15 +11,15 @@ use Rattle.journal_layout.specs.Standing.{Standing, store_of}
 use Rattle.journal_layout.specs.declared.faults.OpenFault.{OpenFault}
 use Rattle.journal_layout.specs.declared.faults.OpenFault.TheVariants as open_fault
 use Rattle.case_journal.specs.Journaled.{Journaled}
-use Rattle.case_journal.specs.Viewing.{Finds}
+use Rattle.case_journal.specs.Viewing.{FindsStanding}
 use Rattle.intake.specs.Blocks.{image_in}
 use Rattle.intake.specs.Closing.{with_blocks}
 use Rattle.extents.specs.Runs.{runs_of}
 use Rattle.std.proofs.Common.{length}
 use Rattle.intake.specs.Step.{MayHaveRuns}
 use Rattle.intake.specs.Durable.{Durable, StandsFor, durable_in, durable_of, with_case}
-use Rattle.intake.specs.Guarding.{Guards, Rests, Spares, Leaves, LeavesNew, LeavesStored, StoresIn}
-use Rattle.intake.specs.Parts.{Parts, StreamParts, bare_of, bare_stream, contents_of, taken_in}
+use Rattle.intake.specs.Guarding.{Guards, LeavesCases, UsesNoFreeBlock, Leaves, LeavesNew, LeavesStored, StoresIn}
+use Rattle.intake.specs.Parts.{Parts, StreamParts, state_of, stream_facts, contents_of, taken_in}
 use Rattle.intake.specs.Slots.{stream_at}
 use Rattle.intake.specs.Sound.{IsRunning}
 use Rattle.intake.specs.StreamView.{case_from_parts}
@@ -27,7 +27,7 @@ use Rattle.intake.specs.declared.faults.ArchiveFault.{ArchiveFault}
 use Rattle.intake.specs.declared.faults.ArchiveFault.TheVariants as fault
 use Rattle.journal_layout.specs.Record.{Record}
 use Rattle.case_journal.specs.Refusing.{LeavesDisk}
-use Rattle.case_journal.specs.Journaled.{goes_on}
+use Rattle.case_journal.specs.Journaled.{after_append}
 use Rattle.case_journal.specs.Keeping.{LeavesEither, LeavesOutside}
 use Rattle.case_journal.specs.declared.faults.JournalFault.{JournalFault}
 use Rattle.intake.specs.Faults.{fault_of}
@@ -41,29 +41,29 @@ one_if_most false = omega arith
 
 module _ {D : Type 0} (g : disk.Ghosts D) (d d' : D) (j : Journaled) (most : ℕ) (flags : List Bool) (streams : List (Option StreamParts)) (running : IsRunning g d j most flags streams) where
   -- no case has a block that is free
-  pub spares : Spares flags j
+  pub spares : UsesNoFreeBlock flags j
   spares k free = let h = running.once k in let e = ap one_if free in let m = one_if_most (nat_lt k j.standing.shape.data_blocks) in omega (arith, h, e, m)
 
-  pub grow_rests : (Spares flags j → Guards g d j → Rests g d d' j) → Rests g d d' j
+  pub grow_rests : (UsesNoFreeBlock flags j → Guards g d j → LeavesCases g d d' j) → LeavesCases g d d' j
   grow_rests rests = rests spares running.keeps
 
-  pub rests_durable : Rests g d d' j → IsTrue (g.is_honest d) → durable_in (g.seen d') j.standing ≡ durable_in (g.seen d) j.standing
+  pub rests_durable : LeavesCases g d d' j → IsTrue (g.is_honest d) → durable_in (g.seen d') j.standing ≡ durable_in (g.seen d) j.standing
   rests_durable rests honest = rests.same running.journal honest
 
-  pub rests_moments : Rests g d d' j → IsTrue (g.is_honest d) → AddsOnly g d d' (λ c. StandsFor c (durable_in (g.seen d) j.standing))
+  pub rests_moments : LeavesCases g d d' j → IsTrue (g.is_honest d) → AddsOnly g d d' (λ c. StandsFor c (durable_in (g.seen d) j.standing))
   rests_moments rests honest = adds g d d' (λ c. StandsFor c (durable_in (g.seen d) j.standing)) (rests.moments running.journal honest)
 
   -- a refusal that leaves the cases leaves nothing else
-  pub rests_leaves : (T : Type 0) (r : Result T ArchiveFault) (new : Durable) (doubt : Durable → Type 0) → Rests g d d' j → IsTrue (g.is_honest d) → AddsOnly g d d' (Leaves {T = T} (durable_in (g.seen d) j.standing) r new doubt)
+  pub rests_leaves : (T : Type 0) (r : Result T ArchiveFault) (new : Durable) (doubt : Durable → Type 0) → LeavesCases g d d' j → IsTrue (g.is_honest d) → AddsOnly g d d' (Leaves {T = T} (durable_in (g.seen d) j.standing) r new doubt)
   rests_leaves T r new doubt rests honest =
       adds g d d' (Leaves {T = T} (durable_in (g.seen d) j.standing) r new doubt)
       (weakened g d d' (λ c. StandsFor c (durable_in (g.seen d) j.standing)) (Leaves {T = T} (durable_in (g.seen d) j.standing) r new doubt) (λ c stands. inl stands) (rests.moments running.journal honest))
 
   -- the same of a call that took a free block at most
-  pub grow_durable : (Spares flags j → Guards g d j → Rests g d d' j) → IsTrue (g.is_honest d) → durable_in (g.seen d') j.standing ≡ durable_in (g.seen d) j.standing
+  pub grow_durable : (UsesNoFreeBlock flags j → Guards g d j → LeavesCases g d d' j) → IsTrue (g.is_honest d) → durable_in (g.seen d') j.standing ≡ durable_in (g.seen d) j.standing
   grow_durable rests honest = rests_durable (grow_rests rests) honest
 
-  pub grow_moments : (Spares flags j → Guards g d j → Rests g d d' j) → IsTrue (g.is_honest d) → AddsOnly g d d' (λ c. StandsFor c (durable_in (g.seen d) j.standing))
+  pub grow_moments : (UsesNoFreeBlock flags j → Guards g d j → LeavesCases g d d' j) → IsTrue (g.is_honest d) → AddsOnly g d d' (λ c. StandsFor c (durable_in (g.seen d) j.standing))
   grow_moments rests honest = rests_moments (grow_rests rests) honest
 
 -- what may be left after a refusal is told of other words for it
@@ -82,7 +82,7 @@ appended_adds T v g d d' x y new doubt is moments =
     (weakened g d d' (λ c. StandsFor c x ⊎ StandsFor c y) (Leaves {T = T} x (Ok v) new doubt) (λ c h. ⊎_elim (λ a. inl a) (λ b. inr (subst (StandsFor c) (sym is) b)) h) moments)
 
 -- an append behind disk calls that change no case
-module _ {D : Type 0} (g : disk.Ghosts D) (d d1 d2 : D) (j : Journaled) (runs : j.stopped ≡ false) (rests : Rests g d d1 j) (honest : IsTrue (g.is_honest d)) (y new : Durable) (doubt : Durable → Type 0) where
+module _ {D : Type 0} (g : disk.Ghosts D) (d d1 d2 : D) (j : Journaled) (runs : j.stopped ≡ false) (rests : LeavesCases g d d1 j) (honest : IsTrue (g.is_honest d)) (y new : Durable) (doubt : Durable → Type 0) where
   abbrev old : Durable
   old = durable_in (g.seen d) j.standing
 
@@ -110,21 +110,21 @@ module _ {D : Type 0} (g : disk.Ghosts D) (d d1 d2 : D) (j : Journaled) (runs : 
 -- what a stream that is stored leaves
 pub stored_is : {D : Type 0} (g : disk.Ghosts D) (d d1 : D) (j : Journaled) (s : StreamParts) (blocks : List ℕ) (c : Case) → c ≡ case_from_parts (with_blocks s blocks)
     → image_in j.standing.shape (g.seen d1) blocks s.len ≡ (taken_in j (g.seen d) s).bytes → durable_in (g.seen d1) j.standing ≡ durable_in (g.seen d) j.standing
-    → durable_in (g.seen d1) (appended j.standing (store_of j.standing c)) ≡ with_case (durable_in (g.seen d) j.standing) (bare_stream s) (length (runs_of blocks)) (taken_in j (g.seen d) s).bytes
+    → durable_in (g.seen d1) (appended j.standing (store_of j.standing c)) ≡ with_case (durable_in (g.seen d) j.standing) (stream_facts s) (length (runs_of blocks)) (taken_in j (g.seen d) s).bytes
 stored_is g d d1 j s blocks c is image same =
     ap (λ (x : Case). durable_in (g.seen d1) (appended j.standing (store_of j.standing x))) is
     ∙ durable_stored j.standing (case_from_parts (with_blocks s blocks)) (g.seen d1)
-    ∙ ap (λ (x : List ℕ). with_case (durable_in (g.seen d1) j.standing) (bare_stream s) (length (runs_of blocks)) x) image
-    ∙ ap (λ (x : Durable). with_case x (bare_stream s) (length (runs_of blocks)) (taken_in j (g.seen d) s).bytes) same
+    ∙ ap (λ (x : List ℕ). with_case (durable_in (g.seen d1) j.standing) (stream_facts s) (length (runs_of blocks)) x) image
+    ∙ ap (λ (x : Durable). with_case x (stream_facts s) (length (runs_of blocks)) (taken_in j (g.seen d) s).bytes) same
 
 -- what stands in a slot, with the bytes that it took
 pub stored_doubt : {D : Type 0} (g : disk.Ghosts D) (d : D) (j : Journaled) (most : ℕ) (streams : List (Option StreamParts)) (b : Bool) (slot : ℕ) (s : StreamParts) (runs : ℕ) (y : Durable) → stream_at streams slot ≡ Some s → MayHaveRuns s.len runs
-    → y ≡ with_case (durable_in (g.seen d) j.standing) (bare_stream s) runs (taken_in j (g.seen d) s).bytes
-    → StoresIn runs (bare_of (record { disk = d; journal = j; limit = most; streams = streams; stopped = b })) (contents_of g.seen (record { disk = d; journal = j; limit = most; streams = streams; stopped = b })) (durable_in (g.seen d) j.standing) slot y
+    → y ≡ with_case (durable_in (g.seen d) j.standing) (stream_facts s) runs (taken_in j (g.seen d) s).bytes
+    → StoresIn runs (state_of (record { disk = d; journal = j; limit = most; streams = streams; stopped = b })) (contents_of g.seen (record { disk = d; journal = j; limit = most; streams = streams; stopped = b })) (durable_in (g.seen d) j.standing) slot y
 stored_doubt g d j most streams b slot s runs y is fits stored = (
-  bare_stream s,
+  stream_facts s,
   taken_in j (g.seen d) s,
-  at_map bare_stream streams slot ∙ ap (option_map bare_stream) is,
+  at_map stream_facts streams slot ∙ ap (option_map stream_facts) is,
   at_map (taken_in j (g.seen d)) streams slot ∙ ap (option_map (taken_in j (g.seen d))) is,
   fits,
   stored,
@@ -139,7 +139,7 @@ stored_doubt g d j most streams b slot s runs y is fits stored = (
 pub found_ok : {D : Type 0} (seen : D → List ℕ) (before : List ℕ) (a : Parts D) (x : Durable) (stands : StandsFor before x) → seen a.disk ≡ before → a.journal.standing ≡ stands.standing → durable_of seen a ≡ x
 found_ok seen before a x stands same is = ap (λ (b : List ℕ). durable_in b a.journal.standing) same ∙ ap (durable_in before) is ∙ stands.is
 
-pub found_err : (f : OpenFault) (s : Standing) → Finds (Err f) s → (f ≡ open_fault.Disk) ⊎ (f ≡ open_fault.OutOfMemory)
+pub found_err : (f : OpenFault) (s : Standing) → FindsStanding (Err f) s → (f ≡ open_fault.Disk) ⊎ (f ≡ open_fault.OutOfMemory)
 found_err open_fault.Disk s found = inl refl
 found_err open_fault.OutOfMemory s found = inr refl
 found_err open_fault.NotAnArchive s found = absurd found
@@ -152,7 +152,7 @@ module _ {D : Type 0} (g : disk.Ghosts D) (d d' : D) (j j' : Journaled) (r : Rec
   moments : LeavesOnly g d d' (λ c. StandsFor c (durable_in (g.seen d) j.standing) ⊎ StandsFor c (durable_in (g.seen d) (appended j.standing r)))
   moments = append_moments g d d' j r (λ b may. guards.whole runs honest b may) whole either outside
 
-  pub record_ok : (u : Unit {0}) → Behind g d d' j r (g.seen d) (g.seen d') → j' ≡ goes_on j r → AddsOnly g d d' (Leaves {T = Unit {0}} (durable_in (g.seen d) j.standing) (Ok u) (durable_in (g.seen d') j'.standing) doubt)
+  pub record_ok : (u : Unit {0}) → Behind g d d' j r (g.seen d) (g.seen d') → j' ≡ after_append j r → AddsOnly g d d' (Leaves {T = Unit {0}} (durable_in (g.seen d) j.standing) (Ok u) (durable_in (g.seen d') j'.standing) doubt)
   record_ok u others step =
       appended_adds (Unit {0}) u g d d' (durable_in (g.seen d) j.standing) (durable_in (g.seen d) (appended j.standing r)) (durable_in (g.seen d') j'.standing) doubt
       (ap (λ (k : Journaled). durable_in (g.seen d') k.standing) step ∙ new_behind g d d' j r (g.seen d) (g.seen d') others) moments

@@ -26,38 +26,38 @@ use Rattle.intake.specs.Contents.{Contents, DropBytes, images_without}
 use Rattle.intake.specs.Ending.{EndsStreams}
 use Rattle.intake.specs.Faults.{fault_of}
 use Rattle.intake.specs.Live.{case_uses, cases_named}
-use Rattle.intake.specs.Parts.{Parts, StreamParts, bare_of, bare_case, contents_of, taken_in}
-use Rattle.intake.specs.Sound.{IsSound, IsRunning, case_blocks}
-use Rattle.intake.specs.State.{Bare, BareCase}
+use Rattle.intake.specs.Parts.{Parts, StreamParts, state_of, case_facts, contents_of, taken_in}
+use Rattle.intake.specs.Sound.{IsArchiveSound, IsRunning, case_blocks}
+use Rattle.intake.specs.State.{ArchiveState, CaseFacts}
 use Rattle.intake.specs.Step.{DropStep, DeleteStep, HasCase}
 use Rattle.intake.specs.declared.faults.ArchiveFault.{ArchiveFault}
 use Rattle.intake.specs.declared.faults.ArchiveFault.TheVariants as fault
 use Rattle.intake.proofs.CountLemmas.{uses_same}
 use Rattle.intake.proofs.AfterLemmas.{sound_after, same_state, halted_now, same_bytes}
-use Rattle.intake.proofs.RecordedLemmas.{record_room, record_full, bare_recorded}
+use Rattle.intake.proofs.RecordedLemmas.{record_room, record_full, state_recorded}
 
 -- the cases that are left, without their blocks
-bare_left : (seqs : List ℕ) (cases : List Case) → map bare_case (dropped seqs cases) ≡ filter (λ (c : BareCase). not (is_among seqs c.seq)) (map bare_case cases)
-bare_left seqs [] = refl
-bare_left seqs (c ∷ rest) =
-    elim (is_among seqs c.seq) as (λ t. map bare_case (cond (not t) (c ∷ dropped seqs rest) (dropped seqs rest))
-    ≡ cond (not t) (bare_case c ∷ filter (λ (x : BareCase). not (is_among seqs x.seq)) (map bare_case rest)) (filter (λ (x : BareCase). not (is_among seqs x.seq)) (map bare_case rest))) [
-      | true ↦ bare_left seqs rest
-      | false ↦ ap (λ (l : List BareCase). bare_case c ∷ l) (bare_left seqs rest)
+state_left : (seqs : List ℕ) (cases : List Case) → map case_facts (dropped seqs cases) ≡ filter (λ (c : CaseFacts). not (is_among seqs c.seq)) (map case_facts cases)
+state_left seqs [] = refl
+state_left seqs (c ∷ rest) =
+    elim (is_among seqs c.seq) as (λ t. map case_facts (cond (not t) (c ∷ dropped seqs rest) (dropped seqs rest))
+    ≡ cond (not t) (case_facts c ∷ filter (λ (x : CaseFacts). not (is_among seqs x.seq)) (map case_facts rest)) (filter (λ (x : CaseFacts). not (is_among seqs x.seq)) (map case_facts rest))) [
+      | true ↦ state_left seqs rest
+      | false ↦ ap (λ (l : List CaseFacts). case_facts c ∷ l) (state_left seqs rest)
     ]
 
 -- and their images
-images_left : (f : Case → List ℕ) (seqs : List ℕ) (cases : List Case) → map f (dropped seqs cases) ≡ images_without seqs (map bare_case cases) (map f cases)
+images_left : (f : Case → List ℕ) (seqs : List ℕ) (cases : List Case) → map f (dropped seqs cases) ≡ images_without seqs (map case_facts cases) (map f cases)
 images_left f seqs [] = refl
 images_left f seqs (c ∷ rest) =
     elim (is_among seqs c.seq) as (λ t. map f (cond (not t) (c ∷ dropped seqs rest) (dropped seqs rest))
-    ≡ cond t (images_without seqs (map bare_case rest) (map f rest)) (f c ∷ images_without seqs (map bare_case rest) (map f rest))) [
+    ≡ cond t (images_without seqs (map case_facts rest) (map f rest)) (f c ∷ images_without seqs (map case_facts rest) (map f rest))) [
       | true ↦ images_left f seqs rest
       | false ↦ ap (λ (l : List (List ℕ)). f c ∷ l) (images_left f seqs rest)
     ]
 
 module _ {D : Type 0} (g : disk.Ghosts D) (d d' : D) (j j' : Journaled) (most : ℕ) (flags : List Bool) (streams streams' : List (Option StreamParts)) (b b' : Bool) (seqs : List ℕ)
-    (sound : IsSound g d j most flags streams b) (on : b ≡ false) where
+    (sound : IsArchiveSound g d j most flags streams b) (on : b ≡ false) where
   abbrev old : Parts D
   old = record { disk = d; journal = j; limit = most; streams = streams; stopped = b }
 
@@ -75,24 +75,24 @@ module _ {D : Type 0} (g : disk.Ghosts D) (d d' : D) (j j' : Journaled) (most : 
       let z = uses_same k (used_blocks (gone seqs j.standing.cases)) in
       omega (arith, o, l, y, p, z)
 
-  pub drop_ok : (u : Unit {0}) → AppendStep j (Drop seqs) (Ok u) j' → DropStep (bare_of old) seqs (Ok u) (bare_of (record { disk = d'; journal = j'; limit = most; streams = streams; stopped = b }))
+  pub drop_ok : (u : Unit {0}) → AppendStep j (Drop seqs) (Ok u) j' → DropStep (state_of old) seqs (Ok u) (state_of (record { disk = d'; journal = j'; limit = most; streams = streams; stopped = b }))
   drop_ok u step = (
-    record_room d d' j (Drop seqs) most streams b _ (bare_left seqs j.standing.cases) step.1,
-    ap (λ (k : Journaled). bare_of (record { disk = d'; journal = k; limit = most; streams = streams; stopped = b })) step.2
-        ∙ bare_recorded d d' j (Drop seqs) most streams b _ (bare_left seqs j.standing.cases),
+    record_room d d' j (Drop seqs) most streams b _ (state_left seqs j.standing.cases) step.1,
+    ap (λ (k : Journaled). state_of (record { disk = d'; journal = k; limit = most; streams = streams; stopped = b })) step.2
+        ∙ state_recorded d d' j (Drop seqs) most streams b _ (state_left seqs j.standing.cases),
   )
 
-  pub drop_err : (jf : JournalFault) → AppendStep j (Drop seqs) (Err jf) j' → EndsStreams (fault_of jf) streams b' streams' → DropStep (bare_of old) seqs (Err (fault_of jf)) (bare_of new)
+  pub drop_err : (jf : JournalFault) → AppendStep j (Drop seqs) (Err jf) j' → EndsStreams (fault_of jf) streams b' streams' → DropStep (state_of old) seqs (Err (fault_of jf)) (state_of new)
   drop_err journal_fault.Stopped step ends = absurd (let e : true ≡ false = sym step.0 ∙ (sound.runs on).journal in cc)
-  drop_err journal_fault.JournalFull step ends = (record_full d d' j (Drop seqs) most streams b _ (bare_left seqs j.standing.cases) step.1, same_state g d d' j j' (Drop seqs) most flags streams streams' b b' on ends.0 ends.1 step.2)
+  drop_err journal_fault.JournalFull step ends = (record_full d d' j (Drop seqs) most streams b _ (state_left seqs j.standing.cases) step.1, same_state g d d' j j' (Drop seqs) most flags streams streams' b b' on ends.0 ends.1 step.2)
   drop_err journal_fault.NumbersSpent step ends = absurd step
-  drop_err journal_fault.OutOfMemory step ends = (record_room d d' j (Drop seqs) most streams b _ (bare_left seqs j.standing.cases) step.1, same_state g d d' j j' (Drop seqs) most flags streams streams' b b' on ends.0 ends.1 step.2)
-  drop_err journal_fault.Disk step ends = (record_room d d' j (Drop seqs) most streams b _ (bare_left seqs j.standing.cases) step.1, halted_now g d d' j j' (Drop seqs) most flags streams streams' b b' on ends.0 ends.1 step.2)
+  drop_err journal_fault.OutOfMemory step ends = (record_room d d' j (Drop seqs) most streams b _ (state_left seqs j.standing.cases) step.1, same_state g d d' j j' (Drop seqs) most flags streams streams' b b' on ends.0 ends.1 step.2)
+  drop_err journal_fault.Disk step ends = (record_room d d' j (Drop seqs) most streams b _ (state_left seqs j.standing.cases) step.1, halted_now g d d' j j' (Drop seqs) most flags streams streams' b b' on ends.0 ends.1 step.2)
 
   pub drop_sound_after : (flags' : List Bool) (u : Unit {0}) → MayFollow j.standing (Drop seqs) → AppendStep j (Drop seqs) (Ok u) j' → Guards g d' j' → Balances flags (used_blocks (gone seqs j.standing.cases)) flags' []
-      → IsSound g d' j' most flags' streams b
+      → IsArchiveSound g d' j' most flags' streams b
   drop_sound_after flags' u may step keeps bal =
-      subst (λ (k : Journaled). IsSound g d' k most flags' streams b) (sym step.2)
+      subst (λ (k : Journaled). IsArchiveSound g d' k most flags' streams b) (sym step.2)
       (sound_after g d d' j (Drop seqs) most flags flags' streams b sound on (subst (Guards g d') step.2 keeps) may bal.long
       (λ k. (let x : case_uses (dropped seqs j.standing.cases) k ≡ uses_in k (used_blocks (dropped seqs j.standing.cases)) = case_uses_same k (dropped seqs j.standing.cases) in
       let y : case_uses j.standing.cases k ≡ uses_in k (used_blocks j.standing.cases) = case_uses_same k j.standing.cases in
@@ -108,15 +108,15 @@ module _ {D : Type 0} (g : disk.Ghosts D) (d d' : D) (j j' : Journaled) (most : 
       (λ name. (let n : cases_named (dropped seqs j.standing.cases) name + cases_named (gone seqs j.standing.cases) name ≡ cases_named j.standing.cases name = named_dropped seqs j.standing.cases name in omega (arith, n))))
 
   pub drop_bytes : (u : Unit {0}) → AppendStep j (Drop seqs) (Ok u) j' → SameOutside 4096 (2 * half_length j.standing.shape) (g.seen d) (g.seen d')
-      → DropBytes (bare_of old) (contents_of g.seen old) seqs (Ok u) (contents_of g.seen (record { disk = d'; journal = j'; limit = most; streams = streams; stopped = b }))
+      → DropBytes (state_of old) (contents_of g.seen old) seqs (Ok u) (contents_of g.seen (record { disk = d'; journal = j'; limit = most; streams = streams; stopped = b }))
   drop_bytes u step outside =
       ap (λ (k : Journaled). contents_of g.seen (record { disk = d'; journal = k; limit = most; streams = streams; stopped = b })) step.2
       ∙ ap (λ (x : List (List ℕ)). record { images = x; taken = map (option_map (taken_in j (g.seen d'))) streams })
       (images_left (λ (c : Case). image_in j.standing.shape (g.seen d') c.blocks c.len) seqs j.standing.cases)
-      ∙ ap (λ (x : Contents). record { images = images_without seqs (map bare_case j.standing.cases) x.images; taken = x.taken }) (same_bytes g.seen d d' j most streams b outside b)
+      ∙ ap (λ (x : Contents). record { images = images_without seqs (map case_facts j.standing.cases) x.images; taken = x.taken }) (same_bytes g.seen d d' j most streams b outside b)
 
 -- one case is deleted
-pub delete_step : (s : Bare) (seq : ℕ) (c : BareCase) (r : Result (Unit {0}) ArchiveFault) (after : Bare) → HasCase s seq c → c.pinned ≡ false → DropStep s (seq ∷ []) r after → DeleteStep s seq r after
+pub delete_step : (s : ArchiveState) (seq : ℕ) (c : CaseFacts) (r : Result (Unit {0}) ArchiveFault) (after : ArchiveState) → HasCase s seq c → c.pinned ≡ false → DropStep s (seq ∷ []) r after → DeleteStep s seq r after
 delete_step s seq c (Ok u) after has free step = (c, has, free, step.0, step.1)
 delete_step s seq c (Err fault.JournalFull) after has free step = (c, has, free, step.0, step.1)
 delete_step s seq c (Err fault.OutOfMemory) after has free step = (c, has, free, step.0, step.1)

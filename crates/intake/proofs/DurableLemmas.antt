@@ -16,7 +16,7 @@ use Rattle.case_journal.specs.Journaled.{Journaled}
 use Rattle.intake.specs.Blocks.{block_start, image_in}
 use Rattle.intake.specs.Durable.{FoundCase, Durable, found_with, found_case, durable_in, durable_of, durable_part, with_images, without, flagged}
 use Rattle.intake.specs.Live.{case_uses}
-use Rattle.intake.specs.Parts.{Parts, bare_case, bare_of, contents_of}
+use Rattle.intake.specs.Parts.{Parts, case_facts, state_of, contents_of}
 use Rattle.intake.proofs.BlockLemmas.{joined_other}
 use Rattle.intake.proofs.StoreLemmas.{joined_behind}
 
@@ -78,9 +78,9 @@ pub durable_stored : (s : Standing) (c : Case) (bytes : List ℕ)
 durable_stored s c bytes = ap (λ (l : List FoundCase). record { cases = l; next = s.next + 1 }) (map-append (found_case s.shape bytes) s.cases (numbered s.next c ∷ []))
 
 -- a state and its bytes say the same
-pub found_zipped : (shape : Shape) (bytes : List ℕ) (cases : List Case) → map (found_case shape bytes) cases ≡ with_images (map bare_case cases) (map (λ (c : Case). image_in shape bytes c.blocks c.len) cases)
+pub found_zipped : (shape : Shape) (bytes : List ℕ) (cases : List Case) → map (found_case shape bytes) cases ≡ with_images (map case_facts cases) (map (λ (c : Case). image_in shape bytes c.blocks c.len) cases)
 found_zipped shape bytes [] = refl
 found_zipped shape bytes (c ∷ rest) = ap (λ (l : List FoundCase). found_case shape bytes c ∷ l) (found_zipped shape bytes rest)
 
-pub durable_is : {D : Type 0} (seen : D → List ℕ) (a : Parts D) → durable_of seen a ≡ durable_part (bare_of a) (contents_of seen a)
+pub durable_is : {D : Type 0} (seen : D → List ℕ) (a : Parts D) → durable_of seen a ≡ durable_part (state_of a) (contents_of seen a)
 durable_is seen a = ap (λ (l : List FoundCase). record { cases = l; next = a.journal.standing.next }) (found_zipped a.journal.standing.shape (seen a.disk) a.journal.standing.cases)

@@ -20,25 +20,25 @@ use Rattle.extents.specs.Runs.{runs_of}
 use Rattle.extents.specs.RunLaws.{runs_no_more, runs_some}
 use Rattle.std.proofs.lemmas.List.{length-set, map-set, map-append}
 use Rattle.journal_layout.specs.Standing.{store_of}
-use Rattle.intake.specs.State.{BareStream}
+use Rattle.intake.specs.State.{StreamFacts}
 use Rattle.case_journal.specs.Append.{StoreRefused}
 use Rattle.intake.specs.Guarding.{Guards}
 use Rattle.case_journal.specs.declared.faults.JournalFault.{JournalFault}
 use Rattle.case_journal.specs.declared.faults.JournalFault.TheVariants as journal_fault
 use Rattle.intake.specs.Faults.{fault_of}
-use Rattle.intake.specs.Closing.{Closes, Appends, with_blocks}
+use Rattle.intake.specs.Closing.{ClosesStream, Appends, with_blocks}
 use Rattle.intake.specs.Ending.{EndsStreams}
 use Rattle.intake.specs.Live.{case_uses}
-use Rattle.intake.specs.Parts.{Parts, StreamParts, bare_of, bare_case, bare_stream}
+use Rattle.intake.specs.Parts.{Parts, StreamParts, state_of, case_facts, stream_facts}
 use Rattle.intake.specs.Slots.{stream_at}
-use Rattle.intake.specs.Sound.{IsSound, IsRunning, IsFine, IsFineIfOpen, held_by, is_called}
+use Rattle.intake.specs.Sound.{IsArchiveSound, IsRunning, IsFine, IsFineIfOpen, held_by, is_called}
 use Rattle.intake.specs.Step.{FinishStep, MayFinish, MayHaveRuns, cases_with, record_size, recorded, with_stream}
 use Rattle.intake.specs.StreamView.{case_from_parts}
 use Rattle.intake.proofs.AdvanceLemmas.{gone_state, halted_state, free_is, sound_refused}
 use Rattle.intake.proofs.CountLemmas.{uses_same, one_if_le, in_range}
 use Rattle.intake.proofs.SoundLemmas.{slot_below, sound_halted, fine_at, part_of_sum, named_in}
 use Rattle.intake.proofs.LiveLemmas.{sound_stored}
-use Rattle.intake.proofs.RecordedLemmas.{record_room, record_full, bare_recorded}
+use Rattle.intake.proofs.RecordedLemmas.{record_room, record_full, state_recorded}
 use Rattle.intake.proofs.StepLemmas.{some_there}
 
 none_named : (P : Case → Bool) (cases : List Case) → count_by P cases ≡ 0 → list_any P cases ≡ false
@@ -62,46 +62,46 @@ module _ {D : Type 0} (g : disk.Ghosts D) (d d' : D) (j : Journaled) (most : ℕ
   abbrev before : Parts D
   before = record { disk = d; journal = j; limit = most; streams = streams; stopped = b }
 
-  may : ((s.len % 4096 ≢ 0) → 0 < free_count flags) → MayFinish (bare_of before) slot (bare_stream s)
+  may : ((s.len % 4096 ≢ 0) → 0 < free_count flags) → MayFinish (state_of before) slot (stream_facts s)
   may there = (on, some_there streams slot s is, (λ over full. (let lt = there over in let f = free_is g d d' j most flags streams slot 0 s b running on is in omega (arith, lt, full, f))))
 
   -- the seal was refused
-  pub seal_err : (b' : Bool) (dropped streams' : List (Option StreamParts)) (s' : StreamParts) (f : ArchiveFault) → dropped ≡ slice_set streams slot None → EndsStreams f dropped b' streams' → Closes (free_count flags) s (Err f) s'
-      → FinishStep (bare_of before) slot (Err f) (bare_of (record { disk = d'; journal = j; limit = most; streams = streams'; stopped = b' }))
+  pub seal_err : (b' : Bool) (dropped streams' : List (Option StreamParts)) (s' : StreamParts) (f : ArchiveFault) → dropped ≡ slice_set streams slot None → EndsStreams f dropped b' streams' → ClosesStream (free_count flags) s (Err f) s'
+      → FinishStep (state_of before) slot (Err f) (state_of (record { disk = d'; journal = j; limit = most; streams = streams'; stopped = b' }))
   seal_err b' dropped streams' s' fault.SpaceFull gone ends closes = (
-    bare_stream s,
+    stream_facts s,
     on,
     some_there streams slot s is,
     closes.0,
     (let e = closes.1 in let f = free_is g d d' j most flags streams slot 0 s b running on is in omega (arith, e, f)),
     gone_state g d d' j most flags streams slot 0 s b running on is b' dropped streams' gone ends.0 ends.1,
   )
-  seal_err b' dropped streams' s' fault.OutOfMemory gone ends closes = (bare_stream s, may (λ over. closes.1), gone_state g d d' j most flags streams slot 0 s b running on is b' dropped streams' gone ends.0 ends.1)
-  seal_err b' dropped streams' s' fault.Disk gone ends closes = (bare_stream s, may closes, halted_state g d d' j most flags streams slot 0 s b running on is b' dropped streams' gone ends.0 ends.1)
+  seal_err b' dropped streams' s' fault.OutOfMemory gone ends closes = (stream_facts s, may (λ over. closes.1), gone_state g d d' j most flags streams slot 0 s b running on is b' dropped streams' gone ends.0 ends.1)
+  seal_err b' dropped streams' s' fault.Disk gone ends closes = (stream_facts s, may closes, halted_state g d d' j most flags streams slot 0 s b running on is b' dropped streams' gone ends.0 ends.1)
   seal_err b' dropped streams' s' _ gone ends closes = absurd closes
 
-  pub seal_not_stopped : (s' : StreamParts) (f : ArchiveFault) → Closes (free_count flags) s (Err f) s' → f ≡ fault.Stopped → ⊥
-  seal_not_stopped s' f closes e = let x = subst (λ (h : ArchiveFault). Closes (free_count flags) s (Err h) s') e closes in absurd x
+  pub seal_not_stopped : (s' : StreamParts) (f : ArchiveFault) → ClosesStream (free_count flags) s (Err f) s' → f ≡ fault.Stopped → ⊥
+  seal_not_stopped s' f closes e = let x = subst (λ (h : ArchiveFault). ClosesStream (free_count flags) s (Err h) s') e closes in absurd x
 
-  pub seal_not_missing : (s' : StreamParts) (f : ArchiveFault) → Closes (free_count flags) s (Err f) s' → f ≡ fault.NoStream → ⊥
-  seal_not_missing s' f closes e = let x = subst (λ (h : ArchiveFault). Closes (free_count flags) s (Err h) s') e closes in absurd x
+  pub seal_not_missing : (s' : StreamParts) (f : ArchiveFault) → ClosesStream (free_count flags) s (Err f) s' → f ≡ fault.NoStream → ⊥
+  seal_not_missing s' f closes e = let x = subst (λ (h : ArchiveFault). ClosesStream (free_count flags) s (Err h) s') e closes in absurd x
 
   fine_is : IsFine most s
   fine_is = subst (IsFineIfOpen most) is (fine_at most streams slot running.streams_fine)
 
   -- the case that the stream becomes: its facts, and the blocks that it has now
-  pub closed_case : (s' : StreamParts) (u : Unit {0}) → Closes (free_count flags) s (Ok u) s' → case_from_parts s' ≡ case_from_parts (with_blocks s s'.blocks)
+  pub closed_case : (s' : StreamParts) (u : Unit {0}) → ClosesStream (free_count flags) s (Ok u) s' → case_from_parts s' ≡ case_from_parts (with_blocks s s'.blocks)
   closed_case s' u closes = ⊎_elim
       (λ h. h.1 ∙ ap (λ (x : List ℕ). case_from_parts (with_blocks s x)) (sym (ap (λ (c : Case). c.blocks) h.1)))
       (λ h. h.3) closes
 
-  closed_enough : (s' : StreamParts) (u : Unit {0}) → Closes (free_count flags) s (Ok u) s' → length s'.blocks ≡ blocks_for s.len
+  closed_enough : (s' : StreamParts) (u : Unit {0}) → ClosesStream (free_count flags) s (Ok u) s' → length s'.blocks ≡ blocks_for s.len
   closed_enough s' u closes = let fill = fine_is.filled in ⊎_elim
       (λ h. (let e = ap (λ (c : Case). length c.blocks) h.1 in let z = h.0 in omega (arith, e, fill, z)))
       (λ h. (let e = h.2 in let z = h.0 in omega (arith, e, fill, z))) closes
 
   -- it may be stored
-  pub storable : (flags' : List Bool) (s' : StreamParts) (u : Unit {0}) → Closes (free_count flags) s (Ok u) s' → Balances flags s.blocks flags' s'.blocks
+  pub storable : (flags' : List Bool) (s' : StreamParts) (u : Unit {0}) → ClosesStream (free_count flags) s (Ok u) s' → Balances flags s.blocks flags' s'.blocks
       → IsStorable j.standing.shape.data_blocks j.standing.cases (case_from_parts s')
   storable flags' s' u closes bal =
       let fine = fine_is in
@@ -130,33 +130,33 @@ module _ {D : Type 0} (g : disk.Ghosts D) (d d' : D) (j : Journaled) (most : ℕ
       })
 
   -- how many runs it may lie in
-  pub runs_may : (s' : StreamParts) (u : Unit {0}) → Closes (free_count flags) s (Ok u) s' → MayHaveRuns s.len (length (runs_of s'.blocks))
+  pub runs_may : (s' : StreamParts) (u : Unit {0}) → ClosesStream (free_count flags) s (Ok u) s' → MayHaveRuns s.len (length (runs_of s'.blocks))
   runs_may s' u closes =
       let e = closed_enough s' u closes in (
         omega (arith, e, runs_no_more s'.blocks),
         (λ some. runs_some s'.blocks (omega (arith, e, some))),
       )
 
-  there_is : (s' : StreamParts) (u : Unit {0}) → Closes (free_count flags) s (Ok u) s' → (s.len % 4096 ≢ 0) → 0 < free_count flags
+  there_is : (s' : StreamParts) (u : Unit {0}) → ClosesStream (free_count flags) s (Ok u) s' → (s.len % 4096 ≢ 0) → 0 < free_count flags
   there_is s' u closes over = ⊎_elim (λ h. absurd (over h.0)) (λ h. h.1) closes
 
   gone_with : (j' : Journaled) (b' : Bool) (dropped streams' : List (Option StreamParts)) → dropped ≡ slice_set streams slot None → b' ≡ false → streams' ≡ dropped → j' ≡ j
-      → bare_of (record { disk = d'; journal = j'; limit = most; streams = streams'; stopped = b' }) ≡ with_stream (bare_of before) slot None
+      → state_of (record { disk = d'; journal = j'; limit = most; streams = streams'; stopped = b' }) ≡ with_stream (state_of before) slot None
   gone_with j' b' dropped streams' gone still same now =
-      ap (λ (k : Journaled). bare_of (record { disk = d'; journal = k; limit = most; streams = streams'; stopped = b' })) now
+      ap (λ (k : Journaled). state_of (record { disk = d'; journal = k; limit = most; streams = streams'; stopped = b' })) now
       ∙ gone_state g d d' j most flags streams slot 0 s b running on is b' dropped streams' gone still same
 
   -- the cases with the stream as the last one
-  cases_say : (blocks : List ℕ) → map bare_case (j.standing.cases ++ numbered j.standing.next (case_from_parts (with_blocks s blocks)) ∷ []) ≡ cases_with (bare_of before) (bare_stream s) (length (runs_of blocks))
-  cases_say blocks = map-append bare_case j.standing.cases (numbered j.standing.next (case_from_parts (with_blocks s blocks)) ∷ [])
+  cases_say : (blocks : List ℕ) → map case_facts (j.standing.cases ++ numbered j.standing.next (case_from_parts (with_blocks s blocks)) ∷ []) ≡ cases_with (state_of before) (stream_facts s) (length (runs_of blocks))
+  cases_say blocks = map-append case_facts j.standing.cases (numbered j.standing.next (case_from_parts (with_blocks s blocks)) ∷ [])
 
   -- the record was refused
   store_err : (j' : Journaled) (b' : Bool) (dropped streams' : List (Option StreamParts)) (s' : StreamParts) (u : Unit {0}) (jf : JournalFault) → dropped ≡ slice_set streams slot None → EndsStreams (fault_of jf) dropped b' streams'
-      → Closes (free_count flags) s (Ok u) s' → StoreRefused j (case_from_parts (with_blocks s s'.blocks)) jf j'
-      → FinishStep (bare_of before) slot (Err (fault_of jf)) (bare_of (record { disk = d'; journal = j'; limit = most; streams = streams'; stopped = b' }))
+      → ClosesStream (free_count flags) s (Ok u) s' → StoreRefused j (case_from_parts (with_blocks s s'.blocks)) jf j'
+      → FinishStep (state_of before) slot (Err (fault_of jf)) (state_of (record { disk = d'; journal = j'; limit = most; streams = streams'; stopped = b' }))
   store_err j' b' dropped streams' s' u journal_fault.Stopped gone ends closes refused = absurd (let e : true ≡ false = sym refused.0 ∙ running.journal in cc)
   store_err j' b' dropped streams' s' u journal_fault.JournalFull gone ends closes refused = (
-    bare_stream s,
+    stream_facts s,
     length (runs_of s'.blocks),
     may (there_is s' u closes),
     runs_may s' u closes,
@@ -164,7 +164,7 @@ module _ {D : Type 0} (g : disk.Ghosts D) (d d' : D) (j : Journaled) (most : ℕ
     gone_with j' b' dropped streams' gone ends.0 ends.1 refused.2,
   )
   store_err j' b' dropped streams' s' u journal_fault.NumbersSpent gone ends closes refused = (
-    bare_stream s,
+    stream_facts s,
     length (runs_of s'.blocks),
     may (there_is s' u closes),
     runs_may s' u closes,
@@ -172,72 +172,72 @@ module _ {D : Type 0} (g : disk.Ghosts D) (d d' : D) (j : Journaled) (most : ℕ
     refused.2,
     gone_with j' b' dropped streams' gone ends.0 ends.1 refused.3,
   )
-  store_err j' b' dropped streams' s' u journal_fault.OutOfMemory gone ends closes refused = (bare_stream s, may (there_is s' u closes), gone_with j' b' dropped streams' gone ends.0 ends.1 refused.3)
+  store_err j' b' dropped streams' s' u journal_fault.OutOfMemory gone ends closes refused = (stream_facts s, may (there_is s' u closes), gone_with j' b' dropped streams' gone ends.0 ends.1 refused.3)
   store_err j' b' dropped streams' s' u journal_fault.Disk gone ends closes refused = (
-    bare_stream s,
+    stream_facts s,
     may (there_is s' u closes),
-    ap (λ (k : Journaled). bare_of (record { disk = d'; journal = k; limit = most; streams = streams'; stopped = b' })) refused.3
+    ap (λ (k : Journaled). state_of (record { disk = d'; journal = k; limit = most; streams = streams'; stopped = b' })) refused.3
         ∙ halted_state g d d' j most flags streams slot 0 s b running on is b' dropped streams' gone ends.0 ends.1,
   )
 
   pub refused_step : (j' : Journaled) (b' : Bool) (dropped streams' : List (Option StreamParts)) (s' : StreamParts) (u : Unit {0}) (f : ArchiveFault) (c : Case) → dropped ≡ slice_set streams slot None → EndsStreams f dropped b' streams'
-      → Closes (free_count flags) s (Ok u) s' → c ≡ case_from_parts s' → Appends j c (Err f) j'
-      → FinishStep (bare_of before) slot (Err f) (bare_of (record { disk = d'; journal = j'; limit = most; streams = streams'; stopped = b' }))
+      → ClosesStream (free_count flags) s (Ok u) s' → c ≡ case_from_parts s' → Appends j c (Err f) j'
+      → FinishStep (state_of before) slot (Err f) (state_of (record { disk = d'; journal = j'; limit = most; streams = streams'; stopped = b' }))
   refused_step j' b' dropped streams' s' u f c gone ends closes same appends =
-      subst (λ (x : ArchiveFault). FinishStep (bare_of before) slot (Err x) (bare_of (record { disk = d'; journal = j'; limit = most; streams = streams'; stopped = b' }))) (sym appends.1)
+      subst (λ (x : ArchiveFault). FinishStep (state_of before) slot (Err x) (state_of (record { disk = d'; journal = j'; limit = most; streams = streams'; stopped = b' }))) (sym appends.1)
       (store_err j' b' dropped streams' s' u appends.0 gone (subst (λ (x : ArchiveFault). EndsStreams x dropped b' streams') appends.1 ends) closes
       (subst (λ (x : Case). StoreRefused j x appends.0 j') (same ∙ closed_case s' u closes) appends.2))
 
-  unmoved : (j' : Journaled) (b' : Bool) (flags' : List Bool) (dropped streams' : List (Option StreamParts)) (f : ArchiveFault) → IsSound g d j most flags streams b → dropped ≡ slice_set streams slot None → EndsStreams f dropped b' streams'
-      → j' ≡ j → Guards g d' j' → Balances flags s.blocks flags' [] → IsSound g d' j' most flags' streams' b'
+  unmoved : (j' : Journaled) (b' : Bool) (flags' : List Bool) (dropped streams' : List (Option StreamParts)) (f : ArchiveFault) → IsArchiveSound g d j most flags streams b → dropped ≡ slice_set streams slot None → EndsStreams f dropped b' streams'
+      → j' ≡ j → Guards g d' j' → Balances flags s.blocks flags' [] → IsArchiveSound g d' j' most flags' streams' b'
   unmoved j' b' flags' dropped streams' f sound gone ends now keeps bal =
-      subst (λ (k : Journaled). IsSound g d' k most flags' streams' b') (sym now)
+      subst (λ (k : Journaled). IsArchiveSound g d' k most flags' streams' b') (sym now)
       (sound_refused g d d' j most flags flags' streams dropped streams' slot s b b' f sound on is gone (subst (Guards g d') now keeps) bal ends)
 
   -- the archive stays sound
-  sound_unstored : (j' : Journaled) (b' : Bool) (flags' : List Bool) (dropped streams' : List (Option StreamParts)) (jf : JournalFault) (c : Case) → IsSound g d j most flags streams b → dropped ≡ slice_set streams slot None → EndsStreams (fault_of jf) dropped b' streams'
-      → StoreRefused j c jf j' → Guards g d' j' → Balances flags s.blocks flags' [] → IsSound g d' j' most flags' streams' b'
+  sound_unstored : (j' : Journaled) (b' : Bool) (flags' : List Bool) (dropped streams' : List (Option StreamParts)) (jf : JournalFault) (c : Case) → IsArchiveSound g d j most flags streams b → dropped ≡ slice_set streams slot None → EndsStreams (fault_of jf) dropped b' streams'
+      → StoreRefused j c jf j' → Guards g d' j' → Balances flags s.blocks flags' [] → IsArchiveSound g d' j' most flags' streams' b'
   sound_unstored j' b' flags' dropped streams' journal_fault.Disk c sound gone ends refused keeps bal =
-      subst (λ (t : Bool). IsSound g d' j' most flags' streams' t) (sym ends.0)
-      (subst (λ (x : List (Option StreamParts)). IsSound g d' j' most flags' x true) (sym ends.1)
+      subst (λ (t : Bool). IsArchiveSound g d' j' most flags' streams' t) (sym ends.0)
+      (subst (λ (x : List (Option StreamParts)). IsArchiveSound g d' j' most flags' x true) (sym ends.1)
       (sound_halted g d d' j j' most flags flags' streams dropped b sound (ap (λ (k : Journaled). k.standing.shape) refused.3) (ap length gone ∙ length-set streams slot None)))
   sound_unstored j' b' flags' dropped streams' journal_fault.Stopped c sound gone ends refused keeps bal = absurd (let e : true ≡ false = sym refused.0 ∙ running.journal in cc)
   sound_unstored j' b' flags' dropped streams' journal_fault.JournalFull c sound gone ends refused keeps bal = unmoved j' b' flags' dropped streams' fault.JournalFull sound gone ends refused.2 keeps bal
   sound_unstored j' b' flags' dropped streams' journal_fault.NumbersSpent c sound gone ends refused keeps bal = unmoved j' b' flags' dropped streams' fault.NumbersSpent sound gone ends refused.3 keeps bal
   sound_unstored j' b' flags' dropped streams' journal_fault.OutOfMemory c sound gone ends refused keeps bal = unmoved j' b' flags' dropped streams' fault.OutOfMemory sound gone ends refused.3 keeps bal
 
-  pub sound_not_stored : (j' : Journaled) (b' : Bool) (flags' : List Bool) (dropped streams' : List (Option StreamParts)) (f : ArchiveFault) (c : Case) → IsSound g d j most flags streams b → dropped ≡ slice_set streams slot None → EndsStreams f dropped b' streams'
-      → Appends j c (Err f) j' → Guards g d' j' → Balances flags s.blocks flags' [] → IsSound g d' j' most flags' streams' b'
+  pub sound_not_stored : (j' : Journaled) (b' : Bool) (flags' : List Bool) (dropped streams' : List (Option StreamParts)) (f : ArchiveFault) (c : Case) → IsArchiveSound g d j most flags streams b → dropped ≡ slice_set streams slot None → EndsStreams f dropped b' streams'
+      → Appends j c (Err f) j' → Guards g d' j' → Balances flags s.blocks flags' [] → IsArchiveSound g d' j' most flags' streams' b'
   sound_not_stored j' b' flags' dropped streams' f c sound gone ends appends keeps bal =
       sound_unstored j' b' flags' dropped streams' appends.0 c sound gone (subst (λ (x : ArchiveFault). EndsStreams x dropped b' streams') appends.1 ends) appends.2 keeps bal
 
   -- the stream became the last case
-  store_ok : (j' : Journaled) (streams' : List (Option StreamParts)) (s' : StreamParts) (u : Unit {0}) (seq : ℕ) → streams' ≡ slice_set streams slot None → Closes (free_count flags) s (Ok u) s'
+  store_ok : (j' : Journaled) (streams' : List (Option StreamParts)) (s' : StreamParts) (u : Unit {0}) (seq : ℕ) → streams' ≡ slice_set streams slot None → ClosesStream (free_count flags) s (Ok u) s'
       → Appends j (case_from_parts (with_blocks s s'.blocks)) (Ok seq) j'
-      → FinishStep (bare_of before) slot (Ok seq) (bare_of (record { disk = d'; journal = j'; limit = most; streams = streams'; stopped = b }))
+      → FinishStep (state_of before) slot (Ok seq) (state_of (record { disk = d'; journal = j'; limit = most; streams = streams'; stopped = b }))
   store_ok j' streams' s' u seq gone closes a = (
-    bare_stream s,
+    stream_facts s,
     length (runs_of s'.blocks),
     may (there_is s' u closes),
     runs_may s' u closes,
     record_room d d' j (store_of j.standing (case_from_parts (with_blocks s s'.blocks))) most streams b _ (cases_say s'.blocks) a.1,
     a.2,
     a.3,
-    ap (λ (k : Journaled). bare_of (record { disk = d'; journal = k; limit = most; streams = streams'; stopped = b })) a.4
-        ∙ bare_recorded d d' j (store_of j.standing (case_from_parts (with_blocks s s'.blocks))) most streams' b _ (cases_say s'.blocks)
-        ∙ ap (λ (x : List (Option BareStream)).
-        record (recorded (record (bare_of before) { streams = x }) (record_size s.name (length (runs_of s'.blocks))) (cases_with (bare_of before) (bare_stream s) (length (runs_of s'.blocks)))) { next = j.standing.next + 1 })
-        (ap (map (option_map bare_stream)) gone ∙ map-set (option_map bare_stream) streams slot None),
+    ap (λ (k : Journaled). state_of (record { disk = d'; journal = k; limit = most; streams = streams'; stopped = b })) a.4
+        ∙ state_recorded d d' j (store_of j.standing (case_from_parts (with_blocks s s'.blocks))) most streams' b _ (cases_say s'.blocks)
+        ∙ ap (λ (x : List (Option StreamFacts)).
+        record (recorded (record (state_of before) { streams = x }) (record_size s.name (length (runs_of s'.blocks))) (cases_with (state_of before) (stream_facts s) (length (runs_of s'.blocks)))) { next = j.standing.next + 1 })
+        (ap (map (option_map stream_facts)) gone ∙ map-set (option_map stream_facts) streams slot None),
   )
 
-  pub stored_step : (j' : Journaled) (streams' : List (Option StreamParts)) (s' : StreamParts) (u : Unit {0}) (seq : ℕ) (c : Case) → streams' ≡ slice_set streams slot None → Closes (free_count flags) s (Ok u) s' → c ≡ case_from_parts s'
-      → Appends j c (Ok seq) j' → FinishStep (bare_of before) slot (Ok seq) (bare_of (record { disk = d'; journal = j'; limit = most; streams = streams'; stopped = b }))
+  pub stored_step : (j' : Journaled) (streams' : List (Option StreamParts)) (s' : StreamParts) (u : Unit {0}) (seq : ℕ) (c : Case) → streams' ≡ slice_set streams slot None → ClosesStream (free_count flags) s (Ok u) s' → c ≡ case_from_parts s'
+      → Appends j c (Ok seq) j' → FinishStep (state_of before) slot (Ok seq) (state_of (record { disk = d'; journal = j'; limit = most; streams = streams'; stopped = b }))
   stored_step j' streams' s' u seq c gone closes same appends =
       store_ok j' streams' s' u seq gone closes (subst (λ (x : Case). Appends j x (Ok seq) j') (same ∙ closed_case s' u closes) appends)
 
   -- the archive stays sound with the new case, where a number is positive
-  pub sound_with_case : (j' : Journaled) (flags1 flags' : List Bool) (streams' : List (Option StreamParts)) (s' : StreamParts) (u : Unit {0}) (seq : ℕ) (c : Case) → IsSound g d j most flags streams b → streams' ≡ slice_set streams slot None
-      → Closes (free_count flags) s (Ok u) s' → Balances flags s.blocks flags1 s'.blocks → flags' ≡ flags1 → c ≡ case_from_parts s' → Appends j c (Ok seq) j' → Guards g d' j' → IsSound g d' j' most flags' streams' b
+  pub sound_with_case : (j' : Journaled) (flags1 flags' : List Bool) (streams' : List (Option StreamParts)) (s' : StreamParts) (u : Unit {0}) (seq : ℕ) (c : Case) → IsArchiveSound g d j most flags streams b → streams' ≡ slice_set streams slot None
+      → ClosesStream (free_count flags) s (Ok u) s' → Balances flags s.blocks flags1 s'.blocks → flags' ≡ flags1 → c ≡ case_from_parts s' → Appends j c (Ok seq) j' → Guards g d' j' → IsArchiveSound g d' j' most flags' streams' b
   sound_with_case j' flags1 flags' streams' s' u seq c sound gone closes bal same is_case appends keeps =
       let e = is_case ∙ closed_case s' u closes in
       let a = subst (λ (x : Case). Appends j x (Ok seq) j') e appends in

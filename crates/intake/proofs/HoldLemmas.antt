@@ -1,12 +1,12 @@
 -- How the blocks of cases are marked as used.
-use Rattle.std.proofs.Common.{◌≡◌, cond, ℕ, zero, suc, Option, None, ◌+◌, ◌<◌, ◌≤◌, ◌-◌, Bool, true, false, List, [], ◌∷◌, ◌++◌, length, map, get_or, take, drop, replicate, refl, sym, ap, ◌∙◌, subst, arith, Result, Ok, Err}
+use Rattle.std.proofs.Common.{◌≡◌, cond, ℕ, zero, suc, Option, None, ◌+◌, ◌<◌, ◌≤◌, ◌-◌, Bool, true, false, List, [], ◌∷◌, ◌++◌, length, get_or, take, drop, replicate, refl, sym, ap, ◌∙◌, subst, arith, Result, Ok, Err}
 use Rattle.std.specs.Prelude.{nat_lt}
 use Rattle.std.specs.Result.{IsOk}
 use Rattle.std.specs.List.{All}
-use Rattle.std.proofs.lemmas.List.{append-nil, drop_more, get_or-map, length-append, length-map, take-append-drop, take_more}
+use Rattle.std.proofs.lemmas.List.{append-nil, drop_more, length-append, take-append-drop, take_more}
 use Rattle.std.proofs.lemmas.List.FromFn.{length-range_with_len}
 use Rattle.std.proofs.lemmas.List.Elements.{All-cons, All-get_or, All-nil}
-use Rattle.std.proofs.lemmas.List.Sums.{sum_by-append, sum_by-cons, sum_by_more_le}
+use Rattle.std.proofs.lemmas.List.Sums.{sum_by-cons}
 use Rattle.extents.specs.declared.run_list.Run.{Run}
 use Rattle.extents.specs.declared.free_map.UseFault.TheVariants.{OutOfRange, InUse}
 use Rattle.extents.specs.declared.free_map.UseFault.{UseFault}
@@ -14,9 +14,8 @@ use Rattle.extents.specs.Runs.{run_blocks, blocks_of, runs_of}
 use Rattle.extents.specs.RunLaws.{blocks_of_runs, runs_have_blocks}
 use Rattle.extents.specs.FreeSet.{is_free, uses, one_if, Marks}
 use Rattle.extents.specs.FreeLaws.{uses_append, uses_inside, free_below, length_without, marked_one, marked_count}
-use Rattle.journal_layout.specs.Case.{Case, case_of}
+use Rattle.journal_layout.specs.Case.{Case}
 use Rattle.journal_layout.specs.LiveCounts.{blocks_of-append}
-use Rattle.journal_layout.specs.declared.entry.Entry.{Entry}
 use Rattle.extents.specs.FreeSet.{with_runs, free_count}
 use Rattle.std.proofs.lemmas.Bool.{lt-ltb}
 use Rattle.journal_layout.specs.Folding.{used_blocks}
@@ -24,9 +23,8 @@ use Rattle.journal_layout.specs.LiveCounts.{case_uses_same, used_length}
 use Rattle.journal_records.specs.Kept.{IsSpareMap}
 use Rattle.intake.proofs.CountLemmas.{given, uses_same}
 use Rattle.intake.specs.Balance.{AreFree, AreHeld, Balances}
-use Rattle.intake.specs.Live.{case_uses}
 use Rattle.intake.specs.Parts.{StreamParts}
-use Rattle.intake.specs.Sound.{IsSound, IsFineIfOpen, LeaveFree, stream_uses, stream_blocks, streams_named}
+use Rattle.intake.specs.Sound.{IsArchiveSound, IsFineIfOpen, LeaveFree, stream_uses, stream_blocks, streams_named}
 use Rattle.disk_model.specs.declared.disk.Disk as disk
 use Rattle.journal_layout.specs.declared.shape.Shape.{Shape}
 use Rattle.journal_layout.specs.Live.{AreLive}
@@ -141,9 +139,9 @@ none_fine most (suc n) = All-cons (IsFineIfOpen most) None (replicate n None) tt
 -- an archive that was just opened
 pub opened_sound : {D : Type 0} (g : disk.Ghosts D) (d d' : D) (j : Journaled) (most : ℕ) (shape : Shape) (flags : List Bool) (cases : List Case) (streams : List (Option StreamParts))
     → ShowsOpening g d (Ok j) → Guards g d' j → AreLive j.standing.shape.data_blocks j.standing.cases j.standing.next → j.stopped ≡ false
-    → shape ≡ j.standing.shape → cases ≡ j.standing.cases → IsSpareMap shape.data_blocks cases flags → streams ≡ replicate 8 None → IsSound g d' j most flags streams false
+    → shape ≡ j.standing.shape → cases ≡ j.standing.cases → IsSpareMap shape.data_blocks cases flags → streams ≡ replicate 8 None → IsArchiveSound g d' j most flags streams false
 opened_sound g d d' j most shape flags cases streams shows keeps live on same are leave none =
-    subst (λ (x : List (Option StreamParts)). IsSound g d' j most flags x false) (sym none) (record {
+    subst (λ (x : List (Option StreamParts)). IsArchiveSound g d' j most flags x false) (sym none) (record {
       shape = stands_limits shows.shown j.standing shows.gives;
       slots = refl;
       runs = λ _. record {

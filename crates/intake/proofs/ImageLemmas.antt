@@ -19,7 +19,7 @@ use Rattle.journal_layout.specs.Stands.{Stands}
 use Rattle.case_journal.specs.Journaled.{Journaled}
 use Rattle.case_journal.specs.Keeping.{Keeps}
 use Rattle.journal_snapshot.specs.Holding.{SameHeaders}
-use Rattle.case_journal.specs.Viewing.{IsQuiet}
+use Rattle.case_journal.specs.Viewing.{OnlyReads}
 use Rattle.intake.specs.Blocks.{image_in}
 use Rattle.intake.specs.Contents.{Taken, UnmovedBytes, without_streams, image_at}
 use Rattle.disk_model.specs.MomentLaws.{adds, weakened}
@@ -27,16 +27,16 @@ use Rattle.disk_model.specs.Moments.{AddsOnly}
 use Rattle.intake.specs.Durable.{StandsFor, durable_in}
 use Rattle.intake.specs.Ending.{EndsStreams}
 use Rattle.intake.specs.Guarding.{Guards}
-use Rattle.intake.specs.Parts.{Parts, StreamParts, bare_of, bare_case, bare_stream, taken_in, contents_of}
+use Rattle.intake.specs.Parts.{Parts, StreamParts, state_of, case_facts, stream_facts, taken_in, contents_of}
 use Rattle.intake.specs.Reading.{LieWithin, LiesIn, IsReadFault}
 use Rattle.intake.specs.Slots.{closed}
-use Rattle.intake.specs.Sound.{IsSound, case_blocks}
-use Rattle.intake.specs.State.{Bare, BareCase, BareStream}
+use Rattle.intake.specs.Sound.{IsArchiveSound, case_blocks}
+use Rattle.intake.specs.State.{ArchiveState, CaseFacts, StreamFacts}
 use Rattle.intake.specs.Step.{ImageStep, HasCase, case_at, halted}
 use Rattle.intake.specs.declared.faults.ArchiveFault.{ArchiveFault}
 use Rattle.intake.specs.declared.faults.ArchiveFault.TheVariants as fault
 use Rattle.intake.proofs.AdvanceLemmas.{closed_map}
-use Rattle.intake.proofs.AfterLemmas.{bare_case_at}
+use Rattle.intake.proofs.AfterLemmas.{case_facts_at}
 use Rattle.intake.proofs.CountLemmas.{in_range}
 use Rattle.intake.proofs.RestLemmas.{stands_now}
 use Rattle.intake.proofs.SoundLemmas.{sound_halted}
@@ -70,22 +70,22 @@ case_lies limit cases next seq c live all found =
     }
 
 -- the image of a case stands where the case does
-pub image_found : (seq : ℕ) (image : Case → List ℕ) (cases : List Case) → image_at seq (map bare_case cases) (map image cases) ≡ option_map image (case_numbered seq cases)
+pub image_found : (seq : ℕ) (image : Case → List ℕ) (cases : List Case) → image_at seq (map case_facts cases) (map image cases) ≡ option_map image (case_numbered seq cases)
 image_found seq image [] = refl
 image_found seq image (c ∷ rest) =
-    elim (c.seq == seq) as (λ t. cond t (Some (image c)) (image_at seq (map bare_case rest) (map image rest)) ≡ option_map image (cond t (Some c) (case_numbered seq rest)))
+    elim (c.seq == seq) as (λ t. cond t (Some (image c)) (image_at seq (map case_facts rest) (map image rest)) ≡ option_map image (cond t (Some c) (case_numbered seq rest)))
     [ true ↦ refl | false ↦ image_found seq image rest ]
 
 module _ {D : Type 0} (g : disk.Ghosts D) where
   -- what every crash image has in common with what reads give, it still has after reads
-  pub left_quiet : (P : List ℕ → List ℕ → Type 0) (old new : D) → IsQuiet g old new → (IsTrue (g.is_honest old) → (c : List ℕ) → g.may_leave old c → P (g.seen old) c)
+  pub left_quiet : (P : List ℕ → List ℕ → Type 0) (old new : D) → OnlyReads g old new → (IsTrue (g.is_honest old) → (c : List ℕ) → g.may_leave old c → P (g.seen old) c)
       → IsTrue (g.is_honest new) → (c : List ℕ) → g.may_leave new c → P (g.seen new) c
   left_quiet P old new quiet was honest' c may =
       let honest : IsTrue (g.is_honest old) = subst IsTrue quiet.honesty honest' in
       subst (λ (b : List ℕ). P b c) (sym (quiet.seen honest)) (was honest c (quiet.crash honest c may))
 
   -- a disk that is a journal's still is after reads
-  pub keeps_quiet : (old new : D) (j : Journaled) → IsQuiet g old new → Keeps g old j → Keeps g new j
+  pub keeps_quiet : (old new : D) (j : Journaled) → OnlyReads g old new → Keeps g old j → Keeps g new j
   keeps_quiet old new j quiet keeps = record {
     size = quiet.size ∙ keeps.size;
     holds = λ runs honest. record {
@@ -95,20 +95,20 @@ module _ {D : Type 0} (g : disk.Ghosts D) where
   }
 
   -- and so are the images of its cases
-  pub guards_quiet : (old new : D) (j : Journaled) → IsQuiet g old new → Guards g old j → Guards g new j
+  pub guards_quiet : (old new : D) (j : Journaled) → OnlyReads g old new → Guards g old j → Guards g new j
   guards_quiet old new j quiet guards = record {
     keeps = keeps_quiet old new j quiet guards.keeps;
     whole = λ runs honest. left_quiet (λ b c. durable_in c j.standing ≡ durable_in b j.standing) old new quiet (λ was. guards.whole runs was) honest;
   }
 
-  pub read_moments : (old new : D) (j : Journaled) → Guards g old j → j.stopped ≡ false → IsTrue (g.is_honest old) → IsQuiet g old new → AddsOnly g old new (λ c. StandsFor c (durable_in (g.seen old) j.standing))
+  pub read_moments : (old new : D) (j : Journaled) → Guards g old j → j.stopped ≡ false → IsTrue (g.is_honest old) → OnlyReads g old new → AddsOnly g old new (λ c. StandsFor c (durable_in (g.seen old) j.standing))
   read_moments old new j guards runs honest quiet =
       adds g old new (λ c. StandsFor c (durable_in (g.seen old) j.standing))
       (weakened g old new (g.may_leave old) (λ c. StandsFor c (durable_in (g.seen old) j.standing)) (λ c may. stands_now g old j guards runs honest c may) (quiet.moments honest))
 
   -- an archive stays sound over reads
   pub sound_read : (d d' : D) (j : Journaled) (most : ℕ) (flags : List Bool) (streams : List (Option StreamParts)) (b : Bool)
-      → IsSound g d j most flags streams b → b ≡ false → IsQuiet g d d' → IsSound g d' j most flags streams b
+      → IsArchiveSound g d j most flags streams b → b ≡ false → OnlyReads g d d' → IsArchiveSound g d' j most flags streams b
   sound_read d d' j most flags streams b sound on quiet =
       let was = sound.runs on in
       record {
@@ -129,14 +129,14 @@ module _ {D : Type 0} (g : disk.Ghosts D) where
 
   -- also where they were refused
   pub sound_unread : (d d' : D) (j : Journaled) (most : ℕ) (flags : List Bool) (streams streams' : List (Option StreamParts)) (b b' : Bool) (f : ArchiveFault)
-      → IsSound g d j most flags streams b → b ≡ false → IsQuiet g d d' → IsReadFault f → EndsStreams f streams b' streams' → IsSound g d' j most flags streams' b'
+      → IsArchiveSound g d j most flags streams b → b ≡ false → OnlyReads g d d' → IsReadFault f → EndsStreams f streams b' streams' → IsArchiveSound g d' j most flags streams' b'
   sound_unread d d' j most flags streams streams' b b' fault.Disk sound on quiet may ends =
-      subst (λ (t : Bool). IsSound g d' j most flags streams' t) (sym ends.0)
-      (subst (λ (x : List (Option StreamParts)). IsSound g d' j most flags x true) (sym ends.1)
+      subst (λ (t : Bool). IsArchiveSound g d' j most flags streams' t) (sym ends.0)
+      (subst (λ (x : List (Option StreamParts)). IsArchiveSound g d' j most flags x true) (sym ends.1)
       (sound_halted g d d' j j most flags flags streams streams b sound refl refl))
   sound_unread d d' j most flags streams streams' b b' fault.OutOfMemory sound on quiet may ends =
-      subst (λ (t : Bool). IsSound g d' j most flags streams' t) (on ∙ sym ends.0)
-      (subst (λ (x : List (Option StreamParts)). IsSound g d' j most flags x b) (sym ends.1) (sound_read d d' j most flags streams b sound on quiet))
+      subst (λ (t : Bool). IsArchiveSound g d' j most flags streams' t) (on ∙ sym ends.0)
+      (subst (λ (x : List (Option StreamParts)). IsArchiveSound g d' j most flags x b) (sym ends.1) (sound_read d d' j most flags streams b sound on quiet))
   sound_unread d d' j most flags streams streams' b b' _ sound on quiet may ends = absurd may
 
 -- The archive before and after a reading.
@@ -147,25 +147,25 @@ module _ {D : Type 0} (seen : D → List ℕ) (d d' : D) (j : Journaled) (most :
   abbrev new : Parts D
   new = record { disk = d'; journal = j; limit = most; streams = streams'; stopped = b' }
 
-  bare_same : b' ≡ b → streams' ≡ streams → bare_of new ≡ bare_of old
-  bare_same runs same =
-      ap (λ (t : Bool). bare_of (record { disk = d'; journal = j; limit = most; streams = streams'; stopped = t })) runs
-      ∙ ap (λ (x : List (Option StreamParts)). bare_of (record { disk = d'; journal = j; limit = most; streams = x; stopped = b })) same
+  state_same : b' ≡ b → streams' ≡ streams → state_of new ≡ state_of old
+  state_same runs same =
+      ap (λ (t : Bool). state_of (record { disk = d'; journal = j; limit = most; streams = streams'; stopped = t })) runs
+      ∙ ap (λ (x : List (Option StreamParts)). state_of (record { disk = d'; journal = j; limit = most; streams = x; stopped = b })) same
 
-  bare_halted : b' ≡ true → streams' ≡ closed streams → bare_of new ≡ halted (bare_of old)
-  bare_halted off same =
-      ap (λ (t : Bool). bare_of (record { disk = d'; journal = j; limit = most; streams = streams'; stopped = t })) off
-      ∙ ap (λ (x : List (Option BareStream)). record (bare_of old) { streams = x; stopped = true })
-      (ap (map (option_map bare_stream)) same ∙ closed_map bare_stream streams)
+  state_halted : b' ≡ true → streams' ≡ closed streams → state_of new ≡ halted (state_of old)
+  state_halted off same =
+      ap (λ (t : Bool). state_of (record { disk = d'; journal = j; limit = most; streams = streams'; stopped = t })) off
+      ∙ ap (λ (x : List (Option StreamFacts)). record (state_of old) { streams = x; stopped = true })
+      (ap (map (option_map stream_facts)) same ∙ closed_map stream_facts streams)
 
-  pub has_case : (seq : ℕ) (c : Case) → b ≡ false → Some c ≡ case_numbered seq j.standing.cases → HasCase (bare_of old) seq (bare_case c)
-  has_case seq c on found = (on, bare_case_at seq j.standing.cases ∙ ap (option_map bare_case) (sym found))
+  pub has_case : (seq : ℕ) (c : Case) → b ≡ false → Some c ≡ case_numbered seq j.standing.cases → HasCase (state_of old) seq (case_facts c)
+  has_case seq c on found = (on, case_facts_at seq j.standing.cases ∙ ap (option_map case_facts) (sym found))
 
   -- a refusal
   pub image_refused : (T : Type 0) (seq : ℕ) (c : Case) (f : ArchiveFault) → b ≡ false → Some c ≡ case_numbered seq j.standing.cases → IsReadFault f → EndsStreams f streams b' streams'
-      → ImageStep {T = T} (bare_of old) seq (Err f) (bare_of new)
-  image_refused T seq c fault.Disk on found may ends = (bare_case c, has_case seq c on found, bare_halted ends.0 ends.1)
-  image_refused T seq c fault.OutOfMemory on found may ends = (bare_case c, has_case seq c on found, bare_same (ends.0 ∙ sym on) ends.1)
+      → ImageStep {T = T} (state_of old) seq (Err f) (state_of new)
+  image_refused T seq c fault.Disk on found may ends = (case_facts c, has_case seq c on found, state_halted ends.0 ends.1)
+  image_refused T seq c fault.OutOfMemory on found may ends = (case_facts c, has_case seq c on found, state_same (ends.0 ∙ sym on) ends.1)
   image_refused T seq c _ on found may ends = absurd may
 
   -- the bytes stay
@@ -195,14 +195,14 @@ module _ {D : Type 0} (seen : D → List ℕ) (d d' : D) (j : Journaled) (most :
   bytes_refused _ is may ends = absurd may
 
   -- those of a case
-  pub bytes_of_case : (seq : ℕ) (c : Case) → Some c ≡ case_numbered seq j.standing.cases → image_at seq (bare_of old).cases (contents_of seen old).images ≡ Some (image_in j.standing.shape (seen d) c.blocks c.len)
+  pub bytes_of_case : (seq : ℕ) (c : Case) → Some c ≡ case_numbered seq j.standing.cases → image_at seq (state_of old).cases (contents_of seen old).images ≡ Some (image_in j.standing.shape (seen d) c.blocks c.len)
   bytes_of_case seq c found =
       image_found seq (λ (x : Case). image_in j.standing.shape (seen d) x.blocks x.len) j.standing.cases
       ∙ ap (option_map (λ (x : Case). image_in j.standing.shape (seen d) x.blocks x.len)) (sym found)
 
 -- what is as long as the case of this number has the length of each case of this number
-pub long_as : (s : Bare) (seq n : ℕ) (x y : BareCase) → HasCase s seq x → n ≡ x.len → case_at seq s.cases ≡ Some y → n ≡ y.len
-long_as s seq n x y has is at = is ∙ ap (λ (c : BareCase). c.len) (inside (sym has.1 ∙ at))
+pub long_as : (s : ArchiveState) (seq n : ℕ) (x y : CaseFacts) → HasCase s seq x → n ≡ x.len → case_at seq s.cases ≡ Some y → n ≡ y.len
+long_as s seq n x y has is at = is ∙ ap (λ (c : CaseFacts). c.len) (inside (sym has.1 ∙ at))
   where
     inside : Some x ≡ Some y → x ≡ y
     inside e = cc

@@ -10,8 +10,8 @@ use Rattle.intake.specs.Calls.{FinishCall, DeleteCall, PinCall, RetireCall}
 use Rattle.intake.specs.Contents.{Contents, images_without}
 use Rattle.intake.specs.Durable.{FoundCase, durable_of, durable_part, with_images, without, flagged}
 use Rattle.intake.specs.Guarding.{MayBeStored}
-use Rattle.intake.specs.Parts.{Parts, bare_case, bare_of, contents_of}
-use Rattle.intake.specs.State.{Bare, BareCase}
+use Rattle.intake.specs.Parts.{Parts, case_facts, state_of, contents_of}
+use Rattle.intake.specs.State.{ArchiveState, CaseFacts}
 use Rattle.intake.specs.Step.{HasCase, stored, case_from, without_cases, with_flag}
 use Rattle.intake.specs.declared.faults.ArchiveFault.{ArchiveFault}
 use Rattle.intake.proofs.DurableLemmas.{durable_is, found_zipped}
@@ -19,7 +19,7 @@ use Rattle.intake.proofs.MarkLemmas.{finish_same, refused_same, delete_is, pin_i
 use Rattle.retention.specs.declared.Decision.{Decision}
 use Rattle.retention.specs.declared.Policy.{Policy}
 
-abbrev with_image : BareCase → List ℕ → FoundCase
+abbrev with_image : CaseFacts → List ℕ → FoundCase
 with_image c image = record {
   seq = c.seq;
   kind = c.kind;
@@ -35,61 +35,61 @@ with_image c image = record {
 
 module _ (image : Case → List ℕ) where
   abbrev zipped : List Case → List FoundCase
-  zipped cases = with_images (map bare_case cases) (map image cases)
+  zipped cases = with_images (map case_facts cases) (map image cases)
 
-  zipped_then : (cases : List Case) (c : BareCase) (t : List ℕ) → with_images (map bare_case cases ++ c ∷ []) (map image cases ++ t ∷ []) ≡ zipped cases ++ with_image c t ∷ []
+  zipped_then : (cases : List Case) (c : CaseFacts) (t : List ℕ) → with_images (map case_facts cases ++ c ∷ []) (map image cases ++ t ∷ []) ≡ zipped cases ++ with_image c t ∷ []
   zipped_then [] c t = refl
-  zipped_then (d ∷ ds) c t = ap (λ (l : List FoundCase). with_image (bare_case d) (image d) ∷ l) (zipped_then ds c t)
+  zipped_then (d ∷ ds) c t = ap (λ (l : List FoundCase). with_image (case_facts d) (image d) ∷ l) (zipped_then ds c t)
 
   zipped_without : (seqs : List ℕ) (cases : List Case)
-      → with_images (filter (λ (c : BareCase). not (is_among seqs c.seq)) (map bare_case cases)) (images_without seqs (map bare_case cases) (map image cases))
+      → with_images (filter (λ (c : CaseFacts). not (is_among seqs c.seq)) (map case_facts cases)) (images_without seqs (map case_facts cases) (map image cases))
       ≡ filter (λ (c : FoundCase). not (is_among seqs c.seq)) (zipped cases)
   zipped_without seqs [] = refl
   zipped_without seqs (d ∷ ds) =
-      let cs : List BareCase = filter (λ (c : BareCase). not (is_among seqs c.seq)) (map bare_case ds) in
-      let is : List (List ℕ) = images_without seqs (map bare_case ds) (map image ds) in
+      let cs : List CaseFacts = filter (λ (c : CaseFacts). not (is_among seqs c.seq)) (map case_facts ds) in
+      let is : List (List ℕ) = images_without seqs (map case_facts ds) (map image ds) in
       let fs : List FoundCase = filter (λ (c : FoundCase). not (is_among seqs c.seq)) (zipped ds) in
-      elim (is_among seqs d.seq) as (λ t. with_images (cond (not t) (bare_case d ∷ cs) cs) (cond t is (image d ∷ is)) ≡ cond (not t) (with_image (bare_case d) (image d) ∷ fs) fs) [
+      elim (is_among seqs d.seq) as (λ t. with_images (cond (not t) (case_facts d ∷ cs) cs) (cond t is (image d ∷ is)) ≡ cond (not t) (with_image (case_facts d) (image d) ∷ fs) fs) [
         | true ↦ zipped_without seqs ds
-        | false ↦ ap (λ (l : List FoundCase). with_image (bare_case d) (image d) ∷ l) (zipped_without seqs ds)
+        | false ↦ ap (λ (l : List FoundCase). with_image (case_facts d) (image d) ∷ l) (zipped_without seqs ds)
       ]
 
   zipped_flagged : (seq : ℕ) (flag : Bool) (cases : List Case)
-      → with_images (map (λ (c : BareCase). cond (c.seq == seq) (record c { pinned = flag }) c) (map bare_case cases)) (map image cases)
+      → with_images (map (λ (c : CaseFacts). cond (c.seq == seq) (record c { pinned = flag }) c) (map case_facts cases)) (map image cases)
       ≡ map (λ (c : FoundCase). cond (c.seq == seq) (record c { pinned = flag }) c) (zipped cases)
   zipped_flagged seq flag [] = refl
   zipped_flagged seq flag (d ∷ ds) =
-      let cs : List BareCase = map (λ (c : BareCase). cond (c.seq == seq) (record c { pinned = flag }) c) (map bare_case ds) in
+      let cs : List CaseFacts = map (λ (c : CaseFacts). cond (c.seq == seq) (record c { pinned = flag }) c) (map case_facts ds) in
       let fs : List FoundCase = map (λ (c : FoundCase). cond (c.seq == seq) (record c { pinned = flag }) c) (zipped ds) in
-      elim (d.seq == seq) as (λ t. with_images (cond t (record (bare_case d) { pinned = flag }) (bare_case d) ∷ cs) (image d ∷ map image ds)
-      ≡ cond t (record (with_image (bare_case d) (image d)) { pinned = flag }) (with_image (bare_case d) (image d)) ∷ fs) [
-        | true ↦ ap (λ (l : List FoundCase). record (with_image (bare_case d) (image d)) { pinned = flag } ∷ l) (zipped_flagged seq flag ds)
-        | false ↦ ap (λ (l : List FoundCase). with_image (bare_case d) (image d) ∷ l) (zipped_flagged seq flag ds)
+      elim (d.seq == seq) as (λ t. with_images (cond t (record (case_facts d) { pinned = flag }) (case_facts d) ∷ cs) (image d ∷ map image ds)
+      ≡ cond t (record (with_image (case_facts d) (image d)) { pinned = flag }) (with_image (case_facts d) (image d)) ∷ fs) [
+        | true ↦ ap (λ (l : List FoundCase). record (with_image (case_facts d) (image d)) { pinned = flag } ∷ l) (zipped_flagged seq flag ds)
+        | false ↦ ap (λ (l : List FoundCase). with_image (case_facts d) (image d) ∷ l) (zipped_flagged seq flag ds)
       ]
 
-none_gone : (cases : List BareCase) → cases ≡ filter (λ (c : BareCase). not (is_among [] c.seq)) cases
+none_gone : (cases : List CaseFacts) → cases ≡ filter (λ (c : CaseFacts). not (is_among [] c.seq)) cases
 none_gone [] = refl
-none_gone (c ∷ cs) = ap (λ (l : List BareCase). c ∷ l) (none_gone cs)
+none_gone (c ∷ cs) = ap (λ (l : List CaseFacts). c ∷ l) (none_gone cs)
 
 module _ {D : Type 0} (g : disk.Ghosts D) (old new : Parts D) (honest : IsTrue (g.is_honest old.disk)) where
   abbrev image_of : Case → List ℕ
   image_of c = image_in old.journal.standing.shape (g.seen old.disk) c.blocks c.len
 
   abbrev cases_of : List FoundCase
-  cases_of = with_images (bare_of old).cases (contents_of g.seen old).images
+  cases_of = with_images (state_of old).cases (contents_of g.seen old).images
 
   found_before : cases_of ≡ (durable_of g.seen old).cases
   found_before = sym (found_zipped old.journal.standing.shape (g.seen old.disk) old.journal.standing.cases)
 
   -- the cases are told by the state and the bytes
-  lasts : (b : Bare) (c : Contents) → bare_of new ≡ b → contents_of g.seen new ≡ c → durable_of g.seen new ≡ durable_part b c
-  lasts b c is has = durable_is g.seen new ∙ ap (λ (z : Bare). durable_part z (contents_of g.seen new)) is ∙ ap (durable_part b) has
+  lasts : (b : ArchiveState) (c : Contents) → state_of new ≡ b → contents_of g.seen new ≡ c → durable_of g.seen new ≡ durable_part b c
+  lasts b c is has = durable_is g.seen new ∙ ap (λ (z : ArchiveState). durable_part z (contents_of g.seen new)) is ∙ ap (durable_part b) has
 
-  pub finish_lasts : (slot seq : ℕ) → FinishCall g old slot (Ok seq) new → MayBeStored (bare_of old) (contents_of g.seen old) (durable_of g.seen old) slot (durable_of g.seen new)
+  pub finish_lasts : (slot seq : ℕ) → FinishCall g old slot (Ok seq) new → MayBeStored (state_of old) (contents_of g.seen old) (durable_of g.seen old) slot (durable_of g.seen new)
   finish_lasts slot seq call =
       let step = call.step in
       let bytes = call.bytes honest in
-      let case : BareCase = case_from step.0 (bare_of old).next step.1 in (
+      let case : CaseFacts = case_from step.0 (state_of old).next step.1 in (
         step.1,
         (
           step.0,
@@ -97,33 +97,33 @@ module _ {D : Type 0} (g : disk.Ghosts D) (old new : Parts D) (honest : IsTrue (
           step.2.1,
           bytes.1,
           step.3,
-          lasts (stored (bare_of old) slot step.0 step.1) _ step.7 bytes.2
-              ∙ ap (λ (l : List FoundCase). record { cases = l; next = (bare_of old).next + 1 })
+          lasts (stored (state_of old) slot step.0 step.1) _ step.7 bytes.2
+              ∙ ap (λ (l : List FoundCase). record { cases = l; next = (state_of old).next + 1 })
               (zipped_then image_of old.journal.standing.cases case bytes.0.bytes ∙ ap (λ (l : List FoundCase). l ++ with_image case bytes.0.bytes ∷ []) found_before),
         ),
       )
 
-  left : (seqs : List ℕ) → record { cases = with_images (without_cases (bare_of old) seqs).cases (images_without seqs (bare_of old).cases (contents_of g.seen old).images); next = (bare_of old).next } ≡ without (durable_of g.seen old) seqs
+  left : (seqs : List ℕ) → record { cases = with_images (without_cases (state_of old) seqs).cases (images_without seqs (state_of old).cases (contents_of g.seen old).images); next = (state_of old).next } ≡ without (durable_of g.seen old) seqs
   left seqs =
-      ap (λ (l : List FoundCase). record { cases = l; next = (bare_of old).next })
+      ap (λ (l : List FoundCase). record { cases = l; next = (state_of old).next })
       (zipped_without image_of seqs old.journal.standing.cases ∙ ap (filter (λ (c : FoundCase). not (is_among seqs c.seq))) found_before)
 
   pub delete_lasts : (seq : ℕ) (u : Unit {0}) → DeleteCall g old seq (Ok u) new → durable_of g.seen new ≡ without (durable_of g.seen old) (seq ∷ [])
-  delete_lasts seq u call = lasts (without_cases (bare_of old) (seq ∷ [])) _ call.step.4 (call.bytes honest) ∙ left (seq ∷ [])
+  delete_lasts seq u call = lasts (without_cases (state_of old) (seq ∷ [])) _ call.step.4 (call.bytes honest) ∙ left (seq ∷ [])
 
   pub pin_lasts : (seq : ℕ) (flag : Bool) (u : Unit {0}) → PinCall g old seq flag (Ok u) new
-      → (c : BareCase) × HasCase (bare_of old) seq c
+      → (c : CaseFacts) × HasCase (state_of old) seq c
       × (((c.pinned ≡ flag) × (durable_of g.seen new ≡ durable_of g.seen old)) ⊎ ((c.pinned ≢ flag) × (durable_of g.seen new ≡ flagged (durable_of g.seen old) seq flag)))
   pin_lasts seq flag u call = (call.step.0, call.step.1, told)
     where
       told : ((call.step.0.pinned ≡ flag) × (durable_of g.seen new ≡ durable_of g.seen old)) ⊎ ((call.step.0.pinned ≢ flag) × (durable_of g.seen new ≡ flagged (durable_of g.seen old) seq flag))
       told =
           ⊎_elim
-          (λ kept. inl (kept.0, lasts (bare_of old) (contents_of g.seen old) kept.1 (call.bytes honest) ∙ sym (durable_is g.seen old)))
+          (λ kept. inl (kept.0, lasts (state_of old) (contents_of g.seen old) kept.1 (call.bytes honest) ∙ sym (durable_is g.seen old)))
           (λ set. inr (
             set.0,
-            lasts (with_flag (bare_of old) seq flag) (contents_of g.seen old) set.2 (call.bytes honest)
-                ∙ ap (λ (l : List FoundCase). record { cases = l; next = (bare_of old).next })
+            lasts (with_flag (state_of old) seq flag) (contents_of g.seen old) set.2 (call.bytes honest)
+                ∙ ap (λ (l : List FoundCase). record { cases = l; next = (state_of old).next })
                 (zipped_flagged image_of seq flag old.journal.standing.cases ∙ ap (map (λ (c : FoundCase). cond (c.seq == seq) (record c { pinned = flag }) c)) found_before),
           ))
           call.step.2
@@ -133,12 +133,12 @@ module _ {D : Type 0} (g : disk.Ghosts D) (old new : Parts D) (honest : IsTrue (
       ⊎_elim
       (λ none. (
       let no : List ℕ = [] in
-      lasts (bare_of old) _ none.1 (call.bytes honest)
-      ∙ ap (λ (l : List BareCase). record { cases = with_images l (images_without d.dropped.items (bare_of old).cases (contents_of g.seen old).images); next = (bare_of old).next })
-      (none_gone (bare_of old).cases ∙ ap (λ (seqs : List ℕ). filter (λ (c : BareCase). not (is_among seqs c.seq)) (bare_of old).cases) (sym none.0))
+      lasts (state_of old) _ none.1 (call.bytes honest)
+      ∙ ap (λ (l : List CaseFacts). record { cases = with_images l (images_without d.dropped.items (state_of old).cases (contents_of g.seen old).images); next = (state_of old).next })
+      (none_gone (state_of old).cases ∙ ap (λ (seqs : List ℕ). filter (λ (c : CaseFacts). not (is_among seqs c.seq)) (state_of old).cases) (sym none.0))
       ∙ left d.dropped.items
       ))
-      (λ some. lasts (without_cases (bare_of old) d.dropped.items) _ some.2 (call.bytes honest) ∙ left d.dropped.items)
+      (λ some. lasts (without_cases (state_of old) d.dropped.items) _ some.2 (call.bytes honest) ∙ left d.dropped.items)
       call.step.2
 
 module _ {D : Type 0} (g : disk.Ghosts D) (counts : (d : D) (t : ℕ) (c : List ℕ) → t ≤ g.clock d → g.may_leave d c → g.left_since d t c)

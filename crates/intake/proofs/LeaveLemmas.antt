@@ -14,7 +14,7 @@ use Rattle.journal_layout.specs.Standing.{store_of}
 use Rattle.journal_layout.specs.Stands.{Stands}
 use Rattle.case_journal.specs.Append.{AppendStep}
 use Rattle.case_journal.specs.Refusing.{LeavesDisk}
-use Rattle.case_journal.specs.Journaled.{Journaled, goes_on}
+use Rattle.case_journal.specs.Journaled.{Journaled, after_append}
 use Rattle.case_journal.specs.Keeping.{Keeps, LeavesEither, LeavesOutside}
 use Rattle.case_journal.specs.declared.faults.JournalFault.{JournalFault}
 use Rattle.case_journal.specs.declared.faults.JournalFault.TheVariants as journal_fault
@@ -54,8 +54,8 @@ module _ {D : Type 0} (g : disk.Ghosts D) (d d' : D) (j : Journaled) (r : Record
 
   -- once it is done
   pub guards_appended : g.is_honest d' ≡ g.is_honest d → ((t : ℕ) (c : List ℕ) → t ≤ g.clock d' → g.may_leave d' c → g.left_since d' t c)
-      → Keeps g d' (goes_on j r) → (IsTrue (g.is_honest d) → IsWholeAfter) → (IsTrue (g.is_honest d) → LeavesOutside g d d' j.standing)
-      → (IsTrue (g.is_honest d) → Behind (g.seen d) (g.seen d')) → Guards g d' (goes_on j r)
+      → Keeps g d' (after_append j r) → (IsTrue (g.is_honest d) → IsWholeAfter) → (IsTrue (g.is_honest d) → LeavesOutside g d d' j.standing)
+      → (IsTrue (g.is_honest d) → Behind (g.seen d) (g.seen d')) → Guards g d' (after_append j r)
   guards_appended honesty counts keeps whole_after outside others = record {
     keeps = keeps;
     whole = λ runs real c may. (
@@ -111,7 +111,7 @@ refusal_guards g d d' j j' r journal_fault.OutOfMemory step same keeps guards = 
 refusal_guards g d d' j j' r journal_fault.Disk step same keeps guards = guards_stopped g d' j' keeps (ap (λ (k : Journaled). k.stopped) step.2)
 
 -- and one that was done, of a record that moves no block
-pub done_guards : {D : Type 0} (g : disk.Ghosts D) (d d' : D) (j j' : Journaled) (r : Record) → j' ≡ goes_on j r → g.is_honest d' ≡ g.is_honest d
+pub done_guards : {D : Type 0} (g : disk.Ghosts D) (d d' : D) (j j' : Journaled) (r : Record) → j' ≡ after_append j r → g.is_honest d' ≡ g.is_honest d
     → ((t : ℕ) (c : List ℕ) → t ≤ g.clock d' → g.may_leave d' c → g.left_since d' t c) → Keeps g d' j' → (IsTrue (g.is_honest d) → IsWholeAfter g d d' j r)
     → (IsTrue (g.is_honest d) → LeavesOutside g d d' j.standing) → (IsTrue (g.is_honest d) → Behind g d d' j r (g.seen d) (g.seen d')) → Guards g d' j'
 done_guards g d d' j j' r step honesty counts keeps whole outside others =

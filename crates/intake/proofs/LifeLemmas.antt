@@ -8,9 +8,9 @@ use Rattle.intake.specs.Calls.{OpenCall, FinishCall}
 use Rattle.intake.specs.Opened.{disk_in}
 use Rattle.journal_layout.specs.declared.faults.OpenFault.{OpenFault}
 use Rattle.intake.specs.Lives.{Life, IsLived, IsAmong, IsReached, IsFollowed, IsTried, AreTried, Attempt, Restarts, disk_after, HoldsCase, AllHoldCase, AreLived, AreKept, last_acknowledged}
-use Rattle.intake.specs.Marks.{Mark, IsOneOf, Has, IsSettled, FindsOne, HasOne, Run, last_of, mark_of}
-use Rattle.intake.specs.Parts.{Parts, bare_of}
-use Rattle.intake.specs.State.{Bare}
+use Rattle.intake.specs.Marks.{Mark, IsOneOf, Has, IsMarkSettled, FindsOne, HasOne, IsRunOfMarks, last_of, mark_of}
+use Rattle.intake.specs.Parts.{Parts, state_of}
+use Rattle.intake.specs.State.{ArchiveState}
 use Rattle.intake.specs.Step.{FinishStep}
 use Rattle.intake.proofs.LastingLemmas.{one_stands}
 use Rattle.intake.proofs.MarkLemmas.{found_from}
@@ -26,7 +26,7 @@ one_later : {D : Type 0} (m : Mark D) (ns later : List (Mark D)) (x : Durable) �
 one_later m [] later x has = has
 one_later m (n ∷ ns) later x has = inr (one_later n ns later x has)
 
-run_on : {D : Type 0} (g : disk.Ghosts D) (m : Mark D) (ns later : List (Mark D)) → Run g m ns → Run g (last_of m ns) later → Run g m (ns ++ later)
+run_on : {D : Type 0} (g : disk.Ghosts D) (m : Mark D) (ns later : List (Mark D)) → IsRunOfMarks g m ns → IsRunOfMarks g (last_of m ns) later → IsRunOfMarks g m (ns ++ later)
 run_on g m [] later run more = more
 run_on g m (n ∷ ns) later run more = (run.0, run_on g n ns later run.1 more)
 
@@ -65,12 +65,12 @@ module _ {D : Type 0} (g : disk.Ghosts D) (counts : (d : D) (t : ℕ) (c : List 
       ap (λ (m : Mark D). m.durable) followed.first ∙ followed.opening.found_again x starts.honest (subst (λ (b : List ℕ). StandsFor b x) (sym starts.seen) stands)
 
 module _ {D : Type 0} (g : disk.Ghosts D) (counts : (d : D) (t : ℕ) (c : List ℕ) → t ≤ g.clock d → g.may_leave d c → g.left_since d t c) (only : (d : D) (c : List ℕ) → g.left_since d (g.clock d) c → g.may_leave d c) where
-  pub found_has : (m : Mark D) (ns : List (Mark D)) (c : List ℕ) (x : Durable) → IsTrue (g.is_honest m.disk) → IsSettled g m → Run g m ns
+  pub found_has : (m : Mark D) (ns : List (Mark D)) (c : List ℕ) (x : Durable) → IsTrue (g.is_honest m.disk) → IsMarkSettled g m → IsRunOfMarks g m ns
       → g.left_since (last_of m ns).disk (g.clock m.disk) c → StandsFor c x → HasOne m ns x
   found_has m ns c x honest settled run left stands = has_one c x m ns stands (found_from g only m ns honest settled run c left)
 
   -- a run ends on an honest disk, settled
-  pub run_settled : (m : Mark D) (ns : List (Mark D)) → IsTrue (g.is_honest m.disk) → IsSettled g m → Run g m ns → IsTrue (g.is_honest (last_of m ns).disk) × IsSettled g (last_of m ns)
+  pub run_settled : (m : Mark D) (ns : List (Mark D)) → IsTrue (g.is_honest m.disk) → IsMarkSettled g m → IsRunOfMarks g m ns → IsTrue (g.is_honest (last_of m ns).disk) × IsMarkSettled g (last_of m ns)
   run_settled m [] honest settled run = (honest, settled)
   run_settled m (n ∷ ns) honest settled run = run_settled n ns (run.0.honesty ∙ honest) (run.0.settled honest settled) run.1
 
@@ -98,12 +98,12 @@ module _ {D : Type 0} (g : disk.Ghosts D) (counts : (d : D) (t : ℕ) (c : List 
   one_holds c m [] x holds has = mark_holds c m x holds has
   one_holds c m (n ∷ ns) x holds has = ⊎_elim (λ here. mark_holds c m x holds.0 here) (λ there. one_holds c n ns x holds.1 there) has
 
-  pub case_found : (m : Mark D) (ns : List (Mark D)) (c : FoundCase) (left : List ℕ) (x : Durable) → IsTrue (g.is_honest m.disk) → IsSettled g m → Run g m ns
+  pub case_found : (m : Mark D) (ns : List (Mark D)) (c : FoundCase) (left : List ℕ) (x : Durable) → IsTrue (g.is_honest m.disk) → IsMarkSettled g m → IsRunOfMarks g m ns
       → AllHoldCase c m ns → g.left_since (last_of m ns).disk (g.clock m.disk) left → StandsFor left x → IsAmong x.cases c
   case_found m ns c left x honest settled run holds was stands = one_holds c m ns x holds (found_has m ns left x honest settled run was stands)
 
   -- what a mark of a run has was in doubt at its first mark, or has no lower next number
-  not_below : (m : Mark D) (ns : List (Mark D)) (x : Durable) → IsTrue (g.is_honest m.disk) → Run g m ns → HasOne m ns x → IsOneOf m.in_doubt x ⊎ (m.durable.next ≤ x.next)
+  not_below : (m : Mark D) (ns : List (Mark D)) (x : Durable) → IsTrue (g.is_honest m.disk) → IsRunOfMarks g m ns → HasOne m ns x → IsOneOf m.in_doubt x ⊎ (m.durable.next ≤ x.next)
   not_below m [] x honest run has = at_mark m x has
     where
       at_mark : (n : Mark D) (y : Durable) → Has n y → IsOneOf n.in_doubt y ⊎ (n.durable.next ≤ y.next)
@@ -118,20 +118,20 @@ module _ {D : Type 0} (g : disk.Ghosts D) (counts : (d : D) (t : ℕ) (c : List 
       (not_below n ns x (run.0.honesty ∙ honest) run.1 there))
       has
 
-  pub numbers_stay : (m : Mark D) (ns : List (Mark D)) (left : List ℕ) (x : Durable) → IsTrue (g.is_honest m.disk) → IsSettled g m → Run g m ns → m.in_doubt ≡ []
+  pub numbers_stay : (m : Mark D) (ns : List (Mark D)) (left : List ℕ) (x : Durable) → IsTrue (g.is_honest m.disk) → IsMarkSettled g m → IsRunOfMarks g m ns → m.in_doubt ≡ []
       → g.left_since (last_of m ns).disk (g.clock m.disk) left → StandsFor left x → m.durable.next ≤ x.next
   numbers_stay m ns left x honest settled run none was stands =
       ⊎_elim (λ one. absurd (subst (λ (l : List Durable). IsOneOf l x) none one)) (λ above. above)
       (not_below m ns x honest run (found_has m ns left x honest settled run was stands))
 
   -- where nothing is in doubt, what a later mark has does not have a lower next number
-  above_here : (m : Mark D) (ns later : List (Mark D)) (x : Durable) → IsTrue (g.is_honest m.disk) → Run g m ns → Run g (last_of m ns) later → HasOne (last_of m ns) later x → m.in_doubt ≡ []
+  above_here : (m : Mark D) (ns later : List (Mark D)) (x : Durable) → IsTrue (g.is_honest m.disk) → IsRunOfMarks g m ns → IsRunOfMarks g (last_of m ns) later → HasOne (last_of m ns) later x → m.in_doubt ≡ []
       → m.durable.next ≤ x.next
   above_here m ns later x honest run more has none =
       ⊎_elim (λ one. absurd (subst (λ (l : List Durable). IsOneOf l x) none one)) (λ above. above)
       (not_below m (ns ++ later) x honest (run_on g m ns later run more) (one_later m ns later x has))
 
-  above_from : (m first : Mark D) (ns later : List (Mark D)) (x : Durable) → IsTrue (g.is_honest first.disk) → Run g first ns → Run g (last_of first ns) later → HasOne (last_of first ns) later x
+  above_from : (m first : Mark D) (ns later : List (Mark D)) (x : Durable) → IsTrue (g.is_honest first.disk) → IsRunOfMarks g first ns → IsRunOfMarks g (last_of first ns) later → HasOne (last_of first ns) later x
       → IsReached m first ns → m.in_doubt ≡ [] → m.durable.next ≤ x.next
   above_from m first [] later x honest run more has is none =
       let a = above_here first [] later x honest run more has (sym (ap (λ (n : Mark D). n.in_doubt) is) ∙ none) in
@@ -160,8 +160,8 @@ module _ {D : Type 0} (g : disk.Ghosts D) (counts : (d : D) (t : ℕ) (c : List 
       first_life m [] one = one
       first_life m (o ∷ os) more = more.0
 
-  next_given : (old : Bare) (new : Bare) (slot seq : ℕ) → FinishStep old slot (Ok seq) new → seq < new.next
-  next_given old new slot seq step = let e = ap (λ (s : Bare). s.next) step.7 in let s = step.6 in omega (arith, e, s)
+  next_given : (old : ArchiveState) (new : ArchiveState) (slot seq : ℕ) → FinishStep old slot (Ok seq) new → seq < new.next
+  next_given old new slot seq step = let e = ap (λ (s : ArchiveState). s.next) step.7 in let s = step.6 in omega (arith, e, s)
 
   below_all : (seq k : ℕ) (ls : List (Life D)) → seq < k → AllByRecursion (λ (n : Life D). k ≤ n.first.durable.next) ls → AllByRecursion (λ (n : Life D). seq < n.first.durable.next) ls
   below_all seq k [] below all = tt
@@ -171,6 +171,6 @@ module _ {D : Type 0} (g : disk.Ghosts D) (counts : (d : D) (t : ℕ) (c : List 
       → IsReached (mark_of g.seen new []) l.first l.acknowledged → AllByRecursion (λ (n : Life D). seq < n.first.durable.next) ls
   given_once l [] old new slot seq lived finish is = tt
   given_once l (n ∷ ns) old new slot seq lived finish is =
-      below_all seq (bare_of new).next (n ∷ ns) (next_given (bare_of old) (bare_of new) slot seq finish.step)
-      (above_all (bare_of new).next l (n ∷ ns) lived (λ x has.
+      below_all seq (state_of new).next (n ∷ ns) (next_given (state_of old) (state_of new) slot seq finish.step)
+      (above_all (state_of new).next l (n ∷ ns) lived (λ x has.
       above_from (mark_of g.seen new []) l.first l.acknowledged l.later x lived.0.honest lived.0.before lived.0.after has is refl))

@@ -12,22 +12,22 @@ use Rattle.journal_layout.specs.LiveFinds.{store_sound}
 use Rattle.journal_layout.specs.LiveLaws.{live_after}
 use Rattle.journal_layout.specs.Soundness.{IsStorable}
 use Rattle.journal_layout.specs.Standing.{folded_of, store_of}
-use Rattle.case_journal.specs.Journaled.{Journaled, goes_on}
+use Rattle.case_journal.specs.Journaled.{Journaled, after_append}
 use Rattle.intake.specs.Guarding.{Guards}
 use Rattle.intake.specs.Balance.{Balances}
 use Rattle.intake.specs.Live.{case_uses, cases_named}
 use Rattle.intake.specs.Parts.{StreamParts}
 use Rattle.intake.specs.Slots.{stream_at}
-use Rattle.intake.specs.Sound.{IsSound, IsRunning, IsFineIfOpen, held_by, stream_uses, is_called, streams_named}
+use Rattle.intake.specs.Sound.{IsArchiveSound, IsRunning, IsFineIfOpen, held_by, stream_uses, is_called, streams_named}
 
 -- a stream became the last case: what it held is the case's
 pub sound_stored : {D : Type 0} (g : disk.Ghosts D) (d d' : D) (j j' : Journaled) (most : ℕ) (flags flags' : List Bool) (streams streams' : List (Option StreamParts)) (slot : ℕ) (s : StreamParts) (b : Bool) (c : Case)
-    → IsSound g d j most flags streams b → b ≡ false → slot < 8 → stream_at streams slot ≡ Some s → streams' ≡ slice_set streams slot None → Guards g d' j' → j' ≡ goes_on j (store_of j.standing c)
+    → IsArchiveSound g d j most flags streams b → b ≡ false → slot < 8 → stream_at streams slot ≡ Some s → streams' ≡ slice_set streams slot None → Guards g d' j' → j' ≡ after_append j (store_of j.standing c)
     → j.standing.next < 2 ^ 32 → Balances flags s.blocks flags' c.blocks → IsStorable j.standing.shape.data_blocks j.standing.cases c → c.name ≡ s.name
-    → IsSound g d' j' most flags' streams' b
+    → IsArchiveSound g d' j' most flags' streams' b
 sound_stored g d d' j j' most flags flags' streams streams' slot s b c sound on low is gone keeps now more bal storable called =
-    subst (λ (k : Journaled). IsSound g d' k most flags' streams' b) (sym now)
-    (subst (λ (x : List (Option StreamParts)). IsSound g d' (goes_on j (store_of j.standing c)) most flags' x b) (sym gone) (record {
+    subst (λ (k : Journaled). IsArchiveSound g d' k most flags' streams' b) (sym now)
+    (subst (λ (x : List (Option StreamParts)). IsArchiveSound g d' (after_append j (store_of j.standing c)) most flags' x b) (sym gone) (record {
       shape = sound.shape;
       slots = length-set streams slot None ∙ sound.slots;
       runs = λ _. record {

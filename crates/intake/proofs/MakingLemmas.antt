@@ -12,8 +12,8 @@ use Rattle.intake.specs.Contents.{Contents, Taken, RefusedBytes, UnmovedBytes, a
 use Rattle.intake.specs.Durable.{Durable, durable_of}
 use Rattle.intake.specs.Lending.{with_room}
 use Rattle.intake.specs.Making.{Call, ReplyTo, Makes, Made, AreMade, AreMarks, WouldLeave, archive_after, free_bytes, newly_doubted, taken_by, taken_over, StaysOpen, begin_in, lend_of, advance_by, finish_of, abandon_of, delete_of, pin_of, retire_by, image_of, find_case, list_cases, count_free, ask_stopped}
-use Rattle.intake.specs.Marks.{Mark, Passes, Run, mark_of}
-use Rattle.intake.specs.Parts.{Parts, StreamParts, bare_of, bare_stream, contents_of, taken_in}
+use Rattle.intake.specs.Marks.{Mark, Passes, IsRunOfMarks, mark_of}
+use Rattle.intake.specs.Parts.{Parts, StreamParts, state_of, stream_facts, contents_of, taken_in}
 use Rattle.intake.specs.Room.{room_left}
 use Rattle.intake.specs.Slots.{stream_at, closed}
 use Rattle.intake.specs.StayLaws.{stays_still, stays_as}
@@ -58,7 +58,7 @@ module _ {D : Type 0} (g : disk.Ghosts D) (counts : (d : D) (t : ℕ) (c : List 
   one_mark old before ask_stopped r new made = ([], tt, stays_lead g counts only old new before (stays_as g old new made.1))
 
   pub calls_are_marks : (a : Parts D) (before : List Durable) (made : List (Made D)) → AreMade g a made
-      → (marks : List (Mark D)) × AreMarks g a before made marks × Run g (mark_of g.seen a before) marks
+      → (marks : List (Mark D)) × AreMarks g a before made marks × IsRunOfMarks g (mark_of g.seen a before) marks
   calls_are_marks a before [] all = ([], tt, tt)
   calls_are_marks a before (m ∷ ms) all =
       let here = one_mark a before m.call m.reply m.archive all.0 in
@@ -180,15 +180,15 @@ kept_advanced old new at slot n t is w there set =
 
 module _ {D : Type 0} (g : disk.Ghosts D) where
   -- no stream stands where the state has none
-  open_taken : (a : Parts D) (slot : ℕ) → (stream_at (bare_of a).streams slot ≡ None → ⊥) → stream_at (contents_of g.seen a).taken slot ≡ None → ⊥
+  open_taken : (a : Parts D) (slot : ℕ) → (stream_at (state_of a).streams slot ≡ None → ⊥) → stream_at (contents_of g.seen a).taken slot ≡ None → ⊥
   open_taken a slot stays none =
-      stays (at_map bare_stream a.streams slot ∙ ap (option_map bare_stream) (none_is (taken_in a.journal (g.seen a.disk)) (stream_at a.streams slot) (sym (at_map (taken_in a.journal (g.seen a.disk)) a.streams slot) ∙ none)))
+      stays (at_map stream_facts a.streams slot ∙ ap (option_map stream_facts) (none_is (taken_in a.journal (g.seen a.disk)) (stream_at a.streams slot) (sym (at_map (taken_in a.journal (g.seen a.disk)) a.streams slot) ∙ none)))
 
   -- where the state has none, no bytes are taken
-  none_taken : (a : Parts D) (slot : ℕ) → stream_at (bare_of a).streams slot ≡ None → stream_at (contents_of g.seen a).taken slot ≡ None
+  none_taken : (a : Parts D) (slot : ℕ) → stream_at (state_of a).streams slot ≡ None → stream_at (contents_of g.seen a).taken slot ≡ None
   none_taken a slot none =
       at_map (taken_in a.journal (g.seen a.disk)) a.streams slot
-      ∙ ap (option_map (taken_in a.journal (g.seen a.disk))) (none_is bare_stream (stream_at a.streams slot) (sym (at_map bare_stream a.streams slot) ∙ none))
+      ∙ ap (option_map (taken_in a.journal (g.seen a.disk))) (none_is stream_facts (stream_at a.streams slot) (sym (at_map stream_facts a.streams slot) ∙ none))
 
   kept_lent : (old new : Parts D) (at slot : ℕ) (r : Result (Unit {0}) ArchiveFault) (left : List ℕ) (t : Taken) → stream_at (contents_of g.seen old).taken slot ≡ Some t → new ≡ room_left old at r left
       → Keeps (contents_of g.seen old) (contents_of g.seen new) slot t []
@@ -213,10 +213,10 @@ module _ {D : Type 0} (g : disk.Ghosts D) where
 
   -- a stream that is open before a call and behind it has taken what the call took
   kept_over : (old new : Parts D) (call : Call) (r : ReplyTo call) (slot : ℕ) (t : Taken) → IsTrue (g.is_honest old.disk) → Makes g old call r new → stream_at (contents_of g.seen old).taken slot ≡ Some t
-      → (stream_at (bare_of new).streams slot ≡ None → ⊥) → Keeps (contents_of g.seen old) (contents_of g.seen new) slot t (taken_by g.seen slot old call r)
+      → (stream_at (state_of new).streams slot ≡ None → ⊥) → Keeps (contents_of g.seen old) (contents_of g.seen new) slot t (taken_by g.seen slot old call r)
   kept_over old new (begin_in at s) (Ok u) slot t honest made is stays =
       kept_other (contents_of g.seen old) (contents_of g.seen new) at slot (Some empty_taken) t is (ap (λ (c : Contents). c.taken) made.bytes)
-      (λ e. (let none : None ≡ Some t = sym (none_taken old slot (ap (stream_at (bare_of old).streams) (sym e) ∙ made.step.0.2)) ∙ is in cc))
+      (λ e. (let none : None ≡ Some t = sym (none_taken old slot (ap (stream_at (state_of old).streams) (sym e) ∙ made.step.0.2)) ∙ is in cc))
   kept_over old new (begin_in at s) (Err f) slot t honest made is stays = kept_same (contents_of g.seen old) (contents_of g.seen new) slot t is made.bytes
   kept_over old new (lend_of at left) r slot t honest made is stays = kept_lent old new at slot r left t is made.2
   kept_over old new (advance_by at n) (Ok u) slot t honest made is stays =

@@ -1,24 +1,21 @@
 -- The names of the cases and of the streams, in a set.
-use Rattle.std.proofs.Common.{◌≡◌, inl, inr, ℕ, zero, suc, ◌+◌, ◌<◌, ◌≤◌, Bool, true, false, ◌||◌, cond, nat_eq, List, [], ◌∷◌, ◌++◌, length, map, get_or, take, Option, None, Some, Result, Ok, Err, refl, sym, ap, ◌∙◌, subst, arith}
+use Rattle.std.proofs.Common.{◌≡◌, inl, inr, ℕ, zero, suc, ◌+◌, ◌<◌, ◌≤◌, Bool, true, false, ◌||◌, cond, List, [], ◌∷◌, ◌++◌, length, map, get_or, take, Option, None, Some, Result, Ok, Err, refl, sym, ap, ◌∙◌, subst, arith}
 use Rattle.std.specs.List.{list_any, count_by}
 use Rattle.std.specs.Str.{bytes_eq}
 use Rattle.std.specs.BTreeSet.{BTreeSet}
 use Rattle.arrayvec.specs.ArrayVec.{ArrayVec}
-use Rattle.std.proofs.lemmas.Bool.{cases_eq, ne_eqb, eq-eqb}
 use Rattle.std.proofs.lemmas.List.{get_or-map, length-map, map-append, take_more}
 use Rattle.std.proofs.lemmas.List.Sums.{sum_by-cons}
 use Rattle.std.proofs.lemmas.Slice.Eq.{bytes_eq-Decides}
 use Rattle.extents.specs.FreeSet.{one_if}
 use Rattle.journal_layout.specs.declared.entry.Entry.{Entry}
-use Rattle.journal_layout.specs.Case.{Case, case_of, numbered}
-use Rattle.journal_layout.specs.Folding.{dropped, is_name_of, with_pin}
-use Rattle.journal_layout.specs.Live.{gone, seq_of_case}
-use Rattle.journal_layout.specs.LiveCounts.{none_named, named_stored, named_dropped, named_pinned}
-use Rattle.journal_layout.specs.Record.{Record}
-use Rattle.journal_layout.specs.Soundness.{case_numbered, Rise}
+use Rattle.journal_layout.specs.Case.{Case, case_of}
+use Rattle.journal_layout.specs.Folding.{dropped, with_pin}
+use Rattle.journal_layout.specs.Live.{gone}
+use Rattle.journal_layout.specs.LiveCounts.{named_stored, named_dropped, named_pinned}
 use Rattle.journal_records.specs.Kept.{AreNames}
 use Rattle.std.specs.Prelude.{option_map, slice_set, replicate}
-use Rattle.std.proofs.lemmas.Bool.{cases_lt, or_parts}
+use Rattle.std.proofs.lemmas.Bool.{cases_lt}
 use Rattle.std.proofs.lemmas.List.{get_or_past}
 use Rattle.std.proofs.lemmas.List.Sums.{sum_by-set}
 use Rattle.intake.specs.declared.faults.ArchiveFault.TheVariants as fault
@@ -36,8 +33,8 @@ use Rattle.case_journal.specs.declared.faults.JournalFault.TheVariants as journa
 use Rattle.intake.specs.Closing.{Appends}
 use Rattle.intake.specs.Live.{cases_named}
 use Rattle.intake.specs.Names.{KeepsName, ForgetsName, ForgetsNames, is_one_of, items_of, name_of_case, names_gone, AreTaken}
-use Rattle.intake.specs.Parts.{Parts, StreamParts, bare_case, bare_stream, bare_of}
-use Rattle.intake.specs.State.{BareCase}
+use Rattle.intake.specs.Parts.{Parts, StreamParts, case_facts, stream_facts, state_of}
+use Rattle.intake.specs.State.{CaseFacts}
 use Rattle.intake.specs.declared.faults.ArchiveFault.{ArchiveFault}
 use Rattle.intake.proofs.ListedLemmas.{gone-append}
 use Rattle.intake.proofs.StepLemmas.{list_any-map, none_of, called_same, new_name}
@@ -67,21 +64,21 @@ some_of P f (x ∷ xs) e = of (P (f x)) refl (some_of P f xs)
         omega (arith, s, more)
 
 -- a name that is taken is that of a case or of a stream
-some_taken : {D : Type 0} (a : Parts D) (name : List ℕ) → is_taken (bare_of a) name ≡ true → 1 ≤ cases_named a.journal.standing.cases name + streams_named a.streams name
-some_taken a name e = of (list_any (λ (c : BareCase). bytes_eq c.name name) (map bare_case a.journal.standing.cases)) refl
+some_taken : {D : Type 0} (a : Parts D) (name : List ℕ) → is_taken (state_of a) name ≡ true → 1 ≤ cases_named a.journal.standing.cases name + streams_named a.streams name
+some_taken a name e = of (list_any (λ (c : CaseFacts). bytes_eq c.name name) (map case_facts a.journal.standing.cases)) refl
   where
-    of : (t : Bool) → list_any (λ (c : BareCase). bytes_eq c.name name) (map bare_case a.journal.standing.cases) ≡ t → 1 ≤ cases_named a.journal.standing.cases name + streams_named a.streams name
-    of true here = (let s = some_of (λ (c : BareCase). bytes_eq c.name name) bare_case a.journal.standing.cases here in omega (arith, s))
+    of : (t : Bool) → list_any (λ (c : CaseFacts). bytes_eq c.name name) (map case_facts a.journal.standing.cases) ≡ t → 1 ≤ cases_named a.journal.standing.cases name + streams_named a.streams name
+    of true here = (let s = some_of (λ (c : CaseFacts). bytes_eq c.name name) case_facts a.journal.standing.cases here in omega (arith, s))
     of false here =
-        let s = some_of (is_name_in name) (option_map bare_stream) a.streams (sym (ap (λ t. t || list_any (is_name_in name) (map (option_map bare_stream) a.streams)) here) ∙ e) in
+        let s = some_of (is_name_in name) (option_map stream_facts) a.streams (sym (ap (λ t. t || list_any (is_name_in name) (map (option_map stream_facts) a.streams)) here) ∙ e) in
         let f = called_same name a.streams in
         omega (arith, s, f)
 
 -- whether the set has a name, where it has those that are taken
-pub taken_is : {D : Type 0} (a : Parts D) (names : BTreeSet (ArrayVec ℕ)) (name : List ℕ) → AreTaken a.journal.standing.cases a.streams names → has_name names name ≡ is_taken (bare_of a) name
-taken_is a names name are = of (is_taken (bare_of a) name) refl
+pub taken_is : {D : Type 0} (a : Parts D) (names : BTreeSet (ArrayVec ℕ)) (name : List ℕ) → AreTaken a.journal.standing.cases a.streams names → has_name names name ≡ is_taken (state_of a) name
+taken_is a names name are = of (is_taken (state_of a) name) refl
   where
-    of : (t : Bool) → is_taken (bare_of a) name ≡ t → has_name names name ≡ t
+    of : (t : Bool) → is_taken (state_of a) name ≡ t → has_name names name ≡ t
     of true e = (let s = some_taken a name e in let h = are name in one_true (has_name names name) (omega (arith, s, h)))
     of false e = (let n = new_name a name e in let x = n.0 in let y = n.1 in let h = are name in one_false (has_name names name) (omega (arith, x, y, h)))
 
@@ -252,29 +249,3 @@ names_more seqs entries i e within is =
     ap (names_gone seqs) (take_more cases i (case_of e) low ∙ ap (λ (c : Case). take i cases ++ c ∷ []) here)
     ∙ ap (map name_of_case) (gone-append seqs (take i cases) (case_of e ∷ []))
     ∙ map-append name_of_case (gone seqs (take i cases)) (gone seqs (case_of e ∷ []))
-
--- the only case of a number
-
-gone_none : (seq last : ℕ) (cases : List Case) → seq ≤ last → Rise last (map seq_of_case cases) → gone (seq ∷ []) cases ≡ []
-gone_none seq last [] low rise = refl
-gone_none seq last (c ∷ rest) low rise =
-    let other : nat_eq c.seq seq ≡ false = ne_eqb c.seq seq (λ e. let r = rise.0 in omega (arith, e, low, r)) in
-    ap (λ t. cond (t || false) (c ∷ gone (seq ∷ []) rest) (gone (seq ∷ []) rest)) other
-    ∙ gone_none seq c.seq rest (let r = rise.0 in omega (arith, low, r)) rise.1
-
-pub gone_one : (seq last : ℕ) (cases : List Case) (c : Case) → Rise last (map seq_of_case cases) → Some c ≡ case_numbered seq cases → gone (seq ∷ []) cases ≡ c ∷ []
-gone_one seq last [] c rise is = absurd (cc)
-gone_one seq last (x ∷ rest) c rise is =
-    elim (cases_eq x.seq seq) as (λ _. gone (seq ∷ []) (x ∷ rest) ≡ c ∷ []) [
-      | inl same ↦
-          let e = eq-eqb x.seq seq same in
-          let found : Some c ≡ Some x = is ∙ ap (λ t. cond t (Some x) (case_numbered seq rest)) e in
-          let one : c ≡ x = cc in
-          ap (λ t. cond (t || false) (x ∷ gone (seq ∷ []) rest) (gone (seq ∷ []) rest)) e
-          ∙ ap (λ (l : List Case). x ∷ l) (gone_none seq x.seq rest (omega (arith, same)) rise.1)
-          ∙ ap (λ (y : Case). y ∷ []) (sym one)
-      | inr other ↦
-          let e = ne_eqb x.seq seq other in
-          ap (λ t. cond (t || false) (x ∷ gone (seq ∷ []) rest) (gone (seq ∷ []) rest)) e
-          ∙ gone_one seq x.seq rest c rise.1 (is ∙ ap (λ t. cond t (Some x) (case_numbered seq rest)) e)
-    ]

@@ -23,22 +23,22 @@ use Rattle.intake.specs.Blocks.{image_in}
 use Rattle.intake.specs.Ending.{EndsStreams}
 use Rattle.intake.specs.Faults.{fault_of}
 use Rattle.intake.specs.Live.{case_uses, cases_named}
-use Rattle.intake.specs.Parts.{Parts, StreamParts, bare_of, bare_case, contents_of, taken_in}
-use Rattle.intake.specs.Sound.{IsSound, case_blocks}
+use Rattle.intake.specs.Parts.{Parts, StreamParts, state_of, case_facts, contents_of, taken_in}
+use Rattle.intake.specs.Sound.{IsArchiveSound, case_blocks}
 use Rattle.intake.specs.Step.{PinStep, HasCase}
-use Rattle.intake.proofs.AfterLemmas.{bare_case_at, flag_cases, sound_after, same_state, halted_now, same_bytes}
-use Rattle.intake.proofs.RecordedLemmas.{record_room, record_full, bare_recorded}
+use Rattle.intake.proofs.AfterLemmas.{case_facts_at, flag_cases, sound_after, same_state, halted_now, same_bytes}
+use Rattle.intake.proofs.RecordedLemmas.{record_room, record_full, state_recorded}
 
 module _ {D : Type 0} (g : disk.Ghosts D) (d d' : D) (j j' : Journaled) (most : ℕ) (flags : List Bool) (streams streams' : List (Option StreamParts)) (b b' : Bool) (seq : ℕ) (flag : Bool) (c : Case)
-    (sound : IsSound g d j most flags streams b) (on : b ≡ false) (found : Some c ≡ case_numbered seq j.standing.cases) where
+    (sound : IsArchiveSound g d j most flags streams b) (on : b ≡ false) (found : Some c ≡ case_numbered seq j.standing.cases) where
   abbrev old : Parts D
   old = record { disk = d; journal = j; limit = most; streams = streams; stopped = b }
 
   abbrev new : Parts D
   new = record { disk = d'; journal = j'; limit = most; streams = streams'; stopped = b' }
 
-  has : HasCase (bare_of old) seq (bare_case c)
-  has = (on, bare_case_at seq j.standing.cases ∙ ap (option_map bare_case) (sym found))
+  has : HasCase (state_of old) seq (case_facts c)
+  has = (on, case_facts_at seq j.standing.cases ∙ ap (option_map case_facts) (sym found))
 
   pub pin_may : MayFollow j.standing (Pin seq flag)
   pin_may = pin_sound j.standing.shape.data_blocks (folded_of j.standing) seq flag (sound.runs on).cases (c, sym found)
@@ -48,32 +48,32 @@ module _ {D : Type 0} (g : disk.Ghosts D) (d d' : D) (j j' : Journaled) (most : 
   pin_behind e = let far = ltb-false (j.standing.used + 16) (half_length j.standing.shape) e in omega (arith, far)
 
   -- it stands already
-  pub pin_same : (u : Unit {0}) → c.pinned ≡ flag → PinStep (bare_of old) seq flag (Ok u) (bare_of old)
-  pin_same u same = (bare_case c, has, inl (same, refl))
+  pub pin_same : (u : Unit {0}) → c.pinned ≡ flag → PinStep (state_of old) seq flag (Ok u) (state_of old)
+  pin_same u same = (case_facts c, has, inl (same, refl))
 
   -- it is set
-  pub pin_ok : (u : Unit {0}) → c.pinned ≢ flag → AppendStep j (Pin seq flag) (Ok u) j' → PinStep (bare_of old) seq flag (Ok u) (bare_of (record { disk = d'; journal = j'; limit = most; streams = streams; stopped = b }))
+  pub pin_ok : (u : Unit {0}) → c.pinned ≢ flag → AppendStep j (Pin seq flag) (Ok u) j' → PinStep (state_of old) seq flag (Ok u) (state_of (record { disk = d'; journal = j'; limit = most; streams = streams; stopped = b }))
   pin_ok u other step = (
-    bare_case c,
+    case_facts c,
     has,
     inr (
       other,
       record_room d d' j (Pin seq flag) most streams b _ (flag_cases seq flag j.standing.cases) step.1,
-      ap (λ (k : Journaled). bare_of (record { disk = d'; journal = k; limit = most; streams = streams; stopped = b })) step.2
-          ∙ bare_recorded d d' j (Pin seq flag) most streams b _ (flag_cases seq flag j.standing.cases),
+      ap (λ (k : Journaled). state_of (record { disk = d'; journal = k; limit = most; streams = streams; stopped = b })) step.2
+          ∙ state_recorded d d' j (Pin seq flag) most streams b _ (flag_cases seq flag j.standing.cases),
     ),
   )
 
-  pub pin_err : (jf : JournalFault) → c.pinned ≢ flag → AppendStep j (Pin seq flag) (Err jf) j' → EndsStreams (fault_of jf) streams b' streams' → PinStep (bare_of old) seq flag (Err (fault_of jf)) (bare_of new)
+  pub pin_err : (jf : JournalFault) → c.pinned ≢ flag → AppendStep j (Pin seq flag) (Err jf) j' → EndsStreams (fault_of jf) streams b' streams' → PinStep (state_of old) seq flag (Err (fault_of jf)) (state_of new)
   pin_err journal_fault.Stopped other step ends = absurd (let e : true ≡ false = sym step.0 ∙ (sound.runs on).journal in cc)
-  pin_err journal_fault.JournalFull other step ends = (bare_case c, has, other, record_full d d' j (Pin seq flag) most streams b _ (flag_cases seq flag j.standing.cases) step.1, same_state g d d' j j' (Pin seq flag) most flags streams streams' b b' on ends.0 ends.1 step.2)
+  pin_err journal_fault.JournalFull other step ends = (case_facts c, has, other, record_full d d' j (Pin seq flag) most streams b _ (flag_cases seq flag j.standing.cases) step.1, same_state g d d' j j' (Pin seq flag) most flags streams streams' b b' on ends.0 ends.1 step.2)
   pin_err journal_fault.NumbersSpent other step ends = absurd step
-  pin_err journal_fault.OutOfMemory other step ends = (bare_case c, has, other, record_room d d' j (Pin seq flag) most streams b _ (flag_cases seq flag j.standing.cases) step.1, same_state g d d' j j' (Pin seq flag) most flags streams streams' b b' on ends.0 ends.1 step.2)
-  pin_err journal_fault.Disk other step ends = (bare_case c, has, other, record_room d d' j (Pin seq flag) most streams b _ (flag_cases seq flag j.standing.cases) step.1, halted_now g d d' j j' (Pin seq flag) most flags streams streams' b b' on ends.0 ends.1 step.2)
+  pin_err journal_fault.OutOfMemory other step ends = (case_facts c, has, other, record_room d d' j (Pin seq flag) most streams b _ (flag_cases seq flag j.standing.cases) step.1, same_state g d d' j j' (Pin seq flag) most flags streams streams' b b' on ends.0 ends.1 step.2)
+  pin_err journal_fault.Disk other step ends = (case_facts c, has, other, record_room d d' j (Pin seq flag) most streams b _ (flag_cases seq flag j.standing.cases) step.1, halted_now g d d' j j' (Pin seq flag) most flags streams streams' b b' on ends.0 ends.1 step.2)
 
-  pub pin_sound_after : (u : Unit {0}) → AppendStep j (Pin seq flag) (Ok u) j' → Guards g d' j' → IsSound g d' j' most flags streams b
+  pub pin_sound_after : (u : Unit {0}) → AppendStep j (Pin seq flag) (Ok u) j' → Guards g d' j' → IsArchiveSound g d' j' most flags streams b
   pin_sound_after u step keeps =
-      subst (λ (k : Journaled). IsSound g d' k most flags streams b) (sym step.2)
+      subst (λ (k : Journaled). IsArchiveSound g d' k most flags streams b) (sym step.2)
       (sound_after g d d' j (Pin seq flag) most flags flags streams b sound on (subst (Guards g d') step.2 keeps) pin_may refl
       (λ k. (let x : case_uses (with_pin seq flag j.standing.cases) k ≡ uses_in k (used_blocks (with_pin seq flag j.standing.cases)) = case_uses_same k (with_pin seq flag j.standing.cases) in
       let y : case_uses j.standing.cases k ≡ uses_in k (used_blocks j.standing.cases) = case_uses_same k j.standing.cases in

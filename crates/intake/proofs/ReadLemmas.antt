@@ -15,7 +15,7 @@ use Rattle.extents.specs.Runs.{run_blocks, blocks_of, runs_of}
 use Rattle.extents.specs.declared.run_list.Run.{Run}
 use Rattle.journal_layout.specs.LiveCounts.{blocks_of-append}
 use Rattle.journal_layout.specs.declared.shape.Shape.{Shape}
-use Rattle.case_journal.specs.Viewing.{IsQuiet}
+use Rattle.case_journal.specs.Viewing.{OnlyReads}
 use Rattle.intake.specs.Blocks.{block_start, block_bytes, joined}
 
 -- the blocks of a run lie one behind another, so its bytes are theirs joined
@@ -58,7 +58,7 @@ run_within runs i done r below is = omega (arith, count_more runs i r below, cou
 
 -- a disk that is only read
 module _ {D : Type 0} (g : disk.Ghosts D) where
-  pub quiet_none : (d : D) → ((c : List ℕ) → g.left_since d (g.clock d) c → g.may_leave d c) → IsQuiet g d d
+  pub quiet_none : (d : D) → ((c : List ℕ) → g.left_since d (g.clock d) c → g.may_leave d c) → OnlyReads g d d
   quiet_none d only = record {
     seen = λ honest. refl;
     crash = λ honest c may. may;
@@ -67,7 +67,7 @@ module _ {D : Type 0} (g : disk.Ghosts D) where
     size = refl;
   }
 
-  pub quiet_then : (old mid new : D) → IsQuiet g old mid → IsQuiet g mid new → IsQuiet g old new
+  pub quiet_then : (old mid new : D) → OnlyReads g old mid → OnlyReads g mid new → OnlyReads g old new
   quiet_then old mid new first second =
       let still : IsTrue (g.is_honest old) → IsTrue (g.is_honest mid) = λ honest. subst IsTrue (sym first.honesty) honest in record {
         seen = λ honest. second.seen (still honest) ∙ first.seen honest;
@@ -81,7 +81,7 @@ module _ {D : Type 0} (g : disk.Ghosts D) where
   -- The first n runs are read, from a disk that was so at first.
   pub record FrontIsRead (shape : Shape) (runs : List Run) (old now : D) (into : List ℕ) (done n : ℕ) : Type 0 where
     pub place : done ≡ 4096 * length (blocks_of (take n runs))
-    pub quiet : IsQuiet g old now
+    pub quiet : OnlyReads g old now
     pub later : g.failures old ≤ g.failures now
     pub bytes : IsTrue (g.is_honest old) → take done into ≡ joined shape (g.seen old) (blocks_of (take n runs))
 
@@ -96,7 +96,7 @@ module _ {D : Type 0} (g : disk.Ghosts D) where
 
   -- one more
   pub one_more_read : (shape : Shape) (runs : List Run) (old mid new : D) (into bytes : List ℕ) (done end i k : ℕ) (r : Run) → FrontIsRead shape runs old mid into done i → i < length runs → done ≤ length into
-      → end ≡ done + 4096 * (get_or runs i r).count → k ≡ end - done → length bytes ≡ k → IsQuiet g mid new → g.failures mid ≤ g.failures new
+      → end ≡ done + 4096 * (get_or runs i r).count → k ≡ end - done → length bytes ≡ k → OnlyReads g mid new → g.failures mid ≤ g.failures new
       → (IsTrue (g.is_honest mid) → bytes ≡ joined shape (g.seen mid) (run_blocks (get_or runs i r)))
       → FrontIsRead shape runs old new (put_mid done k into bytes) end (i + 1)
   one_more_read shape runs old mid new into bytes done end i k r so_far below low ends is long quiet later read = record {

@@ -10,7 +10,7 @@ use Rattle.case_journal.specs.Keeping.{DataIsApart}
 use Rattle.journal_snapshot.specs.Holding.{SameHeaders}
 use Rattle.intake.specs.Blocks.{block_start}
 use Rattle.intake.specs.Durable.{StandsFor, durable_in}
-use Rattle.intake.specs.Guarding.{Guards, Rests}
+use Rattle.intake.specs.Guarding.{Guards, LeavesCases}
 use Rattle.intake.specs.Live.{case_uses}
 use Rattle.intake.proofs.DurableLemmas.{durable_spared}
 use Rattle.intake.proofs.KeepLemmas.{keeps_apart}
@@ -21,7 +21,7 @@ module _ {D : Type 0} (g : disk.Ghosts D) where
   stands_now d j guards runs honest c may = record { standing = j.standing; stands = (guards.keeps.holds runs honest).stands c may; is = guards.whole runs honest c may }
 
   -- nothing is done
-  pub rests_still : (d : D) (j : Journaled) → ((c : List ℕ) → g.left_since d (g.clock d) c → g.may_leave d c) → Guards g d j → Rests g d d j
+  pub rests_still : (d : D) (j : Journaled) → ((c : List ℕ) → g.left_since d (g.clock d) c → g.may_leave d c) → Guards g d j → LeavesCases g d d j
   rests_still d j only guards = record {
     guards = guards;
     same = λ runs honest. refl;
@@ -30,7 +30,7 @@ module _ {D : Type 0} (g : disk.Ghosts D) where
 
   -- one disk call
   pub rests_call : (old new : D) (j : Journaled) → ((c : List ℕ) → g.left_since old (g.clock old) c → g.may_leave old c) → Guards g old j → Guards g new j → g.is_honest new ≡ g.is_honest old
-      → Elapses g.clock g.may_leave g.left_since old new → (j.stopped ≡ false → IsTrue (g.is_honest old) → durable_in (g.seen new) j.standing ≡ durable_in (g.seen old) j.standing) → Rests g old new j
+      → Elapses g.clock g.may_leave g.left_since old new → (j.stopped ≡ false → IsTrue (g.is_honest old) → durable_in (g.seen new) j.standing ≡ durable_in (g.seen old) j.standing) → LeavesCases g old new j
   rests_call old new j only before after honesty time same = record {
     guards = after;
     same = same;
@@ -40,7 +40,7 @@ module _ {D : Type 0} (g : disk.Ghosts D) where
   }
 
   -- one after the other
-  pub rests_then : (old mid new : D) (j : Journaled) → g.is_honest mid ≡ g.is_honest old → Rests g old mid j → Rests g mid new j → Rests g old new j
+  pub rests_then : (old mid new : D) (j : Journaled) → g.is_honest mid ≡ g.is_honest old → LeavesCases g old mid j → LeavesCases g mid new j → LeavesCases g old new j
   rests_then old mid new j honesty first second = record {
     guards = second.guards;
     same = λ runs honest. second.same runs (honesty ∙ honest) ∙ first.same runs honest;
@@ -52,7 +52,7 @@ module _ {D : Type 0} (g : disk.Ghosts D) where
   -- a call that changes no byte, and after which a crash leaves nothing new
   pub rests_quiet : (old new : D) (j : Journaled) → ((c : List ℕ) → g.left_since old (g.clock old) c → g.may_leave old c) → g.size new ≡ g.size old → g.is_honest new ≡ g.is_honest old
       → (IsTrue (g.is_honest old) → g.seen new ≡ g.seen old) → (IsTrue (g.is_honest old) → (c : List ℕ) → g.may_leave new c → g.may_leave old c) → Elapses g.clock g.may_leave g.left_since old new
-      → Guards g old j → Rests g old new j
+      → Guards g old j → LeavesCases g old new j
   rests_quiet old new j only size honesty seen crash time guards =
       rests_call old new j only guards (record {
         keeps = record {
@@ -74,7 +74,7 @@ module _ {D : Type 0} (g : disk.Ghosts D) where
   pub rests_write : (old new : D) (j : Journaled) (at n k : ℕ) → DataIsApart → ((c : List ℕ) → g.left_since old (g.clock old) c → g.may_leave old c) → (IsTrue (g.is_honest old) → g.may_leave old (g.seen old))
       → g.size new ≡ g.size old → g.is_honest new ≡ g.is_honest old → (IsTrue (g.is_honest old) → Follows (SameOutside at n) (g.may_leave old) (g.may_leave new))
       → (IsTrue (g.is_honest old) → SameOutside at n (g.seen old) (g.seen new)) → Elapses g.clock g.may_leave g.left_since old new
-      → at ≡ block_start j.standing.shape k → n ≡ 4096 → case_uses j.standing.cases k ≡ 0 → Guards g old j → Rests g old new j
+      → at ≡ block_start j.standing.shape k → n ≡ 4096 → case_uses j.standing.cases k ≡ 0 → Guards g old j → LeavesCases g old new j
   rests_write old new j at n k apart only stays size honesty crash others time place long none guards =
       rests_call old new j only guards (record {
         keeps = keeps_apart g old new j at n apart guards.keeps stays size honesty crash others (omega (arith, place));

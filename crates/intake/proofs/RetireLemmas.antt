@@ -16,10 +16,10 @@ use Rattle.journal_layout.specs.declared.entry.Entry.{Entry}
 use Rattle.case_journal.specs.Append.{MayFollow}
 use Rattle.case_journal.specs.Journaled.{Journaled}
 use Rattle.intake.specs.Contents.{images_without}
-use Rattle.intake.specs.Parts.{bare_case}
+use Rattle.intake.specs.Parts.{case_facts}
 use Rattle.intake.specs.Retiring.{brief_of_entry, seq_of_entry}
-use Rattle.intake.specs.State.{Bare}
-use Rattle.intake.specs.Step.{DropStep, RetireStep, Retires, brief_of}
+use Rattle.intake.specs.State.{ArchiveState}
+use Rattle.intake.specs.Step.{DropStep, RetireStep, RetiresSome, brief_of}
 use Rattle.intake.specs.declared.faults.ArchiveFault.{ArchiveFault}
 use Rattle.intake.specs.declared.faults.ArchiveFault.TheVariants as fault
 
@@ -44,7 +44,7 @@ seqs_same : (entries : List Entry) → map seq_of_entry entries ≡ map seq_of_c
 seqs_same [] = refl
 seqs_same (e ∷ rest) = ap (λ (l : List ℕ). e.seq ∷ l) (seqs_same rest)
 
-pub briefs_same : (entries : List Entry) → map brief_of_entry entries ≡ map brief_of (map bare_case (map case_of entries))
+pub briefs_same : (entries : List Entry) → map brief_of_entry entries ≡ map brief_of (map case_facts (map case_of entries))
 briefs_same [] = refl
 briefs_same (e ∷ rest) = ap (λ (l : List Brief). brief_of_entry e ∷ l) (briefs_same rest)
 
@@ -53,9 +53,9 @@ seqs_of_briefs [] = refl
 seqs_of_briefs (e ∷ rest) = ap (λ (l : List ℕ). e.seq ∷ l) (seqs_of_briefs rest)
 
 pub decision_of : (policy : Policy) (entries : List Entry) (cases : List Case) (dropped : List ℕ) (unmet : Bool) → map case_of entries ≡ cases
-    → IsDecision policy (map brief_of_entry entries) dropped unmet → IsDecision policy (map brief_of (map bare_case cases)) dropped unmet
+    → IsDecision policy (map brief_of_entry entries) dropped unmet → IsDecision policy (map brief_of (map case_facts cases)) dropped unmet
 decision_of policy entries cases dropped unmet are decision =
-    subst (λ (bs : List Brief). IsDecision policy bs dropped unmet) (briefs_same entries ∙ ap (λ (cs : List Case). map brief_of (map bare_case cs)) are) decision
+    subst (λ (bs : List Brief). IsDecision policy bs dropped unmet) (briefs_same entries ∙ ap (λ (cs : List Case). map brief_of (map case_facts cs)) are) decision
 
 pub entries_rise : (limit : ℕ) (entries : List Entry) (cases : List Case) (next : ℕ) → map case_of entries ≡ cases → AreLive limit cases next → IsStrictlyIncreasing (map seq_of_entry entries)
 entries_rise limit entries cases next are live =
@@ -68,7 +68,7 @@ old_free false x e = refl
 old_free true x e = cc
 
 abbrev brief : Case → Brief
-brief c = brief_of (bare_case c)
+brief c = brief_of (case_facts c)
 
 droppable : (policy : Policy) (n : ℕ) (all sub : List Case) → AllByRecursion (λ (c : Case). case_numbered c.seq all ≡ Some c) sub
     → AllByRecursion (IsDroppable all) (map seq_of (goes policy n (map brief sub)))
@@ -88,12 +88,12 @@ droppable policy (suc n) all (c ∷ rest) each =
       ] refl
     ] refl
 
-briefs_of_cases : (cases : List Case) → map brief_of (map bare_case cases) ≡ map brief cases
+briefs_of_cases : (cases : List Case) → map brief_of (map case_facts cases) ≡ map brief cases
 briefs_of_cases [] = refl
 briefs_of_cases (c ∷ rest) = ap (λ (l : List Brief). brief c ∷ l) (briefs_of_cases rest)
 
 pub retire_may : (j : Journaled) (policy : Policy) (dropped : List ℕ) (unmet : Bool) → AreLive j.standing.shape.data_blocks j.standing.cases j.standing.next
-    → IsDecision policy (map brief_of (map bare_case j.standing.cases)) dropped unmet → IsStrictlyIncreasing dropped → 0 < length dropped → MayFollow j.standing (Drop dropped)
+    → IsDecision policy (map brief_of (map case_facts j.standing.cases)) dropped unmet → IsStrictlyIncreasing dropped → 0 < length dropped → MayFollow j.standing (Drop dropped)
 retire_may j policy dropped unmet live decision rises some =
     drop_sound j.standing.shape.data_blocks (folded_of j.standing) dropped live some
     (rise_from 0 dropped (λ _. positive dropped each some) (λ k low. (let next : k + 1 ≡ suc k = omega arith in subst (λ i. get_or dropped k 0 < get_or dropped i 0) next (rises k (omega arith)))))
@@ -114,11 +114,11 @@ retire_may j policy dropped unmet live decision rises some =
         (found j.standing.cases (recursion_from_All (Contains j.standing.cases) j.standing.cases (All-contains_itself j.standing.cases))))
 
 pub retire_rises : (j : Journaled) (policy : Policy) (dropped : List ℕ) (unmet : Bool) → AreLive j.standing.shape.data_blocks j.standing.cases j.standing.next
-    → IsDecision policy (map brief_of (map bare_case j.standing.cases)) dropped unmet → IsStrictlyIncreasing dropped → 0 < length dropped → Rise 0 dropped
+    → IsDecision policy (map brief_of (map case_facts j.standing.cases)) dropped unmet → IsStrictlyIncreasing dropped → 0 < length dropped → Rise 0 dropped
 retire_rises j policy dropped unmet live decision rises some = (retire_may j policy dropped unmet live decision rises some).1
 
 -- the step of a refusal
-pub retire_err : (s : Bare) (policy : Policy) (dropped : List ℕ) (unmet : Bool) (f : ArchiveFault) (after : Bare) → Retires s policy dropped unmet → DropStep s dropped (Err f) after → RetireStep s policy (Err f) after
+pub retire_err : (s : ArchiveState) (policy : Policy) (dropped : List ℕ) (unmet : Bool) (f : ArchiveFault) (after : ArchiveState) → RetiresSome s policy dropped unmet → DropStep s dropped (Err f) after → RetireStep s policy (Err f) after
 retire_err s policy dropped unmet fault.JournalFull after r step = (dropped, unmet, r, step.0, step.1)
 retire_err s policy dropped unmet fault.OutOfMemory after r step = (r.0, step.1)
 retire_err s policy dropped unmet fault.Disk after r step = (dropped, unmet, r, step.0, step.1)
@@ -134,7 +134,7 @@ retire_err s policy dropped unmet fault.Pinned after r step = absurd step
 retire_err s policy dropped unmet fault.NumbersSpent after r step = absurd step
 
 -- without any numbers all images stay
-pub all_stay : (f : Case → List ℕ) (cases : List Case) → images_without [] (map bare_case cases) (map f cases) ≡ map f cases
+pub all_stay : (f : Case → List ℕ) (cases : List Case) → images_without [] (map case_facts cases) (map f cases) ≡ map f cases
 all_stay f [] = refl
 all_stay f (c ∷ rest) = ap (λ (l : List (List ℕ)). f c ∷ l) (all_stay f rest)
 

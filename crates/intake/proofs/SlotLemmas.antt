@@ -1,7 +1,7 @@
 -- What stands in the slots, whichever way they are kept.
-use Rattle.std.proofs.Common.{◌≡◌, ℕ, ◌%◌, ◌<◌, ◌≤◌, Bool, true, false, List, [], ◌∷◌, ◌++◌, length, map, set, get_or, take, drop, refl, sym, ap, ◌∙◌, subst, arith, Option, None, Some, Result, Ok, Err, ◌||◌}
+use Rattle.std.proofs.Common.{◌≡◌, ℕ, ◌%◌, ◌<◌, ◌≤◌, Bool, true, false, List, [], ◌∷◌, ◌++◌, length, map, set, get_or, take, drop, refl, sym, ap, ◌∙◌, subst, arith, Option, None, Some, Result, Ok, Err}
 use Rattle.std.specs.Prelude.{option_map, nat_lt}
-use Rattle.std.specs.List.{list_any, All}
+use Rattle.std.specs.List.{All}
 use Rattle.std.proofs.lemmas.List.{map-set, get_or-map, get_or_past, length-map, set-get_or, take_all, take_at, drop_all}
 use Rattle.std.proofs.lemmas.Bool.{ltb-true, ltb-false}
 use Rattle.intake.specs.Lending.{refilled, reblocked, with_room, slots_left}
@@ -12,8 +12,7 @@ use Rattle.intake.specs.declared.stream.Stream.{Stream}
 use Rattle.intake.specs.declared.faults.ArchiveFault.{ArchiveFault}
 use Rattle.intake.specs.declared.faults.ArchiveFault.TheVariants as fault
 use Rattle.intake.specs.Slots.{stream_at, closed}
-use Rattle.intake.specs.Parts.{StreamParts, bare_stream}
-use Rattle.intake.specs.Step.{has_name}
+use Rattle.intake.specs.Parts.{StreamParts}
 use Rattle.intake.specs.StreamView.{parts_of, parts_in}
 
 -- slots that hold nothing

@@ -18,15 +18,15 @@ use Rattle.intake.specs.Balance.{AreHeld, Balances}
 use Rattle.intake.specs.Contents.{zero_block}
 use Rattle.journal_layout.specs.Live.{IsWhole}
 use Rattle.intake.specs.Live.{cases_named}
-use Rattle.intake.specs.Parts.{StreamParts, bare_of, bare_case, bare_stream}
-use Rattle.intake.specs.State.{BareCase, blocks_for, blocks_in, filled_by}
+use Rattle.intake.specs.Parts.{StreamParts, state_of, case_facts, stream_facts}
+use Rattle.intake.specs.State.{CaseFacts, blocks_for, blocks_in, filled_by}
 use Rattle.intake.specs.Room.{HasBlock, SlotReply}
 use Rattle.intake.specs.Lending.{refilled, with_room, slots_left}
 use Rattle.intake.specs.declared.faults.ArchiveFault.{ArchiveFault}
 use Rattle.journal_layout.specs.Case.{Case}
 use Rattle.journal_layout.specs.Layout.{IsWithinLimits}
 use Rattle.intake.specs.Slots.{stream_at, closed}
-use Rattle.intake.specs.Sound.{IsSound, IsRunning, IsFine, IsFineIfOpen, held_by, stream_uses, stream_blocks, case_blocks, is_called, streams_named}
+use Rattle.intake.specs.Sound.{IsArchiveSound, IsRunning, IsFine, IsFineIfOpen, held_by, stream_uses, stream_blocks, case_blocks, is_called, streams_named}
 
 pub length-zero_block : length zero_block ≡ 4096
 unfolding zero_block
@@ -82,9 +82,9 @@ no_more a x le = omega arith
 
 -- the same of the whole archive
 pub sound_with : {D : Type 0} (g : disk.Ghosts D) (d d' : D) (j : Journaled) (most : ℕ) (flags flags' : List Bool) (streams : List (Option StreamParts)) (slot : ℕ) (o o' : Option StreamParts) (b : Bool)
-    → IsSound g d j most flags streams b → b ≡ false → slot < 8 → stream_at streams slot ≡ o → Guards g d' j → Balances flags (held_by o) flags' (held_by o') → IsFineIfOpen most o'
+    → IsArchiveSound g d j most flags streams b → b ≡ false → slot < 8 → stream_at streams slot ≡ o → Guards g d' j → Balances flags (held_by o) flags' (held_by o') → IsFineIfOpen most o'
     → ((name : List ℕ) → cases_named j.standing.cases name + streams_named streams name + one_if (is_called name o') ≤ 1 + one_if (is_called name o))
-    → IsSound g d' j most flags' (slice_set streams slot o') b
+    → IsArchiveSound g d' j most flags' (slice_set streams slot o') b
 sound_with g d d' j most flags flags' streams slot o o' b sound on below there keeps bal fine names = record {
   shape = sound.shape;
   slots = length-set streams slot o' ∙ sound.slots;
@@ -94,8 +94,8 @@ sound_with g d d' j most flags flags' streams slot o o' b sound on below there k
 
 -- a stream is dropped
 pub sound_without : {D : Type 0} (g : disk.Ghosts D) (d d' : D) (j : Journaled) (most : ℕ) (flags flags' : List Bool) (streams : List (Option StreamParts)) (slot : ℕ) (o : Option StreamParts) (b : Bool)
-    → IsSound g d j most flags streams b → b ≡ false → slot < 8 → stream_at streams slot ≡ o → Guards g d' j → Balances flags (held_by o) flags' []
-    → IsSound g d' j most flags' (slice_set streams slot None) b
+    → IsArchiveSound g d j most flags streams b → b ≡ false → slot < 8 → stream_at streams slot ≡ o → Guards g d' j → Balances flags (held_by o) flags' []
+    → IsArchiveSound g d' j most flags' (slice_set streams slot None) b
 sound_without g d d' j most flags flags' streams slot o b sound on below there keeps bal =
     sound_with g d d' j most flags flags' streams slot o None b sound on below there keeps bal tt
     (λ name. (let n = (sound.runs on).named name in omega (arith, n)))
@@ -106,7 +106,7 @@ closed_twice (x ∷ xs) = ap (λ (l : List (Option StreamParts)). None ∷ l) (c
 
 -- a disk fault stops it
 pub sound_halted : {D : Type 0} (g : disk.Ghosts D) (d d' : D) (j j' : Journaled) (most : ℕ) (flags flags' : List Bool) (streams streams' : List (Option StreamParts)) (b : Bool)
-    → IsSound g d j most flags streams b → j'.standing.shape ≡ j.standing.shape → length streams' ≡ length streams → IsSound g d' j' most flags' (closed streams') true
+    → IsArchiveSound g d j most flags streams b → j'.standing.shape ≡ j.standing.shape → length streams' ≡ length streams → IsArchiveSound g d' j' most flags' (closed streams') true
 sound_halted g d d' j j' most flags flags' streams streams' b sound same long = record {
   shape = subst IsWithinLimits (sym same) sound.shape;
   slots = (let e : length (closed streams') ≡ length streams' = simp length-map in e ∙ long ∙ sound.slots);
@@ -115,30 +115,30 @@ sound_halted g d d' j j' most flags flags' streams streams' b sound same long = 
 }
 
 -- the blocks in use, as the state without bytes counts them
-cases_count : (next : ℕ) (cases : List Case) → All (IsWhole next) cases → sum_by (λ (c : BareCase). blocks_for c.len) (map bare_case cases) ≡ case_blocks cases
+cases_count : (next : ℕ) (cases : List Case) → All (IsWhole next) cases → sum_by (λ (c : CaseFacts). blocks_for c.len) (map case_facts cases) ≡ case_blocks cases
 cases_count next [] each = refl
 cases_count next (c ∷ rest) each =
-    let s = sum_by-cons (λ (x : BareCase). blocks_for x.len) (bare_case c) (map bare_case rest) in
+    let s = sum_by-cons (λ (x : CaseFacts). blocks_for x.len) (case_facts c) (map case_facts rest) in
     let t = sum_by-cons (λ (x : Case). length x.blocks) c rest in
     let m = cases_count next rest (All-tail (IsWhole next) c rest each) in
     let e = (All-head (IsWhole next) c rest each).enough in
     omega (arith, s, t, m, e)
 
-streams_count : (most : ℕ) (streams : List (Option StreamParts)) → All (IsFineIfOpen most) streams → sum_by filled_by (map (option_map bare_stream) streams) ≡ stream_blocks streams
+streams_count : (most : ℕ) (streams : List (Option StreamParts)) → All (IsFineIfOpen most) streams → sum_by filled_by (map (option_map stream_facts) streams) ≡ stream_blocks streams
 streams_count most [] each = refl
 streams_count most (o ∷ rest) each =
-    let s = sum_by-cons filled_by (option_map bare_stream o) (map (option_map bare_stream) rest) in
+    let s = sum_by-cons filled_by (option_map stream_facts o) (map (option_map stream_facts) rest) in
     let t = sum_by-cons (λ (x : Option StreamParts). length (held_by x)) o rest in
     let m = streams_count most rest (All-tail (IsFineIfOpen most) o rest each) in
     let e = one o (All-head (IsFineIfOpen most) o rest each) in
     omega (arith, s, t, m, e)
   where
-    one : (x : Option StreamParts) → IsFineIfOpen most x → filled_by (option_map bare_stream x) ≡ length (held_by x)
+    one : (x : Option StreamParts) → IsFineIfOpen most x → filled_by (option_map stream_facts x) ≡ length (held_by x)
     one None fine = refl
     one (Some x) fine = sym fine.filled
 
 pub in_use : {D : Type 0} (g : disk.Ghosts D) (d : D) (j : Journaled) (most : ℕ) (flags : List Bool) (streams : List (Option StreamParts)) (b : Bool)
-    → IsRunning g d j most flags streams → free_count flags + blocks_in (bare_of (record { disk = d; journal = j; limit = most; streams = streams; stopped = b })) ≡ j.standing.shape.data_blocks
+    → IsRunning g d j most flags streams → free_count flags + blocks_in (state_of (record { disk = d; journal = j; limit = most; streams = streams; stopped = b })) ≡ j.standing.shape.data_blocks
 in_use g d j most flags streams b r =
     let c = cases_count j.standing.next j.standing.cases r.cases.each in
     let s = streams_count most streams r.streams_fine in
@@ -146,10 +146,10 @@ in_use g d j most flags streams b r =
     omega (arith, c, s, t)
 
 -- what stands in a slot, without bytes
-pub bare_at : (streams : List (Option StreamParts)) (slot : ℕ) → stream_at (map (option_map bare_stream) streams) slot ≡ option_map bare_stream (stream_at streams slot)
-bare_at [] slot = refl
-bare_at (o ∷ rest) zero = refl
-bare_at (o ∷ rest) (suc slot) = bare_at rest slot
+pub state_at : (streams : List (Option StreamParts)) (slot : ℕ) → stream_at (map (option_map stream_facts) streams) slot ≡ option_map stream_facts (stream_at streams slot)
+state_at [] slot = refl
+state_at (o ∷ rest) zero = refl
+state_at (o ∷ rest) (suc slot) = state_at rest slot
 
 -- what stands in a slot is fine
 pub fine_at : (most : ℕ) (streams : List (Option StreamParts)) (slot : ℕ) → All (IsFineIfOpen most) streams → IsFineIfOpen most (stream_at streams slot)
@@ -161,7 +161,7 @@ has_block : (most : ℕ) (o : Option StreamParts) → IsFineIfOpen most o → Ha
 has_block most None fine = tt
 has_block most (Some s) fine = fine.block
 
-pub block_at : {D : Type 0} (g : disk.Ghosts D) (d : D) (j : Journaled) (most : ℕ) (flags : List Bool) (streams : List (Option StreamParts)) (slot : ℕ) (b : Bool) → IsSound g d j most flags streams b → b ≡ false → HasBlock (stream_at streams slot)
+pub block_at : {D : Type 0} (g : disk.Ghosts D) (d : D) (j : Journaled) (most : ℕ) (flags : List Bool) (streams : List (Option StreamParts)) (slot : ℕ) (b : Bool) → IsArchiveSound g d j most flags streams b → b ≡ false → HasBlock (stream_at streams slot)
 block_at g d j most flags streams slot b sound on = has_block most (stream_at streams slot) (fine_at most streams slot (sound.runs on).streams_fine)
 
 length-refilled : (old : List ℕ) (used : ℕ) (ws : List ℕ) → used ≤ length old → length (refilled old used ws) ≡ length old
@@ -179,18 +179,18 @@ nothing_moves flags held = record { long = refl; each = λ k. refl; all = refl }
 
 -- a loan of a slot's free part leaves it sound
 pub sound_lent : {D : Type 0} (g : disk.Ghosts D) (d : D) (j : Journaled) (most : ℕ) (flags : List Bool) (streams : List (Option StreamParts)) (slot : ℕ) (b : Bool) (r : Result (Unit {0}) ArchiveFault) (ws : List ℕ)
-    → IsSound g d j most flags streams b → SlotReply b streams slot r → IsSound g d j most flags (slots_left streams slot r ws) b
+    → IsArchiveSound g d j most flags streams b → SlotReply b streams slot r → IsArchiveSound g d j most flags (slots_left streams slot r ws) b
 sound_lent g d j most flags streams slot b (Err f) ws sound reply = sound
 sound_lent g d j most flags streams slot b (Ok u) ws sound reply = here (stream_at streams slot) refl
   where
     low : slot < 8
     low = elim (cases_lt slot 8) as (λ _. slot < 8) [ inl lt ↦ lt | inr high ↦ absurd (reply.1 (get_or_past streams slot None (let e = sound.slots in omega arith))) ]
 
-    here : (o : Option StreamParts) → stream_at streams slot ≡ o → IsSound g d j most flags (slice_set streams slot (option_map (with_room ws) (stream_at streams slot))) b
+    here : (o : Option StreamParts) → stream_at streams slot ≡ o → IsArchiveSound g d j most flags (slice_set streams slot (option_map (with_room ws) (stream_at streams slot))) b
     here None is = absurd (reply.1 is)
     here (Some s) is =
         let fine : IsFine most s = subst (IsFineIfOpen most) is (fine_at most streams slot (sound.runs reply.0).streams_fine) in
-        subst (λ (o : Option StreamParts). IsSound g d j most flags (slice_set streams slot (option_map (with_room ws) o)) b) (sym is)
+        subst (λ (o : Option StreamParts). IsArchiveSound g d j most flags (slice_set streams slot (option_map (with_room ws) o)) b) (sym is)
         (sound_with g d d j most flags flags streams slot (Some s) (Some (with_room ws s)) b sound reply.0 low is (sound.runs reply.0).keeps (nothing_moves flags s.blocks)
         (record {
           name = fine.name;
@@ -206,15 +206,15 @@ sound_lent g d j most flags streams slot b (Ok u) ws sound reply = here (stream_
 
 -- a stream stands in one of the eight slots
 pub slot_below : {D : Type 0} (g : disk.Ghosts D) (d : D) (j : Journaled) (most : ℕ) (flags : List Bool) (streams : List (Option StreamParts)) (slot : ℕ) (s : StreamParts) (b : Bool)
-    → IsSound g d j most flags streams b → stream_at streams slot ≡ Some s → slot < 8
+    → IsArchiveSound g d j most flags streams b → stream_at streams slot ≡ Some s → slot < 8
 slot_below g d j most flags streams slot s b sound is =
     elim (cases_lt slot 8) as (λ _. slot < 8) [ inl lt ↦ lt | inr high ↦ absurd (let e : None ≡ Some s = sym (get_or_past streams slot None (let e = sound.slots in omega arith)) ∙ is in cc) ]
 
 pub sound_dropped : {D : Type 0} (g : disk.Ghosts D) (d d' : D) (j : Journaled) (most : ℕ) (flags flags' : List Bool) (streams streams' : List (Option StreamParts)) (slot : ℕ) (s : StreamParts) (b : Bool)
-    → IsSound g d j most flags streams b → b ≡ false → stream_at streams slot ≡ Some s → streams' ≡ slice_set streams slot None → Guards g d' j → Balances flags s.blocks flags' []
-    → IsSound g d' j most flags' streams' b
+    → IsArchiveSound g d j most flags streams b → b ≡ false → stream_at streams slot ≡ Some s → streams' ≡ slice_set streams slot None → Guards g d' j → Balances flags s.blocks flags' []
+    → IsArchiveSound g d' j most flags' streams' b
 sound_dropped g d d' j most flags flags' streams streams' slot s b sound on is now keeps bal =
-    subst (λ (x : List (Option StreamParts)). IsSound g d' j most flags' x b) (sym now)
+    subst (λ (x : List (Option StreamParts)). IsArchiveSound g d' j most flags' x b) (sym now)
     (sound_without g d d' j most flags flags' streams slot (Some s) b sound on (slot_below g d j most flags streams slot s b sound is) is keeps bal)
 
 pub fine_new : (most : ℕ) (s : StreamParts) → IsName s.name → s.pid < 2 ^ 32 → s.signal < 2 ^ 32 → s.time < 2 ^ 64 → s.len ≡ 0 → s.blocks ≡ [] → s.block ≡ zero_block → IsFine most s

@@ -7,31 +7,29 @@ use Rattle.std.proofs.lemmas.List.{map-set, length-map}
 use Rattle.std.proofs.lemmas.List.Sums.{sum_by-cons}
 use Rattle.std.proofs.lemmas.Bool.{or_parts}
 use Rattle.std.proofs.lemmas.Slice.Eq.{bytes_eq-Decides}
-use Rattle.journal_layout.specs.Case.{Case, case_of}
-use Rattle.journal_layout.specs.declared.entry.Entry.{Entry}
 use Rattle.case_journal.specs.Journaled.{Journaled}
 use Rattle.extents.specs.FreeSet.{one_if}
 use Rattle.intake.specs.Contents.{Taken, zero_block, empty_taken, with_taken}
 use Rattle.intake.specs.Live.{cases_named}
-use Rattle.intake.specs.Parts.{Parts, StreamParts, bare_of, bare_case, bare_stream, taken_in, contents_of}
+use Rattle.intake.specs.Parts.{Parts, StreamParts, state_of, case_facts, stream_facts, taken_in, contents_of}
 use Rattle.intake.specs.Slots.{stream_at}
 use Rattle.intake.specs.Sound.{streams_named, is_called}
-use Rattle.intake.specs.State.{Bare, BareCase, BareStream}
+use Rattle.intake.specs.State.{CaseFacts, StreamFacts}
 use Rattle.intake.specs.Step.{has_name, is_taken, with_stream}
 use Rattle.disk_model.specs.declared.disk.Disk as disk
 use Rattle.intake.specs.Balance.{Balances}
 use Rattle.intake.specs.Contents.{BeginBytes, AbandonBytes}
-use Rattle.intake.specs.Sound.{IsSound, IsFine}
+use Rattle.intake.specs.Sound.{IsArchiveSound, IsFine}
 use Rattle.intake.specs.Step.{BeginStep, AbandonStep}
-use Rattle.intake.proofs.SoundLemmas.{bare_at, sound_with, nothing_moves}
+use Rattle.intake.proofs.SoundLemmas.{state_at, sound_with, nothing_moves}
 
 -- the same archive with something else in a slot
 module _ {D : Type 0} (d d' : D) (j : Journaled) (most : ℕ) (streams : List (Option StreamParts)) (slot : ℕ) (o : Option StreamParts) (b : Bool) where
   abbrev pub before : Parts D
   before = record { disk = d; journal = j; limit = most; streams = streams; stopped = b }
 
-  pub bare_with : bare_of (record { disk = d'; journal = j; limit = most; streams = set streams slot o; stopped = b }) ≡ with_stream (bare_of before) slot (option_map bare_stream o)
-  bare_with = ap (λ (x : List (Option BareStream)). record (bare_of before) { streams = x }) (map-set (option_map bare_stream) streams slot o)
+  pub state_with : state_of (record { disk = d'; journal = j; limit = most; streams = set streams slot o; stopped = b }) ≡ with_stream (state_of before) slot (option_map stream_facts o)
+  state_with = ap (λ (x : List (Option StreamFacts)). record (state_of before) { streams = x }) (map-set (option_map stream_facts) streams slot o)
 
 -- and its bytes, on a disk that reads as before
 module _ {D : Type 0} (seen : D → List ℕ) (d : D) (j : Journaled) (most : ℕ) (streams : List (Option StreamParts)) (slot : ℕ) (o : Option StreamParts) (b : Bool) where
@@ -44,11 +42,11 @@ pub taken_new : (j : Journaled) (bytes : List ℕ) (s : StreamParts) → s.len �
 taken_new j bytes s none no_blocks zeros = rw (none, no_blocks, zeros) refl
 
 -- whether something stands in a slot, in the words of the state without bytes
-pub none_there : (streams : List (Option StreamParts)) (slot : ℕ) → stream_at streams slot ≡ None → stream_at (map (option_map bare_stream) streams) slot ≡ None
-none_there streams slot e = bare_at streams slot ∙ ap (option_map bare_stream) e
+pub none_there : (streams : List (Option StreamParts)) (slot : ℕ) → stream_at streams slot ≡ None → stream_at (map (option_map stream_facts) streams) slot ≡ None
+none_there streams slot e = state_at streams slot ∙ ap (option_map stream_facts) e
 
-pub some_there : (streams : List (Option StreamParts)) (slot : ℕ) (s : StreamParts) → stream_at streams slot ≡ Some s → stream_at (map (option_map bare_stream) streams) slot ≡ Some (bare_stream s)
-some_there streams slot s e = bare_at streams slot ∙ ap (option_map bare_stream) e
+pub some_there : (streams : List (Option StreamParts)) (slot : ℕ) (s : StreamParts) → stream_at streams slot ≡ Some s → stream_at (map (option_map stream_facts) streams) slot ≡ Some (stream_facts s)
+some_there streams slot s e = state_at streams slot ∙ ap (option_map stream_facts) e
 
 pub not_open : (t : Bool) (o : Option StreamParts) → IsTrue t ↔ IsSome o → t ≡ false → o ≡ None
 not_open t None both off = refl
@@ -63,29 +61,29 @@ none_of P f (x ∷ xs) e =
     let g : one_if (P (f x)) ≡ 0 = ap one_if h.0 in
     omega (arith, s, g, none_of P f xs h.1)
 
-pub called_same : (name : List ℕ) (streams : List (Option StreamParts)) → count_by (λ o. has_name name (option_map bare_stream o)) streams ≡ streams_named streams name
+pub called_same : (name : List ℕ) (streams : List (Option StreamParts)) → count_by (λ o. has_name name (option_map stream_facts o)) streams ≡ streams_named streams name
 called_same name [] = refl
 called_same name (o ∷ rest) =
-    let s = sum_by-cons (λ y. cond (has_name name (option_map bare_stream y)) 1 0) o rest in
+    let s = sum_by-cons (λ y. cond (has_name name (option_map stream_facts y)) 1 0) o rest in
     let t = sum_by-cons (λ y. cond (is_called name y) 1 0) o rest in
     let e = ap one_if (one o) in
     omega (arith, s, t, e, called_same name rest)
   where
-    one : (x : Option StreamParts) → has_name name (option_map bare_stream x) ≡ is_called name x
+    one : (x : Option StreamParts) → has_name name (option_map stream_facts x) ≡ is_called name x
     one None = refl
     one (Some x) = refl
 
-pub new_name : {D : Type 0} (a : Parts D) (name : List ℕ) → is_taken (bare_of a) name ≡ false → (cases_named a.journal.standing.cases name ≡ 0) × (streams_named a.streams name ≡ 0)
+pub new_name : {D : Type 0} (a : Parts D) (name : List ℕ) → is_taken (state_of a) name ≡ false → (cases_named a.journal.standing.cases name ≡ 0) × (streams_named a.streams name ≡ 0)
 new_name a name e =
-    let h = or_parts (list_any (λ (c : BareCase). bytes_eq c.name name) (map bare_case a.journal.standing.cases)) (list_any (has_name name) (map (option_map bare_stream) a.streams)) e in (
-      none_of (λ (c : BareCase). bytes_eq c.name name) bare_case a.journal.standing.cases h.0,
-      sym (called_same name a.streams) ∙ none_of (has_name name) (option_map bare_stream) a.streams h.1,
+    let h = or_parts (list_any (λ (c : CaseFacts). bytes_eq c.name name) (map case_facts a.journal.standing.cases)) (list_any (has_name name) (map (option_map stream_facts) a.streams)) e in (
+      none_of (λ (c : CaseFacts). bytes_eq c.name name) case_facts a.journal.standing.cases h.0,
+      sym (called_same name a.streams) ∙ none_of (has_name name) (option_map stream_facts) a.streams h.1,
     )
 
 of_true : (x y : List ℕ) → bytes_eq x y ≡ true → x ≡ y
 of_true x y e = (let d = bytes_eq-Decides x y in d.0 e)
 
-pub names_with : {D : Type 0} (a : Parts D) (s : StreamParts) → is_taken (bare_of a) s.name ≡ false → ((name : List ℕ) → cases_named a.journal.standing.cases name + streams_named a.streams name ≤ 1)
+pub names_with : {D : Type 0} (a : Parts D) (s : StreamParts) → is_taken (state_of a) s.name ≡ false → ((name : List ℕ) → cases_named a.journal.standing.cases name + streams_named a.streams name ≤ 1)
     → (name : List ℕ) → cases_named a.journal.standing.cases name + streams_named a.streams name + one_if (bytes_eq s.name name) ≤ 1 + 0
 names_with a s free once name = both (bytes_eq s.name name) refl
   where
@@ -104,20 +102,20 @@ list_any-map P f (x ∷ xs) = ap (λ b. P (f x) || b) (list_any-map P f xs)
 
 -- a stream is begun
 module _ {D : Type 0} (g : disk.Ghosts D) (d : D) (j : Journaled) (most : ℕ) (flags : List Bool) (streams streams' : List (Option StreamParts)) (slot : ℕ) (s : StreamParts) (b : Bool)
-    (sound : IsSound g d j most flags streams b) (on : b ≡ false) (low : slot < 8) (none : stream_at streams slot ≡ None)
-    (free : is_taken (bare_of (record { disk = d; journal = j; limit = most; streams = streams; stopped = b })) s.name ≡ false) (now : streams' ≡ slice_set streams slot (Some s)) where
-  pub sound_begun : IsFine most s → s.blocks ≡ [] → IsSound g d j most flags streams' b
+    (sound : IsArchiveSound g d j most flags streams b) (on : b ≡ false) (low : slot < 8) (none : stream_at streams slot ≡ None)
+    (free : is_taken (state_of (record { disk = d; journal = j; limit = most; streams = streams; stopped = b })) s.name ≡ false) (now : streams' ≡ slice_set streams slot (Some s)) where
+  pub sound_begun : IsFine most s → s.blocks ≡ [] → IsArchiveSound g d j most flags streams' b
   sound_begun fine no_blocks =
-      subst (λ (x : List (Option StreamParts)). IsSound g d j most flags x b) (sym now)
+      subst (λ (x : List (Option StreamParts)). IsArchiveSound g d j most flags x b) (sym now)
       (sound_with g d d j most flags flags streams slot None (Some s) b sound on low none (sound.runs on).keeps
       (let f = ap length no_blocks in subst (λ (x : List ℕ). Balances flags [] flags x) (sym no_blocks) (nothing_moves flags []))
       fine
       (names_with (record { disk = d; journal = j; limit = most; streams = streams; stopped = b }) s free (sound.runs on).named))
 
-  pub begin_step : (u : Unit {0}) → BeginStep (bare_of (record { disk = d; journal = j; limit = most; streams = streams; stopped = b })) slot (bare_stream s) (Ok u) (bare_of (record { disk = d; journal = j; limit = most; streams = streams'; stopped = b }))
+  pub begin_step : (u : Unit {0}) → BeginStep (state_of (record { disk = d; journal = j; limit = most; streams = streams; stopped = b })) slot (stream_facts s) (Ok u) (state_of (record { disk = d; journal = j; limit = most; streams = streams'; stopped = b }))
   begin_step u = (
-    (on, (let e : length (map (option_map bare_stream) streams) ≡ length streams = simp length-map in let f = sound.slots in omega arith), none_there streams slot none, free),
-    ap (λ (x : List (Option StreamParts)). bare_of (record { disk = d; journal = j; limit = most; streams = x; stopped = b })) now ∙ bare_with d d j most streams slot (Some s) b,
+    (on, (let e : length (map (option_map stream_facts) streams) ≡ length streams = simp length-map in let f = sound.slots in omega arith), none_there streams slot none, free),
+    ap (λ (x : List (Option StreamParts)). state_of (record { disk = d; journal = j; limit = most; streams = x; stopped = b })) now ∙ state_with d d j most streams slot (Some s) b,
   )
 
   pub begin_bytes : (u : Unit {0}) → s.len ≡ 0 → s.blocks ≡ [] → s.block ≡ zero_block
@@ -130,11 +128,11 @@ module _ {D : Type 0} (g : disk.Ghosts D) (d : D) (j : Journaled) (most : ℕ) (
 -- a stream is dropped
 module _ {D : Type 0} (g : disk.Ghosts D) (d : D) (j : Journaled) (most : ℕ) (streams streams' : List (Option StreamParts)) (slot : ℕ) (s : StreamParts) (b : Bool)
     (on : b ≡ false) (is : stream_at streams slot ≡ Some s) (now : streams' ≡ slice_set streams slot None) where
-  pub abandon_step : (u : Unit {0}) → AbandonStep (bare_of (record { disk = d; journal = j; limit = most; streams = streams; stopped = b })) slot (Ok u) (bare_of (record { disk = d; journal = j; limit = most; streams = streams'; stopped = b }))
+  pub abandon_step : (u : Unit {0}) → AbandonStep (state_of (record { disk = d; journal = j; limit = most; streams = streams; stopped = b })) slot (Ok u) (state_of (record { disk = d; journal = j; limit = most; streams = streams'; stopped = b }))
   abandon_step u = (
     on,
-    (λ none. let e : Some (bare_stream s) ≡ None = sym (some_there streams slot s is) ∙ none in cc),
-    ap (λ (x : List (Option StreamParts)). bare_of (record { disk = d; journal = j; limit = most; streams = x; stopped = b })) now ∙ bare_with d d j most streams slot None b,
+    (λ none. let e : Some (stream_facts s) ≡ None = sym (some_there streams slot s is) ∙ none in cc),
+    ap (λ (x : List (Option StreamParts)). state_of (record { disk = d; journal = j; limit = most; streams = x; stopped = b })) now ∙ state_with d d j most streams slot None b,
   )
 
   pub abandon_bytes : (u : Unit {0}) → AbandonBytes (contents_of g.seen (record { disk = d; journal = j; limit = most; streams = streams; stopped = b })) slot (Ok u) (contents_of g.seen (record { disk = d; journal = j; limit = most; streams = streams'; stopped = b }))

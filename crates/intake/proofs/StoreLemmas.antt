@@ -10,7 +10,7 @@ use Rattle.journal_layout.specs.Layout.{half_length, data_start}
 use Rattle.journal_layout.specs.Case.{Case, numbered}
 use Rattle.journal_layout.specs.Standing.{Standing, store_of}
 use Rattle.case_journal.specs.Append.{StoreRefused}
-use Rattle.case_journal.specs.Journaled.{Journaled, goes_on}
+use Rattle.case_journal.specs.Journaled.{Journaled, after_append}
 use Rattle.case_journal.specs.declared.faults.JournalFault.{JournalFault}
 use Rattle.case_journal.specs.declared.faults.JournalFault.TheVariants as journal_fault
 use Rattle.intake.specs.declared.faults.ArchiveFault.{ArchiveFault}
@@ -95,7 +95,7 @@ module _ {D : Type 0} (g : disk.Ghosts D) (d d1 d2 : D) (j j' : Journaled) (most
       (λ e. runs_on j j' c appends.0 running.journal appends.2 (sym appends.1 ∙ e))
       (λ e. never_missing appends.0 (sym appends.1 ∙ e)))
 
-  pub stored_bytes : (s : StreamParts) (c : Case) (seq : ℕ) (streams' : List (Option StreamParts)) → stream_at streams slot ≡ Some s → streams' ≡ slice_set streams slot None → j' ≡ goes_on j (store_of j.standing c)
+  pub stored_bytes : (s : StreamParts) (c : Case) (seq : ℕ) (streams' : List (Option StreamParts)) → stream_at streams slot ≡ Some s → streams' ≡ slice_set streams slot None → j' ≡ after_append j (store_of j.standing c)
       → c.len ≡ s.len → ClosesBytes j.standing.shape s c.blocks (g.seen d) (g.seen d1)
       → FinishBytes (contents_of g.seen old) slot (Ok seq) (contents_of g.seen (record { disk = d2; journal = j'; limit = most; streams = streams'; stopped = b' }))
   stored_bytes s c seq streams' is gone now long closes =
@@ -105,7 +105,7 @@ module _ {D : Type 0} (g : disk.Ghosts D) (d d1 d2 : D) (j j' : Journaled) (most
         taken_in j (g.seen d) s,
         taken_at streams slot ∙ ap (option_map (taken_in j (g.seen d))) is,
         ap (λ (k : Journaled). contents_of g.seen (record { disk = d2; journal = k; limit = most; streams = streams'; stopped = b' })) now
-            ∙ ap (λ (x : List (Option StreamParts)). contents_of g.seen (record { disk = d2; journal = goes_on j (store_of j.standing c); limit = most; streams = x; stopped = b' })) gone
+            ∙ ap (λ (x : List (Option StreamParts)). contents_of g.seen (record { disk = d2; journal = after_append j (store_of j.standing c); limit = most; streams = x; stopped = b' })) gone
             ∙ ap (λ (x : List (List ℕ)). record { images = x; taken = map (option_map (taken_in j (g.seen d2))) (slice_set streams slot None) })
             (map-append (λ (y : Case). image_in j.standing.shape (g.seen d2) y.blocks y.len) j.standing.cases (numbered j.standing.next c ∷ [])
             ∙ ap (λ (x : List ℕ). map (λ (y : Case). image_in j.standing.shape (g.seen d2) y.blocks y.len) j.standing.cases ++ x ∷ []) image)
@@ -118,7 +118,7 @@ module _ {D : Type 0} (g : disk.Ghosts D) (d d1 d2 : D) (j j' : Journaled) (most
       taken_at (o ∷ rest) (suc i) = taken_at rest i
 
   -- behind the bytes of the new case there are zeros
-  pub stored_padded : (s : StreamParts) (c : Case) (seq : ℕ) (streams' : List (Option StreamParts)) → stream_at streams slot ≡ Some s → j' ≡ goes_on j (store_of j.standing c)
+  pub stored_padded : (s : StreamParts) (c : Case) (seq : ℕ) (streams' : List (Option StreamParts)) → stream_at streams slot ≡ Some s → j' ≡ after_append j (store_of j.standing c)
       → ClosesPadded j.standing.shape s c.blocks (g.seen d) (g.seen d1)
       → FinishPads g.seen old slot (Ok seq) (record { disk = d2; journal = j'; limit = most; streams = streams'; stopped = b' })
   stored_padded s c seq streams' is now closes = (

@@ -8,17 +8,17 @@ use Rattle.case_journal.specs.Refusing.{LeavesDisk}
 use Rattle.case_journal.specs.Journaled.{Journaled}
 use Rattle.case_journal.specs.declared.faults.JournalFault.{JournalFault}
 use Rattle.case_journal.specs.declared.faults.JournalFault.TheVariants as journal_fault
-use Rattle.intake.specs.Closing.{Closes}
+use Rattle.intake.specs.Closing.{ClosesStream}
 use Rattle.intake.specs.Faults.{fault_of}
 use Rattle.intake.specs.Growth.{DiskReply, NeedsBlock}
-use Rattle.intake.specs.Parts.{StreamParts, bare_case, bare_stream}
+use Rattle.intake.specs.Parts.{StreamParts, case_facts, stream_facts}
 use Rattle.intake.specs.Slots.{stream_at}
-use Rattle.intake.specs.State.{BareCase, BareStream}
+use Rattle.intake.specs.State.{CaseFacts, StreamFacts}
 use Rattle.intake.specs.Step.{case_at}
 use Rattle.intake.specs.Untouched.{RefusalSpares, FinishSpares}
 use Rattle.intake.specs.declared.faults.ArchiveFault.{ArchiveFault}
 use Rattle.intake.specs.declared.faults.ArchiveFault.TheVariants as fault
-use Rattle.intake.proofs.AfterLemmas.{bare_case_at, told_same}
+use Rattle.intake.proofs.AfterLemmas.{case_facts_at, told_same}
 use Rattle.intake.proofs.StepLemmas.{some_there}
 
 -- an answer that the disk gave
@@ -55,28 +55,28 @@ pub journal_answered : (T : Type 0) (jf h : JournalFault) (f : ArchiveFault) →
 journal_answered T jf h f told is = ap (λ (k : JournalFault). let r : Result T JournalFault = Err k in r) (told_same jf h (sym told ∙ fault_answered T f (fault_of h) is))
 
 -- bytes that fill no block need none
-pub needs_none : (streams : List (Option StreamParts)) (slot n : ℕ) (s : StreamParts) (t : BareStream) → stream_at streams slot ≡ Some s → stream_at (map (option_map bare_stream) streams) slot ≡ Some t
+pub needs_none : (streams : List (Option StreamParts)) (slot n : ℕ) (s : StreamParts) (t : StreamFacts) → stream_at streams slot ≡ Some s → stream_at (map (option_map stream_facts) streams) slot ≡ Some t
     → (((n ≢ 0) × ((t.len + n) % 4096 ≡ 0)) → ⊥) → NeedsBlock s.len n → ⊥
 needs_none streams slot n s t is at none needs =
-    let same : bare_stream s ≡ t = inside (sym (some_there streams slot s is) ∙ at) in
-    let long : s.len ≡ t.len = ap (λ (x : BareStream). x.len) same in
+    let same : stream_facts s ≡ t = inside (sym (some_there streams slot s is) ∙ at) in
+    let long : s.len ≡ t.len = ap (λ (x : StreamFacts). x.len) same in
     let full = needs.1 in
     none (needs.0, omega arith)
   where
-    inside : Some (bare_stream s) ≡ Some t → bare_stream s ≡ t
+    inside : Some (stream_facts s) ≡ Some t → stream_facts s ≡ t
     inside e = cc
 
 -- a case with another flag is not one whose flag stands already
-pub flag_differs : (seq : ℕ) (flag : Bool) (cases : List Case) (c : Case) (x : BareCase) → Some c ≡ case_numbered seq cases → c.pinned ≢ flag → case_at seq (map bare_case cases) ≡ Some x → x.pinned ≡ flag → ⊥
+pub flag_differs : (seq : ℕ) (flag : Bool) (cases : List Case) (c : Case) (x : CaseFacts) → Some c ≡ case_numbered seq cases → c.pinned ≢ flag → case_at seq (map case_facts cases) ≡ Some x → x.pinned ≡ flag → ⊥
 flag_differs seq flag cases c x found differs at is =
-    let same : bare_case c ≡ x = inside (ap (option_map bare_case) found ∙ sym (bare_case_at seq cases) ∙ at) in
-    differs (ap (λ (y : BareCase). y.pinned) same ∙ is)
+    let same : case_facts c ≡ x = inside (ap (option_map case_facts) found ∙ sym (case_facts_at seq cases) ∙ at) in
+    differs (ap (λ (y : CaseFacts). y.pinned) same ∙ is)
   where
-    inside : Some (bare_case c) ≡ Some x → bare_case c ≡ x
+    inside : Some (case_facts c) ≡ Some x → case_facts c ≡ x
     inside e = cc
 
 -- a seal's refusal, but that of the disk
-pub seal_spares : {D : Type 0} (free : ℕ) (s s' : StreamParts) (f : ArchiveFault) (old new : D) → Closes free s (Err f) s' → RefusalSpares {T = Unit {0}} (Err f) old new → FinishSpares (Err f) old new
+pub seal_spares : {D : Type 0} (free : ℕ) (s s' : StreamParts) (f : ArchiveFault) (old new : D) → ClosesStream free s (Err f) s' → RefusalSpares {T = Unit {0}} (Err f) old new → FinishSpares (Err f) old new
 seal_spares free s s' fault.SpaceFull old new closes spares = spares
 seal_spares free s s' fault.OutOfMemory old new closes spares = tt
 seal_spares free s s' fault.Disk old new closes spares = tt

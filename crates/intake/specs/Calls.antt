@@ -9,15 +9,15 @@ use Rattle.journal_layout.specs.declared.faults.OpenFault.TheVariants as open_fa
 use Rattle.journal_layout.specs.Layout.{half_length}
 use Rattle.journal_layout.specs.Standing.{Standing}
 use Rattle.journal_layout.specs.Stands.{Stands}
-use Rattle.case_journal.specs.Viewing.{ShowsOpening, Finds, IsQuiet}
+use Rattle.case_journal.specs.Viewing.{ShowsOpening, FindsStanding, OnlyReads}
 use Rattle.intake.specs.Closing.{FinishPads}
 use Rattle.intake.specs.Contents.{BeginBytes, AdvanceBytes, FinishBytes, AbandonBytes, PinBytes, DeleteBytes, RetireBytes, ImageBytes}
 use Rattle.intake.specs.Durable.{Durable, StandsFor, FindsAgain, durable_of, without, flagged}
 use Rattle.intake.specs.Guarding.{Leaves, StoresIn, MayBeRetired}
 use Rattle.intake.specs.Opened.{IsOpened, disk_in, journal_in}
-use Rattle.intake.specs.Parts.{Parts, bare_of, contents_of}
+use Rattle.intake.specs.Parts.{Parts, state_of, contents_of}
 use Rattle.intake.specs.Slots.{stream_at}
-use Rattle.intake.specs.State.{BareCase, BareStream}
+use Rattle.intake.specs.State.{CaseFacts, StreamFacts}
 use Rattle.intake.specs.Growth.{IsDiskFault}
 use Rattle.intake.specs.Step.{BeginStep, AdvanceStep, FinishStep, AbandonStep, PinStep, DeleteStep, RetireStep, ImageStep, IsLastGeneration, case_at, pin_size}
 use Rattle.intake.specs.Untouched.{RefusalSpares, AdvanceSpares, FinishSpares, PinSpares, RetireSpares}
@@ -31,7 +31,7 @@ pub record OpenCall {D : Type 0} (g : disk.Ghosts D) (limit : ℕ) (before : D) 
   -- the opening of some list of bytes as long as the disk, on an honest disk of its bytes
   pub gives : ShowsOpening g before (journal_in r)
   -- what the disk stands for is found, and nothing but the disk and the memory refuses it
-  pub found : (s : Standing) → IsTrue (g.is_honest before) → Stands (g.seen before) s → Finds (journal_in r) s
+  pub found : (s : Standing) → IsTrue (g.is_honest before) → Stands (g.seen before) s → FindsStanding (journal_in r) s
   -- so is what its bytes hold of the cases: after a crash the cases that it left
   pub found_again : (x : Durable) → IsTrue (g.is_honest before) → StandsFor (g.seen before) x → FindsAgain g.seen r x
   -- the limit is the one that was given, and no stream is open
@@ -48,7 +48,7 @@ pub record OpenCall {D : Type 0} (g : disk.Ghosts D) (limit : ℕ) (before : D) 
   pub size : g.size (disk_in r) ≡ g.size before
 
 -- A call that changes no case: a crash at any moment of it leaves what one before could have left, or these cases.
-pub record Stays {D : Type 0} (g : disk.Ghosts D) (old new : Parts D) : Type 0 where
+pub record ChangesNoCase {D : Type 0} (g : disk.Ghosts D) (old new : Parts D) : Type 0 where
   pub honesty : g.is_honest new.disk ≡ g.is_honest old.disk
   pub later : g.failures old.disk ≤ g.failures new.disk
   pub size : g.size new.disk ≡ g.size old.disk
@@ -71,71 +71,71 @@ pub record Changes {D : Type 0} (T : Type 0) (g : disk.Ghosts D) (old : Parts D)
 
 -- Each call of an open archive, by its name: the state, the bytes, and what a crash at any moment of it leaves.
 
-pub record BeginCall {D : Type 0} (g : disk.Ghosts D) (old : Parts D) (slot : ℕ) (s : BareStream) (r : Result (Unit {0}) ArchiveFault) (new : Parts D) : Type 0 where
-  pub step : BeginStep (bare_of old) slot s r (bare_of new)
+pub record BeginCall {D : Type 0} (g : disk.Ghosts D) (old : Parts D) (slot : ℕ) (s : StreamFacts) (r : Result (Unit {0}) ArchiveFault) (new : Parts D) : Type 0 where
+  pub step : BeginStep (state_of old) slot s r (state_of new)
   pub bytes : BeginBytes (contents_of g.seen old) slot r (contents_of g.seen new)
   pub disk : new.disk ≡ old.disk
-  pub stays : Stays g old new
+  pub stays : ChangesNoCase g old new
 
 pub record AdvanceCall {D : Type 0} (g : disk.Ghosts D) (old : Parts D) (slot n : ℕ) (r : Result (Unit {0}) ArchiveFault) (new : Parts D) : Type 0 where
-  pub step : AdvanceStep (bare_of old) slot n r (bare_of new)
+  pub step : AdvanceStep (state_of old) slot n r (state_of new)
   pub bytes : IsTrue (g.is_honest old.disk) → AdvanceBytes (contents_of g.seen old) slot n r (contents_of g.seen new)
   pub cause : HasDiskCause g old r new
-  pub stays : Stays g old new
-  pub untouched : AdvanceSpares (bare_of old) slot n r old.disk new.disk
+  pub stays : ChangesNoCase g old new
+  pub untouched : AdvanceSpares (state_of old) slot n r old.disk new.disk
 
 pub record AbandonCall {D : Type 0} (g : disk.Ghosts D) (old : Parts D) (slot : ℕ) (r : Result (Unit {0}) ArchiveFault) (new : Parts D) : Type 0 where
-  pub step : AbandonStep (bare_of old) slot r (bare_of new)
+  pub step : AbandonStep (state_of old) slot r (state_of new)
   pub bytes : AbandonBytes (contents_of g.seen old) slot r (contents_of g.seen new)
   pub disk : new.disk ≡ old.disk
-  pub stays : Stays g old new
+  pub stays : ChangesNoCase g old new
   pub slots : length new.streams ≤ 8
   -- whatever is answered, no stream is open in the slot then
-  pub quiet : stream_at (bare_of new).streams slot ≡ None
+  pub quiet : stream_at (state_of new).streams slot ≡ None
 
 pub record FinishCall {D : Type 0} (g : disk.Ghosts D) (old : Parts D) (slot : ℕ) (r : Result ℕ ArchiveFault) (new : Parts D) : Type 0 where
-  pub step : FinishStep (bare_of old) slot r (bare_of new)
+  pub step : FinishStep (state_of old) slot r (state_of new)
   pub bytes : IsTrue (g.is_honest old.disk) → FinishBytes (contents_of g.seen old) slot r (contents_of g.seen new)
   -- the runs of blocks in which the image lies, or would lie had the disk not failed
   pub runs : ℕ
-  pub changes : Changes ℕ g old r new (StoresIn runs (bare_of old) (contents_of g.seen old) (durable_of g.seen old) slot)
+  pub changes : Changes ℕ g old r new (StoresIn runs (state_of old) (contents_of g.seen old) (durable_of g.seen old) slot)
   -- nothing of what stood in the stream's block behind its bytes is on the disk
   pub padded : IsTrue (g.is_honest old.disk) → FinishPads g.seen old slot r new
   pub untouched : FinishSpares r old.disk new.disk
 
 pub record DeleteCall {D : Type 0} (g : disk.Ghosts D) (old : Parts D) (seq : ℕ) (r : Result (Unit {0}) ArchiveFault) (new : Parts D) : Type 0 where
-  pub step : DeleteStep (bare_of old) seq r (bare_of new)
-  pub bytes : IsTrue (g.is_honest old.disk) → DeleteBytes (bare_of old) (contents_of g.seen old) seq r (contents_of g.seen new)
+  pub step : DeleteStep (state_of old) seq r (state_of new)
+  pub bytes : IsTrue (g.is_honest old.disk) → DeleteBytes (state_of old) (contents_of g.seen old) seq r (contents_of g.seen new)
   pub changes : Changes (Unit {0}) g old r new (λ x. x ≡ without (durable_of g.seen old) (seq ∷ []))
   -- what is left can be written anew, unless no generation is left for it
-  pub full : IsTrue (g.is_honest old.disk) → r ≡ Err JournalFull → IsLastGeneration (bare_of old)
+  pub full : IsTrue (g.is_honest old.disk) → r ≡ Err JournalFull → IsLastGeneration (state_of old)
   pub untouched : RefusalSpares {T = Unit {0}} r old.disk new.disk
 
 pub record PinCall {D : Type 0} (g : disk.Ghosts D) (old : Parts D) (seq : ℕ) (flag : Bool) (r : Result (Unit {0}) ArchiveFault) (new : Parts D) : Type 0 where
-  pub step : PinStep (bare_of old) seq flag r (bare_of new)
+  pub step : PinStep (state_of old) seq flag r (state_of new)
   pub bytes : IsTrue (g.is_honest old.disk) → PinBytes (contents_of g.seen old) r (contents_of g.seen new)
   pub changes : Changes (Unit {0}) g old r new (λ x. x ≡ flagged (durable_of g.seen old) seq flag)
   -- it takes no memory where its record fits behind the others
-  pub never : r ≡ Err OutOfMemory → half_length (bare_of old).shape < (bare_of old).used + pin_size + 1
-  pub untouched : PinSpares (bare_of old) seq flag r old.disk new.disk
+  pub never : r ≡ Err OutOfMemory → half_length (state_of old).shape < (state_of old).used + pin_size + 1
+  pub untouched : PinSpares (state_of old) seq flag r old.disk new.disk
 
 pub record RetireCall {D : Type 0} (g : disk.Ghosts D) (old : Parts D) (policy : Policy) (r : Result Decision ArchiveFault) (new : Parts D) : Type 0 where
-  pub step : RetireStep (bare_of old) policy r (bare_of new)
-  pub bytes : IsTrue (g.is_honest old.disk) → RetireBytes (bare_of old) (contents_of g.seen old) r (contents_of g.seen new)
-  pub changes : Changes Decision g old r new (λ x. MayBeRetired (bare_of old) policy (durable_of g.seen old) x)
+  pub step : RetireStep (state_of old) policy r (state_of new)
+  pub bytes : IsTrue (g.is_honest old.disk) → RetireBytes (state_of old) (contents_of g.seen old) r (contents_of g.seen new)
+  pub changes : Changes Decision g old r new (λ x. MayBeRetired (state_of old) policy (durable_of g.seen old) x)
   -- as of a deletion
-  pub full : IsTrue (g.is_honest old.disk) → r ≡ Err JournalFull → IsLastGeneration (bare_of old)
+  pub full : IsTrue (g.is_honest old.disk) → r ≡ Err JournalFull → IsLastGeneration (state_of old)
   pub untouched : RetireSpares r old.disk new.disk
 
 pub record ImageCall {D : Type 0} (g : disk.Ghosts D) (old : Parts D) (seq : ℕ) (r : Result (Vec ℕ Global) ArchiveFault) (new : Parts D) : Type 0 where
-  pub step : ImageStep (bare_of old) seq r (bare_of new)
-  pub bytes : IsTrue (g.is_honest old.disk) → ImageBytes (bare_of old) (contents_of g.seen old) seq r (contents_of g.seen new)
+  pub step : ImageStep (state_of old) seq r (state_of new)
+  pub bytes : IsTrue (g.is_honest old.disk) → ImageBytes (state_of old) (contents_of g.seen old) seq r (contents_of g.seen new)
   pub cause : HasDiskCause g old r new
   -- on any disk it has the case's length
-  pub long : IfOk r (λ image. (c : BareCase) → case_at seq (bare_of old).cases ≡ Some c → vec_len image ≡ c.len)
+  pub long : IfOk r (λ image. (c : CaseFacts) → case_at seq (state_of old).cases ≡ Some c → vec_len image ≡ c.len)
   -- reads give what they gave
-  pub quiet : IsQuiet g old.disk new.disk
-  pub stays : Stays g old new
+  pub quiet : OnlyReads g old.disk new.disk
+  pub stays : ChangesNoCase g old new
   pub untouched : RefusalSpares {T = Vec ℕ Global} r old.disk new.disk
 
 -- close: the disk. Unless a disk fault has stopped the archive, what reads of it give and what a crash leaves is what the archive

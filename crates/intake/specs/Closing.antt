@@ -5,7 +5,7 @@ use Rattle.journal_layout.specs.Case.{Case}
 use Rattle.journal_layout.specs.Standing.{store_of}
 use Rattle.case_journal.specs.declared.faults.JournalFault.{JournalFault}
 use Rattle.case_journal.specs.Append.{HasRoom, StoreRefused}
-use Rattle.case_journal.specs.Journaled.{Journaled, goes_on}
+use Rattle.case_journal.specs.Journaled.{Journaled, after_append}
 use Rattle.intake.specs.Faults.{fault_of}
 use Rattle.intake.specs.declared.faults.ArchiveFault.{ArchiveFault}
 use Rattle.intake.specs.declared.faults.ArchiveFault.TheVariants.{SpaceFull, OutOfMemory, Disk}
@@ -20,16 +20,16 @@ use Rattle.intake.specs.StreamView.{case_from_parts}
 abbrev pub with_blocks : StreamParts → List ℕ → StreamParts
 with_blocks s blocks = record s { blocks = blocks }
 
--- a stream is closed where so many blocks are free: refused in the order of the faults, each under its condition
-abbrev pub Closes : ℕ → StreamParts → Result (Unit {0}) ArchiveFault → StreamParts → Type 0
-Closes free old (Ok u) new =
+-- a stream is closed where `free` blocks are free: refused in the order of the faults, each under its condition
+abbrev pub ClosesStream : ℕ → StreamParts → Result (Unit {0}) ArchiveFault → StreamParts → Type 0
+ClosesStream free old (Ok u) new =
     ((old.len % 4096 ≡ 0) × (case_from_parts new ≡ case_from_parts old))
     ⊎ ((old.len % 4096 ≢ 0) × (0 < free) × (length new.blocks ≡ length old.blocks + 1)
     × (case_from_parts new ≡ case_from_parts (with_blocks old new.blocks)))
-Closes free old (Err SpaceFull) new = (old.len % 4096 ≢ 0) × (free ≡ 0)
-Closes free old (Err OutOfMemory) new = (old.len % 4096 ≢ 0) × (0 < free)
-Closes free old (Err Disk) new = (old.len % 4096 ≢ 0) → 0 < free
-Closes free old (Err _) new = ⊥
+ClosesStream free old (Err SpaceFull) new = (old.len % 4096 ≢ 0) × (free ≡ 0)
+ClosesStream free old (Err OutOfMemory) new = (old.len % 4096 ≢ 0) × (0 < free)
+ClosesStream free old (Err Disk) new = (old.len % 4096 ≢ 0) → 0 < free
+ClosesStream free old (Err _) new = ⊥
 
 -- its blocks hold its bytes
 abbrev pub ClosesBytes : Shape → StreamParts → List ℕ → List ℕ → List ℕ → Type 0
@@ -51,7 +51,7 @@ FinishPads seen old slot (Err f) new = Unit {0}
 abbrev pub Appends : Journaled → Case → Result ℕ ArchiveFault → Journaled → Type 0
 Appends old c (Ok seq) new =
     (old.stopped ≡ false) × HasRoom old.standing (store_of old.standing c) × (old.standing.next < 2 ^ 32)
-    × (seq ≡ old.standing.next) × (new ≡ goes_on old (store_of old.standing c))
+    × (seq ≡ old.standing.next) × (new ≡ after_append old (store_of old.standing c))
 Appends old c (Err f) new = (j : JournalFault) × (f ≡ fault_of j) × StoreRefused old c j new
 
 -- the blocks of a case that was refused are free again

@@ -3,7 +3,7 @@ use Rattle.std.specs.Prelude.{◌≡◌, ℕ, List, [], ◌∷◌, ◌++◌, Opt
 use Rattle.std.specs.Prelude.{Vec, ◌==◌}
 use Rattle.journal_layout.specs.Folding.{is_among}
 use Rattle.retention.specs.declared.Decision.{Decision}
-use Rattle.intake.specs.State.{Bare, BareCase}
+use Rattle.intake.specs.State.{ArchiveState, CaseFacts}
 use Rattle.intake.specs.Slots.{stream_at, closed}
 use Rattle.intake.specs.declared.faults.ArchiveFault.{ArchiveFault}
 use Rattle.intake.specs.declared.faults.ArchiveFault.TheVariants.{Stopped, NoStream, Disk}
@@ -83,31 +83,31 @@ PinBytes old (Ok u) new = new ≡ old
 PinBytes old (Err f) new = UnmovedBytes old f new
 
 -- the images of the cases that have none of these numbers
-abbrev pub images_without : List ℕ → List BareCase → List (List ℕ) → List (List ℕ)
+abbrev pub images_without : List ℕ → List CaseFacts → List (List ℕ) → List (List ℕ)
 images_without seqs [] images = []
 images_without seqs (c ∷ cases) [] = []
 images_without seqs (c ∷ cases) (image ∷ images) =
     if is_among seqs c.seq then images_without seqs cases images else image ∷ images_without seqs cases images
 
 -- the cases of these numbers go with their images
-abbrev pub DropBytes : Bare → Contents → List ℕ → Result (Unit {0}) ArchiveFault → Contents → Type 0
+abbrev pub DropBytes : ArchiveState → Contents → List ℕ → Result (Unit {0}) ArchiveFault → Contents → Type 0
 DropBytes s old seqs (Ok u) new = new ≡ record old { images = images_without seqs s.cases old.images }
 DropBytes s old seqs (Err f) new = UnmovedBytes old f new
 
-abbrev pub DeleteBytes : Bare → Contents → ℕ → Result (Unit {0}) ArchiveFault → Contents → Type 0
+abbrev pub DeleteBytes : ArchiveState → Contents → ℕ → Result (Unit {0}) ArchiveFault → Contents → Type 0
 DeleteBytes s old seq r new = DropBytes s old (seq ∷ []) r new
 
-abbrev pub RetireBytes : Bare → Contents → Result Decision ArchiveFault → Contents → Type 0
+abbrev pub RetireBytes : ArchiveState → Contents → Result Decision ArchiveFault → Contents → Type 0
 RetireBytes s old (Ok d) new = DropBytes s old d.dropped.items (Ok tt) new
 RetireBytes s old (Err f) new = UnmovedBytes old f new
 
 -- the image of the case of this number, of these cases and their images
-abbrev pub image_at : ℕ → List BareCase → List (List ℕ) → Option (List ℕ)
+abbrev pub image_at : ℕ → List CaseFacts → List (List ℕ) → Option (List ℕ)
 image_at seq [] images = None
 image_at seq (c ∷ cases) [] = None
 image_at seq (c ∷ cases) (image ∷ images) = if c.seq == seq then Some image else image_at seq cases images
 
 -- the bytes that are answered are those of the case, and no bytes change
-abbrev pub ImageBytes : {Z : Type 0} → Bare → Contents → ℕ → Result (Vec ℕ Z) ArchiveFault → Contents → Type 0
+abbrev pub ImageBytes : {Z : Type 0} → ArchiveState → Contents → ℕ → Result (Vec ℕ Z) ArchiveFault → Contents → Type 0
 ImageBytes s old seq (Ok image) new = (image_at seq s.cases old.images ≡ Some image.items) × (new ≡ old)
 ImageBytes s old seq (Err f) new = UnmovedBytes old f new

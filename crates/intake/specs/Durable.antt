@@ -13,7 +13,7 @@ use Rattle.journal_layout.specs.Stands.{Stands}
 use Rattle.intake.specs.Blocks.{image_in}
 use Rattle.intake.specs.Contents.{Contents}
 use Rattle.intake.specs.Parts.{Parts}
-use Rattle.intake.specs.State.{Bare, BareCase, BareStream}
+use Rattle.intake.specs.State.{ArchiveState, CaseFacts, StreamFacts}
 
 -- a case with its image
 pub record FoundCase : Type 0 where
@@ -68,7 +68,7 @@ abbrev pub durable_of : {D : Type 0} → (D → List ℕ) → Parts D → Durabl
 durable_of seen a = durable_in (seen a.disk) a.journal.standing
 
 -- the cases of a state, each with its image
-abbrev pub with_images : List BareCase → List (List ℕ) → List FoundCase
+abbrev pub with_images : List CaseFacts → List (List ℕ) → List FoundCase
 with_images [] images = []
 with_images (c ∷ cases) [] = []
 with_images (c ∷ cases) (image ∷ images) = record {
@@ -85,11 +85,11 @@ with_images (c ∷ cases) (image ∷ images) = record {
 } ∷ with_images cases images
 
 -- what a state and its bytes leave after a stop
-abbrev pub durable_part : Bare → Contents → Durable
+abbrev pub durable_part : ArchiveState → Contents → Durable
 durable_part s c = record { cases = with_images s.cases c.images; next = s.next }
 
--- with the image of a stream as the last case, in so many runs of blocks
-abbrev pub with_case : Durable → BareStream → ℕ → List ℕ → Durable
+-- with the image of a stream as the last case, in `runs` runs of blocks
+abbrev pub with_case : Durable → StreamFacts → ℕ → List ℕ → Durable
 with_case x s runs image = record {
   cases = x.cases ++ record {
     seq = x.next;

@@ -15,7 +15,7 @@ abbrev pub DiskReply : Result (Unit {0}) ArchiveFault → Type 0
 DiskReply (Ok u) = Unit {0}
 DiskReply (Err f) = f ≡ Disk
 
--- the answer where one more block is asked for and so many are free
+-- the answer where one more block is asked for and `free` are free
 abbrev pub BlockReply : ℕ → Result (Unit {0}) ArchiveFault → Type 0
 BlockReply free (Ok u) = 0 < free
 BlockReply free (Err SpaceFull) = free ≡ 0
@@ -51,7 +51,7 @@ lengthened s n = record s { len = s.len + n }
 abbrev pub refreshed : StreamParts → ℕ → List ℕ → StreamParts
 refreshed s n blocks = record s { len = s.len + n; blocks = blocks; block = zero_block }
 
--- a stream's growth by n bytes where so many blocks are free: refused in the order of the faults, each under its condition
+-- a stream's growth by n bytes where `free` blocks are free: refused in the order of the faults, each under its condition
 abbrev pub Grows : ℕ → ℕ → StreamParts → ℕ → Result (Unit {0}) ArchiveFault → StreamParts → Type 0
 Grows free most old n (Ok u) new =
     (old.len + n ≤ most)

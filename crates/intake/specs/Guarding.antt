@@ -7,11 +7,11 @@ use Rattle.case_journal.specs.Journaled.{Journaled}
 use Rattle.case_journal.specs.Keeping.{Keeps}
 use Rattle.intake.specs.Contents.{Contents, Taken}
 use Rattle.intake.specs.Durable.{Durable, StandsFor, durable_in, with_case, without}
-use Rattle.intake.specs.Step.{MayHaveRuns, Retires}
+use Rattle.intake.specs.Step.{MayHaveRuns, RetiresSome}
 use Rattle.retention.specs.declared.Policy.{Policy}
 use Rattle.intake.specs.Live.{case_uses}
 use Rattle.intake.specs.Slots.{stream_at}
-use Rattle.intake.specs.State.{Bare, BareStream}
+use Rattle.intake.specs.State.{ArchiveState, StreamFacts}
 use Rattle.intake.specs.declared.faults.ArchiveFault.{ArchiveFault}
 use Rattle.intake.specs.declared.faults.ArchiveFault.TheVariants.{Disk}
 
@@ -21,14 +21,14 @@ pub record Guards {D : Type 0} (g : disk.Ghosts D) (d : D) (j : Journaled) : Typ
   pub whole : j.stopped ≡ false → IsTrue (g.is_honest d) → (c : List ℕ) → g.may_leave d c → durable_in c j.standing ≡ durable_in (g.seen d) j.standing
 
 -- Disk calls that change none of the cases: a crash at any moment of them leaves these cases.
-pub record Rests {D : Type 0} (g : disk.Ghosts D) (old new : D) (j : Journaled) : Type 0 where
+pub record LeavesCases {D : Type 0} (g : disk.Ghosts D) (old new : D) (j : Journaled) : Type 0 where
   pub guards : Guards g new j
   pub same : j.stopped ≡ false → IsTrue (g.is_honest old) → durable_in (g.seen new) j.standing ≡ durable_in (g.seen old) j.standing
   pub moments : j.stopped ≡ false → IsTrue (g.is_honest old) → LeavesOnly g old new (λ c. StandsFor c (durable_in (g.seen old) j.standing))
 
 -- no case has a block that is free
-abbrev pub Spares : List Bool → Journaled → Type 0
-Spares flags j = (k : ℕ) → is_free flags k ≡ true → case_uses j.standing.cases k ≡ 0
+abbrev pub UsesNoFreeBlock : List Bool → Journaled → Type 0
+UsesNoFreeBlock flags j = (k : ℕ) → is_free flags k ≡ true → case_uses j.standing.cases k ≡ 0
 
 -- What a crash at any moment of a call leaves: what stood before; or what stands after it, and where the disk failed what
 -- it would have left; a refusal leaves nothing else.
@@ -44,16 +44,16 @@ Leaves old r new doubt c = StandsFor c old ⊎ LeavesNew r new doubt c
 abbrev pub LeavesStored : {T : Type 0} → Result T ArchiveFault → Durable → Durable → List ℕ → Type 0
 LeavesStored r old new c = Leaves old r new (λ x. x ≡ new) c
 
--- The stream in the slot is the last case, with the bytes that it took, in so many runs of blocks.
-abbrev pub StoresIn : ℕ → Bare → Contents → Durable → ℕ → Durable → Type 0
+-- The stream in the slot is the last case, with the bytes that it took, in `runs` runs of blocks.
+abbrev pub StoresIn : ℕ → ArchiveState → Contents → Durable → ℕ → Durable → Type 0
 StoresIn runs s c old slot x =
-    (stream : BareStream) × (taken : Taken) × (stream_at s.streams slot ≡ Some stream) × (stream_at c.taken slot ≡ Some taken)
+    (stream : StreamFacts) × (taken : Taken) × (stream_at s.streams slot ≡ Some stream) × (stream_at c.taken slot ≡ Some taken)
     × MayHaveRuns stream.len runs × (x ≡ with_case old stream runs taken.bytes)
 
 -- what a finish leaves that was not answered: the same in as many runs as an image of these bytes may have
-abbrev pub MayBeStored : Bare → Contents → Durable → ℕ → Durable → Type 0
+abbrev pub MayBeStored : ArchiveState → Contents → Durable → ℕ → Durable → Type 0
 MayBeStored s c old slot x = (runs : ℕ) × StoresIn runs s c old slot x
 
 -- what a retirement leaves that was not answered: the cases that go by the rule are gone
-abbrev pub MayBeRetired : Bare → Policy → Durable → Durable → Type 0
-MayBeRetired s policy old x = (dropped : List ℕ) × (unmet : Bool) × Retires s policy dropped unmet × (x ≡ without old dropped)
+abbrev pub MayBeRetired : ArchiveState → Policy → Durable → Durable → Type 0
+MayBeRetired s policy old x = (dropped : List ℕ) × (unmet : Bool) × RetiresSome s policy dropped unmet × (x ≡ without old dropped)

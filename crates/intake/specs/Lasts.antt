@@ -4,8 +4,8 @@ use Rattle.disk_model.specs.declared.disk.Disk as disk
 use Rattle.intake.specs.Calls.{FinishCall, DeleteCall, PinCall, RetireCall}
 use Rattle.intake.specs.Durable.{durable_of, without, flagged}
 use Rattle.intake.specs.Guarding.{MayBeStored}
-use Rattle.intake.specs.Parts.{Parts, bare_of, contents_of}
-use Rattle.intake.specs.State.{BareCase}
+use Rattle.intake.specs.Parts.{Parts, state_of, contents_of}
+use Rattle.intake.specs.State.{CaseFacts}
 use Rattle.intake.specs.Step.{HasCase}
 use Rattle.intake.specs.declared.faults.ArchiveFault.{ArchiveFault}
 use Rattle.retention.specs.declared.Decision.{Decision}
@@ -14,7 +14,7 @@ use Rattle.retention.specs.declared.Policy.{Policy}
 -- a finish adds one case, the stream's, with the bytes that it took as its image
 abbrev pub FinishLasts : {D : Type 0} → disk.Ghosts D → Type 0
 FinishLasts {D} g = (old new : Parts D) (slot seq : ℕ) → IsTrue (g.is_honest old.disk) → FinishCall g old slot (Ok seq) new
-    → MayBeStored (bare_of old) (contents_of g.seen old) (durable_of g.seen old) slot (durable_of g.seen new)
+    → MayBeStored (state_of old) (contents_of g.seen old) (durable_of g.seen old) slot (durable_of g.seen new)
 
 -- a deletion takes the one case away, and changes no other
 abbrev pub DeleteLasts : {D : Type 0} → disk.Ghosts D → Type 0
@@ -24,7 +24,7 @@ DeleteLasts {D} g = (old new : Parts D) (seq : ℕ) (u : Unit {0}) → IsTrue (g
 -- a pin sets the flag of the one case, and changes no other; exactly where it stands already nothing changes
 abbrev pub PinLasts : {D : Type 0} → disk.Ghosts D → Type 0
 PinLasts {D} g = (old new : Parts D) (seq : ℕ) (flag : Bool) (u : Unit {0}) → IsTrue (g.is_honest old.disk) → PinCall g old seq flag (Ok u) new
-    → (c : BareCase) × HasCase (bare_of old) seq c
+    → (c : CaseFacts) × HasCase (state_of old) seq c
     × (((c.pinned ≡ flag) × (durable_of g.seen new ≡ durable_of g.seen old)) ⊎ ((c.pinned ≢ flag) × (durable_of g.seen new ≡ flagged (durable_of g.seen old) seq flag)))
 
 -- a retirement takes the cases away that it answers, and changes no other

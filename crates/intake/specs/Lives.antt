@@ -6,7 +6,7 @@ use Rattle.disk_model.specs.declared.disk.Disk as disk
 use Rattle.journal_layout.specs.declared.faults.OpenFault.{OpenFault}
 use Rattle.intake.specs.Calls.{OpenCall, FinishCall, CloseCall}
 use Rattle.intake.specs.Durable.{Durable, FoundCase, StandsFor, FindsAgain, durable_of}
-use Rattle.intake.specs.Marks.{Mark, IsSettled, Run, HasOne, last_of, mark_of}
+use Rattle.intake.specs.Marks.{Mark, IsMarkSettled, IsRunOfMarks, HasOne, last_of, mark_of}
 use Rattle.intake.specs.Opened.{disk_in}
 use Rattle.intake.specs.Parts.{Parts}
 
@@ -24,9 +24,9 @@ last_acknowledged l = last_of l.first l.acknowledged
 -- calls on an honest disk, from an opening on
 pub record IsLived {D : Type 0} (g : disk.Ghosts D) (l : Life D) : Type 0 where
   pub honest : IsTrue (g.is_honest l.first.disk)
-  pub settled : IsSettled g l.first
-  pub before : Run g l.first l.acknowledged
-  pub after : Run g (last_acknowledged l) l.later
+  pub settled : IsMarkSettled g l.first
+  pub before : IsRunOfMarks g l.first l.acknowledged
+  pub after : IsRunOfMarks g (last_acknowledged l) l.later
 
 -- A disk after a stop that left these bytes: reads give them, and until something is written a crash leaves them.
 pub record Restarts {D : Type 0} (g : disk.Ghosts D) (left : List ℕ) (d : D) : Type 0 where
@@ -102,13 +102,13 @@ AllHoldCase c m (n ∷ ns) = HoldsCase c m × AllHoldCase c n ns
 
 -- A case that stands at a mark and that no later call drops is found after a stop, with its image.
 abbrev pub ACaseIsFound : {D : Type 0} → disk.Ghosts D → Type 0
-ACaseIsFound {D} g = (m : Mark D) (ns : List (Mark D)) (c : FoundCase) (left : List ℕ) (x : Durable) → IsTrue (g.is_honest m.disk) → IsSettled g m → Run g m ns
+ACaseIsFound {D} g = (m : Mark D) (ns : List (Mark D)) (c : FoundCase) (left : List ℕ) (x : Durable) → IsTrue (g.is_honest m.disk) → IsMarkSettled g m → IsRunOfMarks g m ns
     → AllHoldCase c m ns → g.left_since (last_of m ns).disk (g.clock m.disk) left → StandsFor left x → IsAmong x.cases c
 
 -- The next number that is found is not below that of any mark before the stop at which nothing was in doubt: so no number that
 -- was given by then is given again.
 abbrev pub NumbersStayGiven : {D : Type 0} → disk.Ghosts D → Type 0
-NumbersStayGiven {D} g = (m : Mark D) (ns : List (Mark D)) (left : List ℕ) (x : Durable) → IsTrue (g.is_honest m.disk) → IsSettled g m → Run g m ns → m.in_doubt ≡ []
+NumbersStayGiven {D} g = (m : Mark D) (ns : List (Mark D)) (left : List ℕ) (x : Durable) → IsTrue (g.is_honest m.disk) → IsMarkSettled g m → IsRunOfMarks g m ns → m.in_doubt ≡ []
     → g.left_since (last_of m ns).disk (g.clock m.disk) left → StandsFor left x → m.durable.next ≤ x.next
 
 -- the mark is the first of a run or a later one

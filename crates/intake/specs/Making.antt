@@ -9,12 +9,12 @@ use Rattle.intake.specs.Calls.{BeginCall, AdvanceCall, FinishCall, AbandonCall, 
 use Rattle.intake.specs.Contents.{Taken}
 use Rattle.intake.specs.Durable.{Durable, FoundCase, durable_of, without, flagged}
 use Rattle.intake.specs.Guarding.{MayBeStored, MayBeRetired}
-use Rattle.intake.specs.Marks.{Mark, Run, mark_of, doubted}
+use Rattle.intake.specs.Marks.{Mark, IsRunOfMarks, mark_of, doubted}
 use Rattle.intake.specs.Opened.{CaseReply, CasesReply}
-use Rattle.intake.specs.Parts.{Parts, bare_of, contents_of}
+use Rattle.intake.specs.Parts.{Parts, state_of, contents_of}
 use Rattle.intake.specs.Room.{room_of, room_left}
 use Rattle.intake.specs.Slots.{stream_at}
-use Rattle.intake.specs.State.{BareStream}
+use Rattle.intake.specs.State.{StreamFacts}
 use Rattle.intake.specs.Step.{RoomReply, FreeReply}
 use Rattle.intake.specs.declared.faults.ArchiveFault.{ArchiveFault}
 use Rattle.intake.specs.declared.space.Space.{Space}
@@ -24,10 +24,10 @@ use Rattle.retention.specs.declared.Policy.{Policy}
 -- a call of an open archive, with what it is given
 pub data Call : Type 0 where
   -- a stream begins in a slot, of this kind and name and of this process
-  begin_in : ℕ → BareStream → Call
+  begin_in : ℕ → StreamFacts → Call
   -- the free part of a slot's block is lent, and its borrower leaves these bytes in it
   lend_of : ℕ → List ℕ → Call
-  -- so many of these bytes are taken
+  -- the first of the lent bytes are taken, this number of them
   advance_by : ℕ → ℕ → Call
   -- the stream in a slot becomes a case
   finish_of : ℕ → Call
@@ -65,7 +65,7 @@ ReplyTo _ = Result (Unit {0}) ArchiveFault
 -- length.
 abbrev pub Makes : {D : Type 0} → disk.Ghosts D → Parts D → (call : Call) → ReplyTo call → Parts D → Type 0
 Makes g old (begin_in slot s) r new = BeginCall g old slot (record s { len = 0 }) r new
-Makes g old (lend_of slot left) r new = RoomReply (bare_of old) slot r × (length left ≡ length (room_of old slot r)) × (new ≡ room_left old slot r left)
+Makes g old (lend_of slot left) r new = RoomReply (state_of old) slot r × (length left ≡ length (room_of old slot r)) × (new ≡ room_left old slot r left)
 Makes g old (advance_by slot n) r new = AdvanceCall g old slot n r new
 Makes g old (finish_of slot) r new = FinishCall g old slot r new
 Makes g old (abandon_of slot) r new = AbandonCall g old slot r new
@@ -75,7 +75,7 @@ Makes g old (retire_by policy) r new = RetireCall g old policy r new
 Makes g old (image_of seq) r new = ImageCall g old seq r new
 Makes g old (find_case seq) r new = CaseReply old seq r × (new ≡ old)
 Makes g old list_cases r new = CasesReply old r × (new ≡ old)
-Makes g old count_free r new = FreeReply (bare_of old) r × (new ≡ old)
+Makes g old count_free r new = FreeReply (state_of old) r × (new ≡ old)
 Makes g old ask_stopped r new = (r ≡ old.stopped) × (new ≡ old)
 
 -- A call that was made: what it answered, and the archive then.
@@ -96,10 +96,10 @@ archive_after a (m ∷ ms) = archive_after m.archive ms
 
 -- what a call would have left, had the disk not failed
 abbrev pub WouldLeave : {D : Type 0} → disk.Ghosts D → Parts D → Call → Durable → Type 0
-WouldLeave g old (finish_of slot) x = MayBeStored (bare_of old) (contents_of g.seen old) (durable_of g.seen old) slot x
+WouldLeave g old (finish_of slot) x = MayBeStored (state_of old) (contents_of g.seen old) (durable_of g.seen old) slot x
 WouldLeave g old (delete_of seq) x = x ≡ without (durable_of g.seen old) (seq ∷ [])
 WouldLeave g old (pin_of seq flag) x = x ≡ flagged (durable_of g.seen old) seq flag
-WouldLeave g old (retire_by policy) x = MayBeRetired (bare_of old) policy (durable_of g.seen old) x
+WouldLeave g old (retire_by policy) x = MayBeRetired (state_of old) policy (durable_of g.seen old) x
 WouldLeave g old _ x = ⊥
 
 -- what is in doubt anew behind a call: these where it changes cases and answered that the disk failed, else nothing
@@ -122,7 +122,7 @@ AreMarks g a before (m ∷ ms) (n ∷ ns) =
 -- Calls one after the other are a run of marks, one behind each call.
 abbrev pub CallsAreMarks : {D : Type 0} → disk.Ghosts D → Type 0
 CallsAreMarks {D} g = (a : Parts D) (before : List Durable) (made : List (Made D)) → AreMade g a made
-    → (marks : List (Mark D)) × AreMarks g a before made marks × Run g (mark_of g.seen a before) marks
+    → (marks : List (Mark D)) × AreMarks g a before made marks × IsRunOfMarks g (mark_of g.seen a before) marks
 
 -- the free part of a stream's block
 abbrev pub free_bytes : Option Taken → List ℕ
@@ -143,10 +143,10 @@ taken_over seen slot a (m ∷ ms) = taken_by seen slot a m.call m.reply ++ taken
 -- a stream is open in the slot behind each of the calls
 abbrev pub StaysOpen : {D : Type 0} → ℕ → List (Made D) → Type 0
 StaysOpen slot [] = Unit {0}
-StaysOpen slot (m ∷ ms) = (stream_at (bare_of m.archive).streams slot ≢ None) × StaysOpen slot ms
+StaysOpen slot (m ∷ ms) = (stream_at (state_of m.archive).streams slot ≢ None) × StaysOpen slot ms
 
 -- The case of a stream that began so, under this number, with these bytes as its image.
-pub record IsCaseOf (s : BareStream) (seq : ℕ) (bytes : List ℕ) (c : FoundCase) : Type 0 where
+pub record IsCaseOf (s : StreamFacts) (seq : ℕ) (bytes : List ℕ) (c : FoundCase) : Type 0 where
   pub number : c.seq ≡ seq
   pub kind : c.kind ≡ s.kind
   pub name : c.name ≡ s.name
@@ -159,13 +159,13 @@ pub record IsCaseOf (s : BareStream) (seq : ℕ) (bytes : List ℕ) (c : FoundCa
 -- A case is what its own stream began as, and its image is what its calls took, from its begin to its finish, whatever other
 -- calls were made between.
 abbrev pub AnImageIsWhatWasTaken : {D : Type 0} → disk.Ghosts D → Type 0
-AnImageIsWhatWasTaken {D} g = (old begun : Parts D) (slot : ℕ) (s : BareStream) (u : Unit {0}) (made : List (Made D)) (new : Parts D) (seq : ℕ) → IsTrue (g.is_honest old.disk)
+AnImageIsWhatWasTaken {D} g = (old begun : Parts D) (slot : ℕ) (s : StreamFacts) (u : Unit {0}) (made : List (Made D)) (new : Parts D) (seq : ℕ) → IsTrue (g.is_honest old.disk)
     → Makes g old (begin_in slot s) (Ok u) begun → AreMade g begun made → StaysOpen slot made → Makes g (archive_after begun made) (finish_of slot) (Ok seq) new
     → (c : FoundCase) × IsCaseOf s seq (taken_over g.seen slot begun made) c
     × ((durable_of g.seen new).cases ≡ (durable_of g.seen (archive_after begun made)).cases ++ c ∷ [])
 
 -- What is answered of a case's image is that too, whatever calls are made behind its finish.
 abbrev pub AnImageIsAnsweredAsItWasTaken : {D : Type 0} → disk.Ghosts D → Type 0
-AnImageIsAnsweredAsItWasTaken {D} g = (old begun : Parts D) (slot : ℕ) (s : BareStream) (u : Unit {0}) (made : List (Made D)) (stored : Parts D) (seq : ℕ) (later : List (Made D)) (image : Vec ℕ Global) (last : Parts D)
+AnImageIsAnsweredAsItWasTaken {D} g = (old begun : Parts D) (slot : ℕ) (s : StreamFacts) (u : Unit {0}) (made : List (Made D)) (stored : Parts D) (seq : ℕ) (later : List (Made D)) (image : Vec ℕ Global) (last : Parts D)
     → IsTrue (g.is_honest old.disk) → Makes g old (begin_in slot s) (Ok u) begun → AreMade g begun made → StaysOpen slot made → Makes g (archive_after begun made) (finish_of slot) (Ok seq) stored
     → AreMade g stored later → Makes g (archive_after stored later) (image_of seq) (Ok image) last → image.items ≡ taken_over g.seen slot begun made

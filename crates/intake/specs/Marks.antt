@@ -3,10 +3,10 @@ use Rattle.std.specs.Prelude.{◌≡◌, ◌⊎◌, ℕ, ◌≤◌, Bool, List, 
 use Rattle.std.specs.List.{AllByRecursion}
 use Rattle.disk_model.specs.Moments.{AddsOnly}
 use Rattle.disk_model.specs.declared.disk.Disk as disk
-use Rattle.intake.specs.Calls.{Stays, FinishCall, DeleteCall, PinCall, RetireCall}
+use Rattle.intake.specs.Calls.{ChangesNoCase, FinishCall, DeleteCall, PinCall, RetireCall}
 use Rattle.intake.specs.Durable.{Durable, StandsFor, durable_of, without, flagged}
 use Rattle.intake.specs.Guarding.{MayBeStored, MayBeRetired}
-use Rattle.intake.specs.Parts.{Parts, bare_of, contents_of}
+use Rattle.intake.specs.Parts.{Parts, state_of, contents_of}
 use Rattle.intake.specs.declared.faults.ArchiveFault.{ArchiveFault}
 use Rattle.intake.specs.declared.faults.ArchiveFault.TheVariants.{Disk}
 use Rattle.retention.specs.declared.Decision.{Decision}
@@ -28,26 +28,26 @@ abbrev pub Has : {D : Type 0} → Mark D → Durable → Type 0
 Has m x = (x ≡ m.durable) ⊎ IsOneOf m.in_doubt x
 
 -- an opening of these bytes finds it
-abbrev pub Finds : {D : Type 0} → List ℕ → Mark D → Type 0
-Finds c m = (x : Durable) × StandsFor c x × Has m x
+abbrev pub FindsMark : {D : Type 0} → List ℕ → Mark D → Type 0
+FindsMark c m = (x : Durable) × StandsFor c x × Has m x
 
 -- a crash at this mark leaves what it has
-abbrev pub IsSettled : {D : Type 0} → disk.Ghosts D → Mark D → Type 0
-IsSettled g m = (c : List ℕ) → g.may_leave m.disk c → Finds c m
+abbrev pub IsMarkSettled : {D : Type 0} → disk.Ghosts D → Mark D → Type 0
+IsMarkSettled g m = (c : List ℕ) → g.may_leave m.disk c → FindsMark c m
 
 -- From one mark to the next: a crash meanwhile leaves what one before could have left, or what one of the two has.
 pub record Passes {D : Type 0} (g : disk.Ghosts D) (old new : Mark D) : Type 0 where
   pub honesty : g.is_honest new.disk ≡ g.is_honest old.disk
-  pub crash : IsTrue (g.is_honest old.disk) → AddsOnly g old.disk new.disk (λ c. Finds c old ⊎ Finds c new)
-  pub settled : IsTrue (g.is_honest old.disk) → IsSettled g old → IsSettled g new
+  pub crash : IsTrue (g.is_honest old.disk) → AddsOnly g old.disk new.disk (λ c. FindsMark c old ⊎ FindsMark c new)
+  pub settled : IsTrue (g.is_honest old.disk) → IsMarkSettled g old → IsMarkSettled g new
   -- the next number never falls, nor does what is in doubt anew have a lower one
   pub number : IsTrue (g.is_honest old.disk) → old.durable.next ≤ new.durable.next
   pub doubts : IsTrue (g.is_honest old.disk) → (x : Durable) → IsOneOf new.in_doubt x → IsOneOf old.in_doubt x ⊎ (old.durable.next ≤ x.next)
 
 -- marks one after the other
-abbrev pub Run : {D : Type 0} → disk.Ghosts D → Mark D → List (Mark D) → Type 0
-Run g m [] = Unit {0}
-Run g m (n ∷ ns) = Passes g m n × Run g n ns
+abbrev pub IsRunOfMarks : {D : Type 0} → disk.Ghosts D → Mark D → List (Mark D) → Type 0
+IsRunOfMarks g m [] = Unit {0}
+IsRunOfMarks g m (n ∷ ns) = Passes g m n × IsRunOfMarks g n ns
 
 -- the last mark of a run
 abbrev pub last_of : {D : Type 0} → Mark D → List (Mark D) → Mark D
@@ -56,8 +56,8 @@ last_of m (n ∷ ns) = last_of n ns
 
 -- one of the marks of a run finds it
 abbrev pub FindsOne : {D : Type 0} → List ℕ → Mark D → List (Mark D) → Type 0
-FindsOne c m [] = Finds c m
-FindsOne c m (n ∷ ns) = Finds c m ⊎ FindsOne c n ns
+FindsOne c m [] = FindsMark c m
+FindsOne c m (n ∷ ns) = FindsMark c m ⊎ FindsOne c n ns
 
 -- what a crash since the mark may have left is found at it or at a later one
 abbrev pub IsFoundFrom : {D : Type 0} → disk.Ghosts D → Mark D → List (Mark D) → Type 0
@@ -71,12 +71,12 @@ IsFoundSince g m (n ∷ ns) = IsFoundFrom g m (n ∷ ns) × IsFoundSince g n ns
 -- The headline of a run: from a settled mark on, whatever crash there was since a mark, what is found is what that mark has
 -- or a later one.
 abbrev pub FoundAfterAStop : {D : Type 0} → disk.Ghosts D → Type 0
-FoundAfterAStop {D} g = (m : Mark D) (ns : List (Mark D)) → IsTrue (g.is_honest m.disk) → IsSettled g m → Run g m ns → IsFoundSince g m ns
+FoundAfterAStop {D} g = (m : Mark D) (ns : List (Mark D)) → IsTrue (g.is_honest m.disk) → IsMarkSettled g m → IsRunOfMarks g m ns → IsFoundSince g m ns
 
 -- A crash since a moment before a run leaves nothing else than what it could have left before the run, or what one of its
 -- marks has.
 abbrev pub NothingElseIsLeft : {D : Type 0} → disk.Ghosts D → Type 0
-NothingElseIsLeft {D} g = (m : Mark D) (ns : List (Mark D)) (t : ℕ) (c : List ℕ) → IsTrue (g.is_honest m.disk) → Run g m ns → t ≤ g.clock m.disk
+NothingElseIsLeft {D} g = (m : Mark D) (ns : List (Mark D)) (t : ℕ) (c : List ℕ) → IsTrue (g.is_honest m.disk) → IsRunOfMarks g m ns → t ≤ g.clock m.disk
     → g.left_since (last_of m ns).disk t c → g.left_since m.disk t c ⊎ FindsOne c m ns
 
 -- one of the marks of a run has it
@@ -94,26 +94,26 @@ doubted (Err Disk) more = more
 doubted _ more = []
 
 -- A call leads from mark to mark; where the disk failed, all that is in doubt anew is what it would have left.
-abbrev pub Leads : {D : Type 0} → (T : Type 0) → disk.Ghosts D → Parts D → Result T ArchiveFault → Parts D → (Durable → Type 0) → Type 0
-Leads T g old r new doubt =
+abbrev pub LeadsToMark : {D : Type 0} → (T : Type 0) → disk.Ghosts D → Parts D → Result T ArchiveFault → Parts D → (Durable → Type 0) → Type 0
+LeadsToMark T g old r new doubt =
     (before : List Durable) → (more : List Durable) × AllByRecursion doubt more × Passes g (mark_of g.seen old before) (mark_of g.seen new (doubted r more ++ before))
 
 -- A call that changes no case leads from mark to mark, and leaves nothing in doubt.
 abbrev pub StaysLead : {D : Type 0} → disk.Ghosts D → Type 0
-StaysLead {D} g = (old new : Parts D) (before : List Durable) → Stays g old new → Passes g (mark_of g.seen old before) (mark_of g.seen new before)
+StaysLead {D} g = (old new : Parts D) (before : List Durable) → ChangesNoCase g old new → Passes g (mark_of g.seen old before) (mark_of g.seen new before)
 
 abbrev pub FinishLeads : {D : Type 0} → disk.Ghosts D → Type 0
 FinishLeads {D} g = (old new : Parts D) (slot : ℕ) (r : Result ℕ ArchiveFault) → FinishCall g old slot r new
-    → Leads ℕ g old r new (MayBeStored (bare_of old) (contents_of g.seen old) (durable_of g.seen old) slot)
+    → LeadsToMark ℕ g old r new (MayBeStored (state_of old) (contents_of g.seen old) (durable_of g.seen old) slot)
 
 abbrev pub DeleteLeads : {D : Type 0} → disk.Ghosts D → Type 0
 DeleteLeads {D} g = (old new : Parts D) (seq : ℕ) (r : Result (Unit {0}) ArchiveFault) → DeleteCall g old seq r new
-    → Leads (Unit {0}) g old r new (λ x. x ≡ without (durable_of g.seen old) (seq ∷ []))
+    → LeadsToMark (Unit {0}) g old r new (λ x. x ≡ without (durable_of g.seen old) (seq ∷ []))
 
 abbrev pub PinLeads : {D : Type 0} → disk.Ghosts D → Type 0
 PinLeads {D} g = (old new : Parts D) (seq : ℕ) (flag : Bool) (r : Result (Unit {0}) ArchiveFault) → PinCall g old seq flag r new
-    → Leads (Unit {0}) g old r new (λ x. x ≡ flagged (durable_of g.seen old) seq flag)
+    → LeadsToMark (Unit {0}) g old r new (λ x. x ≡ flagged (durable_of g.seen old) seq flag)
 
 abbrev pub RetireLeads : {D : Type 0} → disk.Ghosts D → Type 0
 RetireLeads {D} g = (old new : Parts D) (policy : Policy) (r : Result Decision ArchiveFault) → RetireCall g old policy r new
-    → Leads Decision g old r new (λ x. MayBeRetired (bare_of old) policy (durable_of g.seen old) x)
+    → LeadsToMark Decision g old r new (λ x. MayBeRetired (state_of old) policy (durable_of g.seen old) x)

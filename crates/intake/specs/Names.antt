@@ -12,9 +12,8 @@ use Rattle.journal_records.specs.Taken.{has_name}
 use Rattle.case_journal.specs.Journaled.{Journaled}
 use Rattle.intake.specs.Parts.{StreamParts}
 use Rattle.intake.specs.Live.{cases_named}
-use Rattle.intake.specs.Sound.{IsSound, streams_named}
+use Rattle.intake.specs.Sound.{IsArchiveSound, streams_named}
 use Rattle.intake.specs.declared.faults.ArchiveFault.{ArchiveFault}
-use Rattle.intake.specs.declared.faults.ArchiveFault.TheVariants.{OutOfMemory}
 
 -- the set has this name as well, unless there was no memory; any other as before
 abbrev pub KeepsName : Result (Unit {0}) ArchiveFault → List ℕ → BTreeSet (ArrayVec ℕ) → BTreeSet (ArrayVec ℕ) → Type 0
@@ -55,5 +54,5 @@ AreTaken cases streams names = (name : List ℕ) → cases_named cases name + st
 -- A sound archive, whose set has the names of its live cases and of its open streams, until a disk fault stops it.
 pub record IsConsistent {D : Type 0} (g : disk.Ghosts D) (d : D) (j : Journaled) (most : ℕ) (flags : List Bool) (streams : List (Option StreamParts)) (stopped : Bool)
     (names : BTreeSet (ArrayVec ℕ)) : Type 0 where
-  pub sound : IsSound g d j most flags streams stopped
+  pub sound : IsArchiveSound g d j most flags streams stopped
   pub taken : stopped ≡ false → AreTaken j.standing.cases streams names

@@ -5,7 +5,7 @@ use Rattle.journal_layout.specs.declared.entry.Kind.{Kind}
 use Rattle.journal_layout.specs.Case.{Case}
 use Rattle.case_journal.specs.Journaled.{Journaled}
 use Rattle.intake.specs.Blocks.{joined, image_in}
-use Rattle.intake.specs.State.{BareCase, BareStream, Bare}
+use Rattle.intake.specs.State.{CaseFacts, StreamFacts, ArchiveState}
 use Rattle.intake.specs.Contents.{Taken, Contents}
 
 -- a stream: what it is of, the blocks that it has filled, and the block that it fills
@@ -29,8 +29,8 @@ pub record Parts (D : Type 0) : Type 0 where
   pub streams : List (Option StreamParts)
   pub stopped : Bool
 
-abbrev pub bare_case : Case → BareCase
-bare_case c = record {
+abbrev pub case_facts : Case → CaseFacts
+case_facts c = record {
   seq = c.seq;
   kind = c.kind;
   name = c.name;
@@ -42,19 +42,19 @@ bare_case c = record {
   runs = length (runs_of c.blocks);
 }
 
-abbrev pub bare_stream : StreamParts → BareStream
-bare_stream s = record { kind = s.kind; name = s.name; pid = s.pid; signal = s.signal; time = s.time; len = s.len }
+abbrev pub stream_facts : StreamParts → StreamFacts
+stream_facts s = record { kind = s.kind; name = s.name; pid = s.pid; signal = s.signal; time = s.time; len = s.len }
 
 -- the state without bytes
-abbrev pub bare_of : {D : Type 0} → Parts D → Bare
-bare_of a = record {
+abbrev pub state_of : {D : Type 0} → Parts D → ArchiveState
+state_of a = record {
   shape = a.journal.standing.shape;
   limit = a.limit;
-  cases = map bare_case a.journal.standing.cases;
+  cases = map case_facts a.journal.standing.cases;
   next = a.journal.standing.next;
   used = a.journal.standing.used;
   generation = a.journal.standing.generation;
-  streams = map (option_map bare_stream) a.streams;
+  streams = map (option_map stream_facts) a.streams;
   stopped = a.stopped;
 }
 

@@ -39,7 +39,7 @@ room_of a slot r = room_in a.streams slot r
 abbrev pub room_left : {D : Type 0} → Parts D → ℕ → Result (Unit {0}) ArchiveFault → List ℕ → Parts D
 room_left a slot r ws = record a { streams = slots_left a.streams slot r ws }
 
--- so many bytes are no more than the free part of this stream's block
+-- n bytes are no more than the free part of this stream's block
 abbrev pub FitsFree : Option StreamParts → ℕ → Type 0
 FitsFree None n = Unit {0}
 FitsFree (Some s) n = s.len % 4096 + n ≤ 4096

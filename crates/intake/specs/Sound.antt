@@ -31,7 +31,7 @@ stream_blocks streams = sum_by (λ (o : Option StreamParts). length (held_by o))
 abbrev pub case_blocks : List Case → ℕ
 case_blocks cases = sum_by (λ (c : Case). length c.blocks) cases
 
--- These are the flags of so many blocks, of which the cases leave free those that none of them uses.
+-- These are the flags of all data blocks, of which the cases leave free those that none of them uses.
 pub record LeaveFree (blocks : ℕ) (cases : List Case) (flags : List Bool) : Type 0 where
   pub long : length flags ≡ blocks
   pub once : (k : ℕ) → one_if (is_free flags k) + case_uses cases k ≡ one_if (nat_lt k blocks)
@@ -74,7 +74,7 @@ pub record IsRunning {D : Type 0} (g : disk.Ghosts D) (d : D) (j : Journaled) (m
   pub total : free_count flags + case_blocks j.standing.cases + stream_blocks streams ≡ j.standing.shape.data_blocks
   pub named : (name : List ℕ) → cases_named j.standing.cases name + streams_named streams name ≤ 1
 
-pub record IsSound {D : Type 0} (g : disk.Ghosts D) (d : D) (j : Journaled) (most : ℕ) (flags : List Bool) (streams : List (Option StreamParts)) (stopped : Bool) : Type 0 where
+pub record IsArchiveSound {D : Type 0} (g : disk.Ghosts D) (d : D) (j : Journaled) (most : ℕ) (flags : List Bool) (streams : List (Option StreamParts)) (stopped : Bool) : Type 0 where
   pub shape : IsWithinLimits j.standing.shape
   pub slots : length streams ≡ 8
   pub runs : stopped ≡ false → IsRunning g d j most flags streams

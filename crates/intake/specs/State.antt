@@ -1,10 +1,11 @@
 -- The state of an archive without the images' bytes: its cases, its streams, and what decides how a call is answered.
 use Rattle.std.specs.Prelude.{ℕ, ◌+◌, ◌/◌, Bool, List, Option, None, Some, sum_by}
+pub use Rattle.journal_layout.specs.Soundness.{blocks_for}
 use Rattle.journal_layout.specs.declared.shape.Shape.{Shape}
 use Rattle.journal_layout.specs.declared.entry.Kind.{Kind}
 
 -- a case, with the number of its runs of blocks
-pub record BareCase : Type 0 where
+pub record CaseFacts : Type 0 where
   pub seq : ℕ
   pub kind : Kind
   pub name : List ℕ
@@ -16,7 +17,7 @@ pub record BareCase : Type 0 where
   pub runs : ℕ
 
 -- a stream on its way, with the bytes that it has taken so far
-pub record BareStream : Type 0 where
+pub record StreamFacts : Type 0 where
   pub kind : Kind
   pub name : List ℕ
   pub pid : ℕ
@@ -24,12 +25,12 @@ pub record BareStream : Type 0 where
   pub time : ℕ
   pub len : ℕ
 
-pub record Bare : Type 0 where
+pub record ArchiveState : Type 0 where
   pub shape : Shape
   -- the most bytes that an image may have
   pub limit : ℕ
   -- in the order of their numbers
-  pub cases : List BareCase
+  pub cases : List CaseFacts
   -- the number of the next case
   pub next : ℕ
   -- the bytes of the journal's taken half that are in use
@@ -37,18 +38,14 @@ pub record Bare : Type 0 where
   -- of that half: one more each time the journal is written anew
   pub generation : ℕ
   -- by slot
-  pub streams : List (Option BareStream)
+  pub streams : List (Option StreamFacts)
   pub stopped : Bool
 
--- the blocks that hold so many bytes
-abbrev pub blocks_for : ℕ → ℕ
-blocks_for len = (len + 4095) / 4096
-
--- the blocks that a stream of so many bytes has filled
-abbrev pub filled_by : Option BareStream → ℕ
+-- the blocks that a stream has filled
+abbrev pub filled_by : Option StreamFacts → ℕ
 filled_by None = 0
 filled_by (Some s) = s.len / 4096
 
 -- the blocks in use: those of the cases, and those that the streams have filled
-abbrev pub blocks_in : Bare → ℕ
-blocks_in s = sum_by (λ (c : BareCase). blocks_for c.len) s.cases + sum_by filled_by s.streams
+abbrev pub blocks_in : ArchiveState → ℕ
+blocks_in s = sum_by (λ (c : CaseFacts). blocks_for c.len) s.cases + sum_by filled_by s.streams

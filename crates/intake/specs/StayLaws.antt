@@ -3,13 +3,13 @@ use Rattle.std.proofs.Common.{◌≡◌, sym, ap, subst, ◌∙◌, refl, arith}
 use Rattle.disk_model.specs.Moments.{AddsOnly}
 use Rattle.disk_model.specs.MomentLaws.{adds_nothing, adds_again, adds_weakened}
 use Rattle.disk_model.specs.declared.disk.Disk as disk
-use Rattle.intake.specs.Calls.{Stays}
+use Rattle.intake.specs.Calls.{ChangesNoCase}
 use Rattle.intake.specs.Durable.{StandsFor, durable_of}
 use Rattle.intake.specs.Parts.{Parts}
 
 module _ {D : Type 0} (g : disk.Ghosts D) where
   -- no disk call, and no case is changed
-  pub stays_still : (old new : Parts D) → new.disk ≡ old.disk → durable_of g.seen new ≡ durable_of g.seen old → Stays g old new
+  pub stays_still : (old new : Parts D) → new.disk ≡ old.disk → durable_of g.seen new ≡ durable_of g.seen old → ChangesNoCase g old new
   stays_still old new disk same = record {
     honesty = ap g.is_honest disk;
     later = omega (arith, ap g.failures disk);
@@ -18,13 +18,13 @@ module _ {D : Type 0} (g : disk.Ghosts D) where
     durable = λ honest. same;
   }
 
-  pub stays_none : (a : Parts D) → Stays g a a
+  pub stays_none : (a : Parts D) → ChangesNoCase g a a
   stays_none a = stays_still a a refl refl
 
-  pub stays_as : (a b : Parts D) → b ≡ a → Stays g a b
-  stays_as a b is = subst (λ (x : Parts D). Stays g a x) (sym is) (stays_none a)
+  pub stays_as : (a b : Parts D) → b ≡ a → ChangesNoCase g a b
+  stays_as a b is = subst (λ (x : Parts D). ChangesNoCase g a x) (sym is) (stays_none a)
 
-  pub stays_then : (a b c : Parts D) → Stays g a b → Stays g b c → Stays g a c
+  pub stays_then : (a b c : Parts D) → ChangesNoCase g a b → ChangesNoCase g b c → ChangesNoCase g a c
   stays_then a b c first second = record {
     honesty = second.honesty ∙ first.honesty;
     later = omega (arith, first.later, second.later);

@@ -14,31 +14,31 @@ use Rattle.intake.specs.declared.faults.ArchiveFault.{ArchiveFault}
 use Rattle.intake.specs.declared.space.Space.{Space}
 use Rattle.intake.specs.declared.faults.ArchiveFault.TheVariants.{Stopped, BadSlot, SlotBusy, NameTaken, NoStream, TooLong, SpaceFull, NoCase, Pinned, JournalFull, NumbersSpent, OutOfMemory, Disk}
 use Rattle.intake.specs.Slots.{stream_at, closed}
-use Rattle.intake.specs.State.{Bare, BareCase, BareStream, blocks_for, blocks_in}
+use Rattle.intake.specs.State.{ArchiveState, CaseFacts, StreamFacts, blocks_for, blocks_in}
 
 -- the stream in this slot has this name
-abbrev pub has_name : List ℕ → Option BareStream → Bool
+abbrev pub has_name : List ℕ → Option StreamFacts → Bool
 has_name name None = false
 has_name name (Some s) = bytes_eq s.name name
 
 -- a live case or an open stream has the name
-abbrev pub is_taken : Bare → List ℕ → Bool
-is_taken s name = list_any (λ (c : BareCase). bytes_eq c.name name) s.cases || list_any (has_name name) s.streams
+abbrev pub is_taken : ArchiveState → List ℕ → Bool
+is_taken s name = list_any (λ (c : CaseFacts). bytes_eq c.name name) s.cases || list_any (has_name name) s.streams
 
 -- the same state with this in a slot
-abbrev pub with_stream : Bare → ℕ → Option BareStream → Bare
+abbrev pub with_stream : ArchiveState → ℕ → Option StreamFacts → ArchiveState
 with_stream s slot o = record s { streams = slice_set s.streams slot o }
 
 -- the same state, stopped by a disk fault, and without streams
-abbrev pub halted : Bare → Bare
+abbrev pub halted : ArchiveState → ArchiveState
 halted s = record s { stopped = true; streams = closed s.streams }
 
 -- begin: a stream with no bytes
-abbrev pub MayBegin : Bare → ℕ → List ℕ → Type 0
+abbrev pub MayBegin : ArchiveState → ℕ → List ℕ → Type 0
 MayBegin old slot name =
     (old.stopped ≡ false) × (slot < length old.streams) × (stream_at old.streams slot ≡ None) × (is_taken old name ≡ false)
 
-abbrev pub BeginStep : Bare → ℕ → BareStream → Result (Unit {0}) ArchiveFault → Bare → Type 0
+abbrev pub BeginStep : ArchiveState → ℕ → StreamFacts → Result (Unit {0}) ArchiveFault → ArchiveState → Type 0
 BeginStep old slot s (Ok u) new = MayBegin old slot s.name × (new ≡ with_stream old slot (Some s))
 BeginStep old slot s (Err Stopped) new = (old.stopped ≡ true) × (new ≡ old)
 BeginStep old slot s (Err BadSlot) new = (old.stopped ≡ false) × (length old.streams ≤ slot) × (new ≡ old)
@@ -50,80 +50,80 @@ BeginStep old slot s (Err OutOfMemory) new = MayBegin old slot s.name × (new �
 BeginStep old slot s (Err _) new = ⊥
 
 -- room: lends the free part
-abbrev pub RoomReply : Bare → ℕ → Result (Unit {0}) ArchiveFault → Type 0
+abbrev pub RoomReply : ArchiveState → ℕ → Result (Unit {0}) ArchiveFault → Type 0
 RoomReply old slot (Ok u) = (old.stopped ≡ false) × (stream_at old.streams slot ≢ None)
 RoomReply old slot (Err Stopped) = old.stopped ≡ true
 RoomReply old slot (Err NoStream) = (old.stopped ≡ false) × (stream_at old.streams slot ≡ None)
 RoomReply old slot (Err _) = ⊥
 
 -- the same stream with n bytes more
-abbrev pub longer : BareStream → ℕ → BareStream
+abbrev pub longer : StreamFacts → ℕ → StreamFacts
 longer s n = record s { len = s.len + n }
 
 -- the stream in this slot may take n bytes more, by its length
-abbrev pub MayGrow : Bare → ℕ → ℕ → BareStream → Type 0
+abbrev pub MayGrow : ArchiveState → ℕ → ℕ → StreamFacts → Type 0
 MayGrow old slot n s = (old.stopped ≡ false) × (stream_at old.streams slot ≡ Some s) × (s.len + n ≤ old.limit)
 
 -- n bytes more fill a block, and no block is free
-abbrev pub FindsNoBlock : Bare → BareStream → ℕ → Type 0
+abbrev pub FindsNoBlock : ArchiveState → StreamFacts → ℕ → Type 0
 FindsNoBlock old s n = (n ≢ 0) × ((s.len + n) % 4096 ≡ 0) × (blocks_in old ≡ old.shape.data_blocks)
 
 -- advance: n bytes more
-abbrev pub AdvanceStep : Bare → ℕ → ℕ → Result (Unit {0}) ArchiveFault → Bare → Type 0
+abbrev pub AdvanceStep : ArchiveState → ℕ → ℕ → Result (Unit {0}) ArchiveFault → ArchiveState → Type 0
 AdvanceStep old slot n (Ok u) new =
-    (s : BareStream) × MayGrow old slot n s × (FindsNoBlock old s n → ⊥) × (new ≡ with_stream old slot (Some (longer s n)))
+    (s : StreamFacts) × MayGrow old slot n s × (FindsNoBlock old s n → ⊥) × (new ≡ with_stream old slot (Some (longer s n)))
 AdvanceStep old slot n (Err Stopped) new = (old.stopped ≡ true) × (new ≡ old)
 AdvanceStep old slot n (Err NoStream) new = (old.stopped ≡ false) × (stream_at old.streams slot ≡ None) × (new ≡ old)
 AdvanceStep old slot n (Err TooLong) new =
-    (s : BareStream) × (old.stopped ≡ false) × (stream_at old.streams slot ≡ Some s) × (old.limit < s.len + n) × (new ≡ with_stream old slot None)
+    (s : StreamFacts) × (old.stopped ≡ false) × (stream_at old.streams slot ≡ Some s) × (old.limit < s.len + n) × (new ≡ with_stream old slot None)
 AdvanceStep old slot n (Err SpaceFull) new =
-    (s : BareStream) × MayGrow old slot n s × FindsNoBlock old s n × (new ≡ with_stream old slot None)
+    (s : StreamFacts) × MayGrow old slot n s × FindsNoBlock old s n × (new ≡ with_stream old slot None)
 AdvanceStep old slot n (Err OutOfMemory) new =
-    (s : BareStream) × MayGrow old slot n s × (FindsNoBlock old s n → ⊥) × (new ≡ with_stream old slot None)
+    (s : StreamFacts) × MayGrow old slot n s × (FindsNoBlock old s n → ⊥) × (new ≡ with_stream old slot None)
 AdvanceStep old slot n (Err Disk) new =
-    (s : BareStream) × MayGrow old slot n s × (FindsNoBlock old s n → ⊥) × (new ≡ halted old)
+    (s : StreamFacts) × MayGrow old slot n s × (FindsNoBlock old s n → ⊥) × (new ≡ halted old)
 AdvanceStep old slot n (Err _) new = ⊥
 
--- the bytes of the record of a case of this name in so many runs
+-- the bytes of the record of a case of this name in `runs` runs
 abbrev pub record_size : List ℕ → ℕ → ℕ
 record_size name runs = rounded (48 + 8 * runs + length name)
 
--- a case of so many bytes may lie in so many runs
+-- a case of `len` bytes may lie in `runs` runs
 abbrev pub MayHaveRuns : ℕ → ℕ → Type 0
 MayHaveRuns len runs = (runs ≤ blocks_for len) × (0 < len → 0 < runs)
 
 -- the bytes of a half of the journal that says these cases and a next number, and nothing else: its header, a record for each
 -- case, and one of the number
-abbrev pub snapshot_size : List BareCase → ℕ
-snapshot_size cases = 48 + sum_by (λ (c : BareCase). record_size c.name c.runs) cases
+abbrev pub snapshot_size : List CaseFacts → ℕ
+snapshot_size cases = 48 + sum_by (λ (c : CaseFacts). record_size c.name c.runs) cases
 
--- A record of so many bytes, behind which these cases stand, has room with the gate behind it: behind the records that are there,
--- or in the journal's other half, where these cases are written anew and a generation is left for it.
-abbrev pub HasRecordRoom : Bare → ℕ → List BareCase → Type 0
+-- A record of `size` bytes, behind which these cases stand, has room with the gate behind it: behind the records that
+-- are there, or in the journal's other half, where these cases are written anew and a generation is left for it.
+abbrev pub HasRecordRoom : ArchiveState → ℕ → List CaseFacts → Type 0
 HasRecordRoom s size cases =
     (s.used + size + 1 ≤ half_length s.shape)
     ⊎ ((snapshot_size cases + 1 ≤ half_length s.shape) × (s.generation + 1 < 2 ^ 64))
 
 -- the journal was written anew as often as it can be
-abbrev pub IsLastGeneration : Bare → Type 0
+abbrev pub IsLastGeneration : ArchiveState → Type 0
 IsLastGeneration s = s.generation + 1 ≡ 2 ^ 64
 
 -- such a record has room in neither half
-abbrev pub IsFull : Bare → ℕ → List BareCase → Type 0
+abbrev pub IsFull : ArchiveState → ℕ → List CaseFacts → Type 0
 IsFull s size cases =
     (half_length s.shape < s.used + size + 1)
     × ((half_length s.shape < snapshot_size cases + 1) ⊎ IsLastGeneration s)
 
--- the same state with these cases, by a record of so many bytes: it stands behind the others where it fits there, and else the
+-- the same state with these cases, by a record of `size` bytes: it stands behind the others where it fits there, and else the
 -- cases stand in the other half, written anew
-abbrev pub recorded : Bare → ℕ → List BareCase → Bare
+abbrev pub recorded : ArchiveState → ℕ → List CaseFacts → ArchiveState
 recorded s size cases = record s {
   cases = cases;
   used = if nat_lt (s.used + size) (half_length s.shape) then s.used + size else snapshot_size cases;
   generation = if nat_lt (s.used + size) (half_length s.shape) then s.generation else s.generation + 1;
 }
 
-abbrev pub case_from : BareStream → ℕ → ℕ → BareCase
+abbrev pub case_from : StreamFacts → ℕ → ℕ → CaseFacts
 case_from s seq runs = record {
   seq = seq;
   kind = s.kind;
@@ -137,41 +137,41 @@ case_from s seq runs = record {
 }
 
 -- the cases with the stream as the last one
-abbrev pub cases_with : Bare → BareStream → ℕ → List BareCase
+abbrev pub cases_with : ArchiveState → StreamFacts → ℕ → List CaseFacts
 cases_with old s runs = old.cases ++ case_from s old.next runs ∷ []
 
 -- the stream becomes the last case
-abbrev pub stored : Bare → ℕ → BareStream → ℕ → Bare
+abbrev pub stored : ArchiveState → ℕ → StreamFacts → ℕ → ArchiveState
 stored old slot s runs = record (recorded (with_stream old slot None) (record_size s.name runs) (cases_with old s runs)) { next = old.next + 1 }
 
 -- the stream stands in its slot, and there is a block for the bytes that fill none
-abbrev pub MayFinish : Bare → ℕ → BareStream → Type 0
+abbrev pub MayFinish : ArchiveState → ℕ → StreamFacts → Type 0
 MayFinish old slot s =
     (old.stopped ≡ false) × (stream_at old.streams slot ≡ Some s)
     × ((s.len % 4096 ≢ 0) → (blocks_in old ≡ old.shape.data_blocks) → ⊥)
 
 -- finish: the stream becomes the last case. Only how many runs it lies in is left open.
-abbrev pub FinishStep : Bare → ℕ → Result ℕ ArchiveFault → Bare → Type 0
+abbrev pub FinishStep : ArchiveState → ℕ → Result ℕ ArchiveFault → ArchiveState → Type 0
 FinishStep old slot (Ok seq) new =
-    (s : BareStream) × (runs : ℕ) × MayFinish old slot s × MayHaveRuns s.len runs × HasRecordRoom old (record_size s.name runs) (cases_with old s runs)
+    (s : StreamFacts) × (runs : ℕ) × MayFinish old slot s × MayHaveRuns s.len runs × HasRecordRoom old (record_size s.name runs) (cases_with old s runs)
     × (old.next < 2 ^ 32) × (seq ≡ old.next) × (new ≡ stored old slot s runs)
 FinishStep old slot (Err Stopped) new = (old.stopped ≡ true) × (new ≡ old)
 FinishStep old slot (Err NoStream) new = (old.stopped ≡ false) × (stream_at old.streams slot ≡ None) × (new ≡ old)
 FinishStep old slot (Err SpaceFull) new =
-    (s : BareStream) × (old.stopped ≡ false) × (stream_at old.streams slot ≡ Some s)
+    (s : StreamFacts) × (old.stopped ≡ false) × (stream_at old.streams slot ≡ Some s)
     × (s.len % 4096 ≢ 0) × (blocks_in old ≡ old.shape.data_blocks) × (new ≡ with_stream old slot None)
 FinishStep old slot (Err JournalFull) new =
-    (s : BareStream) × (runs : ℕ) × MayFinish old slot s × MayHaveRuns s.len runs
+    (s : StreamFacts) × (runs : ℕ) × MayFinish old slot s × MayHaveRuns s.len runs
     × IsFull old (record_size s.name runs) (cases_with old s runs) × (new ≡ with_stream old slot None)
 FinishStep old slot (Err NumbersSpent) new =
-    (s : BareStream) × (runs : ℕ) × MayFinish old slot s × MayHaveRuns s.len runs × HasRecordRoom old (record_size s.name runs) (cases_with old s runs)
+    (s : StreamFacts) × (runs : ℕ) × MayFinish old slot s × MayHaveRuns s.len runs × HasRecordRoom old (record_size s.name runs) (cases_with old s runs)
     × (old.next ≡ 2 ^ 32) × (new ≡ with_stream old slot None)
-FinishStep old slot (Err OutOfMemory) new = (s : BareStream) × MayFinish old slot s × (new ≡ with_stream old slot None)
-FinishStep old slot (Err Disk) new = (s : BareStream) × MayFinish old slot s × (new ≡ halted old)
+FinishStep old slot (Err OutOfMemory) new = (s : StreamFacts) × MayFinish old slot s × (new ≡ with_stream old slot None)
+FinishStep old slot (Err Disk) new = (s : StreamFacts) × MayFinish old slot s × (new ≡ halted old)
 FinishStep old slot (Err _) new = ⊥
 
 -- abandon: the stream is gone
-abbrev pub AbandonStep : Bare → ℕ → Result (Unit {0}) ArchiveFault → Bare → Type 0
+abbrev pub AbandonStep : ArchiveState → ℕ → Result (Unit {0}) ArchiveFault → ArchiveState → Type 0
 AbandonStep old slot (Ok u) new =
     (old.stopped ≡ false) × (stream_at old.streams slot ≢ None) × (new ≡ with_stream old slot None)
 AbandonStep old slot (Err Stopped) new = (old.stopped ≡ true) × (new ≡ old)
@@ -179,39 +179,39 @@ AbandonStep old slot (Err NoStream) new = (old.stopped ≡ false) × (stream_at 
 AbandonStep old slot (Err _) new = ⊥
 
 -- free_blocks: the free data blocks, and all of them
-abbrev pub FreeReply : Bare → Result Space ArchiveFault → Type 0
+abbrev pub FreeReply : ArchiveState → Result Space ArchiveFault → Type 0
 FreeReply old (Ok space) =
     (old.stopped ≡ false) × (space.free + blocks_in old ≡ old.shape.data_blocks) × (space.data_blocks ≡ old.shape.data_blocks)
 FreeReply old (Err Stopped) = old.stopped ≡ true
 FreeReply old (Err _) = ⊥
 
 -- the case of this number, if there is one
-abbrev pub case_at : ℕ → List BareCase → Option BareCase
+abbrev pub case_at : ℕ → List CaseFacts → Option CaseFacts
 case_at seq [] = None
 case_at seq (c ∷ rest) = if c.seq == seq then Some c else case_at seq rest
 
 -- the case of this number is live
-abbrev pub HasCase : Bare → ℕ → BareCase → Type 0
+abbrev pub HasCase : ArchiveState → ℕ → CaseFacts → Type 0
 HasCase old seq c = (old.stopped ≡ false) × (case_at seq old.cases ≡ Some c)
 
--- the bytes of the record that drops so many cases
+-- the bytes of the record that drops n cases
 abbrev pub drop_size : ℕ → ℕ
 drop_size n = rounded (12 + 4 * n)
 
 -- the cases that have none of these numbers
-abbrev pub cases_without : Bare → List ℕ → List BareCase
-cases_without old seqs = filter (λ (c : BareCase). not (is_among seqs c.seq)) old.cases
+abbrev pub cases_without : ArchiveState → List ℕ → List CaseFacts
+cases_without old seqs = filter (λ (c : CaseFacts). not (is_among seqs c.seq)) old.cases
 
 -- the same state without these cases
-abbrev pub without_cases : Bare → List ℕ → Bare
+abbrev pub without_cases : ArchiveState → List ℕ → ArchiveState
 without_cases old seqs = recorded old (drop_size (length seqs)) (cases_without old seqs)
 
 -- the record that drops them has room
-abbrev pub HasDropRoom : Bare → List ℕ → Type 0
+abbrev pub HasDropRoom : ArchiveState → List ℕ → Type 0
 HasDropRoom old seqs = HasRecordRoom old (drop_size (length seqs)) (cases_without old seqs)
 
 -- cases are dropped that may be, in an archive that runs
-abbrev pub DropStep : Bare → List ℕ → Result (Unit {0}) ArchiveFault → Bare → Type 0
+abbrev pub DropStep : ArchiveState → List ℕ → Result (Unit {0}) ArchiveFault → ArchiveState → Type 0
 DropStep old seqs (Ok u) new = HasDropRoom old seqs × (new ≡ without_cases old seqs)
 DropStep old seqs (Err JournalFull) new = IsFull old (drop_size (length seqs)) (cases_without old seqs) × (new ≡ old)
 DropStep old seqs (Err OutOfMemory) new = HasDropRoom old seqs × (new ≡ old)
@@ -219,16 +219,16 @@ DropStep old seqs (Err Disk) new = HasDropRoom old seqs × (new ≡ halted old)
 DropStep old seqs (Err _) new = ⊥
 
 -- delete: the case is gone
-abbrev pub DeleteStep : Bare → ℕ → Result (Unit {0}) ArchiveFault → Bare → Type 0
+abbrev pub DeleteStep : ArchiveState → ℕ → Result (Unit {0}) ArchiveFault → ArchiveState → Type 0
 DeleteStep old seq (Ok u) new =
-    (c : BareCase) × HasCase old seq c × (c.pinned ≡ false) × HasDropRoom old (seq ∷ []) × (new ≡ without_cases old (seq ∷ []))
+    (c : CaseFacts) × HasCase old seq c × (c.pinned ≡ false) × HasDropRoom old (seq ∷ []) × (new ≡ without_cases old (seq ∷ []))
 DeleteStep old seq (Err Stopped) new = (old.stopped ≡ true) × (new ≡ old)
 DeleteStep old seq (Err NoCase) new = (old.stopped ≡ false) × (case_at seq old.cases ≡ None) × (new ≡ old)
-DeleteStep old seq (Err Pinned) new = (c : BareCase) × HasCase old seq c × (c.pinned ≡ true) × (new ≡ old)
+DeleteStep old seq (Err Pinned) new = (c : CaseFacts) × HasCase old seq c × (c.pinned ≡ true) × (new ≡ old)
 DeleteStep old seq (Err JournalFull) new =
-    (c : BareCase) × HasCase old seq c × (c.pinned ≡ false) × IsFull old (drop_size 1) (cases_without old (seq ∷ [])) × (new ≡ old)
-DeleteStep old seq (Err OutOfMemory) new = (c : BareCase) × HasCase old seq c × (c.pinned ≡ false) × HasDropRoom old (seq ∷ []) × (new ≡ old)
-DeleteStep old seq (Err Disk) new = (c : BareCase) × HasCase old seq c × (c.pinned ≡ false) × HasDropRoom old (seq ∷ []) × (new ≡ halted old)
+    (c : CaseFacts) × HasCase old seq c × (c.pinned ≡ false) × IsFull old (drop_size 1) (cases_without old (seq ∷ [])) × (new ≡ old)
+DeleteStep old seq (Err OutOfMemory) new = (c : CaseFacts) × HasCase old seq c × (c.pinned ≡ false) × HasDropRoom old (seq ∷ []) × (new ≡ old)
+DeleteStep old seq (Err Disk) new = (c : CaseFacts) × HasCase old seq c × (c.pinned ≡ false) × HasDropRoom old (seq ∷ []) × (new ≡ halted old)
 DeleteStep old seq (Err _) new = ⊥
 
 -- the bytes of the record that pins a case
@@ -236,58 +236,58 @@ abbrev pub pin_size : ℕ
 pin_size = 16
 
 -- the cases with the flag of one set
-abbrev pub cases_flagged : Bare → ℕ → Bool → List BareCase
-cases_flagged old seq flag = map (λ (c : BareCase). if c.seq == seq then record c { pinned = flag } else c) old.cases
+abbrev pub cases_flagged : ArchiveState → ℕ → Bool → List CaseFacts
+cases_flagged old seq flag = map (λ (c : CaseFacts). if c.seq == seq then record c { pinned = flag } else c) old.cases
 
 -- the same state with the flag of a case set
-abbrev pub with_flag : Bare → ℕ → Bool → Bare
+abbrev pub with_flag : ArchiveState → ℕ → Bool → ArchiveState
 with_flag old seq flag = recorded old pin_size (cases_flagged old seq flag)
 
 -- the record that sets it has room
-abbrev pub HasPinRoom : Bare → ℕ → Bool → Type 0
+abbrev pub HasPinRoom : ArchiveState → ℕ → Bool → Type 0
 HasPinRoom old seq flag = HasRecordRoom old pin_size (cases_flagged old seq flag)
 
 -- pin: the flag is set; where it stands already, nothing changes
-abbrev pub PinStep : Bare → ℕ → Bool → Result (Unit {0}) ArchiveFault → Bare → Type 0
+abbrev pub PinStep : ArchiveState → ℕ → Bool → Result (Unit {0}) ArchiveFault → ArchiveState → Type 0
 PinStep old seq flag (Ok u) new =
-    (c : BareCase) × HasCase old seq c
+    (c : CaseFacts) × HasCase old seq c
     × (((c.pinned ≡ flag) × (new ≡ old)) ⊎ ((c.pinned ≢ flag) × HasPinRoom old seq flag × (new ≡ with_flag old seq flag)))
 PinStep old seq flag (Err Stopped) new = (old.stopped ≡ true) × (new ≡ old)
 PinStep old seq flag (Err NoCase) new = (old.stopped ≡ false) × (case_at seq old.cases ≡ None) × (new ≡ old)
 PinStep old seq flag (Err JournalFull) new =
-    (c : BareCase) × HasCase old seq c × (c.pinned ≢ flag) × IsFull old pin_size (cases_flagged old seq flag) × (new ≡ old)
-PinStep old seq flag (Err OutOfMemory) new = (c : BareCase) × HasCase old seq c × (c.pinned ≢ flag) × HasPinRoom old seq flag × (new ≡ old)
-PinStep old seq flag (Err Disk) new = (c : BareCase) × HasCase old seq c × (c.pinned ≢ flag) × HasPinRoom old seq flag × (new ≡ halted old)
+    (c : CaseFacts) × HasCase old seq c × (c.pinned ≢ flag) × IsFull old pin_size (cases_flagged old seq flag) × (new ≡ old)
+PinStep old seq flag (Err OutOfMemory) new = (c : CaseFacts) × HasCase old seq c × (c.pinned ≢ flag) × HasPinRoom old seq flag × (new ≡ old)
+PinStep old seq flag (Err Disk) new = (c : CaseFacts) × HasCase old seq c × (c.pinned ≢ flag) × HasPinRoom old seq flag × (new ≡ halted old)
 PinStep old seq flag (Err _) new = ⊥
 
 -- what the rule looks at of a case
-abbrev pub brief_of : BareCase → Brief
+abbrev pub brief_of : CaseFacts → Brief
 brief_of c = record { seq = c.seq; time = c.time; length = c.len; pinned = c.pinned }
 
 -- by the rule these cases go, and some do
-abbrev pub Retires : Bare → Policy → List ℕ → Bool → Type 0
-Retires old policy dropped unmet = (old.stopped ≡ false) × IsDecision policy (map brief_of old.cases) dropped unmet × (dropped ≢ [])
+abbrev pub RetiresSome : ArchiveState → Policy → List ℕ → Bool → Type 0
+RetiresSome old policy dropped unmet = (old.stopped ≡ false) × IsDecision policy (map brief_of old.cases) dropped unmet × (dropped ≢ [])
 
 -- retire: the cases that the rule drops are gone; where it drops none, nothing changes
-abbrev pub RetireStep : Bare → Policy → Result Decision ArchiveFault → Bare → Type 0
+abbrev pub RetireStep : ArchiveState → Policy → Result Decision ArchiveFault → ArchiveState → Type 0
 RetireStep old policy (Ok d) new =
     (old.stopped ≡ false) × IsDecision policy (map brief_of old.cases) d.dropped.items d.unmet
     × (((d.dropped.items ≡ []) × (new ≡ old))
     ⊎ ((d.dropped.items ≢ []) × HasDropRoom old d.dropped.items × (new ≡ without_cases old d.dropped.items)))
 RetireStep old policy (Err Stopped) new = (old.stopped ≡ true) × (new ≡ old)
 RetireStep old policy (Err JournalFull) new =
-    (dropped : List ℕ) × (unmet : Bool) × Retires old policy dropped unmet
+    (dropped : List ℕ) × (unmet : Bool) × RetiresSome old policy dropped unmet
     × IsFull old (drop_size (length dropped)) (cases_without old dropped) × (new ≡ old)
 RetireStep old policy (Err OutOfMemory) new = (old.stopped ≡ false) × (new ≡ old)
 RetireStep old policy (Err Disk) new =
-    (dropped : List ℕ) × (unmet : Bool) × Retires old policy dropped unmet × HasDropRoom old dropped × (new ≡ halted old)
+    (dropped : List ℕ) × (unmet : Bool) × RetiresSome old policy dropped unmet × HasDropRoom old dropped × (new ≡ halted old)
 RetireStep old policy (Err _) new = ⊥
 
 -- image: the bytes of a case are read; only a disk fault changes the state
-abbrev pub ImageStep : {T : Type 0} → Bare → ℕ → Result T ArchiveFault → Bare → Type 0
-ImageStep old seq (Ok image) new = (c : BareCase) × HasCase old seq c × (new ≡ old)
+abbrev pub ImageStep : {T : Type 0} → ArchiveState → ℕ → Result T ArchiveFault → ArchiveState → Type 0
+ImageStep old seq (Ok image) new = (c : CaseFacts) × HasCase old seq c × (new ≡ old)
 ImageStep old seq (Err Stopped) new = (old.stopped ≡ true) × (new ≡ old)
 ImageStep old seq (Err NoCase) new = (old.stopped ≡ false) × (case_at seq old.cases ≡ None) × (new ≡ old)
-ImageStep old seq (Err OutOfMemory) new = (c : BareCase) × HasCase old seq c × (new ≡ old)
-ImageStep old seq (Err Disk) new = (c : BareCase) × HasCase old seq c × (new ≡ halted old)
+ImageStep old seq (Err OutOfMemory) new = (c : CaseFacts) × HasCase old seq c × (new ≡ old)
+ImageStep old seq (Err Disk) new = (c : CaseFacts) × HasCase old seq c × (new ≡ halted old)
 ImageStep old seq (Err _) new = ⊥

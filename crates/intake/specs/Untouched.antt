@@ -1,7 +1,7 @@
 -- Which answers leave the disk itself as it was.
 use Rattle.std.specs.Prelude.{◌≡◌, ◌≢◌, ℕ, ◌+◌, ◌%◌, Bool, [], Some, Result, Ok, Err}
 use Rattle.intake.specs.Slots.{stream_at}
-use Rattle.intake.specs.State.{Bare, BareCase, BareStream}
+use Rattle.intake.specs.State.{ArchiveState, CaseFacts, StreamFacts}
 use Rattle.intake.specs.Step.{HasCase}
 use Rattle.intake.specs.declared.faults.ArchiveFault.{ArchiveFault}
 use Rattle.intake.specs.declared.faults.ArchiveFault.TheVariants.{Stopped, NoStream, SpaceFull, Disk}
@@ -14,9 +14,9 @@ RefusalSpares (Err Disk) old new = Unit {0}
 RefusalSpares (Err _) old new = new ≡ old
 
 -- advance: where the bytes fill no block, too
-abbrev pub AdvanceSpares : {D : Type 0} → Bare → ℕ → ℕ → Result (Unit {0}) ArchiveFault → D → D → Type 0
+abbrev pub AdvanceSpares : {D : Type 0} → ArchiveState → ℕ → ℕ → Result (Unit {0}) ArchiveFault → D → D → Type 0
 AdvanceSpares s slot n (Ok u) old new =
-    (t : BareStream) → stream_at s.streams slot ≡ Some t → (((n ≢ 0) × ((t.len + n) % 4096 ≡ 0)) → ⊥) → new ≡ old
+    (t : StreamFacts) → stream_at s.streams slot ≡ Some t → (((n ≢ 0) × ((t.len + n) % 4096 ≡ 0)) → ⊥) → new ≡ old
 AdvanceSpares s slot n (Err f) old new = RefusalSpares {T = Unit {0}} (Err f) old new
 
 -- finish: the refusals before its seal
@@ -27,8 +27,8 @@ FinishSpares (Err SpaceFull) old new = new ≡ old
 FinishSpares _ old new = Unit {0}
 
 -- pin: where the flag stands already, too
-abbrev pub PinSpares : {D : Type 0} → Bare → ℕ → Bool → Result (Unit {0}) ArchiveFault → D → D → Type 0
-PinSpares s seq flag (Ok u) old new = (c : BareCase) → HasCase s seq c → c.pinned ≡ flag → new ≡ old
+abbrev pub PinSpares : {D : Type 0} → ArchiveState → ℕ → Bool → Result (Unit {0}) ArchiveFault → D → D → Type 0
+PinSpares s seq flag (Ok u) old new = (c : CaseFacts) → HasCase s seq c → c.pinned ≡ flag → new ≡ old
 PinSpares s seq flag (Err f) old new = RefusalSpares {T = Unit {0}} (Err f) old new
 
 -- retire: where no case goes, too

@@ -7,7 +7,7 @@ ghost use Rattle.journal_layout.specs.Standing.{Standing};
 ghost use Rattle.journal_layout.specs.Stands.{Stands};
 ghost use Rattle.case_journal.specs.Append.{MayFollow};
 ghost use Rattle.journal_layout.specs.Record.{Drop};
-ghost use Rattle.case_journal.specs.Viewing.{ShowsOpening, Finds};
+ghost use Rattle.case_journal.specs.Viewing.{ShowsOpening, FindsStanding};
 ghost use Rattle.disk_model.specs.Disk.{HasRisen};
 ghost use Rattle.intake.specs.Growth.{IsDiskFault};
 ghost use Rattle.intake.specs.Ending.{EndsStreams};
@@ -78,8 +78,8 @@ impl<D: Disk> Model for Archive<D> {
 }
 
 impl<D: Disk> Archive<D> {
-    ghost use Rattle.intake.specs.Parts.{Parts, StreamParts, bare_of, contents_of};
-    ghost use Rattle.intake.specs.State.{Bare, BareStream};
+    ghost use Rattle.intake.specs.Parts.{Parts, StreamParts, state_of, contents_of};
+    ghost use Rattle.intake.specs.State.{ArchiveState, StreamFacts};
     ghost use Rattle.intake.specs.Step.{RoomReply, FreeReply, DropStep, IsLastGeneration};
     ghost use Rattle.intake.specs.Contents.{DropBytes};
     ghost use Rattle.intake.specs.Opened.{CaseReply, CasesReply};
@@ -134,7 +134,7 @@ impl<D: Disk> Archive<D> {
 
     /// How many data blocks are free, and how many there are. Answers `Stopped` alone.
     pub fn free_blocks(&self) -> Result<Space, ArchiveFault>
-        ensures { FreeReply (bare_of self.now) result }
+        ensures { FreeReply (state_of self.now) result }
     {
         if self.stopped {
             return Err(ArchiveFault::Stopped);
@@ -179,12 +179,8 @@ impl<D: Disk> Archive<D> {
         if self.names.contains(&name) {
             return Err(ArchiveFault::NameTaken);
         }
-        let Ok(block) = Buffer::zeros(self.alloc) else {
-            return Err(ArchiveFault::OutOfMemory);
-        };
-        let Ok(()) = keep_name(&mut self.names, &name) else {
-            return Err(ArchiveFault::OutOfMemory);
-        };
+        let block = Buffer::zeros(self.alloc)?;
+        keep_name(&mut self.names, &name)?;
         self.slots.put(
             slot,
             Stream {
@@ -205,7 +201,7 @@ impl<D: Disk> Archive<D> {
     /// lends nothing. Answers, in this order: `Stopped`; `NoStream`.
     pub fn room(&mut self, slot: u8) -> (Result<(), ArchiveFault>, &mut [u8])
         ensures* writes_back { sem 𝓛 (LendsRoom D.row D.Disk self.entry slot result) }
-        ensures reply { RoomReply (bare_of self.old) slot result.0 }
+        ensures reply { RoomReply (state_of self.old) slot result.0 }
         ensures lent { result.1.now ≡ room_of self.old slot result.0 }
         ensures never_empty { OnOk result.0 (0 < length result.1.now) }
         ensures fits { OnOk result.0 (FitsFree (stream_at self.old.streams slot)
@@ -334,22 +330,22 @@ impl<D: Disk> Archive<D> {
         requires names { map items_of names.now ≡ names_gone seqs.now self.old.journal.standing.cases }
         requires runs { self.old.stopped ≡ false }
         requires may { MayFollow self.old.journal.standing (Drop seqs.now) }
-        ensures step { DropStep (bare_of self.old) seqs.now result (bare_of self.new) }
+        ensures step { DropStep (state_of self.old) seqs.now result (state_of self.new) }
         ensures bytes { IsTrue (D.is_honest self.old.disk)
-            → DropBytes (bare_of self.old) (contents_of D.seen self.old) seqs.now result
+            → DropBytes (state_of self.old) (contents_of D.seen self.old) seqs.now result
             (contents_of D.seen self.new) }
         ensures changes { Changes (Unit {0}) D.Disk self.old result self.new
             (λ x. x ≡ without (durable_of D.seen self.old) seqs.now) }
         ensures full { IsTrue (D.is_honest self.old.disk) → result ≡ Err ArchiveFault.JournalFull
-            → IsLastGeneration (bare_of self.old) }
+            → IsLastGeneration (state_of self.old) }
         ensures untouched { RefusalSpares result self.old.disk self.new.disk }
     {
-        release_listed(&mut self.free, self.journal.entries(), seqs);
+        release_listed(&mut self.free, &self.journal, seqs);
         let Err(fault) = self.journal.append_drop(&mut self.disk, seqs) else {
             forget_names(&mut self.names, names);
             return Ok(());
         };
-        hold_listed(&mut self.free, self.journal.entries(), seqs);
+        hold_listed(&mut self.free, &self.journal, seqs);
         let fault = ArchiveFault::from(fault);
         self.stopped = end_streams(fault, &mut self.slots);
         Err(fault)
@@ -383,19 +379,13 @@ impl<D: Disk> Archive<D> {
         if self.stopped {
             return Err(ArchiveFault::Stopped);
         }
-        let Ok(decision) = decide_for(self.alloc, self.journal.entries(), policy) else {
-            return Err(ArchiveFault::OutOfMemory);
-        };
+        let decision = decide_for(self.alloc, self.journal.entries(), policy)?;
         if decision.dropped.is_empty() {
             return Ok(decision);
         }
         let seqs = decision.dropped.as_slice();
-        let Ok(names) = names_of(self.alloc, self.journal.entries(), seqs) else {
-            return Err(ArchiveFault::OutOfMemory);
-        };
-        if let Err(fault) = self.drop_cases(seqs, &names) {
-            return Err(fault);
-        }
+        let names = names_of(self.alloc, self.journal.entries(), seqs)?;
+        self.drop_cases(seqs, &names)?;
         Ok(decision)
     }
 

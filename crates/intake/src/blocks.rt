@@ -7,7 +7,7 @@ ghost use Rattle.journal_layout.specs.Layout.{IsWithinLimits, disk_length, half_
 ghost use Rattle.case_journal.specs.Journaled.{Journaled};
 ghost use Rattle.disk_model.specs.Moments.{LeavesOnly, IsSettled};
 ghost use Rattle.intake.specs.Durable.{durable_in};
-ghost use Rattle.intake.specs.Guarding.{Guards, Rests, Spares, LeavesStored};
+ghost use Rattle.intake.specs.Guarding.{Guards, LeavesCases, UsesNoFreeBlock, LeavesStored};
 ghost use Rattle.intake.specs.Live.{case_uses};
 ghost use Rattle.journal_layout.specs.Rewriting.{appended};
 ghost use Rattle.journal_layout.specs.Standing.{store_of};
@@ -17,7 +17,7 @@ ghost use Rattle.intake.specs.Blocks.{block_start, block_bytes};
 ghost use Rattle.intake.specs.Growth.{DiskReply, BlockReply, IsDiskFault, ChangesFree, Adds, Grows, GrowsBytes, NeedsBlock, stops_at};
 ghost use Rattle.case_journal.specs.Append.{MayStore};
 ghost use Rattle.journal_layout.specs.Case.{case_of};
-ghost use Rattle.intake.specs.Closing.{Closes, ClosesBytes, ClosesPadded, Appends, GivesBack};
+ghost use Rattle.intake.specs.Closing.{ClosesStream, ClosesBytes, ClosesPadded, Appends, GivesBack};
 ghost use Rattle.intake.specs.Sound.{IsFine};
 ghost use Rattle.intake.specs.StreamView.{parts_of};
 ghost use Rattle.intake.specs.Names.{GivesNameBack};
@@ -59,16 +59,14 @@ fn write_data<D: Disk>(
     ensures others { IsTrue (D.is_honest disk.old)
         → SameOutside (block_start shape block) 4096 (D.seen disk.old) (D.seen disk.new) }
     ensures rests { (j : Journaled) → j.standing.shape ≡ shape → case_uses j.standing.cases block ≡ 0
-        → Guards D.Disk disk.old j → Rests D.Disk disk.old disk.new j }
+        → Guards D.Disk disk.old j → LeavesCases D.Disk disk.old disk.new j }
     ensures cause { IsDiskFault result → HasRisen (D.failures disk.old) (D.failures disk.new) }
     ensures later { D.failures disk.old ≤ D.failures disk.new }
     ensures honesty { D.is_honest disk.new ≡ D.is_honest disk.old }
     ensures size { D.size disk.new ≡ D.size disk.old }
 {
     data_blocks_keep();
-    let Ok(()) = disk.write_at(block_start(shape, block), bytes) else {
-        return Err(ArchiveFault::Disk);
-    };
+    disk.write_at(block_start(shape, block), bytes)?;
     Ok(())
 }
 
@@ -93,8 +91,8 @@ pub(crate) fn add_block<D: Disk>(
         → OnOk result (Adds shape free.old runs.old runs.new bytes.now (D.seen disk.old) (D.seen disk.new)) }
     ensures others { IsTrue (D.is_honest disk.old)
         → ChangesFree shape free.old (D.seen disk.old) (D.seen disk.new) }
-    ensures rests { (j : Journaled) → j.standing.shape ≡ shape → Spares free.old j
-        → Guards D.Disk disk.old j → Rests D.Disk disk.old disk.new j }
+    ensures rests { (j : Journaled) → j.standing.shape ≡ shape → UsesNoFreeBlock free.old j
+        → Guards D.Disk disk.old j → LeavesCases D.Disk disk.old disk.new j }
     ensures cause { IsDiskFault result → HasRisen (D.failures disk.old) (D.failures disk.new) }
     ensures later { D.failures disk.old ≤ D.failures disk.new }
     ensures honesty { D.is_honest disk.new ≡ D.is_honest disk.old }
@@ -145,8 +143,8 @@ pub(crate) fn grow<D: Disk>(
         (parts_of block.new stream.new) (D.seen disk.old) (D.seen disk.new)) }
     ensures others { IsTrue (D.is_honest disk.old)
         → ChangesFree shape free.old (D.seen disk.old) (D.seen disk.new) }
-    ensures rests { (j : Journaled) → j.standing.shape ≡ shape → Spares free.old j
-        → Guards D.Disk disk.old j → Rests D.Disk disk.old disk.new j }
+    ensures rests { (j : Journaled) → j.standing.shape ≡ shape → UsesNoFreeBlock free.old j
+        → Guards D.Disk disk.old j → LeavesCases D.Disk disk.old disk.new j }
     ensures cause { IsDiskFault result → HasRisen (D.failures disk.old) (D.failures disk.new) }
     ensures later { D.failures disk.old ≤ D.failures disk.new }
     ensures honesty { D.is_honest disk.new ≡ D.is_honest disk.old }
@@ -179,7 +177,7 @@ fn last_block<D: Disk>(
     requires block { length block.old ≡ 4096 }
     requires filled { length stream.old.runs ≡ stream.old.length / 4096 }
     requires held { AreHeld free.old stream.old.runs }
-    ensures step { Closes (free_count free.old) (parts_of block.old stream.old) result
+    ensures step { ClosesStream (free_count free.old) (parts_of block.old stream.old) result
         (parts_of block.new stream.new) }
     ensures name { stream.new.name ≡ stream.old.name }
     ensures balance { Balances free.old stream.old.runs free.new stream.new.runs }
@@ -190,8 +188,8 @@ fn last_block<D: Disk>(
     ensures untouched { RefusalSpares result disk.old disk.new }
     ensures others { IsTrue (D.is_honest disk.old)
         → ChangesFree shape free.old (D.seen disk.old) (D.seen disk.new) }
-    ensures rests { (j : Journaled) → j.standing.shape ≡ shape → Spares free.old j
-        → Guards D.Disk disk.old j → Rests D.Disk disk.old disk.new j }
+    ensures rests { (j : Journaled) → j.standing.shape ≡ shape → UsesNoFreeBlock free.old j
+        → Guards D.Disk disk.old j → LeavesCases D.Disk disk.old disk.new j }
     ensures cause { IsDiskFault result → HasRisen (D.failures disk.old) (D.failures disk.new) }
     ensures later { D.failures disk.old ≤ D.failures disk.new }
     ensures honesty { D.is_honest disk.new ≡ D.is_honest disk.old }
@@ -221,7 +219,7 @@ pub(crate) fn seal<D: Disk>(
     requires block { length block.old ≡ 4096 }
     requires filled { length stream.old.runs ≡ stream.old.length / 4096 }
     requires held { AreHeld free.old stream.old.runs }
-    ensures step { Closes (free_count free.old) (parts_of block.old stream.old) result
+    ensures step { ClosesStream (free_count free.old) (parts_of block.old stream.old) result
         (parts_of block.new stream.new) }
     ensures name { stream.new.name ≡ stream.old.name }
     ensures balance { Balances free.old stream.old.runs free.new stream.new.runs }
@@ -232,8 +230,8 @@ pub(crate) fn seal<D: Disk>(
     ensures untouched { RefusalSpares result disk.old disk.new }
     ensures others { IsTrue (D.is_honest disk.old)
         → ChangesFree shape free.old (D.seen disk.old) (D.seen disk.new) }
-    ensures rests { (j : Journaled) → j.standing.shape ≡ shape → Spares free.old j
-        → Guards D.Disk disk.old j → Rests D.Disk disk.old disk.new j }
+    ensures rests { (j : Journaled) → j.standing.shape ≡ shape → UsesNoFreeBlock free.old j
+        → Guards D.Disk disk.old j → LeavesCases D.Disk disk.old disk.new j }
     ensures settled { IsTrue (D.is_honest disk.old) → OnOk result (IsSettled D.Disk disk.new) }
     ensures cause { IsDiskFault result → HasRisen (D.failures disk.old) (D.failures disk.new) }
     ensures later { D.failures disk.old ≤ D.failures disk.new }
@@ -248,7 +246,7 @@ pub(crate) fn seal<D: Disk>(
 fn make_stable<D: Disk>(disk: &mut D) -> Result<(), ArchiveFault>
     ensures reply { DiskReply result }
     ensures seen { IsTrue (D.is_honest disk.old) → D.seen disk.new ≡ D.seen disk.old }
-    ensures rests { (j : Journaled) → Guards D.Disk disk.old j → Rests D.Disk disk.old disk.new j }
+    ensures rests { (j : Journaled) → Guards D.Disk disk.old j → LeavesCases D.Disk disk.old disk.new j }
     // What reads give is what a crash leaves from then on.
     ensures settled { IsTrue (D.is_honest disk.old) → OnOk result (IsSettled D.Disk disk.new) }
     ensures cause { IsDiskFault result → HasRisen (D.failures disk.old) (D.failures disk.new) }
@@ -256,9 +254,7 @@ fn make_stable<D: Disk>(disk: &mut D) -> Result<(), ArchiveFault>
     ensures honesty { D.is_honest disk.new ≡ D.is_honest disk.old }
     ensures size { D.size disk.new ≡ D.size disk.old }
 {
-    let Ok(()) = disk.sync() else {
-        return Err(ArchiveFault::Disk);
-    };
+    disk.sync()?;
     Ok(())
 }
 

@@ -1,56 +1,56 @@
-// The blocks of cases that are dropped.
-ghost use Rattle.std.specs.Prelude.{◌≡◌, ◌∷◌, [], map};
-ghost use Rattle.journal_layout.specs.Case.{case_of};
-ghost use Rattle.journal_layout.specs.Folding.{is_among, used_blocks};
-ghost use Rattle.journal_layout.specs.Live.{gone};
+// The blocks of cases that are dropped. Each is looked up by its number, so that no other case is looked at.
+ghost use Rattle.std.specs.Prelude.{◌∷◌, [], map};
+ghost use Rattle.journal_layout.specs.Folding.{used_blocks};
+ghost use Rattle.journal_layout.specs.Live.{gone, seq_of_case};
 ghost use Rattle.journal_layout.specs.Soundness.{Rise};
 ghost use Rattle.intake.specs.Balance.{AreFree, AreHeld, Balances};
 
 use crate::blocks::hold;
+use case_journal::Journal;
 use extents::FreeMap;
-use journal_layout::Entry;
-use journal_snapshot::is_listed;
 
-// Gives the blocks of an entry back, if its number is one of these.
-fn release_if_listed(free: &mut FreeMap, entry: &Entry, seqs: &[u32])
-    requires rise { Rise 0 seqs.now }
-    requires held { AreHeld free.old (used_blocks (gone seqs.now (case_of entry.now ∷ []))) }
-    ensures { Balances free.old (used_blocks (gone seqs.now (case_of entry.now ∷ []))) free.new [] }
+// Gives the blocks of the case of this number back, if there is one.
+fn release_numbered(free: &mut FreeMap, journal: &Journal, seq: u32)
+    requires order { Rise 0 (map seq_of_case journal.now.standing.cases) }
+    requires held { AreHeld free.old (used_blocks (gone (seq ∷ []) journal.now.standing.cases)) }
+    ensures { Balances free.old (used_blocks (gone (seq ∷ []) journal.now.standing.cases)) free.new [] }
 {
-    if is_listed(seqs, entry.seq) {
+    if let Some(entry) = journal.entry(seq) {
         free.give_back(entry.runs.runs());
     }
 }
 
-/// Gives the blocks of the entries of these numbers back.
-pub(crate) fn release_listed(free: &mut FreeMap, entries: &[Entry], seqs: &[u32])
+/// Gives the blocks of the cases of these numbers back.
+pub(crate) fn release_listed(free: &mut FreeMap, journal: &Journal, seqs: &[u32])
     requires rise { Rise 0 seqs.now }
-    requires held { AreHeld free.old (used_blocks (gone seqs.now (map case_of entries.now))) }
-    ensures { Balances free.old (used_blocks (gone seqs.now (map case_of entries.now))) free.new [] }
+    requires order { Rise 0 (map seq_of_case journal.now.standing.cases) }
+    requires held { AreHeld free.old (used_blocks (gone seqs.now journal.now.standing.cases)) }
+    ensures { Balances free.old (used_blocks (gone seqs.now journal.now.standing.cases)) free.new [] }
 {
-    for entry in entries {
-        release_if_listed(free, entry, seqs);
+    for seq in seqs {
+        release_numbered(free, journal, *seq);
     }
 }
 
-// Marks the blocks of an entry as used, if its number is one of these.
-fn hold_if_listed(free: &mut FreeMap, entry: &Entry, seqs: &[u32])
-    requires rise { Rise 0 seqs.now }
-    requires free { AreFree free.old (used_blocks (gone seqs.now (case_of entry.now ∷ []))) }
-    ensures { Balances free.old [] free.new (used_blocks (gone seqs.now (case_of entry.now ∷ []))) }
+// Marks the blocks of the case of this number as used, if there is one.
+fn hold_numbered(free: &mut FreeMap, journal: &Journal, seq: u32)
+    requires order { Rise 0 (map seq_of_case journal.now.standing.cases) }
+    requires free { AreFree free.old (used_blocks (gone (seq ∷ []) journal.now.standing.cases)) }
+    ensures { Balances free.old [] free.new (used_blocks (gone (seq ∷ []) journal.now.standing.cases)) }
 {
-    if is_listed(seqs, entry.seq) {
+    if let Some(entry) = journal.entry(seq) {
         hold(free, &entry.runs);
     }
 }
 
-/// Marks the blocks of the entries of these numbers as used.
-pub(crate) fn hold_listed(free: &mut FreeMap, entries: &[Entry], seqs: &[u32])
+/// Marks the blocks of the cases of these numbers as used.
+pub(crate) fn hold_listed(free: &mut FreeMap, journal: &Journal, seqs: &[u32])
     requires rise { Rise 0 seqs.now }
-    requires free { AreFree free.old (used_blocks (gone seqs.now (map case_of entries.now))) }
-    ensures { Balances free.old [] free.new (used_blocks (gone seqs.now (map case_of entries.now))) }
+    requires order { Rise 0 (map seq_of_case journal.now.standing.cases) }
+    requires free { AreFree free.old (used_blocks (gone seqs.now journal.now.standing.cases)) }
+    ensures { Balances free.old [] free.new (used_blocks (gone seqs.now journal.now.standing.cases)) }
 {
-    for entry in entries {
-        hold_if_listed(free, entry, seqs);
+    for seq in seqs {
+        hold_numbered(free, journal, *seq);
     }
 }

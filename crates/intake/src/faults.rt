@@ -1,8 +1,11 @@
 // Why a call of the archive is refused.
 ghost use Rattle.std.specs.Prelude.{◌≡◌};
 ghost use Rattle.intake.specs.Faults.{fault_of};
+ghost use Rattle.intake.specs.declared.faults.ArchiveFault.TheVariants.{Disk, OutOfMemory};
 
 use case_journal::JournalFault;
+use disk_model::DiskFault;
+use std::alloc::AllocError;
 use thiserror::Error;
 
 /// Why a call of the archive is refused. A call checks those that it can give in this order, where it says no other.
@@ -62,5 +65,21 @@ impl From<JournalFault> for ArchiveFault {
             JournalFault::OutOfMemory => ArchiveFault::OutOfMemory,
             JournalFault::Disk => ArchiveFault::Disk,
         }
+    }
+}
+
+impl From<DiskFault> for ArchiveFault {
+    ghost from_gives = { λ _ fault. fault ≡ Disk };
+
+    fn from(_fault: DiskFault) -> ArchiveFault {
+        ArchiveFault::Disk
+    }
+}
+
+impl From<AllocError> for ArchiveFault {
+    ghost from_gives = { λ _ fault. fault ≡ OutOfMemory };
+
+    fn from(_error: AllocError) -> ArchiveFault {
+        ArchiveFault::OutOfMemory
     }
 }

@@ -6,7 +6,7 @@ ghost use Rattle.intake.specs.Lasts.{FinishLasts, DeleteLasts, PinLasts, RetireL
 ghost use Rattle.intake.specs.Lives.{KeptOverAStop, KeptOverManyStops, ACaseIsFound, NumbersStayGiven, NumbersAreGivenOnce, WhatIsClosedIsFound};
 ghost use Rattle.intake.specs.Making.{CallsAreMarks, AnImageIsWhatWasTaken, AnImageIsAnsweredAsItWasTaken};
 ghost use Rattle.intake.specs.Marks.{FoundAfterAStop, NothingElseIsLeft, StaysLead, FinishLeads, DeleteLeads, PinLeads, RetireLeads};
-ghost use Rattle.intake.specs.Parts.{Parts, bare_of, contents_of};
+ghost use Rattle.intake.specs.Parts.{Parts, state_of, contents_of};
 
 use disk_model::Disk;
 use journal_layout::live_cases_are_sound;
@@ -38,7 +38,7 @@ pub fn runs_are_the_fewest()
 
 /// What outlives a stop is told by the state and its bytes: the cases, each with its image, and the next number.
 pub fn a_state_tells_what_lasts<D: Disk>()
-    ensures { (a : Parts D) → durable_of D.seen a ≡ durable_part (bare_of a) (contents_of D.seen a) }
+    ensures { (a : Parts D) → durable_of D.seen a ≡ durable_part (state_of a) (contents_of D.seen a) }
 {}
 
 /// What each call does to what the archive holds, on an honest disk: a finish adds the stream's case with the bytes that it took,

@@ -5,7 +5,7 @@ ghost use Rattle.disk_model.specs.Disk.{HasRisen};
 ghost use Rattle.disk_model.specs.Moments.{LeavesOnly};
 ghost use Rattle.journal_layout.specs.Standing.{Standing};
 ghost use Rattle.journal_layout.specs.Stands.{Stands};
-ghost use Rattle.case_journal.specs.Viewing.{ShowsOpening, Finds};
+ghost use Rattle.case_journal.specs.Viewing.{ShowsOpening, FindsStanding};
 ghost use Rattle.intake.specs.Opened.{journal_of};
 ghost use Rattle.intake.specs.Names.{IsConsistent};
 
@@ -19,7 +19,7 @@ use std::alloc::Global;
 pub(crate) fn open_parts<D: Disk>(alloc: Global, disk: &mut D) -> Result<(Opened, Slots), OpenFault>
     ensures gives { ShowsOpening D.Disk disk.old (journal_of result) }
     ensures found { (s : Standing) → IsTrue (D.is_honest disk.old) → Stands (D.seen disk.old) s
-        → Finds (journal_of result) s }
+        → FindsStanding (journal_of result) s }
     ensures sound { IfOk result (λ parts. (most : ℕ) → IsConsistent D.Disk disk.new parts.0.journal most parts.0.free
         parts.1 false parts.0.names) }
     ensures slots { IfOk result (λ parts. parts.1 ≡ replicate 8 None) }

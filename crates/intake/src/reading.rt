@@ -3,7 +3,7 @@ ghost use Rattle.std.specs.Prelude.{◌≡◌, ◌+◌, ◌*◌, ◌≤◌, leng
 ghost use Rattle.disk_model.specs.Disk.{HasRisen};
 ghost use Rattle.extents.specs.Runs.{run_blocks, blocks_of};
 ghost use Rattle.journal_layout.specs.Layout.{IsWithinLimits, disk_length};
-ghost use Rattle.case_journal.specs.Viewing.{IsQuiet};
+ghost use Rattle.case_journal.specs.Viewing.{OnlyReads};
 ghost use Rattle.intake.specs.Blocks.{joined, image_in};
 ghost use Rattle.intake.specs.Growth.{DiskReply, IsDiskFault};
 ghost use Rattle.intake.specs.Reading.{LieWithin, LiesIn, IsReadFault};
@@ -29,14 +29,12 @@ fn read_run<D: Disk>(
     ensures reply { DiskReply result }
     ensures bytes { IsTrue (D.is_honest disk.old)
         → OnOk result (into.new ≡ joined shape (D.seen disk.old) (run_blocks run)) }
-    ensures quiet { IsQuiet D.Disk disk.old disk.new }
+    ensures quiet { OnlyReads D.Disk disk.old disk.new }
     ensures cause { IsDiskFault result → HasRisen (D.failures disk.old) (D.failures disk.new) }
     ensures later { D.failures disk.old ≤ D.failures disk.new }
 {
     let at = shape.data_start() + BLOCK * u64::from(run.start);
-    let Ok(()) = disk.read_at(at, into) else {
-        return Err(ArchiveFault::Disk);
-    };
+    disk.read_at(at, into)?;
     Ok(())
 }
 
@@ -54,7 +52,7 @@ fn read_runs<D: Disk>(
     ensures reply { DiskReply result }
     ensures bytes { IsTrue (D.is_honest disk.old)
         → OnOk result (into.new ≡ joined shape (D.seen disk.old) (blocks_of runs.now)) }
-    ensures quiet { IsQuiet D.Disk disk.old disk.new }
+    ensures quiet { OnlyReads D.Disk disk.old disk.new }
     ensures cause { IsDiskFault result → HasRisen (D.failures disk.old) (D.failures disk.new) }
     ensures later { D.failures disk.old ≤ D.failures disk.new }
 {
@@ -83,15 +81,13 @@ pub(crate) fn read_image<D: Disk>(
         → IfOk result (λ v. v.items ≡ image_in shape (D.seen disk.old) entry.now.runs entry.now.length) }
     ensures long { IfOk result (λ v. vec_len v ≡ entry.now.length) }
     ensures untouched { RefusalSpares result disk.old disk.new }
-    ensures quiet { IsQuiet D.Disk disk.old disk.new }
+    ensures quiet { OnlyReads D.Disk disk.old disk.new }
     ensures cause { IsDiskFault result → HasRisen (D.failures disk.old) (D.failures disk.new) }
     ensures later { D.failures disk.old ≤ D.failures disk.new }
 {
     // The last block is read whole.
     let size = BLOCK * entry.length.div_ceil(BLOCK);
-    let Ok(mut image) = vec![in alloc; 0u8; size as usize] else {
-        return Err(ArchiveFault::OutOfMemory);
-    };
+    let mut image = vec![in alloc; 0u8; size as usize]?;
     read_runs(disk, shape, entry.runs.runs(), &mut image)?;
     image.truncate(entry.length as usize);
     Ok(image)

@@ -24,7 +24,7 @@ abbrev pub AreNamedApart : List Case → Type 0
 AreNamedApart [] = Unit {0}
 AreNamedApart (c ∷ rest) = (is_name_of rest c.name ≡ false) × AreNamedApart rest
 
--- The cases of an archive of so many data blocks, where the next one gets this number.
+-- The cases of an archive of `limit` data blocks, where the next one gets this number.
 pub record AreLive (limit : ℕ) (cases : List Case) (next : ℕ) : Type 0 where
   pub some_next : 1 ≤ next
   pub numbers : next ≤ 2 ^ 32

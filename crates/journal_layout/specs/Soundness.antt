@@ -15,7 +15,7 @@ uses k (b ∷ rest) = (if b == k then 1 else 0) + uses k rest
 abbrev pub AreSpare : ℕ → List ℕ → List ℕ → Type 0
 AreSpare limit used blocks = (k : ℕ) → 0 < uses k blocks → (k < limit) × (uses k blocks ≡ 1) × (uses k used ≡ 0)
 
--- the blocks that hold so many bytes
+-- the blocks that hold n bytes
 abbrev pub blocks_for : ℕ → ℕ
 blocks_for n = (n + 4095) / 4096
 
@@ -26,7 +26,7 @@ pub record IsName (name : List ℕ) : Type 0 where
   pub bytes : AreBytes name
   pub no_nul : AllByRecursion (λ (b : ℕ). b ≢ 0) name
 
--- A case may be stored where these cases are live, on an archive of so many data blocks. Its number isn't looked at.
+-- A case may be stored where these cases are live, on an archive of `limit` data blocks. Its number isn't looked at.
 pub record IsStorable (limit : ℕ) (cases : List Case) (c : Case) : Type 0 where
   pub name : IsName c.name
   pub new_name : is_name_of cases c.name ≡ false

@@ -23,7 +23,7 @@ abbrev pub StandInRow : ℕ → List ℕ → Folded → List Record → Type 0
 StandInRow limit bytes f [] = Unit {0}
 StandInRow limit bytes f (r ∷ rest) = StandsFirst limit bytes f r × StandInRow limit (drop (record_size r) bytes) (after r f) rest
 
--- These bytes are records in a row, up to the first gate that is not open, and say this in so many bytes.
+-- These bytes are records in a row, up to the first gate that is not open, and say this in `used` bytes.
 pub record AreRead (limit : ℕ) (bytes : List ℕ) (f said : Folded) (used : ℕ) : Type 0 where
   pub records : List Record
   pub row : StandInRow limit bytes f records

@@ -17,7 +17,7 @@ use Rattle.journal_records.proofs.FaultLemmas.{tells_first, tells_second}
 abbrev pub facts_part : ℕ → List ℕ → Folded → Option OpenFault
 facts_part at rest f = first_failing at (store_checks rest f)
 
--- whether an image of so many blocks has the length that the record tells
+-- whether an image of `count` blocks has the length that the record tells
 abbrev pub image_part : ℕ → List ℕ → ℕ → Option OpenFault
 image_part at rest count = cond (not (nat_eq count (blocks_for (field rest 32 8)))) (Some (damaged at named.ImageLength 32)) None
 

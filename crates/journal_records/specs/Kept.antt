@@ -28,7 +28,7 @@ bearers cases name = count_by (λ (c : Case). bytes_eq c.name name) cases
 abbrev pub AreNames : List Case → BTreeSet (ArrayVec ℕ) → Type 0
 AreNames cases names = (name : List ℕ) → bearers cases name ≡ one_if (has_name names name)
 
--- These are the flags of so many data blocks, each of which is either one of the cases', once, or free.
+-- These are the flags of `blocks` data blocks, each of which is either one of the cases', once, or free.
 pub record IsSpareMap (blocks : ℕ) (cases : List Case) (flags : List Bool) : Type 0 where
   pub size : length flags ≡ blocks
   pub accounts : Accounts (used_blocks cases) flags
@@ -42,7 +42,7 @@ pub record AreKept (c : Cases) : Type 0 where
   pub names : AreNames (cases_of c.live.entries) c.names
   pub accounts : Accounts (used_blocks (cases_of c.live.entries)) c.free
 
--- The state says this, on so many data blocks.
+-- The state says this, on `limit` data blocks.
 pub record Says (said : Folded) (limit : ℕ) (c : Cases) : Type 0 where
   pub kept : AreKept c
   pub says : said_by c ≡ said

@@ -20,7 +20,7 @@ TellsFaulty limit version at bytes (Damaged place which) = AreFaulty limit at by
 TellsFaulty limit version at bytes OutOfMemory = Unit {0}
 TellsFaulty limit version at bytes other = ⊥
 
--- These bytes begin with records in a row, which say this in so many bytes, on so many data blocks and in this version.
+-- These bytes begin with records in a row, which say this in `used` bytes, on `limit` data blocks and in this version.
 pub record IsAlong (limit version : ℕ) (bytes : List ℕ) (said : Folded) (used : ℕ) : Type 0 where
   pub records : List Record
   pub row : StandInRow limit bytes (nothing_yet version) records

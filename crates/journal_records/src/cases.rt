@@ -41,8 +41,8 @@ pub(crate) struct Cases {
 }
 
 impl Cases {
-    /// Before the first record of a half of this version, on an archive of so many data blocks. `OutOfMemory`: there was no
-    /// memory.
+    /// Before the first record of a half of this version, on an archive of this number of data blocks.
+    /// `OutOfMemory`: there was no memory.
     pub fn new(alloc: Global, version: u32, data_blocks: u32) -> Result<Cases, OpenFault>
         requires { data_blocks ≤ 16777216 }
         ensures says { IfOk result (λ c. Says (nothing_yet version) data_blocks c) }

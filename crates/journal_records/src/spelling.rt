@@ -24,7 +24,7 @@ pub fn store_size(entry: &Entry) -> u64
     rounded(48 + 8 * entry.runs.runs().len() as u64 + entry.name.len() as u64)
 }
 
-/// The bytes of the Drop record of so many cases.
+/// The bytes of the Drop record of these cases.
 pub fn drop_size(seqs: &[u32]) -> u64
     ensures { result ≡ record_size (Drop seqs.now) }
 {
@@ -50,7 +50,7 @@ fn put(bytes: &mut Vec<u8>, more: &[u8])
     bytes.extend_from_slice(more).unwrap();
 }
 
-// Fills a record up with zeros to so many bytes, for which there is room.
+// Fills a record up with zeros to `size` bytes, for which there is room.
 fn fill(bytes: &mut Vec<u8>, size: u64)
     requires small { size ≤ 16777216 }
     requires room { size ≤ vec_capacity bytes.old }

@@ -37,7 +37,7 @@ abbrev pub written_added : Change → List ℕ
 written_added (change.Store seq e) = written seq e.now e.now.pinned
 written_added _ = []
 
--- each of these records fits into so many bytes
+-- each of these records fits into `most` bytes
 abbrev pub AreAtMost : ℕ → Change → List Entry → Type 0
 AreAtMost most ch es = All (λ (e : Entry). length (written_entry ch e) ≤ most) es
 

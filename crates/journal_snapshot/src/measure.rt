@@ -21,7 +21,7 @@ pub struct Measure {
 const LEAST: u64 = 48;
 
 impl Measure {
-    // With a record of so many bytes more; none where the gate behind it goes over the end of the half.
+    // With a record of `size` bytes more; none where the gate behind it goes over the end of the half.
     fn with(self, size: u64, half: u64) -> Option<Measure>
         requires half { half ≤ 16777216 }
         requires room { self.used + 1 ≤ half }
@@ -67,7 +67,7 @@ impl Measure {
     }
 }
 
-/// Measures what a change makes of these cases; none where it does not fit into a half of so many bytes with the gate
+/// Measures what a change makes of these cases; none where it does not fit into a half of `half` bytes with the gate
 /// behind it.
 pub fn measured(entries: &[Entry], change: &Change, half: u64) -> Option<Measure>
     requires order { IsOrdered change.now }

@@ -137,7 +137,7 @@ fn tell_thread<O: Output>(
 
 /// Tells the frames of a core's thread, by its number among the threads: `0 PC WHERE fp h ra h`, then `I PC WHERE fp h` for
 /// each other, and `stop REASON`. WHERE is `NAME+h` by the symbols of the executable that stands for the mapped file, or
-/// `?`. A core without so many threads is answered by `no NoThread`.
+/// `?`. A core with fewer threads is answered by `no NoThread`.
 /// Says whether there was memory for it; where there was none, the reply is `no OutOfMemory`.
 pub fn tell_bt<O: Output>(
     alloc: Global,

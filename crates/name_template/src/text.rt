@@ -50,7 +50,7 @@ impl NameText {
     }
 }
 
-// The first bytes of a piece, at most so many.
+// The first bytes of a piece, at most `most`.
 pub(crate) fn front_of(piece: &[u8], most: usize) -> &[u8]
     ensures front { result.now ≡ take most piece.now }
     ensures short { length piece.now ≤ most → result.now ≡ piece.now }

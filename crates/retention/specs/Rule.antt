@@ -53,7 +53,7 @@ abbrev pub is_within : ℕ → Option ℕ → Bool
 is_within n None = true
 is_within n (Some limit) = nat_le n limit
 
--- so many cases of so many bytes are within the policy's limits
+-- `count` cases of `bytes` bytes in all are within the policy's limits
 abbrev pub meets : Policy → ℕ → ℕ → Bool
 meets policy count bytes = is_within count policy.keep && is_within bytes policy.bytes
 

@@ -23,9 +23,9 @@ pub struct Brief {
 /// What an archive is to be brought down to. A limit that is absent is always met.
 #[derive(Clone, Copy, PartialEq, Eq, Debug)]
 pub struct Policy {
-    /// At most so many cases stay.
+    /// The most cases that stay.
     pub keep: Option<u64>,
-    /// At most so many bytes stay.
+    /// The most bytes that stay.
     pub bytes: Option<u64>,
     /// No unpinned case from before this time stays, in seconds since the epoch.
     pub before: Option<u64>,

@@ -32,7 +32,7 @@ struct Totals {
     bytes: u128,
 }
 
-// The numbers of the cases that go where so many spare ones do. Their memory is taken at once.
+// The numbers of the cases that go where `count` spare ones do. Their memory is taken at once.
 fn dropped_numbers(
     alloc: Global,
     policy: &Policy,
@@ -51,7 +51,7 @@ fn dropped_numbers(
     Ok(dropped)
 }
 
-// At most how many cases go where so many spare ones do.
+// The most cases that go where `count` spare ones do.
 fn most_dropped(policy: &Policy, cases: &[Brief], count: u64) -> usize {
     let old = cases
         .iter()
@@ -60,7 +60,7 @@ fn most_dropped(policy: &Policy, cases: &[Brief], count: u64) -> usize {
     old.saturating_add(count as usize)
 }
 
-// Whether a case goes where so many spare ones still do, and how many do behind it.
+// Whether a case goes where `left` spare ones still do, and how many do behind it.
 fn goes_now(policy: &Policy, left: u64, case: &Brief) -> (bool, u64)
     ensures { GoesOn policy.now left case.now result.0 result.1 }
 {

@@ -7,7 +7,7 @@ use Rattle.script_words.specs.Text.{text_of, text_past, with_byte, after_escape,
 use Rattle.script_lines.specs.LineWords.{AreWords}
 use Rattle.script_lines.specs.Keys.{value_if, first_given, value_of}
 
--- the value of a pair has at most so many bytes
+-- the value of a pair has at most n bytes
 abbrev pub IsWithin : ℕ → Option (List ℕ × List ℕ) → Type 0
 IsWithin n None = Unit {0}
 IsWithin n (Some pair) = length pair.1 ≤ n

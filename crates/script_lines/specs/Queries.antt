@@ -31,11 +31,11 @@ pub data QuerySaid : Type 0 where
   ask_files : QuerySaid
   -- the stretches of its memory, and what each holds
   ask_maps : QuerySaid
-  -- the bytes of its memory from an address on, so many of them
+  -- the bytes of its memory from an address on, and how many of them
   ask_dump : ℕ → ℕ → QuerySaid
   -- where these bytes stand in its memory
   ask_find : List ℕ → QuerySaid
-  -- the texts in its memory of at least so many bytes
+  -- the texts in its memory of at least this length in bytes
   ask_strings : ℕ → QuerySaid
   -- the frames of the thread at this place among them, from 0 on
   ask_backtrace : ℕ → QuerySaid

@@ -35,7 +35,7 @@ pub data Said : Type 0 where
   begin_exec : ℕ → List ℕ → Said
   -- a stream of the core of this process, in a slot
   begin_core : ℕ → ProcessSaid → Said
-  -- so many bytes more, which stand behind the line
+  -- bytes for a slot, and how many of them stand behind the line
   part_of : ℕ → ℕ → Said
   -- the stream in a slot becomes a case
   end_of : ℕ → Said

@@ -99,7 +99,7 @@ fn keep_front(bytes: &mut ArrayVec<u8, 1025>, piece: &[u8])
     let _ = bytes.try_extend_from_slice(front);
 }
 
-// The first bytes of a piece, at most so many.
+// The first bytes of a piece, at most `most`.
 fn front_of(piece: &[u8], most: usize) -> &[u8]
     ensures short { length piece.now ≤ most → result.now ≡ piece.now }
     ensures long { most < length piece.now → length result.now ≡ most }

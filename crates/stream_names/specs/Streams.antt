@@ -3,7 +3,7 @@ use Rattle.std.specs.Prelude.{ℕ, ◌==◌, nat_lt, List, length, Option, None,
 use Rattle.std.specs.List.{list_any}
 use Rattle.std.specs.Borrow.{Bor}
 use Rattle.journal_layout.specs.declared.entry.Kind.TheVariants.{Core, Exec}
-use Rattle.intake.specs.State.{BareStream}
+use Rattle.intake.specs.State.{StreamFacts}
 use Rattle.name_template.specs.Expansion.{expansion, name_of}
 use Rattle.name_template.specs.Naming.{template_bytes}
 use Rattle.name_template.specs.declared.facts.Facts.{Facts}
@@ -20,11 +20,11 @@ name_fault name =
     else None
 
 -- the stream of an executable, with no bytes yet
-abbrev pub new_exec : List ℕ → BareStream
+abbrev pub new_exec : List ℕ → StreamFacts
 new_exec name = record { kind = Exec; name = name; pid = 0; signal = 0; time = 0; len = 0 }
 
 -- the stream of a core, with no bytes yet
-abbrev pub new_core : ProcessSaid → List ℕ → BareStream
+abbrev pub new_core : ProcessSaid → List ℕ → StreamFacts
 new_core process name = record {
   kind = Core;
   name = name;
@@ -35,12 +35,12 @@ new_core process name = record {
 }
 
 -- the stream, or what is wrong with its name
-abbrev pub exec_unless : List ℕ → Option (List ℕ) → Result BareStream (List ℕ)
+abbrev pub exec_unless : List ℕ → Option (List ℕ) → Result StreamFacts (List ℕ)
 exec_unless name None = Ok (new_exec name)
 exec_unless name (Some reason) = Err reason
 
 -- what `begin exec` begins
-abbrev pub exec_stream : List ℕ → Result BareStream (List ℕ)
+abbrev pub exec_stream : List ℕ → Result StreamFacts (List ℕ)
 exec_stream name = exec_unless name (name_fault name)
 
 -- a text in memory. Where it lies there is looked at nowhere.
@@ -73,10 +73,10 @@ name_reason name.Empty = codes "Empty"
 name_reason name.TooLong = codes "TooLong"
 name_reason name.NulByte = codes "NulByte"
 
-abbrev pub core_unless : ProcessSaid → Result (List ℕ) NameFault → Result BareStream (List ℕ)
+abbrev pub core_unless : ProcessSaid → Result (List ℕ) NameFault → Result StreamFacts (List ℕ)
 core_unless process (Ok name) = Ok (new_core process name)
 core_unless process (Err fault) = Err (name_reason fault)
 
 -- what `begin core` begins
-abbrev pub core_stream : Naming → ProcessSaid → Result BareStream (List ℕ)
+abbrev pub core_stream : Naming → ProcessSaid → Result StreamFacts (List ℕ)
 core_stream naming process = core_unless process (core_name naming process)

@@ -50,7 +50,7 @@ impl<'a> Iterator for ThreadList<'a> {
 }
 
 impl<'a> ThreadList<'a> {
-    /// The thread that is `i` places on, or `None` where there are not so many.
+    /// The thread that is `i` places on, or `None` where there are fewer.
     pub fn thread(&self, i: u64) -> Option<Thread<'a>>
         ensures { option_map thread_bytes result ≡ slice_get (threads_left self.now) i }
     {

@@ -1,10 +1,10 @@
 use Rattle.std.proofs.Common.{take, map}
 use Rattle.std.specs.List.{flat_map}
 use Rattle.journal_layout.specs.Case.{case_of}
-use Rattle.intake.specs.Parts.{bare_case}
+use Rattle.intake.specs.Parts.{case_facts}
 use Rattle.script_streams.specs.Telling.{Tells}
 use Rattle.archive_replies.specs.Texts.{case_line}
 use Rattle.archive_replies.proofs.replies.tell_cases.Given as goal
 
 abbrev pub invariant-loop-entry : goal.invariant-loop-entry
-invariant-loop-entry g l = Tells (g.O.Output.taken l.initial.output) (g.O.Output.taken l.output) (g.O.Output.failures l.initial.output) (g.O.Output.failures l.output) l.initial.reply l.reply (flat_map case_line (map bare_case (map case_of (take l.entry-index l.cases))))
+invariant-loop-entry g l = Tells (g.O.Output.taken l.initial.output) (g.O.Output.taken l.output) (g.O.Output.failures l.initial.output) (g.O.Output.failures l.output) l.initial.reply l.reply (flat_map case_line (map case_facts (map case_of (take l.entry-index l.cases))))

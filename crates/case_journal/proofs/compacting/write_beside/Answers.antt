@@ -8,8 +8,8 @@ pub rewrite-requires-clause-room : goal.rewrite-requires-clause-room
 rewrite-requires-clause-room g c =
     omega (arith, c.requires.room, c.requires.measured.0, c.requires.measured.1, half_bytes_length c.args.target c.args.change.now c.args.entries.now)
 
-pub returns-in_default-rewrite-clause-fills : goal.returns-in_default-rewrite-clause-fills
-returns-in_default-rewrite-clause-fills g c =
+pub returns-in_err-rewrite-clause-fills : goal.returns-in_err-rewrite-clause-fills
+returns-in_err-rewrite-clause-fills g c =
     fills_wider g.D.Disk c.args.target.start (1 + length (half_bytes c.args.target c.args.change.now c.args.entries.now)) c.args.target.start c.args.half c.args.disk.now c.rewrite.new.disk (omega arith)
     (omega (arith, c.requires.measured.0, c.requires.measured.1, half_bytes_length c.args.target c.args.change.now c.args.entries.now)) c.rewrite.ensures.fills
 

@@ -33,12 +33,13 @@ returns-clause-shows g c b view =
     let shown = both_shown g.D.Disk c.read_front.new.disk c.read_records.new.disk front c.in_ok-bytes.bytes.items b one two c.in_ok-bytes.ensures.long in
     let read = c.in_ok-read.ensures.read in
     let bytes = c.deref.ensures.value in
-    record {
+    rw c.new.ensures
+    (record {
       shown = two.shown;
       view = two.view;
       gives = read_gives g.D.Disk front c.in_ok-bytes.bytes.items two.shown (map case_of c.in_ok-read.read.entries.items) c.in_ok-read.read.next c.in_ok-read.read.size (32 + c.in_ok-read.read.size) shown
           (subst (λ (x : List ℕ). AreRead front.shape.data_blocks x (nothing_yet front.version) (said_of front.version c.in_ok-read.read) c.in_ok-read.read.size) bytes read) refl;
-    }
+    })
 
 pub invariant_of-result : goal.invariant_of-result
 invariant_of-result g c =
@@ -47,5 +48,6 @@ invariant_of-result g c =
     let limits = c.in_ok-front.ensures.shape.0 in
     let some = limits.some_half in
     let bytes = ap length c.deref.ensures.value in
-    kept_read front.shape (map case_of read.entries.items) front.version read.next read.size c.deref.result.now limits c.in_ok-front.ensures.known c.in_ok-read.ensures.read
-    (omega (arith, c.in_ok-read.ensures.bounds.2, bytes, c.in_ok-bytes.ensures.long, some))
+    rw c.new.ensures
+    (kept_read front.shape (map case_of read.entries.items) front.version read.next read.size c.deref.result.now limits c.in_ok-front.ensures.known c.in_ok-read.ensures.read
+    (omega (arith, c.in_ok-read.ensures.bounds.2, bytes, c.in_ok-bytes.ensures.long, some)))

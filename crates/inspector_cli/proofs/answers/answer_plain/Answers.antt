@@ -1,6 +1,6 @@
 use Rattle.std.proofs.Common.{[], refl}
 use Rattle.std.specs.Prelude.{codes}
-use Rattle.intake.specs.Parts.{bare_of}
+use Rattle.intake.specs.Parts.{state_of}
 use Rattle.script_streams.specs.Replies.{no_reply}
 use Rattle.archive_replies.specs.Texts.{list_reply}
 use Rattle.script_streams.specs.TellLaws.{tells_nothing}
@@ -17,4 +17,4 @@ returns-in-LineTooLong g c = rw c.in-LineTooLong.is (no_reply (codes "LineTooLon
 
 pub returns-in-ListCases : goal.returns-in-ListCases
 returns-in-ListCases g c =
-    rw c.in-ListCases.is (list_reply (bare_of c.args.archive.now).stopped (bare_of c.args.archive.now).cases, (refl, refl), c.answer_list.ensures)
+    rw c.in-ListCases.is (list_reply (state_of c.args.archive.now).stopped (state_of c.args.archive.now).cases, (refl, refl), c.answer_list.ensures)

@@ -4,12 +4,12 @@ use Rattle.std.proofs.lemmas.Result.{err_from_is_err_and}
 use Rattle.inspector_cli.proofs.FeedLemmas.{lent_takes, fed, lent_length}
 use Rattle.inspector_cli.proofs.GiveLemmas.{first_of}
 use Rattle.inspector_cli.proofs.RoomLemmas.{still_fits, has_room}
-use Rattle.intake.specs.Parts.{bare_of}
+use Rattle.intake.specs.Parts.{state_of}
 use Rattle.inspector_cli.proofs.parts.fill_piece.Goals as goal
 
 pub returns-in-Err-clause-takes : goal.returns-in-Err-clause-takes
 returns-in-Err-clause-takes g c = λ begun so_far taken.
-    absurd (has_room (bare_of begun) _ c.args.slot (length so_far) tt c.in-Err.fault taken.step (rw c.in-Err.is at c.room-lent.ensures.reply))
+    absurd (has_room (state_of begun) _ c.args.slot (length so_far) tt c.in-Err.fault taken.step (rw c.in-Err.is at c.room-lent.ensures.reply))
 
 pub returns-in_err-taken-clause-takes : goal.returns-in_err-taken-clause-takes
 returns-in_err-taken-clause-takes g c = λ begun so_far taken.

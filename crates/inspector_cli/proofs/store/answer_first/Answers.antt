@@ -1,5 +1,5 @@
 use Rattle.std.proofs.Common.{◌≡◌, List, ℕ, Result, ap, sym, subst, ◌∙◌}
-use Rattle.intake.specs.State.{BareStream}
+use Rattle.intake.specs.State.{StreamFacts}
 use Rattle.script_lines.specs.Said.{said}
 use Rattle.stream_names.specs.Commands.{stream_found}
 use Rattle.inspector_cli.specs.Reply.{Begins}
@@ -12,7 +12,7 @@ returns-clause-first g c =
     let is : stream_found c.first_stream-found.result ≡ first_stream c.args.naming.now (said c.args.line.now) =
     c.first_stream-found.ensures ∙ ap (first_stream c.args.naming.now) c.parse_text.ensures in (
       c.answer_begin.ensures.0,
-      subst (λ (r : Result BareStream (List ℕ)). Begins g.D.Disk c.args.archive.now 0 r c.answer_begin.ensures.0 c.answer_begin.new.archive c.answer_begin.result) is
+      subst (λ (r : Result StreamFacts (List ℕ)). Begins g.D.Disk c.args.archive.now 0 r c.answer_begin.ensures.0 c.answer_begin.new.archive c.answer_begin.result) is
           c.answer_begin.ensures.1,
       c.answer_begin.ensures.2,
     )

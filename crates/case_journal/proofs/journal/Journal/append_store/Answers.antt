@@ -35,13 +35,13 @@ invariant_of-self-in-Ok-put_store g c =
     let case = numbered j.next (case_of c.args.entry) in
     let place = c.in-Ok-put_store.place in
     let raw : Standing =
-    record { shape = j.shape; half = j.half; version = j.version; generation = j.generation; cases = map case_of c.reserve.new.self.items; next = j.next; used = j.used } in
+    record { shape = j.shape; half = j.half; version = j.version; generation = j.generation; cases = map case_of c.reserve.new.self.entries; next = j.next; used = j.used } in
     let step = c.in-Ok-put_store.ensures.step in
     let lies = place_lies raw (Store case) place c.self.invariant.header step.0 step.1 in
     let fit = c.requires.storable in
     let storable : IsStorable c.args.self.now.standing.shape.data_blocks c.args.self.now.standing.cases case =
     record { name = fit.name; new_name = fit.new_name; pid = fit.pid; signal = fit.signal; time = fit.time; bytes = fit.bytes; enough = fit.enough; spare = fit.spare } in
     let left : j.next < 2 ^ 32 = omega arith in
-    let pushed : c.push.new.self.items ≡ j.entries.items ++ e ∷ [] = (rw c.unwrap.ensures at c.push.ensures.items) ∙ ap (λ (l : List Entry). l ++ e ∷ []) c.in-Ok.ensures.items in
-    kept_stored j.shape j.version (map case_of j.entries.items) j.next j.used c.self.invariant case (map case_of c.push.new.self.items) place.used lies.0 lies.1 refl
-    (omega arith, left, subst (λ (s : Journaled). IsStorable s.standing.shape.data_blocks s.standing.cases case) (sym c.self.view_is) storable) (ap (map case_of) pushed ∙ map-append case_of j.entries.items (e ∷ []))
+    let pushed : c.push.new.self.entries ≡ j.entries.entries ++ e ∷ [] = c.push.ensures ∙ ap (λ (l : List Entry). l ++ e ∷ []) c.reserve.ensures.entries in
+    kept_stored j.shape j.version (map case_of j.entries.entries) j.next j.used c.self.invariant case (map case_of c.push.new.self.entries) place.used lies.0 lies.1 refl
+    (omega arith, left, subst (λ (s : Journaled). IsStorable s.standing.shape.data_blocks s.standing.cases case) (sym c.self.view_is) storable) (ap (map case_of) pushed ∙ map-append case_of j.entries.entries (e ∷ []))

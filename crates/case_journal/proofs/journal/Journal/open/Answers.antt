@@ -1,13 +1,15 @@
+use Rattle.std.proofs.lemmas.Result.{err_from_is_err_and}
 use Rattle.case_journal.specs.Opening.{journal_of}
 use Rattle.case_journal.specs.Viewing.{ShowsOpening}
 use Rattle.case_journal.proofs.OpenLemmas.{some_view, view_after, view_before, finds_by, keeps_by, live_by}
 use Rattle.case_journal.proofs.journal.Journal.open.Goals as goal
 use Rattle.case_journal.proofs.journal.Journal.open.Given as given
 
-pub returns-in_default-clause-gives : goal.returns-in_default-clause-gives
-returns-in_default-clause-gives g c =
+pub returns-in_err-settle-clause-gives : goal.returns-in_err-settle-clause-gives
+returns-in_err-settle-clause-gives g c =
+    let p = err_from_is_err_and c.from_residual.result c.from_residual.ensures.1 in
     let b = some_view g.D.Disk c.args.disk.now (g.met.D.Disk.whole c.args.disk.now) in
-    record { shown = b.0; view = b.1; gives = tt }
+    rw (p.1, p.2, c.in_err-settle.ensures.only) (record { shown = b.0; view = b.1; gives = tt })
 
 shows : (g : given.Over) (c : goal.After-read_journal g) → ShowsOpening g.D.Disk c.args.disk.now (journal_of c.read_journal.result)
 shows g c =
@@ -25,7 +27,7 @@ returns-clause-found g c s honest stands = finds_by g.D.Disk c.args.disk.now (jo
 pub returns-clause-keeps : goal.returns-clause-keeps
 returns-clause-keeps g c =
     keeps_by g.D.Disk c.args.disk.now c.settle.new.disk c.read_journal.new.disk c.read_journal.result c.settle.ensures.quiet c.read_journal.ensures.quiet
-    c.in-Ok.ensures.settled (shows g c) c.read_journal.ensures.size
+    c.in_ok-settle.ensures.settled (shows g c) c.read_journal.ensures.size
 
 pub returns-clause-live : goal.returns-clause-live
 returns-clause-live g c = live_by g.D.Disk c.args.disk.now c.read_journal.result (shows g c)

@@ -5,8 +5,8 @@ use Rattle.case_journal.specs.Journaled.{Journaled}
 use Rattle.case_journal.proofs.PutLemmas.{publishes, put_fits, behind_fills, behind_moments, behind_keeps}
 use Rattle.case_journal.proofs.journal.Journal.put_behind.Goals as goal
 
-pub returns-in_default-clause-run : goal.returns-in_default-clause-run
-returns-in_default-clause-run g c r put =
+pub returns-in_err-publish-clause-run : goal.returns-in_err-publish-clause-run
+returns-in_err-publish-clause-run g c r put =
     let place = ap (λ (h : ℕ). h + c.self.inside.used) c.half_start.ensures ∙ ap (λ (j : Journaled). half_start j.standing.shape j.standing.half + j.standing.used) c.self.view_is in
     let gate = c.half_start.result + c.self.inside.used in
     let s = c.args.self.now.standing in
@@ -40,5 +40,5 @@ returns-clause-kept g c r put =
     let s = c.args.self.now.standing in
     let was : IsTrue (g.D.Disk.is_honest c.publish.new.disk) → IsTrue (g.D.Disk.is_honest c.args.disk.now) = λ honest. sym c.publish.ensures.honesty ∙ honest in
     behind_keeps s r g.D.Disk c.args.disk.now c.publish.new.disk (put_fits s r c.args.behind.now c.requires.room put) (c.publish.ensures.size ∙ c.requires.keeps.size)
-    (λ honest. (c.in-Ok.ensures.stable (was honest)).0)
-    (λ honest. c.in-Ok.ensures.made s r (publishes s r gate c.args.behind.now place c.requires.room put) (was honest) (c.requires.keeps.holds c.requires.runs (was honest)).stands)
+    (λ honest. (c.in_ok-publish.ensures.stable (was honest)).0)
+    (λ honest. c.in_ok-publish.ensures.made s r (publishes s r gate c.args.behind.now place c.requires.room put) (was honest) (c.requires.keeps.holds c.requires.runs (was honest)).stands)

@@ -21,14 +21,14 @@ use Rattle.case_journal.proofs.journal.Journal.put_beside.Goals as goal
 pub room_beside-requires-clause-short : goal.room_beside-requires-clause-short
 room_beside-requires-clause-short g c =
     let j = c.self.inside in
-    subst AreShort (sym c.deref.ensures.value) (live_short j.shape.data_blocks j.next j.entries.items c.self.invariant.live)
+    subst AreShort (sym c.as_slice.ensures) (live_short j.shape.data_blocks j.next j.entries.entries c.self.invariant.live)
 
 pub returns-in_err-measure-clause-step : goal.returns-in_err-measure-clause-step
 returns-in_err-measure-clause-step g c =
     let p = err_from_is_err_and c.from_residual.result c.from_residual.ensures.1 in
     rw (p.1, p.2)
     (subst (λ (j : Journaled). BesideStep j.standing (changed c.args.change.now (folded_of j.standing)) (Err c.in_err-measure.field-0.0)) c.self.view_is
-    (room_refused (record { shape = c.self.inside.shape; half = c.self.inside.half; version = c.self.inside.version; generation = c.self.inside.generation; cases = map case_of c.self.inside.entries.items; next = c.self.inside.next; used = c.self.inside.used }) c.args.change.now c.deref.result.now (ap (map case_of) (sym c.deref.ensures.value)) c.in_err-measure.field-0.0 c.in_err-measure.ensures))
+    (room_refused (record { shape = c.self.inside.shape; half = c.self.inside.half; version = c.self.inside.version; generation = c.self.inside.generation; cases = map case_of c.self.inside.entries.entries; next = c.self.inside.next; used = c.self.inside.used }) c.args.change.now c.as_slice.result.now (ap (map case_of) (sym c.as_slice.ensures)) c.in_err-measure.field-0.0 c.in_err-measure.ensures))
 
 pub returns-in_err-measure-clause-run : goal.returns-in_err-measure-clause-run
 returns-in_err-measure-clause-run g c = record {
@@ -43,16 +43,16 @@ returns-in_err-write_beside-clause-step g c =
     let p = err_from_is_err_and c.from_residual-in_err-write_beside.result c.from_residual-in_err-write_beside.ensures.1 in
     rw (p.1, p.2)
     (subst (λ (j : Journaled). BesideStep j.standing (changed c.args.change.now (folded_of j.standing)) (Err c.in_err-write_beside.field-0.0)) c.self.view_is
-    (write_refused (record { shape = c.self.inside.shape; half = c.self.inside.half; version = c.self.inside.version; generation = c.self.inside.generation; cases = map case_of c.self.inside.entries.items; next = c.self.inside.next; used = c.self.inside.used }) c.args.change.now c.deref.result.now (ap (map case_of) (sym c.deref.ensures.value)) c.in_err-write_beside.field-0.0 c.in_ok-measure.measure c.in_ok-measure.ensures
+    (write_refused (record { shape = c.self.inside.shape; half = c.self.inside.half; version = c.self.inside.version; generation = c.self.inside.generation; cases = map case_of c.self.inside.entries.entries; next = c.self.inside.next; used = c.self.inside.used }) c.args.change.now c.as_slice.result.now (ap (map case_of) (sym c.as_slice.ensures)) c.in_err-write_beside.field-0.0 c.in_ok-measure.measure c.in_ok-measure.ensures
     c.in_err-write_beside.ensures.only))
 
 pub returns-in_err-write_beside-clause-run : goal.returns-in_err-write_beside-clause-run
 returns-in_err-write_beside-clause-run g c =
-    let value = c.deref.ensures.value ∙ sym c.deref-2.ensures.value in
+    let value = c.as_slice.ensures ∙ sym c.as_slice-2.ensures in
     let found = subst (λ (l : List Entry). FindsRoom c.self.inside.shape c.self.inside.generation c.args.change.now l (Ok c.in_ok-measure.measure)) value c.in_ok-measure.ensures in
     let t = c.target-target in
-    let is : IsWrittenAs c.args.self.now.standing (changed c.args.change.now (folded_of c.args.self.now.standing)) t.result c.args.change.now c.deref-2.result.now =
-    anew _ c.args.self.now c.args.change.now c.deref-2.result.now t.result c.in_ok-measure.measure c.self.view_is (ap (map case_of) (sym c.deref-2.ensures.value)) t.ensures.start t.ensures.version t.ensures.generation
+    let is : IsWrittenAs c.args.self.now.standing (changed c.args.change.now (folded_of c.args.self.now.standing)) t.result c.args.change.now c.as_slice-2.result.now =
+    anew _ c.args.self.now c.args.change.now c.as_slice-2.result.now t.result c.in_ok-measure.measure c.self.view_is (ap (map case_of) (sym c.as_slice-2.ensures)) t.ensures.start t.ensures.version t.ensures.generation
     (t.ensures.next ∙ c.requires.next) found c.self.invariant.known c.requires.live in
     record {
       moments = λ honest. c.write_beside.ensures.any_moment c.args.self.now.standing (changed c.args.change.now (folded_of c.args.self.now.standing)) is honest (c.requires.keeps.holds c.requires.runs honest);
@@ -69,16 +69,16 @@ returns-clause-step g c =
     let now = c.args.self.now.standing in
     subst (λ (n : ℕ). BesideStep now (changed c.args.change.now (folded_of now)) (Ok (record { half = c.other_half.result; generation = n; used = c.in_ok-measure.measure.used }))) generation
     (subst (λ (j : Journaled). BesideStep j.standing (changed c.args.change.now (folded_of j.standing)) (Ok (record { half = c.other_half.result; generation = c.self.inside.generation + 1; used = c.in_ok-measure.measure.used }))) c.self.view_is
-    (write_done (record { shape = c.self.inside.shape; half = c.self.inside.half; version = c.self.inside.version; generation = c.self.inside.generation; cases = map case_of c.self.inside.entries.items; next = c.self.inside.next; used = c.self.inside.used }) c.args.change.now c.deref.result.now (ap (map case_of) (sym c.deref.ensures.value)) _ c.in_ok-measure.measure
+    (write_done (record { shape = c.self.inside.shape; half = c.self.inside.half; version = c.self.inside.version; generation = c.self.inside.generation; cases = map case_of c.self.inside.entries.entries; next = c.self.inside.next; used = c.self.inside.used }) c.args.change.now c.as_slice.result.now (ap (map case_of) (sym c.as_slice.ensures)) _ c.in_ok-measure.measure
     (ap (λ (h : Half). record { half = h; generation = c.self.inside.generation + 1; used = c.in_ok-measure.measure.used }) c.other_half.ensures) c.in_ok-measure.ensures))
 
 pub returns-clause-run : goal.returns-clause-run
 returns-clause-run g c =
-    let value = c.deref.ensures.value ∙ sym c.deref-2.ensures.value in
+    let value = c.as_slice.ensures ∙ sym c.as_slice-2.ensures in
     let found = subst (λ (l : List Entry). FindsRoom c.self.inside.shape c.self.inside.generation c.args.change.now l (Ok c.in_ok-measure.measure)) value c.in_ok-measure.ensures in
     let t = c.target-target in
-    let is : IsWrittenAs c.args.self.now.standing (changed c.args.change.now (folded_of c.args.self.now.standing)) t.result c.args.change.now c.deref-2.result.now =
-    anew _ c.args.self.now c.args.change.now c.deref-2.result.now t.result c.in_ok-measure.measure c.self.view_is (ap (map case_of) (sym c.deref-2.ensures.value)) t.ensures.start t.ensures.version t.ensures.generation
+    let is : IsWrittenAs c.args.self.now.standing (changed c.args.change.now (folded_of c.args.self.now.standing)) t.result c.args.change.now c.as_slice-2.result.now =
+    anew _ c.args.self.now c.args.change.now c.as_slice-2.result.now t.result c.in_ok-measure.measure c.self.view_is (ap (map case_of) (sym c.as_slice-2.ensures)) t.ensures.start t.ensures.version t.ensures.generation
     (t.ensures.next ∙ c.requires.next) found c.self.invariant.known c.requires.live in
     record {
       moments = λ honest. c.write_beside.ensures.any_moment c.args.self.now.standing (changed c.args.change.now (folded_of c.args.self.now.standing)) is honest (c.requires.keeps.holds c.requires.runs honest);
@@ -90,10 +90,10 @@ returns-clause-run g c =
 
 pub returns-clause-holds : goal.returns-clause-holds
 returns-clause-holds g c honest =
-    let value = c.deref.ensures.value ∙ sym c.deref-2.ensures.value in
+    let value = c.as_slice.ensures ∙ sym c.as_slice-2.ensures in
     let found = subst (λ (l : List Entry). FindsRoom c.self.inside.shape c.self.inside.generation c.args.change.now l (Ok c.in_ok-measure.measure)) value c.in_ok-measure.ensures in
     let t = c.target-target in
-    let is : IsWrittenAs c.args.self.now.standing (changed c.args.change.now (folded_of c.args.self.now.standing)) t.result c.args.change.now c.deref-2.result.now =
-    anew _ c.args.self.now c.args.change.now c.deref-2.result.now t.result c.in_ok-measure.measure c.self.view_is (ap (map case_of) (sym c.deref-2.ensures.value)) t.ensures.start t.ensures.version t.ensures.generation
+    let is : IsWrittenAs c.args.self.now.standing (changed c.args.change.now (folded_of c.args.self.now.standing)) t.result c.args.change.now c.as_slice-2.result.now =
+    anew _ c.args.self.now c.args.change.now c.as_slice-2.result.now t.result c.in_ok-measure.measure c.self.view_is (ap (map case_of) (sym c.as_slice-2.ensures)) t.ensures.start t.ensures.version t.ensures.generation
     (t.ensures.next ∙ c.requires.next) found c.self.invariant.known c.requires.live in
     rw c.in_ok-write_beside.was at (c.write_beside.ensures.taken c.args.self.now.standing (changed c.args.change.now (folded_of c.args.self.now.standing)) is honest (c.requires.keeps.holds c.requires.runs honest))

@@ -9,5 +9,5 @@ use Rattle.case_journal.proofs.journal.Journal.put_drop.Goals as goal
 pub put_beside-requires-clause-live : goal.put_beside-requires-clause-live
 put_beside-requires-clause-live g c = live_dropped _ _ _ c.args.seqs.now (subst (λ (j : Journaled). AreLive j.standing.shape.data_blocks j.standing.cases j.standing.next) c.self.view_is c.self.invariant.live)
 
-pub returns-in_default-clause-run : goal.returns-in_default-clause-run
-returns-in_default-clause-run g c = nothing_runs g.D.Disk c.args.disk.now c.args.self.now (Drop c.args.seqs.now) (g.met.D.Disk.only_now c.args.disk.now) c.requires.keeps c.requires.runs
+pub returns-in_err-record-clause-run : goal.returns-in_err-record-clause-run
+returns-in_err-record-clause-run g c = nothing_runs g.D.Disk c.args.disk.now c.args.self.now (Drop c.args.seqs.now) (g.met.D.Disk.only_now c.args.disk.now) c.requires.keeps c.requires.runs

@@ -12,6 +12,6 @@ put_beside-requires-clause-live g c =
     let sound = c.requires.sound in
     live_stored _ _ _ (numbered c.args.seq (case_of c.args.entry.now)) (subst (λ (j : Journaled). AreLive j.standing.shape.data_blocks j.standing.cases j.standing.next) c.self.view_is c.self.invariant.live) sound.0 sound.1 sound.2
 
-pub returns-in_default-clause-run : goal.returns-in_default-clause-run
-returns-in_default-clause-run g c =
+pub returns-in_err-record-clause-run : goal.returns-in_err-record-clause-run
+returns-in_err-record-clause-run g c =
     nothing_runs g.D.Disk c.args.disk.now c.args.self.now (Store (numbered c.args.seq (case_of c.args.entry.now))) (g.met.D.Disk.only_now c.args.disk.now) c.requires.keeps c.requires.runs

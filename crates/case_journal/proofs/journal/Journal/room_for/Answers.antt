@@ -12,23 +12,23 @@ use Rattle.case_journal.proofs.journal.Journal.room_for.Goals as goal
 pub room_beside-requires-clause-short : goal.room_beside-requires-clause-short
 room_beside-requires-clause-short c =
     let j = c.self.inside in
-    subst AreShort (sym c.deref.ensures.value) (live_short j.shape.data_blocks j.next j.entries.items c.self.invariant.live)
+    subst AreShort (sym c.as_slice.ensures) (live_short j.shape.data_blocks j.next j.entries.entries c.self.invariant.live)
 
 pub returns-in_err-room_beside : goal.returns-in_err-room_beside
 returns-in_err-room_beside c =
     let p = err_from_is_err_and c.from_residual.result c.from_residual.ensures.1 in
     let s = c.args.self.now.standing in
     let f = c.in_err-room_beside.field-0.0 in
-    let same : s.cases ≡ map case_of c.deref.result.now = ap (λ (j : Journaled). j.standing.cases) (sym c.self.view_is) ∙ ap (map case_of) (sym c.deref.ensures.value) in
-    let found : FindsRoom s.shape s.generation (change.Store 0 c.args.entry) c.deref.result.now (Err f) =
-    subst (λ (j : Journaled). FindsRoom j.standing.shape j.standing.generation (change.Store 0 c.args.entry) c.deref.result.now (Err f)) c.self.view_is c.in_err-room_beside.ensures in
-    rw (p.1, p.2) (room_lacking s c.deref.result.now c.args.entry same c.args.size f c.requires.size (sym c.fits.ensures.room ∙ c.if-not-fits.true) found)
+    let same : s.cases ≡ map case_of c.as_slice.result.now = ap (λ (j : Journaled). j.standing.cases) (sym c.self.view_is) ∙ ap (map case_of) (sym c.as_slice.ensures) in
+    let found : FindsRoom s.shape s.generation (change.Store 0 c.args.entry) c.as_slice.result.now (Err f) =
+    subst (λ (j : Journaled). FindsRoom j.standing.shape j.standing.generation (change.Store 0 c.args.entry) c.as_slice.result.now (Err f)) c.self.view_is c.in_err-room_beside.ensures in
+    rw (p.1, p.2) (room_lacking s c.as_slice.result.now c.args.entry same c.args.size f c.requires.size (sym c.fits.ensures.room ∙ c.if-not-fits.true) found)
 
 pub returns-in_ok-room_beside : goal.returns-in_ok-room_beside
 returns-in_ok-room_beside c =
     let s = c.args.self.now.standing in
     let m = c.in_ok-room_beside.field-0 in
-    let same : s.cases ≡ map case_of c.deref.result.now = ap (λ (j : Journaled). j.standing.cases) (sym c.self.view_is) ∙ ap (map case_of) (sym c.deref.ensures.value) in
-    let found : FindsRoom s.shape s.generation (change.Store 0 c.args.entry) c.deref.result.now (Ok m) =
-    subst (λ (j : Journaled). FindsRoom j.standing.shape j.standing.generation (change.Store 0 c.args.entry) c.deref.result.now (Ok m)) c.self.view_is c.in_ok-room_beside.ensures in
-    room_beside_is s c.deref.result.now c.args.entry same m found
+    let same : s.cases ≡ map case_of c.as_slice.result.now = ap (λ (j : Journaled). j.standing.cases) (sym c.self.view_is) ∙ ap (map case_of) (sym c.as_slice.ensures) in
+    let found : FindsRoom s.shape s.generation (change.Store 0 c.args.entry) c.as_slice.result.now (Ok m) =
+    subst (λ (j : Journaled). FindsRoom j.standing.shape j.standing.generation (change.Store 0 c.args.entry) c.as_slice.result.now (Ok m)) c.self.view_is c.in_ok-room_beside.ensures in
+    room_beside_is s c.as_slice.result.now c.args.entry same m found

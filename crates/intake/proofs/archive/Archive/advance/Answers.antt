@@ -5,7 +5,7 @@ use Rattle.intake.proofs.NameLemmas.{taken_dropped, taken_grown, taken_still}
 use Rattle.std.proofs.Common.{rules, arith, ◌∙◌, ap, sym, subst, Option, Err, List}
 use Rattle.journal_layout.specs.declared.shape.Shape.{Shape}
 use Rattle.intake.specs.Growth.{ChangesFree}
-use Rattle.intake.specs.Parts.{Parts, StreamParts, bare_of, contents_of}
+use Rattle.intake.specs.Parts.{Parts, StreamParts, state_of, contents_of}
 use Rattle.intake.specs.Step.{AdvanceStep}
 use Rattle.intake.specs.StreamView.{parts_of}
 use Rattle.intake.proofs.CountLemmas.{still_held, balance_then}
@@ -74,8 +74,8 @@ returns-in_default g c = record {
 
 pub returns-in-Err : goal.returns-in-Err
 returns-in-Err g c = record {
-  step = subst (λ (a : Parts g.row.D.Denot). AdvanceStep (bare_of a) c.args.slot c.args.n (Err c.in-Err.fault)
-      (bare_of (record { disk = c.grow-grown.new.disk; journal = c.self.inside.journal; limit = c.self.inside.settings.limit; streams = c.end_streams-self-inside.new.slots; stopped = c.end_streams-self-inside.result })))
+  step = subst (λ (a : Parts g.row.D.Denot). AdvanceStep (state_of a) c.args.slot c.args.n (Err c.in-Err.fault)
+      (state_of (record { disk = c.grow-grown.new.disk; journal = c.self.inside.journal; limit = c.self.inside.settings.limit; streams = c.end_streams-self-inside.new.slots; stopped = c.end_streams-self-inside.result })))
       c.self.view_is
       (advance_err g.D.Disk c.self.inside.disk c.grow-grown.new.disk c.self.inside.journal c.self.inside.settings.limit c.self.inside.free c.self.inside.slots c.args.slot c.args.n (parts_of c.in-Some.block c.in-Some.stream) c.self.inside.stopped
       (c.self.invariant.sound.runs c.if-self.false) c.if-self.false (sym c.in-Some.ensures.stream)

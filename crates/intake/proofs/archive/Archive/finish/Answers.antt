@@ -4,7 +4,7 @@ use Rattle.arrayvec.specs.ArrayVec.{ArrayVec}
 use Rattle.intake.specs.Names.{ForgetsName, AreTaken}
 use Rattle.intake.proofs.NameLemmas.{taken_dropped, taken_stored, taken_still, still_there}
 use Rattle.std.proofs.Common.{rules, arith, ◌∙◌, ap, sym, subst, Option, Err, List, ℕ, []}
-use Rattle.intake.specs.Parts.{Parts, StreamParts, bare_of, contents_of}
+use Rattle.intake.specs.Parts.{Parts, StreamParts, state_of, contents_of}
 use Rattle.intake.specs.StreamView.{parts_of}
 use Rattle.extents.specs.FreeSet.{free_count}
 use Rattle.intake.specs.Balance.{AreHeld, Balances}
@@ -129,8 +129,8 @@ returns-in_default g c = record {
 
 pub returns-in-Err : goal.returns-in-Err
 returns-in-Err g c = record {
-  step = subst (λ (a : Parts g.row.D.Denot). FinishStep (bare_of a) c.args.slot (Err c.in-Err.fault)
-      (bare_of (record { disk = c.seal-sealed.new.disk; journal = c.self.inside.journal; limit = c.self.inside.settings.limit; streams = c.end_streams-self-inside.new.slots; stopped = c.end_streams-self-inside.result })))
+  step = subst (λ (a : Parts g.row.D.Denot). FinishStep (state_of a) c.args.slot (Err c.in-Err.fault)
+      (state_of (record { disk = c.seal-sealed.new.disk; journal = c.self.inside.journal; limit = c.self.inside.settings.limit; streams = c.end_streams-self-inside.new.slots; stopped = c.end_streams-self-inside.result })))
       c.self.view_is
       (seal_err g.D.Disk c.self.inside.disk c.seal-sealed.new.disk c.self.inside.journal c.self.inside.settings.limit c.self.inside.free c.self.inside.slots c.args.slot (parts_of c.in-Some.block c.in-Some.stream) c.self.inside.stopped
       (c.self.invariant.sound.runs c.if-self.false) c.if-self.false (sym c.in-Some.ensures.stream)
@@ -167,8 +167,8 @@ returns-in-Err g c = record {
 
 pub returns : goal.returns
 returns g c = record {
-  step = subst (λ (a : Parts g.row.D.Denot). FinishStep (bare_of a) c.args.slot (Err c.in-Err-append_case.fault)
-      (bare_of (record { disk = c.append_case.new.disk; journal = c.append_case.new.journal; limit = c.self.inside.settings.limit; streams = c.end_streams-self-inside-in-Err-append_case.new.slots; stopped = c.end_streams-self-inside-in-Err-append_case.result })))
+  step = subst (λ (a : Parts g.row.D.Denot). FinishStep (state_of a) c.args.slot (Err c.in-Err-append_case.fault)
+      (state_of (record { disk = c.append_case.new.disk; journal = c.append_case.new.journal; limit = c.self.inside.settings.limit; streams = c.end_streams-self-inside-in-Err-append_case.new.slots; stopped = c.end_streams-self-inside-in-Err-append_case.result })))
       c.self.view_is
       (refused_step g.D.Disk c.self.inside.disk c.append_case.new.disk c.self.inside.journal c.self.inside.settings.limit c.self.inside.free c.self.inside.slots c.args.slot (parts_of c.in-Some.block c.in-Some.stream) c.self.inside.stopped
       (c.self.invariant.sound.runs c.if-self.false) c.if-self.false (sym c.in-Some.ensures.stream)

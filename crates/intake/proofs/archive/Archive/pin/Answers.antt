@@ -9,13 +9,13 @@ use Rattle.std.specs.Prelude.{option_map}
 use Rattle.intake.specs.Contents.{UnmovedBytes}
 use Rattle.intake.specs.Ending.{EndsStreams}
 use Rattle.intake.specs.Faults.{fault_of}
-use Rattle.intake.specs.Parts.{Parts, bare_of, bare_case, contents_of}
+use Rattle.intake.specs.Parts.{Parts, state_of, case_facts, contents_of}
 use Rattle.intake.specs.Step.{PinStep}
 use Rattle.intake.specs.declared.faults.ArchiveFault.{ArchiveFault}
 use Rattle.case_journal.specs.declared.faults.JournalFault.TheVariants as journal_fault
 use Rattle.journal_layout.specs.Case.{case_of}
 use Rattle.journal_layout.specs.Record.{Pin}
-use Rattle.intake.proofs.AfterLemmas.{bare_case_at, flags_differ, flags_same, sound_refusal, refusal_bytes}
+use Rattle.intake.proofs.AfterLemmas.{case_facts_at, flags_differ, flags_same, sound_refusal, refusal_bytes}
 use Rattle.intake.proofs.PinLemmas.{pin_behind, pin_same, pin_ok, pin_err, pin_sound_after, pin_bytes}
 use Rattle.intake.specs.Durable.{durable_in, flagged}
 use Rattle.intake.proofs.CrashLemmas.{record_ok, record_err}
@@ -61,7 +61,7 @@ returns-then-self g c = record {
 
 pub returns-in_default : goal.returns-in_default
 returns-in_default g c = record {
-  step = rw (← c.self.view_is) (c.if-self.false, bare_case_at c.args.seq c.self.inside.journal.standing.cases ∙ ap (option_map bare_case) (sym c.in_default.ensures), refl);
+  step = rw (← c.self.view_is) (c.if-self.false, case_facts_at c.args.seq c.self.inside.journal.standing.cases ∙ ap (option_map case_facts) (sym c.in_default.ensures), refl);
   bytes = search rules;
   changes = changes_none g.D.Disk (Unit {0}) c.self.inside.disk c.self.inside.journal c.self.inside.settings.limit c.self.inside.free c.self.inside.slots c.self.inside.stopped _ _ _ c.self.invariant.sound c.self.view_is (λ fault. cc);
   never = λ e. absurd (cc);
@@ -111,8 +111,8 @@ returns-in_default-append_pin g c = record {
 
 pub returns : goal.returns
 returns g c = record {
-  step = subst (λ (f : ArchiveFault). PinStep (bare_of c.args.self.now) c.args.seq c.args.flag (Err f) (bare_of (record { disk = c.append_pin.new.disk; journal = c.append_pin.new.self; limit = c.self.inside.settings.limit; streams = c.end_streams-self-inside.new.slots; stopped = c.end_streams-self-inside.result }))) (sym c.from-fault.ensures)
-      (subst (λ (a : Parts g.row.D.Denot). PinStep (bare_of a) c.args.seq c.args.flag (Err (fault_of c.in-Err.fault)) (bare_of (record { disk = c.append_pin.new.disk; journal = c.append_pin.new.self; limit = c.self.inside.settings.limit; streams = c.end_streams-self-inside.new.slots; stopped = c.end_streams-self-inside.result }))) c.self.view_is
+  step = subst (λ (f : ArchiveFault). PinStep (state_of c.args.self.now) c.args.seq c.args.flag (Err f) (state_of (record { disk = c.append_pin.new.disk; journal = c.append_pin.new.self; limit = c.self.inside.settings.limit; streams = c.end_streams-self-inside.new.slots; stopped = c.end_streams-self-inside.result }))) (sym c.from-fault.ensures)
+      (subst (λ (a : Parts g.row.D.Denot). PinStep (state_of a) c.args.seq c.args.flag (Err (fault_of c.in-Err.fault)) (state_of (record { disk = c.append_pin.new.disk; journal = c.append_pin.new.self; limit = c.self.inside.settings.limit; streams = c.end_streams-self-inside.new.slots; stopped = c.end_streams-self-inside.result }))) c.self.view_is
       (pin_err g.D.Disk c.self.inside.disk c.append_pin.new.disk c.self.inside.journal c.append_pin.new.self c.self.inside.settings.limit c.self.inside.free c.self.inside.slots c.end_streams-self-inside.new.slots c.self.inside.stopped c.end_streams-self-inside.result
       c.args.seq c.args.flag (case_of c.in-Some.entry.now) c.self.invariant.sound c.if-self.false c.in-Some.ensures c.in-Err.fault (flags_differ c.in-Some.entry.now.pinned c.args.flag c.if-entry-flag.false) c.in-Err.ensures.step
       (subst (λ (f : ArchiveFault). EndsStreams f c.self.inside.slots c.end_streams-self-inside.result c.end_streams-self-inside.new.slots) c.from-fault.ensures c.end_streams-self-inside.ensures)));

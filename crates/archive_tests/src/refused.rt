@@ -1,0 +1,131 @@
+//! Calls that answer for want of memory. Run as they are these tests meet no refusal; `scripts/fail-alloc archive_tests refused::`
+//! refuses each allocation in turn, and then a test that has met one ends in an error of its own.
+use crate::bench::{SETTINGS, SHAPE, formatted, has_image, is_image, opened};
+use crate::rows::{Call, OK, has_cases, is_free, make};
+use disk_model::{Disk, MemDisk};
+use intake::{Archive, ArchiveFault};
+use journal_layout::OpenFault;
+use std::process::Abort;
+use std::test::Fail;
+
+/// A call that is accepted where there is memory; and the numbers and pins of the cases, and the free blocks, before it.
+struct Step {
+    call: Call,
+    cases: &'static [(u32, bool)],
+    free: u32,
+}
+
+static STEPS: [Step; 8] = [
+    Step {
+        call: Call::Store(b"a", 1, 1, 1),
+        cases: &[],
+        free: 4,
+    },
+    Step {
+        call: Call::Store(b"b", 2, 1, 2),
+        cases: &[(1, false)],
+        free: 3,
+    },
+    Step {
+        call: Call::Store(b"c", 3, 1, 3),
+        cases: &[(1, false), (2, false)],
+        free: 2,
+    },
+    Step {
+        call: Call::Pin(1, true),
+        cases: &[(1, false), (2, false), (3, false)],
+        free: 1,
+    },
+    Step {
+        call: Call::Delete(2),
+        cases: &[(1, true), (2, false), (3, false)],
+        free: 1,
+    },
+    // Its two blocks do not adjoin.
+    Step {
+        call: Call::Store(b"d", 4, 8192, 4),
+        cases: &[(1, true), (3, false)],
+        free: 2,
+    },
+    Step {
+        call: Call::Keep(2, &[3], false),
+        cases: &[(1, true), (3, false), (4, false)],
+        free: 0,
+    },
+    Step {
+        call: Call::Begin(7, b"e"),
+        cases: &[(1, true), (4, false)],
+        free: 1,
+    },
+];
+
+/// The call is accepted, the second time where memory was refused: then everything stands as before, and no stream is left of
+/// one that was to be stored. Answers whether it was refused.
+fn is_refused<D: Disk>(
+    rt: &impl Abort,
+    archive: &mut Archive<D>,
+    step: &Step,
+) -> Result<bool, Fail> {
+    let first = make(archive, &step.call)?;
+    if first == OK {
+        return Ok(false);
+    }
+    if first == Err(ArchiveFault::Disk) {
+        return Err(Fail::from("the disk in memory found none for a write"));
+    }
+    assert_eq!(rt; first, Err(ArchiveFault::OutOfMemory));
+    assert!(rt; has_cases(archive, step.cases) && is_free(archive, step.free));
+    assert_eq!(rt; make(archive, &step.call)?, OK);
+    Ok(true)
+}
+
+/// The image of case 4 is read, the second time where memory was refused. Answers whether it was.
+fn is_image_refused<D: Disk>(rt: &impl Abort, archive: &mut Archive<D>) -> bool {
+    match archive.image(4) {
+        Ok(bytes) => {
+            assert!(rt; is_image(&bytes, 4, 8192));
+            false
+        }
+        Err(fault) => {
+            assert_eq!(rt; fault, ArchiveFault::OutOfMemory);
+            assert!(rt; has_image(archive, 4, 4, 8192));
+            true
+        }
+    }
+}
+
+/// The archive on a disk, which is opened the second time where memory was refused, and whether it was.
+fn opened_at_last(
+    rt: &(impl AllocGlobal + Abort),
+    disk: MemDisk,
+) -> Result<(Archive<MemDisk>, bool), Fail> {
+    match Archive::open(rt.alloc(), disk, SETTINGS) {
+        Ok(archive) => Ok((archive, false)),
+        Err((fault, disk)) => {
+            assert_eq!(rt; fault, OpenFault::OutOfMemory);
+            Ok((opened(rt.alloc(), disk)?, true))
+        }
+    }
+}
+
+/// Each step, and an image. Answers whether one was refused.
+fn is_one_refused<D: Disk>(rt: &impl Abort, archive: &mut Archive<D>) -> Result<bool, Fail> {
+    let mut refused = false;
+    for step in &STEPS {
+        refused |= is_refused(rt, archive, step)?;
+    }
+    refused |= is_image_refused(rt, archive);
+    Ok(refused)
+}
+
+#[test]
+fn a_refused_call_is_made_the_next_time(rt: HostRuntime) -> Result<(), Fail> {
+    let (mut archive, first) = opened_at_last(&rt, formatted(rt.alloc(), SHAPE)?)?;
+    let second = is_one_refused(&rt, &mut archive)?;
+    let (archive, third) = opened_at_last(&rt, archive.close())?;
+    assert!(rt; has_cases(&archive, &[(1, true), (4, false)]) && is_free(&archive, 1));
+    if first || second || third {
+        Err("a call was refused, and accepted the next time")?;
+    }
+    Ok(())
+}

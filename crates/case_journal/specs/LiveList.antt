@@ -1,0 +1,9 @@
+-- What contracts see of the entries of the live cases.
+use Rattle.std.specs.Prelude.{ℕ, List}
+use Rattle.journal_layout.specs.declared.entry.Entry.{Entry}
+
+pub record LiveList : Type 0 where
+  -- in the order in which they were put
+  pub entries : List Entry
+  -- for how many more there is memory
+  pub room : ℕ

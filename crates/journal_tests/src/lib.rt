@@ -1,0 +1,20 @@
+//! Tests of a journal over a disk in memory: the checks of an opening one by one, appends and compactions over reopenings, and stops at
+//! each disk call.
+#![tactic(auto)]
+
+#[cfg(test)]
+mod appends;
+#[cfg(test)]
+mod bench;
+#[cfg(test)]
+mod compactions;
+#[cfg(test)]
+mod formats;
+#[cfg(test)]
+mod openings;
+#[cfg(test)]
+mod refused;
+#[cfg(test)]
+mod states;
+#[cfg(test)]
+mod stops;

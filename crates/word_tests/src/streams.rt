@@ -1,0 +1,300 @@
+//! Lines and parts in pieces of any size, and streams that fail.
+ghost use Rattle.std.specs.Prelude.{◌<◌, length};
+
+use script_streams::{
+    Input, KeptLine, LineEnding, Output, ReadInput, ReadStop, Reply, ScriptBuffer, StreamFault,
+    WriteOutput,
+};
+use std::process::Abort;
+use std::test::Fail;
+
+// An input of which each read gives at most `size` bytes. The read of a place past the end fails or ends the input.
+#[derive(Drop)]
+struct Pieces<'a> {
+    rest: &'a [u8],
+    size: usize,
+    fails: bool,
+    failures: u64,
+}
+
+impl Input for Pieces<'_> {
+    ghost use Rattle.std.specs.Prelude.{None};
+
+    ghost remaining = { λ _. None };
+
+    ghost failures = { λ s. s.failures };
+
+    fn read(&mut self, into: &mut [u8]) -> Result<usize, StreamFault> {
+        let count = self.rest.len().min(self.size).min(into.len());
+        if count == 0 && self.fails {
+            self.failures = self.failures.saturating_add(1);
+            return Err(StreamFault);
+        }
+        let (front, rest) = self.rest.split_at(count);
+        into[..count].copy_from_slice(front);
+        self.rest = rest;
+        Ok(count)
+    }
+}
+
+// An output that takes one byte at a time, and fails after `left` of them.
+#[derive(Drop)]
+struct Narrow {
+    left: u8,
+    last: u8,
+    failures: u64,
+}
+
+impl Output for Narrow {
+    ghost use Rattle.std.specs.Prelude.{None};
+
+    ghost taken = { λ _. None };
+
+    ghost failures = { λ s. s.failures };
+
+    fn write(&mut self, from: &[u8]) -> Result<usize, StreamFault> {
+        if self.left == 0 {
+            self.failures = self.failures.saturating_add(1);
+            return Err(StreamFault);
+        }
+        self.left -= 1;
+        self.last = from[0];
+        Ok(1)
+    }
+}
+
+// A script that is read, and the line that was kept last.
+#[derive(Drop)]
+struct Script<'a> {
+    input: Pieces<'a>,
+    buffer: ScriptBuffer,
+    line: KeptLine,
+    reply: Reply,
+    output: Narrow,
+}
+
+// The next line, which is kept.
+fn next_line(script: &mut Script<'_>) -> Result<LineEnding, ReadStop> {
+    let (line, reply) = (&mut script.line, &mut script.reply);
+    script
+        .buffer
+        .next_line(&mut script.input, line, reply, &mut script.output)
+}
+
+// The next bytes of a part, and how many there are.
+fn next_bytes(script: &mut Script<'_>, into: &mut [u8]) -> Result<usize, ReadStop>
+    requires { 0 < length into.old }
+{
+    let reply = &mut script.reply;
+    script
+        .buffer
+        .next_raw(&mut script.input, into, reply, &mut script.output)
+}
+
+// The next line ends so, and has this text.
+fn line_is(
+    rt: &impl Abort,
+    script: &mut Script<'_>,
+    ending: LineEnding,
+    text: &[u8],
+) -> Result<(), ReadStop> {
+    assert_eq!(rt; next_line(script)?, ending);
+    assert_eq!(rt; script.line.text(), text);
+    Ok(())
+}
+
+// The next two bytes of a part are these.
+fn part_is(rt: &impl Abort, script: &mut Script<'_>, bytes: &[u8]) -> Result<(), ReadStop> {
+    let mut part = [0u8; 2];
+    let mut at = next_bytes(script, &mut part)?;
+    if at == 1 {
+        at = at.saturating_add(next_bytes(script, &mut part[1..])?);
+    }
+    assert_eq!(rt; at, 2);
+    assert_eq!(rt; part.as_slice(), bytes);
+    Ok(())
+}
+
+fn script_of(rest: &[u8], size: usize, fails: bool) -> Script<'_> {
+    Script {
+        input: Pieces {
+            rest,
+            size,
+            fails,
+            failures: 0,
+        },
+        buffer: ScriptBuffer::new(),
+        line: KeptLine::new(),
+        reply: Reply::new(),
+        output: takes_at_most(0),
+    }
+}
+
+// An output that takes `left` bytes.
+fn takes_at_most(left: u8) -> Narrow {
+    Narrow {
+        left,
+        last: 0,
+        failures: 0,
+    }
+}
+
+// Lines, a part, and a last line with no newline, from reads of `size` bytes.
+fn reads_all(rt: &impl Abort, size: usize) -> Result<(), ReadStop> {
+    let mut script = script_of(b"part 0 2\nhelist\n\nend", size, false);
+    line_is(rt, &mut script, LineEnding::Newline, b"part 0 2")?;
+    part_is(rt, &mut script, b"he")?;
+    line_is(rt, &mut script, LineEnding::Newline, b"list")?;
+    line_is(rt, &mut script, LineEnding::Newline, b"")?;
+    assert!(rt; script.line.is_blank_or_comment());
+    line_is(rt, &mut script, LineEnding::EndOfInput, b"end")?;
+    line_is(rt, &mut script, LineEnding::NothingLeft, b"")
+}
+
+#[test]
+fn lines_and_parts(rt: HostRuntime) -> Result<(), Fail> {
+    reads_all(&rt, 1)?;
+    reads_all(&rt, 4096)?;
+    Ok(())
+}
+
+// Whether a line of `count` bytes, at most 3,000, each of them `byte`, is too long, and whether it is blank or a comment.
+fn long_line(byte: u8, count: usize) -> Result<(bool, bool), ReadStop> {
+    let bytes = [byte; 3000];
+    let mut script = script_of(&bytes[..count.min(3000)], 700, false);
+    next_line(&mut script)?;
+    Ok((script.line.is_too_long(), script.line.is_blank_or_comment()))
+}
+
+#[test]
+fn long_lines(rt: HostRuntime) -> Result<(), Fail> {
+    let (is_too_long, _) = long_line(b'a', 1024)?;
+    assert!(rt; !is_too_long);
+    assert_eq!(rt; long_line(b'a', 1025)?, (true, false));
+    assert_eq!(rt; long_line(b' ', 3000)?, (true, true));
+    let (_, is_comment) = long_line(b'#', 3000)?;
+    assert!(rt; is_comment);
+    Ok(())
+}
+
+// How many bytes of a part of four come next.
+fn next_part(script: &mut Script<'_>) -> Result<usize, ReadStop> {
+    let mut part = [0u8; 4];
+    next_bytes(script, &mut part)
+}
+
+#[test]
+fn input_that_fails(rt: HostRuntime) -> Result<(), Fail> {
+    let mut script = script_of(b"list\npart", 2, true);
+    line_is(&rt, &mut script, LineEnding::Newline, b"list")?;
+    assert_eq!(rt; next_line(&mut script), Err(ReadStop::ReadFailed));
+    assert_eq!(rt; next_part(&mut script), Err(ReadStop::ReadFailed));
+    assert_eq!(rt; script.input.failures, 2);
+    Ok(())
+}
+
+#[test]
+fn output_that_fails(rt: HostRuntime) -> Result<(), Fail> {
+    let mut output = Narrow {
+        left: 3,
+        last: 0,
+        failures: 0,
+    };
+    let mut reply = Reply::new();
+    reply.tell(&mut output, b"ok\n");
+    assert_eq!(rt; reply.finish(&mut output), Ok(()));
+    assert_eq!(rt; output.last, b'\n');
+    reply.tell(&mut output, b"no");
+    assert_eq!(rt; reply.finish(&mut output), Err(StreamFault));
+    reply.tell(&mut output, b"more");
+    assert_eq!(rt; reply.finish(&mut output), Err(StreamFault));
+    assert_eq!(rt; output.failures, 1);
+    Ok(())
+}
+
+// What numbers and bytes are told as.
+fn tell_values<O: Output>(reply: &mut Reply, output: &mut O) {
+    reply.tell_hexadecimal(output, 16);
+    reply.tell_decimal(output, 4);
+    reply.tell_signed(output, -1);
+    reply.tell_hex(output, b"\x0a\xbb");
+}
+
+// Tells the script's output a text.
+fn tell(script: &mut Script<'_>, text: &[u8]) {
+    let reply = &mut script.reply;
+    reply.tell(&mut script.output, text);
+}
+
+#[test]
+fn replies_come_before_more_is_read(rt: HostRuntime) -> Result<(), Fail> {
+    let mut script = script_of(b"list\nfree\n", 5, false);
+    script.output = takes_at_most(3);
+    next_line(&mut script)?;
+    tell(&mut script, b"ok\n");
+    let before = script.output.left;
+    next_line(&mut script)?;
+    assert_eq!(rt;
+        (before, script.output.left, script.output.last),
+        (3, 0, b'\n')
+    );
+    Ok(())
+}
+
+#[test]
+fn a_slice_is_an_input(rt: HostRuntime) -> Result<(), Fail> {
+    let mut input = ReadInput::new(b"free".as_slice());
+    let mut buffer = ScriptBuffer::new();
+    let mut line = KeptLine::new();
+    let mut reply = Reply::new();
+    let mut output = takes_at_most(0);
+    let ending = buffer.next_line(&mut input, &mut line, &mut reply, &mut output)?;
+    assert_eq!(rt; ending, LineEnding::EndOfInput);
+    assert_eq!(rt; line.text(), b"free".as_slice());
+    Ok(())
+}
+
+#[test]
+fn a_vector_is_an_output(rt: HostRuntime) {
+    let mut output = WriteOutput::new(Vec::new(rt.alloc()));
+    let mut reply = Reply::new();
+    reply.tell(&mut output, b"free");
+    for text in [b"".as_slice(), b"-", b"a b"] {
+        reply.tell_text(&mut output, text);
+    }
+    tell_values(&mut reply, &mut output);
+    assert_eq!(rt; reply.finish(&mut output), Ok(()));
+    let written = output.into_inner();
+    assert_eq!(rt;
+        written.as_slice(),
+        b"free-\\x2da\\x20b0x104-10abb".as_slice()
+    );
+}
+
+// A writer that takes nothing fails, and so does a reader that answers `Err`.
+#[derive(Drop)]
+struct Shut;
+
+impl std::io::Read for Shut {
+    fn read(&mut self, _buf: &mut [u8]) -> std::io::Result<usize> {
+        Err(std::io::Error::from(std::io::ErrorKind::Interrupted))
+    }
+}
+
+impl std::io::Write for Shut {
+    fn write(&mut self, _buf: &[u8]) -> std::io::Result<usize> {
+        Ok(0)
+    }
+
+    fn flush(&mut self) -> std::io::Result<()> {
+        Ok(())
+    }
+}
+
+#[test]
+fn shut_streams(rt: HostRuntime) -> Result<(), Fail> {
+    let mut byte = [0u8; 1];
+    assert_eq!(rt; ReadInput::new(Shut).read(&mut byte), Err(StreamFault));
+    assert_eq!(rt; WriteOutput::new(Shut).write(&byte), Err(StreamFault));
+    Ok(())
+}
