@@ -3,18 +3,27 @@ use Rattle.std.proofs.Common.{◌≡◌, ◌+◌, ◌<◌, ◌≤◌, ◌∙◌,
 use Rattle.std.proofs.Math.Seq.{take-suc}
 use Rattle.std.proofs.lemmas.List.Elements.{All-push}
 use Rattle.journal_layout.specs.declared.entry.Entry.{Entry}
-use Rattle.journal_layout.specs.Record.{Store, record_size}
+use Rattle.journal_layout.specs.Record.{Store, Label, record_size, spelling}
 use Rattle.journal_layout.specs.Case.{case_of, numbered}
+use Rattle.journal_layout.specs.Folding.{sizes}
+use Rattle.journal_layout.specs.Rewriting.{label_records}
 use Rattle.journal_layout.specs.SpellLaws.{length-spelling}
 use Rattle.journal_snapshot.specs.declared.change.Change.{Change}
 use Rattle.journal_snapshot.specs.declared.measure.Measure.{Measure}
-use Rattle.journal_snapshot.specs.Writing.{stored_as, written, written_entry, written_entries, AreAtMost}
+use Rattle.journal_snapshot.specs.Writing.{stored_as, written, written_case, written_entry, written_entries, AreAtMost}
 use Rattle.journal_snapshot.specs.Measuring.{Grows, snapshot_bytes}
 use Rattle.journal_snapshot.proofs.EntryLemmas.{written_more, written_within}
 
 -- a flag changes nothing of a record's size
-pub flag_size : (seq : ℕ) (e : Entry) (flag : Bool) → record_size (Store (numbered seq (case_of e))) ≡ length (written seq e flag)
+flag_size : (seq : ℕ) (e : Entry) (flag : Bool) → record_size (Store (numbered seq (case_of e))) ≡ length (written seq e flag)
 flag_size seq e flag = sym (length-spelling (Store (stored_as seq e flag)))
+
+-- the records of a case measure what is written of it
+pub case_length : (seq : ℕ) (e : Entry) (flag : Bool) (text : List ℕ)
+    → record_size (Store (numbered seq (case_of e))) + sizes (label_records seq text) ≡ length (written_case seq e flag text)
+case_length seq e flag [] = omega (arith, flag_size seq e flag, length-append (written seq e flag) [])
+case_length seq e flag (b ∷ rest) =
+    omega (arith, flag_size seq e flag, length-spelling (Label seq (b ∷ rest)), length-append (written seq e flag) (spelling (Label seq (b ∷ rest))))
 
 -- with no record more
 pub grows_nothing : (m : Measure) (bytes : List ℕ) (half : ℕ) → [] ≡ bytes → m.used + 1 ≤ half → Grows m (length bytes) half (Some m)

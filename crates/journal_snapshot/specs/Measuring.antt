@@ -19,8 +19,8 @@ IsShort _ = Unit {0}
 abbrev pub snapshot_bytes : Change → List Entry → ℕ
 snapshot_bytes ch es = 48 + length (written_entries ch es) + length (written_added ch)
 
--- They fit into a half of `half` bytes with the gate behind them, and the longest record of a case is no longer than that;
--- or they don't.
+-- They fit into a half of so many bytes with the gate behind them, and the longest records of a case are no longer than
+-- that; or they don't.
 abbrev pub IsMeasure : ℕ → Change → List Entry → Option Measure → Type 0
 IsMeasure half ch es (Some m) =
     (m.used ≡ snapshot_bytes ch es) × (m.used + 1 ≤ half) × AreAtMost m.largest ch es × (length (written_added ch) ≤ m.largest) × (m.largest ≤ m.used)

@@ -10,7 +10,7 @@ ghost use Rattle.std.specs.Str.{bytes_eq};
 use case_journal::{Journal, JournalFault, format};
 use disk_model::{Disk, MemDisk};
 use extents::{Run, RunList};
-use journal_layout::{Entry, Kind, Name, OpenFault, Shape};
+use journal_layout::{Entry, Kind, Label, Name, OpenFault, Shape};
 use std::alloc::Global;
 use std::marker::Model;
 use std::test::Fail;
@@ -87,6 +87,7 @@ fn empty(alloc: Global, name: Name) -> Entry
         pinned: false,
         length: 0,
         runs: RunList::new(alloc),
+        label: Label::new(),
     }
 }
 
@@ -106,6 +107,7 @@ fn cat_entry(name: Name, runs: RunList) -> Entry
         pinned: false,
         length: 5,
         runs,
+        label: Label::new(),
     }
 }
 
