@@ -1,13 +1,13 @@
 -- How the cases are written anew in version 2 of the layout.
-use Rattle.std.proofs.Common.{◌≡◌, ◌⊎◌, inl, inr, ⊎_elim, ℕ, ◌*◌, ◌+◌, ◌≤◌, Bool, true, false, cond, List, [], ◌∷◌, map, refl, sym, ap, ◌∙◌, subst, arith, Option, Result, Ok, Err}
-use Rattle.std.specs.Prelude.{IsTrue, option_map}
+use Rattle.std.proofs.Common.{◌≡◌, ◌⊎◌, inl, inr, ⊎_elim, ℕ, ◌*◌, ◌≤◌, Bool, true, false, List, map, refl, sym, ap, ◌∙◌, subst, arith, Option, Ok, Err}
+use Rattle.std.specs.Prelude.{IsTrue}
 use Rattle.disk_model.specs.Disk.{ChangedIn}
 use Rattle.disk_model.specs.MomentLaws.{adds, weakened, both, now_too}
 use Rattle.disk_model.specs.Moments.{LeavesOnly, AddsOnly}
 use Rattle.disk_model.specs.Places.{SameOutside}
 use Rattle.disk_model.specs.declared.disk.Disk as disk
 use Rattle.journal_layout.specs.Layout.{half_length}
-use Rattle.journal_layout.specs.Record.{Record, Next}
+use Rattle.journal_layout.specs.Record.{Next}
 use Rattle.journal_layout.specs.Rewriting.{in_version_two, upgraded as standing_upgraded}
 use Rattle.journal_layout.specs.Standing.{folded_of}
 use Rattle.journal_layout.specs.Stands.{Stands}

@@ -1,4 +1,4 @@
-use Rattle.std.proofs.Common.{rules, ◌≡◌, ◌∙◌, refl, ap, sym, subst, List, false, Err}
+use Rattle.std.proofs.Common.{rules, ◌≡◌, sym, subst, List, false, Err}
 use Rattle.journal_layout.specs.Case.{Case}
 use Rattle.intake.specs.Contents.{UnmovedBytes}
 use Rattle.intake.specs.Ending.{EndsStreams}
