@@ -63,14 +63,4 @@ has_room b mid slot k u NoStream step reply =
     ap (λ (x : ArchiveState). stream_at x.streams slot) step.3 ∙ at_set b.streams slot step.0 (Some (longer step.0 k)) step.1.1 in
     let none = reply.1 in
     cc
-has_room b mid slot k u BadSlot step reply = reply
-has_room b mid slot k u SlotBusy step reply = reply
-has_room b mid slot k u NameTaken step reply = reply
-has_room b mid slot k u TooLong step reply = reply
-has_room b mid slot k u SpaceFull step reply = reply
-has_room b mid slot k u NoCase step reply = reply
-has_room b mid slot k u Pinned step reply = reply
-has_room b mid slot k u JournalFull step reply = reply
-has_room b mid slot k u NumbersSpent step reply = reply
-has_room b mid slot k u OutOfMemory step reply = reply
-has_room b mid slot k u Disk step reply = reply
+has_room b mid slot k u _ step reply = reply

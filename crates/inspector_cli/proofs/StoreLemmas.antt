@@ -177,7 +177,7 @@ module _ {D : Type 0} (g : disk.Ghosts D) where
 
   pub stores_none : (naming : Naming) (file : Option (List ℕ)) (fails : ℕ) (t : Telling) (old new : Parts D) (line : List ℕ)
       → TellsReply t (λ text. Begins g old 0 (first_stream naming (said line)) text new false)
-      → TellsReply t (λ text. StoresStream g naming file file fails fails old line text new false)
+      → TellsReply t (λ text. StoresStream g naming file file fails fails old line text new None)
   stores_none naming file fails t old new line first = (
     first.0,
     record {
@@ -244,7 +244,7 @@ module _ {D : Type 0} (g : disk.Ghosts D) where
       )
 
   -- a line that makes room, and the stream behind it
-  pub stores_both : (naming : Naming) (file file' : Option (List ℕ)) (fails fails' : ℕ) (o p q : Option (List ℕ)) (f i h : ℕ) (u v w : Reply) (old room new : Parts D) (before line : List ℕ) (made stored : Bool)
+  pub stores_both : (naming : Naming) (file file' : Option (List ℕ)) (fails fails' : ℕ) (o p q : Option (List ℕ)) (f i h : ℕ) (u v w : Reply) (old room new : Parts D) (before line : List ℕ) (made : Bool) (stored : Option ℕ)
       → TellsReply (record { taken = o; taken' = p; failures = f; failures' = i; reply = u; reply' = v }) (λ text. MakesRoom g old (policy_before before) text room made)
       → TellsReply (record { taken = p; taken' = q; failures = i; failures' = h; reply = v; reply' = w }) (λ text. StoresStream g naming file file' fails fails' room line text new stored)
       → TellsReply (record { taken = o; taken' = q; failures = f; failures' = h; reply = u; reply' = w })
