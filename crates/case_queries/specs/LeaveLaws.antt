@@ -16,7 +16,7 @@ use Rattle.intake.specs.declared.faults.ArchiveFault.TheVariants.{Stopped, NoCas
 use Rattle.journal_layout.specs.declared.entry.Kind.{Kind}
 use Rattle.script_lines.specs.Queries.{QuerySaid}
 use Rattle.case_queries.specs.Gathering.{Gathers, GathersAll, Wanted}
-use Rattle.case_queries.specs.Inspecting.{Asks, Shows, ShowsBy, ShowsBeside, ShowsSeen, reads_executables}
+use Rattle.case_queries.specs.Inspecting.{Asks, ShowsBy, ShowsBeside, ShowsSeen, reads_executables}
 use Rattle.case_queries.specs.Seeing.{AreOfCase, LooksAt}
 
 -- an image that can't be read: the archive stays as it is, or is stopped

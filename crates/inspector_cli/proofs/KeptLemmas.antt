@@ -7,7 +7,7 @@ use Rattle.std.specs.List.{filter, flat_map, AllByRecursion}
 use Rattle.disk_model.specs.declared.disk.Disk as disk
 use Rattle.journal_layout.specs.Folding.{is_among}
 use Rattle.intake.specs.Calls.{ChangesNoCase}
-use Rattle.intake.specs.Durable.{Durable, FoundCase, durable_of, without, flagged, labelled, upgraded, with_case}
+use Rattle.intake.specs.Durable.{Durable, FoundCase, durable_of, without, flagged, labelled, with_case}
 use Rattle.intake.specs.Lasts.{FinishLasts, DeleteLasts, PinLasts, LabelLasts, UpgradeLasts, RetireLasts, RefusalsLast}
 use Rattle.intake.specs.Lives.{IsAmong}
 use Rattle.intake.specs.Marks.{Mark, mark_of}

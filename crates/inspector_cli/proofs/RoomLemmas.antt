@@ -3,7 +3,7 @@ use Rattle.std.proofs.Common.{◌≡◌, ℕ, zero, suc, ◌≤◌, List, [], �
 use Rattle.std.proofs.lemmas.Bool.{false≢true}
 use Rattle.std.specs.Prelude.{slice_set, option_map}
 use Rattle.intake.specs.declared.faults.ArchiveFault.{ArchiveFault}
-use Rattle.intake.specs.declared.faults.ArchiveFault.TheVariants.{Stopped, BadSlot, SlotBusy, NameTaken, NoStream, TooLong, SpaceFull, NoCase, Pinned, JournalFull, NumbersSpent, OutOfMemory, Disk}
+use Rattle.intake.specs.declared.faults.ArchiveFault.TheVariants.{Stopped, NoStream}
 use Rattle.intake.specs.Slots.{stream_at}
 use Rattle.intake.specs.State.{ArchiveState, StreamFacts}
 use Rattle.intake.specs.Parts.{Parts, StreamParts, state_of, stream_facts}

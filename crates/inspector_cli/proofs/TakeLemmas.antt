@@ -3,7 +3,7 @@ use Rattle.std.proofs.Common.{◌≡◌, ◌≢◌, ⊎_elim, ℕ, ◌+◌, ◌/
 use Rattle.std.proofs.lemmas.Bool.{cases_lt, false≢true}
 use Rattle.std.specs.Prelude.{slice_set, sum_by}
 use Rattle.intake.specs.declared.faults.ArchiveFault.{ArchiveFault}
-use Rattle.intake.specs.declared.faults.ArchiveFault.TheVariants.{Stopped, BadSlot, SlotBusy, NameTaken, NoStream, TooLong, SpaceFull, NoCase, Pinned, JournalFull, NumbersSpent, OutOfMemory, Disk}
+use Rattle.intake.specs.declared.faults.ArchiveFault.TheVariants.{Stopped, NoStream, TooLong, SpaceFull, OutOfMemory, Disk}
 use Rattle.intake.specs.Slots.{stream_at}
 use Rattle.intake.specs.State.{ArchiveState, StreamFacts, blocks_in, filled_by}
 use Rattle.intake.specs.Step.{AdvanceStep, FindsNoBlock, with_stream, longer, halted}

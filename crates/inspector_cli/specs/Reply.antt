@@ -1,10 +1,7 @@
 -- The reply to what a line says, and what it does to the archive.
-use Rattle.std.specs.Prelude.{◌≡◌, ℕ, ◌+◌, ◌/◌, ◌%◌, ◌<◌, ◌≤◌, ◌==◌, Bool, true, false, nat_lt, List, [], ◌∷◌, ◌++◌, length, Option, None, Some, Result, Ok, Err, is_ok, IsTrue, codes, decimal, if◌then◌else◌}
-use Rattle.std.specs.List.{flat_map, list_any}
+use Rattle.std.specs.Prelude.{◌≡◌, ℕ, ◌+◌, ◌/◌, ◌%◌, ◌<◌, ◌≤◌, Bool, true, false, List, [], ◌++◌, length, Option, None, Some, Result, Ok, Err, is_ok, IsTrue, codes}
 use Rattle.std.specs.Result.{result_ok}
-use Rattle.journal_layout.specs.declared.entry.Kind.{Kind}
-use Rattle.journal_layout.specs.declared.entry.Kind.TheVariants.{Core, Exec}
-use Rattle.script_streams.specs.Replies.{ok_reply, no_reply}
+use Rattle.script_streams.specs.Replies.{no_reply}
 use Rattle.intake.specs.declared.faults.ArchiveFault.{ArchiveFault}
 use Rattle.intake.specs.declared.space.Space.{Space}
 use Rattle.intake.specs.declared.faults.ArchiveFault.TheVariants.{Stopped, NoStream, TooLong, SpaceFull, OutOfMemory, Disk}
@@ -13,7 +10,7 @@ use Rattle.intake.specs.Calls.{ChangesNoCase, HasDiskCause, BeginCall, AbandonCa
 use Rattle.intake.specs.Contents.{Contents, Taken, RefusedBytes, with_taken}
 use Rattle.intake.specs.Parts.{Parts, state_of, contents_of}
 use Rattle.intake.specs.Slots.{stream_at}
-use Rattle.intake.specs.State.{ArchiveState, CaseFacts, StreamFacts, blocks_in}
+use Rattle.intake.specs.State.{ArchiveState, StreamFacts, blocks_in}
 use Rattle.intake.specs.Step.{FreeReply, with_stream, halted, longer}
 use Rattle.retention.specs.declared.Decision.{Decision}
 use Rattle.retention.specs.declared.Policy.{Policy}
@@ -21,7 +18,7 @@ use Rattle.archive_replies.specs.Texts.{plain_reply, begin_reply, end_reply, ret
 use Rattle.stream_names.specs.Streams.{exec_stream, core_stream}
 use Rattle.stream_names.specs.declared.naming.Naming.{Naming}
 use Rattle.case_queries.specs.Inspecting.{Inspects}
-use Rattle.script_lines.specs.Said.{Said, ProcessSaid, silence, bad_line, long_line, begin_exec, begin_core, part_of, end_of, drop_of, delete_of, pin_of, label_of, retire_by, list_all_cases, count_free, upgrade_archive, inspect_of}
+use Rattle.script_lines.specs.Said.{Said, silence, bad_line, long_line, begin_exec, begin_core, part_of, end_of, drop_of, delete_of, pin_of, label_of, retire_by, list_all_cases, count_free, upgrade_archive, inspect_of}
 
 -- `begin`: what is wrong with the name comes first. It is accepted or not.
 abbrev pub Begins : {D : Type 0} → disk.Ghosts D → Parts D → ℕ → Result StreamFacts (List ℕ) → List ℕ → Parts D → Bool → Type 0

@@ -11,7 +11,7 @@ use Rattle.std.specs.BTreeMap.{insert_entry}
 use Rattle.std.specs.Ordering.{nat_cmp}
 use Rattle.extents.specs.declared.run_list.Run.{Run}
 use Rattle.extents.specs.Runs.{runs_of, blocks_of}
-use Rattle.extents.specs.FreeSet.{is_free, one_if, with_runs, with_blocks, AreUsed}
+use Rattle.extents.specs.FreeSet.{is_free, one_if, with_runs, AreUsed}
 use Rattle.extents.specs.FreeSet as flags
 use Rattle.extents.specs.FreeLaws.{one_free_with, length_with}
 use Rattle.journal_layout.specs.declared.entry.Entry.{Entry}
