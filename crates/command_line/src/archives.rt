@@ -22,7 +22,7 @@ pub(crate) enum Access {
 const MOST_TRIES: u32 = 1_000_000;
 
 // Makes an archive in a new file. The shape is looked at before there is one.
-pub(crate) fn make_archive<R: Files<File = File>>(
+pub(crate) fn make_archive<R: AllocGlobal + Files<File = File>>(
     rt: &R,
     path: &str,
     shape: Shape,
@@ -41,13 +41,25 @@ pub(crate) fn make_archive<R: Files<File = File>>(
 
 // Takes the disk of an archive in a file. This alone waits: for the file's lock, as long as another process has it, or, of
 // what only looks, as long as another changes the archive.
-pub(crate) fn take_disk<R: Files<File = File>>(
+pub(crate) fn take_disk<R: AllocGlobal + Files<File = File>>(
     rt: &R,
     place: Place<'_>,
     access: Access,
 ) -> Result<FileDisk, Refusal> {
-    let taken = take_file(rt, place, access).and_then(FileDisk::from_locked);
+    let taken = disk_of(rt, place, access);
     taken.map_err(|fault| Refusal::File(Word::Archive, fault))
+}
+
+fn disk_of<R: AllocGlobal + Files<File = File>>(
+    rt: &R,
+    place: Place<'_>,
+    access: Access,
+) -> Result<FileDisk, FileFault> {
+    let file = take_file(rt, place, access)?;
+    match access {
+        Access::Looking => FileDisk::from_shared(file),
+        Access::Changing => FileDisk::from_locked(rt.alloc(), file),
+    }
 }
 
 // Opens the file and takes its lock. While it waited, another file may have been put in its place: then it begins again.
