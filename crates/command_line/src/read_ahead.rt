@@ -7,8 +7,8 @@ use script_streams::{Input, StreamFault};
 // How many bytes are asked for at a time.
 const AHEAD: usize = 65_536;
 
-// The bytes that an input gives. The archive takes its blocks one by one, and a call of the operating system for each would
-// take longer than the bytes. Where the input gives fewer at a time, as a pipe does, those are given and it waits for no more.
+// The bytes that an input gives. The archive takes its blocks one by one: so one call of the operating system gives many of
+// them. Where the input gives fewer at a time, as a pipe does, those are given and it waits for no more.
 #[derive(Drop)]
 pub(crate) struct ReadAhead<'a, I> {
     input: &'a mut I,
