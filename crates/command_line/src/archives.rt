@@ -62,13 +62,25 @@ fn upgrade<D: Disk + Drop>(alloc: Global, disk: D) -> Result<(), Refusal> {
 
 // Takes the disk of an archive in a file. This alone waits: for the file's lock, as long as another process has it, or, of
 // what only looks, as long as another changes the archive.
-pub(crate) fn take_disk<R: Files<File = File>>(
+pub(crate) fn take_disk<R: AllocGlobal + Files<File = File>>(
     rt: &R,
     place: Place<'_>,
     access: Access,
 ) -> Result<FileDisk, Refusal> {
-    let taken = take_file(rt, place, access).and_then(FileDisk::from_locked);
+    let taken = disk_of(rt, place, access);
     taken.map_err(|fault| Refusal::File(Word::Archive, fault))
+}
+
+fn disk_of<R: AllocGlobal + Files<File = File>>(
+    rt: &R,
+    place: Place<'_>,
+    access: Access,
+) -> Result<FileDisk, FileFault> {
+    let file = take_file(rt, place, access)?;
+    match access {
+        Access::Looking => FileDisk::from_shared(file),
+        Access::Changing => FileDisk::from_locked(rt.alloc(), file),
+    }
 }
 
 // Opens the file and takes its lock. While it waited, another file may have been put in its place: then it begins again.

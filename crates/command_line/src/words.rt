@@ -5,6 +5,7 @@ use crate::archives::{Access, look_at, make_archive, take_disk};
 use crate::asked::{Asked, Place, SessionWords, StoreLines, read_words};
 use crate::failures::{Failure, Refusal, Word, tell_failure};
 use crate::raw_words::words_of;
+use crate::read_ahead::ReadAhead;
 use crate::single::{ask, extract, tell_answer};
 use disk_model::{Disk, FileFault};
 use inspector_cli::{Naming, memory_session, open_and_run, open_and_store};
@@ -196,7 +197,7 @@ fn store<R: AllocGlobal + Files<File = File>, I: Input, O: Output>(
     }
 }
 
-// Opens the archive on a disk and stores what an input gives.
+// Opens the archive on a disk and stores what an input gives, which is read ahead.
 fn store_from<D: Disk + Drop, I: Input, O: Output>(
     alloc: Global,
     disk: D,
@@ -214,7 +215,7 @@ fn store_from<D: Disk + Drop, I: Input, O: Output>(
         stored.naming,
         &stored.lines.room,
         &stored.lines.begin,
-        input,
+        &mut ReadAhead::new(input),
         output,
     );
     let outcome = ended?;

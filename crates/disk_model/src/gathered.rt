@@ -1,5 +1,5 @@
 //! Bytes on their way to a file: writes that adjoin, which the file then takes as one.
-ghost use Rattle.std.specs.Prelude.{◌≡◌, ◌++◌, length, false};
+ghost use Rattle.std.specs.Prelude.{◌≡◌, ◌+◌, ◌<◌, ◌++◌, length, false};
 ghost use Rattle.std.specs.Bool.{OnTrue};
 
 use std::alloc::{AllocError, Global};
@@ -10,8 +10,8 @@ use std::os::unix::fs::FileExt;
 // The most bytes that are gathered.
 const MOST: usize = 1_048_576;
 
-/// The bytes that are to be written to a file from one place on. An archive writes its blocks one behind the other, so that a
-/// call of the operating system for each would take longer than the bytes.
+/// The bytes that are to be written to a file from one place on. An archive writes its blocks one behind the other: so one
+/// call of the operating system takes many of them.
 #[derive(Drop)]
 pub(crate) struct Gathered {
     // The place of the first.
@@ -51,7 +51,9 @@ impl Gathered {
     // Gathers these bytes where they adjoin the others and have room behind them. Says whether they do.
     fn takes(&mut self, at: u64, from: &[u8]) -> bool
         ensures taken { OnTrue result (self.new.bytes.items ≡ self.old.bytes.items ++ from.now) }
+        ensures placed { OnTrue result (self.new.at + length self.old.bytes.items ≡ at) }
         ensures refused { result ≡ false → self.new.bytes.items ≡ self.old.bytes.items }
+        ensures stays { 0 < length self.old.bytes.items → self.new.at ≡ self.old.at }
     {
         let gathered = self.bytes.len();
         if gathered == 0 {
