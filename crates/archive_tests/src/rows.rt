@@ -1,5 +1,5 @@
 // Calls in a row, each with what it is to answer.
-use crate::bench::{begin, fresh, has_image, has_runs, put, store};
+use crate::bench::{begin, fresh, has_image, has_runs, label, put, store};
 use disk_model::Disk;
 use extents::Run;
 use intake::{Archive, ArchiveFault, Space};
@@ -132,7 +132,7 @@ pub fn make<D: Disk>(
         }
         Call::Pin(seq, flag) => Ok(archive.pin(*seq, *flag)),
         Call::Delete(seq) => Ok(archive.delete(*seq)),
-        Call::Label(seq, text) => Ok(archive.label(*seq, text)),
+        Call::Label(seq, text) => label(archive, *seq, text),
         Call::Upgrade => Ok(archive.upgrade()),
         Call::Keep(count, dropped, unmet) => keep(archive, *count, dropped, *unmet),
         Call::Free(free) => seen(is_free(archive, *free)),

@@ -1,6 +1,6 @@
 // Stops and faults at each disk call of three scripts, and what the archive shows once it is opened again.
 use crate::bench::{
-    SETTINGS, begin, crashed, has_image, is_image, name_of, opened, put, put_nothing, store,
+    SETTINGS, begin, crashed, has_image, is_image, label, name_of, opened, put, put_nothing, store,
 };
 use crate::courses::Course;
 use crate::script::{Image, SHAPE, State, Step};
@@ -77,7 +77,7 @@ fn take<D: Disk>(archive: &mut Archive<D>, step: &Step) -> Result<Result<(), Arc
         Step::Finish(slot, seq) => finish(archive, *slot, *seq),
         Step::Pin(seq, flag) => Ok(archive.pin(*seq, *flag)),
         Step::Delete(seq) => Ok(archive.delete(*seq)),
-        Step::Label(seq, text) => Ok(archive.label(*seq, text)),
+        Step::Label(seq, text) => label(archive, *seq, text),
         Step::Upgrade => Ok(archive.upgrade()),
         Step::Retire(policy, dropped) => retire(archive, policy, dropped),
     }
