@@ -5,7 +5,7 @@ PREFIX ?= /usr/local
 SOURCES := crates.txt $(shell find crates -path '*/out' -prune -o -type f \( -name '*.rt' -o -name '*.antt' \) -print)
 
 help:
-	@echo 'make try                 runs the first example without any proof: a minute'
+	@echo 'make try                 runs the first example without any proof: a minute or two'
 	@echo 'make run                 proves and builds the program as bin/corekeep, and runs the first example'
 	@echo 'make build               proves and builds it: some 20 minutes the first time, on two processors'
 	@echo 'make test                the gate: every proof, wrong body, test and run from nothing: an hour'
@@ -15,7 +15,7 @@ help:
 	@echo 'make install [PREFIX=/usr/local]   installs the program, its manual page and completion for bash'
 
 try:
-	@echo 'Building without proofs, about a minute. Nothing of what runs here was proved.'
+	@echo 'Building without proofs, a minute or two. Nothing of what runs here was proved.'
 	@cd crates/corekeep && rt try -- memory --half 1 --data 4 < ../../examples/first.script
 
 build: bin/corekeep

@@ -3,7 +3,7 @@ _corekeep() {
     local word=${COMP_WORDS[COMP_CWORD]}
     local before=${COMP_WORDS[COMP_CWORD-1]}
     local commands="format run store list ask extract memory"
-    local lines="list free delete pin unpin retire header notes threads regs process signal auxv files maps dump find strings bt symbol"
+    local lines="list free delete pin unpin label retire upgrade header notes threads regs process signal auxv files maps dump find strings bt symbol"
     local session="--template --uses-pid --limit"
     COMPREPLY=()
     if [ "$COMP_CWORD" -eq 1 ]; then
@@ -11,13 +11,17 @@ _corekeep() {
         return
     fi
     case $before in
-    --half | --data | --template | --limit | --keep | --bytes | --before | --exec) return ;;
+    --half | --data | --template | --limit | --keep | --bytes | --before | --exec | --label) return ;;
+    --layout)
+        COMPREPLY=($(compgen -W "1 2" -- "$word"))
+        return
+        ;;
     esac
     local options=--help
     case ${COMP_WORDS[1]} in
-    format) options="--half --data --sparse --help" ;;
+    format) options="--half --data --sparse --layout --help" ;;
     run) options="--no-wait $session --help" ;;
-    store) options="--exec --escape --keep --bytes --before --no-wait $session --help" ;;
+    store) options="--exec --label --escape --keep --bytes --before --no-wait $session --help" ;;
     list | ask | extract) options="--no-wait --help" ;;
     memory) options="--half --data $session --help" ;;
     esac

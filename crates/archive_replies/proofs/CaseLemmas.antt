@@ -7,19 +7,19 @@ use Rattle.journal_layout.specs.Case.{case_of}
 use Rattle.intake.specs.Parts.{case_facts}
 use Rattle.archive_replies.specs.Texts.{case_line}
 
-abbrev pub lines_of : List Entry → List ℕ
-lines_of es = flat_map case_line (map case_facts (map case_of es))
+abbrev pub lines_of : ℕ → List Entry → List ℕ
+lines_of version es = flat_map (case_line version) (map case_facts (map case_of es))
 
-lines_append : (xs ys : List Entry) → lines_of (xs ++ ys) ≡ lines_of xs ++ lines_of ys
-lines_append [] ys = refl
-lines_append (x ∷ xs) ys =
-    ap (λ t. case_line (case_facts (case_of x)) ++ t) (lines_append xs ys)
-    ∙ sym (append_assoc (case_line (case_facts (case_of x))) (lines_of xs) (lines_of ys))
+lines_append : (version : ℕ) (xs ys : List Entry) → lines_of version (xs ++ ys) ≡ lines_of version xs ++ lines_of version ys
+lines_append version [] ys = refl
+lines_append version (x ∷ xs) ys =
+    ap (λ t. case_line version (case_facts (case_of x)) ++ t) (lines_append version xs ys)
+    ∙ sym (append_assoc (case_line version (case_facts (case_of x))) (lines_of version xs) (lines_of version ys))
 
-pub one_line_more : (es : List Entry) (i : ℕ) (e : Entry) → i < length es → e ≡ get_or es i e
-    → lines_of (take i es) ++ case_line (case_facts (case_of e)) ≡ lines_of (take (i + 1) es)
-one_line_more es i e within is =
-    sym (ap lines_of (take_more es i e within)
-    ∙ lines_append (take i es) (get_or es i e ∷ [])
-    ∙ ap (λ t. lines_of (take i es) ++ t) (append-nil (case_line (case_facts (case_of (get_or es i e)))))
-    ∙ ap (λ (x : Entry). lines_of (take i es) ++ case_line (case_facts (case_of x))) (sym is))
+pub one_line_more : (version : ℕ) (es : List Entry) (i : ℕ) (e : Entry) → i < length es → e ≡ get_or es i e
+    → lines_of version (take i es) ++ case_line version (case_facts (case_of e)) ≡ lines_of version (take (i + 1) es)
+one_line_more version es i e within is =
+    sym (ap (lines_of version) (take_more es i e within)
+    ∙ lines_append version (take i es) (get_or es i e ∷ [])
+    ∙ ap (λ t. lines_of version (take i es) ++ t) (append-nil (case_line version (case_facts (case_of (get_or es i e)))))
+    ∙ ap (λ (x : Entry). lines_of version (take i es) ++ case_line version (case_facts (case_of x))) (sym is))

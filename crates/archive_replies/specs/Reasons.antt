@@ -1,7 +1,7 @@
 -- How refusals are told.
 use Rattle.std.specs.Prelude.{ℕ, List, codes}
 use Rattle.intake.specs.declared.faults.ArchiveFault.{ArchiveFault}
-use Rattle.intake.specs.declared.faults.ArchiveFault.TheVariants.{Stopped, BadSlot, SlotBusy, NameTaken, NoStream, TooLong, SpaceFull, NoCase, Pinned, JournalFull, NumbersSpent, OutOfMemory, Disk}
+use Rattle.intake.specs.declared.faults.ArchiveFault.TheVariants.{Stopped, BadSlot, SlotBusy, NameTaken, NoStream, TooLong, SpaceFull, NoCase, Pinned, JournalFull, NumbersSpent, OutOfMemory, Disk, OldVersion}
 
 -- the name that a refusal is told by
 abbrev pub reason_of : ArchiveFault → List ℕ
@@ -18,3 +18,4 @@ reason_of JournalFull = codes "JournalFull"
 reason_of NumbersSpent = codes "NumbersSpent"
 reason_of OutOfMemory = codes "OutOfMemory"
 reason_of Disk = codes "Disk"
+reason_of OldVersion = codes "OldVersion"

@@ -1,5 +1,5 @@
 -- The replies to lines over an archive.
-use Rattle.std.specs.Prelude.{ℕ, Bool, List, [], ◌∷◌, ◌++◌, Result, Ok, Err, codes, decimal, if◌then◌else◌}
+use Rattle.std.specs.Prelude.{ℕ, Bool, List, [], ◌∷◌, ◌++◌, Result, Ok, Err, codes, decimal, ◌==◌, if◌then◌else◌}
 use Rattle.std.specs.List.{flat_map}
 use Rattle.journal_layout.specs.declared.entry.Kind.{Kind}
 use Rattle.journal_layout.specs.declared.entry.Kind.TheVariants.{Core, Exec}
@@ -55,12 +55,16 @@ pin_name pinned = if pinned then codes "pinned" else codes "-"
 abbrev pub number_word : ℕ → List ℕ
 number_word n = decimal n ++ 32 ∷ []
 
--- `N KIND LENGTH PID SIGNAL TIME PIN NAME`
-abbrev pub case_line : CaseFacts → List ℕ
-case_line c =
+-- in version 2 of the layout, a space and the label
+abbrev pub label_word : ℕ → List ℕ → List ℕ
+label_word version label = if version == 2 then 32 ∷ shown label else []
+
+-- `N KIND LENGTH PID SIGNAL TIME PIN NAME`, and in version 2 of the layout ` LABEL`
+abbrev pub case_line : ℕ → CaseFacts → List ℕ
+case_line version c =
     number_word c.seq ++ (kind_name c.kind ++ (32 ∷ [] ++ (number_word c.len ++ (number_word c.pid ++ (number_word c.signal
-    ++ (number_word c.time ++ (pin_name c.pinned ++ (32 ∷ [] ++ (shown c.name ++ 10 ∷ [])))))))))
+    ++ (number_word c.time ++ (pin_name c.pinned ++ (32 ∷ [] ++ (shown c.name ++ (label_word version c.label ++ 10 ∷ []))))))))))
 
 -- a line for each case
-abbrev pub list_reply : Bool → List CaseFacts → List ℕ
-list_reply stopped cases = if stopped then no_reply (codes "Stopped") else flat_map case_line cases ++ ok_reply
+abbrev pub list_reply : Bool → ℕ → List CaseFacts → List ℕ
+list_reply stopped version cases = if stopped then no_reply (codes "Stopped") else flat_map (case_line version) cases ++ ok_reply

@@ -22,5 +22,6 @@ pub fn reason(fault: ArchiveFault) -> &'static [u8]
         ArchiveFault::NumbersSpent => b"NumbersSpent",
         ArchiveFault::OutOfMemory => b"OutOfMemory",
         ArchiveFault::Disk => b"Disk",
+        ArchiveFault::OldVersion => b"OldVersion",
     }
 }

@@ -4,7 +4,7 @@ ghost use Rattle.std.specs.List.{flat_map};
 ghost use Rattle.journal_layout.specs.Case.{case_of};
 ghost use Rattle.intake.specs.Parts.{case_facts};
 ghost use Rattle.script_streams.specs.Replies.{ok_reply, no_reply, TellsText, telling};
-ghost use Rattle.archive_replies.specs.Texts.{plain_reply, begin_reply, end_reply, retire_reply, dropped_line, free_reply, number_word, case_line, kind_name, pin_name};
+ghost use Rattle.archive_replies.specs.Texts.{plain_reply, begin_reply, end_reply, retire_reply, dropped_line, free_reply, number_word, case_line, label_word, kind_name, pin_name};
 
 use crate::reasons::reason;
 use intake::{ArchiveFault, Space};
@@ -105,20 +105,20 @@ pub fn tell_free<O: Output>(reply: &mut Reply, output: &mut O, outcome: Result<S
     }
 }
 
-/// Tells a line for each case.
-pub fn tell_cases<O: Output>(reply: &mut Reply, output: &mut O, cases: &[Entry])
-    ensures { TellsText (telling O.Output output.old output.new reply.old reply.new) (flat_map case_line (map case_facts
+/// Tells a line for each case of an archive of this version of the layout: version 2 keeps labels.
+pub fn tell_cases<O: Output>(reply: &mut Reply, output: &mut O, version: u32, cases: &[Entry])
+    ensures { TellsText (telling O.Output output.old output.new reply.old reply.new) (flat_map (case_line version) (map case_facts
         (map case_of cases.now)) ++ ok_reply) }
 {
     for entry in cases {
-        tell_case(reply, output, entry);
+        tell_case(reply, output, version, entry);
     }
     tell_ok(reply, output);
 }
 
 // Tells the line of a case.
-fn tell_case<O: Output>(reply: &mut Reply, output: &mut O, entry: &Entry)
-    ensures { TellsText (telling O.Output output.old output.new reply.old reply.new) (case_line (case_facts (case_of entry.now))) }
+fn tell_case<O: Output>(reply: &mut Reply, output: &mut O, version: u32, entry: &Entry)
+    ensures { TellsText (telling O.Output output.old output.new reply.old reply.new) (case_line version (case_facts (case_of entry.now))) }
 {
     tell_number(reply, output, entry.seq as u64);
     reply.tell(output, kind_word(entry.kind));
@@ -130,7 +130,18 @@ fn tell_case<O: Output>(reply: &mut Reply, output: &mut O, entry: &Entry)
     reply.tell(output, pin_word(entry.pinned));
     reply.tell(output, b" ");
     reply.tell_text(output, entry.name.as_slice());
+    tell_label(reply, output, version, entry.label.as_slice());
     reply.tell(output, b"\n");
+}
+
+// Tells a space and the label of a case, where the archive's version keeps labels.
+fn tell_label<O: Output>(reply: &mut Reply, output: &mut O, version: u32, label: &[u8])
+    ensures { TellsText (telling O.Output output.old output.new reply.old reply.new) (label_word version label.now) }
+{
+    if version == 2 {
+        reply.tell(output, b" ");
+        reply.tell_text(output, label);
+    }
 }
 
 // Tells a number and a space.

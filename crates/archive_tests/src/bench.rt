@@ -192,3 +192,15 @@ pub fn has_runs<D: Disk>(archive: &Archive<D>, seq: u32, runs: &[Run]) -> bool {
     }
     false
 }
+
+/// Gives a case a label.
+pub fn label<D: Disk>(
+    archive: &mut Archive<D>,
+    seq: u32,
+    text: &[u8],
+) -> Result<Result<(), ArchiveFault>, Fail> {
+    if text.len() > 64 {
+        return Err(Fail::from("the label is too long"));
+    }
+    Ok(archive.label(seq, text))
+}

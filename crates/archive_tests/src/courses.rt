@@ -1,4 +1,4 @@
-// Two scripts of calls, the disks that they begin on, and the states before them and after each change.
+// Three scripts of calls, the disks that they begin on, and the states before them and after each change.
 use crate::bench::{begin, formatted, opened};
 use crate::script::{Image, SHAPE, State, Step, script, states};
 use disk_model::{Disk, MemDisk};
@@ -49,22 +49,102 @@ static ANEW_STATES: [State; 5] = [
     State {
         cases: &[],
         next: 22,
+        labels: &[],
+        version: 1,
     },
     State {
         cases: &[(22, LONG, false)],
         next: 23,
+        labels: &[],
+        version: 1,
     },
     State {
         cases: &[(22, LONG, false), (23, CORE, false)],
         next: 24,
+        labels: &[],
+        version: 1,
     },
     State {
         cases: &[(22, LONG, false), (23, CORE, true)],
         next: 24,
+        labels: &[],
+        version: 1,
     },
     State {
         cases: &[(23, CORE, true)],
         next: 24,
+        labels: &[],
+        version: 1,
+    },
+];
+
+// As long as a label may be, of the bytes of open gates.
+const LONGEST: [u8; 64] = [0xa5; 64];
+
+// A stream is open while the archive is upgraded.
+static LABELS: [Step; 12] = [
+    Step::Begin(0, LONG),
+    Step::Finish(0, 1),
+    Step::Begin(1, CORE),
+    Step::Put(1, CORE, 0, 4500),
+    Step::Upgrade,
+    Step::Label(1, &LONGEST),
+    Step::Put(1, CORE, 4500, 5000),
+    Step::Finish(1, 2),
+    Step::Label(2, b"ab"),
+    Step::Label(1, b""),
+    Step::Read(2, CORE),
+    Step::Delete(1),
+];
+
+static LABEL_STATES: [State; 8] = [
+    State {
+        cases: &[],
+        next: 1,
+        labels: &[],
+        version: 1,
+    },
+    State {
+        cases: &[(1, LONG, false)],
+        next: 2,
+        labels: &[],
+        version: 1,
+    },
+    State {
+        cases: &[(1, LONG, false)],
+        next: 2,
+        labels: &[],
+        version: 2,
+    },
+    State {
+        cases: &[(1, LONG, false)],
+        next: 2,
+        labels: &[(1, &LONGEST)],
+        version: 2,
+    },
+    State {
+        cases: &[(1, LONG, false), (2, CORE, false)],
+        next: 3,
+        labels: &[(1, &LONGEST)],
+        version: 2,
+    },
+    State {
+        cases: &[(1, LONG, false), (2, CORE, false)],
+        next: 3,
+        labels: &[(1, &LONGEST), (2, b"ab")],
+        version: 2,
+    },
+    State {
+        cases: &[(1, LONG, false), (2, CORE, false)],
+        next: 3,
+        labels: &[(2, b"ab")],
+        version: 2,
+    },
+    State {
+        cases: &[(2, CORE, false)],
+        next: 3,
+        labels: &[(2, b"ab")],
+        version: 2,
     },
 ];
 
@@ -94,6 +174,8 @@ pub enum Course {
     Streams,
     /// A store that writes a full half anew, and what comes behind it.
     Anew,
+    /// An archive that is upgraded, and labels, on a fresh archive.
+    Labels,
 }
 
 impl Course {
@@ -102,6 +184,7 @@ impl Course {
         match self {
             Course::Streams => script(),
             Course::Anew => &ANEW,
+            Course::Labels => &LABELS,
         }
     }
 
@@ -110,6 +193,7 @@ impl Course {
         match self {
             Course::Streams => states(),
             Course::Anew => &ANEW_STATES,
+            Course::Labels => &LABEL_STATES,
         }
     }
 
@@ -121,7 +205,7 @@ impl Course {
     /// A disk as the script finds it.
     pub fn begins(self, alloc: Global) -> Result<MemDisk, Fail> {
         match self {
-            Course::Streams => formatted(alloc, SHAPE),
+            Course::Streams | Course::Labels => formatted(alloc, SHAPE),
             Course::Anew => turned(alloc),
         }
     }

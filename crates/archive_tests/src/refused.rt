@@ -15,7 +15,7 @@ struct Step {
     free: u32,
 }
 
-static STEPS: [Step; 8] = [
+static STEPS: [Step; 10] = [
     Step {
         call: Call::Store(b"a", 1, 1, 1),
         cases: &[],
@@ -54,6 +54,16 @@ static STEPS: [Step; 8] = [
     },
     Step {
         call: Call::Begin(7, b"e"),
+        cases: &[(1, true), (4, false)],
+        free: 1,
+    },
+    Step {
+        call: Call::Upgrade,
+        cases: &[(1, true), (4, false)],
+        free: 1,
+    },
+    Step {
+        call: Call::Label(4, b"ab"),
         cases: &[(1, true), (4, false)],
         free: 1,
     },

@@ -1,5 +1,5 @@
 // Calls in a row, each with what it is to answer.
-use crate::bench::{begin, fresh, has_image, has_runs, put, store};
+use crate::bench::{begin, fresh, has_image, has_runs, label, put, store};
 use disk_model::Disk;
 use extents::Run;
 use intake::{Archive, ArchiveFault, Space};
@@ -24,6 +24,10 @@ pub enum Call {
     Pin(u32, bool),
     /// The case of this number ends.
     Delete(u32),
+    /// The case of this number gets the label.
+    Label(u32, &'static [u8]),
+    /// The archive is brought to version 2 of the layout.
+    Upgrade,
     /// Where at most this number of cases is to stay, these end, and the limit does not hold even then or it does.
     Keep(u64, &'static [u32], bool),
     /// This number of the four data blocks is free.
@@ -128,6 +132,8 @@ pub fn make<D: Disk>(
         }
         Call::Pin(seq, flag) => Ok(archive.pin(*seq, *flag)),
         Call::Delete(seq) => Ok(archive.delete(*seq)),
+        Call::Label(seq, text) => label(archive, *seq, text),
+        Call::Upgrade => Ok(archive.upgrade()),
         Call::Keep(count, dropped, unmet) => keep(archive, *count, dropped, *unmet),
         Call::Free(free) => seen(is_free(archive, *free)),
         Call::Runs(seq, runs) => seen(has_runs(archive, *seq, runs)),

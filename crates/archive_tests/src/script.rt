@@ -127,6 +127,10 @@ pub enum Step {
     Pin(u32, bool),
     /// The case of this number ends.
     Delete(u32),
+    /// The case of this number gets the label.
+    Label(u32, &'static [u8]),
+    /// The archive is brought to version 2 of the layout.
+    Upgrade,
     /// By the policy these cases end.
     Retire(Policy, &'static [u32]),
 }
@@ -136,7 +140,12 @@ impl Step {
     pub fn changes(&self) -> bool {
         matches!(
             self,
-            Step::Finish(..) | Step::Pin(..) | Step::Delete(_) | Step::Retire(..)
+            Step::Finish(..)
+                | Step::Pin(..)
+                | Step::Delete(_)
+                | Step::Label(..)
+                | Step::Upgrade
+                | Step::Retire(..)
         )
     }
 }
@@ -219,92 +228,135 @@ pub fn script() -> &'static [Step] {
     &SCRIPT
 }
 
-/// The number, the image and the pin of each case, and the number of the next one.
+/// The number, the image and the pin of each case, the number of the next one, the labels that are not empty, and the version of
+/// the layout.
 pub struct State {
     pub cases: &'static [(u32, Image, bool)],
     pub next: u32,
+    pub labels: &'static [(u32, &'static [u8])],
+    pub version: u32,
 }
 
 static STATES: [State; 20] = [
     State {
         cases: &[],
         next: 1,
+        labels: &[],
+        version: 1,
     },
     State {
         cases: &[(1, B, false)],
         next: 2,
+        labels: &[],
+        version: 1,
     },
     State {
         cases: &[(1, B, false), (2, C, false)],
         next: 3,
+        labels: &[],
+        version: 1,
     },
     State {
         cases: &[(1, B, true), (2, C, false)],
         next: 3,
+        labels: &[],
+        version: 1,
     },
     State {
         cases: &[(1, B, true), (2, C, false), (3, A, false)],
         next: 4,
+        labels: &[],
+        version: 1,
     },
     State {
         cases: &[(1, B, true), (3, A, false)],
         next: 4,
+        labels: &[],
+        version: 1,
     },
     State {
         cases: &[(1, B, true), (3, A, false), (4, F, false)],
         next: 5,
+        labels: &[],
+        version: 1,
     },
     State {
         cases: &[(1, B, true), (4, F, false)],
         next: 5,
+        labels: &[],
+        version: 1,
     },
     State {
         cases: &[(1, B, true), (4, F, false), (5, D, false)],
         next: 6,
+        labels: &[],
+        version: 1,
     },
     State {
         cases: &[(1, B, true), (4, F, false), (5, D, false), (6, E, false)],
         next: 7,
+        labels: &[],
+        version: 1,
     },
     State {
         cases: &[(1, B, false), (4, F, false), (5, D, false), (6, E, false)],
         next: 7,
+        labels: &[],
+        version: 1,
     },
     State {
         cases: &[(1, B, false), (4, F, false), (5, D, false), (6, E, true)],
         next: 7,
+        labels: &[],
+        version: 1,
     },
     State {
         cases: &[(5, D, false), (6, E, true)],
         next: 7,
+        labels: &[],
+        version: 1,
     },
     State {
         cases: &[(5, D, false), (6, E, true), (7, H, false)],
         next: 8,
+        labels: &[],
+        version: 1,
     },
     State {
         cases: &[(5, D, false), (6, E, true), (7, H, false), (8, I, false)],
         next: 9,
+        labels: &[],
+        version: 1,
     },
     State {
         cases: &[(6, E, true), (7, H, false), (8, I, false)],
         next: 9,
+        labels: &[],
+        version: 1,
     },
     State {
         cases: &[(6, E, true), (7, H, false), (8, I, false), (9, A, false)],
         next: 10,
+        labels: &[],
+        version: 1,
     },
     State {
         cases: &[(6, E, true), (8, I, false), (9, A, false)],
         next: 10,
+        labels: &[],
+        version: 1,
     },
     State {
         cases: &[(6, E, false), (8, I, false), (9, A, false)],
         next: 10,
+        labels: &[],
+        version: 1,
     },
     State {
         cases: &[(8, I, false), (9, A, false)],
         next: 10,
+        labels: &[],
+        version: 1,
     },
 ];
 

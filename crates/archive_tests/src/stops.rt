@@ -1,6 +1,6 @@
-// Stops and faults at each disk call of two scripts, and what the archive shows once it is opened again.
+// Stops and faults at each disk call of three scripts, and what the archive shows once it is opened again.
 use crate::bench::{
-    SETTINGS, begin, crashed, has_image, is_image, name_of, opened, put, put_nothing, store,
+    SETTINGS, begin, crashed, has_image, is_image, label, name_of, opened, put, put_nothing, store,
 };
 use crate::courses::Course;
 use crate::script::{Image, SHAPE, State, Step};
@@ -77,6 +77,8 @@ fn take<D: Disk>(archive: &mut Archive<D>, step: &Step) -> Result<Result<(), Arc
         Step::Finish(slot, seq) => finish(archive, *slot, *seq),
         Step::Pin(seq, flag) => Ok(archive.pin(*seq, *flag)),
         Step::Delete(seq) => Ok(archive.delete(*seq)),
+        Step::Label(seq, text) => label(archive, *seq, text),
+        Step::Upgrade => Ok(archive.upgrade()),
         Step::Retire(policy, dropped) => retire(archive, policy, dropped),
     }
 }
@@ -133,6 +135,26 @@ fn are_cases(entries: &[Entry], cases: &[(u32, Image, bool)]) -> bool {
     true
 }
 
+// The label of a case.
+fn label_of(labels: &[(u32, &'static [u8])], seq: u32) -> &'static [u8] {
+    for (number, label) in labels {
+        if *number == seq {
+            return label;
+        }
+    }
+    b""
+}
+
+// Whether the cases have these labels, and the others none.
+fn have_labels(entries: &[Entry], labels: &[(u32, &'static [u8])]) -> bool {
+    for entry in entries {
+        if entry.label.as_slice() != label_of(labels, entry.seq) {
+            return false;
+        }
+    }
+    true
+}
+
 // Whether the cases have their images.
 fn have_images<D: Disk>(archive: &mut Archive<D>, cases: &[(u32, Image, bool)]) -> bool {
     for (seq, image, _) in cases {
@@ -163,6 +185,8 @@ fn shows<D: Disk>(archive: &mut Archive<D>, state: &State) -> bool {
     space.data_blocks == SHAPE.data_blocks
         && u64::from(space.free) == free_without(state.cases)
         && are_cases(entries, state.cases)
+        && have_labels(entries, state.labels)
+        && archive.version() == Ok(state.version)
         && have_images(archive, state.cases)
 }
 
@@ -236,6 +260,7 @@ fn is_case_stopped<D: Disk>(archive: &mut Archive<D>, seq: u32) -> bool {
         && archive.pin(seq, true) == Err(ArchiveFault::Stopped)
         && archive.pin(seq, false) == Err(ArchiveFault::Stopped)
         && archive.delete(seq) == Err(ArchiveFault::Stopped)
+        && archive.label(seq, b"x") == Err(ArchiveFault::Stopped)
 }
 
 // Whether each call is refused.
@@ -248,6 +273,8 @@ fn is_stopped<D: Disk>(archive: &mut Archive<D>) -> Result<bool, Fail> {
     let mut stopped = archive.is_stopped()
         && archive.cases().err() == Some(ArchiveFault::Stopped)
         && archive.free_blocks() == Err(ArchiveFault::Stopped)
+        && archive.version() == Err(ArchiveFault::Stopped)
+        && archive.upgrade() == Err(ArchiveFault::Stopped)
         && archive.retire(&policy).err() == Some(ArchiveFault::Stopped);
     for slot in 0..9 {
         stopped = stopped && is_slot_stopped(archive, slot)?;
@@ -356,6 +383,14 @@ fn a_stop_while_the_journal_is_written_anew_leaves_the_cases_from_before_or_afte
     stop_everywhere(rt.alloc(), Course::Anew, &FILLED)
 }
 
+#[test]
+fn a_stop_within_an_upgrade_or_a_label_leaves_the_cases_from_before_or_after(
+    rt: HostRuntime,
+) -> Result<(), Fail> {
+    stop_everywhere(rt.alloc(), Course::Labels, &CUT)?;
+    stop_everywhere(rt.alloc(), Course::Labels, &FILLED)
+}
+
 // Fails this call of the disk alone. Answers how many changes were answered, or `None` where nothing failed.
 fn fault_at(
     alloc: Global,
@@ -403,4 +438,9 @@ fn a_fault_while_the_journal_is_written_anew_stops_the_archive(
     rt: HostRuntime,
 ) -> Result<(), Fail> {
     fault_everywhere(&rt, Course::Anew)
+}
+
+#[test]
+fn a_fault_within_an_upgrade_or_a_label_stops_the_archive(rt: HostRuntime) -> Result<(), Fail> {
+    fault_everywhere(&rt, Course::Labels)
 }

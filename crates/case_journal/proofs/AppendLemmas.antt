@@ -1,10 +1,11 @@
 -- What the append of a case makes of a journal, and what refuses it.
-use Rattle.std.proofs.Common.{◌≡◌, inl, inr, ℕ, ◌+◌, ◌^◌, ◌<◌, ◌∙◌, true, false, nat_lt, Bor, List, map, length, refl, subst, ⊎_elim, Ok, Err, arith}
+use Rattle.std.proofs.Common.{◌≡◌, inl, inr, ℕ, ◌+◌, ◌^◌, ◌<◌, ◌∙◌, true, false, nat_lt, Bor, List, [], map, length, refl, ap, subst, ⊎_elim, Ok, Err, arith}
 use Rattle.std.proofs.lemmas.Bool.{ltb-true, ltb-false}
+use Rattle.std.proofs.lemmas.List.{append-nil}
 use Rattle.journal_layout.specs.declared.entry.Entry.{Entry}
 use Rattle.journal_layout.specs.Case.{Case, case_of, numbered}
 use Rattle.journal_layout.specs.Layout.{half_length}
-use Rattle.journal_layout.specs.Record.{Record, Store, record_size}
+use Rattle.journal_layout.specs.Record.{Record, Store, record_size, spelling}
 use Rattle.journal_layout.specs.SpellLaws.{length-spelling}
 use Rattle.journal_layout.specs.Standing.{Standing, folded_of, store_of}
 use Rattle.journal_layout.specs.Folding.{after}
@@ -13,9 +14,9 @@ use Rattle.journal_snapshot.specs.declared.change.Change.TheVariants as change
 use Rattle.journal_snapshot.specs.declared.measure.Measure.{Measure}
 use Rattle.journal_snapshot.specs.ChangeLaws.{snapshot_bytes_are}
 use Rattle.journal_snapshot.specs.Measuring.{snapshot_bytes}
-use Rattle.journal_snapshot.specs.Writing.{written_added}
+use Rattle.journal_snapshot.specs.Writing.{written_case, written_added}
 use Rattle.case_journal.specs.declared.faults.JournalFault.{JournalFault}
-use Rattle.case_journal.specs.declared.faults.JournalFault.TheVariants.{Stopped, JournalFull, NumbersSpent, OutOfMemory, Disk}
+use Rattle.case_journal.specs.declared.faults.JournalFault.TheVariants.{Stopped, JournalFull, NumbersSpent, OutOfMemory, Disk, OldVersion}
 use Rattle.case_journal.specs.Journaled.{Journaled}
 use Rattle.case_journal.specs.Append.{HasRoom, StoreRefused}
 use Rattle.case_journal.specs.Compacting.{FindsRoom, noted}
@@ -23,12 +24,15 @@ use Rattle.case_journal.specs.Entering.{PutStep}
 use Rattle.case_journal.specs.Putting.{HasRoomFor}
 
 -- The room of a case, whose number takes no part in it.
-module _ (s : Standing) (es : List Entry) (b : Bor Entry) (same : s.cases ≡ map case_of es) where
+module _ (s : Standing) (es : List Entry) (b : Bor Entry) (same : s.cases ≡ map case_of es) (none : b.now.label.items ≡ []) where
   abbrev stored : Record
   stored = store_of s (case_of b.now)
 
   long : (n : ℕ) → length (written_added (change.Store n b)) ≡ record_size stored
-  long n = length-spelling (Store (numbered n (case_of b.now)))
+  long n =
+      ap (λ (l : List ℕ). length (written_case n b.now b.now.pinned l)) none
+      ∙ ap length (append-nil (spelling (Store (numbered n (case_of b.now)))))
+      ∙ length-spelling (Store (numbered n (case_of b.now)))
 
   size_is : snapshot_bytes (change.Store 0 b) es ≡ snapshot_size (after stored (folded_of s))
   size_is =
@@ -43,6 +47,7 @@ module _ (s : Standing) (es : List Entry) (b : Bor Entry) (same : s.cases ≡ ma
   room_lacking size NumbersSpent is unfit found = absurd found
   room_lacking size OutOfMemory is unfit found = absurd found
   room_lacking size Disk is unfit found = absurd found
+  room_lacking size OldVersion is unfit found = absurd found
 
   pub room_beside_is : (m : Measure) → FindsRoom s.shape s.generation (change.Store 0 b) es (Ok m) → HasRoom s stored
   room_beside_is m found = inr (omega (arith, found.0.0, found.0.1, size_is), found.1)
@@ -57,6 +62,7 @@ store_refused j c Stopped runs room = absurd room
 store_refused j c NumbersSpent runs room = absurd room
 store_refused j c OutOfMemory runs room = absurd room
 store_refused j c Disk runs room = absurd room
+store_refused j c OldVersion runs room = absurd room
 
 -- the record is not written
 pub put_refused : (j : Journaled) (c : Case) (seq : ℕ) (f : JournalFault) → j.stopped ≡ false → j.standing.next < 2 ^ 32 → seq ≡ j.standing.next → PutStep j.standing (Store (numbered seq c)) (Err f)
@@ -70,3 +76,4 @@ put_refused j c seq f runs left number step =
     of Disk step = (runs, step, left, refl)
     of Stopped step = absurd step
     of NumbersSpent step = absurd step
+    of OldVersion step = absurd step

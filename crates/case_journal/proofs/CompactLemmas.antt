@@ -1,5 +1,5 @@
 -- What is written anew of an open journal.
-use Rattle.std.proofs.Common.{◌≡◌, inl, inr, ◌+◌, ◌<◌, ◌≤◌, ◌^◌, ◌*◌, ◌∙◌, ◌++◌, ℕ, List, Some, true, Ok, Err, ⊎_elim, map, length, get_or, refl, sym, ap, subst, arith}
+use Rattle.std.proofs.Common.{◌≡◌, inl, inr, ◌+◌, ◌<◌, ◌≤◌, ◌^◌, ◌*◌, ◌∙◌, ◌++◌, ℕ, List, Some, true, Ok, Err, ⊎_elim, map, length, get_or, sym, ap, subst, arith}
 use Rattle.std.proofs.Math.ListN.{get_or-map}
 use Rattle.std.proofs.lemmas.List.{length-map}
 use Rattle.journal_layout.specs.declared.entry.Entry.{Entry}
@@ -11,11 +11,10 @@ use Rattle.journal_layout.specs.Layout.{half_start, half_length}
 use Rattle.journal_layout.specs.Front.{is_known}
 use Rattle.journal_layout.specs.Case.{Case, case_of}
 use Rattle.journal_layout.specs.Folding.{Folded}
-use Rattle.journal_layout.specs.Live.{AreLive}
+use Rattle.journal_layout.specs.Live.{AreLive, AreLabelled}
 use Rattle.journal_layout.specs.Standing.{Standing, folded_of}
 use Rattle.journal_layout.specs.Rewriting.{other_half, other_start, snapshot_size}
 use Rattle.journal_snapshot.specs.declared.change.Change.{Change}
-use Rattle.journal_snapshot.specs.declared.change.Change.TheVariants as change
 use Rattle.journal_snapshot.specs.declared.measure.Measure.{Measure}
 use Rattle.journal_snapshot.specs.declared.target.Target.{Target}
 use Rattle.journal_snapshot.specs.Changing.{changed, staying, added}
@@ -28,7 +27,7 @@ use Rattle.case_journal.specs.declared.compacting.Place.{Place}
 use Rattle.case_journal.specs.Journaled.{Journaled}
 use Rattle.case_journal.specs.Compacting.{HasSnapshotRoom, BesideStep, FindsRoom, IsWriteAnswer}
 use Rattle.case_journal.specs.declared.faults.JournalFault.{JournalFault}
-use Rattle.case_journal.specs.declared.faults.JournalFault.TheVariants.{Stopped, JournalFull, NumbersSpent, OutOfMemory, Disk}
+use Rattle.case_journal.specs.declared.faults.JournalFault.TheVariants.{Stopped, JournalFull, NumbersSpent, OutOfMemory, Disk, OldVersion}
 
 -- the image of a live case lies in no more blocks than an image may have
 pub live_short : (limit next : ℕ) (es : List Entry) → AreLive limit (map case_of es) next → AreShort es
@@ -37,32 +36,25 @@ live_short limit next es live = λ k d below.
     let same : (get_or (map case_of es) k (case_of d)).blocks ≡ (get_or es k d).runs = ap (λ (c : Case). c.blocks) (get_or-map case_of es k d) in
     omega (arith, ap length same, whole.enough, whole.bytes)
 
-changed_version : (ch : Change) (f : Folded) → (changed ch f).version ≡ f.version
-changed_version change.Nothing f = refl
-changed_version (change.Store seq e) f = refl
-changed_version (change.Drop seqs) f = refl
-changed_version (change.Pin seq flag) f = refl
-
 -- what a change makes of the entries may be written into the other half
 pub written_as : (s : Standing) (ch : Change) (es : List Entry) (target : Target) (m : Measure) → s.cases ≡ map case_of es
-    → target.start ≡ other_start s → target.version ≡ s.version → target.generation ≡ s.generation + 1 → target.next ≡ (changed ch (folded_of s)).next
-    → IsMeasure (half_length s.shape) ch es (Some m) → s.generation + 1 < 2 ^ 64 → is_known s.version ≡ true → AreLive s.shape.data_blocks (changed ch (folded_of s)).cases (changed ch (folded_of s)).next
-    → IsWrittenAs s (changed ch (folded_of s)) target ch es
-written_as s ch es target m same place version generation next measure left known live =
-    let f : Folded = changed ch (folded_of s) in
-    record {
-      place = place;
-      version = version ∙ sym (changed_version ch (folded_of s));
-      generation = generation;
-      next = next;
-      cases = sym (changed_cases ch (folded_of s)) ∙ ap (λ (l : List Case). staying ch l ++ added ch) same;
-      may = record {
-        live = live;
-        known = ap is_known (changed_version ch (folded_of s)) ∙ known;
-        room = omega (arith, measure.0, measure.1, snapshot_bytes_are ch es (folded_of s) same);
-        generation = left;
-      };
-    }
+    → target.start ≡ other_start s → target.version ≡ (changed ch (folded_of s)).version → target.generation ≡ s.generation + 1 → target.next ≡ (changed ch (folded_of s)).next
+    → IsMeasure (half_length s.shape) ch es (Some m) → s.generation + 1 < 2 ^ 64 → is_known target.version ≡ true → AreLive s.shape.data_blocks (changed ch (folded_of s)).cases (changed ch (folded_of s)).next
+    → AreLabelled (changed ch (folded_of s)).version (changed ch (folded_of s)).cases → IsWrittenAs s (changed ch (folded_of s)) target ch es
+written_as s ch es target m same place version generation next measure left known live labels = record {
+  place = place;
+  version = version;
+  generation = generation;
+  next = next;
+  cases = sym (changed_cases ch (folded_of s)) ∙ ap (λ (l : List Case). staying ch l ++ added ch) same;
+  may = record {
+    live = live;
+    labels = labels;
+    known = ap is_known (sym version) ∙ known;
+    room = omega (arith, measure.0, measure.1, snapshot_bytes_are ch es (folded_of s) same);
+    generation = left;
+  };
+}
 
 -- What a change makes of a journal over these entries is written into its other half.
 module _ (s : Standing) (ch : Change) (es : List Entry) (same : s.cases ≡ map case_of es) where
@@ -84,6 +76,7 @@ module _ (s : Standing) (ch : Change) (es : List Entry) (same : s.cases ≡ map 
   room_refused NumbersSpent found = absurd found
   room_refused OutOfMemory found = absurd found
   room_refused Disk found = absurd found
+  room_refused OldVersion found = absurd found
 
   -- the write is refused
   pub write_refused : (e : JournalFault) (m : Measure) → FindsRoom s.shape s.generation ch es (Ok m) → IsWriteAnswer (Err e) → BesideStep s f (Err e)
@@ -92,6 +85,7 @@ module _ (s : Standing) (ch : Change) (es : List Entry) (same : s.cases ≡ map 
   write_refused Stopped m found answer = absurd answer
   write_refused JournalFull m found answer = absurd answer
   write_refused NumbersSpent m found answer = absurd answer
+  write_refused OldVersion m found answer = absurd answer
 
   -- it is written
   pub write_done : (p : Place) (m : Measure) → p ≡ record { half = other_half s.half; generation = s.generation + 1; used = m.used } → FindsRoom s.shape s.generation ch es (Ok m) → BesideStep s f (Ok p)
@@ -109,11 +103,12 @@ half_fills g old new shape half start is fills =
 
 -- the same, where the journal is seen as another name has it
 pub anew : (raw now : Journaled) (ch : Change) (es : List Entry) (target : Target) (m : Measure) → raw ≡ now → raw.standing.cases ≡ map case_of es
-    → target.start ≡ other_start now.standing → target.version ≡ now.standing.version → target.generation ≡ now.standing.generation + 1 → target.next ≡ (changed ch (folded_of now.standing)).next
-    → FindsRoom raw.standing.shape raw.standing.generation ch es (Ok m) → is_known raw.standing.version ≡ true
+    → target.start ≡ other_start now.standing → target.version ≡ (changed ch (folded_of now.standing)).version → target.generation ≡ now.standing.generation + 1
+    → target.next ≡ (changed ch (folded_of now.standing)).next
+    → FindsRoom raw.standing.shape raw.standing.generation ch es (Ok m) → is_known target.version ≡ true
     → AreLive now.standing.shape.data_blocks (changed ch (folded_of now.standing)).cases (changed ch (folded_of now.standing)).next
+    → AreLabelled (changed ch (folded_of now.standing)).version (changed ch (folded_of now.standing)).cases
     → IsWrittenAs now.standing (changed ch (folded_of now.standing)) target ch es
-anew raw now ch es target m is same place version generation next found known live =
+anew raw now ch es target m is same place version generation next found known live labels =
     let found' : FindsRoom now.standing.shape now.standing.generation ch es (Ok m) = subst (λ (x : Journaled). FindsRoom x.standing.shape x.standing.generation ch es (Ok m)) is found in
-    let known' : is_known now.standing.version ≡ true = subst (λ (x : Journaled). is_known x.standing.version ≡ true) is known in
-    written_as now.standing ch es target m (subst (λ (x : Journaled). x.standing.cases ≡ map case_of es) is same) place version generation next found'.0 found'.1 known' live
+    written_as now.standing ch es target m (subst (λ (x : Journaled). x.standing.cases ≡ map case_of es) is same) place version generation next found'.0 found'.1 known live labels

@@ -3,11 +3,13 @@ use Rattle.std.proofs.Common.{◌≡◌, inl, inr, ℕ, zero, suc, ◌+◌, ◌<
 use Rattle.std.proofs.lemmas.List.{drop-drop, drop-set-add, get_or-drop}
 use Rattle.std.proofs.lemmas.Bool.{eq-eqb, ne_eqb, cases_eq}
 use Rattle.std.specs.List.{HoldsAt, filter, remove}
+use Rattle.arrayvec.specs.ArrayVec.{ArrayVec}
 use Rattle.journal_layout.specs.declared.entry.Entry.{Entry}
 use Rattle.journal_layout.specs.Case.{Case, case_of}
-use Rattle.journal_layout.specs.Folding.{dropped, with_pin, is_among}
+use Rattle.journal_layout.specs.Folding.{dropped, with_pin, with_label, is_among}
 use Rattle.journal_layout.specs.Soundness.{Rise, case_numbered}
 use Rattle.journal_layout.specs.Live.{seq_of_case}
+use Rattle.journal_layout.specs.LiveFinds.{above_elsewhere, label_elsewhere}
 
 -- the entries left by a test of their numbers are the cases left by it
 pub others_are : (seqs : List ℕ) (es : List Entry) → map case_of (filter (λ (e : Entry). not (is_among seqs e.seq)) es) ≡ dropped seqs (map case_of es)
@@ -81,6 +83,27 @@ pinned_at last seq flag (x ∷ rest) (suc i) e rise within is =
     let above = entry_above x.seq rest i e rise.1 low in
     rw (ne_eqb x.seq seq (λ same. absurd (omega (arith, same, is)))) (ap (λ (l : List Case). case_of x ∷ l) (pinned_at x.seq seq flag rest i e rise.1 low is))
 
+-- the same of a label
+pub labelled_none : (seq : ℕ) (text : List ℕ) (cases : List Case) → case_numbered seq cases ≡ None → with_label seq text cases ≡ cases
+labelled_none seq text [] none = refl
+labelled_none seq text (c ∷ rest) none =
+    elim (cases_eq c.seq seq) as (λ _. with_label seq text (c ∷ rest) ≡ c ∷ rest) [
+      | inl same ↦ absurd (let e = rw (eq-eqb c.seq seq same) at none in cc)
+      | inr other ↦ rw (ne_eqb c.seq seq other) (ap (λ (l : List Case). c ∷ l) (labelled_none seq text rest (rw (ne_eqb c.seq seq other) at none)))
+    ]
+
+labelled_at : (last seq : ℕ) (label : ArrayVec ℕ) (es : List Entry) (i : ℕ) (e : Entry) → Rise last (seqs_of es) → i < length es → (get_or es i e).seq ≡ seq
+    → map case_of (set es i (record (get_or es i e) { label = label })) ≡ with_label seq label.items (map case_of es)
+labelled_at last seq label [] i e rise within is = absurd (omega arith)
+labelled_at last seq label (x ∷ rest) zero e rise within is =
+    rw (eq-eqb x.seq seq is)
+    (ap (λ (l : List Case). record (case_of x) { label = label.items } ∷ l)
+    (sym (label_elsewhere seq label.items (map case_of rest) (above_elsewhere seq x.seq (map case_of rest) (omega (arith, is)) rise.1))))
+labelled_at last seq label (x ∷ rest) (suc i) e rise within is =
+    let low : i < length rest = omega (arith, within) in
+    let above = entry_above x.seq rest i e rise.1 low in
+    rw (ne_eqb x.seq seq (λ same. absurd (omega (arith, same, is)))) (ap (λ (l : List Case). case_of x ∷ l) (labelled_at x.seq seq label rest i e rise.1 low is))
+
 -- where no case has a number, none is left out by it
 pub dropped_none : (seq : ℕ) (cases : List Case) → case_numbered seq cases ≡ None → dropped (seq ∷ []) cases ≡ cases
 dropped_none seq [] none = refl
@@ -130,3 +153,10 @@ live_pinned es first i seq flag e rise within is =
     ap (map case_of) (drop-set-add first es i (record (get_or es (first + i) e) { pinned = flag })
     ∙ ap (λ (x : Entry). set (drop first es) i (record x { pinned = flag })) (sym (get_or-drop first es i e)))
     ∙ pinned_at 0 seq flag (drop first es) i e rise within is
+
+pub live_labelled : (es : List Entry) (first i seq : ℕ) (label : ArrayVec ℕ) (e : Entry) → Rise 0 (seqs_of (drop first es)) → i < length (drop first es) → (get_or (drop first es) i e).seq ≡ seq
+    → map case_of (drop first (set es (first + i) (record (get_or es (first + i) e) { label = label }))) ≡ with_label seq label.items (map case_of (drop first es))
+live_labelled es first i seq label e rise within is =
+    ap (map case_of) (drop-set-add first es i (record (get_or es (first + i) e) { label = label })
+    ∙ ap (λ (x : Entry). set (drop first es) i (record x { label = label })) (sym (get_or-drop first es i e)))
+    ∙ labelled_at 0 seq label (drop first es) i e rise within is

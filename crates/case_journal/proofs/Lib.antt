@@ -3,6 +3,7 @@ pub mod CompactLemmas
 pub mod EntryLemmas
 pub mod FormatLemmas
 pub mod KeptLemmas
+pub mod LabelLemmas
 pub mod OpenLemmas
 pub mod PublishLemmas
 pub mod PutLemmas

@@ -14,7 +14,8 @@ use Rattle.journal_layout.specs.Folding.{Folded, nothing_yet}
 use Rattle.journal_layout.specs.Front.{front_opening}
 use Rattle.journal_layout.specs.FrontLaws.{front_limits, front_same}
 use Rattle.journal_layout.specs.ReadingLaws.{stands_once, stands_or_refused}
-use Rattle.journal_layout.specs.Live.{AreLive}
+use Rattle.journal_layout.specs.LabelledLaws.{stands_labelled}
+use Rattle.journal_layout.specs.Live.{AreLive, AreLabelled}
 use Rattle.journal_layout.specs.LiveLaws.{stands_live}
 use Rattle.journal_layout.specs.Standing.{Standing}
 use Rattle.journal_layout.specs.Stands.{AreRead, AreFaulty, Stands, records_start, records_area}
@@ -119,6 +120,12 @@ module _ {D : Type 0} (g : disk.Ghosts D) where
       → IfOk r (λ (o : Opened). AreLive o.journal.standing.shape.data_blocks o.journal.standing.cases o.journal.standing.next)
   live_by d (Ok o) shows = stands_live shows.shown o.journal.standing shows.gives
   live_by d (Err fault) shows = tt
+
+  -- and only version 2 keeps labels
+  pub labels_by : (d : D) (r : Result Opened OpenFault) → ShowsOpening g d (journal_of r)
+      → IfOk r (λ (o : Opened). AreLabelled o.journal.standing.version o.journal.standing.cases)
+  labels_by d (Ok o) shows = stands_labelled shows.shown o.journal.standing shows.gives
+  labels_by d (Err fault) shows = tt
 
   -- and is what every crash leaves, once it was settled
   pub keeps_by : (old mid new : D) (r : Result Opened OpenFault) → OnlyReads g old mid → OnlyReads g mid new → (IsTrue (g.is_honest old) → Only (g.seen old) (g.may_leave mid))

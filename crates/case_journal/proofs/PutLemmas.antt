@@ -1,5 +1,5 @@
 -- A record that is put, behind the others or in the other half, and what an append makes of a journal then.
-use Rattle.std.proofs.Common.{◌≡◌, ◌⊎◌, inl, inr, ⊎_elim, cond, ◌+◌, ◌*◌, ◌<◌, ◌≤◌, ◌^◌, ◌∙◌, ℕ, Bool, true, false, List, IsTrue, Result, Ok, Err, OnOk, length, refl, sym, ap, subst, arith}
+use Rattle.std.proofs.Common.{◌≡◌, ◌⊎◌, inl, inr, ⊎_elim, cond, ◌+◌, ◌*◌, ◌<◌, ◌≤◌, ◌^◌, ◌∙◌, ℕ, Bool, true, false, List, IsTrue, Result, Ok, Err, OnOk, IfOk, length, refl, sym, ap, subst, arith}
 use Rattle.std.proofs.lemmas.Bool.{ltb-true, ltb-false, false≢true}
 use Rattle.disk_model.specs.Moments.{LeavesOnly, IsSettled}
 use Rattle.disk_model.specs.MomentLaws.{started}
@@ -17,7 +17,7 @@ use Rattle.journal_snapshot.specs.FillLaws.{fills_nothing, fills_wider}
 use Rattle.journal_snapshot.specs.Holding.{Holds, SameHeaders}
 use Rattle.case_journal.specs.declared.compacting.Place.{Place}
 use Rattle.case_journal.specs.declared.faults.JournalFault.{JournalFault}
-use Rattle.case_journal.specs.declared.faults.JournalFault.TheVariants.{Stopped, JournalFull, NumbersSpent, OutOfMemory, Disk}
+use Rattle.case_journal.specs.declared.faults.JournalFault.TheVariants.{Stopped, JournalFull, NumbersSpent, OutOfMemory, Disk, OldVersion}
 use Rattle.case_journal.specs.Journaled.{Journaled, running, after_append}
 use Rattle.case_journal.specs.Keeping.{Keeps, LeavesEither}
 use Rattle.case_journal.specs.Append.{HasRoom, MayFollow, AppendStep}
@@ -49,6 +49,7 @@ module _ (s : Standing) (r : Record) where
   beside_put (Err Disk) e step = inr step
   beside_put (Err Stopped) e step = absurd step
   beside_put (Err NumbersSpent) e step = absurd step
+  beside_put (Err OldVersion) e step = absurd step
 
   -- it is put behind the others
   pub behind_put : (n : ℕ) (res : Result Place JournalFault) → fits s r ≡ true → n ≡ record_size r → BehindStep s n res → PutStep s r res
@@ -59,6 +60,7 @@ module _ (s : Standing) (r : Record) where
   behind_put n (Err JournalFull) e is step = absurd step
   behind_put n (Err NumbersSpent) e is step = absurd step
   behind_put n (Err OutOfMemory) e is step = absurd step
+  behind_put n (Err OldVersion) e is step = absurd step
 
   -- the next record goes into the half then
   pub place_lies : (p : Place) → 32 ≤ s.used → HasRoom s r → p ≡ place_after s r → (32 ≤ p.used) × (p.used + 1 ≤ half_length s.shape)
@@ -89,6 +91,11 @@ module _ (s : Standing) (r : Record) where
       record { size = size; holds = λ on honest. subst (Holds g new) (appended_beside s r e) (holds (sym honesty ∙ honest)) }
   beside_kept g old new (Err f) e size honesty holds = tt
 
+-- the next record goes behind a header then
+pub put_lies : (s : Standing) (r : Record) (res : Result Place JournalFault) → 32 ≤ s.used → PutStep s r res → IfOk res (λ (p : Place). 32 ≤ p.used)
+put_lies s r (Ok p) header step = (place_lies s r p header step.0 step.1).0
+put_lies s r (Err f) header step = tt
+
 -- an append that is refused, or that did what it says
 module _ (j : Journaled) (runs : j.stopped ≡ false) where
   pub append_refused : (r : Record) (e : JournalFault) → PutStep j.standing r (Err e) → AppendStep j r (Err e) (noted e j)
@@ -97,6 +104,7 @@ module _ (j : Journaled) (runs : j.stopped ≡ false) where
   append_refused r Disk step = (runs, step, refl)
   append_refused r Stopped step = absurd step
   append_refused r NumbersSpent step = absurd step
+  append_refused r OldVersion step = absurd step
 
   -- where its cases are changed, the journal is the one after the record
   pub placed_is : (r : Record) (p : Place) → p ≡ place_after j.standing r
@@ -111,6 +119,7 @@ module _ (j : Journaled) (runs : j.stopped ≡ false) where
   compact_refused Disk step = (runs, step, refl)
   compact_refused Stopped step = absurd step
   compact_refused NumbersSpent step = absurd step
+  compact_refused OldVersion step = absurd step
 
   pub compact_moved : (p : Place) → BesideStep j.standing (folded_of j.standing) (Ok p) → moved j p ≡ running (compacted j.standing)
   compact_moved p step = ap (moved j) step.1 ∙ ap (λ (t : Bool). record { standing = compacted j.standing; stopped = t }) runs
@@ -122,6 +131,7 @@ module _ (j : Journaled) (runs : j.stopped ≡ false) where
   refused_keeps g d d' OutOfMemory keeps size refusal = subst (λ x. Keeps g x j) (sym refusal) keeps
   refused_keeps g d d' Stopped keeps size refusal = subst (λ x. Keeps g x j) (sym refusal) keeps
   refused_keeps g d d' NumbersSpent keeps size refusal = subst (λ x. Keeps g x j) (sym refusal) keeps
+  refused_keeps g d d' OldVersion keeps size refusal = subst (λ x. Keeps g x j) (sym refusal) keeps
 
 -- what a drop leaves has room: it is refused as full only where no generation is left
 pub full_by_generation : {D : Type 0} (g : disk.Ghosts D) (d : D) (j : Journaled) (seqs : List ℕ) → Keeps g d j → j.stopped ≡ false → IsTrue (g.is_honest d) → g.may_leave d (g.seen d)
@@ -133,6 +143,7 @@ full_by_generation g d j seqs keeps runs honest may sound Stopped step is = absu
 full_by_generation g d j seqs keeps runs honest may sound NumbersSpent step is = absurd step
 full_by_generation g d j seqs keeps runs honest may sound OutOfMemory step is = absurd (cc)
 full_by_generation g d j seqs keeps runs honest may sound Disk step is = absurd (cc)
+full_by_generation g d j seqs keeps runs honest may sound OldVersion step is = absurd step
 
 module _ (s : Standing) (r : Record) {D : Type 0} (g : disk.Ghosts D) (old new : D) where
   -- a record behind the others

@@ -1,17 +1,17 @@
 -- What an append does to a journal, and when it is refused.
-use Rattle.std.specs.Prelude.{◌≡◌, ◌⊎◌, ℕ, ◌+◌, ◌^◌, ◌<◌, ◌≤◌, true, false, Result, Ok, Err}
+use Rattle.std.specs.Prelude.{◌≡◌, ◌⊎◌, ℕ, ◌+◌, ◌^◌, ◌<◌, ◌≤◌, true, false, List, Result, Ok, Err}
 use Rattle.journal_layout.specs.Layout.{half_length}
 use Rattle.journal_layout.specs.Case.{Case}
-use Rattle.journal_layout.specs.Record.{Record, record_size}
+use Rattle.journal_layout.specs.Record.{Record, Label, record_size}
 use Rattle.journal_layout.specs.Standing.{Standing, folded_of, store_of}
-use Rattle.journal_layout.specs.Soundness.{IsSound, IsStorable}
+use Rattle.journal_layout.specs.Soundness.{IsSound, IsStorable, IsLive, IsLabel}
 use Rattle.journal_layout.specs.declared.entry.Entry.{Entry}
 use Rattle.journal_layout.specs.Folding.{after}
 use Rattle.case_journal.specs.Refusing.{LeavesDisk}
 use Rattle.case_journal.specs.Compacting.{HasSnapshotRoom, LacksSnapshotRoom}
 use Rattle.case_journal.specs.Journaled.{Journaled, halted, after_append}
 use Rattle.case_journal.specs.declared.faults.JournalFault.{JournalFault}
-use Rattle.case_journal.specs.declared.faults.JournalFault.TheVariants.{Stopped, JournalFull, NumbersSpent, OutOfMemory, Disk}
+use Rattle.case_journal.specs.declared.faults.JournalFault.TheVariants.{Stopped, JournalFull, NumbersSpent, OutOfMemory, Disk, OldVersion}
 
 -- The record and the gate behind it fit into the taken half, or what is said with it has room in the other half.
 abbrev pub HasRoom : Standing → Record → Type 0
@@ -28,6 +28,10 @@ MayStore s c = IsStorable s.shape.data_blocks s.cases c
 abbrev pub MayFollow : Standing → Record → Type 0
 MayFollow s r = IsSound s.shape.data_blocks (folded_of s) r
 
+-- the live case of this number may get this label
+abbrev pub MayLabel : Standing → ℕ → List ℕ → Type 0
+MayLabel s seq text = IsLive s.cases seq × IsLabel text
+
 -- A record's append: refused in the order of the faults, each under its condition.
 abbrev pub AppendStep : Journaled → Record → Result (Unit {0}) JournalFault → Journaled → Type 0
 AppendStep old r (Ok u) new = (old.stopped ≡ false) × HasRoom old.standing r × (new ≡ after_append old r)
@@ -36,6 +40,14 @@ AppendStep old r (Err JournalFull) new = (old.stopped ≡ false) × LacksRoom ol
 AppendStep old r (Err NumbersSpent) new = ⊥
 AppendStep old r (Err OutOfMemory) new = (old.stopped ≡ false) × HasRoom old.standing r × (new ≡ old)
 AppendStep old r (Err Disk) new = (old.stopped ≡ false) × HasRoom old.standing r × (new ≡ halted old)
+AppendStep old r (Err OldVersion) new = ⊥
+
+-- The same of a label, which version 1 of the layout does not keep.
+abbrev pub LabelStep : Journaled → ℕ → List ℕ → Result (Unit {0}) JournalFault → Journaled → Type 0
+LabelStep old seq text (Err Stopped) new = AppendStep old (Label seq text) (Err Stopped) new
+LabelStep old seq text (Err OldVersion) new = (old.stopped ≡ false) × (old.standing.version ≡ 1) × (new ≡ old)
+LabelStep old seq text (Ok u) new = (old.standing.version ≡ 2) × AppendStep old (Label seq text) (Ok u) new
+LabelStep old seq text (Err f) new = (old.standing.version ≡ 2) × AppendStep old (Label seq text) (Err f) new
 
 -- the same of a case, which gets the next number, where numbers are left
 abbrev pub StoreRefused : Journaled → Case → JournalFault → Journaled → Type 0
@@ -47,6 +59,7 @@ StoreRefused old c OutOfMemory new =
     (old.stopped ≡ false) × HasRoom old.standing (store_of old.standing c) × (old.standing.next < 2 ^ 32) × (new ≡ old)
 StoreRefused old c Disk new =
     (old.stopped ≡ false) × HasRoom old.standing (store_of old.standing c) × (old.standing.next < 2 ^ 32) × (new ≡ halted old)
+StoreRefused old c OldVersion new = ⊥
 
 abbrev pub StoreStep : Journaled → Case → Result ℕ (JournalFault × Entry) → Journaled → Type 0
 StoreStep old c (Ok seq) new =

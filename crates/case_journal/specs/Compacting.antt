@@ -5,7 +5,7 @@ use Rattle.journal_layout.specs.declared.shape.Shape.{Shape}
 use Rattle.journal_layout.specs.Layout.{half_length}
 use Rattle.journal_layout.specs.Folding.{Folded}
 use Rattle.journal_layout.specs.Standing.{Standing, folded_of}
-use Rattle.journal_layout.specs.Rewriting.{other_half, snapshot_size, rewritten}
+use Rattle.journal_layout.specs.Rewriting.{other_half, snapshot_size, rewritten, in_version_two, upgraded}
 use Rattle.journal_snapshot.specs.declared.change.Change.{Change}
 use Rattle.journal_snapshot.specs.declared.measure.Measure.{Measure}
 use Rattle.journal_snapshot.specs.Measuring.{IsMeasure, snapshot_bytes}
@@ -17,7 +17,7 @@ use Rattle.case_journal.specs.declared.compacting.Place.{Place}
 use Rattle.case_journal.specs.Refusing.{LeavesDisk}
 use Rattle.case_journal.specs.Journaled.{Journaled, running, halted}
 use Rattle.case_journal.specs.declared.faults.JournalFault.{JournalFault}
-use Rattle.case_journal.specs.declared.faults.JournalFault.TheVariants.{Stopped, JournalFull, NumbersSpent, OutOfMemory, Disk}
+use Rattle.case_journal.specs.declared.faults.JournalFault.TheVariants.{Stopped, JournalFull, NumbersSpent, OutOfMemory, Disk, OldVersion}
 
 -- what is said goes into the other half as a snapshot with the gate behind it, and a generation is left for that half
 abbrev pub HasSnapshotRoom : Standing → Folded → Type 0
@@ -63,6 +63,27 @@ CompactStep old (Err OutOfMemory) new =
     (old.stopped ≡ false) × HasSnapshotRoom old.standing (folded_of old.standing) × (new ≡ old)
 CompactStep old (Err Disk) new =
     (old.stopped ≡ false) × HasSnapshotRoom old.standing (folded_of old.standing) × (new ≡ halted old)
+CompactStep old (Err OldVersion) new = ⊥
+
+-- what is said, in version 2 of the layout
+abbrev pub anew_in_two : Standing → Folded
+anew_in_two s = in_version_two (folded_of s)
+
+-- An upgrade: a compaction into version 2 of the layout. Where the journal is of that version, nothing is done.
+abbrev pub UpgradeStep : Journaled → Result (Unit {0}) JournalFault → Journaled → Type 0
+UpgradeStep old (Ok u) new =
+    (old.stopped ≡ false)
+    × (((old.standing.version ≡ 2) × (new ≡ old))
+    ⊎ ((old.standing.version ≡ 1) × HasSnapshotRoom old.standing (anew_in_two old.standing) × (new ≡ running (upgraded old.standing))))
+UpgradeStep old (Err Stopped) new = (old.stopped ≡ true) × (new ≡ old)
+UpgradeStep old (Err JournalFull) new =
+    (old.stopped ≡ false) × (old.standing.version ≡ 1) × LacksSnapshotRoom old.standing (anew_in_two old.standing) × (new ≡ old)
+UpgradeStep old (Err NumbersSpent) new = ⊥
+UpgradeStep old (Err OutOfMemory) new =
+    (old.stopped ≡ false) × (old.standing.version ≡ 1) × HasSnapshotRoom old.standing (anew_in_two old.standing) × (new ≡ old)
+UpgradeStep old (Err Disk) new =
+    (old.stopped ≡ false) × (old.standing.version ≡ 1) × HasSnapshotRoom old.standing (anew_in_two old.standing) × (new ≡ halted old)
+UpgradeStep old (Err OldVersion) new = ⊥
 
 -- whether what a change makes of these entries has room in the other half, by its bytes
 abbrev pub FindsRoom : Shape → ℕ → Change → List Entry → Result Measure JournalFault → Type 0

@@ -1,7 +1,7 @@
 -- How an open journal takes in what a record says.
 use Rattle.std.specs.Prelude.{◌≡◌, ℕ, ◌+◌, Bool, List, [], ◌∷◌, ◌++◌, Result, Ok, Err}
 use Rattle.journal_layout.specs.Case.{Case}
-use Rattle.journal_layout.specs.Folding.{dropped, with_pin}
+use Rattle.journal_layout.specs.Folding.{dropped, with_pin, with_label}
 use Rattle.journal_layout.specs.Record.{Record}
 use Rattle.journal_layout.specs.Rewriting.{appended}
 use Rattle.journal_layout.specs.Standing.{Standing}
@@ -22,6 +22,14 @@ left j seqs = record j { standing = record j.standing { cases = dropped seqs j.s
 -- the case of this number pinned or not
 abbrev pub repinned : Journaled → ℕ → Bool → Journaled
 repinned j seq flag = record j { standing = record j.standing { cases = with_pin seq flag j.standing.cases } }
+
+-- the case of this number with this label
+abbrev pub relabelled : Journaled → ℕ → List ℕ → Journaled
+relabelled j seq text = record j { standing = record j.standing { cases = with_label seq text j.standing.cases } }
+
+-- the same cases in version 2 of the layout
+abbrev pub in_two : Journaled → Journaled
+in_two j = record j { standing = record j.standing { version = 2 } }
 
 -- where the next record goes after this one
 abbrev pub place_after : Standing → Record → Place

@@ -1,5 +1,5 @@
 // Writing a journal anew into its other half.
-ghost use Rattle.std.specs.Prelude.{◌≡◌, ◌⊎◌, ◌+◌, ◌*◌, ◌^◌, ◌<◌, ◌≤◌, false, length, IsTrue, OnOk, Err, Some};
+ghost use Rattle.std.specs.Prelude.{◌≡◌, ◌⊎◌, ◌+◌, ◌*◌, ◌^◌, ◌<◌, ◌≤◌, true, false, length, IsTrue, OnOk, Err, Some};
 ghost use Rattle.disk_model.specs.Disk.{HasRisen};
 ghost use Rattle.disk_model.specs.Moments.{LeavesOnly};
 ghost use Rattle.disk_model.specs.Places.{SameOutside};
@@ -8,7 +8,8 @@ ghost use Rattle.journal_layout.specs.Folding.{Folded};
 ghost use Rattle.journal_layout.specs.Standing.{Standing};
 ghost use Rattle.journal_layout.specs.Stands.{Stands};
 ghost use Rattle.journal_layout.specs.Rewriting.{other_half, other_start, rewritten};
-ghost use Rattle.journal_layout.specs.Live.{AreLive};
+ghost use Rattle.journal_layout.specs.Front.{is_known};
+ghost use Rattle.journal_layout.specs.Live.{AreLive, AreLabelled};
 ghost use Rattle.journal_layout.specs.Standing.{folded_of};
 ghost use Rattle.journal_snapshot.specs.Changing.{IsOrdered, changed};
 ghost use Rattle.journal_snapshot.specs.Measuring.{AreShort, IsShort, IsMeasure};
@@ -127,7 +128,7 @@ impl Journal {
         if self.stopped {
             return Err(JournalFault::Stopped);
         }
-        match self.put_beside(disk, &Change::Nothing, self.next) {
+        match self.put_beside(disk, &Change::Nothing, self.version, self.next) {
             Ok(place) => {
                 self.move_to(place);
                 Ok(())
@@ -139,20 +140,24 @@ impl Journal {
         }
     }
 
-    // Writes what a change makes of the journal into the other half, which is taken then. Answers where the next record
-    // goes.
+    // Writes what a change makes of the journal into the other half, which is taken then, in this version of the layout.
+    // Answers where the next record goes.
     pub(crate) fn put_beside<D: Disk>(
         &self,
         disk: &mut D,
         change: &Change,
+        version: u32,
         next: u64,
     ) -> Result<Place, JournalFault>
         requires keeps { Keeps D.Disk disk.old self.now }
         requires runs { self.now.stopped ≡ false }
         requires order { IsOrdered change.now }
         requires short { IsShort change.now }
+        requires version { version ≡ (changed change.now (folded_of self.now.standing)).version }
+        requires known { is_known version ≡ true }
         requires next { next ≡ (changed change.now (folded_of self.now.standing)).next }
         requires live { AreLive self.now.standing.shape.data_blocks (changed change.now (folded_of self.now.standing)).cases (changed change.now (folded_of self.now.standing)).next }
+        requires labels { AreLabelled (changed change.now (folded_of self.now.standing)).version (changed change.now (folded_of self.now.standing)).cases }
         ensures step { BesideStep self.now.standing (changed change.now (folded_of self.now.standing)) result }
         ensures run { RunsBeside D.Disk disk.old disk.new self.now.standing (changed change.now (folded_of self.now.standing)) }
         ensures holds { IsTrue (D.is_honest disk.old)
@@ -161,7 +166,7 @@ impl Journal {
         ensures cause { result ≡ Err JournalFault.Disk → HasRisen (D.failures disk.old) (D.failures disk.new) }
     {
         let measure = room_beside(self.entries.as_slice(), self.shape, self.generation, change)?;
-        let target = self.target(next);
+        let target = self.target(version, next);
         let half = self.shape.half_length();
         write_beside(
             self.alloc(),
@@ -180,16 +185,16 @@ impl Journal {
     }
 
     // Where the journal is written anew: the other half, with the next generation.
-    fn target(&self, next: u64) -> Target
+    fn target(&self, version: u32, next: u64) -> Target
         requires { self.now.standing.generation + 1 < 2 ^ 64 }
         ensures start { result.start ≡ other_start self.now.standing }
-        ensures version { result.version ≡ self.now.standing.version }
+        ensures version { result.version ≡ version }
         ensures generation { result.generation ≡ self.now.standing.generation + 1 }
         ensures next { result.next ≡ next }
     {
         Target {
             start: self.shape.half_start(other_half(self.half)),
-            version: self.version,
+            version,
             generation: self.generation + 1,
             next,
         }

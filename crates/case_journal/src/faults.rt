@@ -18,7 +18,7 @@ pub enum FormatFault {
     Disk,
 }
 
-/// Why a record was not appended, in the order in which it is checked.
+/// Why a record was not appended. They are checked in this order, `OldVersion` right behind `Stopped`.
 #[derive(Clone, Copy, Debug, PartialEq, Eq, Error)]
 pub enum JournalFault {
     /// A disk fault has stopped the journal until it is opened again.
@@ -36,6 +36,9 @@ pub enum JournalFault {
     /// The disk failed. The record may stand on it or not, and the journal is stopped.
     #[error("the disk failed")]
     Disk,
+    /// The archive is of version 1 of the layout, which keeps no labels.
+    #[error("the archive's version keeps no labels")]
+    OldVersion,
 }
 
 impl From<DiskFault> for FormatFault {

@@ -16,11 +16,14 @@ pub(crate) const MAGIC: &[u8; 8] = b"COREKEEP";
 /// The layout's version that archives are made with.
 pub(crate) const VERSION: u32 = 1;
 
+/// The layout's version that keeps labels.
+pub(crate) const LABELS: u32 = 2;
+
 // Whether this version of the layout is read.
 fn is_known(version: u32) -> bool
     ensures { result ≡ is_known version }
 {
-    version == VERSION
+    version == VERSION || version == LABELS
 }
 
 // The superblock's gate is open, and the layout's name stands behind it.

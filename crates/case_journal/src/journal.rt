@@ -1,5 +1,5 @@
 // An open journal, and its appends.
-ghost use Rattle.std.specs.Prelude.{◌≡◌, ◌+◌, ◌*◌, ◌<◌, ◌≤◌, ◌^◌, nat_lt, true, false, length, map, IsTrue, OnOk, IfErr, Err, option_map};
+ghost use Rattle.std.specs.Prelude.{◌≡◌, ◌+◌, ◌*◌, ◌<◌, ◌≤◌, ◌^◌, nat_lt, true, false, [], length, map, IsTrue, OnOk, IfErr, Err, option_map};
 ghost use Rattle.journal_layout.specs.declared.entry.Entry.{Entry};
 ghost use Rattle.disk_model.specs.Places.{SameOutside};
 ghost use Rattle.disk_model.specs.Disk.{HasRisen};
@@ -107,8 +107,8 @@ impl Journal {
         self.shape
     }
 
-    // Whether a record of `size` bytes, and the gate behind it, go behind those that stand there.
-    fn fits(&self, size: u64) -> bool
+    // Whether a record of so many bytes, and the gate behind it, go behind those that stand there.
+    pub(crate) fn fits(&self, size: u64) -> bool
         ensures room { result ≡ nat_lt (self.now.standing.used + size) (half_length self.now.standing.shape) }
         ensures small { result ≡ true → size ≤ 16777216 }
     {
@@ -119,6 +119,7 @@ impl Journal {
     fn room_for(&self, entry: &Entry, size: u64) -> Result<(), JournalFault>
         requires size { size ≡ record_size (store_of self.now.standing (case_of entry.now)) }
         requires short { length entry.now.runs ≤ 2 ^ 52 }
+        requires no_label { entry.now.label.items ≡ [] }
         ensures { HasRoomFor self.now.standing (store_of self.now.standing (case_of entry.now)) result }
     {
         if !self.fits(size) {
@@ -134,7 +135,11 @@ impl Journal {
     }
 
     // Puts a record behind those that stand there, whatever record it is. Answers where the next one goes.
-    fn put_behind<D: Disk>(&self, disk: &mut D, behind: &[u8]) -> Result<Place, JournalFault>
+    pub(crate) fn put_behind<D: Disk>(
+        &self,
+        disk: &mut D,
+        behind: &[u8],
+    ) -> Result<Place, JournalFault>
         requires keeps { Keeps D.Disk disk.old self.now }
         requires runs { self.now.stopped ≡ false }
         requires room { self.now.standing.used + length behind.now + 1 ≤ half_length self.now.standing.shape }
@@ -173,7 +178,12 @@ impl Journal {
         ensures cause { result ≡ Err JournalFault.Disk → HasRisen (D.failures disk.old) (D.failures disk.new) }
     {
         if !self.fits(size) {
-            return self.put_beside(disk, &Change::Store(seq, entry), self.next + 1);
+            return self.put_beside(
+                disk,
+                &Change::Store(seq, entry),
+                self.version,
+                self.next + 1,
+            );
         }
         let record = store_record(self.alloc(), seq, entry, size)?;
         self.put_behind(disk, &record)
@@ -192,7 +202,7 @@ impl Journal {
     {
         let size = drop_size(seqs);
         if !self.fits(size) {
-            return self.put_beside(disk, &Change::Drop(seqs), self.next);
+            return self.put_beside(disk, &Change::Drop(seqs), self.version, self.next);
         }
         let record = drop_record(self.alloc(), seqs, size)?;
         self.put_behind(disk, &record)
@@ -212,7 +222,7 @@ impl Journal {
         ensures cause { result ≡ Err JournalFault.Disk → HasRisen (D.failures disk.old) (D.failures disk.new) }
     {
         if !self.fits(PIN_SIZE) {
-            return self.put_beside(disk, &Change::Pin(seq, flag), self.next);
+            return self.put_beside(disk, &Change::Pin(seq, flag), self.version, self.next);
         }
         self.put_behind(disk, &pin_record(seq, flag))
     }

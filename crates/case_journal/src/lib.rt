@@ -7,6 +7,7 @@ mod faults;
 mod formatting;
 mod front;
 mod journal;
+mod labels;
 mod laws;
 mod live_entries;
 mod open;

@@ -1,13 +1,13 @@
 // The entries of the live cases. The oldest case is the one that goes most often: it is counted as gone, and nothing is moved.
-ghost use Rattle.std.specs.Prelude.{◌≡◌, ◌+◌, ◌<◌, ◌≤◌, ◌++◌, ◌∷◌, [], drop, length, map, IfSome, OnOk, None, option_map};
+ghost use Rattle.std.specs.Prelude.{◌≡◌, ◌+◌, ◌*◌, ◌<◌, ◌≤◌, ◌++◌, ◌∷◌, [], drop, length, map, IfSome, OnOk, None, option_map};
 ghost use Rattle.std.specs.List.{HoldsAt, remove};
 ghost use Rattle.journal_layout.specs.declared.entry.Entry.{Entry};
 ghost use Rattle.journal_layout.specs.Case.{case_of};
-ghost use Rattle.journal_layout.specs.Folding.{dropped, with_pin};
+ghost use Rattle.journal_layout.specs.Folding.{dropped, with_pin, with_label};
 ghost use Rattle.journal_layout.specs.Live.{seq_of_case};
 ghost use Rattle.journal_layout.specs.Soundness.{Rise, case_numbered};
 
-use journal_layout::Entry;
+use journal_layout::{Entry, Label};
 use journal_snapshot::is_listed;
 use std::alloc::{AllocError, Global};
 use std::marker::Model;
@@ -18,19 +18,19 @@ use std::marker::Model;
 pub(crate) struct LiveEntries {
     // The live ones stand behind those that are gone.
     all: Vec<Entry>,
-    // How many at the front are gone. Their memory stays until they are more than the live ones.
+    // How many at the front are gone, never more than the live ones.
     first: usize,
 }
 
 impl Model for LiveEntries {
-    ghost use Rattle.std.specs.Prelude.{◌≤◌, ◌-◌, drop, length, vec_len, vec_capacity};
+    ghost use Rattle.std.specs.Prelude.{◌≤◌, ◌-◌, ◌*◌, drop, length, vec_len, vec_capacity};
     ghost use Rattle.case_journal.specs.LiveList.{LiveList};
 
     ghost Value = { LiveList };
 
     ghost view = { λ l. record { entries = drop l.first l.all.items; room = vec_capacity l.all - vec_len l.all } };
 
-    ghost invariant = { λ l. l.first ≤ length l.all.items };
+    ghost invariant = { λ l. 2 * l.first ≤ length l.all.items };
 }
 
 impl LiveEntries {
@@ -92,27 +92,13 @@ impl LiveEntries {
         }
     }
 
-    // Takes out the entry at this place. The first one is counted as gone; behind any other the rest moves up.
+    // Takes out the entry at this place.
     fn take_out(&mut self, place: usize)
         requires { place < length self.old.entries }
         ensures { self.new.entries ≡ remove self.old.entries place }
     {
-        if place > 0 {
-            self.all.remove(self.first + place);
-            return;
-        }
-        self.first += 1;
-        self.forget_gone();
-    }
-
-    // Lets those that are gone go, where they are more than the live ones.
-    fn forget_gone(&mut self)
-        ensures { self.new.entries ≡ self.old.entries }
-    {
-        if self.first > self.all.len() / 2 {
-            forget_first(&mut self.all, self.first);
-            self.first = 0;
-        }
+        let gone = take_one(&mut self.all, self.first, place);
+        self.first = forget_if_many(&mut self.all, gone);
     }
 
     // Keeps the entries that have none of these numbers, which rise.
@@ -135,6 +121,45 @@ impl LiveEntries {
             self.all[at].pinned = flag;
         }
     }
+
+    /// Sets the label of the entry of this number, if there is one.
+    pub(crate) fn set_label(&mut self, seq: u32, label: Label)
+        requires { Rise 0 (map seq_of_case (map case_of self.old.entries)) }
+        ensures { map case_of self.new.entries ≡ with_label seq label.items (map case_of self.old.entries) }
+    {
+        if let Some(place) = place_of(self.as_slice(), seq) {
+            let at = self.first + place;
+            self.all[at].label = label;
+        }
+    }
+}
+
+// Takes out the entry at a place behind the first ones, which are gone. Where it is next to them it is counted as gone
+// too; behind any other the rest moves up. Answers how many at the front are gone then.
+fn take_one(entries: &mut Vec<Entry>, first: usize, place: usize) -> usize
+    requires { first + place < length entries.old.items }
+    ensures left { drop result entries.new.items ≡ remove (drop first entries.old.items) place }
+    ensures within { result ≤ length entries.new.items }
+{
+    if place > 0 {
+        entries.remove(first + place);
+        return first;
+    }
+    first + 1
+}
+
+// Lets the entries at the front that are gone go, where they are more than those behind them. Answers how many are gone
+// there then.
+fn forget_if_many(entries: &mut Vec<Entry>, gone: usize) -> usize
+    requires { gone ≤ length entries.old.items }
+    ensures left { drop result entries.new.items ≡ drop gone entries.old.items }
+    ensures few { 2 * result ≤ length entries.new.items }
+{
+    if gone <= entries.len() / 2 {
+        return gone;
+    }
+    forget_first(entries, gone);
+    0
 }
 
 // Lets the first `count` entries go.

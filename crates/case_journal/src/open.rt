@@ -5,7 +5,7 @@ ghost use Rattle.disk_model.specs.Moments.{LeavesOnly, IsSettled};
 ghost use Rattle.journal_layout.specs.Layout.{disk_length, half_length, IsWithinLimits};
 ghost use Rattle.journal_layout.specs.Stands.{Stands, records_start};
 ghost use Rattle.journal_layout.specs.Standing.{Standing};
-ghost use Rattle.journal_layout.specs.Live.{AreLive};
+ghost use Rattle.journal_layout.specs.Live.{AreLive, AreLabelled};
 ghost use Rattle.case_journal.specs.Keeping.{Keeps};
 ghost use Rattle.case_journal.specs.Opening.{journal_of};
 ghost use Rattle.case_journal.specs.Viewing.{IsView, Shows, ShowsOpening, OnlyReads, IsOpenRefusal, FindsStanding};
@@ -124,6 +124,8 @@ impl Journal {
         ensures keeps { IfOk result (λ o. Keeps D.Disk disk.new o.journal) }
         // What the cases of any archive are like: their numbers rise, no block is used twice, and so on.
         ensures live { IfOk result (λ o. AreLive o.journal.standing.shape.data_blocks o.journal.standing.cases o.journal.standing.next) }
+        // Version 2 of the layout keeps labels, and no other.
+        ensures labels { IfOk result (λ o. AreLabelled o.journal.standing.version o.journal.standing.cases) }
         ensures runs { IfOk result (λ o. o.journal.stopped ≡ false) }
         // The set has the names of the cases, and the map the data blocks that none of them has.
         ensures names { IfOk result (λ o. AreNames o.journal.standing.cases o.names) }

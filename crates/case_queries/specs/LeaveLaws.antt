@@ -12,11 +12,11 @@ use Rattle.intake.specs.State.{ArchiveState, CaseFacts}
 use Rattle.intake.specs.StayLaws.{stays_as, stays_then}
 use Rattle.intake.specs.Step.{ImageStep, case_at}
 use Rattle.intake.specs.declared.faults.ArchiveFault.{ArchiveFault}
-use Rattle.intake.specs.declared.faults.ArchiveFault.TheVariants.{Stopped, BadSlot, SlotBusy, NameTaken, NoStream, TooLong, SpaceFull, NoCase, Pinned, JournalFull, NumbersSpent, OutOfMemory, Disk}
+use Rattle.intake.specs.declared.faults.ArchiveFault.TheVariants.{Stopped, NoCase, OutOfMemory, Disk}
 use Rattle.journal_layout.specs.declared.entry.Kind.{Kind}
 use Rattle.script_lines.specs.Queries.{QuerySaid}
 use Rattle.case_queries.specs.Gathering.{Gathers, GathersAll, Wanted}
-use Rattle.case_queries.specs.Inspecting.{Asks, Shows, ShowsBy, ShowsBeside, ShowsSeen, reads_executables}
+use Rattle.case_queries.specs.Inspecting.{Asks, ShowsBy, ShowsBeside, ShowsSeen, reads_executables}
 use Rattle.case_queries.specs.Seeing.{AreOfCase, LooksAt}
 
 -- an image that can't be read: the archive stays as it is, or is stopped
@@ -25,30 +25,14 @@ image_cases old new seq Stopped step = ap (λ (b : ArchiveState). b.cases) step.
 image_cases old new seq NoCase step = ap (λ (b : ArchiveState). b.cases) step.2
 image_cases old new seq OutOfMemory step = ap (λ (b : ArchiveState). b.cases) step.2
 image_cases old new seq Disk step = ap (λ (b : ArchiveState). b.cases) step.2
-image_cases old new seq BadSlot step = absurd step
-image_cases old new seq SlotBusy step = absurd step
-image_cases old new seq NameTaken step = absurd step
-image_cases old new seq NoStream step = absurd step
-image_cases old new seq TooLong step = absurd step
-image_cases old new seq SpaceFull step = absurd step
-image_cases old new seq Pinned step = absurd step
-image_cases old new seq JournalFull step = absurd step
-image_cases old new seq NumbersSpent step = absurd step
+image_cases old new seq _ step = absurd step
 
 image_halts : (old new : ArchiveState) (seq : ℕ) (f : ArchiveFault) → ImageStep {T = Vec ℕ Global} old seq (Err f) new → old.stopped ≡ true → new.stopped ≡ true
 image_halts old new seq Stopped step stopped = ap (λ (b : ArchiveState). b.stopped) step.1 ∙ stopped
 image_halts old new seq NoCase step stopped = ap (λ (b : ArchiveState). b.stopped) step.2 ∙ stopped
 image_halts old new seq OutOfMemory step stopped = ap (λ (b : ArchiveState). b.stopped) step.2 ∙ stopped
 image_halts old new seq Disk step stopped = ap (λ (b : ArchiveState). b.stopped) step.2
-image_halts old new seq BadSlot step stopped = absurd step
-image_halts old new seq SlotBusy step stopped = absurd step
-image_halts old new seq NameTaken step stopped = absurd step
-image_halts old new seq NoStream step stopped = absurd step
-image_halts old new seq TooLong step stopped = absurd step
-image_halts old new seq SpaceFull step stopped = absurd step
-image_halts old new seq Pinned step stopped = absurd step
-image_halts old new seq JournalFull step stopped = absurd step
-image_halts old new seq NumbersSpent step stopped = absurd step
+image_halts old new seq _ step stopped = absurd step
 
 image_stops : (old new : ArchiveState) (seq : ℕ) (f : ArchiveFault) → ImageStep {T = Vec ℕ Global} old seq (Err f) new → f ≡ Disk → new.stopped ≡ true
 image_stops old new seq f step is = ap (λ (b : ArchiveState). b.stopped) (subst (λ (x : ArchiveFault). ImageStep {T = Vec ℕ Global} old seq (Err x) new) is step).2

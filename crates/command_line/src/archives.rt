@@ -21,33 +21,66 @@ pub(crate) enum Access {
 // How often a file is opened anew that is no longer the one of its path.
 const MOST_TRIES: u32 = 1_000_000;
 
-// Makes an archive in a new file. The shape is looked at before there is one.
-pub(crate) fn make_archive<R: Files<File = File>>(
+// What is asked of a new archive.
+#[derive(Clone, Copy)]
+pub(crate) struct NewArchive {
+    pub(crate) shape: Shape,
+    // It is of version 2 of the layout.
+    pub(crate) keeps_labels: bool,
+    // Its zeros are not written.
+    pub(crate) is_sparse: bool,
+}
+
+// Makes an archive in a new file. The shape is looked at before there is one. One that keeps labels is made as any other, and
+// brought to version 2 of the layout then.
+pub(crate) fn make_archive<R: AllocGlobal + Files<File = File>>(
     rt: &R,
     path: &str,
-    shape: Shape,
-    is_sparse: bool,
+    wanted: NewArchive,
 ) -> Result<(), Refusal> {
-    let length = shape.length()?;
-    let made = if is_sparse {
+    let length = wanted.shape.length()?;
+    let made = if wanted.is_sparse {
         FileDisk::create_sparse(rt, path, length)
     } else {
         FileDisk::create(rt, path, length)
     };
     let mut disk = made.map_err(|fault| Refusal::File(Word::Archive, fault))?;
-    format(&mut disk, shape)?;
+    format(&mut disk, wanted.shape)?;
+    if wanted.keeps_labels {
+        upgrade(rt.alloc(), disk)?;
+    }
     Ok(())
+}
+
+// Brings the archive on a disk to version 2 of the layout.
+fn upgrade<D: Disk + Drop>(alloc: Global, disk: D) -> Result<(), Refusal> {
+    match Archive::open(alloc, disk, Settings { limit: 0 }) {
+        Ok(mut archive) => archive.upgrade().map_err(|fault| Refusal::Call(fault)),
+        Err((fault, _)) => Err(Refusal::Open(fault)),
+    }
 }
 
 // Takes the disk of an archive in a file. This alone waits: for the file's lock, as long as another process has it, or, of
 // what only looks, as long as another changes the archive.
-pub(crate) fn take_disk<R: Files<File = File>>(
+pub(crate) fn take_disk<R: AllocGlobal + Files<File = File>>(
     rt: &R,
     place: Place<'_>,
     access: Access,
 ) -> Result<FileDisk, Refusal> {
-    let taken = take_file(rt, place, access).and_then(FileDisk::from_locked);
+    let taken = disk_of(rt, place, access);
     taken.map_err(|fault| Refusal::File(Word::Archive, fault))
+}
+
+fn disk_of<R: AllocGlobal + Files<File = File>>(
+    rt: &R,
+    place: Place<'_>,
+    access: Access,
+) -> Result<FileDisk, FileFault> {
+    let file = take_file(rt, place, access)?;
+    match access {
+        Access::Looking => FileDisk::from_shared(file),
+        Access::Changing => FileDisk::from_locked(rt.alloc(), file),
+    }
 }
 
 // Opens the file and takes its lock. While it waited, another file may have been put in its place: then it begins again.

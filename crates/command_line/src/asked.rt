@@ -1,9 +1,10 @@
 // What the words ask for.
+use crate::archives::NewArchive;
 use crate::failures::{Failure, Refusal};
 use crate::grammar::program;
 use crate::raw_words::{is_text, push_escaped};
 use clap::ArgMatches;
-use inspector_cli::makes_room;
+use inspector_cli::{is_question, makes_room};
 use journal_layout::Shape;
 use script_words::parse_number;
 use std::alloc::{AllocError, Global};
@@ -11,11 +12,10 @@ use std::alloc::{AllocError, Global};
 // What the program is asked to do. Files are named by their paths.
 #[derive(Drop)]
 pub(crate) enum Asked<'a> {
-    // An archive of this shape in a new file, whose zeros are written unless it is sparse.
+    // An archive in a new file.
     Format {
         archive: &'a str,
-        shape: Shape,
-        is_sparse: bool,
+        wanted: NewArchive,
     },
     // A session over the archive in a file.
     Run {
@@ -56,6 +56,8 @@ pub(crate) struct StoreLines {
     pub(crate) room: Vec<u8>,
     // The line that begins the stream.
     pub(crate) begin: Vec<u8>,
+    // What stands behind the case in the line that gives it a label, where one is asked for.
+    pub(crate) label: Option<Vec<u8>>,
 }
 
 // The file of an archive, and whether to wait for it where another process has it.
@@ -80,8 +82,7 @@ pub(crate) fn read_words<'a>(alloc: Global, words: &'a [String]) -> Result<Asked
     match matches.subcommand() {
         Some(("format", found)) => Ok(Asked::Format {
             archive: text_of(found, "archive")?,
-            shape: shape_of(found),
-            is_sparse: found.get_flag("sparse"),
+            wanted: new_archive_of(found),
         }),
         Some(("run", found)) => Ok(Asked::Run {
             archive: place_of(found)?,
@@ -97,6 +98,7 @@ pub(crate) fn read_words<'a>(alloc: Global, words: &'a [String]) -> Result<Asked
             lines: StoreLines {
                 room: room_line(alloc, found)?,
                 begin: first_line(alloc, found)?,
+                label: label_of(alloc, found)?,
             },
             settings: settings_of(found)?,
         }),
@@ -136,6 +138,14 @@ fn place_of<'a>(found: &ArgMatches<'a>) -> Result<Place<'a>, Refusal> {
         path: text_of(found, "archive")?,
         waits: !found.get_flag("no-wait"),
     })
+}
+
+fn new_archive_of(found: &ArgMatches<'_>) -> NewArchive {
+    NewArchive {
+        shape: shape_of(found),
+        keeps_labels: found.get_one::<u32>("layout") == Some(2),
+        is_sparse: found.get_flag("sparse"),
+    }
 }
 
 fn shape_of(found: &ArgMatches<'_>) -> Shape {
@@ -180,6 +190,22 @@ fn room_line(alloc: Global, found: &ArgMatches<'_>) -> Result<Vec<u8>, Refusal> 
     line.extend_from_slice(&limits)?;
     if makes_room(&line) {
         Ok(line)
+    } else {
+        Err(Refusal::BadLine)
+    }
+}
+
+// The label of the case that is stored, where one is asked for. What no line can say is refused before anything is stored.
+fn label_of(alloc: Global, found: &ArgMatches<'_>) -> Result<Option<Vec<u8>>, Refusal> {
+    let Some(text) = found.get_str("label") else {
+        return Ok(None);
+    };
+    let mut label = Vec::new(alloc);
+    push_value(&mut label, text, found.get_flag("escape"))?;
+    let mut line = b"label 1 ".to_vec(alloc)?;
+    line.extend_from_slice(&label)?;
+    if is_question(&line) {
+        Ok(Some(label))
     } else {
         Err(Refusal::BadLine)
     }

@@ -225,6 +225,7 @@ fn tell_refusal<O: Output>(refusal: Refusal, output: &mut O) -> u8
         Refusal::TemplateTooLong => reply.tell(output, b"TemplateTooLong"),
         Refusal::BadShape => reply.tell(output, b"BadShape"),
         Refusal::File(_, FileFault::Busy) => reply.tell(output, b"Busy"),
+        Refusal::File(_, FileFault::OutOfMemory) => reply.tell(output, b"OutOfMemory"),
         Refusal::File(_, _) => reply.tell(output, b"File"),
         Refusal::NotUtf8 => reply.tell(output, b"NotUtf8"),
         Refusal::OutOfMemory => reply.tell(output, b"OutOfMemory"),

@@ -16,7 +16,7 @@ pub(crate) fn program<'a>(alloc: Global) -> Result<Command<'a>, Error> {
 fn whole_program<'a>(alloc: Global) -> Result<Command<'a>, Error> {
     let command = Command::new(alloc, "corekeep")
         .bin_name("corekeep")?
-        .version("0.1.0, archives of layout version 1")
+        .version("0.1.0, archives of layout versions 1 and 2")
         .about("keeps images of programs and their memory as numbered cases in an archive")
         .after_help(
             "Statuses: 0; 1 where an archive, a file, a shape, a template, a line of `ask` or a step of `store` is refused \
@@ -56,6 +56,7 @@ fn argument<'a>(alloc: Global, word: &Word) -> Arg<'a> {
             .required(true)
             .value_parser(value_parser!(u32)),
         Takes::Bytes => named(argument, word).value_parser(value_parser!(u64)),
+        Takes::Layout => named(argument, word).value_parser(value_parser!(u32).range(1..=2)),
     }
 }
 

@@ -2,7 +2,7 @@
 use crate::archives::{Access, take_disk};
 use crate::asked::Place;
 use crate::failures::{Failure, Refusal, Word};
-use disk_model::FileFault;
+use disk_model::{Disk, FileFault};
 use inspector_cli::{
     Naming, SessionFault, is_question, only_looks, open_and_run, read_image, write_image,
 };
@@ -10,6 +10,7 @@ use intake::Settings;
 use name_template::Template;
 use script_streams::{Output, ReadInput, Reply, WriteOutput};
 use script_words::parse_case_number;
+use std::alloc::Global;
 use std::fs;
 use std::fs::{File, Permissions};
 use std::os::unix::fs::{OpenOptionsExt, PermissionsExt};
@@ -100,27 +101,31 @@ pub(crate) fn ask<R: AllocGlobal + Files<File = File>, O: Output>(
         return Err(Failure::Refused(Refusal::BadLine));
     }
     let disk = take_disk(rt, place, access_of(&line))?;
+    if tell_answer(rt.alloc(), disk, line, output)? {
+        Ok(())
+    } else {
+        Err(Failure::Told)
+    }
+}
+
+// Carries out one line of a script over the archive on a disk, and writes its reply. Says whether it was accepted.
+pub(crate) fn tell_answer<D: Disk + Drop, O: Output>(
+    alloc: Global,
+    disk: D,
+    line: Vec<u8>,
+    output: &mut O,
+) -> Result<bool, Failure> {
     let mut script = line;
     script.extend_from_slice(b"\n")?;
     let naming = no_naming()?;
-    let mut text = Vec::new(rt.alloc());
+    let mut text = Vec::new(alloc);
     let mut replies = WriteOutput::new(&mut text);
     let mut input = ReadInput::new(script.as_slice());
     let settings = Settings { limit: 0 };
-    let (ended, _) = open_and_run(
-        rt.alloc(),
-        disk,
-        settings,
-        &naming,
-        &mut input,
-        &mut replies,
-    );
+    let (ended, _) = open_and_run(alloc, disk, settings, &naming, &mut input, &mut replies);
     ended?;
     write_text(&text, output)?;
-    if is_refused(&text) {
-        return Err(Failure::Told);
-    }
-    Ok(())
+    Ok(!is_refused(&text))
 }
 
 // A line that changes nothing needs no right to write the archive's file.

@@ -19,6 +19,8 @@ pub(crate) enum Takes {
     Blocks,
     // A number below 2^64 behind its name.
     Bytes,
+    // 1 or 2 behind its name.
+    Layout,
 }
 
 // A word of a command: how the program knows it, how help shows its value, and what it takes where it is left out.
@@ -42,7 +44,7 @@ pub(crate) static COMMANDS: [CommandWords; 7] = [
     CommandWords {
         name: "format",
         about: "makes an archive in a new file, with no case in it",
-        words: &[NEW_ARCHIVE, SPARSE, HALF, DATA],
+        words: &[NEW_ARCHIVE, SPARSE, LAYOUT, HALF, DATA],
     },
     CommandWords {
         name: "run",
@@ -53,8 +55,8 @@ pub(crate) static COMMANDS: [CommandWords; 7] = [
         name: "store",
         about: "stores a core file as a case of an archive, named by the template, or an executable",
         words: &[
-            ARCHIVE, FILE, PAIRS, EXEC, ESCAPE, KEEP, BYTES, BEFORE, NO_WAIT, TEMPLATE, USES_PID,
-            LIMIT,
+            ARCHIVE, FILE, PAIRS, EXEC, LABEL, ESCAPE, KEEP, BYTES, BEFORE, NO_WAIT, TEMPLATE,
+            USES_PID, LIMIT,
         ],
     },
     CommandWords {
@@ -104,6 +106,15 @@ const SPARSE: Word = Word {
     takes: Takes::Flag,
     default: None,
     help: "does not write the file's zeros: quick, but the file system may be full when a core file comes",
+};
+
+// The version of the layout.
+const LAYOUT: Word = Word {
+    id: "layout",
+    shown: "VERSION",
+    takes: Takes::Layout,
+    default: Some("1"),
+    help: "the version of the layout: 1, which programs of before labels open too, or 2, which keeps labels",
 };
 
 // The blocks in each half of the journal.
@@ -187,13 +198,22 @@ const EXEC: Word = Word {
     help: "stores an executable of this name in place of a core",
 };
 
+// What is noted of the case.
+const LABEL: Word = Word {
+    id: "label",
+    shown: "TEXT",
+    takes: Takes::Text,
+    default: None,
+    help: "gives the new case this label, of at most 64 bytes, in an archive of layout version 2; in one of version 1 the case is stored all the same",
+};
+
 // Whether bytes are taken as they are.
 const ESCAPE: Word = Word {
     id: "escape",
     shown: "",
     takes: Takes::Flag,
     default: None,
-    help: "takes the bytes of each VALUE and of NAME as they are, whatever they are, as a process may call itself anything",
+    help: "takes the bytes of each VALUE, of NAME and of TEXT as they are, whatever they are, as a process may call itself anything",
 };
 
 // How many cases stay beside the new one.

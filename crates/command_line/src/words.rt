@@ -5,7 +5,8 @@ use crate::archives::{Access, look_at, make_archive, take_disk};
 use crate::asked::{Asked, Place, SessionWords, StoreLines, read_words};
 use crate::failures::{Failure, Refusal, Word, tell_failure};
 use crate::raw_words::words_of;
-use crate::single::{ask, extract};
+use crate::read_ahead::ReadAhead;
+use crate::single::{ask, extract, tell_answer};
 use disk_model::{Disk, FileFault};
 use inspector_cli::{Naming, memory_session, open_and_run, open_and_store};
 use intake::Settings;
@@ -44,14 +45,16 @@ pub fn run_program<R: Env + AllocGlobal + Files<File = File>, I: Input, O: Outpu
 /// looks at it until none changes it, or, with `--no-wait`, is refused as `Busy`. While they wait they do not return, as where FILE is a pipe that nobody writes to.
 ///
 /// - `format ARCHIVE --half N --data N` makes an archive in a new file, all of whose bytes are written; with `--sparse`
-///   they are not.
+///   they are not. It is of version 1 of the layout, and with `--layout 2` of version 2, which keeps labels.
 /// - `run ARCHIVE` runs the script of `input` over the archive in a file, and writes its replies to `output`.
 /// - `memory --half N --data N` runs it over a fresh archive in memory.
 /// - `store ARCHIVE FILE [KEY=VALUE..]` stores a file as a core of which these pairs are known, and with `--exec NAME` in
 ///   place of the pairs as an executable of that name. Its replies are those of the lines `begin` and `end` of a script.
 ///   FILE `-` is `input`. With `--escape` the bytes of each VALUE and of NAME are taken as they are. With `--keep K`,
 ///   `--bytes B` or `--before T` the line `retire` of a script with these limits is carried out first, in the same opening,
-///   and its reply goes before the others; where it is refused the file is stored all the same.
+///   and its reply goes before the others; where it is refused the file is stored all the same. With `--label TEXT` the
+///   line `label` of a script gives the new case this label, and its reply goes behind the others; where it is refused, as in
+///   an archive of version 1 of the layout, the case stays.
 /// - `list ARCHIVE` and `ask ARCHIVE WORD..` carry out one line of a script, `extract ARCHIVE N [FILE]` writes the image of a
 ///   case. A line that changes no case, and `extract`, need no right to write the archive's file, and wait for no other that
 ///   only looks.
@@ -86,11 +89,7 @@ fn answer_words<R: AllocGlobal + Files<File = File>, I: Input, O: Output>(
     output: &mut O,
 ) -> Result<(), Failure> {
     match read_words(rt.alloc(), words)? {
-        Asked::Format {
-            archive,
-            shape,
-            is_sparse,
-        } => Ok(make_archive(rt, archive, shape, is_sparse)?),
+        Asked::Format { archive, wanted } => Ok(make_archive(rt, archive, wanted)?),
         Asked::Run { archive, settings } => run_file(rt, archive, settings, input, output),
         Asked::Memory { shape, settings } => run_memory(rt, shape, settings, input, output),
         Asked::Store {
@@ -198,7 +197,7 @@ fn store<R: AllocGlobal + Files<File = File>, I: Input, O: Output>(
     }
 }
 
-// Opens the archive on a disk and stores what an input gives.
+// Opens the archive on a disk and stores what an input gives, which is read ahead.
 fn store_from<D: Disk + Drop, I: Input, O: Output>(
     alloc: Global,
     disk: D,
@@ -209,22 +208,43 @@ fn store_from<D: Disk + Drop, I: Input, O: Output>(
     let settings = Settings {
         limit: stored.limit,
     };
-    let (ended, _) = open_and_store(
+    let (ended, disk) = open_and_store(
         alloc,
         disk,
         settings,
         stored.naming,
         &stored.lines.room,
         &stored.lines.begin,
-        input,
+        &mut ReadAhead::new(input),
         output,
     );
     let outcome = ended?;
-    if outcome.made_room && outcome.is_stored {
+    let is_done = match outcome.stored {
+        Some(seq) => label_stored(alloc, disk, seq, stored.lines, output)?,
+        None => false,
+    };
+    if outcome.made_room && is_done {
         Ok(())
     } else {
         Err(Failure::Told)
     }
+}
+
+// Gives the new case its label, where one is asked for. The archive is opened again for it, under the same lock. Says whether
+// the case has the label that it is to have.
+fn label_stored<D: Disk + Drop, O: Output>(
+    alloc: Global,
+    disk: D,
+    seq: u32,
+    lines: &StoreLines,
+    output: &mut O,
+) -> Result<bool, Failure> {
+    let Some(label) = &lines.label else {
+        return Ok(true);
+    };
+    let mut line = format!(in alloc; "label {seq} ")?.into_bytes();
+    line.extend_from_slice(label)?;
+    tell_answer(alloc, disk, line, output)
 }
 
 // How cores are named.

@@ -3,8 +3,10 @@ ghost use Rattle.std.specs.Prelude.{◌≡◌, ◌^◌, ◌<◌, [], false, IfOk
 ghost use Rattle.std.proofs.lemmas.Bool.{false≢true};
 ghost use Rattle.disk_model.specs.Disk.{HasCause};
 
+use crate::gathered::Gathered;
 use crate::{Disk, DiskFault};
 use failure_count::after_failure;
+use std::alloc::{AllocError, Global};
 use std::fs::{File, Permissions, TryLockError};
 use std::io;
 use std::io::ErrorKind;
@@ -52,6 +54,15 @@ pub enum FileFault {
     /// Another has its lock.
     #[error("another process has the file")]
     Busy,
+    /// There is no memory for the bytes of its writes.
+    #[error("there is no memory")]
+    OutOfMemory,
+}
+
+impl From<AllocError> for FileFault {
+    fn from(_: AllocError) -> FileFault {
+        FileFault::OutOfMemory
+    }
 }
 
 impl From<io::Error> for FileFault {
@@ -72,6 +83,10 @@ impl From<io::Error> for FileFault {
 /// same, is refused as `Busy`. Disks for reading alone share a lock with one another. A process that ends in any way holds
 /// no lock.
 ///
+/// Writes that adjoin are gathered, and written as one before a write that does not adjoin, before they are too many, and
+/// before a sync. A read gives what was gathered too. A write that the file refuses is told by the call that met it, which
+/// may be a later write or a sync, and what was gathered is kept to be written again.
+///
 /// Nothing is promised of its bytes, or of what a crash leaves of them: it is not honest by proof, so what else is
 /// proved over a disk holds of it where the file system keeps to the disk model.
 #[derive(Drop)]
@@ -79,6 +94,8 @@ pub struct FileDisk {
     file: File,
     length: u64,
     failures: u64,
+    // None where the file is only read.
+    gathered: Option<Gathered>,
     ghost small: { length < 2 ^ 64 },
 }
 
@@ -88,7 +105,7 @@ impl FileDisk {
     /// owner may read and write it.
     ///
     /// A file that was made stays where a later step fails. It never waits.
-    pub fn create<R: Files<File = File>>(
+    pub fn create<R: AllocGlobal + Files<File = File>>(
         rt: &R,
         path: &str,
         length: u64,
@@ -104,7 +121,7 @@ impl FileDisk {
 
     /// The same, but its zeros are not written: the file system finds room for a byte when it is written first, and may
     /// be full by then.
-    pub fn create_sparse<R: Files<File = File>>(
+    pub fn create_sparse<R: AllocGlobal + Files<File = File>>(
         rt: &R,
         path: &str,
         length: u64,
@@ -119,12 +136,15 @@ impl FileDisk {
 
     /// Opens a file that is there, with no failure counted yet. It never waits: where another has the file's lock, it
     /// answers `Busy`.
-    pub fn open<R: Files<File = File>>(rt: &R, path: &str) -> Result<FileDisk, FileFault>
+    pub fn open<R: AllocGlobal + Files<File = File>>(
+        rt: &R,
+        path: &str,
+    ) -> Result<FileDisk, FileFault>
         ensures uncounted { IfOk result (λ d. ⟦<FileDisk as Disk>⟧.failures d ≡ 0) }
     {
         let file = File::options().read(true).write(true).open(rt, path)?;
         asked_for(file.try_lock())?;
-        FileDisk::from_locked(file)
+        FileDisk::from_locked(rt.alloc(), file)
     }
 
     /// Opens a file that is there for reading alone, which needs no right to write. It shares the file's lock with others
@@ -138,14 +158,27 @@ impl FileDisk {
     {
         let file = File::open(rt, path)?;
         asked_for(file.try_lock_shared())?;
-        FileDisk::from_locked(file)
+        FileDisk::from_shared(file)
     }
 
-    /// A disk in a file that is open for reading and writing, and whose lock the caller has taken; or one for reading
-    /// alone in a file that is open for reading, and whose lock the caller shares. A folder, which may be opened for
-    /// reading, is refused as `Folder`.
-    pub fn from_locked(file: File) -> Result<FileDisk, FileFault>
+    /// A disk in a file that is open for reading and writing, and whose lock the caller has taken.
+    pub fn from_locked(alloc: Global, file: File) -> Result<FileDisk, FileFault>
         ensures uncounted { IfOk result (λ d. ⟦<FileDisk as Disk>⟧.failures d ≡ 0) }
+    {
+        let gathered = Gathered::new(alloc)?;
+        FileDisk::holding(file, Some(gathered))
+    }
+
+    /// A disk for reading alone in a file that is open for reading, and whose lock the caller shares.
+    pub fn from_shared(file: File) -> Result<FileDisk, FileFault>
+        ensures uncounted { IfOk result (λ d. ⟦<FileDisk as Disk>⟧.failures d ≡ 0) }
+    {
+        FileDisk::holding(file, None)
+    }
+
+    // A disk in a file. A folder, which may be opened for reading, is refused as `Folder`.
+    fn holding(file: File, gathered: Option<Gathered>) -> Result<FileDisk, FileFault>
+        ensures uncounted { IfOk result (λ d. d.failures ≡ 0) }
     {
         let metadata = file.metadata().map_err(|_| FileFault::Length)?;
         if metadata.is_dir() {
@@ -155,6 +188,7 @@ impl FileDisk {
             file,
             length: metadata.len(),
             failures: 0,
+            gathered,
         })
     }
 
@@ -173,10 +207,15 @@ impl FileDisk {
 }
 
 // Makes a file of this length, and has its lock.
-fn made<R: Files<File = File>>(rt: &R, path: &str, length: u64) -> Result<FileDisk, FileFault>
+fn made<R: AllocGlobal + Files<File = File>>(
+    rt: &R,
+    path: &str,
+    length: u64,
+) -> Result<FileDisk, FileFault>
     ensures length { IfOk result (λ d. d.length ≡ length) }
     ensures uncounted { IfOk result (λ d. d.failures ≡ 0) }
 {
+    let gathered = Gathered::new(rt.alloc())?;
     let file = File::options()
         .read(true)
         .write(true)
@@ -192,6 +231,7 @@ fn made<R: Files<File = File>>(rt: &R, path: &str, length: u64) -> Result<FileDi
         file,
         length,
         failures: 0,
+        gathered: Some(gathered),
     })
 }
 
@@ -236,6 +276,27 @@ fn sync_folder<R: Files<File = File>>(rt: &R, path: &str) -> io::Result<()> {
     File::open(rt, folder)?.sync_all()
 }
 
+// Writes these bytes, or gathers them.
+fn write_gathered(
+    file: &File,
+    gathered: &mut Option<Gathered>,
+    at: u64,
+    from: &[u8],
+) -> io::Result<()> {
+    match gathered {
+        Some(gathered) => gathered.write(file, at, from),
+        None => file.write_all_at(from, at),
+    }
+}
+
+// Writes what was gathered, and makes the file's bytes durable.
+fn sync_gathered(file: &File, gathered: &mut Option<Gathered>) -> io::Result<()> {
+    if let Some(gathered) = gathered {
+        gathered.write_out(file)?;
+    }
+    file.sync_all()
+}
+
 impl Disk for FileDisk {
     ghost size = { λ d. d.length };
 
@@ -273,16 +334,19 @@ impl Disk for FileDisk {
 
     fn read_at(&mut self, at: u64, into: &mut [u8]) -> Result<(), DiskFault> {
         let outcome = self.file.read_exact_at(into, at);
+        if let Some(gathered) = &self.gathered {
+            gathered.lay_over(at, into);
+        }
         self.counted(outcome, DiskFault::Read)
     }
 
     fn write_at(&mut self, at: u64, from: &[u8]) -> Result<(), DiskFault> {
-        let outcome = self.file.write_all_at(from, at);
+        let outcome = write_gathered(&self.file, &mut self.gathered, at, from);
         self.counted(outcome, DiskFault::Write)
     }
 
     fn sync(&mut self) -> Result<(), DiskFault> {
-        let outcome = self.file.sync_all();
+        let outcome = sync_gathered(&self.file, &mut self.gathered);
         self.counted(outcome, DiskFault::Sync)
     }
 }

@@ -6,6 +6,7 @@ mod crash;
 mod disk;
 mod file_disk;
 mod fuse;
+mod gathered;
 mod mem_disk;
 mod note;
 mod one_fault;

@@ -15,7 +15,7 @@ fn path_of(rt: &HostRuntime, name: &str) -> Result<String, Fail> {
 }
 
 // Whether the file can be opened as a disk.
-fn opened<R: Files<File = File>>(rt: &R, path: &str) -> Result<(), FileFault> {
+fn opened<R: AllocGlobal + Files<File = File>>(rt: &R, path: &str) -> Result<(), FileFault> {
     match FileDisk::open(rt, path) {
         Ok(_) => Ok(()),
         Err(fault) => Err(fault),
@@ -23,7 +23,7 @@ fn opened<R: Files<File = File>>(rt: &R, path: &str) -> Result<(), FileFault> {
 }
 
 // Whether a new file can be made there as a disk of ten bytes.
-fn created<R: Files<File = File>>(rt: &R, path: &str) -> Result<(), FileFault> {
+fn created<R: AllocGlobal + Files<File = File>>(rt: &R, path: &str) -> Result<(), FileFault> {
     match FileDisk::create(rt, path, 10) {
         Ok(_) => Ok(()),
         Err(fault) => Err(fault),
@@ -58,7 +58,7 @@ fn put<D: Disk>(disk: &mut D, at: u64, bytes: &[u8; 3]) -> Result<(), Fail> {
 }
 
 // Makes the file of a disk of ten bytes, of which the fourth to the sixth are 1, 2, 3.
-fn a_file<R: Abort + Files<File = File>>(rt: &R, path: &str) -> Result<(), Fail> {
+fn a_file<R: Abort + AllocGlobal + Files<File = File>>(rt: &R, path: &str) -> Result<(), Fail> {
     let mut disk = FileDisk::create(rt, path, 10)?;
     assert_eq!(rt; disk.length(), 10);
     put(&mut disk, 3, &[1, 2, 3])?;
@@ -87,10 +87,13 @@ fn a_file_keeps_its_bytes(rt: HostRuntime) -> Result<(), Fail> {
 }
 
 // A file whose lock was taken before is a disk of ten bytes, and no other's.
-fn from_a_locked_file<R: Abort + Files<File = File>>(rt: &R, path: &str) -> Result<(), Fail> {
+fn from_a_locked_file<R: Abort + AllocGlobal + Files<File = File>>(
+    rt: &R,
+    path: &str,
+) -> Result<(), Fail> {
     let file = File::options().read(true).write(true).open(rt, path)?;
     assert_eq!(rt; file.try_lock().is_ok(), true);
-    let disk = FileDisk::from_locked(file)?;
+    let disk = FileDisk::from_locked(rt.alloc(), file)?;
     assert_eq!(rt; disk.length(), 10);
     assert_eq!(rt; opened(rt, path), Err(FileFault::Busy));
     Ok(())
@@ -132,7 +135,10 @@ fn is_only_read<D: Disk>(rt: &impl Abort, disk: &mut D) -> Result<(), Fail> {
 }
 
 // The file is two disks at once that are only read, and none meanwhile that could be written.
-fn is_read_by_two<R: Abort + Files<File = File>>(rt: &R, path: &str) -> Result<(), Fail> {
+fn is_read_by_two<R: Abort + AllocGlobal + Files<File = File>>(
+    rt: &R,
+    path: &str,
+) -> Result<(), Fail> {
     let mut disk = FileDisk::open_for_reading(rt, path)?;
     assert_eq!(rt; looked_at(rt, path), Ok(()));
     assert_eq!(rt; opened(rt, path), Err(FileFault::Busy));
@@ -155,7 +161,7 @@ fn a_file_is_read_by_many(rt: HostRuntime) -> Result<(), Fail> {
 }
 
 // A new file of `length` bytes is as long, has its blocks unless it is sparse, and is its owner's alone.
-fn has_room<R: Abort + Files<File = File>>(
+fn has_room<R: Abort + AllocGlobal + Files<File = File>>(
     rt: &R,
     path: &str,
     length: u64,
@@ -184,5 +190,93 @@ fn a_file_has_room_for_its_zeros(rt: HostRuntime) -> Result<(), Fail> {
     for (length, is_sparse) in [(200_000, false), (65_536, false), (200_000, true)] {
         has_room(&rt, path.as_str(), length, is_sparse)?;
     }
+    Ok(())
+}
+
+// How long the disk is on which writes are gathered: longer than what is gathered at a time.
+const LONG: usize = 2_200_000;
+
+// Where writes begin, how long they are, and the value of all their bytes: three that adjoin, two that do not, the second of
+// them within the first; some that adjoin, more together than is gathered at a time; and one that alone is more.
+static WRITES: [(usize, usize, u8); 10] = [
+    (100, 3, 1),
+    (103, 3, 2),
+    (106, 10, 3),
+    (50, 6, 4),
+    (52, 3, 5),
+    (55, 500_000, 6),
+    (500_055, 500_000, 7),
+    (1_000_055, 500_000, 8),
+    (1_500_055, 2, 9),
+    (1_000_000, 1_100_000, 10),
+];
+
+// Writes so many bytes of one value to the disk, and to what it should hold.
+fn fill<D: Disk>(
+    disk: &mut D,
+    held: &mut [u8],
+    at: usize,
+    size: usize,
+    value: u8,
+) -> Result<(), Fail> {
+    let behind = held.get_mut(at..).ok_or("this place leaves the disk")?;
+    let bytes = behind.get_mut(..size).ok_or("these bytes leave the disk")?;
+    bytes.fill(value);
+    if disk.length() < at as u64 || disk.length() - (at as u64) < size as u64 {
+        return Err(Fail::from("these bytes leave the disk"));
+    }
+    disk.write_at(at as u64, bytes)?;
+    Ok(())
+}
+
+// The disk reads from this place on as it should, to the end of the room or of the disk.
+fn reads_as<D: Disk>(
+    rt: &impl Abort,
+    disk: &mut D,
+    held: &[u8],
+    at: usize,
+    room: &mut [u8],
+) -> Result<(), Fail> {
+    if disk.length() < at as u64 || disk.length() - (at as u64) < room.len() as u64 {
+        return Err(Fail::from("these bytes leave the disk"));
+    }
+    disk.read_at(at as u64, room)?;
+    let wanted = held.get(at..).ok_or("this place leaves the disk")?;
+    assert_eq!(rt; wanted.starts_with(room), true, "from {at} on");
+    Ok(())
+}
+
+// The disk reads as it should: whole, and in two parts.
+fn reads_whole<D: Disk>(
+    rt: &impl Abort,
+    disk: &mut D,
+    held: &[u8],
+    room: &mut [u8],
+    cut: usize,
+) -> Result<(), Fail> {
+    reads_as(rt, disk, held, 0, room)?;
+    let front = room.get_mut(..cut).ok_or("this place leaves the disk")?;
+    reads_as(rt, disk, held, 0, front)?;
+    let rest = room.get_mut(cut..).ok_or("this place leaves the disk")?;
+    reads_as(rt, disk, held, cut, rest)
+}
+
+#[test]
+fn writes_are_gathered(rt: HostRuntime) -> Result<(), Fail> {
+    let path = path_of(&rt, "gathered")?;
+    let path = path.as_str();
+    let mut held = vec![in rt.alloc(); 0u8; LONG]?;
+    let mut room = vec![in rt.alloc(); 0u8; LONG]?;
+    let mut disk = FileDisk::create_sparse(&rt, path, LONG as u64)?;
+    for (at, size, value) in &WRITES {
+        fill(&mut disk, &mut held, *at, *size, *value)?;
+        reads_whole(&rt, &mut disk, &held, &mut room, at.wrapping_add(*size / 2))?;
+    }
+    disk.sync()?;
+    assert_eq!(rt; fs::read(&rt, path)? == held, true);
+    drop(disk);
+    let mut disk = FileDisk::open(&rt, path)?;
+    reads_whole(&rt, &mut disk, &held, &mut room, 1)?;
+    fs::remove_file(&rt, path)?;
     Ok(())
 }

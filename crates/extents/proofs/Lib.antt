@@ -1,3 +1,4 @@
 pub mod BlockLemmas
+pub mod MapLemmas
 pub mod RunLemmas
 pub mod WordLemmas

@@ -1,294 +1,237 @@
--- Flags in words of 64 bits.
-use Rattle.std.proofs.Common.{◌≡◌, ◌≢◌, inl, inr, ℕ, ◌+◌, ◌-◌, ◌*◌, ◌/◌, ◌%◌, ◌^◌, ◌<◌, ◌≤◌, Bool, true, false, List, length, get_or, set, replicate, refl, sym, ap, subst, ◌∙◌, arith}
-use Rattle.std.proofs.lemmas.List.{get_or-set_same, get_or-set_other, length-set, length-replicate, get_or-replicate, get_or_read}
+-- Bits in words of 64 bits, and the second level over these words.
+use Rattle.std.proofs.Common.{◌≡◌, ◌≢◌, inl, inr, ℕ, ◌+◌, ◌-◌, ◌*◌, ◌/◌, ◌%◌, ◌^◌, ◌<◌, ◌≤◌, true, false, cond, List, length, get_or, set, refl, sym, ap, ◌∙◌, arith, min, max, bit_and, bit_or}
+use Rattle.std.proofs.lemmas.List.{get_or-set_same, get_or-set_other, get_or_past}
+use Rattle.std.proofs.Math.Dec.{ltb}
 use Rattle.std.proofs.lemmas.Bool.{cases_lt, cases_eq}
-use Rattle.std.proofs.Math.Dec.{eqb}
 use Rattle.std.specs.Int.{bit_at, bit_not, w64, trailing_zeros}
-use Rattle.std.proofs.Common.{bit_and, bit_or, min}
 use mir.Val.{bits}
-use Rattle.std.proofs.lemmas.Nat.Bits.{bit_at-zero, bit_at-trailing_zeros, bit_at_ones, bit_at_clear_same, bit_at_clear_other, bit_at_set_same, bit_at_set_other}
-use Rattle.extents.specs.FreeSet.{is_free, free_count, without, with_blocks, AllFree, AllUsed, NoneFree}
-use Rattle.extents.specs.FreeWords.{bit_of, flags_of, IsMap, IsFirstNotZero}
-use Rattle.extents.specs.FreeLaws.{length_flags_by, flag_below, same_flags, run_of, without_more, with_more, count_without, count_with_run, free_without, free_with_other, uses_outside, count_no_more, length_with, flag_past, all_free, count_all}
-use Rattle.extents.specs.Runs.{run_blocks}
+use Rattle.std.proofs.lemmas.Nat.Bits.{bit_at-zero, bit_at-lt, bit_at_and, bit_at_or, bit_at_not, bit_at-trailing_zeros, bit_at_ones, bit_at_ones_above, bit_at_mask_inside, bit_at_mask_below, ones_shl, ones_shr}
+use Rattle.extents.specs.FreeSet.{is_within, one_if}
+use Rattle.extents.specs.FreeWords.{bit_of, IsSecondLevel, AreWritten, IsFreeStart}
+use Rattle.extents.specs.FreeLaws.{below_run, past_run, within_run}
 use Rattle.extents.specs.declared.run_list.Run.{Run}
 
-pub length_flags_of : (words : List ℕ) (n : ℕ) → length (flags_of words n) ≡ n
-unfolding flags_of
-length_flags_of words n = length_flags_by n (λ k. eqb (bit_of words k) 1)
+-- One word written.
 
-pub flag_of : (words : List ℕ) (n k : ℕ) → k < n → is_free (flags_of words n) k ≡ eqb (bit_of words k) 1
-unfolding flags_of
-flag_of words n k below = flag_below n (λ j. eqb (bit_of words j) 1) k below
+pub bit_same : (words : List ℕ) (place word k : ℕ) → place < length words → k / 64 ≡ place → bit_of (set words place word) k ≡ bit_at word (k % 64)
+bit_same words place word k within row =
+    ap (λ j. bit_at (get_or (set words place word) j 0) (k % 64)) row ∙ ap (λ w. bit_at w (k % 64)) (get_or-set_same words place word 0 within)
 
--- one bit changed
-pub one_changed : (words : List ℕ) (n b : ℕ) (word : ℕ) (t : Bool) → b < n → n ≤ 64 * length words
-    → eqb (bit_at word (b % 64)) 1 ≡ t
-    → ((i : ℕ) → i < 64 → i ≢ b % 64 → bit_at word i ≡ bit_at (get_or words (b / 64) 0) i)
-    → flags_of (set words (b / 64) word) n ≡ set (flags_of words n) b t
-one_changed words n b word t fits enough here others =
-    let new : List ℕ = set words (b / 64) word in
-    let old : List Bool = flags_of words n in
-    let long : length old ≡ n = length_flags_of words n in
-    let longer : length (flags_of new n) ≡ n = length_flags_of new n in
-    let place : b / 64 < length words = omega arith in
-    same_flags (flags_of new n) (set old b t) (longer ∙ sym (length-set old b t ∙ long)) (λ k below.
-    let within : k < n = omega arith in
-    flag_of new n k within
-    ∙ elim (cases_eq (k / 64) (b / 64)) as (λ _. eqb (bit_of new k) 1 ≡ is_free (set old b t) k) [
-      | inl row ↦ (
-          let e : get_or new (k / 64) 0 ≡ word = ap (λ j. get_or new j 0) row ∙ get_or-set_same words (b / 64) word 0 place in
-          elim (cases_eq (k % 64) (b % 64)) as (λ _. eqb (bit_of new k) 1 ≡ is_free (set old b t) k) [
-            | inl column ↦ (
-                let same : k ≡ b = omega arith in
-                ap (λ w. eqb (bit_at w (k % 64)) 1) e ∙ ap (λ j. eqb (bit_at word j) 1) column ∙ here
-                ∙ sym (ap (is_free (set old b t)) same ∙ get_or-set_same old b t false (omega arith)))
-            | inr column ↦ (
-                let other : k ≢ b = λ same. column (ap (λ j. j % 64) same) in
-                ap (λ w. eqb (bit_at w (k % 64)) 1) e
-                ∙ ap (λ v. eqb v 1) (others (k % 64) (omega arith) column)
-                ∙ ap (λ j. eqb (bit_at (get_or words j 0) (k % 64)) 1) (sym row)
-                ∙ sym (get_or-set_other old b k t false other ∙ flag_of words n k within))
+pub bit_other : (words : List ℕ) (place word k : ℕ) → k / 64 ≢ place → bit_of (set words place word) k ≡ bit_of words k
+bit_other words place word k row = ap (λ w. bit_at w (k % 64)) (get_or-set_other words place (k / 64) word 0 row)
+
+pub bit_past : (words : List ℕ) (k : ℕ) → 64 * length words ≤ k → bit_of words k ≡ 0
+bit_past words k past = ap (λ w. bit_at w (k % 64)) (get_or_past words (k / 64) 0 (omega arith)) ∙ bit_at-zero (k % 64)
+
+-- The bits of a run in one word.
+
+-- the mask of those from `low` on and below `high`
+pub mask_bits : (run : Run) (place low high i : ℕ) → low ≡ run.start - 64 * place → high ≡ min (run.start + run.count - 64 * place) 64 → run.start < 64 * place + 64 → 64 * place < run.start + run.count → i < 64
+    → bit_at (bit_and ((2 ^ 64 - 1) * 2 ^ low % 2 ^ 64) ((2 ^ 64 - 1) / 2 ^ (64 - high))) i ≡ one_if (is_within run (64 * place + i))
+mask_bits run place low high i is_low is_high begun not_over short =
+    let e : 64 - (64 - high) ≡ high = omega arith in
+    let from_low : bit_at ((2 ^ 64 - 1) * 2 ^ low % 2 ^ 64) i ≡ bit_at (2 ^ 64 - 2 ^ low) i = ap (λ n. bit_at n i) (ones_shl 64 low (omega arith)) in
+    let to_high : bit_at ((2 ^ 64 - 1) / 2 ^ (64 - high)) i ≡ bit_at (2 ^ high - 1) i = ap (λ n. bit_at n i) (ones_shr 64 (64 - high) (omega arith) ∙ ap (λ k. 2 ^ k - 1) e) in
+    bit_at_and ((2 ^ 64 - 1) * 2 ^ low % 2 ^ 64) ((2 ^ 64 - 1) / 2 ^ (64 - high)) i
+    ∙ ap (λ n. min n (bit_at ((2 ^ 64 - 1) / 2 ^ (64 - high)) i)) from_low ∙ ap (λ n. min (bit_at (2 ^ 64 - 2 ^ low) i) n) to_high
+    ∙ elim (cases_lt i low) as (λ _. min (bit_at (2 ^ 64 - 2 ^ low) i) (bit_at (2 ^ high - 1) i) ≡ one_if (is_within run (64 * place + i))) [
+      | inl below ↦ (
+          let a : bit_at (2 ^ 64 - 2 ^ low) i ≡ 0 = bit_at_mask_below low 64 i below in
+          let b : one_if (is_within run (64 * place + i)) ≡ 0 = ap one_if (below_run run (64 * place + i) (omega arith)) in
+          omega (arith, a, b))
+      | inr from ↦ (
+          let a : bit_at (2 ^ 64 - 2 ^ low) i ≡ 1 = bit_at_mask_inside low 64 i from short in
+          elim (cases_lt i high) as (λ _. min (bit_at (2 ^ 64 - 2 ^ low) i) (bit_at (2 ^ high - 1) i) ≡ one_if (is_within run (64 * place + i))) [
+            | inl inside ↦ (
+                let b : bit_at (2 ^ high - 1) i ≡ 1 = bit_at_ones high i inside in
+                let d : one_if (is_within run (64 * place + i)) ≡ 1 = ap one_if (within_run run (64 * place + i) (omega arith) (omega arith)) in
+                omega (arith, a, b, d))
+            | inr past ↦ (
+                let b : bit_at (2 ^ high - 1) i ≡ 0 = bit_at_ones_above high i past in
+                let d : one_if (is_within run (64 * place + i)) ≡ 0 = ap one_if (past_run run (64 * place + i) (omega arith)) in
+                omega (arith, a, b, d))
           ])
-      | inr row ↦ (
-          let other : k ≢ b = λ same. row (ap (λ j. j / 64) same) in
-          ap (λ w. eqb (bit_at w (k % 64)) 1) (get_or-set_other words (b / 64) (k / 64) word 0 row)
-          ∙ sym (get_or-set_other old b k t false other ∙ flag_of words n k within))
-    ])
+    ]
 
--- the place of a block's word
-pub place_of : (words : List ℕ) (n b : ℕ) → b < n → n ≤ 64 * length words → b / 64 < length words
-place_of words n b below enough = omega arith
-
--- A block's bit cleared and set.
-module _ (words : List ℕ) (n b w : ℕ) (below : b < n) (enough : n ≤ 64 * length words) (is : w ≡ get_or words (b / 64) 0) where
-  abbrev pub cleared : List ℕ
-  cleared = set words (b / 64) (bit_and w (bit_not w64 (1 * 2 ^ (b % 64) % 2 ^ bits w64)))
-
-  abbrev pub raised : List ℕ
-  raised = set words (b / 64) (bit_or w (1 * 2 ^ (b % 64) % 2 ^ bits w64))
-
-  pub flags_cleared : flags_of cleared n ≡ set (flags_of words n) b false
-  flags_cleared =
-      one_changed words n b (bit_and w (bit_not w64 (1 * 2 ^ (b % 64) % 2 ^ bits w64))) false below enough
-      (ap (λ v. eqb v 1) (bit_at_clear_same w64 w (b % 64) (omega arith)))
-      (λ i within other. bit_at_clear_other w64 w (b % 64) (omega arith) i within other ∙ ap (λ v. bit_at v i) is)
-
-  pub flags_raised : flags_of raised n ≡ set (flags_of words n) b true
-  flags_raised =
-      one_changed words n b (bit_or w (1 * 2 ^ (b % 64) % 2 ^ bits w64)) true below enough
-      (ap (λ v. eqb v 1) (bit_at_set_same w64 w (b % 64) (omega arith)))
-      (λ i within other. bit_at_set_other w64 w (b % 64) (omega arith) i other ∙ ap (λ v. bit_at v i) is)
-
--- One more bit of a run cleared or set: `now` are the words so far, of `old` ones.
-module _ (old now : List ℕ) (n start b w : ℕ) (long : length now ≡ length old) (from : start ≤ b) (below : b < n) (enough : n ≤ 64 * length old) (is : w ≡ get_or now (b / 64) 0) where
-  pub enough_now : n ≤ 64 * length now
-  enough_now = omega arith
-
-  pub cleared_more : flags_of now n ≡ without (flags_of old n) (run_of start (b - start))
-      → flags_of (cleared now n b w below enough_now is) n ≡ without (flags_of old n) (run_of start (b + 1 - start))
-  cleared_more so_far =
-      let e : b + 1 - start ≡ b - start + 1 = omega arith in
-      let f : start + (b - start) ≡ b = omega arith in
-      flags_cleared now n b w below enough_now is
-      ∙ ap (λ xs. set xs b false) so_far
-      ∙ ap (λ k. set (without (flags_of old n) (run_of start (b - start))) k false) (sym f)
-      ∙ sym (without_more (flags_of old n) start (b - start) (omega (arith, length_flags_of old n)))
-      ∙ ap (λ k. without (flags_of old n) (run_of start k)) (sym e)
-
-  pub raised_more : flags_of now n ≡ with_blocks (flags_of old n) (run_blocks (run_of start (b - start)))
-      → flags_of (raised now n b w below enough_now is) n ≡ with_blocks (flags_of old n) (run_blocks (run_of start (b + 1 - start)))
-  raised_more so_far =
-      let e : b + 1 - start ≡ b - start + 1 = omega arith in
-      let f : start + (b - start) ≡ b = omega arith in
-      flags_raised now n b w below enough_now is
-      ∙ ap (λ xs. set xs b true) so_far
-      ∙ ap (λ k. set (with_blocks (flags_of old n) (run_blocks (run_of start (b - start)))) k true) (sym f)
-      ∙ sym (with_more (flags_of old n) start (b - start) (omega (arith, length_flags_of old n)))
-      ∙ ap (λ k. with_blocks (flags_of old n) (run_blocks (run_of start k))) (sym e)
-
--- A map with a run taken and with a run given back.
-module _ (words new : List ℕ) (n free first : ℕ) (run : Run) (m : IsMap words n free first) (long : length new ≡ length words) (fits : run.start + run.count ≤ n) where
-  pub map_without : flags_of new n ≡ without (flags_of words n) run → AllFree (flags_of words n) run → IsMap new n (free - run.count) first
-  map_without is all = record {
-    limit = m.limit;
-    enough = omega (arith, m.enough);
-    no_more = omega (arith, m.no_more);
-    counted = omega (arith, ap free_count is, count_without (flags_of words n) run.start run.count (omega (arith, length_flags_of words n)) all, m.counted);
-    within = omega (arith, m.within);
-    none_before = λ k before. ap (λ f. is_free f k) is ∙ free_without (flags_of words n) run k ∙ rw (m.none_before k before) refl;
-  }
-
-  pub map_with : flags_of new n ≡ with_blocks (flags_of words n) (run_blocks run) → AllUsed (flags_of words n) run → IsMap new n (free + run.count) (min first (run.start / 64))
-  map_with is none = record {
-    limit = m.limit;
-    enough = omega (arith, m.enough);
-    no_more = omega (arith, m.no_more);
-    counted = omega (arith, ap free_count is, count_with_run (flags_of words n) run (omega (arith, length_flags_of words n)) none, m.counted);
-    within = omega (arith, m.within);
-    none_before = λ k before. ap (λ f. is_free f k) is ∙ free_with_other (flags_of words n) (run_blocks run) k (uses_outside run k (inl (omega arith))) ∙ m.none_before k (omega arith);
-  }
-
--- What a map knows of one of its blocks.
-pub block_below : (words : List ℕ) (n b : ℕ) (flags : List Bool) → flags_of words n ≡ flags → b < length flags → b < n
-block_below words n b flags is below = omega (arith, ap length is, length_flags_of words n)
-
-pub same_flag : (words : List ℕ) (n b : ℕ) (flags : List Bool) (t : Bool) → flags_of words n ≡ flags → is_free flags b ≡ t → is_free (flags_of words n) b ≡ t
-same_flag words n b flags t is flag = ap (λ f. is_free f b) is ∙ flag
-
-pub free_fits : (words : List ℕ) (n free first : ℕ) → IsMap words n free first → free ≤ 16777216
-free_fits words n free first m = omega (arith, m.limit, m.counted, count_no_more (flags_of words n), length_flags_of words n)
-
--- A run of a map with these flags.
-module _ (words : List ℕ) (n free first : ℕ) (m : IsMap words n free first) (flags : List Bool) (view : flags_of words n ≡ flags) (run : Run) (fits : run.start + run.count ≤ length flags) where
-  pub run_below : run.start + run.count ≤ n
-  run_below = omega (arith, ap length view, length_flags_of words n)
-
-  pub run_fits : run.start + run.count < 2 ^ 32
-  run_fits = omega (arith, run_below, m.limit)
-
-  all_free_here : AllFree flags run → AllFree (flags_of words n) run
-  all_free_here all k from below = same_flag words n k flags true view (all k from below)
-
-  all_used_here : AllUsed flags run → AllUsed (flags_of words n) run
-  all_used_here none k from below = same_flag words n k flags false view (none k from below)
-
-  pub run_counted : AllFree flags run → run.count ≤ free
-  run_counted all = omega (arith, m.counted, count_without (flags_of words n) run.start run.count (omega (arith, run_below, length_flags_of words n)) (all_free_here all))
-
-  pub more_counted : AllUsed flags run → free + run.count ≤ 16777216
-  more_counted none =
-      omega (
-        arith,
-        m.counted,
-        m.limit,
-        count_with_run (flags_of words n) run (omega (arith, run_below, length_flags_of words n)) (all_used_here none),
-        count_no_more (with_blocks (flags_of words n) (run_blocks run)),
-        length_with (flags_of words n) (run_blocks run),
-        length_flags_of words n,
-      )
-
-  -- The words are lent, changed and put back.
-  module _ (lent new put : List ℕ) (same : lent ≡ words) (long : length new ≡ length lent) (is : put ≡ new) where
-    pub lent_enough : run.start + run.count ≤ 64 * length lent
-    lent_enough = omega (arith, run_below, m.enough, ap length same)
-
-    put_long : length put ≡ length words
-    put_long = ap length is ∙ long ∙ ap length same
-
-    module _ (does : (k : ℕ) → run.start + run.count ≤ k → k ≤ 64 * length lent → flags_of new k ≡ without (flags_of lent k) run) where
-      put_without : flags_of put n ≡ without (flags_of words n) run
-      put_without = ap (λ ws. flags_of ws n) is ∙ does n run_below (omega (arith, m.enough, ap length same)) ∙ ap (λ ws. without (flags_of ws n) run) same
-
-      pub view_without : flags_of put n ≡ without flags run
-      view_without = put_without ∙ ap (λ f. without f run) view
-
-      pub is_map_without : AllFree flags run → IsMap put n (free - run.count) first
-      is_map_without all = map_without words put n free first run m put_long run_below put_without (all_free_here all)
-
-    module _ (does : (k : ℕ) → run.start + run.count ≤ k → k ≤ 64 * length lent → flags_of new k ≡ with_blocks (flags_of lent k) (run_blocks run)) where
-      put_with : flags_of put n ≡ with_blocks (flags_of words n) (run_blocks run)
-      put_with = ap (λ ws. flags_of ws n) is ∙ does n run_below (omega (arith, m.enough, ap length same)) ∙ ap (λ ws. with_blocks (flags_of ws n) (run_blocks run)) same
-
-      pub view_with : flags_of put n ≡ with_blocks flags (run_blocks run)
-      view_with = put_with ∙ ap (λ f. with_blocks f (run_blocks run)) view
-
-      pub is_map_with : AllUsed flags run → (lower : ℕ) → lower ≡ min first (run.start / 64) → IsMap put n (free + run.count) lower
-      is_map_with none lower e =
-          let P : ℕ → Type 0 = λ k. IsMap put n (free + run.count) k in
-          subst P (sym e) (map_with words put n free first run m put_long run_below put_with (all_used_here none))
-
--- The search for the lowest free block.
-module _ (words : List ℕ) (n free first : ℕ) (m : IsMap words n free first) (place : ℕ) (found : IsFirstNotZero words first place) where
-  -- none is free in the words that it passed
-  pub skipped : (k : ℕ) → k < 64 * place → is_free (flags_of words n) k ≡ false
-  skipped k before =
-      elim (cases_lt k n) as (λ _. is_free (flags_of words n) k ≡ false) [
-        | inr past ↦ flag_past (flags_of words n) k (omega (arith, length_flags_of words n))
-        | inl below ↦ elim (cases_lt k (64 * first)) as (λ _. is_free (flags_of words n) k ≡ false) [
-          | inl known ↦ m.none_before k known
-          | inr later ↦ (
-              let zero_word : get_or words (k / 64) 0 ≡ 0 = found.zeros (k / 64) (omega arith) (omega arith) in
-              let zero_bit : bit_of words k ≡ 0 = ap (λ w. bit_at w (k % 64)) zero_word ∙ bit_at-zero (k % 64) in
-              flag_of words n k below ∙ ap (λ v. eqb v 1) zero_bit)
-        ]
+-- A word with a mask of a run's bits: cleared, set, and of those that it has not.
+module _ (run : Run) (place word mask : ℕ) (fits : mask < 2 ^ 64) (bits_are : (i : ℕ) → i < 64 → bit_at mask i ≡ one_if (is_within run (64 * place + i))) where
+  pub bits_cleared : (i : ℕ) → i < 64 → bit_at (bit_and word (bit_not w64 mask)) i ≡ cond (is_within run (64 * place + i)) 0 (bit_at word i)
+  bits_cleared i short =
+      bit_at_and word (bit_not w64 mask) i
+      ∙ ap (λ n. min (bit_at word i) n) (bit_at_not w64 mask i fits short ∙ ap (λ n. 1 - n) (bits_are i short))
+      ∙ elim (is_within run (64 * place + i)) as (λ t. min (bit_at word i) (1 - one_if t) ≡ cond t 0 (bit_at word i)) [
+        | true ↦ omega arith
+        | false ↦ omega (arith, bit_at-lt word i)
       ]
 
-  pub moved_on : IsMap words n free place
-  moved_on = record {
-    limit = m.limit;
-    enough = m.enough;
-    no_more = m.no_more;
-    counted = m.counted;
-    within = found.within;
-    none_before = skipped;
-  }
-
-  pub none_at_all : place ≡ length words → NoneFree (flags_of words n)
-  none_at_all end k =
-      elim (cases_lt k n) as (λ _. is_free (flags_of words n) k ≡ false) [
-        | inl below ↦ skipped k (omega (arith, m.enough))
-        | inr past ↦ flag_past (flags_of words n) k (omega (arith, length_flags_of words n))
+  pub bits_set : (i : ℕ) → i < 64 → bit_at (bit_or word mask) i ≡ cond (is_within run (64 * place + i)) 1 (bit_at word i)
+  bits_set i short =
+      bit_at_or word mask i
+      ∙ ap (λ n. max (bit_at word i) n) (bits_are i short)
+      ∙ elim (is_within run (64 * place + i)) as (λ t. max (bit_at word i) (one_if t) ≡ cond t 1 (bit_at word i)) [
+        | true ↦ omega (arith, bit_at-lt word i)
+        | false ↦ omega arith
       ]
 
-  -- The word at the place, and the place of its lowest bit.
-  module _ (word : ℕ) (within : place < length words) (is : word ≡ get_or words place word) (fits : word < 2 ^ 64) where
-    is_word : word ≡ get_or words place 0
-    is_word = get_or_read words place word within is 0
+  pub bits_missing : word < 2 ^ 64 → (i : ℕ) → i < 64 → bit_at (bit_and (bit_not w64 word) mask) i ≡ cond (is_within run (64 * place + i)) (1 - bit_at word i) 0
+  bits_missing short_word i short =
+      bit_at_and (bit_not w64 word) mask i
+      ∙ ap (λ n. min n (bit_at mask i)) (bit_at_not w64 word i short_word short)
+      ∙ ap (λ n. min (1 - bit_at word i) n) (bits_are i short)
+      ∙ elim (is_within run (64 * place + i)) as (λ t. min (1 - bit_at word i) (one_if t) ≡ cond t (1 - bit_at word i) 0) [
+        | true ↦ omega arith
+        | false ↦ omega arith
+      ]
 
-    lowest_bit : (trailing_zeros w64 word < bits w64) × (bit_at word (trailing_zeros w64 word) ≡ 1) × ((i : ℕ) → i < trailing_zeros w64 word → bit_at word i ≡ 0)
-    lowest_bit = bit_at-trailing_zeros w64 word (omega (arith, is_word, found.not_zero within)) fits
+-- The bits of a run written word by word: in `now` those below word `place` are.
+pub record IsWrittenTo (old now : List ℕ) (run : Run) (value place : ℕ) : Type 0 where
+  pub done : (k : ℕ) → k < 64 * place → bit_of now k ≡ cond (is_within run k) value (bit_of old k)
+  pub left : (k : ℕ) → 64 * place ≤ k → bit_of now k ≡ bit_of old k
 
-    pub none_below : (k : ℕ) → k < place * 64 + trailing_zeros w64 word → is_free (flags_of words n) k ≡ false
-    none_below k lower =
-        let short = lowest_bit.0 in
-        elim (cases_lt k (64 * place)) as (λ _. is_free (flags_of words n) k ≡ false) [
-          | inl before ↦ skipped k before
-          | inr from ↦ elim (cases_lt k n) as (λ _. is_free (flags_of words n) k ≡ false) [
-            | inr past ↦ flag_past (flags_of words n) k (omega (arith, length_flags_of words n))
-            | inl below ↦ (
-                let row : k / 64 ≡ place = omega arith in
-                let column : k % 64 < trailing_zeros w64 word = omega arith in
-                flag_of words n k below ∙ ap (λ j. eqb (bit_at (get_or words j 0) (k % 64)) 1) row
-                ∙ ap (λ w. eqb (bit_at w (k % 64)) 1) (sym is_word) ∙ ap (λ v. eqb v 1) (lowest_bit.2 (k % 64) column))
-          ]
-        ]
+pub written_none : (words : List ℕ) (run : Run) (value : ℕ) → IsWrittenTo words words run value (run.start / 64)
+written_none words run value = record {
+  done = λ k before. rw (below_run run k (omega arith)) refl;
+  left = λ k _. refl;
+}
 
-    pub lowest_is_free : place * 64 + trailing_zeros w64 word < n → is_free (flags_of words n) (place * 64 + trailing_zeros w64 word) ≡ true
-    lowest_is_free below =
-        let short = lowest_bit.0 in
-        let k : ℕ = place * 64 + trailing_zeros w64 word in
-        let row : k / 64 ≡ place = omega arith in
-        let column : k % 64 ≡ trailing_zeros w64 word = omega arith in
-        flag_of words n k below ∙ ap (λ j. eqb (bit_at (get_or words j 0) (k % 64)) 1) row
-        ∙ ap (λ w. eqb (bit_at w (k % 64)) 1) (sym is_word) ∙ ap (λ i. eqb (bit_at word i) 1) column ∙ ap (λ v. eqb v 1) lowest_bit.1
-
-    pub none_past : n ≤ place * 64 + trailing_zeros w64 word → NoneFree (flags_of words n)
-    none_past over k =
-        elim (cases_lt k n) as (λ _. is_free (flags_of words n) k ≡ false) [
-          | inl below ↦ none_below k (omega arith)
-          | inr past ↦ flag_past (flags_of words n) k (omega (arith, length_flags_of words n))
-        ]
-
--- All blocks free at the start.
-pub all_ones : (n count : ℕ) → count ≤ 64 * n → flags_of (replicate n (2 ^ 64 - 1)) count ≡ replicate count true
-all_ones n count enough =
-    let words : List ℕ = replicate n (2 ^ 64 - 1) in
-    same_flags (flags_of words count) (replicate count true) (length_flags_of words count ∙ sym (length-replicate count true)) (λ k below.
-    let within : k < count = omega (arith, length_flags_of words count) in
-    flag_of words count k within
-    ∙ ap (λ w. eqb (bit_at w (k % 64)) 1) (get_or-replicate n (k / 64) (2 ^ 64 - 1) 0 (omega arith))
-    ∙ ap (λ v. eqb v 1) (bit_at_ones 64 (k % 64) (omega arith))
-    ∙ sym (all_free count k within))
-
-pub map_at_start : (words : List ℕ) (n count : ℕ) → words ≡ replicate n (2 ^ 64 - 1) → n ≡ (count + 63) / 64 → count ≤ 16777216 → IsMap words count count 0
-map_at_start words n count is size limit =
-    let long : length words ≡ n = ap length is ∙ length-replicate n (2 ^ 64 - 1) in
+pub written_more : (old now : List ℕ) (run : Run) (value place word before : ℕ) → place < length now → before ≡ get_or now place 0
+    → ((i : ℕ) → i < 64 → bit_at word i ≡ cond (is_within run (64 * place + i)) value (bit_at before i))
+    → IsWrittenTo old now run value place → IsWrittenTo old (set now place word) run value (place + 1)
+written_more old now run value place word before within is here so_far =
     record {
-      limit = limit;
-      enough = omega arith;
-      no_more = omega arith;
-      counted = sym (ap free_count (ap (λ ws. flags_of ws count) is ∙ all_ones n count (omega arith)) ∙ count_all count);
-      within = omega arith;
-      none_before = λ k before. absurd (omega arith);
+      done = λ k below. elim (cases_eq (k / 64) place) as (λ _. bit_of (set now place word) k ≡ cond (is_within run k) value (bit_of old k)) [
+        | inl row ↦ (
+            let e : 64 * place + k % 64 ≡ k = omega arith in
+            let same : bit_at before (k % 64) ≡ bit_of old k =
+            ap (λ w. bit_at w (k % 64)) is ∙ ap (λ j. bit_at (get_or now j 0) (k % 64)) (sym row) ∙ so_far.left k (omega arith) in
+            bit_same now place word k within row ∙ here (k % 64) (omega arith)
+            ∙ ap (λ j. cond (is_within run j) value (bit_at before (k % 64))) e
+            ∙ ap (λ v. cond (is_within run k) value v) same)
+        | inr row ↦ bit_other now place word k row ∙ so_far.done k (omega arith)
+      ];
+      left = λ k from. bit_other now place word k (λ row. omega arith) ∙ so_far.left k (omega arith);
     }
+
+pub written_all : (old new : List ℕ) (run : Run) (value place : ℕ) → run.start + run.count ≤ 64 * place → IsWrittenTo old new run value place → AreWritten old run value new
+written_all old new run value place over so_far k =
+    elim (cases_lt k (64 * place)) as (λ _. bit_of new k ≡ cond (is_within run k) value (bit_of old k)) [
+      | inl below ↦ so_far.done k below
+      | inr from ↦ so_far.left k from ∙ rw (past_run run k (omega arith)) refl
+    ]
+
+-- The second level where a word is written.
+
+some_bit : (words : List ℕ) (place word j : ℕ) → j ≢ place → one_if (ltb 0 (get_or (set words place word) j 0)) ≡ one_if (ltb 0 (get_or words j 0))
+some_bit words place word j other = ap (λ w. one_if (ltb 0 w)) (get_or-set_other words place j word 0 other)
+
+-- The bit of the second level is changed in the word `group` of it.
+pub second_more : (words groups : List ℕ) (place word group : ℕ) → place < length words → length words ≤ 64 * length groups
+    → bit_at group (place % 64) ≡ one_if (ltb 0 word)
+    → ((i : ℕ) → i < 64 → i ≢ place % 64 → bit_at group i ≡ bit_at (get_or groups (place / 64) 0) i)
+    → IsSecondLevel groups words → IsSecondLevel (set groups (place / 64) group) (set words place word)
+second_more words groups place word group within enough here others second j =
+    let row_within : place / 64 < length groups = omega arith in
+    let new : List ℕ = set groups (place / 64) group in
+    elim (cases_eq j place) as (λ _. bit_of new j ≡ one_if (ltb 0 (get_or (set words place word) j 0))) [
+      | inl same ↦ bit_same groups (place / 64) group j row_within (ap (λ n. n / 64) same)
+          ∙ ap (λ n. bit_at group (n % 64)) same ∙ here
+          ∙ sym (ap (λ n. one_if (ltb 0 (get_or (set words place word) n 0))) same ∙ ap (λ w. one_if (ltb 0 w)) (get_or-set_same words place word 0 within))
+      | inr other ↦ elim (cases_eq (j / 64) (place / 64)) as (λ _. bit_of new j ≡ one_if (ltb 0 (get_or (set words place word) j 0))) [
+        | inl row ↦ (
+            let column : j % 64 ≢ place % 64 = λ same. other (omega (arith, same, row)) in
+            bit_same groups (place / 64) group j row_within row ∙ others (j % 64) (omega arith) column
+            ∙ ap (λ n. bit_at (get_or groups n 0) (j % 64)) (sym row) ∙ second j ∙ sym (some_bit words place word j other))
+        | inr row ↦ bit_other groups (place / 64) group j row ∙ second j ∙ sym (some_bit words place word j other)
+      ]
+    ]
+
+-- `free_at_start`: the bits of the run below word `place` are all set.
+module _ (words : List ℕ) (run : Run) (place : ℕ) (so_far : (k : ℕ) → run.start ≤ k → k < run.start + run.count → k < 64 * place → bit_of words k ≡ 1) where
+  pub all_set : run.start + run.count ≤ 64 * place → IsFreeStart words run run.count
+  all_set over = record {
+    at_most = omega arith;
+    free = λ k from below. so_far k from below (omega arith);
+    longest = inl refl;
+  }
+
+  -- The word there, and those bits of the run that it has not.
+  module _ (word used : ℕ) (is : word ≡ get_or words place 0) (short : used < 2 ^ 64) (missing : (i : ℕ) → i < 64 → bit_at used i ≡ cond (is_within run (64 * place + i)) (1 - bit_at word i) 0) where
+    word_bit : (k : ℕ) → k / 64 ≡ place → bit_at word (k % 64) ≡ bit_of words k
+    word_bit k row = ap (λ w. bit_at w (k % 64)) is ∙ ap (λ j. bit_at (get_or words j 0) (k % 64)) (sym row)
+
+    missing_at : (k : ℕ) → k / 64 ≡ place → run.start ≤ k → k < run.start + run.count → bit_at used (k % 64) ≡ 1 - bit_of words k
+    missing_at k row from below =
+        let e : 64 * place + k % 64 ≡ k = omega arith in
+        missing (k % 64) (omega arith) ∙ ap (λ j. cond (is_within run j) (1 - bit_at word (k % 64)) 0) e
+        ∙ rw (within_run run k from below) (ap (λ v. 1 - v) (word_bit k row))
+
+    pub set_more : used ≡ 0 → (k : ℕ) → run.start ≤ k → k < run.start + run.count → k < 64 * (place + 1) → bit_of words k ≡ 1
+    set_more none k from below before =
+        elim (cases_lt k (64 * place)) as (λ _. bit_of words k ≡ 1) [
+          | inl earlier ↦ so_far k from below earlier
+          | inr here ↦ (
+              let zero_bit : bit_at used (k % 64) ≡ 0 = ap (λ u. bit_at u (k % 64)) none ∙ bit_at-zero (k % 64) in
+              let m = missing_at k (omega arith) from below in
+              omega (arith, zero_bit, m, bit_at-lt (get_or words (k / 64) 0) (k % 64)))
+        ]
+
+    module _ (some : 0 < used) where
+      first_used : (trailing_zeros w64 used < bits w64) × (bit_at used (trailing_zeros w64 used) ≡ 1) × ((i : ℕ) → i < trailing_zeros w64 used → bit_at used i ≡ 0)
+      first_used = bit_at-trailing_zeros w64 used some short
+
+      pub used_within : (run.start ≤ 64 * place + trailing_zeros w64 used) × (64 * place + trailing_zeros w64 used < run.start + run.count)
+      used_within =
+          let f = first_used in
+          let z : ℕ = trailing_zeros w64 used in
+          let m = missing z f.0 in
+          elim (cases_lt (64 * place + z) run.start) as (λ _. (run.start ≤ 64 * place + z) × (64 * place + z < run.start + run.count)) [
+            | inl before ↦ (let e : bit_at used z ≡ 0 = m ∙ rw (below_run run (64 * place + z) before) refl in absurd (omega (arith, e, f.1)))
+            | inr from ↦ elim (cases_lt (64 * place + z) (run.start + run.count)) as (λ _. (run.start ≤ 64 * place + z) × (64 * place + z < run.start + run.count)) [
+              | inl inside ↦ (from, inside)
+              | inr past ↦ (let e : bit_at used z ≡ 0 = m ∙ rw (past_run run (64 * place + z) past) refl in absurd (omega (arith, e, f.1)))
+            ]
+          ]
+
+      pub set_up_to : (count : ℕ) → run.start + count ≡ 64 * place + trailing_zeros w64 used → IsFreeStart words run count
+      set_up_to count is_count =
+          let f = first_used in
+          let w = used_within in
+          let z : ℕ = trailing_zeros w64 used in
+          record {
+            at_most = omega arith;
+            free = λ k from below. elim (cases_lt k (64 * place)) as (λ _. bit_of words k ≡ 1) [
+              | inl earlier ↦ so_far k from (omega arith) earlier
+              | inr here ↦ (
+                  let zero_bit : bit_at used (k % 64) ≡ 0 = f.2 (k % 64) (omega arith) in
+                  let m = missing_at k (omega arith) from (omega arith) in
+                  omega (arith, zero_bit, m, bit_at-lt (get_or words (k / 64) 0) (k % 64)))
+            ];
+            longest = inr (
+                let k : ℕ = run.start + count in
+                let column : k % 64 ≡ z = omega arith in
+                let one_bit : bit_at used (k % 64) ≡ 1 = ap (bit_at used) column ∙ f.1 in
+                let m = missing_at k (omega arith) (omega arith) (omega arith) in
+                omega (arith, one_bit, m, bit_at-lt (get_or words (k / 64) 0) (k % 64)));
+          }
+
+-- The lowest bit that is set, in the first word that is not 0.
+module _ (words : List ℕ) (place word : ℕ) (is : word ≡ get_or words place 0) (some : 0 < word) (fits : word < 2 ^ 64) where
+  lowest_bit : (trailing_zeros w64 word < bits w64) × (bit_at word (trailing_zeros w64 word) ≡ 1) × ((i : ℕ) → i < trailing_zeros w64 word → bit_at word i ≡ 0)
+  lowest_bit = bit_at-trailing_zeros w64 word some fits
+
+  pub lowest_short : trailing_zeros w64 word < 64
+  lowest_short = lowest_bit.0
+
+  pub lowest_set : bit_of words (place * 64 + trailing_zeros w64 word) ≡ 1
+  lowest_set =
+      let short = lowest_bit.0 in
+      let k : ℕ = place * 64 + trailing_zeros w64 word in
+      let row : k / 64 ≡ place = omega arith in
+      let column : k % 64 ≡ trailing_zeros w64 word = omega arith in
+      ap (λ j. bit_at (get_or words j 0) (k % 64)) row ∙ ap (λ w. bit_at w (k % 64)) (sym is) ∙ ap (bit_at word) column ∙ lowest_bit.1
+
+  pub none_lower : (k : ℕ) → 64 * place ≤ k → k < place * 64 + trailing_zeros w64 word → bit_of words k ≡ 0
+  none_lower k from lower =
+      let short = lowest_bit.0 in
+      let row : k / 64 ≡ place = omega arith in
+      ap (λ j. bit_at (get_or words j 0) (k % 64)) row ∙ ap (λ w. bit_at w (k % 64)) (sym is) ∙ lowest_bit.2 (k % 64) (omega arith)

@@ -1,10 +1,10 @@
-// Which blocks are free, one bit for each block.
-ghost use Rattle.std.specs.Prelude.{◌≡◌, ◌+◌, ◌*◌, ◌^◌, ◌<◌, ◌≤◌, ℕ, true, false, IfOk, length, replicate};
-ghost use Rattle.extents.specs.FreeSet.{is_free, free_count, AllFree, AllUsed, Marks, TakesOrNone, AreUsed, without, with_blocks, with_runs, IsLowest, IsStretch};
-ghost use Rattle.extents.specs.FreeWords.{flags_of, IsFirstNotZero};
+// Which blocks are free, one bit for each block, and which words of these bits have a free one.
+ghost use Rattle.std.specs.Prelude.{◌≡◌, ◌+◌, ◌≤◌, true, IfOk, length, replicate};
+ghost use Rattle.extents.specs.FreeSet.{free_count, AllFree, AllUsed, Marks, TakesOrNone, AreUsed, without, with_blocks, with_runs, IsLowest, IsStretch};
 ghost use Rattle.extents.specs.Runs.{run_blocks};
 
 use crate::Run;
+use crate::levels::{clear_bits, first_not_zero, free_at_start, set_bits};
 use std::alloc::{AllocError, Global};
 use std::marker::Model;
 use thiserror::Error;
@@ -25,13 +25,15 @@ pub enum UseFault {
 #[derive(Drop)]
 pub struct FreeMap {
     // A bit for each block, the lowest bit of the first word first, set where the block is free. The last word's bits past
-    // the last block stay set and mean nothing.
+    // the last block are not set.
     words: Vec<u64>,
+    // The second level: a bit for each of the words, set where it has a free block.
+    groups: Vec<u64>,
     // The number of blocks.
     blocks: u32,
     // The number of free ones.
     free: u32,
-    // No block of the words before this one is free.
+    // No block of the groups before this one is free.
     first: usize,
 }
 
@@ -44,7 +46,7 @@ impl Model for FreeMap {
 
     ghost view = { λ map. flags_of map.words.items map.blocks };
 
-    ghost invariant = { λ map. IsMap map.words.items map.blocks map.free map.first };
+    ghost invariant = { λ map. IsMap map.words.items map.groups.items map.blocks map.free map.first };
 }
 
 impl FreeMap {
@@ -54,13 +56,17 @@ impl FreeMap {
         requires { count ≤ 16777216 }
         ensures { IfOk result (λ flags. flags ≡ replicate count true) }
     {
-        let words = vec![in alloc; u64::MAX; (count as usize + 63) / 64]?;
-        Ok(FreeMap {
+        let words = vec![in alloc; 0; (count as usize + 63) / 64]?;
+        let groups = vec![in alloc; 0; (words.len() + 63) / 64]?;
+        let mut map = FreeMap {
             words,
+            groups,
             blocks: count,
-            free: count,
+            free: 0,
             first: 0,
-        })
+        };
+        map.free_run(Run { start: 0, count });
+        Ok(map)
     }
 
     /// Marks the blocks of `run`, of which there is at least one, as used. `OutOfRange`: the run goes past the last block.
@@ -111,22 +117,19 @@ impl FreeMap {
         *free
     }
 
-    // The lowest free block. The next search begins where this one ended.
+    // The lowest free block: the second level tells the first word that has one. The next search begins at the group where
+    // this one ended.
     fn lowest(&mut self) -> Option<u32>
         ensures same { self.new ≡ self.old }
         ensures lowest { IsLowest self.old result }
     {
-        let first = first_not_zero(&self.words, self.first);
-        self.first = first;
-        if first == self.words.len() {
+        let group = first_not_zero(&self.groups, self.first);
+        self.first = group;
+        if group == self.groups.len() {
             return None;
         }
-        let block = first as u32 * 64 + self.words[first].trailing_zeros();
-        if block < self.blocks {
-            Some(block)
-        } else {
-            None
-        }
+        let place = group * 64 + self.groups[group].trailing_zeros() as usize;
+        Some(place as u32 * 64 + self.words[place].trailing_zeros())
     }
 
     // How many blocks from `start` on are free without a gap, up to `want`.
@@ -134,13 +137,8 @@ impl FreeMap {
         requires { start ≤ length self.now }
         ensures { IsStretch self.now start want result }
     {
-        let most = want.min(self.blocks - start);
-        for count in 0..most {
-            if !self.is_free(start + count) {
-                return count;
-            }
-        }
-        most
+        let count = want.min(self.blocks - start);
+        free_at_start(&self.words, Run { start, count })
     }
 
     // Marks the blocks of a run as used, all of which are free.
@@ -149,7 +147,7 @@ impl FreeMap {
         requires free { AllFree self.old run }
         ensures { self.new ≡ without self.old run }
     {
-        clear_bits(&mut self.words, run);
+        clear_bits(&mut self.words, &mut self.groups, run);
         self.free -= run.count;
     }
 
@@ -159,54 +157,8 @@ impl FreeMap {
         requires used { AllUsed self.old run }
         ensures { self.new ≡ with_blocks self.old (run_blocks run) }
     {
-        set_bits(&mut self.words, run);
+        set_bits(&mut self.words, &mut self.groups, run);
         self.free += run.count;
-        self.first = self.first.min((run.start / 64) as usize);
-    }
-
-    // Whether a block is free.
-    fn is_free(&self, block: u32) -> bool
-        requires { block < length self.now }
-        ensures { result ≡ is_free self.now block }
-    {
-        let word = self.words[(block / 64) as usize];
-        word >> (block % 64) & 1 == 1
-    }
-}
-
-// The place of the first word from place `from` on that is not 0, or the number of words where there is none.
-fn first_not_zero(words: &[u64], from: usize) -> usize
-    requires { from ≤ length words.now }
-    ensures { IsFirstNotZero words.now from result }
-{
-    for index in from..words.len() {
-        if words[index] != 0 {
-            return index;
-        }
-    }
-    words.len()
-}
-
-// Clears the bits of a run.
-fn clear_bits(words: &mut [u64], run: Run)
-    requires fits { run.start + run.count < 2 ^ 32 }
-    requires within { run.start + run.count ≤ 64 * length words.old }
-    ensures { (n : ℕ) → run.start + run.count ≤ n → n ≤ 64 * length words.old
-        → flags_of words.new n ≡ without (flags_of words.old n) run }
-{
-    for block in run.start..run.start + run.count {
-        words[(block / 64) as usize] &= !(1 << (block % 64));
-    }
-}
-
-// Sets the bits of a run.
-fn set_bits(words: &mut [u64], run: Run)
-    requires fits { run.start + run.count < 2 ^ 32 }
-    requires within { run.start + run.count ≤ 64 * length words.old }
-    ensures { (n : ℕ) → run.start + run.count ≤ n → n ≤ 64 * length words.old
-        → flags_of words.new n ≡ with_blocks (flags_of words.old n) (run_blocks run) }
-{
-    for block in run.start..run.start + run.count {
-        words[(block / 64) as usize] |= 1 << (block % 64);
+        self.first = self.first.min((run.start / 4096) as usize);
     }
 }

@@ -3,6 +3,7 @@
 
 mod block;
 mod free_map;
+mod levels;
 mod run_list;
 
 pub use block::{read_block, write_block};

@@ -6,16 +6,16 @@ use Rattle.std.proofs.Math.Dec.{eqb}
 use Rattle.std.specs.List.{flat_map, AllByRecursion}
 use Rattle.disk_model.specs.declared.disk.Disk as disk
 use Rattle.intake.specs.declared.faults.ArchiveFault.{ArchiveFault}
-use Rattle.intake.specs.declared.faults.ArchiveFault.TheVariants.{Stopped, BadSlot, SlotBusy, NameTaken, NoStream, TooLong, SpaceFull, NoCase, Pinned, JournalFull, NumbersSpent, OutOfMemory, Disk}
+use Rattle.intake.specs.declared.faults.ArchiveFault.TheVariants.{Stopped, BadSlot, SlotBusy, NameTaken, NoStream, TooLong, SpaceFull, NoCase, Pinned, JournalFull, NumbersSpent, OutOfMemory, Disk, OldVersion}
 use Rattle.intake.specs.Durable.{Durable}
 use Rattle.intake.specs.Growth.{IsDiskFault}
 use Rattle.intake.specs.Parts.{Parts, state_of}
 use Rattle.intake.specs.State.{ArchiveState, StreamFacts}
-use Rattle.intake.specs.Step.{BeginStep, AbandonStep, FinishStep, DeleteStep, PinStep, RetireStep}
+use Rattle.intake.specs.Step.{BeginStep, AbandonStep, FinishStep, DeleteStep, PinStep, LabelStep, UpgradeStep, RetireStep}
 use Rattle.retention.specs.declared.Decision.{Decision}
 use Rattle.retention.specs.declared.Policy.{Policy}
 use Rattle.stream_names.specs.declared.naming.Naming.{Naming}
-use Rattle.script_lines.specs.Said.{Said, silence, bad_line, long_line, begin_exec, begin_core, part_of, end_of, drop_of, delete_of, pin_of, retire_by, list_all_cases, count_free, inspect_of, said, raw_length}
+use Rattle.script_lines.specs.Said.{Said, silence, bad_line, long_line, begin_exec, begin_core, part_of, end_of, drop_of, delete_of, pin_of, label_of, retire_by, list_all_cases, count_free, upgrade_archive, inspect_of, said, raw_length}
 use Rattle.script_streams.specs.Replies.{no_reply, ok_reply}
 use Rattle.inspector_cli.specs.Reply.{Begins, Replies, TakeStep}
 use Rattle.archive_replies.specs.Texts.{end_reply, plain_reply, retire_reply, dropped_line, unmet_line}
@@ -58,6 +58,7 @@ told_as_disk Pinned is = reason_apart Pinned refl is
 told_as_disk JournalFull is = reason_apart JournalFull refl is
 told_as_disk NumbersSpent is = reason_apart NumbersSpent refl is
 told_as_disk OutOfMemory is = reason_apart OutOfMemory refl is
+told_as_disk OldVersion is = reason_apart OldVersion refl is
 
 end_told : (r : Result ℕ ArchiveFault) → end_reply r ≡ no_reply (codes "Disk") → IsDiskFault r
 end_told (Ok seq) is = absurd (first_apart (end_reply (Ok seq)) refl is)
@@ -89,6 +90,14 @@ pub pin_stops : (old new : ArchiveState) (seq : ℕ) (flag : Bool) (r : Result (
 pin_stops old new seq flag (Ok u) step is = absurd is
 pin_stops old new seq flag (Err f) step is = ap (λ (b : ArchiveState). b.stopped) (subst (λ (x : ArchiveFault). PinStep old seq flag (Err x) new) is step).4
 
+pub label_stops : (old new : ArchiveState) (seq : ℕ) (label : List ℕ) (r : Result (Unit {0}) ArchiveFault) → LabelStep old seq label r new → IsDiskFault r → new.stopped ≡ true
+label_stops old new seq label (Ok u) step is = absurd is
+label_stops old new seq label (Err f) step is = ap (λ (b : ArchiveState). b.stopped) (subst (λ (x : ArchiveFault). LabelStep old seq label (Err x) new) is step).4
+
+pub upgrade_stops : (old new : ArchiveState) (r : Result (Unit {0}) ArchiveFault) → UpgradeStep old r new → IsDiskFault r → new.stopped ≡ true
+upgrade_stops old new (Ok u) step is = absurd is
+upgrade_stops old new (Err f) step is = ap (λ (b : ArchiveState). b.stopped) (subst (λ (x : ArchiveFault). UpgradeStep old (Err x) new) is step).2
+
 pub retire_stops : (old new : ArchiveState) (policy : Policy) (r : Result Decision ArchiveFault) → RetireStep old policy r new → IsDiskFault r → new.stopped ≡ true
 retire_stops old new policy (Ok d) step is = absurd is
 retire_stops old new policy (Err f) step is = ap (λ (b : ArchiveState). b.stopped) (subst (λ (x : ArchiveFault). RetireStep old policy (Err x) new) is step).4
@@ -100,111 +109,80 @@ begin_stays old new slot s (Err Stopped) step stopped = ap (λ (b : ArchiveState
 begin_stays old new slot s (Err BadSlot) step stopped = ap (λ (b : ArchiveState). b.stopped) step.2 ∙ stopped
 begin_stays old new slot s (Err SlotBusy) step stopped = ap (λ (b : ArchiveState). b.stopped) step.3 ∙ stopped
 begin_stays old new slot s (Err NameTaken) step stopped = ap (λ (b : ArchiveState). b.stopped) step.4 ∙ stopped
-begin_stays old new slot s (Err NoStream) step stopped = absurd step
-begin_stays old new slot s (Err TooLong) step stopped = absurd step
-begin_stays old new slot s (Err SpaceFull) step stopped = absurd step
-begin_stays old new slot s (Err NoCase) step stopped = absurd step
-begin_stays old new slot s (Err Pinned) step stopped = absurd step
-begin_stays old new slot s (Err JournalFull) step stopped = absurd step
-begin_stays old new slot s (Err NumbersSpent) step stopped = absurd step
 begin_stays old new slot s (Err OutOfMemory) step stopped = ap (λ (b : ArchiveState). b.stopped) step.1 ∙ stopped
-begin_stays old new slot s (Err Disk) step stopped = absurd step
+begin_stays old new slot s (Err _) step stopped = absurd step
 
 take_stays : (old new : ArchiveState) (slot n : ℕ) (r : Result (Unit {0}) ArchiveFault) → TakeStep old slot n r new → old.stopped ≡ true → new.stopped ≡ true
 take_stays old new slot n (Ok x) step stopped = ap (λ (b : ArchiveState). b.stopped) step.3 ∙ stopped
 take_stays old new slot n (Err Stopped) step stopped = ap (λ (b : ArchiveState). b.stopped) step.1 ∙ stopped
-take_stays old new slot n (Err BadSlot) step stopped = absurd step
-take_stays old new slot n (Err SlotBusy) step stopped = absurd step
-take_stays old new slot n (Err NameTaken) step stopped = absurd step
 take_stays old new slot n (Err NoStream) step stopped = ap (λ (b : ArchiveState). b.stopped) step.2 ∙ stopped
 take_stays old new slot n (Err TooLong) step stopped = ap (λ (b : ArchiveState). b.stopped) step.4 ∙ stopped
 take_stays old new slot n (Err SpaceFull) step stopped = ap (λ (b : ArchiveState). b.stopped) step.6 ∙ stopped
-take_stays old new slot n (Err NoCase) step stopped = absurd step
-take_stays old new slot n (Err Pinned) step stopped = absurd step
-take_stays old new slot n (Err JournalFull) step stopped = absurd step
-take_stays old new slot n (Err NumbersSpent) step stopped = absurd step
 take_stays old new slot n (Err OutOfMemory) step stopped = ap (λ (b : ArchiveState). b.stopped) step.5 ∙ stopped
 take_stays old new slot n (Err Disk) step stopped = ap (λ (b : ArchiveState). b.stopped) step.5
+take_stays old new slot n (Err _) step stopped = absurd step
 
 finish_stays : (old new : ArchiveState) (slot : ℕ) (r : Result ℕ ArchiveFault) → FinishStep old slot r new → old.stopped ≡ true → new.stopped ≡ true
 finish_stays old new slot (Ok x) step stopped = ap (λ (b : ArchiveState). b.stopped) step.7 ∙ stopped
 finish_stays old new slot (Err Stopped) step stopped = ap (λ (b : ArchiveState). b.stopped) step.1 ∙ stopped
-finish_stays old new slot (Err BadSlot) step stopped = absurd step
-finish_stays old new slot (Err SlotBusy) step stopped = absurd step
-finish_stays old new slot (Err NameTaken) step stopped = absurd step
 finish_stays old new slot (Err NoStream) step stopped = ap (λ (b : ArchiveState). b.stopped) step.2 ∙ stopped
-finish_stays old new slot (Err TooLong) step stopped = absurd step
 finish_stays old new slot (Err SpaceFull) step stopped = ap (λ (b : ArchiveState). b.stopped) step.5 ∙ stopped
-finish_stays old new slot (Err NoCase) step stopped = absurd step
-finish_stays old new slot (Err Pinned) step stopped = absurd step
 finish_stays old new slot (Err JournalFull) step stopped = ap (λ (b : ArchiveState). b.stopped) step.5 ∙ stopped
 finish_stays old new slot (Err NumbersSpent) step stopped = ap (λ (b : ArchiveState). b.stopped) step.6 ∙ stopped
 finish_stays old new slot (Err OutOfMemory) step stopped = ap (λ (b : ArchiveState). b.stopped) step.2 ∙ stopped
 finish_stays old new slot (Err Disk) step stopped = ap (λ (b : ArchiveState). b.stopped) step.2
+finish_stays old new slot (Err _) step stopped = absurd step
 
 abandon_stays : (old new : ArchiveState) (slot : ℕ) (r : Result (Unit {0}) ArchiveFault) → AbandonStep old slot r new → old.stopped ≡ true → new.stopped ≡ true
 abandon_stays old new slot (Ok x) step stopped = ap (λ (b : ArchiveState). b.stopped) step.2 ∙ stopped
 abandon_stays old new slot (Err Stopped) step stopped = ap (λ (b : ArchiveState). b.stopped) step.1 ∙ stopped
-abandon_stays old new slot (Err BadSlot) step stopped = absurd step
-abandon_stays old new slot (Err SlotBusy) step stopped = absurd step
-abandon_stays old new slot (Err NameTaken) step stopped = absurd step
 abandon_stays old new slot (Err NoStream) step stopped = ap (λ (b : ArchiveState). b.stopped) step.2 ∙ stopped
-abandon_stays old new slot (Err TooLong) step stopped = absurd step
-abandon_stays old new slot (Err SpaceFull) step stopped = absurd step
-abandon_stays old new slot (Err NoCase) step stopped = absurd step
-abandon_stays old new slot (Err Pinned) step stopped = absurd step
-abandon_stays old new slot (Err JournalFull) step stopped = absurd step
-abandon_stays old new slot (Err NumbersSpent) step stopped = absurd step
-abandon_stays old new slot (Err OutOfMemory) step stopped = absurd step
-abandon_stays old new slot (Err Disk) step stopped = absurd step
+abandon_stays old new slot (Err _) step stopped = absurd step
 
 delete_stays : (old new : ArchiveState) (seq : ℕ) (r : Result (Unit {0}) ArchiveFault) → DeleteStep old seq r new → old.stopped ≡ true → new.stopped ≡ true
 delete_stays old new seq (Ok x) step stopped = ap (λ (b : ArchiveState). b.stopped) step.4 ∙ stopped
 delete_stays old new seq (Err Stopped) step stopped = ap (λ (b : ArchiveState). b.stopped) step.1 ∙ stopped
-delete_stays old new seq (Err BadSlot) step stopped = absurd step
-delete_stays old new seq (Err SlotBusy) step stopped = absurd step
-delete_stays old new seq (Err NameTaken) step stopped = absurd step
-delete_stays old new seq (Err NoStream) step stopped = absurd step
-delete_stays old new seq (Err TooLong) step stopped = absurd step
-delete_stays old new seq (Err SpaceFull) step stopped = absurd step
 delete_stays old new seq (Err NoCase) step stopped = ap (λ (b : ArchiveState). b.stopped) step.2 ∙ stopped
 delete_stays old new seq (Err Pinned) step stopped = ap (λ (b : ArchiveState). b.stopped) step.3 ∙ stopped
 delete_stays old new seq (Err JournalFull) step stopped = ap (λ (b : ArchiveState). b.stopped) step.4 ∙ stopped
-delete_stays old new seq (Err NumbersSpent) step stopped = absurd step
 delete_stays old new seq (Err OutOfMemory) step stopped = ap (λ (b : ArchiveState). b.stopped) step.4 ∙ stopped
 delete_stays old new seq (Err Disk) step stopped = ap (λ (b : ArchiveState). b.stopped) step.4
+delete_stays old new seq (Err _) step stopped = absurd step
 
 pin_stays : (old new : ArchiveState) (seq : ℕ) (flag : Bool) (r : Result (Unit {0}) ArchiveFault) → PinStep old seq flag r new → old.stopped ≡ true → new.stopped ≡ true
 pin_stays old new seq flag (Ok x) step stopped = ⊎_elim (λ same. ap (λ (b : ArchiveState). b.stopped) same.1 ∙ stopped) (λ more. ap (λ (b : ArchiveState). b.stopped) more.2 ∙ stopped) step.2
 pin_stays old new seq flag (Err Stopped) step stopped = ap (λ (b : ArchiveState). b.stopped) step.1 ∙ stopped
-pin_stays old new seq flag (Err BadSlot) step stopped = absurd step
-pin_stays old new seq flag (Err SlotBusy) step stopped = absurd step
-pin_stays old new seq flag (Err NameTaken) step stopped = absurd step
-pin_stays old new seq flag (Err NoStream) step stopped = absurd step
-pin_stays old new seq flag (Err TooLong) step stopped = absurd step
-pin_stays old new seq flag (Err SpaceFull) step stopped = absurd step
 pin_stays old new seq flag (Err NoCase) step stopped = ap (λ (b : ArchiveState). b.stopped) step.2 ∙ stopped
-pin_stays old new seq flag (Err Pinned) step stopped = absurd step
 pin_stays old new seq flag (Err JournalFull) step stopped = ap (λ (b : ArchiveState). b.stopped) step.4 ∙ stopped
-pin_stays old new seq flag (Err NumbersSpent) step stopped = absurd step
 pin_stays old new seq flag (Err OutOfMemory) step stopped = ap (λ (b : ArchiveState). b.stopped) step.4 ∙ stopped
 pin_stays old new seq flag (Err Disk) step stopped = ap (λ (b : ArchiveState). b.stopped) step.4
+pin_stays old new seq flag (Err _) step stopped = absurd step
+
+label_stays : (old new : ArchiveState) (seq : ℕ) (label : List ℕ) (r : Result (Unit {0}) ArchiveFault) → LabelStep old seq label r new → old.stopped ≡ true → new.stopped ≡ true
+label_stays old new seq label (Ok x) step stopped = ⊎_elim (λ same. ap (λ (b : ArchiveState). b.stopped) same.1 ∙ stopped) (λ more. ap (λ (b : ArchiveState). b.stopped) more.2 ∙ stopped) step.2
+label_stays old new seq label (Err Stopped) step stopped = ap (λ (b : ArchiveState). b.stopped) step.1 ∙ stopped
+label_stays old new seq label (Err NoCase) step stopped = ap (λ (b : ArchiveState). b.stopped) step.2 ∙ stopped
+label_stays old new seq label (Err OldVersion) step stopped = ap (λ (b : ArchiveState). b.stopped) step.3 ∙ stopped
+label_stays old new seq label (Err JournalFull) step stopped = ap (λ (b : ArchiveState). b.stopped) step.4 ∙ stopped
+label_stays old new seq label (Err OutOfMemory) step stopped = ap (λ (b : ArchiveState). b.stopped) step.4 ∙ stopped
+label_stays old new seq label (Err Disk) step stopped = ap (λ (b : ArchiveState). b.stopped) step.4
+label_stays old new seq label (Err _) step stopped = absurd step
+
+upgrade_stays : (old new : ArchiveState) (r : Result (Unit {0}) ArchiveFault) → UpgradeStep old r new → old.stopped ≡ true → new.stopped ≡ true
+upgrade_stays old new (Ok x) step stopped = absurd (false≢true (sym step.0 ∙ stopped))
+upgrade_stays old new (Err Stopped) step stopped = ap (λ (b : ArchiveState). b.stopped) step.1 ∙ stopped
+upgrade_stays old new (Err JournalFull) step stopped = ap (λ (b : ArchiveState). b.stopped) step.2 ∙ stopped
+upgrade_stays old new (Err OutOfMemory) step stopped = ap (λ (b : ArchiveState). b.stopped) step.2 ∙ stopped
+upgrade_stays old new (Err Disk) step stopped = ap (λ (b : ArchiveState). b.stopped) step.2
+upgrade_stays old new (Err _) step stopped = absurd step
 
 retire_stays : (old new : ArchiveState) (policy : Policy) (r : Result Decision ArchiveFault) → RetireStep old policy r new → old.stopped ≡ true → new.stopped ≡ true
 retire_stays old new policy (Ok x) step stopped = ⊎_elim (λ same. ap (λ (b : ArchiveState). b.stopped) same.1 ∙ stopped) (λ more. ap (λ (b : ArchiveState). b.stopped) more.2 ∙ stopped) step.2
 retire_stays old new policy (Err Stopped) step stopped = ap (λ (b : ArchiveState). b.stopped) step.1 ∙ stopped
-retire_stays old new policy (Err BadSlot) step stopped = absurd step
-retire_stays old new policy (Err SlotBusy) step stopped = absurd step
-retire_stays old new policy (Err NameTaken) step stopped = absurd step
-retire_stays old new policy (Err NoStream) step stopped = absurd step
-retire_stays old new policy (Err TooLong) step stopped = absurd step
-retire_stays old new policy (Err SpaceFull) step stopped = absurd step
-retire_stays old new policy (Err NoCase) step stopped = absurd step
-retire_stays old new policy (Err Pinned) step stopped = absurd step
 retire_stays old new policy (Err JournalFull) step stopped = ap (λ (b : ArchiveState). b.stopped) step.4 ∙ stopped
-retire_stays old new policy (Err NumbersSpent) step stopped = absurd step
 retire_stays old new policy (Err OutOfMemory) step stopped = ap (λ (b : ArchiveState). b.stopped) step.1 ∙ stopped
 retire_stays old new policy (Err Disk) step stopped = ap (λ (b : ArchiveState). b.stopped) step.4
+retire_stays old new policy (Err _) step stopped = absurd step
 
 module _ {D : Type 0} (g : disk.Ghosts D) where
   -- A stopped archive stays so; and where anything is in doubt because of the reply, the archive is stopped.
@@ -248,6 +226,14 @@ module _ {D : Type 0} (g : disk.Ghosts D) where
   line_halts naming old new (pin_of seq flag) raw reply r = (
     pin_stays (state_of old) (state_of new) seq flag r.0 r.1.step,
     λ doubts told all. inr (pin_stops (state_of old) (state_of new) seq flag r.0 r.1.step (plain_told r.0 (sym r.2 ∙ told))),
+  )
+  line_halts naming old new (label_of seq label) raw reply r = (
+    label_stays (state_of old) (state_of new) seq label r.0 r.1.step,
+    λ doubts told all. inr (label_stops (state_of old) (state_of new) seq label r.0 r.1.step (plain_told r.0 (sym r.2 ∙ told))),
+  )
+  line_halts naming old new upgrade_archive raw reply r = (
+    upgrade_stays (state_of old) (state_of new) r.0 r.1.step,
+    λ doubts told all. inr (upgrade_stops (state_of old) (state_of new) r.0 r.1.step (plain_told r.0 (sym r.2 ∙ told))),
   )
   line_halts naming old new (retire_by policy) raw reply r = (
     retire_stays (state_of old) (state_of new) policy r.0 r.1.step,

@@ -1,5 +1,5 @@
 -- A case that was answered `stored N` is found after every stop, with the bytes of its parts.
-use Rattle.std.proofs.Common.{◌≡◌, inr, ⊎_elim, ℕ, suc, ◌<◌, ◌^◌, Bool, false, List, [], ◌∷◌, ◌++◌, length, map, Option, Some, None, Ok, Err, refl, sym, ap, subst, ◌∙◌, arith}
+use Rattle.std.proofs.Common.{◌≡◌, inr, ⊎_elim, ℕ, suc, ◌<◌, ◌^◌, false, List, [], ◌∷◌, ◌++◌, length, map, Option, Some, None, Ok, Err, refl, sym, ap, subst, ◌∙◌, arith}
 use Rattle.std.proofs.lemmas.Bool.{false≢true}
 use Rattle.std.proofs.lemmas.Fmt.{decimal_injective}
 use Rattle.std.proofs.lemmas.List.{append_cancel_left, append_cancel_right}
@@ -108,7 +108,7 @@ module _ {D : Type 0} (g : disk.Ghosts D) (naming : Naming) where
     none : new.in_doubt ≡ []
 
   module _ (lasts : LastingLaws g) (old new : Stage D) (slot n : ℕ) (raw reply : List ℕ) (held : Option (List ℕ)) (stands : Stands slot old held) (moves : Moves g old (end_of slot) reply new) (number : n < 2 ^ 64) (told : reply ≡ end_reply (Ok n)) where
-    adds : (stored : Bool) → Ends g old.archive slot reply new.archive stored → Adds old new slot n held
+    adds : (stored : Option ℕ) → Ends g old.archive slot reply new.archive stored → Adds old new slot n held
     adds stored (Err f, call, answered, is) = absurd (false≢true (ap is_no (sym told ∙ answered)))
     adds stored (Ok seq, call, answered, is) =
         let m = lasts.finish old.archive new.archive slot seq stands.honest call in

@@ -13,13 +13,13 @@ use Rattle.intake.specs.Step.{FinishStep}
 use Rattle.intake.specs.declared.faults.ArchiveFault.{ArchiveFault}
 use Rattle.intake.specs.declared.faults.ArchiveFault.TheVariants.{Stopped, NoStream, Disk}
 use Rattle.stream_names.specs.declared.naming.Naming.{Naming}
-use Rattle.script_lines.specs.Said.{Said, silence, bad_line, long_line, begin_exec, begin_core, part_of, end_of, drop_of, delete_of, pin_of, retire_by, list_all_cases, count_free, inspect_of}
+use Rattle.script_lines.specs.Said.{Said, silence, bad_line, long_line, begin_exec, begin_core, part_of, end_of, drop_of, delete_of, pin_of, label_of, retire_by, list_all_cases, count_free, upgrade_archive, inspect_of}
 use Rattle.inspector_cli.specs.Reply.{Begins, Feeds, Ends, Drops, Replies, TakeStep}
 use Rattle.stream_names.specs.Streams.{exec_stream, core_stream}
 use Rattle.inspector_cli.specs.Told.{is_no, begun, fed, held_then}
 use Rattle.case_queries.specs.Inspecting.{kind_asked}
 use Rattle.case_queries.specs.LeaveLaws.{asks_leaves}
-use Rattle.inspector_cli.proofs.ClearLemmas.{finish_stops, delete_stops, pin_stops, retire_stops}
+use Rattle.inspector_cli.proofs.ClearLemmas.{finish_stops, delete_stops, pin_stops, label_stops, upgrade_stops, retire_stops}
 use Rattle.inspector_cli.proofs.SlotLemmas.{at_set, at_mapped}
 
 -- a slot that is set, and another one
@@ -140,7 +140,7 @@ module _ {D : Type 0} (g : disk.Ghosts D) (slot : ℕ) where
       (λ is. none_taken old s (subst (λ (x : ArchiveFault). TakeStep (state_of old) s (length raw) (Err x) (state_of new)) is takes.step).1)
       (λ is. ap (λ (b : ArchiveState). b.stopped) (subst (λ (x : ArchiveFault). TakeStep (state_of old) s (length raw) (Err x) (state_of new)) is takes.step).5))
 
-  ends_held : (old new : Parts D) (s : ℕ) (reply : List ℕ) (stored : Bool) → IsTrue (g.is_honest old.disk) → (old.stopped ≡ true → new.stopped ≡ true) → Ends g old s reply new stored
+  ends_held : (old new : Parts D) (s : ℕ) (reply : List ℕ) (stored : Option ℕ) → IsTrue (g.is_honest old.disk) → (old.stopped ≡ true → new.stopped ≡ true) → Ends g old s reply new stored
       → IsHeld new (cond (s == slot) None (taken_at old))
   ends_held old new s reply stored honest stays (Ok seq, call, told, is) = emptied old new s (ap (λ (c : Contents). c.taken) (call.bytes honest).2)
   ends_held old new s reply stored honest stays (Err f, call, told, is) =
@@ -176,6 +176,12 @@ module _ {D : Type 0} (g : disk.Ghosts D) (slot : ℕ) where
   line_held naming old new (pin_of seq flag) raw reply honest stays (Ok u, call, told) = inr (ap (λ (c : Contents). bytes_in c.taken slot) (call.bytes honest))
   line_held naming old new (pin_of seq flag) raw reply honest stays (Err f, call, told) =
       unmoved_held old new f (call.bytes honest) (λ is. pin_stops (state_of old) (state_of new) seq flag (Err f) call.step is)
+  line_held naming old new (label_of seq label) raw reply honest stays (Ok u, call, told) = inr (ap (λ (c : Contents). bytes_in c.taken slot) (call.bytes honest))
+  line_held naming old new (label_of seq label) raw reply honest stays (Err f, call, told) =
+      unmoved_held old new f (call.bytes honest) (λ is. label_stops (state_of old) (state_of new) seq label (Err f) call.step is)
+  line_held naming old new upgrade_archive raw reply honest stays (Ok u, call, told) = inr (ap (λ (c : Contents). bytes_in c.taken slot) (call.bytes honest))
+  line_held naming old new upgrade_archive raw reply honest stays (Err f, call, told) =
+      unmoved_held old new f (call.bytes honest) (λ is. upgrade_stops (state_of old) (state_of new) (Err f) call.step is)
   line_held naming old new (retire_by policy) raw reply honest stays (Ok d, call, told) = inr (ap (λ (c : Contents). bytes_in c.taken slot) (call.bytes honest))
   line_held naming old new (retire_by policy) raw reply honest stays (Err f, call, told) =
       unmoved_held old new f (call.bytes honest) (λ is. retire_stops (state_of old) (state_of new) policy (Err f) call.step is)

@@ -7,14 +7,14 @@ use Rattle.std.specs.List.{filter, flat_map, AllByRecursion}
 use Rattle.disk_model.specs.declared.disk.Disk as disk
 use Rattle.journal_layout.specs.Folding.{is_among}
 use Rattle.intake.specs.Calls.{ChangesNoCase}
-use Rattle.intake.specs.Durable.{Durable, FoundCase, durable_of, without, flagged, with_case}
-use Rattle.intake.specs.Lasts.{FinishLasts, DeleteLasts, PinLasts, RetireLasts, RefusalsLast}
+use Rattle.intake.specs.Durable.{Durable, FoundCase, durable_of, without, flagged, labelled, with_case}
+use Rattle.intake.specs.Lasts.{FinishLasts, DeleteLasts, PinLasts, LabelLasts, UpgradeLasts, RetireLasts, RefusalsLast}
 use Rattle.intake.specs.Lives.{IsAmong}
 use Rattle.intake.specs.Marks.{Mark, mark_of}
 use Rattle.intake.specs.Parts.{Parts, state_of}
 use Rattle.intake.specs.State.{StreamFacts}
 use Rattle.stream_names.specs.declared.naming.Naming.{Naming}
-use Rattle.script_lines.specs.Said.{Said, silence, bad_line, long_line, begin_exec, begin_core, part_of, end_of, drop_of, delete_of, pin_of, retire_by, list_all_cases, count_free, inspect_of, said, raw_length}
+use Rattle.script_lines.specs.Said.{Said, silence, bad_line, long_line, begin_exec, begin_core, part_of, end_of, drop_of, delete_of, pin_of, label_of, retire_by, list_all_cases, count_free, upgrade_archive, inspect_of, said, raw_length}
 use Rattle.script_streams.specs.Replies.{no_reply, ok_reply}
 use Rattle.inspector_cli.specs.Reply.{Replies}
 use Rattle.archive_replies.specs.Texts.{dropped_line, unmet_line}
@@ -32,11 +32,13 @@ pub record LastingLaws {D : Type 0} (g : disk.Ghosts D) : Type 0 where
   pub finish : FinishLasts g
   pub delete : DeleteLasts g
   pub pin : PinLasts g
+  pub label : LabelLasts g
+  pub upgrade : UpgradeLasts g
   pub retire : RetireLasts g
   pub refusals : RefusalsLast g
 
-pub lasts_of : {D : Type 0} (g : disk.Ghosts D) → FinishLasts g → DeleteLasts g → PinLasts g → RetireLasts g → RefusalsLast g → LastingLaws g
-lasts_of g finish delete pin retire refusals = record { finish = finish; delete = delete; pin = pin; retire = retire; refusals = refusals }
+pub lasts_of : {D : Type 0} (g : disk.Ghosts D) → FinishLasts g → DeleteLasts g → PinLasts g → LabelLasts g → UpgradeLasts g → RetireLasts g → RefusalsLast g → LastingLaws g
+lasts_of g finish delete pin label upgrade retire refusals = record { finish = finish; delete = delete; pin = pin; label = label; upgrade = upgrade; retire = retire; refusals = refusals }
 
 among_more : (xs ys : List FoundCase) (c : FoundCase) → IsAmong xs c → IsAmong (xs ++ ys) c
 among_more [] ys c among = absurd among
@@ -107,6 +109,14 @@ module _ (n : ℕ) (bytes : List ℕ) where
     (elim (c.seq == number) as (λ t. (cond t (record c { pinned = flag }) c).image ≡ bytes) [ true ↦ is | false ↦ is ]),
   )
 
+  labelled_keeps : (x : Durable) (seq : ℕ) (label : List ℕ) → HasImage n bytes x → HasImage n bytes (labelled x seq label)
+  labelled_keeps x number label (c, among, seq, is) = (
+    cond (c.seq == number) (record c { label = label }) c,
+    among_mapped (λ (d : FoundCase). cond (d.seq == number) (record d { label = label }) d) x.cases c among,
+    (elim (c.seq == number) as (λ t. (cond t (record c { label = label }) c).seq ≡ n) [ true ↦ seq | false ↦ seq ]),
+    (elim (c.seq == number) as (λ t. (cond t (record c { label = label }) c).image ≡ bytes) [ true ↦ is | false ↦ is ]),
+  )
+
   module _ {D : Type 0} (g : disk.Ghosts D) (lasts : LastingLaws g) (naming : Naming) where
     abbrev Has : Parts D → Type 0
     Has a = HasImage n bytes (durable_of g.seen a)
@@ -143,6 +153,15 @@ module _ (n : ℕ) (bytes : List ℕ) where
         (λ set. subst (HasImage n bytes) (sym set.1) (flagged_keeps (durable_of g.seen old) seq flag has)) (lasts.pin old new seq flag u honest call).2
     line_keeps old new (pin_of seq flag) raw reply honest (Err f, call, told) spares has =
         same_keeps old new (lasts.refusals old new f honest (inr (inr (inl (seq, flag, call))))) has
+    line_keeps old new (label_of seq label) raw reply honest (Ok u, call, told) spares has =
+        ⊎_elim (λ same. same_keeps old new same.1 has)
+        (λ set. subst (HasImage n bytes) (sym set.1) (labelled_keeps (durable_of g.seen old) seq label has)) (lasts.label old new seq label u honest call).2
+    line_keeps old new (label_of seq label) raw reply honest (Err f, call, told) spares has =
+        same_keeps old new (lasts.refusals old new f honest (inr (inr (inr (inr (inl (seq, label, call))))))) has
+    line_keeps old new upgrade_archive raw reply honest (Ok u, call, told) spares has =
+        subst (HasImage n bytes) (sym (lasts.upgrade old new u honest call)) has
+    line_keeps old new upgrade_archive raw reply honest (Err f, call, told) spares has =
+        same_keeps old new (lasts.refusals old new f honest (inr (inr (inr (inr (inr call)))))) has
     line_keeps old new (retire_by policy) raw reply honest (Ok d, call, told) spares has =
         let apart : is_among d.dropped.items n ≡ false =
         ⊎_elim (λ among. absurd (spares (inl (subst (HasLine (dropped_line n)) (sym told) (has_line n d.dropped.items (unmet_line d.unmet ++ ok_reply) among))))) (λ none. none)
@@ -150,7 +169,7 @@ module _ (n : ℕ) (bytes : List ℕ) where
         in
         subst (HasImage n bytes) (sym (lasts.retire old new policy d honest call)) (without_keeps (durable_of g.seen old) d.dropped.items apart has)
     line_keeps old new (retire_by policy) raw reply honest (Err f, call, told) spares has =
-        same_keeps old new (lasts.refusals old new f honest (inr (inr (inr (policy, call))))) has
+        same_keeps old new (lasts.refusals old new f honest (inr (inr (inr (inl (policy, call)))))) has
     line_keeps old new list_all_cases raw reply honest r spares has = as_it_was old new r.1 has
     line_keeps old new count_free raw reply honest r spares has = as_it_was old new r.3 has
     line_keeps old new (inspect_of seq query) raw reply honest r spares has = stays_keeps old new honest (asks_leaves g old new seq query (kind_asked (state_of old) seq query) reply r).stays has
@@ -168,6 +187,8 @@ module _ (n : ℕ) (bytes : List ℕ) where
     doubt_keeps old (delete_of seq) reply x told spares has may =
         subst (HasImage n bytes) (sym may) (without_keeps (durable_of g.seen old) (seq ∷ []) (one_apart seq n (λ is. spares (is, inr told))) has)
     doubt_keeps old (pin_of seq flag) reply x told spares has may = subst (HasImage n bytes) (sym may) (flagged_keeps (durable_of g.seen old) seq flag has)
+    doubt_keeps old (label_of seq label) reply x told spares has may = subst (HasImage n bytes) (sym may) (labelled_keeps (durable_of g.seen old) seq label has)
+    doubt_keeps old upgrade_archive reply x told spares has may = subst (HasImage n bytes) (sym may) has
     doubt_keeps old (retire_by policy) reply x told spares has may = absurd (spares (inr told))
     doubt_keeps old list_all_cases reply x told spares has may = absurd may
     doubt_keeps old count_free reply x told spares has may = absurd may

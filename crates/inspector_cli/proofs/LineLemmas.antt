@@ -17,7 +17,7 @@ use Rattle.script_lines.specs.Said.{Said, said, raw_length, inspect_of}
 use Rattle.script_lines.specs.Queries.{QuerySaid}
 use Rattle.script_lines.specs.Commands.{asked_by}
 use Rattle.script_lines.specs.declared.command.Request.{Request}
-use Rattle.script_lines.specs.declared.command.Request.TheVariants.{Silence, BadLine, LineTooLong, BeginExec, BeginCore, End, Drop, Delete, Pin, Retire, ListCases, CountFree}
+use Rattle.script_lines.specs.declared.command.Request.TheVariants.{Silence, BadLine, LineTooLong, BeginExec, BeginCore, End, Drop, Delete, Pin, Label, Retire, ListCases, CountFree, Upgrade}
 use Rattle.inspector_cli.specs.Reply.{Replies}
 use Rattle.inspector_cli.specs.Session.{cut_part, LastReplies, Truncates}
 use Rattle.script_streams.specs.Replies.{Telling}
@@ -43,9 +43,11 @@ no_raw (End slot) = refl
 no_raw (Drop slot) = refl
 no_raw (Delete seq) = refl
 no_raw (Pin seq flag) = refl
+no_raw (Label seq label) = refl
 no_raw (Retire policy) = refl
 no_raw ListCases = refl
 no_raw CountFree = refl
+no_raw Upgrade = refl
 
 -- the same answer of a script
 abbrev pub as_script : Result Bool ReadStop → Result Bool ScriptStop

@@ -22,6 +22,7 @@ use Rattle.inspector_cli.specs.Memory.{OverFresh, MemoryEnds}
 abbrev state_from : Standing → ℕ → List (Option StreamParts) → Bool → ArchiveState
 state_from s limit streams stopped = record {
   shape = s.shape;
+  version = s.version;
   limit = limit;
   cases = map case_facts s.cases;
   next = s.next;

@@ -3,7 +3,7 @@ use Rattle.std.proofs.Common.{◌≡◌, ℕ, zero, suc, ◌≤◌, List, [], �
 use Rattle.std.proofs.lemmas.Bool.{false≢true}
 use Rattle.std.specs.Prelude.{slice_set, option_map}
 use Rattle.intake.specs.declared.faults.ArchiveFault.{ArchiveFault}
-use Rattle.intake.specs.declared.faults.ArchiveFault.TheVariants.{Stopped, BadSlot, SlotBusy, NameTaken, NoStream, TooLong, SpaceFull, NoCase, Pinned, JournalFull, NumbersSpent, OutOfMemory, Disk}
+use Rattle.intake.specs.declared.faults.ArchiveFault.TheVariants.{Stopped, NoStream}
 use Rattle.intake.specs.Slots.{stream_at}
 use Rattle.intake.specs.State.{ArchiveState, StreamFacts}
 use Rattle.intake.specs.Parts.{Parts, StreamParts, state_of, stream_facts}
@@ -63,14 +63,4 @@ has_room b mid slot k u NoStream step reply =
     ap (λ (x : ArchiveState). stream_at x.streams slot) step.3 ∙ at_set b.streams slot step.0 (Some (longer step.0 k)) step.1.1 in
     let none = reply.1 in
     cc
-has_room b mid slot k u BadSlot step reply = reply
-has_room b mid slot k u SlotBusy step reply = reply
-has_room b mid slot k u NameTaken step reply = reply
-has_room b mid slot k u TooLong step reply = reply
-has_room b mid slot k u SpaceFull step reply = reply
-has_room b mid slot k u NoCase step reply = reply
-has_room b mid slot k u Pinned step reply = reply
-has_room b mid slot k u JournalFull step reply = reply
-has_room b mid slot k u NumbersSpent step reply = reply
-has_room b mid slot k u OutOfMemory step reply = reply
-has_room b mid slot k u Disk step reply = reply
+has_room b mid slot k u _ step reply = reply

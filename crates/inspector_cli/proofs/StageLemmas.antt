@@ -9,12 +9,12 @@ use Rattle.intake.specs.declared.faults.ArchiveFault.TheVariants as fault
 use Rattle.intake.specs.Calls.{ChangesNoCase}
 use Rattle.intake.specs.Durable.{Durable}
 use Rattle.intake.specs.Growth.{IsDiskFault}
-use Rattle.intake.specs.Marks.{Passes, IsRunOfMarks, LeadsToMark, doubted, mark_of, FoundAfterAStop, StaysLead, FinishLeads, DeleteLeads, PinLeads, RetireLeads}
+use Rattle.intake.specs.Marks.{Passes, IsRunOfMarks, LeadsToMark, doubted, mark_of, FoundAfterAStop, StaysLead, FinishLeads, DeleteLeads, PinLeads, LabelLeads, UpgradeLeads, RetireLeads}
 use Rattle.intake.specs.Parts.{Parts, state_of}
 use Rattle.intake.specs.State.{StreamFacts}
 use Rattle.retention.specs.declared.Decision.{Decision}
 use Rattle.stream_names.specs.declared.naming.Naming.{Naming}
-use Rattle.script_lines.specs.Said.{Said, silence, bad_line, long_line, begin_exec, begin_core, part_of, end_of, drop_of, delete_of, pin_of, retire_by, list_all_cases, count_free, inspect_of, said, raw_length}
+use Rattle.script_lines.specs.Said.{Said, silence, bad_line, long_line, begin_exec, begin_core, part_of, end_of, drop_of, delete_of, pin_of, label_of, retire_by, list_all_cases, count_free, upgrade_archive, inspect_of, said, raw_length}
 use Rattle.script_streams.specs.Replies.{no_reply}
 use Rattle.inspector_cli.specs.Reply.{Begins, Replies}
 use Rattle.archive_replies.specs.Texts.{end_reply, plain_reply, retire_reply}
@@ -73,10 +73,12 @@ pub record Laws {D : Type 0} (g : disk.Ghosts D) : Type 0 where
   pub finish : FinishLeads g
   pub delete : DeleteLeads g
   pub pin : PinLeads g
+  pub label : LabelLeads g
+  pub upgrade : UpgradeLeads g
   pub retire : RetireLeads g
 
-pub laws_of : {D : Type 0} (g : disk.Ghosts D) → StaysLead g → FinishLeads g → DeleteLeads g → PinLeads g → RetireLeads g → Laws g
-laws_of g stays finish delete pin retire = record { stays = stays; finish = finish; delete = delete; pin = pin; retire = retire }
+pub laws_of : {D : Type 0} (g : disk.Ghosts D) → StaysLead g → FinishLeads g → DeleteLeads g → PinLeads g → LabelLeads g → UpgradeLeads g → RetireLeads g → Laws g
+laws_of g stays finish delete pin label upgrade retire = record { stays = stays; finish = finish; delete = delete; pin = pin; label = label; upgrade = upgrade; retire = retire }
 
 module _ {D : Type 0} (g : disk.Ghosts D) (laws : Laws g) (old : Stage D) (new : Parts D) where
   -- a stage that is reached, with this in doubt anew
@@ -113,6 +115,10 @@ module _ {D : Type 0} (g : disk.Ghosts D) (laws : Laws g) (old : Stage D) (new :
       changed (Unit {0}) (delete_of seq) reply r.0 _ (λ x may. may) (λ is. r.2 ∙ plain_disk r.0 is) (laws.delete old.archive new seq r.0 r.1)
   line_moves naming (pin_of seq flag) raw reply r =
       changed (Unit {0}) (pin_of seq flag) reply r.0 _ (λ x may. may) (λ is. r.2 ∙ plain_disk r.0 is) (laws.pin old.archive new seq flag r.0 r.1)
+  line_moves naming (label_of seq label) raw reply r =
+      changed (Unit {0}) (label_of seq label) reply r.0 _ (λ x may. may) (λ is. r.2 ∙ plain_disk r.0 is) (laws.label old.archive new seq label r.0 r.1)
+  line_moves naming upgrade_archive raw reply r =
+      changed (Unit {0}) upgrade_archive reply r.0 _ (λ x may. may) (λ is. r.2 ∙ plain_disk r.0 is) (laws.upgrade old.archive new r.0 r.1)
   line_moves naming (retire_by policy) raw reply r =
       changed Decision (retire_by policy) reply r.0 _ (λ x may. may) (λ is. r.2 ∙ retire_disk r.0 is) (laws.retire old.archive new policy r.0 r.1)
   line_moves naming list_all_cases raw reply r = still list_all_cases reply (stays_as g old.archive new r.1)

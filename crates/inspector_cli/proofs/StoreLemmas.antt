@@ -20,7 +20,7 @@ use Rattle.script_streams.specs.Telling.{Told, IsDelivered}
 use Rattle.script_streams.specs.declared.reply.Reply.{Reply}
 use Rattle.script_streams.specs.declared.streams.StreamFault.{StreamFault}
 use Rattle.stream_names.specs.declared.naming.Naming.{Naming}
-use Rattle.script_lines.specs.Said.{Said, ProcessSaid, silence, bad_line, long_line, begin_exec, begin_core, part_of, end_of, drop_of, delete_of, pin_of, retire_by, list_all_cases, count_free, inspect_of, said}
+use Rattle.script_lines.specs.Said.{Said, ProcessSaid, silence, bad_line, long_line, begin_exec, begin_core, part_of, end_of, drop_of, delete_of, pin_of, label_of, retire_by, list_all_cases, count_free, upgrade_archive, inspect_of, said}
 use Rattle.inspector_cli.specs.Reply.{Begins, TakeStep, TakeBytes, Takes}
 use Rattle.stream_names.specs.Streams.{exec_unless, exec_stream, core_unless, core_stream, name_fault, core_name}
 use Rattle.inspector_cli.specs.declared.session.SessionFault.TheVariants.{WriteFailed}
@@ -72,9 +72,11 @@ first_fresh naming (end_of slot) = tt
 first_fresh naming (drop_of slot) = tt
 first_fresh naming (delete_of seq) = tt
 first_fresh naming (pin_of seq flag) = tt
+first_fresh naming (label_of seq label) = tt
 first_fresh naming (retire_by policy) = tt
 first_fresh naming list_all_cases = tt
 first_fresh naming count_free = tt
+first_fresh naming upgrade_archive = tt
 first_fresh naming (inspect_of seq query) = tt
 
 set_there : {X : Type 0} (xs : List (Option X)) (slot : ℕ) (a : Option X) → slot < length xs → stream_at (slice_set xs slot a) slot ≡ a
@@ -163,7 +165,7 @@ module _ {D : Type 0} (g : disk.Ghosts D) (file mid file' : Option (List ℕ)) (
 
 module _ {D : Type 0} (g : disk.Ghosts D) where
   -- a first line and what stands behind it
-  pub stores : (naming : Naming) (file file' : Option (List ℕ)) (fails fails' : ℕ) (o p q : Option (List ℕ)) (f i h : ℕ) (u v w : Reply) (old mid new : Parts D) (line : List ℕ) (stored : Bool)
+  pub stores : (naming : Naming) (file file' : Option (List ℕ)) (fails fails' : ℕ) (o p q : Option (List ℕ)) (f i h : ℕ) (u v w : Reply) (old mid new : Parts D) (line : List ℕ) (stored : Option ℕ)
       → TellsReply (record { taken = o; taken' = p; failures = f; failures' = i; reply = u; reply' = v }) (λ text. Begins g old 0 (first_stream naming (said line)) text mid true)
       → TellsReply (record { taken = p; taken' = q; failures = i; failures' = h; reply = v; reply' = w }) (λ text. (filled : Parts D) × RestReplies g file file' fails fails' mid true filled text new stored)
       → TellsReply (record { taken = o; taken' = q; failures = f; failures' = h; reply = u; reply' = w }) (λ text. StoresStream g naming file file' fails fails' old line text new stored)
@@ -175,7 +177,7 @@ module _ {D : Type 0} (g : disk.Ghosts D) where
 
   pub stores_none : (naming : Naming) (file : Option (List ℕ)) (fails : ℕ) (t : Telling) (old new : Parts D) (line : List ℕ)
       → TellsReply t (λ text. Begins g old 0 (first_stream naming (said line)) text new false)
-      → TellsReply t (λ text. StoresStream g naming file file fails fails old line text new false)
+      → TellsReply t (λ text. StoresStream g naming file file fails fails old line text new None)
   stores_none naming file fails t old new line first = (
     first.0,
     record {
@@ -198,12 +200,12 @@ module _ {D : Type 0} (g : disk.Ghosts D) where
 
   module _ (laws : Laws g) (naming : Naming) (old : Stage D) (new : Parts D) where
     -- the end of a stream, or why it has none
-    end_reaches : (r : Result (Unit {0}) TakeStop) (reply : List ℕ) (stored : Bool) → FileReplies g old.archive r reply new stored → Reaches g laws old new (end_of 0) reply
+    end_reaches : (r : Result (Unit {0}) TakeStop) (reply : List ℕ) (stored : Option ℕ) → FileReplies g old.archive r reply new stored → Reaches g laws old new (end_of 0) reply
     end_reaches (Ok u) reply stored ends = line_moves g laws old new naming (end_of 0) [] reply (stored, ends)
     end_reaches (Err File) reply stored ends = still g laws old new (end_of 0) reply (stays_as g old.archive new ends.1)
     end_reaches (Err (Refused fault)) reply stored ends = still g laws old new (end_of 0) reply (stays_as g old.archive new ends.1)
 
-  rest_moves : (laws : Laws g) (naming : Naming) (file file' : Option (List ℕ)) (fails fails' : ℕ) (old : Stage D) (mid filled new : Parts D) (accepted : Bool) (rest : List ℕ) (stored : Bool) → ChangesNoCase g old.archive mid
+  rest_moves : (laws : Laws g) (naming : Naming) (file file' : Option (List ℕ)) (fails fails' : ℕ) (old : Stage D) (mid filled new : Parts D) (accepted : Bool) (rest : List ℕ) (stored : Option ℕ) → ChangesNoCase g old.archive mid
       → RestReplies g file file' fails fails' mid accepted filled rest new stored → ChangesNoCase g old.archive filled × Reaches g laws (stage_of filled old.in_doubt) new (end_of 0) rest
   rest_moves laws naming file file' fails fails' old mid filled new true rest stored begun goes = (
     stays_then g old.archive mid filled begun (file_stays file file' fails fails' mid filled goes.0 goes.1),
@@ -227,7 +229,7 @@ module _ {D : Type 0} (g : disk.Ghosts D) where
       let t = s.stores in
       let doubts : List Durable = r.0 ++ old.in_doubt in
       let m =
-      rest_moves laws naming file file' fails fails' (stage_of s.room doubts) t.mid t.filled end t.accepted t.rest outcome.is_stored
+      rest_moves laws naming file file' fails fails' (stage_of s.room doubts) t.mid t.filled end t.accepted t.rest outcome.stored
       (begins_stays g s.room t.mid 0 (first_stream naming (said line)) t.first t.accepted t.begins) t.goes_on in (
         m.1.0 ++ doubts,
         record {
@@ -242,11 +244,11 @@ module _ {D : Type 0} (g : disk.Ghosts D) where
       )
 
   -- a line that makes room, and the stream behind it
-  pub stores_both : (naming : Naming) (file file' : Option (List ℕ)) (fails fails' : ℕ) (o p q : Option (List ℕ)) (f i h : ℕ) (u v w : Reply) (old room new : Parts D) (before line : List ℕ) (made stored : Bool)
+  pub stores_both : (naming : Naming) (file file' : Option (List ℕ)) (fails fails' : ℕ) (o p q : Option (List ℕ)) (f i h : ℕ) (u v w : Reply) (old room new : Parts D) (before line : List ℕ) (made : Bool) (stored : Option ℕ)
       → TellsReply (record { taken = o; taken' = p; failures = f; failures' = i; reply = u; reply' = v }) (λ text. MakesRoom g old (policy_before before) text room made)
       → TellsReply (record { taken = p; taken' = q; failures = i; failures' = h; reply = v; reply' = w }) (λ text. StoresStream g naming file file' fails fails' room line text new stored)
       → TellsReply (record { taken = o; taken' = q; failures = f; failures' = h; reply = u; reply' = w })
-      (λ text. Stores g naming file file' fails fails' old before line text new (record { made_room = made; is_stored = stored }))
+      (λ text. Stores g naming file file' fails fails' old before line text new (record { made_room = made; stored = stored }))
   stores_both naming file file' fails fails' o p q f i h u v w old room new before line made stored first rest = (
     first.0 ++ rest.0,
     record { told = first.0; room = room; makes_room = first.1; more = rest.0; stores = rest.1; all = refl },

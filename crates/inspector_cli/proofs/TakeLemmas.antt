@@ -3,7 +3,7 @@ use Rattle.std.proofs.Common.{◌≡◌, ◌≢◌, ⊎_elim, ℕ, ◌+◌, ◌/
 use Rattle.std.proofs.lemmas.Bool.{cases_lt, false≢true}
 use Rattle.std.specs.Prelude.{slice_set, sum_by}
 use Rattle.intake.specs.declared.faults.ArchiveFault.{ArchiveFault}
-use Rattle.intake.specs.declared.faults.ArchiveFault.TheVariants.{Stopped, BadSlot, SlotBusy, NameTaken, NoStream, TooLong, SpaceFull, NoCase, Pinned, JournalFull, NumbersSpent, OutOfMemory, Disk}
+use Rattle.intake.specs.declared.faults.ArchiveFault.TheVariants.{Stopped, NoStream, TooLong, SpaceFull, OutOfMemory, Disk}
 use Rattle.intake.specs.Slots.{stream_at}
 use Rattle.intake.specs.State.{ArchiveState, StreamFacts, blocks_in, filled_by}
 use Rattle.intake.specs.Step.{AdvanceStep, FindsNoBlock, with_stream, longer, halted}
@@ -116,13 +116,7 @@ module _ (b : ArchiveState) (slot k n : ℕ) (s : StreamFacts) (stands : IsOpen 
       let low : s.len + k + n ≤ b.limit = subst (λ (t : StreamFacts). t.len + n ≤ b.limit) is step.1.2 in
       let free = subst (λ (t : StreamFacts). FindsNoBlock (midway b slot s k) t n → ⊥) is step.2 in
       (s, k + n, stands, omega arith, may_more low free, step.3 ∙ stopped)
-  piece_taken (Err BadSlot) new step = absurd step
-  piece_taken (Err SlotBusy) new step = absurd step
-  piece_taken (Err NameTaken) new step = absurd step
-  piece_taken (Err NoCase) new step = absurd step
-  piece_taken (Err Pinned) new step = absurd step
-  piece_taken (Err JournalFull) new step = absurd step
-  piece_taken (Err NumbersSpent) new step = absurd step
+  piece_taken (Err _) new step = absurd step
 
 -- the next piece of a part
 pub took_piece : (b mid new : ArchiveState) (slot k n : ℕ) (u : Unit {0}) (r : Result (Unit {0}) ArchiveFault) → TakeStep b slot k (Ok u) mid → FitsBlock (stream_at mid.streams slot) n
@@ -141,13 +135,7 @@ took_none b new slot (Err TooLong) step = (step.0, (step.1, step.2), step.3, λ 
 took_none b new slot (Err SpaceFull) step = absurd (step.2.0 refl)
 took_none b new slot (Err OutOfMemory) step = (step.0, 0, (step.1.0, step.1.1), omega arith, (step.1.2, λ m wall. omega (arith, wall.1)), step.3)
 took_none b new slot (Err Disk) step = (step.0, 0, (step.1.0, step.1.1), omega arith, (step.1.2, λ m wall. omega (arith, wall.1)), step.3)
-took_none b new slot (Err BadSlot) step = absurd step
-took_none b new slot (Err SlotBusy) step = absurd step
-took_none b new slot (Err NameTaken) step = absurd step
-took_none b new slot (Err NoCase) step = absurd step
-took_none b new slot (Err Pinned) step = absurd step
-took_none b new slot (Err JournalFull) step = absurd step
-took_none b new slot (Err NumbersSpent) step = absurd step
+took_none b new slot (Err _) step = absurd step
 
 -- a part that is refused stays so, however many bytes follow
 pub refused_yet : (b new : ArchiveState) (slot k n : ℕ) (f : ArchiveFault) → TakeStep b slot k (Err f) new → TakeStep b slot (k + n) (Err f) new
@@ -157,10 +145,4 @@ refused_yet b new slot k n TooLong step = (step.0, step.1, omega (arith, step.2)
 refused_yet b new slot k n SpaceFull step = (step.0, step.1, step.2, step.3, omega (arith, step.4), step.5, step.6)
 refused_yet b new slot k n OutOfMemory step = (step.0, step.1, step.2, omega (arith, step.3), step.4, step.5)
 refused_yet b new slot k n Disk step = (step.0, step.1, step.2, omega (arith, step.3), step.4, step.5)
-refused_yet b new slot k n BadSlot step = absurd step
-refused_yet b new slot k n SlotBusy step = absurd step
-refused_yet b new slot k n NameTaken step = absurd step
-refused_yet b new slot k n NoCase step = absurd step
-refused_yet b new slot k n Pinned step = absurd step
-refused_yet b new slot k n JournalFull step = absurd step
-refused_yet b new slot k n NumbersSpent step = absurd step
+refused_yet b new slot k n _ step = absurd step

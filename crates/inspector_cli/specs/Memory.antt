@@ -17,6 +17,7 @@ use Rattle.inspector_cli.specs.Life.{IsUntouched, RunsOver}
 abbrev pub fresh_archive : Shape → ℕ → ArchiveState
 fresh_archive shape limit = record {
   shape = shape;
+  version = 1;
   limit = limit;
   cases = [];
   next = 1;

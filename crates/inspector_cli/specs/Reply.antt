@@ -1,18 +1,16 @@
 -- The reply to what a line says, and what it does to the archive.
-use Rattle.std.specs.Prelude.{◌≡◌, ℕ, ◌+◌, ◌/◌, ◌%◌, ◌<◌, ◌≤◌, ◌==◌, Bool, true, false, nat_lt, List, [], ◌∷◌, ◌++◌, length, Option, None, Some, Result, Ok, Err, is_ok, IsTrue, codes, decimal, if◌then◌else◌}
-use Rattle.std.specs.List.{flat_map, list_any}
-use Rattle.journal_layout.specs.declared.entry.Kind.{Kind}
-use Rattle.journal_layout.specs.declared.entry.Kind.TheVariants.{Core, Exec}
-use Rattle.script_streams.specs.Replies.{ok_reply, no_reply}
+use Rattle.std.specs.Prelude.{◌≡◌, ℕ, ◌+◌, ◌/◌, ◌%◌, ◌<◌, ◌≤◌, Bool, true, false, List, [], ◌++◌, length, Option, None, Some, Result, Ok, Err, is_ok, IsTrue, codes}
+use Rattle.std.specs.Result.{result_ok}
+use Rattle.script_streams.specs.Replies.{no_reply}
 use Rattle.intake.specs.declared.faults.ArchiveFault.{ArchiveFault}
 use Rattle.intake.specs.declared.space.Space.{Space}
 use Rattle.intake.specs.declared.faults.ArchiveFault.TheVariants.{Stopped, NoStream, TooLong, SpaceFull, OutOfMemory, Disk}
 use Rattle.disk_model.specs.declared.disk.Disk as disk
-use Rattle.intake.specs.Calls.{ChangesNoCase, HasDiskCause, BeginCall, AbandonCall, FinishCall, DeleteCall, PinCall, RetireCall}
+use Rattle.intake.specs.Calls.{ChangesNoCase, HasDiskCause, BeginCall, AbandonCall, FinishCall, DeleteCall, PinCall, LabelCall, UpgradeCall, RetireCall}
 use Rattle.intake.specs.Contents.{Contents, Taken, RefusedBytes, with_taken}
 use Rattle.intake.specs.Parts.{Parts, state_of, contents_of}
 use Rattle.intake.specs.Slots.{stream_at}
-use Rattle.intake.specs.State.{ArchiveState, CaseFacts, StreamFacts, blocks_in}
+use Rattle.intake.specs.State.{ArchiveState, StreamFacts, blocks_in}
 use Rattle.intake.specs.Step.{FreeReply, with_stream, halted, longer}
 use Rattle.retention.specs.declared.Decision.{Decision}
 use Rattle.retention.specs.declared.Policy.{Policy}
@@ -20,7 +18,7 @@ use Rattle.archive_replies.specs.Texts.{plain_reply, begin_reply, end_reply, ret
 use Rattle.stream_names.specs.Streams.{exec_stream, core_stream}
 use Rattle.stream_names.specs.declared.naming.Naming.{Naming}
 use Rattle.case_queries.specs.Inspecting.{Inspects}
-use Rattle.script_lines.specs.Said.{Said, ProcessSaid, silence, bad_line, long_line, begin_exec, begin_core, part_of, end_of, drop_of, delete_of, pin_of, retire_by, list_all_cases, count_free, inspect_of}
+use Rattle.script_lines.specs.Said.{Said, silence, bad_line, long_line, begin_exec, begin_core, part_of, end_of, drop_of, delete_of, pin_of, label_of, retire_by, list_all_cases, count_free, upgrade_archive, inspect_of}
 
 -- `begin`: what is wrong with the name comes first. It is accepted or not.
 abbrev pub Begins : {D : Type 0} → disk.Ghosts D → Parts D → ℕ → Result StreamFacts (List ℕ) → List ℕ → Parts D → Bool → Type 0
@@ -77,10 +75,10 @@ abbrev pub Feeds : {D : Type 0} → disk.Ghosts D → Parts D → ℕ → List �
 Feeds g old slot raw reply new =
     (result : Result (Unit {0}) ArchiveFault) × Takes g old slot raw result new × (reply ≡ plain_reply result)
 
--- `end`: the case is stored or not
-abbrev pub Ends : {D : Type 0} → disk.Ghosts D → Parts D → ℕ → List ℕ → Parts D → Bool → Type 0
+-- `end`: the case is stored, under a number, or not
+abbrev pub Ends : {D : Type 0} → disk.Ghosts D → Parts D → ℕ → List ℕ → Parts D → Option ℕ → Type 0
 Ends g old slot reply new stored =
-    (result : Result ℕ ArchiveFault) × FinishCall g old slot result new × (reply ≡ end_reply result) × (stored ≡ is_ok result)
+    (result : Result ℕ ArchiveFault) × FinishCall g old slot result new × (reply ≡ end_reply result) × (stored ≡ result_ok result)
 
 abbrev pub Drops : {D : Type 0} → disk.Ghosts D → Parts D → ℕ → List ℕ → Parts D → Type 0
 Drops g old slot reply new = (result : Result (Unit {0}) ArchiveFault) × AbandonCall g old slot result new × (reply ≡ plain_reply result)
@@ -90,6 +88,12 @@ Deletes g old seq reply new = (result : Result (Unit {0}) ArchiveFault) × Delet
 
 abbrev pub Pins : {D : Type 0} → disk.Ghosts D → Parts D → ℕ → Bool → List ℕ → Parts D → Type 0
 Pins g old seq flag reply new = (result : Result (Unit {0}) ArchiveFault) × PinCall g old seq flag result new × (reply ≡ plain_reply result)
+
+abbrev pub Labels : {D : Type 0} → disk.Ghosts D → Parts D → ℕ → List ℕ → List ℕ → Parts D → Type 0
+Labels g old seq label reply new = (result : Result (Unit {0}) ArchiveFault) × LabelCall g old seq label result new × (reply ≡ plain_reply result)
+
+abbrev pub Upgrades : {D : Type 0} → disk.Ghosts D → Parts D → List ℕ → Parts D → Type 0
+Upgrades g old reply new = (result : Result (Unit {0}) ArchiveFault) × UpgradeCall g old result new × (reply ≡ plain_reply result)
 
 abbrev pub Retires : {D : Type 0} → disk.Ghosts D → Parts D → Policy → List ℕ → Parts D → Type 0
 Retires g old policy reply new = (result : Result Decision ArchiveFault) × RetireCall g old policy result new × (reply ≡ retire_reply result)
@@ -105,11 +109,13 @@ Replies g naming old long_line raw reply new = (reply ≡ no_reply (codes "LineT
 Replies g naming old (begin_exec slot name) raw reply new = (accepted : Bool) × Begins g old slot (exec_stream name) reply new accepted
 Replies g naming old (begin_core slot process) raw reply new = (accepted : Bool) × Begins g old slot (core_stream naming process) reply new accepted
 Replies g naming old (part_of slot n) raw reply new = Feeds g old slot raw reply new
-Replies g naming old (end_of slot) raw reply new = (stored : Bool) × Ends g old slot reply new stored
+Replies g naming old (end_of slot) raw reply new = (stored : Option ℕ) × Ends g old slot reply new stored
 Replies g naming old (drop_of slot) raw reply new = Drops g old slot reply new
 Replies g naming old (delete_of seq) raw reply new = Deletes g old seq reply new
 Replies g naming old (pin_of seq flag) raw reply new = Pins g old seq flag reply new
+Replies g naming old (label_of seq label) raw reply new = Labels g old seq label reply new
 Replies g naming old (retire_by policy) raw reply new = Retires g old policy reply new
-Replies g naming old list_all_cases raw reply new = (reply ≡ list_reply (state_of old).stopped (state_of old).cases) × (new ≡ old)
+Replies g naming old list_all_cases raw reply new = (reply ≡ list_reply (state_of old).stopped (state_of old).version (state_of old).cases) × (new ≡ old)
 Replies g naming old count_free raw reply new = Frees old reply new
+Replies g naming old upgrade_archive raw reply new = Upgrades g old reply new
 Replies g naming old (inspect_of seq query) raw reply new = Inspects g old seq query reply new

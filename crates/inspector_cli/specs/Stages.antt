@@ -2,11 +2,11 @@
 use Rattle.std.specs.Prelude.{◌≡◌, ◌⊎◌, ℕ, List, [], ◌∷◌, ◌++◌, map, codes, IsTrue}
 use Rattle.std.specs.List.{AllByRecursion}
 use Rattle.disk_model.specs.declared.disk.Disk as disk
-use Rattle.intake.specs.Durable.{Durable, durable_of, without, flagged}
+use Rattle.intake.specs.Durable.{Durable, durable_of, without, flagged, labelled, upgraded}
 use Rattle.intake.specs.Guarding.{MayBeStored, MayBeRetired}
 use Rattle.intake.specs.Marks.{Mark, Passes, IsMarkSettled, IsFoundSince, mark_of}
 use Rattle.intake.specs.Parts.{Parts, state_of, contents_of}
-use Rattle.script_lines.specs.Said.{Said, end_of, delete_of, pin_of, retire_by}
+use Rattle.script_lines.specs.Said.{Said, end_of, delete_of, pin_of, label_of, retire_by, upgrade_archive}
 use Rattle.script_streams.specs.Replies.{no_reply}
 
 -- how things stand when a line has been answered
@@ -23,6 +23,8 @@ abbrev pub MayLeave : {D : Type 0} → disk.Ghosts D → Parts D → Said → Du
 MayLeave g old (end_of slot) x = MayBeStored (state_of old) (contents_of g.seen old) (durable_of g.seen old) slot x
 MayLeave g old (delete_of seq) x = x ≡ without (durable_of g.seen old) (seq ∷ [])
 MayLeave g old (pin_of seq flag) x = x ≡ flagged (durable_of g.seen old) seq flag
+MayLeave g old (label_of seq label) x = x ≡ labelled (durable_of g.seen old) seq label
+MayLeave g old upgrade_archive x = x ≡ upgraded (durable_of g.seen old)
 MayLeave g old (retire_by policy) x = MayBeRetired (state_of old) policy (durable_of g.seen old) x
 MayLeave g old _ x = ⊥
 

@@ -52,23 +52,23 @@ TakesMore g file file' fails fails' begun so_far new (Err File) =
 TakesMore g file file' fails fails' begun so_far new (Err (Refused fault)) =
     (raw : List ℕ) × Consumes file file' raw × (fails' ≡ fails) × Takes g begun 0 (so_far ++ raw) (Err fault) new
 
--- the reply behind the bytes, and whether the case is stored
-abbrev pub FileReplies : {D : Type 0} → disk.Ghosts D → Parts D → Result (Unit {0}) TakeStop → List ℕ → Parts D → Bool → Type 0
+-- the reply behind the bytes, and the case's number where it is stored
+abbrev pub FileReplies : {D : Type 0} → disk.Ghosts D → Parts D → Result (Unit {0}) TakeStop → List ℕ → Parts D → Option ℕ → Type 0
 FileReplies g old (Ok u) reply new stored = Ends g old 0 reply new stored
-FileReplies g old (Err File) reply new stored = (reply ≡ no_reply (codes "File")) × (new ≡ old) × (stored ≡ false)
-FileReplies g old (Err (Refused fault)) reply new stored = (reply ≡ no_reply (reason_of fault)) × (new ≡ old) × (stored ≡ false)
+FileReplies g old (Err File) reply new stored = (reply ≡ no_reply (codes "File")) × (new ≡ old) × (stored ≡ None)
+FileReplies g old (Err (Refused fault)) reply new stored = (reply ≡ no_reply (reason_of fault)) × (new ≡ old) × (stored ≡ None)
 
 -- a file behind a first line that was accepted or not, with the archive when its bytes are taken: where the line was not
 -- accepted, none is read
-abbrev pub RestReplies : {D : Type 0} → disk.Ghosts D → Option (List ℕ) → Option (List ℕ) → ℕ → ℕ → Parts D → Bool → Parts D → List ℕ → Parts D → Bool → Type 0
+abbrev pub RestReplies : {D : Type 0} → disk.Ghosts D → Option (List ℕ) → Option (List ℕ) → ℕ → ℕ → Parts D → Bool → Parts D → List ℕ → Parts D → Option ℕ → Type 0
 RestReplies g file file' fails fails' old true filled reply new stored =
     (taken : Result (Unit {0}) TakeStop) × TakesFile g file file' fails fails' old filled taken × FileReplies g filled taken reply new stored
 RestReplies g file file' fails fails' old false filled reply new stored =
-    (file' ≡ file) × (fails' ≡ fails) × (filled ≡ old) × (reply ≡ []) × (new ≡ old) × (stored ≡ false)
+    (file' ≡ file) × (fails' ≡ fails) × (filled ≡ old) × (reply ≡ []) × (new ≡ old) × (stored ≡ None)
 
--- a line and its file: the replies, and whether the case is stored
+-- a line and its file: the replies, and the case's number where it is stored
 pub record StoresStream {D : Type 0} (g : disk.Ghosts D) (naming : Naming) (file file' : Option (List ℕ)) (fails fails' : ℕ) (old : Parts D) (line : List ℕ)
-    (replies : List ℕ) (new : Parts D) (stored : Bool) : Type 0 where
+    (replies : List ℕ) (new : Parts D) (stored : Option ℕ) : Type 0 where
   pub first : List ℕ
   pub mid : Parts D
   pub accepted : Bool
@@ -102,7 +102,7 @@ pub record Stores {D : Type 0} (g : disk.Ghosts D) (naming : Naming) (file file'
   pub room : Parts D
   pub makes_room : MakesRoom g old (policy_before before) told room outcome.made_room
   pub more : List ℕ
-  pub stores : StoresStream g naming file file' fails fails' room line more new outcome.is_stored
+  pub stores : StoresStream g naming file file' fails fails' room line more new outcome.stored
   pub all : replies ≡ told ++ more
 
 -- no stream is open in slot 0
@@ -142,7 +142,7 @@ StoreEnds g naming t old before line new (Err TooManyReads) = ⊥
 -- stood, and nothing comes in doubt before its end.
 pub record IsAlone {D : Type 0} (g : disk.Ghosts D) (naming : Naming) (file file' : Option (List ℕ)) (fails fails' : ℕ) (old : Stage D) (line : List ℕ)
     (replies : List ℕ) (end : Stage D) (new : Parts D) (outcome : StoreOutcome) : Type 0 where
-  pub stores : StoresStream g naming file file' fails fails' old.archive line replies end.archive outcome.is_stored
+  pub stores : StoresStream g naming file file' fails fails' old.archive line replies end.archive outcome.stored
   pub made : outcome.made_room ≡ true
   pub takes : ChangesNoCase g old.archive stores.filled
   pub moves : Moves g (record { archive = stores.filled; in_doubt = old.in_doubt }) (end_of 0) stores.rest end

@@ -2,13 +2,14 @@
 ghost use Rattle.std.specs.Prelude.{◌≡◌, [], is_ok};
 ghost use Rattle.intake.specs.Parts.{state_of};
 ghost use Rattle.script_lines.specs.Commands.{asked_by};
-ghost use Rattle.inspector_cli.specs.Reply.{Ends, Drops, Deletes, Pins, Retires, Frees};
+ghost use Rattle.inspector_cli.specs.Reply.{Ends, Drops, Deletes, Pins, Labels, Upgrades, Retires, Frees};
 ghost use Rattle.archive_replies.specs.Texts.{list_reply};
 ghost use Rattle.script_streams.specs.Replies.{TellsReply, TellsText, telling};
 ghost use Rattle.inspector_cli.specs.Answering.{AnswersTo};
 
 use crate::begin::answer_begin;
 use archive_replies::{tell_cases, tell_free, tell_outcome, tell_retired, tell_stored};
+use arrayvec::ArrayVec;
 use disk_model::Disk;
 use intake::Archive;
 use retention::Policy;
@@ -43,27 +44,29 @@ pub(crate) fn answer_plain<O: Output, D: Disk>(
         Request::Drop { slot } => answer_drop(slot, reply, output, archive),
         Request::Delete { seq } => answer_delete(seq, reply, output, archive),
         Request::Pin { seq, flag } => answer_pin(seq, flag, reply, output, archive),
+        Request::Label { seq, label } => answer_label(seq, &label, reply, output, archive),
         Request::Retire { policy } => {
             let _ = answer_retire(policy, reply, output, archive);
         }
         Request::ListCases => answer_list(reply, output, archive),
         Request::CountFree => answer_free(reply, output, archive),
+        Request::Upgrade => answer_upgrade(reply, output, archive),
     }
 }
 
-// Answers `end`. Says whether the case is stored.
+// Answers `end`. Says the number of the case, where it is stored.
 pub(crate) fn answer_end<O: Output, D: Disk>(
     slot: u8,
     reply: &mut Reply,
     output: &mut O,
     archive: &mut Archive<D>,
-) -> bool
+) -> Option<u32>
     ensures { TellsReply (telling O.Output output.old output.new reply.old reply.new) (λ text. Ends D.Disk archive.old slot text archive.new result) }
 {
     let outcome = archive.finish(slot);
-    let is_stored = outcome.is_ok();
+    let stored = outcome.ok();
     tell_stored(reply, output, outcome);
-    is_stored
+    stored
 }
 
 // Answers `drop`.
@@ -106,6 +109,28 @@ fn answer_pin<O: Output, D: Disk>(
     tell_outcome(reply, output, outcome);
 }
 
+// Answers `label`.
+fn answer_label<O: Output, D: Disk>(
+    seq: u32,
+    label: &ArrayVec<u8, 64>,
+    reply: &mut Reply,
+    output: &mut O,
+    archive: &mut Archive<D>,
+)
+    ensures { TellsReply (telling O.Output output.old output.new reply.old reply.new) (λ text. Labels D.Disk archive.old seq label.now.items text archive.new) }
+{
+    let outcome = archive.label(seq, label.as_slice());
+    tell_outcome(reply, output, outcome);
+}
+
+// Answers `upgrade`.
+fn answer_upgrade<O: Output, D: Disk>(reply: &mut Reply, output: &mut O, archive: &mut Archive<D>)
+    ensures { TellsReply (telling O.Output output.old output.new reply.old reply.new) (λ text. Upgrades D.Disk archive.old text archive.new) }
+{
+    let outcome = archive.upgrade();
+    tell_outcome(reply, output, outcome);
+}
+
 // Answers `retire`. Says whether it was answered other than `no REASON`.
 pub(crate) fn answer_retire<O: Output, D: Disk>(
     policy: Policy,
@@ -123,10 +148,14 @@ pub(crate) fn answer_retire<O: Output, D: Disk>(
 
 // Answers `list`.
 fn answer_list<O: Output, D: Disk>(reply: &mut Reply, output: &mut O, archive: &Archive<D>)
-    ensures { TellsText (telling O.Output output.old output.new reply.old reply.new) (list_reply (state_of archive.now).stopped (state_of archive.now).cases) }
+    ensures { TellsText (telling O.Output output.old output.new reply.old reply.new) (list_reply (state_of archive.now).stopped (state_of archive.now).version (state_of archive.now).cases) }
 {
+    let Ok(version) = archive.version() else {
+        tell_no(reply, output, b"Stopped");
+        return;
+    };
     match archive.cases() {
-        Ok(cases) => tell_cases(reply, output, cases),
+        Ok(cases) => tell_cases(reply, output, version, cases),
         Err(_) => tell_no(reply, output, b"Stopped"),
     }
 }

@@ -52,7 +52,9 @@ fn requested_policy(request: Request<'_>) -> Option<Policy>
         Request::Drop { .. } => None,
         Request::Delete { .. } => None,
         Request::Pin { .. } => None,
+        Request::Label { .. } => None,
         Request::ListCases => None,
         Request::CountFree => None,
+        Request::Upgrade => None,
     }
 }

@@ -7,8 +7,8 @@ use thiserror::Error;
 pub struct StoreOutcome {
     /// Room was made, or none was asked for: false only where the line `retire ..` was answered `no REASON`.
     pub made_room: bool,
-    /// The case is stored.
-    pub is_stored: bool,
+    /// The number of the case, where it is stored.
+    pub stored: Option<u32>,
 }
 
 /// Why a session ended before its script.

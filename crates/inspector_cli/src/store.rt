@@ -40,7 +40,7 @@ enum TakeStop {
 /// Then a line is answered that begins a stream in slot 0. Where it is accepted, the stream takes all bytes of `file` and becomes a
 /// case, and the reply goes on by that of the first step that was refused, or else by that of the line `end 0`. A `file`
 /// that cannot be read, or that has not ended after 2^40 reads, is a step that is refused with the reply `no File`. Says
-/// whether room was made and whether the case is stored. No stream is open in slot 0 then. Any other line is refused with the reply
+/// whether room was made, and the number of the case where it is stored. No stream is open in slot 0 then. Any other line is refused with the reply
 /// `no BadLine`, and one of more than 1,024 bytes with `no LineTooLong`.
 ///
 /// # Errors
@@ -83,14 +83,11 @@ fn answer_both<I: Input, O: Output, D: Disk>(
         archive.old before.now line.now text archive.new result) }
 {
     let made_room = make_room(before, reply, output, archive);
-    let is_stored = answer_store(line, file, reply, output, archive, naming);
-    StoreOutcome {
-        made_room,
-        is_stored,
-    }
+    let stored = answer_store(line, file, reply, output, archive, naming);
+    StoreOutcome { made_room, stored }
 }
 
-// Answers the line that begins a stream, and then its file. Says whether the case is stored.
+// Answers the line that begins a stream, and then its file. Says the number of the case, where it is stored.
 fn answer_store<I: Input, O: Output, D: Disk>(
     line: &[u8],
     file: &mut I,
@@ -98,13 +95,13 @@ fn answer_store<I: Input, O: Output, D: Disk>(
     output: &mut O,
     archive: &mut Archive<D>,
     naming: &Naming,
-) -> bool
+) -> Option<u32>
     ensures { TellsReply (telling O.Output output.old output.new reply.old reply.new) (λ text. StoresStream D.Disk naming.now (I.remaining file.old) (I.remaining file.new) (I.failures file.old) (I.failures file.new)
         archive.old line.now text archive.new result) }
 {
     let is_begun = answer_first(line, reply, output, archive, naming);
     if !is_begun {
-        return false;
+        return None;
     }
     answer_file(file, reply, output, archive)
 }
@@ -158,19 +155,21 @@ fn requested_stream(request: Request<'_>, naming: &Naming) -> Result<NewStream, 
         Request::Drop { .. } => Err(b"BadLine"),
         Request::Delete { .. } => Err(b"BadLine"),
         Request::Pin { .. } => Err(b"BadLine"),
+        Request::Label { .. } => Err(b"BadLine"),
         Request::Retire { .. } => Err(b"BadLine"),
         Request::ListCases => Err(b"BadLine"),
         Request::CountFree => Err(b"BadLine"),
+        Request::Upgrade => Err(b"BadLine"),
     }
 }
 
-// Takes a file into the stream in slot 0, and makes it a case. Says whether the case is stored.
+// Takes a file into the stream in slot 0, and makes it a case. Says its number, where it is stored.
 fn answer_file<I: Input, O: Output, D: Disk>(
     file: &mut I,
     reply: &mut Reply,
     output: &mut O,
     archive: &mut Archive<D>,
-) -> bool
+) -> Option<u32>
     requires { Takes D.Disk archive.old 0 [] (Ok tt) archive.old }
     ensures { TellsReply (telling O.Output output.old output.new reply.old reply.new) (λ text. (filled : Parts D) × RestReplies D.Disk (I.remaining file.old) (I.remaining file.new) (I.failures file.old) (I.failures file.new)
         archive.old true filled text archive.new result) }
@@ -179,11 +178,11 @@ fn answer_file<I: Input, O: Output, D: Disk>(
         Ok(()) => answer_end(0, reply, output, archive),
         Err(TakeStop::File) => {
             tell_no(reply, output, b"File");
-            false
+            None
         }
         Err(TakeStop::Refused(fault)) => {
             tell_no(reply, output, reason(fault));
-            false
+            None
         }
     }
 }

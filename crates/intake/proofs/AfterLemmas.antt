@@ -6,7 +6,7 @@ use Rattle.disk_model.specs.Places.{SameOutside}
 use Rattle.disk_model.specs.declared.disk.Disk as disk
 use Rattle.extents.specs.FreeSet.{is_free, free_count, one_if}
 use Rattle.journal_layout.specs.Case.{Case}
-use Rattle.journal_layout.specs.Folding.{after, with_pin}
+use Rattle.journal_layout.specs.Folding.{after, with_pin, with_label}
 use Rattle.journal_layout.specs.Layout.{half_length}
 use Rattle.journal_layout.specs.LiveLaws.{live_after}
 use Rattle.journal_layout.specs.Record.{Record}
@@ -48,6 +48,16 @@ flag_cases seq flag (c ∷ rest) =
     ≡ cond t (record (case_facts c) { pinned = flag }) (case_facts c) ∷ map (λ (x : CaseFacts). cond (x.seq == seq) (record x { pinned = flag }) x) (map case_facts rest)) [
       | true ↦ ap (λ (l : List CaseFacts). record (case_facts c) { pinned = flag } ∷ l) (flag_cases seq flag rest)
       | false ↦ ap (λ (l : List CaseFacts). case_facts c ∷ l) (flag_cases seq flag rest)
+    ]
+
+pub label_cases : (seq : ℕ) (text : List ℕ) (cases : List Case)
+    → map case_facts (with_label seq text cases) ≡ map (λ (c : CaseFacts). cond (c.seq == seq) (record c { label = text }) c) (map case_facts cases)
+label_cases seq text [] = refl
+label_cases seq text (c ∷ rest) =
+    elim (c.seq == seq) as (λ t. case_facts (cond t (record c { label = text }) c) ∷ map case_facts (with_label seq text rest)
+    ≡ cond t (record (case_facts c) { label = text }) (case_facts c) ∷ map (λ (x : CaseFacts). cond (x.seq == seq) (record x { label = text }) x) (map case_facts rest)) [
+      | true ↦ ap (λ (l : List CaseFacts). record (case_facts c) { label = text } ∷ l) (label_cases seq text rest)
+      | false ↦ ap (λ (l : List CaseFacts). case_facts c ∷ l) (label_cases seq text rest)
     ]
 
 -- a record was appended: blocks of dropped cases are free, and nothing else changes hands
@@ -96,7 +106,7 @@ module _ {D : Type 0} (g : disk.Ghosts D) (d d' : D) (j j' : Journaled) (r : Rec
       ∙ ap (λ (x : List (Option StreamFacts)). record (state_of before) { streams = x; stopped = true })
       (ap (map (option_map stream_facts)) same ∙ closed_map stream_facts streams)
 
-  moved : (flags' : List Bool) → IsArchiveSound g d j most flags streams b → j' ≡ j → Guards g d' j' → b' ≡ false → streams' ≡ streams → flags' ≡ flags → IsArchiveSound g d' j' most flags' streams' b'
+  pub moved : (flags' : List Bool) → IsArchiveSound g d j most flags streams b → j' ≡ j → Guards g d' j' → b' ≡ false → streams' ≡ streams → flags' ≡ flags → IsArchiveSound g d' j' most flags' streams' b'
   moved flags' sound is keeps off same back =
       subst (λ (k : Journaled). IsArchiveSound g d' k most flags' streams' b') (sym is)
       (subst (λ (x : List (Option StreamParts)). IsArchiveSound g d' j most flags' x b') (sym same)
@@ -128,6 +138,7 @@ module _ {D : Type 0} (g : disk.Ghosts D) (d d' : D) (j j' : Journaled) (r : Rec
       subst (λ (t : Bool). IsArchiveSound g d' j' most flags' streams' t) (sym ends.0)
       (subst (λ (x : List (Option StreamParts)). IsArchiveSound g d' j' most flags' x true) (sym ends.1)
       (sound_halted g d d' j j' most flags flags' streams streams b sound (ap (λ (k : Journaled). k.standing.shape) step.2) refl))
+  sound_refusal flags' journal_fault.OldVersion sound step keeps ends back = absurd step
 
 -- its bytes
 module _ {D : Type 0} (seen : D → List ℕ) (d d' : D) (j : Journaled) (most : ℕ) (streams : List (Option StreamParts)) (b : Bool)
@@ -147,7 +158,7 @@ module _ {D : Type 0} (seen : D → List ℕ) (d d' : D) (j : Journaled) (most :
       ∙ ap (λ (x : List (Option Taken)). record { images = map (λ (c : Case). image_in j.standing.shape (seen d) c.blocks c.len) j.standing.cases; taken = x })
       (closed_map (taken_in j (seen d')) streams ∙ ap closed (taken_behind j (seen d) (seen d') outside streams))
 
-  stay : (j' : Journaled) (b' : Bool) (streams' : List (Option StreamParts)) → j' ≡ j → streams' ≡ streams
+  pub stay : (j' : Journaled) (b' : Bool) (streams' : List (Option StreamParts)) → j' ≡ j → streams' ≡ streams
       → contents_of seen (record { disk = d'; journal = j'; limit = most; streams = streams'; stopped = b' }) ≡ contents_of seen past
   stay j' b' streams' is same =
       ap (λ (k : Journaled). contents_of seen (record { disk = d'; journal = k; limit = most; streams = streams'; stopped = b' })) is
@@ -164,6 +175,7 @@ module _ {D : Type 0} (seen : D → List ℕ) (d d' : D) (j : Journaled) (most :
       ap (λ (k : Journaled). contents_of seen (record { disk = d'; journal = k; limit = most; streams = streams'; stopped = b' })) step.2
       ∙ ap (λ (x : List (Option StreamParts)). contents_of seen (record { disk = d'; journal = halted j; limit = most; streams = x; stopped = b' })) ends.1
       ∙ no_streams_bytes b'
+  refusal_bytes r j' journal_fault.OldVersion b' streams' runs step ends = absurd step
 
 -- the journal's fault that is told so
 abbrev told_of : ArchiveFault → JournalFault
@@ -171,6 +183,7 @@ told_of fault.Stopped = journal_fault.Stopped
 told_of fault.JournalFull = journal_fault.JournalFull
 told_of fault.NumbersSpent = journal_fault.NumbersSpent
 told_of fault.OutOfMemory = journal_fault.OutOfMemory
+told_of fault.OldVersion = journal_fault.OldVersion
 told_of _ = journal_fault.Disk
 
 told_back : (jf : JournalFault) → told_of (fault_of jf) ≡ jf
@@ -179,6 +192,7 @@ told_back journal_fault.JournalFull = refl
 told_back journal_fault.NumbersSpent = refl
 told_back journal_fault.OutOfMemory = refl
 told_back journal_fault.Disk = refl
+told_back journal_fault.OldVersion = refl
 
 -- no two faults of the journal are told as one
 pub told_same : (jf h : JournalFault) → fault_of jf ≡ fault_of h → jf ≡ h

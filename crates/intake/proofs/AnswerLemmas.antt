@@ -10,15 +10,15 @@ use Rattle.journal_layout.specs.Grammar.{WhatStandsIsLive}
 use Rattle.journal_layout.specs.Soundness.{Rise, case_numbered}
 use Rattle.intake.specs.Blocks.{image_in}
 use Rattle.intake.specs.Calls.{FinishCall}
-use Rattle.intake.specs.Durable.{Durable, FoundCase, durable_of, found_case, without, flagged}
+use Rattle.intake.specs.Durable.{Durable, FoundCase, durable_of, found_case, without, flagged, labelled}
 use Rattle.intake.specs.Lasting.{number_of}
-use Rattle.intake.specs.Making.{Call, ReplyTo, Makes, Made, AreMade, StaysOpen, archive_after, taken_over, begin_in, lend_of, advance_by, finish_of, abandon_of, delete_of, pin_of, retire_by, image_of, find_case, list_cases, count_free, ask_stopped}
+use Rattle.intake.specs.Making.{Call, ReplyTo, Makes, Made, AreMade, StaysOpen, archive_after, taken_over, begin_in, lend_of, advance_by, finish_of, abandon_of, delete_of, pin_of, label_of, upgrade_it, retire_by, image_of, find_case, list_cases, count_free, ask_version, ask_stopped}
 use Rattle.intake.specs.Parts.{Parts, state_of, contents_of}
 use Rattle.intake.specs.State.{ArchiveState, StreamFacts}
 use Rattle.intake.specs.Contents.{image_at}
 use Rattle.intake.proofs.ImageLemmas.{image_found}
 use Rattle.intake.proofs.LastingLemmas.{numbers_above}
-use Rattle.intake.proofs.LastsLemmas.{finish_lasts, delete_lasts, pin_lasts, retire_lasts, refusals_last}
+use Rattle.intake.proofs.LastsLemmas.{finish_lasts, delete_lasts, pin_lasts, label_lasts, upgrade_lasts, retire_lasts, refusals_last}
 use Rattle.intake.proofs.FactLemmas.{image_taken}
 use Rattle.intake.proofs.MakingLemmas.{room_durable, still_honest}
 
@@ -81,6 +81,14 @@ found_flagged seq at flag (c ∷ cs) =
       | false ↦ ap (cond (c.seq == seq) (Some c.image)) (found_flagged seq at flag cs)
     ]
 
+found_labelled : (seq at : ℕ) (text : List ℕ) (cs : List FoundCase) → found_image seq (map (λ (c : FoundCase). cond (c.seq == at) (record c { label = text }) c) cs) ≡ found_image seq cs
+found_labelled seq at text [] = refl
+found_labelled seq at text (c ∷ cs) =
+    elim (c.seq == at) as (λ t. found_image seq (cond t (record c { label = text }) c ∷ map (λ (d : FoundCase). cond (d.seq == at) (record d { label = text }) d) cs) ≡ found_image seq (c ∷ cs)) [
+      | true ↦ ap (cond (c.seq == seq) (Some c.image)) (found_labelled seq at text cs)
+      | false ↦ ap (cond (c.seq == seq) (Some c.image)) (found_labelled seq at text cs)
+    ]
+
 -- a number that was given, and whose case has this image or is gone
 abbrev IsOrIsGone : ℕ → List ℕ → Durable → Type 0
 IsOrIsGone seq image x = (seq < x.next) × ((found_image seq x.cases ≡ Some image) ⊎ (found_image seq x.cases ≡ None))
@@ -100,6 +108,9 @@ goes_without seq image x y seqs is was = subst (IsOrIsGone seq image) (sym is) (
 
 goes_flagged : (seq at : ℕ) (image : List ℕ) (flag : Bool) (x y : Durable) → y ≡ flagged x at flag → IsOrIsGone seq image x → IsOrIsGone seq image y
 goes_flagged seq at image flag x y is was = subst (IsOrIsGone seq image) (sym is) (goes_same seq image x (flagged x at flag) refl (found_flagged seq at flag x.cases) was)
+
+goes_labelled : (seq at : ℕ) (image text : List ℕ) (x y : Durable) → y ≡ labelled x at text → IsOrIsGone seq image x → IsOrIsGone seq image y
+goes_labelled seq at image text x y is was = subst (IsOrIsGone seq image) (sym is) (goes_same seq image x (labelled x at text) refl (found_labelled seq at text x.cases) was)
 
 goes_stored : (seq : ℕ) (image : List ℕ) (x y : Durable) (c : FoundCase) → y.cases ≡ x.cases ++ c ∷ [] → y.next ≡ x.next + 1 → c.seq ≡ x.next → IsOrIsGone seq image x → IsOrIsGone seq image y
 goes_stored seq image x y c cases next number was =
@@ -127,12 +138,19 @@ module _ {D : Type 0} (g : disk.Ghosts D) (counts : (d : D) (t : ℕ) (c : List 
       let lasts = pin_lasts g old new honest at flag u made in
       ⊎_elim (λ same. goes_as seq image _ _ same.1 was) (λ set. goes_flagged seq at image flag _ _ set.1 was) lasts.2
   goes_over seq image old new (pin_of at flag) (Err f) honest made was = goes_as seq image _ _ (refusals_last g counts only old new f honest (inr (inr (inl (at, flag, made))))) was
+  goes_over seq image old new (label_of at text) (Ok u) honest made was =
+      let lasts = label_lasts g old new honest at text u made in
+      ⊎_elim (λ same. goes_as seq image _ _ same.1 was) (λ set. goes_labelled seq at image text _ _ set.1 was) lasts.2
+  goes_over seq image old new (label_of at text) (Err f) honest made was = goes_as seq image _ _ (refusals_last g counts only old new f honest (inr (inr (inr (inr (inl (at, text, made))))))) was
+  goes_over seq image old new upgrade_it (Ok u) honest made was = subst (IsOrIsGone seq image) (sym (upgrade_lasts g old new honest u made)) was
+  goes_over seq image old new upgrade_it (Err f) honest made was = goes_as seq image _ _ (refusals_last g counts only old new f honest (inr (inr (inr (inr (inr made)))))) was
   goes_over seq image old new (retire_by policy) (Ok d) honest made was = goes_without seq image _ _ d.dropped.items (retire_lasts g old new honest policy d made) was
-  goes_over seq image old new (retire_by policy) (Err f) honest made was = goes_as seq image _ _ (refusals_last g counts only old new f honest (inr (inr (inr (policy, made))))) was
+  goes_over seq image old new (retire_by policy) (Err f) honest made was = goes_as seq image _ _ (refusals_last g counts only old new f honest (inr (inr (inr (inl (policy, made)))))) was
   goes_over seq image old new (image_of at) r honest made was = goes_as seq image _ _ (made.stays.durable honest) was
   goes_over seq image old new (find_case at) r honest made was = goes_as seq image _ _ (ap (durable_of g.seen) made.1) was
   goes_over seq image old new list_cases r honest made was = goes_as seq image _ _ (ap (durable_of g.seen) made.1) was
   goes_over seq image old new count_free r honest made was = goes_as seq image _ _ (ap (durable_of g.seen) made.1) was
+  goes_over seq image old new ask_version r honest made was = goes_as seq image _ _ (ap (durable_of g.seen) made.1) was
   goes_over seq image old new ask_stopped r honest made was = goes_as seq image _ _ (ap (durable_of g.seen) made.1) was
 
   goes_all : (seq : ℕ) (image : List ℕ) (a : Parts D) (made : List (Made D)) → IsTrue (g.is_honest a.disk) → AreMade g a made → IsOrIsGone seq image (durable_of g.seen a)

@@ -88,6 +88,7 @@ module _ {D : Type 0} (g : disk.Ghosts D) (d d' : D) (j j' : Journaled) (most : 
   drop_err journal_fault.NumbersSpent step ends = absurd step
   drop_err journal_fault.OutOfMemory step ends = (record_room d d' j (Drop seqs) most streams b _ (state_left seqs j.standing.cases) step.1, same_state g d d' j j' (Drop seqs) most flags streams streams' b b' on ends.0 ends.1 step.2)
   drop_err journal_fault.Disk step ends = (record_room d d' j (Drop seqs) most streams b _ (state_left seqs j.standing.cases) step.1, halted_now g d d' j j' (Drop seqs) most flags streams streams' b b' on ends.0 ends.1 step.2)
+  drop_err journal_fault.OldVersion step ends = absurd step
 
   pub drop_sound_after : (flags' : List Bool) (u : Unit {0}) → MayFollow j.standing (Drop seqs) → AppendStep j (Drop seqs) (Ok u) j' → Guards g d' j' → Balances flags (used_blocks (gone seqs j.standing.cases)) flags' []
       → IsArchiveSound g d' j' most flags' streams b
@@ -131,6 +132,7 @@ delete_step s seq c (Err fault.SpaceFull) after has free step = absurd step
 delete_step s seq c (Err fault.NoCase) after has free step = absurd step
 delete_step s seq c (Err fault.Pinned) after has free step = absurd step
 delete_step s seq c (Err fault.NumbersSpent) after has free step = absurd step
+delete_step s seq c (Err fault.OldVersion) after has free step = absurd step
 
 -- a live case that is not pinned may be dropped by itself
 pub delete_may : {D : Type 0} (g : disk.Ghosts D) (d : D) (j : Journaled) (most : ℕ) (flags : List Bool) (streams : List (Option StreamParts)) (seq : ℕ) (c : Case)
@@ -147,3 +149,4 @@ still_cases j j' r journal_fault.JournalFull step = ap (λ (k : Journaled). k.st
 still_cases j j' r journal_fault.NumbersSpent step = absurd step
 still_cases j j' r journal_fault.OutOfMemory step = ap (λ (k : Journaled). k.standing.cases) step.2
 still_cases j j' r journal_fault.Disk step = ap (λ (k : Journaled). k.standing.cases) step.2
+still_cases j j' r journal_fault.OldVersion step = absurd step

@@ -1,5 +1,5 @@
 -- The images of cases, where the bytes of other places change.
-use Rattle.std.proofs.Common.{◌≡◌, ℕ, ◌*◌, ◌+◌, ◌==◌, Bool, true, false, not, cond, List, [], ◌∷◌, ◌++◌, take, map, refl, ap, ◌∙◌, arith}
+use Rattle.std.proofs.Common.{◌≡◌, ℕ, ◌*◌, ◌+◌, ◌==◌, Bool, true, false, not, cond, List, [], ◌∷◌, ◌++◌, take, map, refl, sym, ap, ◌∙◌, arith}
 use Rattle.std.specs.List.{filter}
 use Rattle.std.proofs.lemmas.List.{map-append}
 use Rattle.std.proofs.lemmas.List.Sums.{sum_by-cons}
@@ -7,14 +7,14 @@ use Rattle.disk_model.specs.Places.{SameOutside}
 use Rattle.extents.specs.FreeSet.{uses}
 use Rattle.journal_layout.specs.declared.shape.Shape.{Shape}
 use Rattle.journal_layout.specs.Case.{Case, numbered}
-use Rattle.journal_layout.specs.Folding.{is_among, dropped, with_pin}
+use Rattle.journal_layout.specs.Folding.{is_among, dropped, with_pin, with_label}
 use Rattle.journal_layout.specs.Layout.{half_length}
-use Rattle.journal_layout.specs.Record.{Drop, Pin}
+use Rattle.journal_layout.specs.Record.{Drop, Pin, Label}
 use Rattle.journal_layout.specs.Rewriting.{appended}
 use Rattle.journal_layout.specs.Standing.{Standing, store_of}
 use Rattle.case_journal.specs.Journaled.{Journaled}
 use Rattle.intake.specs.Blocks.{block_start, image_in}
-use Rattle.intake.specs.Durable.{FoundCase, Durable, found_with, found_case, durable_in, durable_of, durable_part, with_images, without, flagged}
+use Rattle.intake.specs.Durable.{FoundCase, Durable, found_with, found_case, durable_in, durable_of, durable_part, with_images, without, flagged, labelled, upgraded}
 use Rattle.intake.specs.Live.{case_uses}
 use Rattle.intake.specs.Parts.{Parts, case_facts, state_of, contents_of}
 use Rattle.intake.proofs.BlockLemmas.{joined_other}
@@ -30,10 +30,10 @@ found_spared shape k a b same (c ∷ rest) none =
 
 -- where a block changes that no case has
 pub durable_spared : (s : Standing) (k : ℕ) (a b : List ℕ) → SameOutside (block_start s.shape k) 4096 a b → case_uses s.cases k ≡ 0 → durable_in b s ≡ durable_in a s
-durable_spared s k a b same none = ap (λ (l : List FoundCase). record { cases = l; next = s.next }) (found_spared s.shape k a b same s.cases none)
+durable_spared s k a b same none = ap (λ (l : List FoundCase). record { cases = l; next = s.next; version = s.version }) (found_spared s.shape k a b same s.cases none)
 
-abbrev pub found_in : Shape → List ℕ → List Case → ℕ → Durable
-found_in shape bytes cases next = record { cases = map (found_case shape bytes) cases; next = next }
+abbrev pub found_in : Shape → List ℕ → List Case → ℕ → ℕ → Durable
+found_in shape bytes cases next version = record { cases = map (found_case shape bytes) cases; next = next; version = version }
 
 -- where a half of the journal changes
 module _ (j : Journaled) (a b : List ℕ) (same : SameOutside 4096 (2 * half_length j.standing.shape) a b) where
@@ -43,8 +43,8 @@ module _ (j : Journaled) (a b : List ℕ) (same : SameOutside 4096 (2 * half_len
       ap (λ (x : List ℕ). found_with c (take c.len x) ∷ map (found_case j.standing.shape b) rest) (joined_behind j a b same c.blocks)
       ∙ ap (λ (l : List FoundCase). found_case j.standing.shape a c ∷ l) (found_behind rest)
 
-  pub durable_behind : (cases : List Case) (next : ℕ) → found_in j.standing.shape b cases next ≡ found_in j.standing.shape a cases next
-  durable_behind cases next = ap (λ (l : List FoundCase). record { cases = l; next = next }) (found_behind cases)
+  pub durable_behind : (cases : List Case) (next version : ℕ) → found_in j.standing.shape b cases next version ≡ found_in j.standing.shape a cases next version
+  durable_behind cases next version = ap (λ (l : List FoundCase). record { cases = l; next = next; version = version }) (found_behind cases)
 
 -- what the records do to what is found
 found_left : (shape : Shape) (bytes seqs : List ℕ) (cases : List Case)
@@ -67,15 +67,32 @@ found_flagged shape bytes seq flag (c ∷ rest) =
       | false ↦ ap (λ (l : List FoundCase). found_case shape bytes c ∷ l) (found_flagged shape bytes seq flag rest)
     ]
 
+found_labelled : (shape : Shape) (bytes : List ℕ) (seq : ℕ) (text : List ℕ) (cases : List Case)
+    → map (found_case shape bytes) (with_label seq text cases) ≡ map (λ (c : FoundCase). cond (c.seq == seq) (record c { label = text }) c) (map (found_case shape bytes) cases)
+found_labelled shape bytes seq text [] = refl
+found_labelled shape bytes seq text (c ∷ rest) =
+    elim (c.seq == seq) as (λ t. found_case shape bytes (cond t (record c { label = text }) c) ∷ map (found_case shape bytes) (with_label seq text rest)
+    ≡ cond t (record (found_case shape bytes c) { label = text }) (found_case shape bytes c) ∷ map (λ (x : FoundCase). cond (x.seq == seq) (record x { label = text }) x) (map (found_case shape bytes) rest)) [
+      | true ↦ ap (λ (l : List FoundCase). record (found_case shape bytes c) { label = text } ∷ l) (found_labelled shape bytes seq text rest)
+      | false ↦ ap (λ (l : List FoundCase). found_case shape bytes c ∷ l) (found_labelled shape bytes seq text rest)
+    ]
+
 pub durable_dropped : (s : Standing) (seqs bytes : List ℕ) → durable_in bytes (appended s (Drop seqs)) ≡ without (durable_in bytes s) seqs
-durable_dropped s seqs bytes = ap (λ (l : List FoundCase). record { cases = l; next = s.next }) (found_left s.shape bytes seqs s.cases)
+durable_dropped s seqs bytes = ap (λ (l : List FoundCase). record { cases = l; next = s.next; version = s.version }) (found_left s.shape bytes seqs s.cases)
 
 pub durable_pinned : (s : Standing) (seq : ℕ) (flag : Bool) (bytes : List ℕ) → durable_in bytes (appended s (Pin seq flag)) ≡ flagged (durable_in bytes s) seq flag
-durable_pinned s seq flag bytes = ap (λ (l : List FoundCase). record { cases = l; next = s.next }) (found_flagged s.shape bytes seq flag s.cases)
+durable_pinned s seq flag bytes = ap (λ (l : List FoundCase). record { cases = l; next = s.next; version = s.version }) (found_flagged s.shape bytes seq flag s.cases)
+
+pub durable_labelled : (s : Standing) (seq : ℕ) (text bytes : List ℕ) → durable_in bytes (appended s (Label seq text)) ≡ labelled (durable_in bytes s) seq text
+durable_labelled s seq text bytes = ap (λ (l : List FoundCase). record { cases = l; next = s.next; version = s.version }) (found_labelled s.shape bytes seq text s.cases)
+
+-- what is of version 2 is the same once it is in version 2
+pub durable_in_two : (s : Standing) (bytes : List ℕ) → s.version ≡ 2 → upgraded (durable_in bytes s) ≡ durable_in bytes s
+durable_in_two s bytes two = ap (λ (v : ℕ). record (durable_in bytes s) { version = v }) (sym two)
 
 pub durable_stored : (s : Standing) (c : Case) (bytes : List ℕ)
     → durable_in bytes (appended s (store_of s c)) ≡ record (durable_in bytes s) { cases = map (found_case s.shape bytes) s.cases ++ found_with (numbered s.next c) (image_in s.shape bytes c.blocks c.len) ∷ []; next = s.next + 1 }
-durable_stored s c bytes = ap (λ (l : List FoundCase). record { cases = l; next = s.next + 1 }) (map-append (found_case s.shape bytes) s.cases (numbered s.next c ∷ []))
+durable_stored s c bytes = ap (λ (l : List FoundCase). record { cases = l; next = s.next + 1; version = s.version }) (map-append (found_case s.shape bytes) s.cases (numbered s.next c ∷ []))
 
 -- a state and its bytes say the same
 pub found_zipped : (shape : Shape) (bytes : List ℕ) (cases : List Case) → map (found_case shape bytes) cases ≡ with_images (map case_facts cases) (map (λ (c : Case). image_in shape bytes c.blocks c.len) cases)
@@ -83,4 +100,4 @@ found_zipped shape bytes [] = refl
 found_zipped shape bytes (c ∷ rest) = ap (λ (l : List FoundCase). found_case shape bytes c ∷ l) (found_zipped shape bytes rest)
 
 pub durable_is : {D : Type 0} (seen : D → List ℕ) (a : Parts D) → durable_of seen a ≡ durable_part (state_of a) (contents_of seen a)
-durable_is seen a = ap (λ (l : List FoundCase). record { cases = l; next = a.journal.standing.next }) (found_zipped a.journal.standing.shape (seen a.disk) a.journal.standing.cases)
+durable_is seen a = ap (λ (l : List FoundCase). record { cases = l; next = a.journal.standing.next; version = a.journal.standing.version }) (found_zipped a.journal.standing.shape (seen a.disk) a.journal.standing.cases)

@@ -7,7 +7,7 @@ use Rattle.disk_model.specs.declared.disk.Disk as disk
 use Rattle.intake.specs.Contents.{Contents, Taken, empty_taken}
 use Rattle.intake.specs.Durable.{Durable, FoundCase, durable_of}
 use Rattle.intake.specs.Lending.{with_room}
-use Rattle.intake.specs.Making.{Call, ReplyTo, Makes, Made, AreMade, StaysOpen, IsCaseOf, archive_after, taken_over, begin_in, lend_of, advance_by, finish_of, abandon_of, delete_of, pin_of, retire_by, image_of, find_case, list_cases, count_free, ask_stopped}
+use Rattle.intake.specs.Making.{Call, ReplyTo, Makes, Made, AreMade, StaysOpen, IsCaseOf, archive_after, taken_over, begin_in, lend_of, advance_by, finish_of, abandon_of, delete_of, pin_of, label_of, upgrade_it, retire_by, image_of, find_case, list_cases, count_free, ask_version, ask_stopped}
 use Rattle.intake.specs.Parts.{Parts, state_of, stream_facts, contents_of, taken_in}
 use Rattle.intake.specs.Room.{room_left}
 use Rattle.intake.specs.Slots.{stream_at, closed}
@@ -127,6 +127,22 @@ module _ {D : Type 0} (g : disk.Ghosts D) where
   kept_facts old new (pin_of seq flag) (Err fault.OutOfMemory) slot b made is there = kept_same (state_of old) (state_of new) slot b is (streams_are _ _ made.step.4)
   kept_facts old new (pin_of seq flag) (Err fault.Disk) slot b made is there = kept_closed (state_of old) (state_of new) slot b is there (streams_are _ _ made.step.4)
   kept_facts old new (pin_of seq flag) (Err _) slot b made is there = absurd made.step
+  kept_facts old new (label_of seq text) (Ok u) slot b made is there =
+      kept_same (state_of old) (state_of new) slot b is (⊎_elim (λ kept. streams_are _ _ kept.1) (λ set. streams_are _ _ set.2) made.step.2)
+  kept_facts old new (label_of seq text) (Err fault.Stopped) slot b made is there = kept_same (state_of old) (state_of new) slot b is (streams_are _ _ made.step.1)
+  kept_facts old new (label_of seq text) (Err fault.NoCase) slot b made is there = kept_same (state_of old) (state_of new) slot b is (streams_are _ _ made.step.2)
+  kept_facts old new (label_of seq text) (Err fault.OldVersion) slot b made is there = kept_same (state_of old) (state_of new) slot b is (streams_are _ _ made.step.3)
+  kept_facts old new (label_of seq text) (Err fault.JournalFull) slot b made is there = kept_same (state_of old) (state_of new) slot b is (streams_are _ _ made.step.4)
+  kept_facts old new (label_of seq text) (Err fault.OutOfMemory) slot b made is there = kept_same (state_of old) (state_of new) slot b is (streams_are _ _ made.step.4)
+  kept_facts old new (label_of seq text) (Err fault.Disk) slot b made is there = kept_closed (state_of old) (state_of new) slot b is there (streams_are _ _ made.step.4)
+  kept_facts old new (label_of seq text) (Err _) slot b made is there = absurd made.step
+  kept_facts old new upgrade_it (Ok u) slot b made is there =
+      kept_same (state_of old) (state_of new) slot b is (⊎_elim (λ kept. streams_are _ _ kept.1) (λ set. streams_are _ _ set.2) made.step.1)
+  kept_facts old new upgrade_it (Err fault.Stopped) slot b made is there = kept_same (state_of old) (state_of new) slot b is (streams_are _ _ made.step.1)
+  kept_facts old new upgrade_it (Err fault.JournalFull) slot b made is there = kept_same (state_of old) (state_of new) slot b is (streams_are _ _ made.step.2)
+  kept_facts old new upgrade_it (Err fault.OutOfMemory) slot b made is there = kept_same (state_of old) (state_of new) slot b is (streams_are _ _ made.step.2)
+  kept_facts old new upgrade_it (Err fault.Disk) slot b made is there = kept_closed (state_of old) (state_of new) slot b is there (streams_are _ _ made.step.2)
+  kept_facts old new upgrade_it (Err _) slot b made is there = absurd made.step
   kept_facts old new (retire_by policy) (Ok d) slot b made is there =
       kept_same (state_of old) (state_of new) slot b is (⊎_elim (λ kept. streams_are _ _ kept.1) (λ gone. streams_are _ _ gone.2) made.step.2)
   kept_facts old new (retire_by policy) (Err fault.Stopped) slot b made is there = kept_same (state_of old) (state_of new) slot b is (streams_are _ _ made.step.1)
@@ -143,6 +159,7 @@ module _ {D : Type 0} (g : disk.Ghosts D) where
   kept_facts old new (find_case at) r slot b made is there = kept_same (state_of old) (state_of new) slot b is (ap (λ (a : Parts D). (state_of a).streams) made.1)
   kept_facts old new list_cases r slot b made is there = kept_same (state_of old) (state_of new) slot b is (ap (λ (a : Parts D). (state_of a).streams) made.1)
   kept_facts old new count_free r slot b made is there = kept_same (state_of old) (state_of new) slot b is (ap (λ (a : Parts D). (state_of a).streams) made.1)
+  kept_facts old new ask_version r slot b made is there = kept_same (state_of old) (state_of new) slot b is (ap (λ (a : Parts D). (state_of a).streams) made.1)
   kept_facts old new ask_stopped r slot b made is there = kept_same (state_of old) (state_of new) slot b is (ap (λ (a : Parts D). (state_of a).streams) made.1)
 
   -- over a run of calls
@@ -183,6 +200,7 @@ module _ {D : Type 0} (g : disk.Ghosts D) where
           len = lasts.1.0.len;
           image = lasts.1.1.bytes;
           runs = lasts.0;
+          label = [];
         },
         record {
           number = sym finish.step.6;
@@ -192,6 +210,7 @@ module _ {D : Type 0} (g : disk.Ghosts D) where
           signal = ap (λ (x : StreamFacts). x.signal) told;
           time = ap (λ (x : StreamFacts). x.time) told;
           unpinned = refl;
+          unlabelled = refl;
           image = ap (λ (x : Taken). x.bytes) same ∙ taken.2;
         },
         ap (λ (x : Durable). x.cases) lasts.1.5,

@@ -127,6 +127,7 @@ module _ {D : Type 0} (g : disk.Ghosts D) (d d' : D) (j : Journaled) (most : ℕ
             let are = used_are k j.standing.cases in
             let most_one = one_if_le (nat_lt k j.standing.shape.data_blocks) in
             (in_range k j.standing.shape.data_blocks (omega (arith, h, p, e, q, here, some)), omega (arith, h, p, e, q, here, some, most_one), omega (arith, h, p, e, q, here, there, are, some, most_one)));
+        no_label = refl;
       })
 
   -- how many runs it may lie in
@@ -179,6 +180,7 @@ module _ {D : Type 0} (g : disk.Ghosts D) (d d' : D) (j : Journaled) (most : ℕ
     ap (λ (k : Journaled). state_of (record { disk = d'; journal = k; limit = most; streams = streams'; stopped = b' })) refused.3
         ∙ halted_state g d d' j most flags streams slot 0 s b running on is b' dropped streams' gone ends.0 ends.1,
   )
+  store_err j' b' dropped streams' s' u journal_fault.OldVersion gone ends closes refused = absurd refused
 
   pub refused_step : (j' : Journaled) (b' : Bool) (dropped streams' : List (Option StreamParts)) (s' : StreamParts) (u : Unit {0}) (f : ArchiveFault) (c : Case) → dropped ≡ slice_set streams slot None → EndsStreams f dropped b' streams'
       → ClosesStream (free_count flags) s (Ok u) s' → c ≡ case_from_parts s' → Appends j c (Err f) j'
@@ -205,6 +207,7 @@ module _ {D : Type 0} (g : disk.Ghosts D) (d d' : D) (j : Journaled) (most : ℕ
   sound_unstored j' b' flags' dropped streams' journal_fault.JournalFull c sound gone ends refused keeps bal = unmoved j' b' flags' dropped streams' fault.JournalFull sound gone ends refused.2 keeps bal
   sound_unstored j' b' flags' dropped streams' journal_fault.NumbersSpent c sound gone ends refused keeps bal = unmoved j' b' flags' dropped streams' fault.NumbersSpent sound gone ends refused.3 keeps bal
   sound_unstored j' b' flags' dropped streams' journal_fault.OutOfMemory c sound gone ends refused keeps bal = unmoved j' b' flags' dropped streams' fault.OutOfMemory sound gone ends refused.3 keeps bal
+  sound_unstored j' b' flags' dropped streams' journal_fault.OldVersion c sound gone ends refused keeps bal = absurd refused
 
   pub sound_not_stored : (j' : Journaled) (b' : Bool) (flags' : List Bool) (dropped streams' : List (Option StreamParts)) (f : ArchiveFault) (c : Case) → IsArchiveSound g d j most flags streams b → dropped ≡ slice_set streams slot None → EndsStreams f dropped b' streams'
       → Appends j c (Err f) j' → Guards g d' j' → Balances flags s.blocks flags' [] → IsArchiveSound g d' j' most flags' streams' b'

@@ -1,6 +1,6 @@
 -- What stands is one, and its numbers rise.
-use Rattle.std.proofs.Common.{◌≡◌, ℕ, ◌<◌, ◌+◌, ◌*◌, Bool, cond, List, [], ◌∷◌, length, map, refl, sym, ap, ◌∙◌, subst, arith}
-use Rattle.std.proofs.lemmas.Bool.{eq-eqb}
+use Rattle.std.proofs.Common.{◌≡◌, ◌⊎◌, inl, inr, ℕ, ◌<◌, ◌+◌, ◌*◌, ◌==◌, ◌||◌, Bool, true, false, cond, nat_lt, List, [], ◌∷◌, length, map, refl, sym, ap, ◌∙◌, subst, arith, Result, Ok, Err}
+use Rattle.std.proofs.lemmas.Bool.{eq-eqb, eqb-true}
 use Rattle.std.proofs.lemmas.List.{length-append, length-take-le}
 use Rattle.disk_model.specs.PartLaws.{part_length}
 use Rattle.extents.specs.RunLaws.{runs_no_more, runs_some}
@@ -12,12 +12,22 @@ use Rattle.std.specs.List.{All}
 use Rattle.std.proofs.lemmas.List.Elements.{All-nil, All-cons, All-head, All-tail}
 use Rattle.journal_layout.specs.declared.shape.Shape.{Shape}
 use Rattle.journal_layout.specs.Case.{Case}
-use Rattle.journal_layout.specs.Live.{AreLive, IsWhole, seq_of_case}
+use Rattle.journal_layout.specs.Live.{AreLive, IsWhole, HasNoLabel, seq_of_case}
+use Rattle.journal_layout.specs.LiveLaws.{stands_live}
+use Rattle.journal_layout.specs.LabelledLaws.{no_labels_in_one}
+use Rattle.journal_layout.specs.declared.shape.Half.{Half}
+use Rattle.journal_layout.specs.declared.shape.Half.TheVariants.{A, B}
+use Rattle.journal_layout.specs.declared.faults.OpenFault.{OpenFault}
+use Rattle.journal_layout.specs.declared.faults.OpenFault.TheVariants.{NotAnArchive, UnknownVersion}
+use Rattle.journal_layout.specs.Front.{Front, Header, is_known, front_opening, halves_opening, headers_opening, half_opening, header_of_half, taken_half, shape_opening}
+use Rattle.journal_layout.specs.FrontLaws.{ok_of, ok_in}
+use Rattle.journal_layout.specs.Stands.{front_of}
+use Rattle.disk_model.specs.Places.{part}
 use Rattle.journal_layout.specs.ReadingLaws.{stands_once}
-use Rattle.journal_layout.specs.Soundness.{Rise, uses}
+use Rattle.journal_layout.specs.Soundness.{IsLabel, Rise, uses}
 use Rattle.intake.specs.Blocks.{block_bytes, block_start, joined}
 use Rattle.intake.specs.Durable.{Durable, FoundCase, StandsFor, found_case, durable_in}
-use Rattle.intake.specs.Lasting.{HasNumbers, IsWholeImage, number_of}
+use Rattle.intake.specs.Lasting.{HasNumbers, HasEmptyLabel, IsWholeImage, KeepsLabels, number_of}
 
 pub one_stands : (bytes : List ℕ) (x y : Durable) → StandsFor bytes x → StandsFor bytes y → x ≡ y
 one_stands bytes x y a b = sym a.is ∙ ap (durable_in bytes) (stands_once bytes a.standing b.standing a.stands b.stands) ∙ b.is
@@ -62,6 +72,54 @@ found_whole shape bytes next long (c ∷ rest) each below =
       runs = (omega (arith, enough, runs_no_more c.blocks), λ some. runs_some c.blocks (omega (arith, enough, some)));
     })
     (found_whole shape bytes next long rest (All-tail (IsWhole next) c rest each) (λ k some. below k (omega (arith, some, uses-append k c.blocks (used_blocks rest)))))
+
+-- the version of what stands is one that is read
+half_known : (s : Shape) (half : Half) (h : Header) (t : Front) → half_opening s half h ≡ Ok t → is_known t.version ≡ true
+half_known s half h t e =
+    let of = ok_in (is_known h.version) (UnknownVersion h.version) (Ok (record { shape = s; half = half; version = h.version; generation = h.generation })) t e in
+    let same : record { shape = s; half = half; version = h.version; generation = h.generation } ≡ t = (let is = of.1 in cc) in
+    ap (λ (x : Front). is_known x.version) (sym same) ∙ of.0
+
+headers_known : (s : Shape) (a b : Header) (h : Result Half OpenFault) (t : Front) → headers_opening s a b h ≡ Ok t → is_known t.version ≡ true
+headers_known s a b (Ok A) t e = half_known s A a t e
+headers_known s a b (Ok B) t e = half_known s B b t e
+headers_known s a b (Err d) t e = cc
+
+halves_known : (b : List ℕ) (o : Result Shape OpenFault) (t : Front) → halves_opening b o ≡ Ok t → is_known t.version ≡ true
+halves_known b (Ok s) t e = headers_known s (header_of_half s b A) (header_of_half s b B) (taken_half s (header_of_half s b A) (header_of_half s b B)) t e
+halves_known b (Err d) t e = cc
+
+front_known : (b : List ℕ) (t : Front) → front_opening b ≡ Ok t → is_known t.version ≡ true
+front_known b t e =
+    halves_known b (shape_opening (length b) (part b 0 24)) t
+    (ok_of (nat_lt (length b) 4096) NotAnArchive (halves_opening b (shape_opening (length b) (part b 0 24))) t e)
+
+-- of the two
+pub one_or_two : (version : ℕ) → is_known version ≡ true → (version ≡ 1) ⊎ (version ≡ 2)
+one_or_two version = of (version == 1) refl
+  where
+    of : (t : Bool) → (version == 1) ≡ t → (t || version == 2) ≡ true → (version ≡ 1) ⊎ (version ≡ 2)
+    of true e known = inl (eqb-true version 1 e)
+    of false e known = inr (eqb-true version 2 known)
+
+-- the labels of what is found are those of the cases
+found_plain : (shape : Shape) (bytes : List ℕ) (cases : List Case) → All HasNoLabel cases → All HasEmptyLabel (map (found_case shape bytes) cases)
+found_plain shape bytes [] each = All-nil HasEmptyLabel
+found_plain shape bytes (c ∷ rest) each =
+    All-cons HasEmptyLabel (found_case shape bytes c) (map (found_case shape bytes) rest) (All-head HasNoLabel c rest each) (found_plain shape bytes rest (All-tail HasNoLabel c rest each))
+
+found_texts : (shape : Shape) (bytes : List ℕ) (next : ℕ) (cases : List Case) → All (IsWhole next) cases → All (λ (c : FoundCase). IsLabel c.label) (map (found_case shape bytes) cases)
+found_texts shape bytes next [] each = All-nil (λ (c : FoundCase). IsLabel c.label)
+found_texts shape bytes next (c ∷ rest) each =
+    All-cons (λ (x : FoundCase). IsLabel x.label) (found_case shape bytes c) (map (found_case shape bytes) rest) (All-head (IsWhole next) c rest each).label
+    (found_texts shape bytes next rest (All-tail (IsWhole next) c rest each))
+
+pub labels_kept : (bytes : List ℕ) (x : Durable) → StandsFor bytes x → KeepsLabels x
+labels_kept bytes x a = subst KeepsLabels a.is (record {
+  version = one_or_two a.standing.version (front_known bytes (front_of a.standing) a.stands.front);
+  none = λ one. found_plain a.standing.shape bytes a.standing.cases (no_labels_in_one bytes a.standing a.stands one);
+  labels = found_texts a.standing.shape bytes a.standing.next a.standing.cases (stands_live bytes a.standing a.stands).each;
+})
 
 pub images_whole : (bytes : List ℕ) (x : Durable) (a : StandsFor bytes x) → AreLive a.standing.shape.data_blocks a.standing.cases a.standing.next → All IsWholeImage x.cases
 images_whole bytes x a live =

@@ -1,21 +1,27 @@
 -- What each call does to what the archive holds.
-use Rattle.std.proofs.Common.{◌≡◌, ◌≢◌, ◌⊎◌, ⊎_elim, inl, inr, ℕ, ◌+◌, ◌≤◌, ◌==◌, Bool, true, false, not, cond, List, [], ◌∷◌, ◌++◌, map, Ok, Err, refl, sym, ap, ◌∙◌}
-use Rattle.std.specs.List.{filter}
+use Rattle.std.proofs.Common.{◌≡◌, ◌≢◌, ◌⊎◌, ⊎_elim, inl, inr, ℕ, ◌+◌, ◌≤◌, ◌==◌, Bool, true, false, not, cond, List, [], ◌∷◌, ◌++◌, map, Result, Ok, Err, refl, sym, ap, subst, ◌∙◌}
+use Rattle.std.specs.List.{All, filter}
 use Rattle.std.specs.Prelude.{IsTrue}
+use Rattle.disk_model.specs.Moments.{AddsOnly}
+use Rattle.disk_model.specs.MomentLaws.{adds_weakened}
 use Rattle.disk_model.specs.declared.disk.Disk as disk
 use Rattle.journal_layout.specs.Case.{Case}
 use Rattle.journal_layout.specs.Folding.{is_among}
 use Rattle.intake.specs.Blocks.{image_in}
-use Rattle.intake.specs.Calls.{FinishCall, DeleteCall, PinCall, RetireCall}
+use Rattle.intake.specs.Calls.{FinishCall, DeleteCall, PinCall, LabelCall, UpgradeCall, RetireCall}
 use Rattle.intake.specs.Contents.{Contents, images_without}
-use Rattle.intake.specs.Durable.{FoundCase, durable_of, durable_part, with_images, without, flagged}
-use Rattle.intake.specs.Guarding.{MayBeStored}
+use Rattle.intake.specs.Durable.{Durable, FoundCase, StandsFor, durable_of, durable_part, with_images, without, flagged, labelled, upgraded}
+use Rattle.intake.specs.Guarding.{Leaves, LeavesNew, MayBeStored}
+use Rattle.intake.specs.Lasting.{HasEmptyLabel}
+use Rattle.intake.specs.Lasts.{IsUpgradeOf}
 use Rattle.intake.specs.Parts.{Parts, case_facts, state_of, contents_of}
 use Rattle.intake.specs.State.{ArchiveState, CaseFacts}
-use Rattle.intake.specs.Step.{HasCase, stored, case_from, without_cases, with_flag}
+use Rattle.intake.specs.Step.{HasCase, stored, case_from, without_cases, with_flag, with_label, anew_in_two}
 use Rattle.intake.specs.declared.faults.ArchiveFault.{ArchiveFault}
-use Rattle.intake.proofs.DurableLemmas.{durable_is, found_zipped}
-use Rattle.intake.proofs.MarkLemmas.{finish_same, refused_same, delete_is, pin_is, retire_is}
+use Rattle.intake.specs.declared.faults.ArchiveFault.TheVariants as fault
+use Rattle.intake.proofs.DurableLemmas.{durable_is, durable_in_two, found_zipped}
+use Rattle.intake.proofs.LastingLemmas.{labels_kept}
+use Rattle.intake.proofs.MarkLemmas.{finish_same, refused_same, delete_is, pin_is, label_is, upgrade_is, retire_is}
 use Rattle.retention.specs.declared.Decision.{Decision}
 use Rattle.retention.specs.declared.Policy.{Policy}
 
@@ -31,6 +37,7 @@ with_image c image = record {
   len = c.len;
   image = image;
   runs = c.runs;
+  label = c.label;
 }
 
 module _ (image : Case → List ℕ) where
@@ -67,6 +74,20 @@ module _ (image : Case → List ℕ) where
         | false ↦ ap (λ (l : List FoundCase). with_image (case_facts d) (image d) ∷ l) (zipped_flagged seq flag ds)
       ]
 
+-- the same of a label
+zipped_labelled : (image : Case → List ℕ) (seq : ℕ) (text : List ℕ) (cases : List Case)
+    → with_images (map (λ (c : CaseFacts). cond (c.seq == seq) (record c { label = text }) c) (map case_facts cases)) (map image cases)
+    ≡ map (λ (c : FoundCase). cond (c.seq == seq) (record c { label = text }) c) (zipped image cases)
+zipped_labelled image seq text [] = refl
+zipped_labelled image seq text (d ∷ ds) =
+    let cs : List CaseFacts = map (λ (c : CaseFacts). cond (c.seq == seq) (record c { label = text }) c) (map case_facts ds) in
+    let fs : List FoundCase = map (λ (c : FoundCase). cond (c.seq == seq) (record c { label = text }) c) (zipped image ds) in
+    elim (d.seq == seq) as (λ t. with_images (cond t (record (case_facts d) { label = text }) (case_facts d) ∷ cs) (image d ∷ map image ds)
+    ≡ cond t (record (with_image (case_facts d) (image d)) { label = text }) (with_image (case_facts d) (image d)) ∷ fs) [
+      | true ↦ ap (λ (l : List FoundCase). record (with_image (case_facts d) (image d)) { label = text } ∷ l) (zipped_labelled image seq text ds)
+      | false ↦ ap (λ (l : List FoundCase). with_image (case_facts d) (image d) ∷ l) (zipped_labelled image seq text ds)
+    ]
+
 none_gone : (cases : List CaseFacts) → cases ≡ filter (λ (c : CaseFacts). not (is_among [] c.seq)) cases
 none_gone [] = refl
 none_gone (c ∷ cs) = ap (λ (l : List CaseFacts). c ∷ l) (none_gone cs)
@@ -98,14 +119,14 @@ module _ {D : Type 0} (g : disk.Ghosts D) (old new : Parts D) (honest : IsTrue (
           bytes.1,
           step.3,
           lasts (stored (state_of old) slot step.0 step.1) _ step.7 bytes.2
-              ∙ ap (λ (l : List FoundCase). record { cases = l; next = (state_of old).next + 1 })
+              ∙ ap (λ (l : List FoundCase). record { cases = l; next = (state_of old).next + 1; version = (state_of old).version })
               (zipped_then image_of old.journal.standing.cases case bytes.0.bytes ∙ ap (λ (l : List FoundCase). l ++ with_image case bytes.0.bytes ∷ []) found_before),
         ),
       )
 
-  left : (seqs : List ℕ) → record { cases = with_images (without_cases (state_of old) seqs).cases (images_without seqs (state_of old).cases (contents_of g.seen old).images); next = (state_of old).next } ≡ without (durable_of g.seen old) seqs
+  left : (seqs : List ℕ) → record { cases = with_images (without_cases (state_of old) seqs).cases (images_without seqs (state_of old).cases (contents_of g.seen old).images); next = (state_of old).next; version = (state_of old).version } ≡ without (durable_of g.seen old) seqs
   left seqs =
-      ap (λ (l : List FoundCase). record { cases = l; next = (state_of old).next })
+      ap (λ (l : List FoundCase). record { cases = l; next = (state_of old).next; version = (state_of old).version })
       (zipped_without image_of seqs old.journal.standing.cases ∙ ap (filter (λ (c : FoundCase). not (is_among seqs c.seq))) found_before)
 
   pub delete_lasts : (seq : ℕ) (u : Unit {0}) → DeleteCall g old seq (Ok u) new → durable_of g.seen new ≡ without (durable_of g.seen old) (seq ∷ [])
@@ -123,10 +144,34 @@ module _ {D : Type 0} (g : disk.Ghosts D) (old new : Parts D) (honest : IsTrue (
           (λ set. inr (
             set.0,
             lasts (with_flag (state_of old) seq flag) (contents_of g.seen old) set.2 (call.bytes honest)
-                ∙ ap (λ (l : List FoundCase). record { cases = l; next = (state_of old).next })
+                ∙ ap (λ (l : List FoundCase). record { cases = l; next = (state_of old).next; version = (state_of old).version })
                 (zipped_flagged image_of seq flag old.journal.standing.cases ∙ ap (map (λ (c : FoundCase). cond (c.seq == seq) (record c { pinned = flag }) c)) found_before),
           ))
           call.step.2
+
+  pub label_lasts : (seq : ℕ) (text : List ℕ) (u : Unit {0}) → LabelCall g old seq text (Ok u) new
+      → (c : CaseFacts) × HasCase (state_of old) seq c
+      × (((c.label ≡ text) × (durable_of g.seen new ≡ durable_of g.seen old)) ⊎ ((c.label ≢ text) × (durable_of g.seen new ≡ labelled (durable_of g.seen old) seq text)))
+  label_lasts seq text u call = (call.step.0, call.step.1.0, told)
+    where
+      told : ((call.step.0.label ≡ text) × (durable_of g.seen new ≡ durable_of g.seen old)) ⊎ ((call.step.0.label ≢ text) × (durable_of g.seen new ≡ labelled (durable_of g.seen old) seq text))
+      told =
+          ⊎_elim
+          (λ kept. inl (kept.0, lasts (state_of old) (contents_of g.seen old) kept.1 (call.bytes honest) ∙ sym (durable_is g.seen old)))
+          (λ set. inr (
+            set.0,
+            lasts (with_label (state_of old) seq text) (contents_of g.seen old) set.2 (call.bytes honest)
+                ∙ ap (λ (l : List FoundCase). record { cases = l; next = (state_of old).next; version = (state_of old).version })
+                (zipped_labelled image_of seq text old.journal.standing.cases ∙ ap (map (λ (c : FoundCase). cond (c.seq == seq) (record c { label = text }) c)) found_before),
+          ))
+          call.step.2
+
+  pub upgrade_lasts : (u : Unit {0}) → UpgradeCall g old (Ok u) new → durable_of g.seen new ≡ upgraded (durable_of g.seen old)
+  upgrade_lasts u call =
+      ⊎_elim
+      (λ kept. lasts (state_of old) (contents_of g.seen old) kept.1 (call.bytes honest) ∙ sym (durable_is g.seen old) ∙ sym (durable_in_two old.journal.standing (g.seen old.disk) kept.0))
+      (λ set. lasts (anew_in_two (state_of old)) (contents_of g.seen old) set.2 (call.bytes honest) ∙ ap (λ (x : Durable). upgraded x) (sym (durable_is g.seen old)))
+      call.step.1
 
   pub retire_lasts : (policy : Policy) (d : Decision) → RetireCall g old policy (Ok d) new → durable_of g.seen new ≡ without (durable_of g.seen old) d.dropped.items
   retire_lasts policy d call =
@@ -134,7 +179,7 @@ module _ {D : Type 0} (g : disk.Ghosts D) (old new : Parts D) (honest : IsTrue (
       (λ none. (
       let no : List ℕ = [] in
       lasts (state_of old) _ none.1 (call.bytes honest)
-      ∙ ap (λ (l : List CaseFacts). record { cases = with_images l (images_without d.dropped.items (state_of old).cases (contents_of g.seen old).images); next = (state_of old).next })
+      ∙ ap (λ (l : List CaseFacts). record { cases = with_images l (images_without d.dropped.items (state_of old).cases (contents_of g.seen old).images); next = (state_of old).next; version = (state_of old).version })
       (none_gone (state_of old).cases ∙ ap (λ (seqs : List ℕ). filter (λ (c : CaseFacts). not (is_among seqs c.seq)) (state_of old).cases) (sym none.0))
       ∙ left d.dropped.items
       ))
@@ -145,9 +190,39 @@ module _ {D : Type 0} (g : disk.Ghosts D) (counts : (d : D) (t : ℕ) (c : List 
     (only : (d : D) (c : List ℕ) → g.left_since d (g.clock d) c → g.may_leave d c) (old new : Parts D) where
   pub refusals_last : (f : ArchiveFault) → IsTrue (g.is_honest old.disk)
       → ((slot : ℕ) × FinishCall g old slot (Err f) new) ⊎ (((seq : ℕ) × DeleteCall g old seq (Err f) new)
-      ⊎ (((seq : ℕ) × (flag : Bool) × PinCall g old seq flag (Err f) new) ⊎ ((policy : Policy) × RetireCall g old policy (Err f) new)))
+      ⊎ (((seq : ℕ) × (flag : Bool) × PinCall g old seq flag (Err f) new) ⊎ (((policy : Policy) × RetireCall g old policy (Err f) new)
+      ⊎ (((seq : ℕ) × (text : List ℕ) × LabelCall g old seq text (Err f) new) ⊎ UpgradeCall g old (Err f) new))))
       → durable_of g.seen new ≡ durable_of g.seen old
   refusals_last f honest (inl finish) = finish_same g counts only old new finish.0 f finish.1.step (finish.1.bytes honest)
   refusals_last f honest (inr (inl delete)) = refused_same g counts only old new f (delete_is g counts only old new delete.0 f delete.1.step) (delete.1.bytes honest)
   refusals_last f honest (inr (inr (inl pin))) = refused_same g counts only old new f (pin_is g counts only old new pin.0 pin.1 f pin.2.step) (pin.2.bytes honest)
-  refusals_last f honest (inr (inr (inr retire))) = refused_same g counts only old new f (retire_is g counts only old new retire.0 f retire.1.step) (retire.1.bytes honest)
+  refusals_last f honest (inr (inr (inr (inr (inl label))))) = refused_same g counts only old new f (label_is g counts only old new label.0 label.1 f label.2.step) (label.2.bytes honest)
+  refusals_last f honest (inr (inr (inr (inr (inr upgrade))))) = refused_same g counts only old new f (upgrade_is g counts only old new f upgrade.step) (upgrade.bytes honest)
+  refusals_last f honest (inr (inr (inr (inl retire)))) = refused_same g counts only old new f (retire_is g counts only old new retire.0 f retire.1.step) (retire.1.bytes honest)
+
+-- an upgrade leaves the cases, whatever is left of it
+module _ {D : Type 0} (g : disk.Ghosts D) (old new : Parts D) (honest : IsTrue (g.is_honest old.disk)) (one : (state_of old).version ≡ 1) (none : All HasEmptyLabel (durable_of g.seen old).cases) where
+  is_old : IsUpgradeOf (durable_of g.seen old) (durable_of g.seen old)
+  is_old = record { cases = refl; next = refl; version = inl one; labels = none }
+
+  is_upgraded : IsUpgradeOf (durable_of g.seen old) (upgraded (durable_of g.seen old))
+  is_upgraded = record { cases = refl; next = refl; version = inr refl; labels = none }
+
+  abbrev LeavesCases : List ℕ → Type 0
+  LeavesCases c = (x : Durable) × StandsFor c x × IsUpgradeOf (durable_of g.seen old) x
+
+  left_new : (r : Result (Unit {0}) ArchiveFault) (c : List ℕ) → UpgradeCall g old r new → LeavesNew {T = Unit {0}} r (durable_of g.seen new) (λ x. x ≡ upgraded (durable_of g.seen old)) c → LeavesCases c
+  left_new (Ok u) c call stands = (durable_of g.seen new, stands, subst (IsUpgradeOf (durable_of g.seen old)) (sym (upgrade_lasts g old new honest u call)) is_upgraded)
+  left_new (Err fault.Disk) c call h = (h.0, h.2, subst (IsUpgradeOf (durable_of g.seen old)) (sym h.1) is_upgraded)
+  left_new (Err _) c call h = absurd h
+
+  left_cases : (r : Result (Unit {0}) ArchiveFault) → UpgradeCall g old r new → AddsOnly g old.disk new.disk LeavesCases
+  left_cases r call =
+      adds_weakened g old.disk new.disk (Leaves {T = Unit {0}} (durable_of g.seen old) r (durable_of g.seen new) (λ x. x ≡ upgraded (durable_of g.seen old))) LeavesCases
+      (λ c h. ⊎_elim (λ stands. (durable_of g.seen old, stands, is_old)) (λ more. left_new r c call more) h) (call.changes.crash honest)
+
+pub upgrade_leaves : {D : Type 0} (g : disk.Ghosts D) (old new : Parts D) (r : Result (Unit {0}) ArchiveFault) → ((d : D) → IsTrue (g.is_honest d) → g.may_leave d (g.seen d)) → IsTrue (g.is_honest old.disk)
+    → (state_of old).version ≡ 1 → ((c : List ℕ) → g.may_leave old.disk c → StandsFor c (durable_of g.seen old)) → UpgradeCall g old r new
+    → AddsOnly g old.disk new.disk (λ c. (x : Durable) × StandsFor c x × IsUpgradeOf (durable_of g.seen old) x)
+upgrade_leaves g old new r stays_seen honest one settled call =
+    left_cases g old new honest one ((labels_kept (g.seen old.disk) (durable_of g.seen old) (settled (g.seen old.disk) (stays_seen old.disk honest))).none one) r call

@@ -7,7 +7,7 @@ use Rattle.disk_model.specs.Moments.{LeavesOnly, IsSettled}
 use Rattle.disk_model.specs.Places.{SameOutside}
 use Rattle.disk_model.specs.declared.disk.Disk as disk
 use Rattle.journal_layout.specs.Layout.{half_length}
-use Rattle.journal_layout.specs.Record.{Record, Drop, Pin}
+use Rattle.journal_layout.specs.Record.{Record, Drop, Pin, Label}
 use Rattle.journal_layout.specs.Case.{Case}
 use Rattle.journal_layout.specs.Rewriting.{appended}
 use Rattle.journal_layout.specs.Standing.{store_of}
@@ -18,10 +18,10 @@ use Rattle.case_journal.specs.Journaled.{Journaled, after_append}
 use Rattle.case_journal.specs.Keeping.{Keeps, LeavesEither, LeavesOutside}
 use Rattle.case_journal.specs.declared.faults.JournalFault.{JournalFault}
 use Rattle.case_journal.specs.declared.faults.JournalFault.TheVariants as journal_fault
-use Rattle.intake.specs.Durable.{Durable, StandsFor, durable_in, without, flagged}
+use Rattle.intake.specs.Durable.{Durable, StandsFor, durable_in, without, flagged, labelled}
 use Rattle.intake.specs.Faults.{fault_of}
 use Rattle.intake.specs.Guarding.{Guards, Leaves}
-use Rattle.intake.proofs.DurableLemmas.{durable_behind, durable_dropped, durable_pinned}
+use Rattle.intake.proofs.DurableLemmas.{durable_behind, durable_dropped, durable_pinned, durable_labelled}
 
 module _ {D : Type 0} (g : disk.Ghosts D) (d d' : D) (j : Journaled) (r : Record) where
   abbrev pub Behind : List ℕ → List ℕ → Type 0
@@ -34,10 +34,10 @@ module _ {D : Type 0} (g : disk.Ghosts D) (d d' : D) (j : Journaled) (r : Record
   IsWholeAfter = (c : List ℕ) → g.may_leave d c → durable_in c (appended j.standing r) ≡ durable_in (g.seen d) (appended j.standing r)
 
   old_behind : (a b : List ℕ) → Behind a b → durable_in b j.standing ≡ durable_in a j.standing
-  old_behind a b same = durable_behind j a b same j.standing.cases j.standing.next
+  old_behind a b same = durable_behind j a b same j.standing.cases j.standing.next j.standing.version
 
   pub new_behind : (a b : List ℕ) → Behind a b → durable_in b (appended j.standing r) ≡ durable_in a (appended j.standing r)
-  new_behind a b same = durable_behind j a b same (appended j.standing r).cases (appended j.standing r).next
+  new_behind a b same = durable_behind j a b same (appended j.standing r).cases (appended j.standing r).next (appended j.standing r).version
 
   -- the cases before or after
   pub append_moments : IsWhole → IsWholeAfter → LeavesEither g d d' j.standing r → LeavesOutside g d d' j.standing
@@ -87,6 +87,9 @@ whole_dropped g d j seqs whole c may = durable_dropped j.standing seqs c ∙ ap 
 pub whole_pinned : {D : Type 0} (g : disk.Ghosts D) (d : D) (j : Journaled) (seq : ℕ) (flag : Bool) → IsWhole g d d j (Pin seq flag) → IsWholeAfter g d d j (Pin seq flag)
 whole_pinned g d j seq flag whole c may = durable_pinned j.standing seq flag c ∙ ap (λ (x : Durable). flagged x seq flag) (whole c may) ∙ sym (durable_pinned j.standing seq flag (g.seen d))
 
+pub whole_labelled : {D : Type 0} (g : disk.Ghosts D) (d : D) (j : Journaled) (seq : ℕ) (text : List ℕ) → IsWhole g d d j (Label seq text) → IsWholeAfter g d d j (Label seq text)
+whole_labelled g d j seq text whole c may = durable_labelled j.standing seq text c ∙ ap (λ (x : Durable). labelled x seq text) (whole c may) ∙ sym (durable_labelled j.standing seq text (g.seen d))
+
 -- what a refused append leaves
 pub refused_moments : {D : Type 0} (T : Type 0) (g : disk.Ghosts D) (d d' : D) (jf : JournalFault) (x y z : Durable) (doubt : Durable → Type 0) → doubt y → LeavesDisk jf d d'
     → ((c : List ℕ) → g.left_since d (g.clock d) c → StandsFor c x) → LeavesOnly g d d' (λ c. StandsFor c x ⊎ StandsFor c y)
@@ -101,6 +104,8 @@ refused_moments T g d d' journal_fault.NumbersSpent x y z doubt may untouched be
     subst (λ (e : _). LeavesOnly g d e (Leaves {T = T} x (Err (fault_of journal_fault.NumbersSpent)) z doubt)) (sym untouched) (started g d (Leaves {T = T} x (Err (fault_of journal_fault.NumbersSpent)) z doubt) (λ c was. inl (before c was)))
 refused_moments T g d d' journal_fault.OutOfMemory x y z doubt may untouched before moments =
     subst (λ (e : _). LeavesOnly g d e (Leaves {T = T} x (Err (fault_of journal_fault.OutOfMemory)) z doubt)) (sym untouched) (started g d (Leaves {T = T} x (Err (fault_of journal_fault.OutOfMemory)) z doubt) (λ c was. inl (before c was)))
+refused_moments T g d d' journal_fault.OldVersion x y z doubt may untouched before moments =
+    subst (λ (e : _). LeavesOnly g d e (Leaves {T = T} x (Err (fault_of journal_fault.OldVersion)) z doubt)) (sym untouched) (started g d (Leaves {T = T} x (Err (fault_of journal_fault.OldVersion)) z doubt) (λ c was. inl (before c was)))
 
 -- a refused append leaves the cases guarded
 pub refusal_guards : {D : Type 0} (g : disk.Ghosts D) (d d' : D) (j j' : Journaled) (r : Record) (jf : JournalFault) → AppendStep j r (Err jf) j' → LeavesDisk jf d d' → Keeps g d' j' → Guards g d j → Guards g d' j'
@@ -109,6 +114,7 @@ refusal_guards g d d' j j' r journal_fault.JournalFull step same keeps guards = 
 refusal_guards g d d' j j' r journal_fault.NumbersSpent step same keeps guards = absurd step
 refusal_guards g d d' j j' r journal_fault.OutOfMemory step same keeps guards = guards_untouched g d d' j' same (subst (Guards g d) (sym step.2) guards)
 refusal_guards g d d' j j' r journal_fault.Disk step same keeps guards = guards_stopped g d' j' keeps (ap (λ (k : Journaled). k.stopped) step.2)
+refusal_guards g d d' j j' r journal_fault.OldVersion step same keeps guards = absurd step
 
 -- and one that was done, of a record that moves no block
 pub done_guards : {D : Type 0} (g : disk.Ghosts D) (d d' : D) (j j' : Journaled) (r : Record) → j' ≡ after_append j r → g.is_honest d' ≡ g.is_honest d

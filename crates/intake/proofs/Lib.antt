@@ -33,3 +33,5 @@ pub mod RunCountLemmas
 pub mod AnswerLemmas
 pub mod FactLemmas
 pub mod NameLemmas
+pub mod LabelLemmas
+pub mod UpgradeLemmas

@@ -11,7 +11,7 @@ use Rattle.intake.specs.Blocks.{joined}
 use Rattle.intake.specs.Contents.{Contents, Taken, RefusedBytes, UnmovedBytes, advanced, empty_taken}
 use Rattle.intake.specs.Durable.{Durable, durable_of}
 use Rattle.intake.specs.Lending.{with_room}
-use Rattle.intake.specs.Making.{Call, ReplyTo, Makes, Made, AreMade, AreMarks, WouldLeave, archive_after, free_bytes, newly_doubted, taken_by, taken_over, StaysOpen, begin_in, lend_of, advance_by, finish_of, abandon_of, delete_of, pin_of, retire_by, image_of, find_case, list_cases, count_free, ask_stopped}
+use Rattle.intake.specs.Making.{Call, ReplyTo, Makes, Made, AreMade, AreMarks, WouldLeave, archive_after, free_bytes, newly_doubted, taken_by, taken_over, StaysOpen, begin_in, lend_of, advance_by, finish_of, abandon_of, delete_of, pin_of, label_of, upgrade_it, retire_by, image_of, find_case, list_cases, count_free, ask_version, ask_stopped}
 use Rattle.intake.specs.Marks.{Mark, Passes, IsRunOfMarks, mark_of}
 use Rattle.intake.specs.Parts.{Parts, StreamParts, state_of, stream_facts, contents_of, taken_in}
 use Rattle.intake.specs.Room.{room_left}
@@ -19,7 +19,7 @@ use Rattle.intake.specs.Slots.{stream_at, closed}
 use Rattle.intake.specs.StayLaws.{stays_still, stays_as}
 use Rattle.intake.specs.declared.faults.ArchiveFault.{ArchiveFault}
 use Rattle.intake.specs.declared.faults.ArchiveFault.TheVariants as fault
-use Rattle.intake.proofs.MarkLemmas.{stays_lead, finish_leads, delete_leads, pin_leads, retire_leads}
+use Rattle.intake.proofs.MarkLemmas.{stays_lead, finish_leads, delete_leads, pin_leads, label_leads, upgrade_leads, retire_leads}
 
 -- what a lent part leaves of an archive that is no stream's
 room_disk : {D : Type 0} (a : Parts D) (slot : ℕ) (r : Result (Unit {0}) ArchiveFault) (left : List ℕ) → (room_left a slot r left).disk ≡ a.disk
@@ -50,11 +50,14 @@ module _ {D : Type 0} (g : disk.Ghosts D) (counts : (d : D) (t : ℕ) (c : List 
   one_mark old before (abandon_of slot) r new made = ([], tt, stays_lead g counts only old new before made.stays)
   one_mark old before (delete_of seq) r new made = delete_leads g counts only old new seq r made before
   one_mark old before (pin_of seq flag) r new made = pin_leads g counts only old new seq flag r made before
+  one_mark old before (label_of seq text) r new made = label_leads g counts only old new seq text r made before
+  one_mark old before upgrade_it r new made = upgrade_leads g counts only old new r made before
   one_mark old before (retire_by policy) r new made = retire_leads g counts only old new policy r made before
   one_mark old before (image_of seq) r new made = ([], tt, stays_lead g counts only old new before made.stays)
   one_mark old before (find_case seq) r new made = ([], tt, stays_lead g counts only old new before (stays_as g old new made.1))
   one_mark old before list_cases r new made = ([], tt, stays_lead g counts only old new before (stays_as g old new made.1))
   one_mark old before count_free r new made = ([], tt, stays_lead g counts only old new before (stays_as g old new made.1))
+  one_mark old before ask_version r new made = ([], tt, stays_lead g counts only old new before (stays_as g old new made.1))
   one_mark old before ask_stopped r new made = ([], tt, stays_lead g counts only old new before (stays_as g old new made.1))
 
   pub calls_are_marks : (a : Parts D) (before : List Durable) (made : List (Made D)) → AreMade g a made
@@ -238,6 +241,12 @@ module _ {D : Type 0} (g : disk.Ghosts D) where
   kept_over old new (pin_of seq flag) (Ok u) slot t honest made is stays = kept_same (contents_of g.seen old) (contents_of g.seen new) slot t is (made.bytes honest)
   kept_over old new (pin_of seq flag) (Err f) slot t honest made is stays =
       kept_unmoved (contents_of g.seen old) (contents_of g.seen new) slot f t is (open_taken new slot stays) (made.bytes honest)
+  kept_over old new (label_of seq text) (Ok u) slot t honest made is stays = kept_same (contents_of g.seen old) (contents_of g.seen new) slot t is (made.bytes honest)
+  kept_over old new (label_of seq text) (Err f) slot t honest made is stays =
+      kept_unmoved (contents_of g.seen old) (contents_of g.seen new) slot f t is (open_taken new slot stays) (made.bytes honest)
+  kept_over old new upgrade_it (Ok u) slot t honest made is stays = kept_same (contents_of g.seen old) (contents_of g.seen new) slot t is (made.bytes honest)
+  kept_over old new upgrade_it (Err f) slot t honest made is stays =
+      kept_unmoved (contents_of g.seen old) (contents_of g.seen new) slot f t is (open_taken new slot stays) (made.bytes honest)
   kept_over old new (retire_by policy) (Ok d) slot t honest made is stays =
       kept_streams (contents_of g.seen old) (contents_of g.seen new) slot t is (ap (λ (c : Contents). c.taken) (made.bytes honest))
   kept_over old new (retire_by policy) (Err f) slot t honest made is stays =
@@ -248,6 +257,7 @@ module _ {D : Type 0} (g : disk.Ghosts D) where
   kept_over old new (find_case seq) r slot t honest made is stays = kept_same (contents_of g.seen old) (contents_of g.seen new) slot t is (ap (contents_of g.seen) made.1)
   kept_over old new list_cases r slot t honest made is stays = kept_same (contents_of g.seen old) (contents_of g.seen new) slot t is (ap (contents_of g.seen) made.1)
   kept_over old new count_free r slot t honest made is stays = kept_same (contents_of g.seen old) (contents_of g.seen new) slot t is (ap (contents_of g.seen) made.1)
+  kept_over old new ask_version r slot t honest made is stays = kept_same (contents_of g.seen old) (contents_of g.seen new) slot t is (ap (contents_of g.seen) made.1)
   kept_over old new ask_stopped r slot t honest made is stays = kept_same (contents_of g.seen old) (contents_of g.seen new) slot t is (ap (contents_of g.seen) made.1)
 
   -- each call keeps honesty
@@ -259,11 +269,14 @@ module _ {D : Type 0} (g : disk.Ghosts D) where
   still_honest old new (abandon_of slot) r made = made.stays.honesty
   still_honest old new (delete_of seq) r made = made.changes.honesty
   still_honest old new (pin_of seq flag) r made = made.changes.honesty
+  still_honest old new (label_of seq text) r made = made.changes.honesty
+  still_honest old new upgrade_it r made = made.changes.honesty
   still_honest old new (retire_by policy) r made = made.changes.honesty
   still_honest old new (image_of seq) r made = made.stays.honesty
   still_honest old new (find_case seq) r made = ap (λ (a : Parts D). g.is_honest a.disk) made.1
   still_honest old new list_cases r made = ap (λ (a : Parts D). g.is_honest a.disk) made.1
   still_honest old new count_free r made = ap (λ (a : Parts D). g.is_honest a.disk) made.1
+  still_honest old new ask_version r made = ap (λ (a : Parts D). g.is_honest a.disk) made.1
   still_honest old new ask_stopped r made = ap (λ (a : Parts D). g.is_honest a.disk) made.1
 
   -- a stream that stays open has taken what its calls took

@@ -5,8 +5,8 @@ use Rattle.std.specs.Prelude.{IsTrue, option_map}
 use Rattle.disk_model.specs.Moments.{AddsOnly}
 use Rattle.disk_model.specs.MomentLaws.{adds_weakened}
 use Rattle.disk_model.specs.declared.disk.Disk as disk
-use Rattle.intake.specs.Calls.{ChangesNoCase, Changes, FinishCall, DeleteCall, PinCall, RetireCall}
-use Rattle.intake.specs.Durable.{Durable, StandsFor, durable_of, durable_part, with_images, with_case, without, flagged}
+use Rattle.intake.specs.Calls.{ChangesNoCase, Changes, FinishCall, DeleteCall, PinCall, LabelCall, UpgradeCall, RetireCall}
+use Rattle.intake.specs.Durable.{Durable, StandsFor, durable_of, durable_part, with_images, with_case, without, flagged, labelled, upgraded}
 use Rattle.intake.specs.Contents.{Contents, Taken, FinishBytes, UnmovedBytes}
 use Rattle.intake.specs.Growth.{IsDiskFault}
 use Rattle.std.specs.List.{AllByRecursion}
@@ -15,7 +15,7 @@ use Rattle.intake.specs.Marks.{Mark, IsOneOf, FindsMark, IsMarkSettled, Passes, 
 use Rattle.intake.specs.Parts.{Parts, StreamParts, state_of, stream_facts, contents_of, taken_in}
 use Rattle.intake.specs.Slots.{stream_at}
 use Rattle.intake.specs.State.{ArchiveState, CaseFacts, StreamFacts, blocks_for}
-use Rattle.intake.specs.Step.{MayHaveRuns, FinishStep, DeleteStep, PinStep, RetireStep, brief_of, stored, halted, without_cases, with_flag}
+use Rattle.intake.specs.Step.{MayHaveRuns, FinishStep, DeleteStep, PinStep, LabelStep, UpgradeStep, RetireStep, brief_of, stored, halted, without_cases, with_flag, with_label, anew_in_two}
 use Rattle.intake.specs.declared.faults.ArchiveFault.{ArchiveFault}
 use Rattle.intake.specs.declared.faults.ArchiveFault.TheVariants as fault
 use Rattle.intake.proofs.DurableLemmas.{durable_is}
@@ -307,39 +307,59 @@ module _ {D : Type 0} (g : disk.Ghosts D) (counts : (d : D) (t : ℕ) (c : List 
   unmoved _ b same is bytes = told g.seen old new b (contents_of g.seen old) is bytes same
 
   -- the state after such a refusal is the same, but for streams
-  pub delete_is : (seq : ℕ) (f : ArchiveFault) → DeleteStep (state_of old) seq (Err f) (state_of new) → (b : ArchiveState) × (state_of new ≡ b) × (b.cases ≡ (state_of old).cases) × (b.next ≡ (state_of old).next)
-  delete_is seq fault.Stopped step = (state_of old, step.1, refl, refl)
-  delete_is seq fault.NoCase step = (state_of old, step.2, refl, refl)
-  delete_is seq fault.Pinned step = (state_of old, step.3, refl, refl)
-  delete_is seq fault.JournalFull step = (state_of old, step.4, refl, refl)
-  delete_is seq fault.OutOfMemory step = (state_of old, step.4, refl, refl)
-  delete_is seq fault.Disk step = (halted (state_of old), step.4, refl, refl)
+  abbrev pub IsRefused : Type 0
+  IsRefused = (b : ArchiveState) × (state_of new ≡ b) × (b.cases ≡ (state_of old).cases) × (b.next ≡ (state_of old).next) × (b.version ≡ (state_of old).version)
+
+  pub delete_is : (seq : ℕ) (f : ArchiveFault) → DeleteStep (state_of old) seq (Err f) (state_of new) → IsRefused
+  delete_is seq fault.Stopped step = (state_of old, step.1, refl, refl, refl)
+  delete_is seq fault.NoCase step = (state_of old, step.2, refl, refl, refl)
+  delete_is seq fault.Pinned step = (state_of old, step.3, refl, refl, refl)
+  delete_is seq fault.JournalFull step = (state_of old, step.4, refl, refl, refl)
+  delete_is seq fault.OutOfMemory step = (state_of old, step.4, refl, refl, refl)
+  delete_is seq fault.Disk step = (halted (state_of old), step.4, refl, refl, refl)
   delete_is seq _ step = absurd step
 
-  pub pin_is : (seq : ℕ) (flag : Bool) (f : ArchiveFault) → PinStep (state_of old) seq flag (Err f) (state_of new) → (b : ArchiveState) × (state_of new ≡ b) × (b.cases ≡ (state_of old).cases) × (b.next ≡ (state_of old).next)
-  pin_is seq flag fault.Stopped step = (state_of old, step.1, refl, refl)
-  pin_is seq flag fault.NoCase step = (state_of old, step.2, refl, refl)
-  pin_is seq flag fault.JournalFull step = (state_of old, step.4, refl, refl)
-  pin_is seq flag fault.OutOfMemory step = (state_of old, step.4, refl, refl)
-  pin_is seq flag fault.Disk step = (halted (state_of old), step.4, refl, refl)
+  pub pin_is : (seq : ℕ) (flag : Bool) (f : ArchiveFault) → PinStep (state_of old) seq flag (Err f) (state_of new) → IsRefused
+  pin_is seq flag fault.Stopped step = (state_of old, step.1, refl, refl, refl)
+  pin_is seq flag fault.NoCase step = (state_of old, step.2, refl, refl, refl)
+  pin_is seq flag fault.JournalFull step = (state_of old, step.4, refl, refl, refl)
+  pin_is seq flag fault.OutOfMemory step = (state_of old, step.4, refl, refl, refl)
+  pin_is seq flag fault.Disk step = (halted (state_of old), step.4, refl, refl, refl)
   pin_is seq flag _ step = absurd step
 
-  pub retire_is : (policy : Policy) (f : ArchiveFault) → RetireStep (state_of old) policy (Err f) (state_of new) → (b : ArchiveState) × (state_of new ≡ b) × (b.cases ≡ (state_of old).cases) × (b.next ≡ (state_of old).next)
-  retire_is policy fault.Stopped step = (state_of old, step.1, refl, refl)
-  retire_is policy fault.JournalFull step = (state_of old, step.4, refl, refl)
-  retire_is policy fault.OutOfMemory step = (state_of old, step.1, refl, refl)
-  retire_is policy fault.Disk step = (halted (state_of old), step.4, refl, refl)
+  pub label_is : (seq : ℕ) (text : List ℕ) (f : ArchiveFault) → LabelStep (state_of old) seq text (Err f) (state_of new) → IsRefused
+  label_is seq text fault.Stopped step = (state_of old, step.1, refl, refl, refl)
+  label_is seq text fault.NoCase step = (state_of old, step.2, refl, refl, refl)
+  label_is seq text fault.OldVersion step = (state_of old, step.3, refl, refl, refl)
+  label_is seq text fault.JournalFull step = (state_of old, step.4, refl, refl, refl)
+  label_is seq text fault.OutOfMemory step = (state_of old, step.4, refl, refl, refl)
+  label_is seq text fault.Disk step = (halted (state_of old), step.4, refl, refl, refl)
+  label_is seq text _ step = absurd step
+
+  pub upgrade_is : (f : ArchiveFault) → UpgradeStep (state_of old) (Err f) (state_of new) → IsRefused
+  upgrade_is fault.Stopped step = (state_of old, step.1, refl, refl, refl)
+  upgrade_is fault.JournalFull step = (state_of old, step.2, refl, refl, refl)
+  upgrade_is fault.OutOfMemory step = (state_of old, step.2, refl, refl, refl)
+  upgrade_is fault.Disk step = (halted (state_of old), step.2, refl, refl, refl)
+  upgrade_is _ step = absurd step
+
+  pub retire_is : (policy : Policy) (f : ArchiveFault) → RetireStep (state_of old) policy (Err f) (state_of new) → IsRefused
+  retire_is policy fault.Stopped step = (state_of old, step.1, refl, refl, refl)
+  retire_is policy fault.JournalFull step = (state_of old, step.4, refl, refl, refl)
+  retire_is policy fault.OutOfMemory step = (state_of old, step.1, refl, refl, refl)
+  retire_is policy fault.Disk step = (halted (state_of old), step.4, refl, refl, refl)
   retire_is policy _ step = absurd step
 
-  refused_number : (b : ArchiveState) × (state_of new ≡ b) × (b.cases ≡ (state_of old).cases) × (b.next ≡ (state_of old).next) → (state_of old).next ≤ (state_of new).next
+  refused_number : IsRefused → (state_of old).next ≤ (state_of new).next
   refused_number is = same_number is.0 is.1 is.3
 
-  pub refused_same : (f : ArchiveFault) → (b : ArchiveState) × (state_of new ≡ b) × (b.cases ≡ (state_of old).cases) × (b.next ≡ (state_of old).next)
+  pub refused_same : (f : ArchiveFault) → IsRefused
       → UnmovedBytes (contents_of g.seen old) f (contents_of g.seen new) → SameCases
   refused_same f is bytes =
       unmoved f is.0
-      (ap (λ (cs : List CaseFacts). record { cases = with_images cs (contents_of g.seen old).images; next = is.0.next }) is.2
-      ∙ ap (λ (n : ℕ). record { cases = with_images (state_of old).cases (contents_of g.seen old).images; next = n }) is.3)
+      (ap (λ (cs : List CaseFacts). record { cases = with_images cs (contents_of g.seen old).images; next = is.0.next; version = is.0.version }) is.2
+      ∙ ap (λ (n : ℕ). record { cases = with_images (state_of old).cases (contents_of g.seen old).images; next = n; version = is.0.version }) is.3
+      ∙ ap (λ (v : ℕ). record { cases = with_images (state_of old).cases (contents_of g.seen old).images; next = (state_of old).next; version = v }) is.4)
       is.1 bytes
 
   pub delete_leads : (seq : ℕ) (r : Result (Unit {0}) ArchiveFault) → DeleteCall g old seq r new → LeadsToMark (Unit {0}) g old r new (λ x. x ≡ without (durable_of g.seen old) (seq ∷ []))
@@ -365,6 +385,34 @@ module _ {D : Type 0} (g : disk.Ghosts D) (counts : (d : D) (t : ℕ) (c : List 
       ⊎_elim
       (λ is. leads_one (Unit {0}) g counts only old new (Err f) (λ x. x ≡ flagged (durable_of g.seen old) seq flag) (flagged (durable_of g.seen old) seq flag) refl (λ y may. may) (omega arith) call.changes (refused_number (pin_is seq flag f call.step)) same)
       (λ not. leads_plain (Unit {0}) g counts only old new (Err f) (λ x. x ≡ flagged (durable_of g.seen old) seq flag) not call.changes (refused_number (pin_is seq flag f call.step)) same)
+      (disk_or_not f)
+
+  pub label_leads : (seq : ℕ) (text : List ℕ) (r : Result (Unit {0}) ArchiveFault) → LabelCall g old seq text r new → LeadsToMark (Unit {0}) g old r new (λ x. x ≡ labelled (durable_of g.seen old) seq text)
+  label_leads seq text (Ok u) call =
+      leads_plain (Unit {0}) g counts only old new (Ok u) (λ x. x ≡ labelled (durable_of g.seen old) seq text) (λ is. is) call.changes
+      (⊎_elim (λ kept. same_number (state_of old) kept.1 refl) (λ set. same_number (with_label (state_of old) seq text) set.2 refl) call.step.2)
+      (λ stopped honest. absurd (⊎_elim
+      (λ kept. goes_on new (state_of old) call.step.1.0.0 kept.1 stopped)
+      (λ set. goes_on new (with_label (state_of old) seq text) call.step.1.0.0 set.2 stopped) call.step.2))
+  label_leads seq text (Err f) call =
+      let same : new.stopped ≡ true → IsTrue (g.is_honest old.disk) → SameCases = λ stopped honest. refused_same f (label_is seq text f call.step) (call.bytes honest) in
+      ⊎_elim
+      (λ is. leads_one (Unit {0}) g counts only old new (Err f) (λ x. x ≡ labelled (durable_of g.seen old) seq text) (labelled (durable_of g.seen old) seq text) refl (λ y may. may) (omega arith) call.changes (refused_number (label_is seq text f call.step)) same)
+      (λ not. leads_plain (Unit {0}) g counts only old new (Err f) (λ x. x ≡ labelled (durable_of g.seen old) seq text) not call.changes (refused_number (label_is seq text f call.step)) same)
+      (disk_or_not f)
+
+  pub upgrade_leads : (r : Result (Unit {0}) ArchiveFault) → UpgradeCall g old r new → LeadsToMark (Unit {0}) g old r new (λ x. x ≡ upgraded (durable_of g.seen old))
+  upgrade_leads (Ok u) call =
+      leads_plain (Unit {0}) g counts only old new (Ok u) (λ x. x ≡ upgraded (durable_of g.seen old)) (λ is. is) call.changes
+      (⊎_elim (λ kept. same_number (state_of old) kept.1 refl) (λ set. same_number (anew_in_two (state_of old)) set.2 refl) call.step.1)
+      (λ stopped honest. absurd (⊎_elim
+      (λ kept. goes_on new (state_of old) call.step.0 kept.1 stopped)
+      (λ set. goes_on new (anew_in_two (state_of old)) call.step.0 set.2 stopped) call.step.1))
+  upgrade_leads (Err f) call =
+      let same : new.stopped ≡ true → IsTrue (g.is_honest old.disk) → SameCases = λ stopped honest. refused_same f (upgrade_is f call.step) (call.bytes honest) in
+      ⊎_elim
+      (λ is. leads_one (Unit {0}) g counts only old new (Err f) (λ x. x ≡ upgraded (durable_of g.seen old)) (upgraded (durable_of g.seen old)) refl (λ y may. may) (omega arith) call.changes (refused_number (upgrade_is f call.step)) same)
+      (λ not. leads_plain (Unit {0}) g counts only old new (Err f) (λ x. x ≡ upgraded (durable_of g.seen old)) not call.changes (refused_number (upgrade_is f call.step)) same)
       (disk_or_not f)
 
   pub retire_leads : (policy : Policy) (r : Result Decision ArchiveFault) → RetireCall g old policy r new → LeadsToMark Decision g old r new (λ x. MayBeRetired (state_of old) policy (durable_of g.seen old) x)

@@ -10,9 +10,9 @@ use Rattle.std.proofs.lemmas.Slice.Eq.{bytes_eq-Decides}
 use Rattle.extents.specs.FreeSet.{one_if}
 use Rattle.journal_layout.specs.declared.entry.Entry.{Entry}
 use Rattle.journal_layout.specs.Case.{Case, case_of}
-use Rattle.journal_layout.specs.Folding.{dropped, with_pin}
+use Rattle.journal_layout.specs.Folding.{dropped, with_pin, with_label}
 use Rattle.journal_layout.specs.Live.{gone}
-use Rattle.journal_layout.specs.LiveCounts.{named_stored, named_dropped, named_pinned}
+use Rattle.journal_layout.specs.LiveCounts.{named_stored, named_dropped, named_pinned, named_labelled}
 use Rattle.journal_records.specs.Kept.{AreNames}
 use Rattle.std.specs.Prelude.{option_map, slice_set, replicate}
 use Rattle.std.proofs.lemmas.Bool.{cases_lt}
@@ -204,6 +204,9 @@ names_left seqs cases streams names a b are same forgets q = of (is_one_of names
 pub names_pinned : (seq : ℕ) (flag : Bool) (cases : List Case) (streams : List (Option StreamParts)) (a : BTreeSet (ArrayVec ℕ)) → AreTaken cases streams a → AreTaken (with_pin seq flag cases) streams a
 names_pinned seq flag cases streams a are q = ap (λ n. n + streams_named streams q) (named_pinned seq flag cases q) ∙ are q
 
+pub names_labelled : (seq : ℕ) (text : List ℕ) (cases : List Case) (streams : List (Option StreamParts)) (a : BTreeSet (ArrayVec ℕ)) → AreTaken cases streams a → AreTaken (with_label seq text cases) streams a
+names_labelled seq text cases streams a are q = ap (λ n. n + streams_named streams q) (named_labelled seq text cases q) ∙ are q
+
 -- a refused record leaves the cases
 still_stored : (j j' : Journaled) (c : Case) (jf : JournalFault) → StoreRefused j c jf j' → j'.standing.cases ≡ j.standing.cases
 still_stored j j' c journal_fault.Stopped refused = ap (λ (k : Journaled). k.standing.cases) refused.1
@@ -211,6 +214,7 @@ still_stored j j' c journal_fault.JournalFull refused = ap (λ (k : Journaled). 
 still_stored j j' c journal_fault.NumbersSpent refused = ap (λ (k : Journaled). k.standing.cases) refused.3
 still_stored j j' c journal_fault.OutOfMemory refused = ap (λ (k : Journaled). k.standing.cases) refused.3
 still_stored j j' c journal_fault.Disk refused = ap (λ (k : Journaled). k.standing.cases) refused.3
+still_stored j j' c journal_fault.OldVersion refused = absurd refused
 
 pub still_there : (j j' : Journaled) (c : Case) (f : ArchiveFault) → Appends j c (Err f) j' → j'.standing.cases ≡ j.standing.cases
 still_there j j' c f appends = still_stored j j' c appends.0 appends.2

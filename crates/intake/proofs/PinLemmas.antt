@@ -70,6 +70,7 @@ module _ {D : Type 0} (g : disk.Ghosts D) (d d' : D) (j j' : Journaled) (most : 
   pin_err journal_fault.NumbersSpent other step ends = absurd step
   pin_err journal_fault.OutOfMemory other step ends = (case_facts c, has, other, record_room d d' j (Pin seq flag) most streams b _ (flag_cases seq flag j.standing.cases) step.1, same_state g d d' j j' (Pin seq flag) most flags streams streams' b b' on ends.0 ends.1 step.2)
   pin_err journal_fault.Disk other step ends = (case_facts c, has, other, record_room d d' j (Pin seq flag) most streams b _ (flag_cases seq flag j.standing.cases) step.1, halted_now g d d' j j' (Pin seq flag) most flags streams streams' b b' on ends.0 ends.1 step.2)
+  pin_err journal_fault.OldVersion other step ends = absurd step
 
   pub pin_sound_after : (u : Unit {0}) → AppendStep j (Pin seq flag) (Ok u) j' → Guards g d' j' → IsArchiveSound g d' j' most flags streams b
   pin_sound_after u step keeps =

@@ -1,30 +1,34 @@
 -- The state without bytes after one record more, and whether the record has room.
-use Rattle.std.proofs.Common.{◌≡◌, inl, inr, ⊎_elim, ℕ, ◌+◌, Bool, List, [], ◌∷◌, length, map, refl, ap, ◌∙◌, arith, Option, cond}
+use Rattle.std.proofs.Common.{◌≡◌, inl, inr, ⊎_elim, ℕ, ◌+◌, Bool, List, [], ◌∷◌, map, refl, ap, ◌∙◌, arith, Option, cond}
 use Rattle.std.specs.Prelude.{sum_by}
 use Rattle.std.proofs.lemmas.List.Sums.{sum_by-cons}
-use Rattle.extents.specs.Runs.{runs_of}
 use Rattle.journal_layout.specs.Case.{Case}
 use Rattle.journal_layout.specs.Folding.{Folded, after, sizes}
 use Rattle.journal_layout.specs.Record.{Record, record_size as size_of}
-use Rattle.journal_layout.specs.Rewriting.{case_records, case_bytes, fits, snapshot_size as snapshot_size_of}
+use Rattle.journal_layout.specs.Rewriting.{label_records, case_records, case_bytes, fits, snapshot_size as snapshot_size_of}
 use Rattle.journal_layout.specs.RoomLaws.{bytes_more, snapshot_bytes}
 use Rattle.journal_layout.specs.Standing.{folded_of}
 use Rattle.case_journal.specs.Append.{HasRoom, LacksRoom}
 use Rattle.case_journal.specs.Journaled.{Journaled, after_append}
 use Rattle.intake.specs.Parts.{Parts, StreamParts, state_of, case_facts}
 use Rattle.intake.specs.State.{CaseFacts}
-use Rattle.intake.specs.Step.{HasRecordRoom, IsFull, record_size, recorded, snapshot_size}
+use Rattle.intake.specs.Step.{HasRecordRoom, IsFull, label_bytes, case_size, recorded, snapshot_size}
+
+-- the record of a case's label, if it has one
+label_sized : (seq : ℕ) (text : List ℕ) → sizes (label_records seq text) ≡ label_bytes text
+label_sized seq [] = refl
+label_sized seq (b ∷ rest) = omega arith
 
 -- the records that say cases
-cases_sized : (cases : List Case) → case_bytes cases ≡ sum_by (λ (c : CaseFacts). record_size c.name c.runs) (map case_facts cases)
+cases_sized : (cases : List Case) → case_bytes cases ≡ sum_by case_size (map case_facts cases)
 cases_sized [] = refl
 cases_sized (c ∷ rest) =
     let more = bytes_more c rest in
-    let sum = sum_by-cons (λ (x : CaseFacts). record_size x.name x.runs) (case_facts c) (map case_facts rest) in
-    let one : sizes (case_records c) ≡ record_size c.name (length (runs_of c.blocks)) = omega arith in
+    let sum = sum_by-cons case_size (case_facts c) (map case_facts rest) in
+    let one : sizes (case_records c) ≡ case_size (case_facts c) = omega (arith, label_sized c.seq c.label) in
     omega (arith, more, sum, one, cases_sized rest)
 
-snapshot_is : (f : Folded) → snapshot_size_of f ≡ snapshot_size (map case_facts f.cases)
+pub snapshot_is : (f : Folded) → snapshot_size_of f ≡ snapshot_size (map case_facts f.cases)
 snapshot_is f = omega (arith, snapshot_bytes f, cases_sized f.cases)
 
 module _ {D : Type 0} (d d' : D) (j : Journaled) (r : Record) (most : ℕ) (streams : List (Option StreamParts)) (b : Bool) (cases : List CaseFacts)

@@ -132,6 +132,7 @@ retire_err s policy dropped unmet fault.SpaceFull after r step = absurd step
 retire_err s policy dropped unmet fault.NoCase after r step = absurd step
 retire_err s policy dropped unmet fault.Pinned after r step = absurd step
 retire_err s policy dropped unmet fault.NumbersSpent after r step = absurd step
+retire_err s policy dropped unmet fault.OldVersion after r step = absurd step
 
 -- without any numbers all images stay
 pub all_stay : (f : Case → List ℕ) (cases : List Case) → images_without [] (map case_facts cases) (map f cases) ≡ map f cases

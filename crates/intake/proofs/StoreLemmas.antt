@@ -60,6 +60,7 @@ refused_standing j j' c journal_fault.JournalFull r = ap (λ (k : Journaled). k.
 refused_standing j j' c journal_fault.NumbersSpent r = ap (λ (k : Journaled). k.standing) r.3
 refused_standing j j' c journal_fault.OutOfMemory r = ap (λ (k : Journaled). k.standing) r.3
 refused_standing j j' c journal_fault.Disk r = ap (λ (k : Journaled). k.standing) r.3
+refused_standing j j' c journal_fault.OldVersion r = absurd r
 
 runs_on : (j j' : Journaled) (c : Case) (jf : JournalFault) → j.stopped ≡ false → StoreRefused j c jf j' → fault_of jf ≡ fault.Stopped → ⊥
 runs_on j j' c journal_fault.Stopped on r e = let f : true ≡ false = sym r.0 ∙ on in cc
@@ -67,6 +68,7 @@ runs_on j j' c journal_fault.JournalFull on r e = cc
 runs_on j j' c journal_fault.NumbersSpent on r e = cc
 runs_on j j' c journal_fault.OutOfMemory on r e = cc
 runs_on j j' c journal_fault.Disk on r e = cc
+runs_on j j' c journal_fault.OldVersion on r e = absurd r
 
 never_missing : (jf : JournalFault) → fault_of jf ≡ fault.NoStream → ⊥
 never_missing journal_fault.Stopped e = cc
@@ -74,6 +76,7 @@ never_missing journal_fault.JournalFull e = cc
 never_missing journal_fault.NumbersSpent e = cc
 never_missing journal_fault.OutOfMemory e = cc
 never_missing journal_fault.Disk e = cc
+never_missing journal_fault.OldVersion e = cc
 
 module _ {D : Type 0} (g : disk.Ghosts D) (d d1 d2 : D) (j j' : Journaled) (most : ℕ) (flags : List Bool) (streams : List (Option StreamParts)) (slot : ℕ) (b b' : Bool)
     (running : IsRunning g d j most flags streams) (changes : ChangesFree j.standing.shape flags (g.seen d) (g.seen d1))

@@ -39,6 +39,7 @@ journal_spares T jf f old new told leaves = subst (λ (x : ArchiveFault). Refusa
     by_fault journal_fault.JournalFull same = same
     by_fault journal_fault.NumbersSpent same = same
     by_fault journal_fault.OutOfMemory same = same
+    by_fault journal_fault.OldVersion same = same
 
 -- another answer for the same refusal
 pub other_spares : {D : Type 0} (S T : Type 0) (f : ArchiveFault) (old new : D) → RefusalSpares {T = S} (Err f) old new → RefusalSpares {T = T} (Err f) old new
@@ -92,6 +93,7 @@ append_spares jf f old new told on = subst (λ (x : ArchiveFault). FinishSpares 
     by_fault journal_fault.JournalFull on' = tt
     by_fault journal_fault.NumbersSpent on' = tt
     by_fault journal_fault.OutOfMemory on' = tt
+    by_fault journal_fault.OldVersion on' = tt
 
 -- a journal that runs does not answer that it is stopped
 pub never_stopped : (j : Journaled) (c : Case) (jf : JournalFault) (j' : Journaled) → j.stopped ≡ false → StoreRefused j c jf j' → jf ≡ journal_fault.Stopped → ⊥

@@ -11,16 +11,16 @@ use Rattle.journal_layout.specs.Standing.{Standing}
 use Rattle.journal_layout.specs.Stands.{Stands}
 use Rattle.case_journal.specs.Viewing.{ShowsOpening, FindsStanding, OnlyReads}
 use Rattle.intake.specs.Closing.{FinishPads}
-use Rattle.intake.specs.Contents.{BeginBytes, AdvanceBytes, FinishBytes, AbandonBytes, PinBytes, DeleteBytes, RetireBytes, ImageBytes}
-use Rattle.intake.specs.Durable.{Durable, StandsFor, FindsAgain, durable_of, without, flagged}
+use Rattle.intake.specs.Contents.{BeginBytes, AdvanceBytes, FinishBytes, AbandonBytes, PinBytes, LabelBytes, UpgradeBytes, DeleteBytes, RetireBytes, ImageBytes}
+use Rattle.intake.specs.Durable.{Durable, StandsFor, FindsAgain, durable_of, without, flagged, labelled, upgraded}
 use Rattle.intake.specs.Guarding.{Leaves, StoresIn, MayBeRetired}
 use Rattle.intake.specs.Opened.{IsOpened, disk_in, journal_in}
 use Rattle.intake.specs.Parts.{Parts, state_of, contents_of}
 use Rattle.intake.specs.Slots.{stream_at}
 use Rattle.intake.specs.State.{CaseFacts, StreamFacts}
 use Rattle.intake.specs.Growth.{IsDiskFault}
-use Rattle.intake.specs.Step.{BeginStep, AdvanceStep, FinishStep, AbandonStep, PinStep, DeleteStep, RetireStep, ImageStep, IsLastGeneration, case_at, pin_size}
-use Rattle.intake.specs.Untouched.{RefusalSpares, AdvanceSpares, FinishSpares, PinSpares, RetireSpares}
+use Rattle.intake.specs.Step.{BeginStep, AdvanceStep, FinishStep, AbandonStep, PinStep, LabelStep, UpgradeStep, DeleteStep, RetireStep, ImageStep, IsLastGeneration, case_at, pin_size}
+use Rattle.intake.specs.Untouched.{RefusalSpares, AdvanceSpares, FinishSpares, PinSpares, LabelSpares, UpgradeSpares, RetireSpares}
 use Rattle.intake.specs.declared.faults.ArchiveFault.{ArchiveFault}
 use Rattle.intake.specs.declared.faults.ArchiveFault.TheVariants.{JournalFull, OutOfMemory}
 use Rattle.retention.specs.declared.Decision.{Decision}
@@ -118,6 +118,18 @@ pub record PinCall {D : Type 0} (g : disk.Ghosts D) (old : Parts D) (seq : ℕ) 
   -- it takes no memory where its record fits behind the others
   pub never : r ≡ Err OutOfMemory → half_length (state_of old).shape < (state_of old).used + pin_size + 1
   pub untouched : PinSpares (state_of old) seq flag r old.disk new.disk
+
+pub record LabelCall {D : Type 0} (g : disk.Ghosts D) (old : Parts D) (seq : ℕ) (text : List ℕ) (r : Result (Unit {0}) ArchiveFault) (new : Parts D) : Type 0 where
+  pub step : LabelStep (state_of old) seq text r (state_of new)
+  pub bytes : IsTrue (g.is_honest old.disk) → LabelBytes (contents_of g.seen old) r (contents_of g.seen new)
+  pub changes : Changes (Unit {0}) g old r new (λ x. x ≡ labelled (durable_of g.seen old) seq text)
+  pub untouched : LabelSpares (state_of old) seq text r old.disk new.disk
+
+pub record UpgradeCall {D : Type 0} (g : disk.Ghosts D) (old : Parts D) (r : Result (Unit {0}) ArchiveFault) (new : Parts D) : Type 0 where
+  pub step : UpgradeStep (state_of old) r (state_of new)
+  pub bytes : IsTrue (g.is_honest old.disk) → UpgradeBytes (contents_of g.seen old) r (contents_of g.seen new)
+  pub changes : Changes (Unit {0}) g old r new (λ x. x ≡ upgraded (durable_of g.seen old))
+  pub untouched : UpgradeSpares (state_of old) r old.disk new.disk
 
 pub record RetireCall {D : Type 0} (g : disk.Ghosts D) (old : Parts D) (policy : Policy) (r : Result Decision ArchiveFault) (new : Parts D) : Type 0 where
   pub step : RetireStep (state_of old) policy r (state_of new)

@@ -82,6 +82,16 @@ abbrev pub PinBytes : Contents → Result (Unit {0}) ArchiveFault → Contents �
 PinBytes old (Ok u) new = new ≡ old
 PinBytes old (Err f) new = UnmovedBytes old f new
 
+-- a label is no byte of an image
+abbrev pub LabelBytes : Contents → Result (Unit {0}) ArchiveFault → Contents → Type 0
+LabelBytes old (Ok u) new = new ≡ old
+LabelBytes old (Err f) new = UnmovedBytes old f new
+
+-- nor is the version of the layout
+abbrev pub UpgradeBytes : Contents → Result (Unit {0}) ArchiveFault → Contents → Type 0
+UpgradeBytes old (Ok u) new = new ≡ old
+UpgradeBytes old (Err f) new = UnmovedBytes old f new
+
 -- the images of the cases that have none of these numbers
 abbrev pub images_without : List ℕ → List CaseFacts → List (List ℕ) → List (List ℕ)
 images_without seqs [] images = []

@@ -1,4 +1,5 @@
--- What an archive holds that outlives a stop: its cases with their images, and the number of the next one.
+-- What an archive holds that outlives a stop: its cases with their images, the number of the next one, and the version of its
+-- layout.
 use Rattle.std.specs.Prelude.{◌≡◌, ◌⊎◌, ◌==◌, ℕ, ◌+◌, Bool, false, not, List, [], ◌∷◌, ◌++◌, length, map, Result, Ok, Err, if◌then◌else◌}
 use Rattle.std.specs.List.{filter}
 use Rattle.extents.specs.Runs.{runs_of}
@@ -28,12 +29,16 @@ pub record FoundCase : Type 0 where
   pub image : List ℕ
   -- in how many runs of blocks it lies
   pub runs : ℕ
+  -- what was noted about it
+  pub label : List ℕ
 
 pub record Durable : Type 0 where
   -- in the order of their numbers
   pub cases : List FoundCase
   -- the number of the next case
   pub next : ℕ
+  -- of the layout: 1, or 2, which keeps labels
+  pub version : ℕ
 
 abbrev pub found_with : Case → List ℕ → FoundCase
 found_with c image = record {
@@ -47,6 +52,7 @@ found_with c image = record {
   len = c.len;
   image = image;
   runs = length (runs_of c.blocks);
+  label = c.label;
 }
 
 -- a case with the image that its blocks hold
@@ -55,7 +61,7 @@ found_case shape bytes c = found_with c (image_in shape bytes c.blocks c.len)
 
 -- what these bytes hold of the cases of a journal
 abbrev pub durable_in : List ℕ → Standing → Durable
-durable_in bytes s = record { cases = map (found_case s.shape bytes) s.cases; next = s.next }
+durable_in bytes s = record { cases = map (found_case s.shape bytes) s.cases; next = s.next; version = s.version }
 
 -- An opening of these bytes finds this.
 pub record StandsFor (bytes : List ℕ) (x : Durable) : Type 0 where
@@ -82,15 +88,16 @@ with_images (c ∷ cases) (image ∷ images) = record {
   len = c.len;
   image = image;
   runs = c.runs;
+  label = c.label;
 } ∷ with_images cases images
 
 -- what a state and its bytes leave after a stop
 abbrev pub durable_part : ArchiveState → Contents → Durable
-durable_part s c = record { cases = with_images s.cases c.images; next = s.next }
+durable_part s c = record { cases = with_images s.cases c.images; next = s.next; version = s.version }
 
 -- with the image of a stream as the last case, in `runs` runs of blocks
 abbrev pub with_case : Durable → StreamFacts → ℕ → List ℕ → Durable
-with_case x s runs image = record {
+with_case x s runs image = record x {
   cases = x.cases ++ record {
     seq = x.next;
     kind = s.kind;
@@ -102,6 +109,7 @@ with_case x s runs image = record {
     len = s.len;
     image = image;
     runs = runs;
+    label = [];
   } ∷ [];
   next = x.next + 1;
 }
@@ -113,6 +121,14 @@ without x seqs = record x { cases = filter (λ (c : FoundCase). not (is_among se
 -- with the flag of a case set
 abbrev pub flagged : Durable → ℕ → Bool → Durable
 flagged x seq flag = record x { cases = map (λ (c : FoundCase). if c.seq == seq then record c { pinned = flag } else c) x.cases }
+
+-- with the label of a case set
+abbrev pub labelled : Durable → ℕ → List ℕ → Durable
+labelled x seq text = record x { cases = map (λ (c : FoundCase). if c.seq == seq then record c { label = text } else c) x.cases }
+
+-- the same cases and next number, in version 2 of the layout
+abbrev pub upgraded : Durable → Durable
+upgraded x = record x { version = 2 }
 
 -- an opening finds this, and only the disk and the memory refuse it
 abbrev pub FindsAgain : {D : Type 0} → (D → List ℕ) → Result (Parts D) (OpenFault × D) → Durable → Type 0

@@ -2,7 +2,7 @@
 use Rattle.case_journal.specs.declared.faults.JournalFault.{JournalFault}
 use Rattle.case_journal.specs.declared.faults.JournalFault.TheVariants as journal
 use Rattle.intake.specs.declared.faults.ArchiveFault.{ArchiveFault}
-use Rattle.intake.specs.declared.faults.ArchiveFault.TheVariants.{Stopped, JournalFull, NumbersSpent, OutOfMemory, Disk}
+use Rattle.intake.specs.declared.faults.ArchiveFault.TheVariants.{Stopped, JournalFull, NumbersSpent, OutOfMemory, Disk, OldVersion}
 
 abbrev pub fault_of : JournalFault → ArchiveFault
 fault_of journal.Stopped = Stopped
@@ -10,3 +10,4 @@ fault_of journal.JournalFull = JournalFull
 fault_of journal.NumbersSpent = NumbersSpent
 fault_of journal.OutOfMemory = OutOfMemory
 fault_of journal.Disk = Disk
+fault_of journal.OldVersion = OldVersion

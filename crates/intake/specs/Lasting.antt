@@ -1,9 +1,9 @@
 -- Laws of what outlives a stop.
-use Rattle.std.specs.Prelude.{◌≡◌, ℕ, ◌<◌, ◌≤◌, ◌^◌, List, length, map}
+use Rattle.std.specs.Prelude.{◌≡◌, ◌⊎◌, ℕ, ◌<◌, ◌≤◌, ◌^◌, List, [], length, map}
 use Rattle.std.specs.List.{All}
 use Rattle.extents.specs.declared.run_list.Run.{Run}
 use Rattle.extents.specs.Runs.{blocks_of, runs_of}
-use Rattle.journal_layout.specs.Soundness.{Rise}
+use Rattle.journal_layout.specs.Soundness.{IsLabel, Rise}
 use Rattle.intake.specs.Durable.{Durable, FoundCase, StandsFor}
 use Rattle.intake.specs.Step.{MayHaveRuns}
 
@@ -31,6 +31,18 @@ pub record IsWholeImage (c : FoundCase) : Type 0 where
 
 abbrev pub ImagesAreWhole : Type 0
 ImagesAreWhole = (bytes : List ℕ) (x : Durable) → StandsFor bytes x → All IsWholeImage x.cases
+
+abbrev pub HasEmptyLabel : FoundCase → Type 0
+HasEmptyLabel c = c.label ≡ []
+
+-- There are two versions of the layout. Version 1 keeps no labels: in an archive of it no case has one. A label has 0 to 64 bytes.
+pub record KeepsLabels (x : Durable) : Type 0 where
+  pub version : (x.version ≡ 1) ⊎ (x.version ≡ 2)
+  pub none : x.version ≡ 1 → All HasEmptyLabel x.cases
+  pub labels : All (λ (c : FoundCase). IsLabel c.label) x.cases
+
+abbrev pub LabelsAreOfVersionTwo : Type 0
+LabelsAreOfVersionTwo = (bytes : List ℕ) (x : Durable) → StandsFor bytes x → KeepsLabels x
 
 -- The runs that are kept of some blocks have these blocks, and no list of runs that has them is shorter.
 abbrev pub RunsAreTheFewest : Type 0

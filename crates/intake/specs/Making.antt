@@ -5,9 +5,9 @@ use Rattle.std.specs.Borrow.{Bor}
 use Rattle.std.specs.List.{AllByRecursion}
 use Rattle.disk_model.specs.declared.disk.Disk as disk
 use Rattle.journal_layout.specs.declared.entry.Entry.{Entry}
-use Rattle.intake.specs.Calls.{BeginCall, AdvanceCall, FinishCall, AbandonCall, DeleteCall, PinCall, RetireCall, ImageCall}
+use Rattle.intake.specs.Calls.{BeginCall, AdvanceCall, FinishCall, AbandonCall, DeleteCall, PinCall, LabelCall, UpgradeCall, RetireCall, ImageCall}
 use Rattle.intake.specs.Contents.{Taken}
-use Rattle.intake.specs.Durable.{Durable, FoundCase, durable_of, without, flagged}
+use Rattle.intake.specs.Durable.{Durable, FoundCase, durable_of, without, flagged, labelled, upgraded}
 use Rattle.intake.specs.Guarding.{MayBeStored, MayBeRetired}
 use Rattle.intake.specs.Marks.{Mark, IsRunOfMarks, mark_of, doubted}
 use Rattle.intake.specs.Opened.{CaseReply, CasesReply}
@@ -15,7 +15,7 @@ use Rattle.intake.specs.Parts.{Parts, state_of, contents_of}
 use Rattle.intake.specs.Room.{room_of, room_left}
 use Rattle.intake.specs.Slots.{stream_at}
 use Rattle.intake.specs.State.{StreamFacts}
-use Rattle.intake.specs.Step.{RoomReply, FreeReply}
+use Rattle.intake.specs.Step.{RoomReply, FreeReply, VersionReply}
 use Rattle.intake.specs.declared.faults.ArchiveFault.{ArchiveFault}
 use Rattle.intake.specs.declared.space.Space.{Space}
 use Rattle.retention.specs.declared.Decision.{Decision}
@@ -37,6 +37,10 @@ pub data Call : Type 0 where
   delete_of : ℕ → Call
   -- the case of this number is kept from deletion, or no longer
   pin_of : ℕ → Bool → Call
+  -- the case of this number gets a label
+  label_of : ℕ → List ℕ → Call
+  -- the archive goes into version 2 of the layout
+  upgrade_it : Call
   -- the cases that the rule drops under this policy are dropped
   retire_by : Policy → Call
   -- the bytes of a case's image
@@ -47,6 +51,8 @@ pub data Call : Type 0 where
   list_cases : Call
   -- the free data blocks
   count_free : Call
+  -- the version of the layout
+  ask_version : Call
   -- whether a disk fault has stopped the archive
   ask_stopped : Call
 
@@ -58,6 +64,7 @@ ReplyTo (image_of seq) = Result (Vec ℕ Global) ArchiveFault
 ReplyTo (find_case seq) = Result (Bor Entry) ArchiveFault
 ReplyTo list_cases = Result (Bor (List Entry)) ArchiveFault
 ReplyTo count_free = Result Space ArchiveFault
+ReplyTo ask_version = Result ℕ ArchiveFault
 ReplyTo ask_stopped = Bool
 ReplyTo _ = Result (Unit {0}) ArchiveFault
 
@@ -71,11 +78,14 @@ Makes g old (finish_of slot) r new = FinishCall g old slot r new
 Makes g old (abandon_of slot) r new = AbandonCall g old slot r new
 Makes g old (delete_of seq) r new = DeleteCall g old seq r new
 Makes g old (pin_of seq flag) r new = PinCall g old seq flag r new
+Makes g old (label_of seq text) r new = LabelCall g old seq text r new
+Makes g old upgrade_it r new = UpgradeCall g old r new
 Makes g old (retire_by policy) r new = RetireCall g old policy r new
 Makes g old (image_of seq) r new = ImageCall g old seq r new
 Makes g old (find_case seq) r new = CaseReply old seq r × (new ≡ old)
 Makes g old list_cases r new = CasesReply old r × (new ≡ old)
 Makes g old count_free r new = FreeReply (state_of old) r × (new ≡ old)
+Makes g old ask_version r new = VersionReply (state_of old) r × (new ≡ old)
 Makes g old ask_stopped r new = (r ≡ old.stopped) × (new ≡ old)
 
 -- A call that was made: what it answered, and the archive then.
@@ -99,6 +109,8 @@ abbrev pub WouldLeave : {D : Type 0} → disk.Ghosts D → Parts D → Call → 
 WouldLeave g old (finish_of slot) x = MayBeStored (state_of old) (contents_of g.seen old) (durable_of g.seen old) slot x
 WouldLeave g old (delete_of seq) x = x ≡ without (durable_of g.seen old) (seq ∷ [])
 WouldLeave g old (pin_of seq flag) x = x ≡ flagged (durable_of g.seen old) seq flag
+WouldLeave g old (label_of seq text) x = x ≡ labelled (durable_of g.seen old) seq text
+WouldLeave g old upgrade_it x = x ≡ upgraded (durable_of g.seen old)
 WouldLeave g old (retire_by policy) x = MayBeRetired (state_of old) policy (durable_of g.seen old) x
 WouldLeave g old _ x = ⊥
 
@@ -107,6 +119,8 @@ abbrev pub newly_doubted : (call : Call) → ReplyTo call → List Durable → L
 newly_doubted (finish_of slot) r more = doubted {T = ℕ} r more
 newly_doubted (delete_of seq) r more = doubted {T = Unit {0}} r more
 newly_doubted (pin_of seq flag) r more = doubted {T = Unit {0}} r more
+newly_doubted (label_of seq text) r more = doubted {T = Unit {0}} r more
+newly_doubted upgrade_it r more = doubted {T = Unit {0}} r more
 newly_doubted (retire_by policy) r more = doubted {T = Decision} r more
 newly_doubted _ r more = []
 
@@ -154,6 +168,7 @@ pub record IsCaseOf (s : StreamFacts) (seq : ℕ) (bytes : List ℕ) (c : FoundC
   pub signal : c.signal ≡ s.signal
   pub time : c.time ≡ s.time
   pub unpinned : c.pinned ≡ false
+  pub unlabelled : c.label ≡ []
   pub image : c.image ≡ bytes
 
 -- A case is what its own stream began as, and its image is what its calls took, from its begin to its finish, whatever other

@@ -3,8 +3,8 @@ use Rattle.std.specs.Prelude.{◌≡◌, ◌⊎◌, ℕ, ◌≤◌, Bool, List, 
 use Rattle.std.specs.List.{AllByRecursion}
 use Rattle.disk_model.specs.Moments.{AddsOnly}
 use Rattle.disk_model.specs.declared.disk.Disk as disk
-use Rattle.intake.specs.Calls.{ChangesNoCase, FinishCall, DeleteCall, PinCall, RetireCall}
-use Rattle.intake.specs.Durable.{Durable, StandsFor, durable_of, without, flagged}
+use Rattle.intake.specs.Calls.{ChangesNoCase, FinishCall, DeleteCall, PinCall, LabelCall, UpgradeCall, RetireCall}
+use Rattle.intake.specs.Durable.{Durable, StandsFor, durable_of, without, flagged, labelled, upgraded}
 use Rattle.intake.specs.Guarding.{MayBeStored, MayBeRetired}
 use Rattle.intake.specs.Parts.{Parts, state_of, contents_of}
 use Rattle.intake.specs.declared.faults.ArchiveFault.{ArchiveFault}
@@ -14,7 +14,7 @@ use Rattle.retention.specs.declared.Policy.{Policy}
 
 pub record Mark (D : Type 0) : Type 0 where
   pub disk : D
-  -- the cases and the next number
+  -- the cases, the next number and the version
   pub durable : Durable
   -- what a call that answered Disk would have left, now or earlier
   pub in_doubt : List Durable
@@ -113,6 +113,14 @@ DeleteLeads {D} g = (old new : Parts D) (seq : ℕ) (r : Result (Unit {0}) Archi
 abbrev pub PinLeads : {D : Type 0} → disk.Ghosts D → Type 0
 PinLeads {D} g = (old new : Parts D) (seq : ℕ) (flag : Bool) (r : Result (Unit {0}) ArchiveFault) → PinCall g old seq flag r new
     → LeadsToMark (Unit {0}) g old r new (λ x. x ≡ flagged (durable_of g.seen old) seq flag)
+
+abbrev pub LabelLeads : {D : Type 0} → disk.Ghosts D → Type 0
+LabelLeads {D} g = (old new : Parts D) (seq : ℕ) (text : List ℕ) (r : Result (Unit {0}) ArchiveFault) → LabelCall g old seq text r new
+    → LeadsToMark (Unit {0}) g old r new (λ x. x ≡ labelled (durable_of g.seen old) seq text)
+
+abbrev pub UpgradeLeads : {D : Type 0} → disk.Ghosts D → Type 0
+UpgradeLeads {D} g = (old new : Parts D) (r : Result (Unit {0}) ArchiveFault) → UpgradeCall g old r new
+    → LeadsToMark (Unit {0}) g old r new (λ x. x ≡ upgraded (durable_of g.seen old))
 
 abbrev pub RetireLeads : {D : Type 0} → disk.Ghosts D → Type 0
 RetireLeads {D} g = (old new : Parts D) (policy : Policy) (r : Result Decision ArchiveFault) → RetireCall g old policy r new

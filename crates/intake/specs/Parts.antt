@@ -40,6 +40,7 @@ case_facts c = record {
   pinned = c.pinned;
   len = c.len;
   runs = length (runs_of c.blocks);
+  label = c.label;
 }
 
 abbrev pub stream_facts : StreamParts → StreamFacts
@@ -49,6 +50,7 @@ stream_facts s = record { kind = s.kind; name = s.name; pid = s.pid; signal = s.
 abbrev pub state_of : {D : Type 0} → Parts D → ArchiveState
 state_of a = record {
   shape = a.journal.standing.shape;
+  version = a.journal.standing.version;
   limit = a.limit;
   cases = map case_facts a.journal.standing.cases;
   next = a.journal.standing.next;

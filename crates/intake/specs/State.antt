@@ -15,6 +15,8 @@ pub record CaseFacts : Type 0 where
   pub pinned : Bool
   pub len : ℕ
   pub runs : ℕ
+  -- what was noted about it: 0 to 64 bytes
+  pub label : List ℕ
 
 -- a stream on its way, with the bytes that it has taken so far
 pub record StreamFacts : Type 0 where
@@ -27,6 +29,8 @@ pub record StreamFacts : Type 0 where
 
 pub record ArchiveState : Type 0 where
   pub shape : Shape
+  -- of the layout: 1, or 2, which keeps labels
+  pub version : ℕ
   -- the most bytes that an image may have
   pub limit : ℕ
   -- in the order of their numbers

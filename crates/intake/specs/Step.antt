@@ -12,7 +12,7 @@ use Rattle.retention.specs.declared.Policy.{Policy}
 use Rattle.retention.specs.declared.Decision.{Decision}
 use Rattle.intake.specs.declared.faults.ArchiveFault.{ArchiveFault}
 use Rattle.intake.specs.declared.space.Space.{Space}
-use Rattle.intake.specs.declared.faults.ArchiveFault.TheVariants.{Stopped, BadSlot, SlotBusy, NameTaken, NoStream, TooLong, SpaceFull, NoCase, Pinned, JournalFull, NumbersSpent, OutOfMemory, Disk}
+use Rattle.intake.specs.declared.faults.ArchiveFault.TheVariants.{Stopped, BadSlot, SlotBusy, NameTaken, NoStream, TooLong, SpaceFull, NoCase, Pinned, JournalFull, NumbersSpent, OutOfMemory, Disk, OldVersion}
 use Rattle.intake.specs.Slots.{stream_at, closed}
 use Rattle.intake.specs.State.{ArchiveState, CaseFacts, StreamFacts, blocks_for, blocks_in}
 
@@ -92,27 +92,46 @@ record_size name runs = rounded (48 + 8 * runs + length name)
 abbrev pub MayHaveRuns : ℕ → ℕ → Type 0
 MayHaveRuns len runs = (runs ≤ blocks_for len) × (0 < len → 0 < runs)
 
--- the bytes of a half of the journal that says these cases and a next number, and nothing else: its header, a record for each
--- case, and one of the number
-abbrev pub snapshot_size : List CaseFacts → ℕ
-snapshot_size cases = 48 + sum_by (λ (c : CaseFacts). record_size c.name c.runs) cases
+-- the bytes of the record of a label
+abbrev pub label_size : List ℕ → ℕ
+label_size text = rounded (16 + length text)
 
--- A record of `size` bytes, behind which these cases stand, has room with the gate behind it: behind the records that
--- are there, or in the journal's other half, where these cases are written anew and a generation is left for it.
+-- the same where the journal is written anew: an empty label has no record there
+abbrev pub label_bytes : List ℕ → ℕ
+label_bytes [] = 0
+label_bytes (b ∷ rest) = label_size (b ∷ rest)
+
+-- the bytes of the records that say a case
+abbrev pub case_size : CaseFacts → ℕ
+case_size c = record_size c.name c.runs + label_bytes c.label
+
+-- the bytes of a half of the journal that says these cases and a next number, and nothing else: its header, a record for each
+-- case, one for each label that is not empty, and one of the number
+abbrev pub snapshot_size : List CaseFacts → ℕ
+snapshot_size cases = 48 + sum_by case_size cases
+
+-- these cases have room in the journal's other half, written anew, with a gate behind them, and a generation is left for it
+abbrev pub HasRoomAnew : ArchiveState → List CaseFacts → Type 0
+HasRoomAnew s cases = (snapshot_size cases + 1 ≤ half_length s.shape) × (s.generation + 1 < 2 ^ 64)
+
+-- A record of `size` bytes, behind which these cases stand, has room with the gate behind it: behind the records that are there,
+-- or in the journal's other half, where these cases are written anew and a generation is left for it.
 abbrev pub HasRecordRoom : ArchiveState → ℕ → List CaseFacts → Type 0
 HasRecordRoom s size cases =
-    (s.used + size + 1 ≤ half_length s.shape)
-    ⊎ ((snapshot_size cases + 1 ≤ half_length s.shape) × (s.generation + 1 < 2 ^ 64))
+    (s.used + size + 1 ≤ half_length s.shape) ⊎ HasRoomAnew s cases
 
 -- the journal was written anew as often as it can be
 abbrev pub IsLastGeneration : ArchiveState → Type 0
 IsLastGeneration s = s.generation + 1 ≡ 2 ^ 64
 
+-- these cases have no room there
+abbrev pub LacksRoomAnew : ArchiveState → List CaseFacts → Type 0
+LacksRoomAnew s cases = (half_length s.shape < snapshot_size cases + 1) ⊎ IsLastGeneration s
+
 -- such a record has room in neither half
 abbrev pub IsFull : ArchiveState → ℕ → List CaseFacts → Type 0
 IsFull s size cases =
-    (half_length s.shape < s.used + size + 1)
-    × ((half_length s.shape < snapshot_size cases + 1) ⊎ IsLastGeneration s)
+    (half_length s.shape < s.used + size + 1) × LacksRoomAnew s cases
 
 -- the same state with these cases, by a record of `size` bytes: it stands behind the others where it fits there, and else the
 -- cases stand in the other half, written anew
@@ -134,6 +153,7 @@ case_from s seq runs = record {
   pinned = false;
   len = s.len;
   runs = runs;
+  label = [];
 }
 
 -- the cases with the stream as the last one
@@ -194,7 +214,7 @@ case_at seq (c ∷ rest) = if c.seq == seq then Some c else case_at seq rest
 abbrev pub HasCase : ArchiveState → ℕ → CaseFacts → Type 0
 HasCase old seq c = (old.stopped ≡ false) × (case_at seq old.cases ≡ Some c)
 
--- the bytes of the record that drops n cases
+-- the bytes of the record that drops `count` cases
 abbrev pub drop_size : ℕ → ℕ
 drop_size n = rounded (12 + 4 * n)
 
@@ -259,6 +279,62 @@ PinStep old seq flag (Err JournalFull) new =
 PinStep old seq flag (Err OutOfMemory) new = (c : CaseFacts) × HasCase old seq c × (c.pinned ≢ flag) × HasPinRoom old seq flag × (new ≡ old)
 PinStep old seq flag (Err Disk) new = (c : CaseFacts) × HasCase old seq c × (c.pinned ≢ flag) × HasPinRoom old seq flag × (new ≡ halted old)
 PinStep old seq flag (Err _) new = ⊥
+
+-- the cases with the label of one set
+abbrev pub cases_labelled : ArchiveState → ℕ → List ℕ → List CaseFacts
+cases_labelled old seq text = map (λ (c : CaseFacts). if c.seq == seq then record c { label = text } else c) old.cases
+
+-- the same state with the label of a case set
+abbrev pub with_label : ArchiveState → ℕ → List ℕ → ArchiveState
+with_label old seq text = recorded old (label_size text) (cases_labelled old seq text)
+
+-- the record that sets it has room
+abbrev pub HasLabelRoom : ArchiveState → ℕ → List ℕ → Type 0
+HasLabelRoom old seq text = HasRecordRoom old (label_size text) (cases_labelled old seq text)
+
+-- the case of this number is live, in an archive whose version keeps labels
+abbrev pub MayLabel : ArchiveState → ℕ → CaseFacts → Type 0
+MayLabel old seq c = HasCase old seq c × (old.version ≡ 2)
+
+-- label: the label is set; where it stands already, nothing changes. Version 1 keeps none, not even the empty one.
+abbrev pub LabelStep : ArchiveState → ℕ → List ℕ → Result (Unit {0}) ArchiveFault → ArchiveState → Type 0
+LabelStep old seq text (Ok u) new =
+    (c : CaseFacts) × MayLabel old seq c
+    × (((c.label ≡ text) × (new ≡ old)) ⊎ ((c.label ≢ text) × HasLabelRoom old seq text × (new ≡ with_label old seq text)))
+LabelStep old seq text (Err Stopped) new = (old.stopped ≡ true) × (new ≡ old)
+LabelStep old seq text (Err NoCase) new = (old.stopped ≡ false) × (case_at seq old.cases ≡ None) × (new ≡ old)
+LabelStep old seq text (Err OldVersion) new = (c : CaseFacts) × HasCase old seq c × (old.version ≡ 1) × (new ≡ old)
+LabelStep old seq text (Err JournalFull) new =
+    (c : CaseFacts) × MayLabel old seq c × (c.label ≢ text) × IsFull old (label_size text) (cases_labelled old seq text) × (new ≡ old)
+LabelStep old seq text (Err OutOfMemory) new = (c : CaseFacts) × MayLabel old seq c × (c.label ≢ text) × HasLabelRoom old seq text × (new ≡ old)
+LabelStep old seq text (Err Disk) new =
+    (c : CaseFacts) × MayLabel old seq c × (c.label ≢ text) × HasLabelRoom old seq text × (new ≡ halted old)
+LabelStep old seq text (Err _) new = ⊥
+
+-- the same cases in version 2 of the layout, written anew
+abbrev pub anew_in_two : ArchiveState → ArchiveState
+anew_in_two s = record s { version = 2; used = snapshot_size s.cases; generation = s.generation + 1 }
+
+-- an archive that runs is of version 1
+abbrev pub MayUpgrade : ArchiveState → Type 0
+MayUpgrade old = (old.stopped ≡ false) × (old.version ≡ 1)
+
+-- upgrade: the cases are written anew in version 2 of the layout; where the archive is of that version, nothing changes
+abbrev pub UpgradeStep : ArchiveState → Result (Unit {0}) ArchiveFault → ArchiveState → Type 0
+UpgradeStep old (Ok u) new =
+    (old.stopped ≡ false)
+    × (((old.version ≡ 2) × (new ≡ old)) ⊎ ((old.version ≡ 1) × HasRoomAnew old old.cases × (new ≡ anew_in_two old)))
+UpgradeStep old (Err Stopped) new = (old.stopped ≡ true) × (new ≡ old)
+UpgradeStep old (Err JournalFull) new = MayUpgrade old × LacksRoomAnew old old.cases × (new ≡ old)
+UpgradeStep old (Err OutOfMemory) new = MayUpgrade old × HasRoomAnew old old.cases × (new ≡ old)
+UpgradeStep old (Err Disk) new = MayUpgrade old × HasRoomAnew old old.cases × (new ≡ halted old)
+UpgradeStep old (Err _) new = ⊥
+
+-- version: that of the layout, 1 or 2
+abbrev pub VersionReply : ArchiveState → Result ℕ ArchiveFault → Type 0
+VersionReply old (Ok version) = (old.stopped ≡ false) × (version ≡ old.version) × ((version ≡ 1) ⊎ (version ≡ 2))
+VersionReply old (Err Stopped) = old.stopped ≡ true
+VersionReply old (Err _) = ⊥
 
 -- what the rule looks at of a case
 abbrev pub brief_of : CaseFacts → Brief

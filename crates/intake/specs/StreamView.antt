@@ -1,5 +1,5 @@
 -- What contracts see of a stream.
-use Rattle.std.specs.Prelude.{ℕ, false, List, Option, option_map}
+use Rattle.std.specs.Prelude.{ℕ, false, List, [], Option, option_map}
 use Rattle.journal_layout.specs.Case.{Case}
 use Rattle.intake.specs.declared.stream.Stream.{Stream}
 use Rattle.intake.specs.declared.slots.Slot.{Slot}
@@ -22,7 +22,7 @@ parts_of block s = record {
 abbrev pub parts_in : Slot → Option StreamParts
 parts_in slot = option_map (parts_of slot.block) slot.stream
 
--- the case that a stream becomes, not numbered yet
+-- the case that a stream becomes, not numbered yet, and with no label
 abbrev pub case_from_parts : StreamParts → Case
 case_from_parts s = record {
   seq = 0;
@@ -34,6 +34,7 @@ case_from_parts s = record {
   pinned = false;
   len = s.len;
   blocks = s.blocks;
+  label = [];
 }
 
 -- a stream that was taken out of its slot, with its block

@@ -1,5 +1,5 @@
 -- Which answers leave the disk itself as it was.
-use Rattle.std.specs.Prelude.{◌≡◌, ◌≢◌, ℕ, ◌+◌, ◌%◌, Bool, [], Some, Result, Ok, Err}
+use Rattle.std.specs.Prelude.{◌≡◌, ◌≢◌, ℕ, ◌+◌, ◌%◌, Bool, List, [], Some, Result, Ok, Err}
 use Rattle.intake.specs.Slots.{stream_at}
 use Rattle.intake.specs.State.{ArchiveState, CaseFacts, StreamFacts}
 use Rattle.intake.specs.Step.{HasCase}
@@ -30,6 +30,16 @@ FinishSpares _ old new = Unit {0}
 abbrev pub PinSpares : {D : Type 0} → ArchiveState → ℕ → Bool → Result (Unit {0}) ArchiveFault → D → D → Type 0
 PinSpares s seq flag (Ok u) old new = (c : CaseFacts) → HasCase s seq c → c.pinned ≡ flag → new ≡ old
 PinSpares s seq flag (Err f) old new = RefusalSpares {T = Unit {0}} (Err f) old new
+
+-- label: where the label stands already, too
+abbrev pub LabelSpares : {D : Type 0} → ArchiveState → ℕ → List ℕ → Result (Unit {0}) ArchiveFault → D → D → Type 0
+LabelSpares s seq text (Ok u) old new = (c : CaseFacts) → HasCase s seq c → c.label ≡ text → new ≡ old
+LabelSpares s seq text (Err f) old new = RefusalSpares {T = Unit {0}} (Err f) old new
+
+-- upgrade: where the archive is of version 2, too
+abbrev pub UpgradeSpares : {D : Type 0} → ArchiveState → Result (Unit {0}) ArchiveFault → D → D → Type 0
+UpgradeSpares s (Ok u) old new = s.version ≡ 2 → new ≡ old
+UpgradeSpares s (Err f) old new = RefusalSpares {T = Unit {0}} (Err f) old new
 
 -- retire: where no case goes, too
 abbrev pub RetireSpares : {D : Type 0} → Result Decision ArchiveFault → D → D → Type 0

@@ -1,7 +1,8 @@
 // The archive: its cases, and the streams on their way into it.
 ghost use Rattle.std.specs.Prelude.{◌≡◌, ◌<◌, ◌≤◌, [], ◌∷◌, ℕ, List, length, OnOk, IfOk, Err, map, IsTrue, false};
+ghost use Rattle.std.specs.Str.{bytes_eq};
 ghost use Rattle.disk_model.specs.Moments.{LeavesOnly, AddsOnly};
-ghost use Rattle.intake.specs.Durable.{Durable, StandsFor, FindsAgain, durable_of, durable_part, without, flagged};
+ghost use Rattle.intake.specs.Durable.{Durable, StandsFor, FindsAgain, durable_of, durable_part, without, flagged, labelled, upgraded};
 ghost use Rattle.intake.specs.Guarding.{Leaves, MayBeStored, MayBeRetired};
 ghost use Rattle.journal_layout.specs.Standing.{Standing};
 ghost use Rattle.journal_layout.specs.Stands.{Stands};
@@ -80,10 +81,10 @@ impl<D: Disk> Model for Archive<D> {
 impl<D: Disk> Archive<D> {
     ghost use Rattle.intake.specs.Parts.{Parts, StreamParts, state_of, contents_of};
     ghost use Rattle.intake.specs.State.{ArchiveState, StreamFacts};
-    ghost use Rattle.intake.specs.Step.{RoomReply, FreeReply, DropStep, IsLastGeneration};
+    ghost use Rattle.intake.specs.Step.{RoomReply, FreeReply, VersionReply, DropStep, IsLastGeneration};
     ghost use Rattle.intake.specs.Contents.{DropBytes};
     ghost use Rattle.intake.specs.Opened.{CaseReply, CasesReply};
-    ghost use Rattle.intake.specs.Calls.{OpenCall, BeginCall, AdvanceCall, FinishCall, AbandonCall, PinCall, DeleteCall, RetireCall, ImageCall, CloseCall, Changes};
+    ghost use Rattle.intake.specs.Calls.{OpenCall, BeginCall, AdvanceCall, FinishCall, AbandonCall, PinCall, LabelCall, UpgradeCall, DeleteCall, RetireCall, ImageCall, CloseCall, Changes};
     ghost use Rattle.intake.specs.Room.{LendsRoom, room_of, FitsFree};
     ghost use Rattle.intake.specs.Slots.{stream_at};
     ghost use Rattle.std.specs.Borrow.{sem};
@@ -325,6 +326,60 @@ impl<D: Disk> Archive<D> {
         Err(fault)
     }
 
+    /// Gives a case a label; where that stands already, nothing is written. Answers, in this order: `Stopped`; `NoCase`;
+    /// `OldVersion` where the archive is of version 1 of the layout, which keeps no labels; `JournalFull`; `OutOfMemory`;
+    /// `Disk`. All but the last change nothing.
+    pub fn label(&mut self, seq: u32, text: &[u8]) -> Result<(), ArchiveFault>
+        requires short { length text.now ≤ 64 }
+        ensures { LabelCall D.Disk self.old seq text.now result self.new }
+    {
+        if self.stopped {
+            return Err(ArchiveFault::Stopped);
+        }
+        let Some(entry) = self.journal.entry(seq) else {
+            return Err(ArchiveFault::NoCase);
+        };
+        if self.journal.version() == 1 {
+            return Err(ArchiveFault::OldVersion);
+        }
+        if has_label(entry, text) {
+            return Ok(());
+        }
+        let Err(fault) = self.journal.append_label(&mut self.disk, seq, text) else {
+            return Ok(());
+        };
+        let fault = ArchiveFault::from(fault);
+        self.stopped = end_streams(fault, &mut self.slots);
+        Err(fault)
+    }
+
+    /// The version of the archive's layout: 1, or 2, which keeps labels. Answers `Stopped` alone.
+    pub fn version(&self) -> Result<u32, ArchiveFault>
+        ensures { VersionReply (state_of self.now) result }
+    {
+        if self.stopped {
+            return Err(ArchiveFault::Stopped);
+        }
+        Ok(self.journal.version())
+    }
+
+    /// Writes the cases anew in version 2 of the layout, which keeps labels; no case has one yet. On an archive of version 2
+    /// nothing is written. Answers, in this order: `Stopped`; `JournalFull` where the cases, written anew, have no room, or
+    /// no generation is left for them; `OutOfMemory`; `Disk`. All but the last change nothing.
+    pub fn upgrade(&mut self) -> Result<(), ArchiveFault>
+        ensures { UpgradeCall D.Disk self.old result self.new }
+    {
+        if self.stopped {
+            return Err(ArchiveFault::Stopped);
+        }
+        let Err(fault) = self.journal.upgrade(&mut self.disk) else {
+            return Ok(());
+        };
+        let fault = ArchiveFault::from(fault);
+        self.stopped = end_streams(fault, &mut self.slots);
+        Err(fault)
+    }
+
     // Drops the cases of these numbers and names, which may be dropped. Answers, in this order: `JournalFull`; `OutOfMemory`; `Disk`.
     fn drop_cases(&mut self, seqs: &[u32], names: &[Name]) -> Result<(), ArchiveFault>
         requires names { map items_of names.now ≡ names_gone seqs.now self.old.journal.standing.cases }
@@ -426,6 +481,13 @@ impl<D: Disk> Archive<D> {
         let Archive { disk, .. } = self;
         disk
     }
+}
+
+// Whether the case has this label.
+fn has_label(entry: &Entry, text: &[u8]) -> bool
+    ensures { result ≡ bytes_eq entry.now.label.items text.now }
+{
+    entry.label.as_slice() == text
 }
 
 // After a refusal: a disk fault closes all streams and stops the archive.

@@ -50,6 +50,9 @@ pub enum ArchiveFault {
     /// The disk failed. The archive is stopped, and no stream is open.
     #[error("the disk failed")]
     Disk,
+    /// The archive is of version 1 of the layout, which keeps no labels.
+    #[error("the archive's version keeps no labels")]
+    OldVersion,
 }
 
 impl From<JournalFault> for ArchiveFault {
@@ -64,6 +67,7 @@ impl From<JournalFault> for ArchiveFault {
             JournalFault::NumbersSpent => ArchiveFault::NumbersSpent,
             JournalFault::OutOfMemory => ArchiveFault::OutOfMemory,
             JournalFault::Disk => ArchiveFault::Disk,
+            JournalFault::OldVersion => ArchiveFault::OldVersion,
         }
     }
 }

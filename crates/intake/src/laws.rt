@@ -1,11 +1,11 @@
 // What the definitions that the contracts cite say together. These functions do nothing.
 ghost use Rattle.std.specs.Prelude.{◌≡◌};
 ghost use Rattle.intake.specs.Durable.{durable_of, durable_part};
-ghost use Rattle.intake.specs.Lasting.{WhatStandsIsOne, NumbersAreAbove, ImagesAreWhole, RunsAreTheFewest};
-ghost use Rattle.intake.specs.Lasts.{FinishLasts, DeleteLasts, PinLasts, RetireLasts, RefusalsLast};
+ghost use Rattle.intake.specs.Lasting.{WhatStandsIsOne, NumbersAreAbove, ImagesAreWhole, LabelsAreOfVersionTwo, RunsAreTheFewest};
+ghost use Rattle.intake.specs.Lasts.{FinishLasts, DeleteLasts, PinLasts, LabelLasts, UpgradeLasts, RetireLasts, RefusalsLast, AnUpgradeLeavesTheCases};
 ghost use Rattle.intake.specs.Lives.{KeptOverAStop, KeptOverManyStops, ACaseIsFound, NumbersStayGiven, NumbersAreGivenOnce, WhatIsClosedIsFound};
 ghost use Rattle.intake.specs.Making.{CallsAreMarks, AnImageIsWhatWasTaken, AnImageIsAnsweredAsItWasTaken};
-ghost use Rattle.intake.specs.Marks.{FoundAfterAStop, NothingElseIsLeft, StaysLead, FinishLeads, DeleteLeads, PinLeads, RetireLeads};
+ghost use Rattle.intake.specs.Marks.{FoundAfterAStop, NothingElseIsLeft, StaysLead, FinishLeads, DeleteLeads, PinLeads, LabelLeads, UpgradeLeads, RetireLeads};
 ghost use Rattle.intake.specs.Parts.{Parts, state_of, contents_of};
 
 use disk_model::Disk;
@@ -30,26 +30,40 @@ pub fn images_are_whole()
     live_cases_are_sound();
 }
 
+/// What bytes stand for is of version 1 or 2 of the layout, and in version 1 no case has a label.
+pub fn labels_are_of_version_two()
+    ensures { LabelsAreOfVersionTwo }
+{}
+
 /// A case's blocks lie in as few runs as they can: the runs that are kept have these blocks, and no list of runs that has them
 /// is shorter.
 pub fn runs_are_the_fewest()
     ensures { RunsAreTheFewest }
 {}
 
-/// What outlives a stop is told by the state and its bytes: the cases, each with its image, and the next number.
+/// What outlives a stop is told by the state and its bytes: the cases, each with its image, the next number and the version.
 pub fn a_state_tells_what_lasts<D: Disk>()
     ensures { (a : Parts D) → durable_of D.seen a ≡ durable_part (state_of a) (contents_of D.seen a) }
 {}
 
 /// What each call does to what the archive holds, on an honest disk: a finish adds the stream's case with the bytes that it took,
-/// a deletion and a retirement take cases away, a pin sets one flag, and each leaves all other cases as they are; a refusal
-/// changes nothing of it (where the disk failed, a stop may yet leave what the call would have left).
+/// a deletion and a retirement take cases away, a pin sets one flag and a label one label, and each leaves all other cases as they
+/// are; an upgrade changes the version alone; a refusal changes nothing of it (where the disk failed, a stop may yet leave what the
+/// call would have left).
 pub fn what_calls_leave<D: Disk>()
     ensures finish { FinishLasts D.Disk }
     ensures delete { DeleteLasts D.Disk }
     ensures pin { PinLasts D.Disk }
+    ensures label { LabelLasts D.Disk }
+    ensures upgrade { UpgradeLasts D.Disk }
     ensures retire { RetireLasts D.Disk }
     ensures refusals { RefusalsLast D.Disk }
+{}
+
+/// An upgrade of version 1 is safe at any moment: a crash meanwhile leaves what one before could have left, or the same cases and
+/// next number in version 1 or 2, each label empty.
+pub fn an_upgrade_leaves_the_cases<D: Disk>()
+    ensures { AnUpgradeLeavesTheCases D.Disk }
 {}
 
 /// Crash safety over a run of calls, told by marks, one behind each call that was answered: whatever crash there was since a
@@ -71,6 +85,8 @@ pub fn calls_lead_from_mark_to_mark<D: Disk>()
     ensures finish { FinishLeads D.Disk }
     ensures delete { DeleteLeads D.Disk }
     ensures pin { PinLeads D.Disk }
+    ensures label { LabelLeads D.Disk }
+    ensures upgrade { UpgradeLeads D.Disk }
     ensures retire { RetireLeads D.Disk }
 {}
 

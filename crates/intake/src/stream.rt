@@ -4,7 +4,7 @@ ghost use Rattle.journal_layout.specs.Case.{case_of};
 ghost use Rattle.intake.specs.StreamView.{case_from_parts, parts_of};
 
 use extents::RunList;
-use journal_layout::{Entry, Kind, Name};
+use journal_layout::{Entry, Kind, Label, Name};
 
 /// The facts of an image that is streamed, and what it has taken so far.
 #[derive(Drop)]
@@ -23,7 +23,7 @@ pub(crate) struct Stream {
 impl Stream {
     ghost use Rattle.std.specs.Prelude.{[]};
 
-    /// The case that the stream becomes. Its number is given later.
+    /// The case that the stream becomes, with no label. Its number is given later.
     pub(crate) fn into_entry(self) -> Entry
         ensures { case_of result ≡ case_from_parts (parts_of [] self) }
     {
@@ -46,6 +46,7 @@ impl Stream {
             pinned: false,
             length,
             runs,
+            label: Label::new(),
         }
     }
 }

@@ -1,9 +1,9 @@
 -- Laws of one record more: it stands behind the others, or what is said then stands in the other half.
-use Rattle.std.proofs.Common.{◌≡◌, ◌+◌, ◌<◌, ◌≤◌, ◌∙◌, Bool, true, false, refl, arith, cond, sym, subst}
+use Rattle.std.proofs.Common.{◌≡◌, ◌+◌, ◌<◌, ◌≤◌, Bool, true, false, refl, arith, cond, sym, subst}
 use Rattle.std.proofs.lemmas.Bool.{lt-ltb, le-ltb}
 use Rattle.journal_layout.specs.Layout.{half_length}
 use Rattle.journal_layout.specs.Record.{Record, record_size}
-use Rattle.journal_layout.specs.Folding.{Folded, after}
+use Rattle.journal_layout.specs.Folding.{after}
 use Rattle.journal_layout.specs.Standing.{Standing, folded_of, lengthened}
 use Rattle.journal_layout.specs.Rewriting.{other_half, snapshot_size, rewritten, fits, appended}
 

@@ -1,5 +1,5 @@
 -- A case as the journal keeps it: the facts of an image and the blocks that hold it.
-use Rattle.std.specs.Prelude.{ℕ, Bool, List}
+use Rattle.std.specs.Prelude.{ℕ, Bool, List, []}
 use Rattle.journal_layout.specs.declared.entry.Kind.{Kind}
 use Rattle.journal_layout.specs.declared.entry.Entry.{Entry}
 
@@ -15,6 +15,8 @@ pub record Case : Type 0 where
   pub len : ℕ
   -- the blocks that hold them, in order
   pub blocks : List ℕ
+  -- what was noted about it
+  pub label : List ℕ
 
 -- what an entry says
 abbrev pub case_of : Entry → Case
@@ -28,8 +30,13 @@ case_of e = record {
   pinned = e.pinned;
   len = e.length;
   blocks = e.runs;
+  label = e.label.items;
 }
 
 -- the same case under another number
 abbrev pub numbered : ℕ → Case → Case
 numbered seq c = record c { seq = seq }
+
+-- the case as it was stored, when it had no label yet
+abbrev pub unlabelled : Case → Case
+unlabelled c = record c { label = [] }

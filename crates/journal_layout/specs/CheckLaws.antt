@@ -7,6 +7,7 @@ use Rattle.journal_layout.specs.declared.faults.Field.{Field}
 use Rattle.journal_layout.specs.declared.faults.Field.TheVariants as named
 use Rattle.journal_layout.specs.Layout.{field}
 use Rattle.journal_layout.specs.Reading.{kind_at, length_at}
+use Rattle.journal_layout.specs.Soundness.{last_kind}
 use Rattle.journal_layout.specs.Checks.{Check, damaged, first_failing, first_set, padding_fault, head_checks}
 
 -- one answer or the other
@@ -64,22 +65,22 @@ zeros_passed place (x ∷ xs) e =
     let parts : (x == 0 ≡ true) × (first_set (place + 1) xs ≡ None) = both (x == 0) e in
     ap (λ (z : ℕ). z ∷ xs) (eqb-true x 0 parts.0) ∙ ap (λ (zs : List ℕ). 0 ∷ zs) (zeros_passed (place + 1) xs parts.1)
 
--- what the checks that each record begins with tell
-pub record HasHead (rest : List ℕ) : Type 0 where
+-- what the checks that each record of a half of this version begins with tell
+pub record HasHead (version : ℕ) (rest : List ℕ) : Type 0 where
   pub enough : 17 ≤ length rest
   pub some_kind : 1 ≤ kind_at rest
-  pub known_kind : kind_at rest ≤ 4
+  pub known_kind : kind_at rest ≤ last_kind version
   pub reserved : field rest 2 2 ≡ 0
   pub long : 16 ≤ length_at rest
   pub whole : length_at rest % 16 ≡ 0
   pub room : length_at rest + 1 ≤ length rest
 
-pub head_passes : (at : ℕ) (rest : List ℕ) → HasHead rest → first_failing at (head_checks rest) ≡ None
-head_passes at rest h =
-    passes at (head_checks rest) (
+pub head_passes : (at version : ℕ) (rest : List ℕ) → HasHead version rest → first_failing at (head_checks version rest) ≡ None
+head_passes at version rest h =
+    passes at (head_checks version rest) (
       le-ltb (length rest) 17 h.enough,
       (
-        not_from_true _ (and_from _ _ (le-leb 1 (kind_at rest) h.some_kind) (le-leb (kind_at rest) 4 h.known_kind)),
+        not_from_true _ (and_from _ _ (le-leb 1 (kind_at rest) h.some_kind) (le-leb (kind_at rest) (last_kind version) h.known_kind)),
         (
           not_from_true _ (eq-eqb (field rest 2 2) 0 h.reserved),
           (
@@ -91,16 +92,16 @@ head_passes at rest h =
       ),
     )
 
-pub head_passed : (at : ℕ) (rest : List ℕ) → first_failing at (head_checks rest) ≡ None → HasHead rest
-head_passed at rest e =
-    let h = passed at (head_checks rest) e in
+pub head_passed : (at version : ℕ) (rest : List ℕ) → first_failing at (head_checks version rest) ≡ None → HasHead version rest
+head_passed at version rest e =
+    let h = passed at (head_checks version rest) e in
     let kinds = and_parts _ _ (not-false _ h.1.0) in
     let room = or_parts _ _ h.1.1.1.0 in
     let lengths = or_parts _ _ room.0 in
     record {
       enough = ltb-false (length rest) 17 h.0;
       some_kind = leb-true 1 (kind_at rest) kinds.0;
-      known_kind = leb-true (kind_at rest) 4 kinds.1;
+      known_kind = leb-true (kind_at rest) (last_kind version) kinds.1;
       reserved = eqb-true (field rest 2 2) 0 (not-false _ h.1.1.0);
       long = ltb-false (length_at rest) 16 lengths.0;
       whole = eqb-true (length_at rest % 16) 0 (not-false _ lengths.1);

@@ -14,9 +14,9 @@ use Rattle.journal_layout.specs.declared.faults.OpenFault.TheVariants.{Damaged}
 use Rattle.journal_layout.specs.Layout.{field}
 use Rattle.journal_layout.specs.Case.{Case}
 use Rattle.journal_layout.specs.Record.{rounded}
-use Rattle.journal_layout.specs.Reading.{kind_at, length_at, name_length_at, run_count_at, store_runs, name_place, name_at, seq_count_at, drop_seqs}
+use Rattle.journal_layout.specs.Reading.{kind_at, length_at, by_kind, name_length_at, run_count_at, store_runs, name_place, name_at, seq_count_at, drop_seqs, label_length_at}
 use Rattle.journal_layout.specs.Folding.{Folded, is_among, used_blocks, is_name_of}
-use Rattle.journal_layout.specs.Soundness.{blocks_for, case_numbered}
+use Rattle.journal_layout.specs.Soundness.{blocks_for, case_numbered, last_kind}
 
 -- whether it fails, at which place of the record, and the field
 abbrev pub Check : Type 0
@@ -43,11 +43,11 @@ padding_fault at rest from = option_map (damaged at named.Padding) (first_set fr
 abbrev pub is_bad_length : List ℕ → Bool
 is_bad_length rest = nat_lt (length_at rest) 16 || not (length_at rest % 16 == 0) || nat_lt (length rest) (length_at rest + 1)
 
--- what every record begins with: 17 bytes are left, at least
-abbrev pub head_checks : List ℕ → List Check
-head_checks rest =
+-- What every record begins with, in a half of this version. 17 bytes are left, at least.
+abbrev pub head_checks : ℕ → List ℕ → List Check
+head_checks version rest =
     (nat_lt (length rest) 17, 4, named.Length)
-    ∷ (not (nat_le 1 (kind_at rest) && nat_le (kind_at rest) 4), 1, named.Kind)
+    ∷ (not (nat_le 1 (kind_at rest) && nat_le (kind_at rest) (last_kind version)), 1, named.Kind)
     ∷ (not (field rest 2 2 == 0), 2, named.Reserved)
     ∷ (is_bad_length rest, 4, named.Length)
     ∷ []
@@ -145,13 +145,29 @@ next_checks rest f =
     ∷ (nat_lt (field rest 8 8) f.next || nat_lt (2 ^ 32) (field rest 8 8), 8, named.Next)
     ∷ []
 
+-- Label: a live case, at most 64 bytes, two zeros, and the length that they need
+abbrev pub label_checks : List ℕ → Folded → List Check
+label_checks rest f =
+    (is_none (case_numbered (field rest 8 4) f.cases), 8, named.Seq)
+    ∷ (nat_lt 64 (label_length_at rest), 12, named.LabelLength)
+    ∷ (not (field rest 14 2 == 0), 14, named.Reserved)
+    ∷ (not (rounded (16 + label_length_at rest) == length_at rest), 4, named.Length)
+    ∷ []
+
+abbrev pub label_fault : ℕ → List ℕ → Folded → Option OpenFault
+label_fault at rest f = option_or (first_failing at (label_checks rest f)) (padding_fault at rest (16 + label_length_at rest))
+
+-- by the record's kind; a byte that stands for none is at fault itself
 abbrev pub body_fault : ℕ → ℕ → List ℕ → Folded → Option OpenFault
 body_fault limit at rest f =
-    if kind_at rest == 1 then store_fault limit at rest f
-    else if kind_at rest == 2 then drop_fault at rest f
-    else if kind_at rest == 3 then pin_fault at rest f
-    else first_failing at (next_checks rest f)
+    by_kind (kind_at rest)
+    (store_fault limit at rest f)
+    (drop_fault at rest f)
+    (pin_fault at rest f)
+    (first_failing at (next_checks rest f))
+    (label_fault at rest f)
+    (Some (damaged at named.Kind 1))
 
 -- the first fault of a record, if it has any
 unfoldable pub record_fault : ℕ → ℕ → List ℕ → Folded → Option OpenFault
-record_fault limit at rest f = option_or (first_failing at (head_checks rest)) (body_fault limit at rest f)
+record_fault limit at rest f = option_or (first_failing at (head_checks f.version rest)) (body_fault limit at rest f)

@@ -1,5 +1,5 @@
 -- Laws of the record Drop.
-use Rattle.std.proofs.Common.{◌≡◌, ℕ, zero, suc, ◌+◌, ◌-◌, ◌*◌, ◌^◌, ◌<◌, ◌≤◌, Bool, true, false, nat_le, ◌==◌, ◌||◌, List, [], ◌∷◌, ◌++◌, length, replicate, take, drop, slice_index, refl, sym, ap, ◌∙◌, arith, None, Some, Option, cond, append_assoc}
+use Rattle.std.proofs.Common.{◌≡◌, ℕ, zero, suc, ◌+◌, ◌-◌, ◌*◌, ◌^◌, ◌<◌, ◌≤◌, Bool, true, false, nat_le, ◌||◌, List, [], ◌∷◌, ◌++◌, length, replicate, take, drop, slice_index, refl, sym, ap, ◌∙◌, arith, None, Some, Option, cond, append_assoc}
 use Rattle.std.proofs.Math.Seq.{take-add}
 use Rattle.std.proofs.lemmas.List.{drop-drop, length-drop}
 use Rattle.std.proofs.lemmas.Bool.{or_parts, or_from, not-false, not_from_true, lt-leb, leb-false, eq-eqb, eqb-true, ne_eqb, eqb-false}
@@ -10,26 +10,17 @@ use Rattle.disk_model.specs.PlaceLaws.{drop_bytes}
 use Rattle.journal_layout.specs.declared.faults.Field.TheVariants as named
 use Rattle.journal_layout.specs.Layout.{number_bytes, field}
 use Rattle.journal_layout.specs.Case.{Case}
-use Rattle.journal_layout.specs.Record.{Store, Drop, Pin, Next, rounded, seq_bytes, plain_size, record_size, body, plain, behind_gate, spelling}
-use Rattle.journal_layout.specs.Reading.{kind_at, length_at, seq_count_at, seqs_at, case_at, drop_seqs, record_at}
+use Rattle.journal_layout.specs.Record.{Drop, rounded, seq_bytes, plain_size, record_size, body, plain, behind_gate, spelling}
+use Rattle.journal_layout.specs.Reading.{kind_at, length_at, seq_count_at, seqs_at, drop_seqs, record_at}
 use Rattle.journal_layout.specs.Folding.{Folded}
 use Rattle.journal_layout.specs.Soundness.{IsSound, IsDroppable, Rise, case_numbered}
-use Rattle.journal_layout.specs.Checks.{damaged, first_failing, count_checks, is_kept, first_bad_seq, next_checks, store_fault, drop_fault, pin_fault, padding_fault, body_fault, record_fault}
+use Rattle.journal_layout.specs.Checks.{damaged, first_failing, count_checks, is_kept, first_bad_seq, padding_fault, body_fault, record_fault}
 use Rattle.journal_layout.specs.Stands.{StandsFirst}
 use Rattle.journal_layout.specs.ByteLaws.{number_read, field_spelled, field_small}
 use Rattle.journal_layout.specs.CheckLaws.{HasHead, passes, passed, or_none, none_or, map_none, none_map}
+use Rattle.journal_layout.specs.KindLaws.{body_of, record_of, kind_high}
 use Rattle.journal_layout.specs.SpellLaws.{tells_kind, tells_length, tells_head, tells_zeros, rounded_up}
 use Rattle.journal_layout.specs.FoundLaws.{record_passes, put_together, zeros_found}
-
--- what a record of this kind is checked for, and what it is
-pub drop_body : (limit at : ℕ) (rest : List ℕ) (f : Folded) → kind_at rest ≡ 2 → body_fault limit at rest f ≡ drop_fault at rest f
-drop_body limit at rest f kind =
-    ap (λ (k : ℕ). cond (k == 1) (store_fault limit at rest f) (cond (k == 2) (drop_fault at rest f) (cond (k == 3) (pin_fault at rest f) (first_failing at (next_checks rest f))))) kind
-
-pub drop_is : (rest : List ℕ) → kind_at rest ≡ 2 → record_at rest ≡ Drop (drop_seqs rest)
-unfolding record_at
-drop_is rest kind =
-    ap (λ (k : ℕ). cond (k == 1) (Store (case_at rest)) (cond (k == 2) (Drop (drop_seqs rest)) (cond (k == 3) (Pin (field rest 8 4) (slice_index rest 12 == 1)) (Next (field rest 8 8))))) kind
 
 -- numbers that are written are read again, and the other way round
 seqs_read : (seqs tail : List ℕ) → AllByRecursion (λ (seq : ℕ). seq < 2 ^ 32) seqs → seqs_at (flat_map seq_bytes seqs ++ tail) (length seqs) ≡ seqs
@@ -135,23 +126,23 @@ drop_again limit at seqs tail f small room sound =
     let some : 0 < seq_count_at b = rw count sound.0 in
     let good : first_bad_seq f.cases 0 12 (drop_seqs b) ≡ None = ap (first_bad_seq f.cases 0 12) same ∙ seqs_pass f.cases 0 12 seqs sound.1 sound.3 in
     let padded : padding_fault at b (12 + 4 * seq_count_at b) ≡ None = ap (λ (n : ℕ). padding_fault at b (12 + 4 * n)) count ∙ tells_zeros (Drop seqs) tail at small in (
-      record_passes limit at b f (tells_head (Drop seqs) tail small room)
-          (drop_body limit at b f (tells_kind (Drop seqs) tail)
+      record_passes limit at b f (tells_head (Drop seqs) tail f.version (kind_high limit f (Drop seqs) sound) small room)
+          (body_of limit at b f (Drop seqs) (tells_kind (Drop seqs) tail)
           ∙ none_or (first_failing at (count_checks b)) _ (count_passes at b some long)
           (none_or (option_map (damaged at named.Seq) (first_bad_seq f.cases 0 12 (drop_seqs b))) (padding_fault at b (12 + 4 * seq_count_at b))
           (none_map (damaged at named.Seq) (first_bad_seq f.cases 0 12 (drop_seqs b)) good) padded)),
-      drop_is b (tells_kind (Drop seqs) tail) ∙ ap (λ (l : List ℕ). Drop l) same,
+      record_of b (Drop seqs) (tells_kind (Drop seqs) tail) ∙ ap (λ (l : List ℕ). Drop l) same,
     )
 
 -- what is read is in the grammar
-pub drop_found : (limit at : ℕ) (rest : List ℕ) (f : Folded) → AreBytes rest → slice_index rest 0 ≡ 165 → HasHead rest → kind_at rest ≡ 2
+pub drop_found : (limit at : ℕ) (rest : List ℕ) (f : Folded) → AreBytes rest → slice_index rest 0 ≡ 165 → HasHead f.version rest → kind_at rest ≡ 2
     → body_fault limit at rest f ≡ None → StandsFirst limit rest f (Drop (drop_seqs rest)) × (record_size (Drop (drop_seqs rest)) ≡ length_at rest)
 unfolding body part
 drop_found limit at rest f are open_gate head kind e =
     let b = rest in
     let bad = option_map (damaged at named.Seq) (first_bad_seq f.cases 0 12 (drop_seqs rest)) in
     let pad = padding_fault at rest (12 + 4 * seq_count_at rest) in
-    let both = or_none (first_failing at (count_checks rest)) (option_or bad pad) (sym (drop_body limit at rest f kind) ∙ e) in
+    let both = or_none (first_failing at (count_checks rest)) (option_or bad pad) (sym (body_of limit at rest f (Drop (drop_seqs rest)) kind) ∙ e) in
     let behind = or_none bad pad both.1 in
     let counted = count_passed at rest both.0 in
     let good = seqs_passed f.cases 0 12 (drop_seqs rest) (map_none (damaged at named.Seq) (first_bad_seq f.cases 0 12 (drop_seqs rest)) behind.0) in
@@ -163,7 +154,7 @@ drop_found limit at rest f are open_gate head kind e =
     let exact = counted.1 in (
       record {
         spelled =
-            put_together rest (Drop (drop_seqs rest)) (4 + 4 * n) are open_gate head kind long (omega arith)
+            put_together f.version rest (Drop (drop_seqs rest)) (4 + 4 * n) are open_gate head kind long (omega arith)
             (take-add 4 (4 * n) (drop 8 rest)
             ∙ ap (λ (l : List ℕ). l ++ take (4 * n) (drop 4 (drop 8 rest))) (sym (field_spelled 4 8 rest are (omega arith)) ∙ ap (number_bytes 4) (sym count))
             ∙ ap (λ (l : List ℕ). number_bytes 4 (length (drop_seqs rest)) ++ take (4 * n) l) (drop-drop 4 8 rest)

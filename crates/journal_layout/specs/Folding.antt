@@ -3,7 +3,7 @@ use Rattle.std.specs.Prelude.{ℕ, ◌+◌, Bool, not, List, [], ◌∷◌, ◌+
 use Rattle.std.specs.List.{filter, list_any, flat_map}
 use Rattle.std.specs.Str.{bytes_eq}
 use Rattle.journal_layout.specs.Case.{Case}
-use Rattle.journal_layout.specs.Record.{Record, Store, Drop, Pin, Next, record_size}
+use Rattle.journal_layout.specs.Record.{Record, Store, Drop, Pin, Next, Label, record_size}
 
 pub record Folded : Type 0 where
   -- of the layout that they are in
@@ -32,18 +32,27 @@ pinned_as seq flag c = if c.seq == seq then record c { pinned = flag } else c
 abbrev pub with_pin : ℕ → Bool → List Case → List Case
 with_pin seq flag cases = map (pinned_as seq flag) cases
 
+-- the case, with this label where it has this number
+abbrev pub labelled_as : ℕ → List ℕ → Case → Case
+labelled_as seq text c = if c.seq == seq then record c { label = text } else c
+
+abbrev pub with_label : ℕ → List ℕ → List Case → List Case
+with_label seq text cases = map (labelled_as seq text) cases
+
 -- the cases, and the next number, once a record more is read
 abbrev pub cases_after : Record → Folded → List Case
 cases_after (Store c) f = f.cases ++ c ∷ []
 cases_after (Drop seqs) f = dropped seqs f.cases
 cases_after (Pin seq flag) f = with_pin seq flag f.cases
 cases_after (Next n) f = f.cases
+cases_after (Label seq text) f = with_label seq text f.cases
 
 abbrev pub next_after : Record → Folded → ℕ
 next_after (Store c) f = c.seq + 1
 next_after (Drop seqs) f = f.next
 next_after (Pin seq flag) f = f.next
 next_after (Next n) f = n
+next_after (Label seq text) f = f.next
 
 -- what a record makes of what the records before it say
 abbrev pub after : Record → Folded → Folded

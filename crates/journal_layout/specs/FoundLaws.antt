@@ -14,15 +14,16 @@ use Rattle.journal_layout.specs.CheckLaws.{HasHead, or_none, none_or, head_passe
 use Rattle.journal_layout.specs.SpellLaws.{rounded_up}
 
 -- a record passes its checks where its head and its body do
-pub record_passes : (limit at : ℕ) (rest : List ℕ) (f : Folded) → HasHead rest → body_fault limit at rest f ≡ None → record_fault limit at rest f ≡ None
+pub record_passes : (limit at : ℕ) (rest : List ℕ) (f : Folded) → HasHead f.version rest → body_fault limit at rest f ≡ None → record_fault limit at rest f ≡ None
 unfolding record_fault
-record_passes limit at rest f head e = none_or (first_failing at (head_checks rest)) (body_fault limit at rest f) (head_passes at rest head) e
+record_passes limit at rest f head e =
+    none_or (first_failing at (head_checks f.version rest)) (body_fault limit at rest f) (head_passes at f.version rest head) e
 
-pub record_passed : (limit at : ℕ) (rest : List ℕ) (f : Folded) → record_fault limit at rest f ≡ None → HasHead rest × (body_fault limit at rest f ≡ None)
+pub record_passed : (limit at : ℕ) (rest : List ℕ) (f : Folded) → record_fault limit at rest f ≡ None → HasHead f.version rest × (body_fault limit at rest f ≡ None)
 unfolding record_fault
 record_passed limit at rest f e =
-    let h = or_none (first_failing at (head_checks rest)) (body_fault limit at rest f) e in
-    (head_passed at rest h.0, h.1)
+    let h = or_none (first_failing at (head_checks f.version rest)) (body_fault limit at rest f) e in
+    (head_passed at f.version rest h.0, h.1)
 
 -- a part of one byte
 pub byte_part : (b : List ℕ) (p : ℕ) → p < length b → part b p 1 ≡ slice_index b p ∷ []
@@ -39,10 +40,10 @@ front_four (a ∷ b ∷ c ∷ []) long = absurd (omega (arith, long))
 front_four (a ∷ b ∷ c ∷ d ∷ xs) long = refl
 
 -- what every record begins with
-pub front_eight : (rest : List ℕ) → AreBytes rest → slice_index rest 0 ≡ 165 → HasHead rest
+pub front_eight : (version : ℕ) (rest : List ℕ) → AreBytes rest → slice_index rest 0 ≡ 165 → HasHead version rest
     → take 8 rest ≡ (165 ∷ kind_at rest ∷ 0 ∷ 0 ∷ []) ++ number_bytes 4 (length_at rest)
 unfolding part
-front_eight rest are open_gate head =
+front_eight version rest are open_gate head =
     let enough = head.enough in
     let zeros : slice_index rest 2 + 256 * (slice_index rest 3 + 256 * 0) ≡ 0 = head.reserved in
     let third : slice_index rest 2 ≡ 0 = omega arith in
@@ -56,12 +57,12 @@ pub joined : (a b c x y z : List ℕ) → a ≡ x → b ≡ y → c ≡ z → (a
 joined a b c x y z e f g = cc
 
 -- a head, a body and padding are a spelling
-pub put_together : (rest : List ℕ) (r : Record) (n : ℕ) → AreBytes rest → slice_index rest 0 ≡ 165 → HasHead rest
+pub put_together : (version : ℕ) (rest : List ℕ) (r : Record) (n : ℕ) → AreBytes rest → slice_index rest 0 ≡ 165 → HasHead version rest
     → kind_at rest ≡ record_kind r → length_at rest ≡ record_size r → 8 + n ≡ plain_size r → part rest 8 n ≡ body r
     → part rest (plain_size r) (record_size r - plain_size r) ≡ replicate (record_size r - plain_size r) 0
     → take (record_size r) rest ≡ spelling r
 unfolding part behind_gate plain
-put_together rest r n are open_gate head kind long plain_n is_body zeros =
+put_together version rest r n are open_gate head kind long plain_n is_body zeros =
     let k = record_size r - plain_size r in
     let whole : record_size r ≡ 8 + n + k = omega (arith, rounded_up (plain_size r)) in
     ap (λ (m : ℕ). take m rest) whole
@@ -69,7 +70,7 @@ put_together rest r n are open_gate head kind long plain_n is_body zeros =
     ∙ ap (λ (l : List ℕ). l ++ take k (drop (8 + n) rest)) (take-add 8 n rest)
     ∙ joined (take 8 rest) (take n (drop 8 rest)) (take k (drop (8 + n) rest))
     ((165 ∷ record_kind r ∷ 0 ∷ 0 ∷ []) ++ number_bytes 4 (record_size r)) (body r) (replicate k 0)
-    (front_eight rest are open_gate head
+    (front_eight version rest are open_gate head
     ∙ ap (λ (m : ℕ). (165 ∷ m ∷ 0 ∷ 0 ∷ []) ++ number_bytes 4 (length_at rest)) kind
     ∙ ap (λ (m : ℕ). (165 ∷ record_kind r ∷ 0 ∷ 0 ∷ []) ++ number_bytes 4 m) long)
     is_body
@@ -100,6 +101,10 @@ pub some_number : (n : ℕ) → (n ≡ 0 → ⊥) → 0 < n
 some_number n h = omega (arith, h)
 
 -- something is there
+pub none_of_some : {X : Type 0} (o : Option X) (x : X) → o ≡ Some x → is_none o ≡ false
+none_of_some None x e = cc
+none_of_some (Some y) x e = refl
+
 pub some_found : {X : Type 0} (o : Option X) → is_none o ≡ false → (x : X) × (o ≡ Some x)
 some_found None e = cc
 some_found (Some x) e = (x, refl)

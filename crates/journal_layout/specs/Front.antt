@@ -64,9 +64,9 @@ pub record Front : Type 0 where
   pub version : ℕ
   pub generation : ℕ
 
--- this version of the layout is read
+-- these versions of the layout are read
 abbrev pub is_known : ℕ → Bool
-is_known version = version == 1
+is_known version = version == 1 || version == 2
 
 abbrev pub half_opening : Shape → Half → Header → Result Front OpenFault
 half_opening s half h =

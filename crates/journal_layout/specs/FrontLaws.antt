@@ -1,5 +1,5 @@
 -- Laws of the front of an archive: its shape, and on which bytes it depends.
-use Rattle.std.proofs.Common.{◌≡◌, ℕ, ◌^◌, ◌<◌, Bool, true, false, cond, List, length, refl, sym, ap, ◌∙◌, subst, Result, Ok, Err, nat_lt, nat_le, ◌==◌, arith}
+use Rattle.std.proofs.Common.{◌≡◌, ℕ, ◌^◌, ◌<◌, Bool, true, false, cond, List, length, refl, sym, ap, ◌∙◌, subst, Result, Ok, Err, nat_lt, nat_le, ◌==◌, ◌||◌, arith}
 use Rattle.std.proofs.lemmas.Bool.{and_parts, leb-true, eqb-true}
 use Rattle.disk_model.specs.Places.{part}
 use Rattle.journal_layout.specs.declared.shape.Shape.{Shape}
@@ -28,7 +28,11 @@ shape_told size b s e =
 
 -- the field of a half's header has room for a version that is known
 pub known_small : (version : ℕ) → is_known version ≡ true → version < 2 ^ 32
-known_small version known = omega (arith, eqb-true version 1 known)
+known_small version = of (version == 1) refl
+  where
+    of : (t : Bool) → (version == 1) ≡ t → (t || version == 2) ≡ true → version < 2 ^ 32
+    of true e known = omega (arith, eqb-true version 1 e)
+    of false e known = omega (arith, eqb-true version 2 known)
 
 half_shape : (s : Shape) (half : Half) (h : Header) (t : Front) → half_opening s half h ≡ Ok t → t.shape ≡ s
 half_shape s half h t e =

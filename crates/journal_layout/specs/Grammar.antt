@@ -1,17 +1,19 @@
 -- The laws that tie the spelling of a record to the checks of an opening, as statements.
-use Rattle.std.specs.Prelude.{◌≡◌, ◌≢◌, ℕ, ◌+◌, ◌^◌, ◌≤◌, List, length, slice_index, None, Ok, Result}
+use Rattle.std.specs.Prelude.{◌≡◌, ◌≢◌, ℕ, ◌+◌, ◌^◌, ◌<◌, ◌≤◌, List, length, slice_index, None, Some, Ok, Result}
+use Rattle.std.specs.List.{All}
 use Rattle.disk_model.specs.Places.{AreBytes, SameOutside}
 use Rattle.journal_layout.specs.declared.faults.OpenFault.{OpenFault}
 use Rattle.journal_layout.specs.Layout.{half_length}
-use Rattle.journal_layout.specs.Record.{Record, Drop, record_size}
-use Rattle.journal_layout.specs.Folding.{Folded, nothing_yet, after, replayed}
-use Rattle.journal_layout.specs.Soundness.{IsSound}
+use Rattle.journal_layout.specs.Case.{Case}
+use Rattle.journal_layout.specs.Record.{Record, Drop, Label, record_size}
+use Rattle.journal_layout.specs.Folding.{Folded, nothing_yet, after, replayed, sizes}
+use Rattle.journal_layout.specs.Soundness.{IsSound, case_numbered}
 use Rattle.journal_layout.specs.Reading.{record_at, length_at}
 use Rattle.journal_layout.specs.Checks.{record_fault}
 use Rattle.journal_layout.specs.Standing.{Standing, folded_of}
 use Rattle.journal_layout.specs.Stands.{StandsFirst, Stands, Opening}
-use Rattle.journal_layout.specs.Live.{AreLive}
-use Rattle.journal_layout.specs.Rewriting.{other_start, snapshot, snapshot_size, AreSound, rewritten, HoldsSnapshot, MayRewrite}
+use Rattle.journal_layout.specs.Live.{AreLive, HasNoLabel, AreLabelled}
+use Rattle.journal_layout.specs.Rewriting.{other_start, label_records, snapshot, snapshot_size, AreSound, rewritten, in_version_two, upgraded, HoldsSnapshot, MayRewrite}
 
 -- the bytes tell this record: its gate is open, no check of it fails, and it is what they say
 pub record IsToldBy (limit at : ℕ) (rest : List ℕ) (f : Folded) (r : Record) : Type 0 where
@@ -49,10 +51,18 @@ WhatStandsOpens = (b : List ℕ) (s : Standing) (x : Result Standing OpenFault) 
 abbrev pub WhatStandsIsLive : Type 0
 WhatStandsIsLive = (b : List ℕ) (s : Standing) → Stands b s → AreLive s.shape.data_blocks s.cases s.next
 
+-- and labels in version 2 alone
+abbrev pub WhatStandsIsLabelled : Type 0
+WhatStandsIsLabelled = (b : List ℕ) (s : Standing) → Stands b s → AreLabelled s.version s.cases
+
+-- in version 1 no case has one
+abbrev pub VersionOneHasNoLabels : Type 0
+VersionOneHasNoLabels = (b : List ℕ) (s : Standing) → Stands b s → s.version ≡ 1 → All HasNoLabel s.cases
+
 -- the records of live cases are sound one behind the other, and say exactly these cases and this next number
 abbrev pub SnapshotsSayAll : Type 0
 SnapshotsSayAll =
-    (limit : ℕ) (f : Folded) → AreLive limit f.cases f.next
+    (limit : ℕ) (f : Folded) → AreLive limit f.cases f.next → AreLabelled f.version f.cases
     → AreSound limit (nothing_yet f.version) (snapshot f) × (replayed (snapshot f) (nothing_yet f.version) ≡ f)
 
 -- while the other half's gate is not open, it may hold anything
@@ -66,6 +76,22 @@ abbrev pub AnOpenedHalfStands : Type 0
 AnOpenedHalfStands =
     (b c : List ℕ) (s : Standing) (f : Folded) → Stands b s → MayRewrite s f → HoldsSnapshot s f b → SameOutside (other_start s) 1 b c
     → slice_index c (other_start s) ≡ 165 → Stands c (rewritten s f)
+
+-- The snapshot of what stands in version 1 may be written anew in version 2, where it has room. Once the other half is opened
+-- over it, the same cases and the same next number stand, and still no case has a label.
+abbrev pub AnUpgradeSaysTheSame : Type 0
+AnUpgradeSaysTheSame =
+    (b c : List ℕ) (s : Standing) → Stands b s → s.version ≡ 1
+    → snapshot_size (in_version_two (folded_of s)) + 1 ≤ half_length s.shape → s.generation + 1 < 2 ^ 64
+    → HoldsSnapshot s (in_version_two (folded_of s)) b → SameOutside (other_start s) 1 b c → slice_index c (other_start s) ≡ 165
+    → Stands c (upgraded s) × ((upgraded s).version ≡ 2) × ((upgraded s).cases ≡ s.cases) × ((upgraded s).next ≡ s.next)
+    × All HasNoLabel (upgraded s).cases
+
+-- a snapshot takes as many bytes more, or fewer, as the record of the new label takes more than that of the old one
+abbrev pub LabelsTakeTheirRecords : Type 0
+LabelsTakeTheirRecords =
+    (limit seq : ℕ) (f : Folded) (text : List ℕ) (c : Case) → AreLive limit f.cases f.next → case_numbered seq f.cases ≡ Some c
+    → snapshot_size (after (Label seq text) f) + sizes (label_records seq c.label) ≡ snapshot_size f + sizes (label_records seq text)
 
 -- the snapshot of what a drop leaves fits into the other half
 abbrev pub DropsHaveRoom : Type 0

@@ -11,6 +11,9 @@ pub mod FoundLaws
 pub mod Front
 pub mod FrontLaws
 pub mod Grammar
+pub mod KindLaws
+pub mod LabelLaws
+pub mod LabelledLaws
 pub mod Layout
 pub mod Live
 pub mod LiveCounts
@@ -37,3 +40,4 @@ pub mod Standing
 pub mod Stands
 pub mod StoreLaws
 pub mod TakenLaws
+pub mod UpgradeLaws

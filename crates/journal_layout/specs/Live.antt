@@ -1,9 +1,9 @@
 -- What holds of the cases that a journal's records say, always.
-use Rattle.std.specs.Prelude.{◌≡◌, ℕ, ◌^◌, ◌<◌, ◌≤◌, false, List, [], ◌∷◌, length, map}
+use Rattle.std.specs.Prelude.{◌≡◌, ◌≢◌, ℕ, ◌^◌, ◌<◌, ◌≤◌, false, List, [], ◌∷◌, length, map}
 use Rattle.std.specs.List.{All, filter}
 use Rattle.journal_layout.specs.Case.{Case}
 use Rattle.journal_layout.specs.Folding.{is_among, used_blocks, is_name_of}
-use Rattle.journal_layout.specs.Soundness.{IsName, Rise, blocks_for, uses}
+use Rattle.journal_layout.specs.Soundness.{IsName, IsLabel, Rise, blocks_for, uses}
 
 abbrev pub seq_of_case : Case → ℕ
 seq_of_case c = c.seq
@@ -18,6 +18,7 @@ pub record IsWhole (next : ℕ) (c : Case) : Type 0 where
   pub bytes : c.len < 2 ^ 64
   -- as many blocks as its bytes need
   pub enough : length c.blocks ≡ blocks_for c.len
+  pub label : IsLabel c.label
 
 -- no two cases have one name
 abbrev pub AreNamedApart : List Case → Type 0
@@ -35,6 +36,13 @@ pub record AreLive (limit : ℕ) (cases : List Case) (next : ℕ) : Type 0 where
   pub once : (k : ℕ) → uses k (used_blocks cases) ≤ 1
   pub within : (k : ℕ) → 0 < uses k (used_blocks cases) → k < limit
   pub different : AreNamedApart cases
+
+abbrev pub HasNoLabel : Case → Type 0
+HasNoLabel c = c.label ≡ []
+
+-- Version 2 of the layout keeps labels, and no other: in a half of another version no case has one.
+abbrev pub AreLabelled : ℕ → List Case → Type 0
+AreLabelled version cases = version ≢ 2 → All HasNoLabel cases
 
 -- the cases that have these numbers
 abbrev pub gone : List ℕ → List Case → List Case

@@ -13,13 +13,13 @@ use Rattle.std.specs.Str.{bytes_eq}
 use Rattle.extents.specs.declared.run_list.Run.{Run}
 use Rattle.extents.specs.Runs.{run_blocks, blocks_of, runs_of}
 use Rattle.journal_layout.specs.Case.{Case}
-use Rattle.journal_layout.specs.Folding.{is_among, dropped, pinned_as, with_pin, used_blocks, is_name_of}
+use Rattle.journal_layout.specs.Folding.{is_among, dropped, pinned_as, with_pin, labelled_as, with_label, used_blocks, is_name_of}
 use Rattle.journal_layout.specs.Soundness.{AreSpare, Rise, uses, blocks_for}
 use Rattle.journal_layout.specs.SpareLaws.{uses-append, not_among}
 use Rattle.journal_layout.specs.ChainLaws.{blocks_back}
 use Rattle.journal_layout.specs.Live.{seq_of_case, IsWhole, AreNamedApart, AreLive, gone}
 use Rattle.journal_layout.specs.LiveFinds.{uses_among}
-use Rattle.journal_layout.specs.LiveLaws.{used-append, name_pinned}
+use Rattle.journal_layout.specs.LiveLaws.{used-append, KeepsFacts, flag_keeps, label_keeps}
 
 -- how often a block is used
 
@@ -120,14 +120,23 @@ pub named_dropped : (seqs : List ℕ) (cases : List Case) (name : List ℕ)
 named_dropped seqs cases name =
     omega (arith, sum_by-filter_both (λ (c : Case). is_among seqs c.seq) (λ (c : Case). not (is_among seqs c.seq)) (λ _. refl) (λ (c : Case). cond (bytes_eq c.name name) 1 0) cases)
 
--- once a flag has changed
+-- once the cases have changed one by one
+named_changed : (change : Case → Case) → KeepsFacts change → (cases : List Case) (name : List ℕ)
+    → count_by (λ (c : Case). bytes_eq c.name name) (map change cases) ≡ count_by (λ (c : Case). bytes_eq c.name name) cases
+named_changed change keeps [] name = refl
+named_changed change keeps (c ∷ rest) name =
+    count_here (change c) (map change rest) name (bytes_eq c.name name) (ap (λ (l : List ℕ). bytes_eq l name) (keeps.name c))
+    ∙ ap (λ (n : ℕ). cond (bytes_eq c.name name) 1 0 + n) (named_changed change keeps rest name)
+    ∙ sym (count_here c rest name (bytes_eq c.name name) refl)
+
+-- once a flag or a label has changed
 pub named_pinned : (seq : ℕ) (flag : Bool) (cases : List Case) (name : List ℕ)
     → count_by (λ (c : Case). bytes_eq c.name name) (with_pin seq flag cases) ≡ count_by (λ (c : Case). bytes_eq c.name name) cases
-named_pinned seq flag [] name = refl
-named_pinned seq flag (c ∷ rest) name =
-    count_here (pinned_as seq flag c) (with_pin seq flag rest) name (bytes_eq c.name name) (ap (λ (l : List ℕ). bytes_eq l name) (name_pinned seq flag c))
-    ∙ ap (λ (n : ℕ). cond (bytes_eq c.name name) 1 0 + n) (named_pinned seq flag rest name)
-    ∙ sym (count_here c rest name (bytes_eq c.name name) refl)
+named_pinned seq flag cases name = named_changed (pinned_as seq flag) (flag_keeps seq flag) cases name
+
+pub named_labelled : (seq : ℕ) (text : List ℕ) (cases : List Case) (name : List ℕ)
+    → count_by (λ (c : Case). bytes_eq c.name name) (with_label seq text cases) ≡ count_by (λ (c : Case). bytes_eq c.name name) cases
+named_labelled seq text cases name = named_changed (labelled_as seq text) (label_keeps seq text) cases name
 
 -- live cases
 

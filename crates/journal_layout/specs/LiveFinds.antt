@@ -1,12 +1,12 @@
 -- Laws of live cases that are found by their numbers, and of the records that may follow.
-use Rattle.std.proofs.Common.{◌≡◌, inl, inr, ℕ, zero, suc, ◌+◌, ◌^◌, ◌<◌, ◌≤◌, Bool, true, false, not, nat_eq, List, [], ◌∷◌, length, get_or, map, refl, sym, ap, ◌∙◌, subst, arith, Some, cond}
+use Rattle.std.proofs.Common.{◌≡◌, ◌≢◌, inl, inr, ℕ, zero, suc, ◌+◌, ◌^◌, ◌<◌, ◌≤◌, Bool, true, false, not, nat_eq, List, [], ◌∷◌, length, get_or, map, refl, sym, ap, ◌∙◌, subst, arith, Some, cond}
 use Rattle.std.proofs.lemmas.Bool.{eq-eqb, ne_eqb, cases_eq, or_from}
 use Rattle.std.proofs.lemmas.List.Elements.{All-contains, All-contains_itself, All-filter, filter_passes, recursion_from_All}
 use Rattle.std.specs.List.{AllByRecursion, Contains, filter, list_any}
 use Rattle.journal_layout.specs.Case.{Case, numbered}
-use Rattle.journal_layout.specs.Record.{Store, Drop, Pin}
-use Rattle.journal_layout.specs.Folding.{Folded, is_among, dropped, used_blocks}
-use Rattle.journal_layout.specs.Soundness.{IsSound, IsStorable, IsPinnable, IsDroppable, Rise, uses, case_numbered}
+use Rattle.journal_layout.specs.Record.{Store, Drop, Pin, Label}
+use Rattle.journal_layout.specs.Folding.{Folded, is_among, dropped, with_label, used_blocks}
+use Rattle.journal_layout.specs.Soundness.{IsSound, IsStorable, IsLabel, IsLive, IsDroppable, Rise, uses, case_numbered}
 use Rattle.journal_layout.specs.SpareLaws.{uses-append}
 use Rattle.journal_layout.specs.Live.{seq_of_case, IsWhole, AreLive}
 use Rattle.journal_layout.specs.LiveLaws.{rise_kept}
@@ -46,6 +46,19 @@ numbered_at last (c ∷ rest) (suc i) d rise within =
 
 pub numbered_found : (last : ℕ) (cases : List Case) (c : Case) → Rise last (map seq_of_case cases) → Contains cases c → case_numbered c.seq cases ≡ Some c
 numbered_found last cases c rise among = subst (λ (d : Case). case_numbered d.seq cases ≡ Some d) among.2 (numbered_at last cases among.0 c rise among.1)
+
+-- a label of one case is no other's
+
+-- cases with rising numbers have other numbers than those before them
+pub above_elsewhere : (n last : ℕ) (cases : List Case) → n ≤ last → Rise last (map seq_of_case cases) → AllByRecursion (λ (c : Case). c.seq ≢ n) cases
+above_elsewhere n last [] low rise = tt
+above_elsewhere n last (c ∷ rest) low rise =
+    let above = rise.0 in
+    ((λ e. omega (arith, e)), above_elsewhere n c.seq rest (omega arith) rise.1)
+
+pub label_elsewhere : (seq : ℕ) (text : List ℕ) (cases : List Case) → AllByRecursion (λ (c : Case). c.seq ≢ seq) cases → with_label seq text cases ≡ cases
+label_elsewhere seq text [] each = refl
+label_elsewhere seq text (c ∷ rest) each = rw (ne_eqb c.seq seq each.0) (ap (λ (l : List Case). c ∷ l) (label_elsewhere seq text rest each.1))
 
 -- some of the cases are those of their numbers
 among_above : (n last : ℕ) (seqs : List ℕ) → n ≤ last → Rise last seqs → is_among seqs n ≡ false
@@ -95,8 +108,8 @@ live_number limit cases next seq c live found =
     let above : 0 < c.seq = subst (λ (d : Case). 0 < d.seq) h.1.2 (rise_above 0 cases h.1.0 c live.rise h.1.1) in
     (omega (arith, h.0), omega (arith, h.0))
 
-pub live_pinnable : (limit : ℕ) (cases : List Case) (next : ℕ) (c : Case) → AreLive limit cases next → Contains cases c → IsPinnable cases c.seq
-live_pinnable limit cases next c live among = (c, live_found limit cases next c live among)
+pub live_numbered : (limit : ℕ) (cases : List Case) (next : ℕ) (c : Case) → AreLive limit cases next → Contains cases c → IsLive cases c.seq
+live_numbered limit cases next c live among = (c, live_found limit cases next c live among)
 
 pub live_droppable : (limit : ℕ) (cases : List Case) (next : ℕ) (c : Case) → AreLive limit cases next → Contains cases c → c.pinned ≡ false → IsDroppable cases c.seq
 live_droppable limit cases next c live among free = (c, live_found limit cases next c live among, free)
@@ -112,31 +125,36 @@ storable_numbered limit cases seq c storable = record {
   bytes = storable.bytes;
   enough = storable.enough;
   spare = storable.spare;
+  no_label = storable.no_label;
 }
 
 -- and gets the next number, as long as there is one
 pub store_sound : (limit : ℕ) (f : Folded) (c : Case) → f.next < 2 ^ 32 → IsStorable limit f.cases c → IsSound limit f (Store (numbered f.next c))
 store_sound limit f c low storable = (omega arith, low, storable_numbered limit f.cases f.next c storable)
 
--- a flag of a live case may change
-pub pin_sound : (limit : ℕ) (f : Folded) (seq : ℕ) (flag : Bool) → AreLive limit f.cases f.next → IsPinnable f.cases seq → IsSound limit f (Pin seq flag)
-pin_sound limit f seq flag live h =
+-- the number of a live case goes into its field
+number_small : (limit : ℕ) (f : Folded) (seq : ℕ) → AreLive limit f.cases f.next → IsLive f.cases seq → seq < 2 ^ 32
+number_small limit f seq live h =
     let numbers = live.numbers in
-    (omega (arith, (live_number limit f.cases f.next seq h.0 live h.1).1), h)
+    omega (arith, (live_number limit f.cases f.next seq h.0 live h.1).1)
+
+-- a flag of a live case may change
+pub pin_sound : (limit : ℕ) (f : Folded) (seq : ℕ) (flag : Bool) → AreLive limit f.cases f.next → IsLive f.cases seq → IsSound limit f (Pin seq flag)
+pin_sound limit f seq flag live h = (number_small limit f seq live h, h)
+
+-- and in version 2 its label
+pub label_sound : (limit : ℕ) (f : Folded) (seq : ℕ) (text : List ℕ) → AreLive limit f.cases f.next → f.version ≡ 2 → IsLive f.cases seq → IsLabel text
+    → IsSound limit f (Label seq text)
+label_sound limit f seq text live version h label = (version, number_small limit f seq live h, h, label)
 
 -- cases that are live and not pinned may be dropped, by their numbers in order
 pub drop_sound : (limit : ℕ) (f : Folded) (seqs : List ℕ) → AreLive limit f.cases f.next → 0 < length seqs → Rise 0 seqs → AllByRecursion (IsDroppable f.cases) seqs
     → IsSound limit f (Drop seqs)
 drop_sound limit f seqs live some rise each = (some, rise, small seqs each, each)
   where
-    one : (seq : ℕ) → IsDroppable f.cases seq → seq < 2 ^ 32
-    one seq h =
-        let numbers = live.numbers in
-        omega (arith, (live_number limit f.cases f.next seq h.0 live h.1).1)
-
     small : (l : List ℕ) → AllByRecursion (IsDroppable f.cases) l → AllByRecursion (λ (seq : ℕ). seq < 2 ^ 32) l
     small [] h = tt
-    small (seq ∷ rest) h = (one seq h.0, small rest h.1)
+    small (seq ∷ rest) h = (number_small limit f seq live (h.0.0, h.0.1), small rest h.1)
 
 -- the cases that pass a test may be dropped, if there are any, and no pinned one passes
 pub drop_chosen_sound : (limit : ℕ) (f : Folded) (test : Case → Bool) → AreLive limit f.cases f.next → 0 < length (filter test f.cases)

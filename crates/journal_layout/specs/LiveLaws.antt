@@ -7,9 +7,9 @@ use Rattle.std.proofs.lemmas.Slice.Eq.{bytes_eq-Decides}
 use Rattle.std.specs.List.{AllByRecursion, filter}
 use Rattle.std.specs.Str.{bytes_eq}
 use Rattle.journal_layout.specs.Case.{Case}
-use Rattle.journal_layout.specs.Record.{Record, Store, Drop, Pin, Next, record_size}
-use Rattle.journal_layout.specs.Folding.{Folded, nothing_yet, is_among, dropped, pinned_as, with_pin, after, replayed, used_blocks, is_name_of}
-use Rattle.journal_layout.specs.Soundness.{IsSound, IsStorable, Rise, uses}
+use Rattle.journal_layout.specs.Record.{Record, Store, Drop, Pin, Next, Label, record_size}
+use Rattle.journal_layout.specs.Folding.{Folded, nothing_yet, is_among, dropped, pinned_as, with_pin, labelled_as, with_label, after, replayed, used_blocks, is_name_of}
+use Rattle.journal_layout.specs.Soundness.{IsSound, IsStorable, IsLabel, Rise, uses}
 use Rattle.journal_layout.specs.SpareLaws.{uses-append}
 use Rattle.journal_layout.specs.Standing.{Standing, folded_of}
 use Rattle.journal_layout.specs.Stands.{StandInRow, AreRead, Stands, records_area}
@@ -97,17 +97,53 @@ uses_parted k test (c ∷ rest) = by (test c) (uses_parted k test rest)
 pub uses_dropped : (k : ℕ) (seqs : List ℕ) (cases : List Case) → uses k (used_blocks (dropped seqs cases)) + uses k (used_blocks (gone seqs cases)) ≡ uses k (used_blocks cases)
 uses_dropped k seqs cases = uses_parted k (λ (c : Case). is_among seqs c.seq) cases
 
--- a flag that changes
+-- a change of the cases, one by one
 
--- it changes nothing else
-pub seq_pinned : (seq : ℕ) (flag : Bool) (c : Case) → (pinned_as seq flag c).seq ≡ c.seq
-seq_pinned seq flag c = elim (c.seq == seq) as (λ t. (cond t (record c { pinned = flag }) c).seq ≡ c.seq) [ true ↦ refl | false ↦ refl ]
+-- it leaves each case's number, name and blocks
+pub record KeepsFacts (change : Case → Case) : Type 0 where
+  pub seq : (c : Case) → (change c).seq ≡ c.seq
+  pub name : (c : Case) → (change c).name ≡ c.name
+  pub blocks : (c : Case) → (change c).blocks ≡ c.blocks
 
-pub blocks_pinned : (seq : ℕ) (flag : Bool) (c : Case) → (pinned_as seq flag c).blocks ≡ c.blocks
-blocks_pinned seq flag c = elim (c.seq == seq) as (λ t. (cond t (record c { pinned = flag }) c).blocks ≡ c.blocks) [ true ↦ refl | false ↦ refl ]
+module _ (change : Case → Case) (keeps : KeepsFacts change) where
+  -- the numbers, the blocks and the names of the cases stay
+  pub numbers_changed : (cases : List Case) → map seq_of_case (map change cases) ≡ map seq_of_case cases
+  numbers_changed [] = refl
+  numbers_changed (c ∷ rest) =
+      ap (λ (n : ℕ). n ∷ map seq_of_case (map change rest)) (keeps.seq c) ∙ ap (λ (l : List ℕ). c.seq ∷ l) (numbers_changed rest)
 
-pub name_pinned : (seq : ℕ) (flag : Bool) (c : Case) → (pinned_as seq flag c).name ≡ c.name
-name_pinned seq flag c = elim (c.seq == seq) as (λ t. (cond t (record c { pinned = flag }) c).name ≡ c.name) [ true ↦ refl | false ↦ refl ]
+  pub used_changed : (cases : List Case) → used_blocks (map change cases) ≡ used_blocks cases
+  used_changed [] = refl
+  used_changed (c ∷ rest) =
+      ap (λ (l : List ℕ). l ++ used_blocks (map change rest)) (keeps.blocks c) ∙ ap (λ (l : List ℕ). c.blocks ++ l) (used_changed rest)
+
+  pub names_changed : (cases : List Case) (name : List ℕ) → is_name_of (map change cases) name ≡ is_name_of cases name
+  names_changed [] name = refl
+  names_changed (c ∷ rest) name =
+      ap (λ (l : List ℕ). bytes_eq l name || is_name_of (map change rest) name) (keeps.name c)
+      ∙ ap (λ (t : Bool). bytes_eq c.name name || t) (names_changed rest name)
+
+  apart_changed : (cases : List Case) → AreNamedApart cases → AreNamedApart (map change cases)
+  apart_changed [] apart = tt
+  apart_changed (c ∷ rest) apart = (
+    ap (is_name_of (map change rest)) (keeps.name c) ∙ names_changed rest c.name ∙ apart.0,
+    apart_changed rest apart.1,
+  )
+
+-- a flag, or a label, of one case
+pub flag_keeps : (seq : ℕ) (flag : Bool) → KeepsFacts (pinned_as seq flag)
+flag_keeps seq flag = record {
+  seq = λ c. elim (c.seq == seq) as (λ t. (cond t (record c { pinned = flag }) c).seq ≡ c.seq) [ true ↦ refl | false ↦ refl ];
+  name = λ c. elim (c.seq == seq) as (λ t. (cond t (record c { pinned = flag }) c).name ≡ c.name) [ true ↦ refl | false ↦ refl ];
+  blocks = λ c. elim (c.seq == seq) as (λ t. (cond t (record c { pinned = flag }) c).blocks ≡ c.blocks) [ true ↦ refl | false ↦ refl ];
+}
+
+pub label_keeps : (seq : ℕ) (text : List ℕ) → KeepsFacts (labelled_as seq text)
+label_keeps seq text = record {
+  seq = λ c. elim (c.seq == seq) as (λ t. (cond t (record c { label = text }) c).seq ≡ c.seq) [ true ↦ refl | false ↦ refl ];
+  name = λ c. elim (c.seq == seq) as (λ t. (cond t (record c { label = text }) c).name ≡ c.name) [ true ↦ refl | false ↦ refl ];
+  blocks = λ c. elim (c.seq == seq) as (λ t. (cond t (record c { label = text }) c).blocks ≡ c.blocks) [ true ↦ refl | false ↦ refl ];
+}
 
 whole_pinned : (seq : ℕ) (flag : Bool) (next : ℕ) (c : Case) → IsWhole next c → IsWhole next (pinned_as seq flag c)
 whole_pinned seq flag next c whole =
@@ -120,36 +156,37 @@ whole_pinned seq flag next c whole =
       time = whole.time;
       bytes = whole.bytes;
       enough = whole.enough;
+      label = whole.label;
     })
     (λ _. whole)
 
--- the numbers, the blocks and the names of the cases stay
-pub numbers_pinned : (seq : ℕ) (flag : Bool) (cases : List Case) → map seq_of_case (with_pin seq flag cases) ≡ map seq_of_case cases
-numbers_pinned seq flag [] = refl
-numbers_pinned seq flag (c ∷ rest) =
-    ap (λ (n : ℕ). n ∷ map seq_of_case (with_pin seq flag rest)) (seq_pinned seq flag c) ∙ ap (λ (l : List ℕ). c.seq ∷ l) (numbers_pinned seq flag rest)
+whole_labelled : (seq : ℕ) (text : List ℕ) (next : ℕ) (c : Case) → IsLabel text → IsWhole next c → IsWhole next (labelled_as seq text c)
+whole_labelled seq text next c label whole =
+    cond_both (c.seq == seq) (record c { label = text }) c (IsWhole next)
+    (λ _. record {
+      below = whole.below;
+      name = whole.name;
+      pid = whole.pid;
+      signal = whole.signal;
+      time = whole.time;
+      bytes = whole.bytes;
+      enough = whole.enough;
+      label = label;
+    })
+    (λ _. whole)
 
+-- what stays of the cases with a flag or a label that changes
 pub used_pinned : (seq : ℕ) (flag : Bool) (cases : List Case) → used_blocks (with_pin seq flag cases) ≡ used_blocks cases
-used_pinned seq flag [] = refl
-used_pinned seq flag (c ∷ rest) =
-    ap (λ (l : List ℕ). l ++ used_blocks (with_pin seq flag rest)) (blocks_pinned seq flag c) ∙ ap (λ (l : List ℕ). c.blocks ++ l) (used_pinned seq flag rest)
+used_pinned seq flag cases = used_changed (pinned_as seq flag) (flag_keeps seq flag) cases
+
+pub used_labelled : (seq : ℕ) (text : List ℕ) (cases : List Case) → used_blocks (with_label seq text cases) ≡ used_blocks cases
+used_labelled seq text cases = used_changed (labelled_as seq text) (label_keeps seq text) cases
 
 pub names_pinned : (seq : ℕ) (flag : Bool) (cases : List Case) (name : List ℕ) → is_name_of (with_pin seq flag cases) name ≡ is_name_of cases name
-names_pinned seq flag [] name = refl
-names_pinned seq flag (c ∷ rest) name =
-    ap (λ (l : List ℕ). bytes_eq l name || is_name_of (with_pin seq flag rest) name) (name_pinned seq flag c)
-    ∙ ap (λ (t : Bool). bytes_eq c.name name || t) (names_pinned seq flag rest name)
+names_pinned seq flag cases name = names_changed (pinned_as seq flag) (flag_keeps seq flag) cases name
 
-apart_pinned : (seq : ℕ) (flag : Bool) (cases : List Case) → AreNamedApart cases → AreNamedApart (with_pin seq flag cases)
-apart_pinned seq flag [] apart = tt
-apart_pinned seq flag (c ∷ rest) apart = (
-  ap (is_name_of (with_pin seq flag rest)) (name_pinned seq flag c) ∙ names_pinned seq flag rest c.name ∙ apart.0,
-  apart_pinned seq flag rest apart.1,
-)
-
-each_pinned : (seq : ℕ) (flag : Bool) (next : ℕ) (cases : List Case) → AllByRecursion (IsWhole next) cases → AllByRecursion (IsWhole next) (with_pin seq flag cases)
-each_pinned seq flag next [] each = tt
-each_pinned seq flag next (c ∷ rest) each = (whole_pinned seq flag next c each.0, each_pinned seq flag next rest each.1)
+pub names_labelled : (seq : ℕ) (text : List ℕ) (cases : List Case) (name : List ℕ) → is_name_of (with_label seq text cases) name ≡ is_name_of cases name
+names_labelled seq text cases name = names_changed (labelled_as seq text) (label_keeps seq text) cases name
 
 -- what always holds
 
@@ -162,7 +199,11 @@ whole_later next later c high whole = record {
   time = whole.time;
   bytes = whole.bytes;
   enough = whole.enough;
+  label = whole.label;
 }
+
+empty_label : IsLabel []
+empty_label = record { short = omega arith; bytes = λ k. omega arith }
 
 -- it holds of no case
 pub live_none : (limit : ℕ) → AreLive limit [] 1
@@ -194,6 +235,7 @@ live_stored limit cases next c live from high storable =
             time = storable.time;
             bytes = storable.bytes;
             enough = storable.enough;
+            label = subst IsLabel (sym storable.no_label) empty_label;
           });
       rise = rise_push 0 cases c live.rise (omega arith) (lower cases each);
       once = λ k. at_most k (uses_stored k cases c);
@@ -235,17 +277,32 @@ live_kept limit cases next test live = record {
 pub live_dropped : (limit : ℕ) (cases : List Case) (next : ℕ) (seqs : List ℕ) → AreLive limit cases next → AreLive limit (dropped seqs cases) next
 live_dropped limit cases next seqs live = live_kept limit cases next (λ (c : Case). not (is_among seqs c.seq)) live
 
--- it holds once a flag has changed
-pub live_pinned : (limit : ℕ) (cases : List Case) (next seq : ℕ) (flag : Bool) → AreLive limit cases next → AreLive limit (with_pin seq flag cases) next
-live_pinned limit cases next seq flag live = record {
+-- it holds once the cases have changed one by one
+live_changed : (limit : ℕ) (cases : List Case) (next : ℕ) (change : Case → Case) → KeepsFacts change → ((c : Case) → IsWhole next c → IsWhole next (change c))
+    → AreLive limit cases next → AreLive limit (map change cases) next
+live_changed limit cases next change keeps whole live = record {
   some_next = live.some_next;
   numbers = live.numbers;
-  each = All-from_recursion (IsWhole next) (with_pin seq flag cases) (each_pinned seq flag next cases (recursion_from_All (IsWhole next) cases live.each));
-  rise = subst (Rise 0) (sym (numbers_pinned seq flag cases)) live.rise;
-  once = λ k. omega (arith, live.once k, ap (uses k) (used_pinned seq flag cases));
-  within = λ k some. live.within k (omega (arith, ap (uses k) (used_pinned seq flag cases)));
-  different = apart_pinned seq flag cases live.different;
+  each = All-from_recursion (IsWhole next) (map change cases) (all cases (recursion_from_All (IsWhole next) cases live.each));
+  rise = subst (Rise 0) (sym (numbers_changed change keeps cases)) live.rise;
+  once = λ k. omega (arith, live.once k, ap (uses k) (used_changed change keeps cases));
+  within = λ k some. live.within k (omega (arith, ap (uses k) (used_changed change keeps cases)));
+  different = apart_changed change keeps cases live.different;
 }
+  where
+    all : (l : List Case) → AllByRecursion (IsWhole next) l → AllByRecursion (IsWhole next) (map change l)
+    all [] each = tt
+    all (c ∷ rest) each = (whole c each.0, all rest each.1)
+
+-- it holds once a flag has changed
+pub live_pinned : (limit : ℕ) (cases : List Case) (next seq : ℕ) (flag : Bool) → AreLive limit cases next → AreLive limit (with_pin seq flag cases) next
+live_pinned limit cases next seq flag live = live_changed limit cases next (pinned_as seq flag) (flag_keeps seq flag) (whole_pinned seq flag next) live
+
+-- it holds once a label has changed
+pub live_labelled : (limit : ℕ) (cases : List Case) (next seq : ℕ) (text : List ℕ) → AreLive limit cases next → IsLabel text
+    → AreLive limit (with_label seq text cases) next
+live_labelled limit cases next seq text live label =
+    live_changed limit cases next (labelled_as seq text) (label_keeps seq text) (λ c. whole_labelled seq text next c label) live
 
 -- it holds of a later next number
 pub live_later : (limit : ℕ) (cases : List Case) (next later : ℕ) → AreLive limit cases next → next ≤ later → later ≤ 2 ^ 32 → AreLive limit cases later
@@ -265,6 +322,7 @@ live_after limit f (Store c) live sound = live_stored limit f.cases f.next c liv
 live_after limit f (Drop seqs) live sound = live_dropped limit f.cases f.next seqs live
 live_after limit f (Pin seq flag) live sound = live_pinned limit f.cases f.next seq flag live
 live_after limit f (Next n) live sound = live_later limit f.cases f.next n live sound.0 sound.1
+live_after limit f (Label seq text) live sound = live_labelled limit f.cases f.next seq text live sound.3
 
 -- it holds behind a row of records
 pub live_row : (limit : ℕ) (bytes : List ℕ) (f : Folded) (rs : List Record) → AreLive limit f.cases f.next → StandInRow limit bytes f rs

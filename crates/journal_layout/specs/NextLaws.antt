@@ -1,28 +1,19 @@
 -- Laws of the record Next.
-use Rattle.std.proofs.Common.{◌≡◌, ℕ, ◌+◌, ◌^◌, ◌≤◌, ◌==◌, List, [], ◌++◌, length, slice_index, refl, sym, ap, ◌∙◌, arith, None, cond}
+use Rattle.std.proofs.Common.{◌≡◌, ℕ, ◌+◌, ◌^◌, ◌≤◌, List, [], ◌++◌, length, slice_index, refl, sym, ap, ◌∙◌, arith, None}
 use Rattle.std.proofs.lemmas.Bool.{or_parts, or_from, not-false, not_from_true, le-ltb, ltb-false, eq-eqb, eqb-true}
 use Rattle.disk_model.specs.Places.{AreBytes, part}
 use Rattle.journal_layout.specs.Layout.{number_bytes, field}
-use Rattle.journal_layout.specs.Record.{Store, Drop, Pin, Next, record_size, body, plain, behind_gate, spelling}
-use Rattle.journal_layout.specs.Reading.{kind_at, length_at, case_at, drop_seqs, record_at}
+use Rattle.journal_layout.specs.Record.{Next, record_size, body, plain, behind_gate, spelling}
+use Rattle.journal_layout.specs.Reading.{kind_at, length_at, record_at}
 use Rattle.journal_layout.specs.Folding.{Folded}
 use Rattle.journal_layout.specs.Soundness.{IsSound}
-use Rattle.journal_layout.specs.Checks.{first_failing, next_checks, store_fault, drop_fault, pin_fault, body_fault, record_fault}
+use Rattle.journal_layout.specs.Checks.{first_failing, next_checks, body_fault, record_fault}
 use Rattle.journal_layout.specs.Stands.{StandsFirst}
 use Rattle.journal_layout.specs.ByteLaws.{number_read, field_spelled}
 use Rattle.journal_layout.specs.CheckLaws.{HasHead, passes, passed}
+use Rattle.journal_layout.specs.KindLaws.{body_of, record_of, kind_high}
 use Rattle.journal_layout.specs.SpellLaws.{tells_kind, tells_length, tells_head}
 use Rattle.journal_layout.specs.FoundLaws.{record_passes, put_together}
-
--- what a record of this kind is checked for, and what it is
-pub next_body : (limit at : ℕ) (rest : List ℕ) (f : Folded) → kind_at rest ≡ 4 → body_fault limit at rest f ≡ first_failing at (next_checks rest f)
-next_body limit at rest f kind =
-    ap (λ (k : ℕ). cond (k == 1) (store_fault limit at rest f) (cond (k == 2) (drop_fault at rest f) (cond (k == 3) (pin_fault at rest f) (first_failing at (next_checks rest f))))) kind
-
-pub next_is : (rest : List ℕ) → kind_at rest ≡ 4 → record_at rest ≡ Next (field rest 8 8)
-unfolding record_at
-next_is rest kind =
-    ap (λ (k : ℕ). cond (k == 1) (Store (case_at rest)) (cond (k == 2) (Drop (drop_seqs rest)) (cond (k == 3) (Pin (field rest 8 4) (slice_index rest 12 == 1)) (Next (field rest 8 8))))) kind
 
 -- what the checks tell, both ways
 pub next_passes : (at : ℕ) (rest : List ℕ) (f : Folded) → length_at rest ≡ 16 → f.next ≤ field rest 8 8 → field rest 8 8 ≤ 2 ^ 32 → first_failing at (next_checks rest f) ≡ None
@@ -48,23 +39,23 @@ pub next_again : (limit at n : ℕ) (tail : List ℕ) (f : Folded) → record_si
 next_again limit at n tail f room sound =
     let b = spelling (Next n) ++ tail in
     let told = tells_next n tail sound.1 in (
-      record_passes limit at b f (tells_head (Next n) tail (omega arith) room)
-          (next_body limit at b f (tells_kind (Next n) tail)
+      record_passes limit at b f (tells_head (Next n) tail f.version (kind_high limit f (Next n) sound) (omega arith) room)
+          (body_of limit at b f (Next n) (tells_kind (Next n) tail)
           ∙ next_passes at b f (tells_length (Next n) tail (omega arith)) (rw told sound.0) (rw told sound.1)),
-      next_is b (tells_kind (Next n) tail) ∙ ap (λ (m : ℕ). Next m) told,
+      record_of b (Next n) (tells_kind (Next n) tail) ∙ ap (λ (m : ℕ). Next m) told,
     )
 
 -- what is read is in the grammar
-pub next_found : (limit at : ℕ) (rest : List ℕ) (f : Folded) → AreBytes rest → slice_index rest 0 ≡ 165 → HasHead rest → kind_at rest ≡ 4
+pub next_found : (limit at : ℕ) (rest : List ℕ) (f : Folded) → AreBytes rest → slice_index rest 0 ≡ 165 → HasHead f.version rest → kind_at rest ≡ 4
     → body_fault limit at rest f ≡ None → StandsFirst limit rest f (Next (field rest 8 8)) × (record_size (Next (field rest 8 8)) ≡ length_at rest)
 unfolding body part
 next_found limit at rest f are open_gate head kind e =
-    let h = next_passed at rest f (sym (next_body limit at rest f kind) ∙ e) in
     let r = Next (field rest 8 8) in
+    let h = next_passed at rest f (sym (body_of limit at rest f r kind) ∙ e) in
     let enough = head.enough in (
       record {
         spelled =
-            put_together rest r 8 are open_gate head kind h.0 refl (sym (field_spelled 8 8 rest are (let room = head.room in let long = h.0 in omega arith))) refl;
+            put_together f.version rest r 8 are open_gate head kind h.0 refl (sym (field_spelled 8 8 rest are (let room = head.room in let long = h.0 in omega arith))) refl;
         room = omega (arith, head.room);
         sound = (h.1, h.2);
       },

@@ -111,7 +111,7 @@ module _ (b c : List ℕ) (s : Standing) (f : Folded) (stands : Stands b s) (may
       let room = may.room in
       let n : sizes (snapshot f) ≡ snapshot_size f - 32 = omega arith in
       subst (λ (m : ℕ). AreRead s.shape.data_blocks area (nothing_yet f.version) f m) n
-      (a_snapshot_is_read s.shape.data_blocks area f may.live (omega (arith, long)) records_spelled gate_behind)
+      (a_snapshot_is_read s.shape.data_blocks area f may.live may.labels (omega (arith, long)) records_spelled gate_behind)
 
 -- Once the gate of the other half is open over a snapshot, that stands in the place of what stood.
 pub an_opened_half_stands : (b c : List ℕ) (s : Standing) (f : Folded) → Stands b s → MayRewrite s f → HoldsSnapshot s f b

@@ -1,44 +1,30 @@
 -- Laws of the record Pin.
-use Rattle.std.proofs.Common.{◌≡◌, ℕ, ◌+◌, ◌^◌, ◌<◌, ◌≤◌, Bool, false, ◌==◌, List, [], ◌∷◌, ◌++◌, length, slice_index, refl, sym, ap, ◌∙◌, arith, None, Some, Option, cond}
+use Rattle.std.proofs.Common.{◌≡◌, ℕ, ◌+◌, ◌^◌, ◌<◌, ◌≤◌, Bool, ◌==◌, List, [], ◌∷◌, ◌++◌, length, slice_index, refl, sym, ap, ◌∙◌, arith, None}
 use Rattle.std.proofs.lemmas.Bool.{not-false, not_from_true, le-ltb, ltb-false, eq-eqb, eqb-true}
-use Rattle.std.specs.Option.{is_none}
 use Rattle.disk_model.specs.Places.{AreBytes, part}
 use Rattle.disk_model.specs.PartLaws.{part_split}
 use Rattle.journal_layout.specs.Layout.{number_bytes, field}
-use Rattle.journal_layout.specs.Record.{Store, Drop, Pin, Next, flag_byte, record_size, body, plain, behind_gate, spelling}
-use Rattle.journal_layout.specs.Reading.{kind_at, length_at, case_at, drop_seqs, record_at}
+use Rattle.journal_layout.specs.Record.{Pin, flag_byte, record_size, body, plain, behind_gate, spelling}
+use Rattle.journal_layout.specs.Reading.{kind_at, length_at, record_at}
 use Rattle.journal_layout.specs.Folding.{Folded}
-use Rattle.journal_layout.specs.Soundness.{IsSound, IsPinnable, case_numbered}
-use Rattle.journal_layout.specs.Checks.{first_failing, pin_checks, next_checks, store_fault, drop_fault, pin_fault, padding_fault, body_fault, record_fault}
+use Rattle.journal_layout.specs.Soundness.{IsSound, IsLive, case_numbered}
+use Rattle.journal_layout.specs.Checks.{first_failing, pin_checks, padding_fault, body_fault, record_fault}
 use Rattle.journal_layout.specs.Stands.{StandsFirst}
 use Rattle.journal_layout.specs.ByteLaws.{number_read, field_spelled, field_small}
 use Rattle.journal_layout.specs.CheckLaws.{HasHead, passes, passed, or_none, none_or}
+use Rattle.journal_layout.specs.KindLaws.{body_of, record_of, kind_high}
 use Rattle.journal_layout.specs.SpellLaws.{tells_kind, tells_length, tells_head, tells_zeros}
-use Rattle.journal_layout.specs.FoundLaws.{record_passes, put_together, byte_part, zeros_found, flag_short, flag_back, flag_found, some_found}
-
--- what a record of this kind is checked for, and what it is
-pub pin_body : (limit at : ℕ) (rest : List ℕ) (f : Folded) → kind_at rest ≡ 3 → body_fault limit at rest f ≡ pin_fault at rest f
-pin_body limit at rest f kind =
-    ap (λ (k : ℕ). cond (k == 1) (store_fault limit at rest f) (cond (k == 2) (drop_fault at rest f) (cond (k == 3) (pin_fault at rest f) (first_failing at (next_checks rest f))))) kind
-
-pub pin_is : (rest : List ℕ) → kind_at rest ≡ 3 → record_at rest ≡ Pin (field rest 8 4) (slice_index rest 12 == 1)
-unfolding record_at
-pin_is rest kind =
-    ap (λ (k : ℕ). cond (k == 1) (Store (case_at rest)) (cond (k == 2) (Drop (drop_seqs rest)) (cond (k == 3) (Pin (field rest 8 4) (slice_index rest 12 == 1)) (Next (field rest 8 8))))) kind
-
-none_of_some : {X : Type 0} (o : Option X) (x : X) → o ≡ Some x → is_none o ≡ false
-none_of_some None x e = cc
-none_of_some (Some y) x e = refl
+use Rattle.journal_layout.specs.FoundLaws.{record_passes, put_together, byte_part, zeros_found, flag_short, flag_back, flag_found, none_of_some, some_found}
 
 -- what the checks tell, both ways
-pub pin_passes : (at : ℕ) (rest : List ℕ) (f : Folded) → length_at rest ≡ 16 → IsPinnable f.cases (field rest 8 4) → slice_index rest 12 ≤ 1 → first_failing at (pin_checks rest f) ≡ None
+pub pin_passes : (at : ℕ) (rest : List ℕ) (f : Folded) → length_at rest ≡ 16 → IsLive f.cases (field rest 8 4) → slice_index rest 12 ≤ 1 → first_failing at (pin_checks rest f) ≡ None
 pin_passes at rest f long live flag =
     passes at (pin_checks rest f) (
       not_from_true _ (eq-eqb (length_at rest) 16 long),
       (none_of_some (case_numbered (field rest 8 4) f.cases) live.0 live.1, (le-ltb 1 (slice_index rest 12) flag, tt)),
     )
 
-pub pin_passed : (at : ℕ) (rest : List ℕ) (f : Folded) → first_failing at (pin_checks rest f) ≡ None → (length_at rest ≡ 16) × IsPinnable f.cases (field rest 8 4) × (slice_index rest 12 ≤ 1)
+pub pin_passed : (at : ℕ) (rest : List ℕ) (f : Folded) → first_failing at (pin_checks rest f) ≡ None → (length_at rest ≡ 16) × IsLive f.cases (field rest 8 4) × (slice_index rest 12 ≤ 1)
 pin_passed at rest f e =
     let h = passed at (pin_checks rest f) e in
     (eqb-true (length_at rest) 16 (not-false _ h.0), some_found (case_numbered (field rest 8 4) f.cases) h.1.0, ltb-false 1 (slice_index rest 12) h.1.1.0)
@@ -58,29 +44,29 @@ pin_again limit at seq flag tail f room sound =
     let b = spelling (Pin seq flag) ++ tail in
     let told = tells_seq seq flag tail sound.0 in
     let set = tells_flag seq flag tail in
-    let live : IsPinnable f.cases (field b 8 4) = rw told sound.1 in (
-      record_passes limit at b f (tells_head (Pin seq flag) tail (omega arith) room)
-          (pin_body limit at b f (tells_kind (Pin seq flag) tail)
+    let live : IsLive f.cases (field b 8 4) = rw told sound.1 in (
+      record_passes limit at b f (tells_head (Pin seq flag) tail f.version (kind_high limit f (Pin seq flag) sound) (omega arith) room)
+          (body_of limit at b f (Pin seq flag) (tells_kind (Pin seq flag) tail)
           ∙ none_or (first_failing at (pin_checks b f)) (padding_fault at b 13)
           (pin_passes at b f (tells_length (Pin seq flag) tail (omega arith)) live (rw set (flag_short flag)))
           (tells_zeros (Pin seq flag) tail at (omega arith))),
-      pin_is b (tells_kind (Pin seq flag) tail)
+      record_of b (Pin seq flag) (tells_kind (Pin seq flag) tail)
           ∙ ap (λ (m : ℕ). Pin m (slice_index b 12 == 1)) told
           ∙ ap (λ (t : Bool). Pin seq t) (ap (λ (m : ℕ). m == 1) set ∙ flag_back flag),
     )
 
 -- what is read is in the grammar
-pub pin_found : (limit at : ℕ) (rest : List ℕ) (f : Folded) → AreBytes rest → slice_index rest 0 ≡ 165 → HasHead rest → kind_at rest ≡ 3
+pub pin_found : (limit at : ℕ) (rest : List ℕ) (f : Folded) → AreBytes rest → slice_index rest 0 ≡ 165 → HasHead f.version rest → kind_at rest ≡ 3
     → body_fault limit at rest f ≡ None → StandsFirst limit rest f (Pin (field rest 8 4) (slice_index rest 12 == 1)) × (record_size (Pin (field rest 8 4) (slice_index rest 12 == 1)) ≡ length_at rest)
 unfolding body
 pin_found limit at rest f are open_gate head kind e =
-    let both = or_none (first_failing at (pin_checks rest f)) (padding_fault at rest 13) (sym (pin_body limit at rest f kind) ∙ e) in
-    let h = pin_passed at rest f both.0 in
     let r = Pin (field rest 8 4) (slice_index rest 12 == 1) in
+    let both = or_none (first_failing at (pin_checks rest f)) (padding_fault at rest 13) (sym (body_of limit at rest f r kind) ∙ e) in
+    let h = pin_passed at rest f both.0 in
     let enough = head.enough in (
       record {
         spelled =
-            put_together rest r 5 are open_gate head kind h.0 refl
+            put_together f.version rest r 5 are open_gate head kind h.0 refl
             (part_split rest 8 4 1
             ∙ ap (λ (l : List ℕ). l ++ part rest 12 1) (sym (field_spelled 4 8 rest are (omega arith)))
             ∙ ap (λ (l : List ℕ). number_bytes 4 (field rest 8 4) ++ l)

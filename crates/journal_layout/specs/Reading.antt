@@ -7,7 +7,7 @@ use Rattle.journal_layout.specs.declared.entry.Kind.{Kind}
 use Rattle.journal_layout.specs.declared.entry.Kind.TheVariants.{Core, Exec}
 use Rattle.journal_layout.specs.Layout.{field}
 use Rattle.journal_layout.specs.Case.{Case}
-use Rattle.journal_layout.specs.Record.{Record, Store, Drop, Pin, Next}
+use Rattle.journal_layout.specs.Record.{Record, Store, Drop, Pin, Next, Label}
 
 -- every record
 abbrev pub kind_at : List ℕ → ℕ
@@ -15,6 +15,17 @@ kind_at rest = slice_index rest 1
 
 abbrev pub length_at : List ℕ → ℕ
 length_at rest = field rest 4 4
+
+-- The choice by the byte of a kind: one for each kind of record, in the order of their bytes, and the last for a byte that
+-- stands for no kind.
+abbrev pub by_kind : {X : Type 0} → ℕ → X → X → X → X → X → X → X
+by_kind kind store drop pin next label none =
+    if kind == 1 then store
+    else if kind == 2 then drop
+    else if kind == 3 then pin
+    else if kind == 4 then next
+    else if kind == 5 then label
+    else none
 
 -- Store
 abbrev pub name_length_at : List ℕ → ℕ
@@ -41,6 +52,7 @@ name_at rest = part rest (name_place rest) (name_length_at rest)
 abbrev pub kind_of_byte : ℕ → Kind
 kind_of_byte b = if b == 1 then Core else Exec
 
+-- a case as it is stored, without a label
 abbrev pub case_at : List ℕ → Case
 case_at rest = record {
   seq = field rest 8 4;
@@ -52,6 +64,7 @@ case_at rest = record {
   pinned = slice_index rest 13 == 1;
   len = field rest 32 8;
   blocks = blocks_of (store_runs rest);
+  label = [];
 }
 
 -- the n numbers of cases that stand at the front of these bytes
@@ -66,10 +79,20 @@ seq_count_at rest = field rest 8 4
 abbrev pub drop_seqs : List ℕ → List ℕ
 drop_seqs rest = seqs_at (drop 12 rest) (seq_count_at rest)
 
--- the record
+-- Label
+abbrev pub label_length_at : List ℕ → ℕ
+label_length_at rest = field rest 12 2
+
+abbrev pub label_at : List ℕ → List ℕ
+label_at rest = part rest 16 (label_length_at rest)
+
+-- the record, or one that is never sound where the byte stands for no kind
 unfoldable pub record_at : List ℕ → Record
 record_at rest =
-    if kind_at rest == 1 then Store (case_at rest)
-    else if kind_at rest == 2 then Drop (drop_seqs rest)
-    else if kind_at rest == 3 then Pin (field rest 8 4) (slice_index rest 12 == 1)
-    else Next (field rest 8 8)
+    by_kind (kind_at rest)
+    (Store (case_at rest))
+    (Drop (drop_seqs rest))
+    (Pin (field rest 8 4) (slice_index rest 12 == 1))
+    (Next (field rest 8 8))
+    (Label (field rest 8 4) (label_at rest))
+    (Drop [])

@@ -18,6 +18,8 @@ pub data Record : Type 0 where
   Pin : ℕ → Bool → Record
   -- the next case gets this number
   Next : ℕ → Record
+  -- a case has this label from here on
+  Label : ℕ → List ℕ → Record
 
 -- rounded up to a multiple of 16
 abbrev pub rounded : ℕ → ℕ
@@ -37,7 +39,7 @@ run_bytes r = number_bytes 4 r.start ++ number_bytes 4 r.count
 unfoldable pub seq_bytes : ℕ → List ℕ
 seq_bytes seq = number_bytes 4 seq
 
--- the body of a Store record up to its runs: places 8 to 48 of the record
+-- the body of a Store record up to its runs: places 8 to 48 of the record. The case's label is no part of it.
 unfoldable pub store_facts : Case → List ℕ
 store_facts c =
     number_bytes 4 c.seq ++ (kind_byte c.kind ∷ flag_byte c.pinned ∷ []) ++ number_bytes 2 (length c.name)
@@ -50,6 +52,7 @@ plain_size (Store c) = 48 + 8 * length (runs_of c.blocks) + length c.name
 plain_size (Drop seqs) = 12 + 4 * length seqs
 plain_size (Pin seq flag) = 13
 plain_size (Next n) = 16
+plain_size (Label seq text) = 16 + length text
 
 -- the bytes of a record
 abbrev pub record_size : Record → ℕ
@@ -61,6 +64,7 @@ record_kind (Store c) = 1
 record_kind (Drop seqs) = 2
 record_kind (Pin seq flag) = 3
 record_kind (Next n) = 4
+record_kind (Label seq text) = 5
 
 -- what stands from place 8 of a record on
 unfoldable pub body : Record → List ℕ
@@ -68,6 +72,7 @@ body (Store c) = store_facts c ++ flat_map run_bytes (runs_of c.blocks) ++ c.nam
 body (Drop seqs) = number_bytes 4 (length seqs) ++ flat_map seq_bytes seqs
 body (Pin seq flag) = number_bytes 4 seq ++ flag_byte flag ∷ []
 body (Next n) = number_bytes 8 n
+body (Label seq text) = number_bytes 4 seq ++ number_bytes 2 (length text) ++ replicate 2 0 ++ text
 
 -- a record behind its gate, without its padding
 unfoldable pub plain : Record → List ℕ

@@ -5,12 +5,12 @@ use Rattle.disk_model.specs.Places.{part}
 use Rattle.journal_layout.specs.declared.shape.Half.{Half}
 use Rattle.journal_layout.specs.declared.shape.Half.TheVariants.{A, B}
 use Rattle.journal_layout.specs.Layout.{half_start, half_length, half_header}
-use Rattle.journal_layout.specs.Case.{Case}
-use Rattle.journal_layout.specs.Record.{Record, Store, Next, record_size, spelling}
+use Rattle.journal_layout.specs.Case.{Case, unlabelled}
+use Rattle.journal_layout.specs.Record.{Record, Store, Next, Label, record_size, spelling}
 use Rattle.journal_layout.specs.Folding.{Folded, after, sizes}
 use Rattle.journal_layout.specs.Soundness.{IsSound}
 use Rattle.journal_layout.specs.Front.{is_known}
-use Rattle.journal_layout.specs.Live.{AreLive}
+use Rattle.journal_layout.specs.Live.{AreLive, AreLabelled}
 use Rattle.journal_layout.specs.Standing.{Standing, folded_of}
 
 abbrev pub other_half : Half → Half
@@ -21,12 +21,17 @@ other_half B = A
 abbrev pub other_start : Standing → ℕ
 other_start s = half_start s.shape (other_half s.half)
 
+-- the record of a case's label, where it is not empty
+abbrev pub label_records : ℕ → List ℕ → List Record
+label_records seq [] = []
+label_records seq (b ∷ rest) = Label seq (b ∷ rest) ∷ []
+
 -- the records that say a case
 abbrev pub case_records : Case → List Record
-case_records c = Store c ∷ []
+case_records c = Store (unlabelled c) ∷ label_records c.seq c.label
 
 -- The records that say these cases and this next number, and nothing else: those of each case, in the order of their
--- numbers, and one of the next number.
+-- numbers, and one of the next number. Where no case has a label, they are records of both versions.
 abbrev pub snapshot : Folded → List Record
 snapshot f = flat_map case_records f.cases ++ Next f.next ∷ []
 
@@ -54,6 +59,14 @@ rewritten s f = record s {
   used = snapshot_size f;
 }
 
+-- the same cases and next number in version 2 of the layout
+abbrev pub in_version_two : Folded → Folded
+in_version_two f = record f { version = 2 }
+
+-- after they were written anew in that version
+abbrev pub upgraded : Standing → Standing
+upgraded s = rewritten s (in_version_two (folded_of s))
+
 -- The other half of these bytes holds the records behind a header of the next generation, and a gate behind them that is
 -- not open. Its own gate is not looked at.
 pub record HoldsSnapshot (s : Standing) (f : Folded) (b : List ℕ) : Type 0 where
@@ -64,6 +77,7 @@ pub record HoldsSnapshot (s : Standing) (f : Folded) (b : List ℕ) : Type 0 whe
 -- the cases may be written anew into the other half
 pub record MayRewrite (s : Standing) (f : Folded) : Type 0 where
   pub live : AreLive s.shape.data_blocks f.cases f.next
+  pub labels : AreLabelled f.version f.cases
   pub known : is_known f.version ≡ true
   -- with the gate behind the records
   pub room : snapshot_size f + 1 ≤ half_length s.shape

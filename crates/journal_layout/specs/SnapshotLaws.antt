@@ -1,20 +1,20 @@
 -- Laws of the records that say some cases and nothing else: they say them, and bytes that hold them are read as them.
-use Rattle.std.proofs.Common.{◌≡◌, ◌≢◌, ℕ, ◌+◌, ◌^◌, ◌<◌, ◌≤◌, false, List, [], ◌∷◌, ◌++◌, length, take, drop, map, slice_index, refl, sym, ap, ◌∙◌, subst, arith, append_assoc}
+use Rattle.std.proofs.Common.{◌≡◌, ◌≢◌, inl, inr, ℕ, ◌+◌, ◌^◌, ◌<◌, ◌≤◌, false, Some, List, [], ◌∷◌, ◌++◌, length, take, drop, map, slice_index, refl, sym, ap, ◌∙◌, subst, arith, append_assoc}
 use Rattle.std.specs.List.{AllByRecursion, flat_map}
 use Rattle.std.specs.Str.{bytes_eq}
-use Rattle.std.proofs.lemmas.Bool.{or_parts}
+use Rattle.std.proofs.lemmas.Bool.{or_parts, cases_eq, eq-eqb, ne_eqb}
 use Rattle.std.proofs.lemmas.List.{take-take, drop-take, take_at, drop_at, length-drop, append-nil}
 use Rattle.std.proofs.lemmas.List.Elements.{recursion_from_All}
-use Rattle.journal_layout.specs.Case.{Case}
-use Rattle.journal_layout.specs.Record.{Record, Store, Next, record_size, spelling}
-use Rattle.journal_layout.specs.Folding.{Folded, nothing_yet, after, replayed, sizes, used_blocks, is_name_of}
-use Rattle.journal_layout.specs.Soundness.{IsSound, Rise, uses}
+use Rattle.journal_layout.specs.Case.{Case, unlabelled}
+use Rattle.journal_layout.specs.Record.{Record, Store, Next, Label, record_size, spelling}
+use Rattle.journal_layout.specs.Folding.{Folded, nothing_yet, with_label, after, replayed, sizes, used_blocks, is_name_of}
+use Rattle.journal_layout.specs.Soundness.{IsSound, IsLabel, Rise, uses, case_numbered}
 use Rattle.journal_layout.specs.SpareLaws.{uses-append}
 use Rattle.journal_layout.specs.SpellLaws.{length-spelling}
 use Rattle.journal_layout.specs.Stands.{StandInRow, AreRead}
-use Rattle.journal_layout.specs.Live.{seq_of_case, IsWhole, AreNamedApart, AreLive}
+use Rattle.journal_layout.specs.Live.{seq_of_case, IsWhole, AreNamedApart, AreLive, HasNoLabel, AreLabelled}
 use Rattle.journal_layout.specs.LiveLaws.{name_sym, name_push, uses_stored}
-use Rattle.journal_layout.specs.Rewriting.{case_records, snapshot, AreSound}
+use Rattle.journal_layout.specs.Rewriting.{label_records, case_records, snapshot, AreSound}
 
 -- bytes that hold sound records
 
@@ -56,19 +56,38 @@ read_spelled limit bytes f rs sound room e closed = record {
 -- the records of live cases
 
 -- The cases `done` are said already, the last of them under the number `last`. What is left goes with them.
-record MayFollow (limit next last : ℕ) (done rest : List Case) : Type 0 where
+record MayFollow (limit version next last : ℕ) (done rest : List Case) : Type 0 where
   numbers : next ≤ 2 ^ 32
   low : last + 1 ≤ next
+  before : AllByRecursion (λ (c : Case). c.seq ≤ last) done
   each : AllByRecursion (IsWhole next) rest
+  labels : version ≢ 2 → AllByRecursion HasNoLabel rest
   rise : Rise last (map seq_of_case rest)
   once : (k : ℕ) → uses k (used_blocks done) + uses k (used_blocks rest) ≤ 1
   within : (k : ℕ) → 0 < uses k (used_blocks rest) → k < limit
   different : AreNamedApart rest
   new : AllByRecursion (λ (c : Case). is_name_of done c.name ≡ false) rest
 
-module _ (limit next last : ℕ) (c : Case) (done rest : List Case) (may : MayFollow limit next last done (c ∷ rest)) where
-  first_sound : (version : ℕ) → IsSound limit (record { version = version; cases = done; next = last + 1 }) (Store c)
-  first_sound version =
+-- what these cases and this next number say in this version
+abbrev told : ℕ → List Case → ℕ → Folded
+told version cases next = record { version = version; cases = cases; next = next }
+
+-- a case behind others of other numbers
+
+-- it is found by its number
+last_found : (c : Case) (done : List Case) → AllByRecursion (λ (d : Case). d.seq ≢ c.seq) done → case_numbered c.seq (done ++ c ∷ []) ≡ Some c
+last_found c [] others = rw (eq-eqb c.seq c.seq refl) refl
+last_found c (d ∷ rest) others = rw (ne_eqb d.seq c.seq others.0) (last_found c rest others.1)
+
+-- and gets its label
+last_labelled : (c : Case) (done : List Case) → AllByRecursion (λ (d : Case). d.seq ≢ c.seq) done
+    → with_label c.seq c.label (done ++ unlabelled c ∷ []) ≡ done ++ c ∷ []
+last_labelled c [] others = rw (eq-eqb c.seq c.seq refl) refl
+last_labelled c (d ∷ rest) others = rw (ne_eqb d.seq c.seq others.0) (ap (λ (l : List Case). d ∷ l) (last_labelled c rest others.1))
+
+module _ (limit version next last : ℕ) (c : Case) (done rest : List Case) (may : MayFollow limit version next last done (c ∷ rest)) where
+  first_sound : IsSound limit (told version done (last + 1)) (Store (unlabelled c))
+  first_sound =
       let whole = may.each.0 in
       let numbers = may.numbers in
       let below = whole.below in (
@@ -87,7 +106,50 @@ module _ (limit next last : ℕ) (c : Case) (done rest : List Case) (may : MayFo
             omega (arith, may.once k, uses-append k c.blocks (used_blocks rest)),
             omega (arith, may.once k, uses-append k c.blocks (used_blocks rest)),
           );
+          no_label = refl;
         },
+      )
+
+  others : (l : List Case) → AllByRecursion (λ (d : Case). d.seq ≤ last) l → AllByRecursion (λ (d : Case). d.seq ≢ c.seq) l
+  others [] each = tt
+  others (d ∷ l) each = ((λ e. omega (arith, each.0, e, may.rise.0)), others l each.1)
+
+  -- a label that is not empty is kept by this version
+  version_two : (b : ℕ) (text : List ℕ) → c.label ≡ b ∷ text → version ≡ 2
+  version_two b text is =
+      elim (cases_eq version 2) as (λ _. version ≡ 2) [
+        | inl two ↦ two
+        | inr other ↦ absurd (clash (sym is ∙ (may.labels other).0))
+      ]
+    where
+      clash : b ∷ text ≡ [] → ⊥
+      clash e = cc
+
+  label_first : (b : ℕ) (text : List ℕ) → c.label ≡ b ∷ text → IsSound limit (told version (done ++ unlabelled c ∷ []) (c.seq + 1)) (Label c.seq (b ∷ text))
+  label_first b text is =
+      let whole = may.each.0 in
+      let numbers = may.numbers in
+      let below = whole.below in (
+        version_two b text is,
+        omega arith,
+        (unlabelled c, last_found (unlabelled c) done (others done may.before)),
+        subst IsLabel is whole.label,
+      )
+
+  -- the records of the case are sound, and say it behind the others
+  case_said : (more : List Record) (text : List ℕ) → c.label ≡ text
+      → (AreSound limit (told version (done ++ c ∷ []) (c.seq + 1)) more → AreSound limit (told version done (last + 1)) (Store (unlabelled c) ∷ (label_records c.seq text ++ more)))
+      × (replayed (Store (unlabelled c) ∷ (label_records c.seq text ++ more)) (told version done (last + 1)) ≡ replayed more (told version (done ++ c ∷ []) (c.seq + 1)))
+  case_said more [] is =
+      let same : unlabelled c ≡ c = ap (λ (l : List ℕ). let d : Case = record c { label = l } in d) (sym is) in (
+        λ sound. (first_sound, subst (λ (d : Case). AreSound limit (told version (done ++ d ∷ []) (c.seq + 1)) more) (sym same) sound),
+        ap (λ (d : Case). replayed more (told version (done ++ d ∷ []) (c.seq + 1))) same,
+      )
+  case_said more (b ∷ text) is =
+      let same : with_label c.seq (b ∷ text) (done ++ unlabelled c ∷ []) ≡ done ++ c ∷ [] =
+      ap (λ (l : List ℕ). with_label c.seq l (done ++ unlabelled c ∷ [])) (sym is) ∙ last_labelled c done (others done may.before) in (
+        λ sound. (first_sound, (label_first b text is, subst (λ (l : List Case). AreSound limit (told version l (c.seq + 1)) more) (sym same) sound)),
+        ap (λ (l : List Case). replayed more (told version l (c.seq + 1))) same,
       )
 
   new_behind : (l : List Case) → is_name_of l c.name ≡ false → AllByRecursion (λ (d : Case). is_name_of done d.name ≡ false) l
@@ -97,11 +159,17 @@ module _ (limit next last : ℕ) (c : Case) (done rest : List Case) (may : MayFo
       let h = or_parts (bytes_eq d.name c.name) (is_name_of l c.name) none in
       (name_push done c d.name each.0 (name_sym d.name c.name h.0), new_behind l h.1 each.1)
 
-  rest_follows : MayFollow limit next c.seq (done ++ c ∷ []) rest
+  before_rest : (l : List Case) → AllByRecursion (λ (d : Case). d.seq ≤ last) l → AllByRecursion (λ (d : Case). d.seq ≤ c.seq) (l ++ c ∷ [])
+  before_rest [] each = (omega arith, tt)
+  before_rest (d ∷ l) each = (omega (arith, each.0, may.rise.0), before_rest l each.1)
+
+  rest_follows : MayFollow limit version next c.seq (done ++ c ∷ []) rest
   rest_follows = record {
     numbers = may.numbers;
     low = (let below = may.each.0.below in omega arith);
+    before = before_rest done may.before;
     each = may.each.1;
+    labels = λ other. (may.labels other).1;
     rise = may.rise.1;
     once = λ k. omega (arith, may.once k, uses_stored k done c, uses-append k c.blocks (used_blocks rest));
     within = λ k some. may.within k (omega (arith, uses-append k c.blocks (used_blocks rest)));
@@ -110,26 +178,33 @@ module _ (limit next last : ℕ) (c : Case) (done rest : List Case) (may : MayFo
   }
 
 -- the records of those that are left are sound, and say them behind the others
-follow : (limit version next last : ℕ) (done rest : List Case) → MayFollow limit next last done rest
-    → AreSound limit (record { version = version; cases = done; next = last + 1 }) (flat_map case_records rest ++ Next next ∷ [])
-    × (replayed (flat_map case_records rest ++ Next next ∷ []) (record { version = version; cases = done; next = last + 1 })
-    ≡ record { version = version; cases = done ++ rest; next = next })
+follow : (limit version next last : ℕ) (done rest : List Case) → MayFollow limit version next last done rest
+    → AreSound limit (told version done (last + 1)) (flat_map case_records rest ++ Next next ∷ [])
+    × (replayed (flat_map case_records rest ++ Next next ∷ []) (told version done (last + 1)) ≡ told version (done ++ rest) next)
 follow limit version next last done [] may =
-    (((may.low, may.numbers), tt), ap (λ (l : List Case). record { version = version; cases = l; next = next }) (sym (append-nil done)))
+    (((may.low, may.numbers), tt), ap (λ (l : List Case). told version l next) (sym (append-nil done)))
 follow limit version next last done (c ∷ rest) may =
-    let behind = follow limit version next c.seq (done ++ c ∷ []) rest (rest_follows limit next last c done rest may) in (
-      (first_sound limit next last c done rest may version, behind.0),
-      behind.1 ∙ ap (λ (l : List Case). record { version = version; cases = l; next = next }) (append_assoc done (c ∷ []) rest),
+    let behind = follow limit version next c.seq (done ++ c ∷ []) rest (rest_follows limit version next last c done rest may) in
+    let more : List Record = flat_map case_records rest ++ Next next ∷ [] in
+    let here = case_said limit version next last c done rest may more c.label refl in
+    let joined : flat_map case_records (c ∷ rest) ++ Next next ∷ [] ≡ case_records c ++ more = append_assoc (case_records c) (flat_map case_records rest) (Next next ∷ []) in (
+      subst (AreSound limit (told version done (last + 1))) (sym joined) (here.0 behind.0),
+      ap (λ (l : List Record). replayed l (told version done (last + 1))) joined
+          ∙ here.1
+          ∙ behind.1
+          ∙ ap (λ (l : List Case). told version l next) (append_assoc done (c ∷ []) rest),
     )
 
 -- The records of live cases are sound from the first one on, and say exactly these cases and this next number.
-pub a_snapshot_says_all : (limit : ℕ) (f : Folded) → AreLive limit f.cases f.next
+pub a_snapshot_says_all : (limit : ℕ) (f : Folded) → AreLive limit f.cases f.next → AreLabelled f.version f.cases
     → AreSound limit (nothing_yet f.version) (snapshot f) × (replayed (snapshot f) (nothing_yet f.version) ≡ f)
-a_snapshot_says_all limit f live =
+a_snapshot_says_all limit f live labels =
     follow limit f.version f.next 0 [] f.cases (record {
       numbers = live.numbers;
       low = live.some_next;
+      before = tt;
       each = recursion_from_All (IsWhole f.next) f.cases live.each;
+      labels = λ other. recursion_from_All HasNoLabel f.cases (labels other);
       rise = live.rise;
       once = λ k. omega (arith, live.once k);
       within = live.within;
@@ -142,10 +217,10 @@ a_snapshot_says_all limit f live =
     none (c ∷ l) = (refl, none l)
 
 -- bytes that hold them, and a gate behind them that is not open, are read as these cases
-pub a_snapshot_is_read : (limit : ℕ) (bytes : List ℕ) (f : Folded) → AreLive limit f.cases f.next → sizes (snapshot f) + 1 ≤ length bytes
+pub a_snapshot_is_read : (limit : ℕ) (bytes : List ℕ) (f : Folded) → AreLive limit f.cases f.next → AreLabelled f.version f.cases → sizes (snapshot f) + 1 ≤ length bytes
     → take (sizes (snapshot f)) bytes ≡ flat_map spelling (snapshot f) → slice_index bytes (sizes (snapshot f)) ≢ 165
     → AreRead limit bytes (nothing_yet f.version) f (sizes (snapshot f))
-a_snapshot_is_read limit bytes f live room spelled closed =
-    let all = a_snapshot_says_all limit f live in
+a_snapshot_is_read limit bytes f live labels room spelled closed =
+    let all = a_snapshot_says_all limit f live labels in
     subst (λ (g : Folded). AreRead limit bytes (nothing_yet f.version) g (sizes (snapshot f))) all.1
     (read_spelled limit bytes (nothing_yet f.version) (snapshot f) all.0 room spelled closed)

@@ -3,7 +3,7 @@ use Rattle.std.specs.Prelude.{◌≡◌, ◌≢◌, ℕ, ◌+◌, ◌/◌, ◌^�
 use Rattle.std.specs.List.{AllByRecursion}
 use Rattle.disk_model.specs.Places.{AreBytes}
 use Rattle.journal_layout.specs.Case.{Case}
-use Rattle.journal_layout.specs.Record.{Record, Store, Drop, Pin, Next}
+use Rattle.journal_layout.specs.Record.{Record, Store, Drop, Pin, Next, Label}
 use Rattle.journal_layout.specs.Folding.{Folded, used_blocks, is_name_of}
 
 -- how often a number stands in a list
@@ -26,7 +26,17 @@ pub record IsName (name : List ℕ) : Type 0 where
   pub bytes : AreBytes name
   pub no_nul : AllByRecursion (λ (b : ℕ). b ≢ 0) name
 
--- A case may be stored where these cases are live, on an archive of `limit` data blocks. Its number isn't looked at.
+-- 0 to 64 bytes
+pub record IsLabel (text : List ℕ) : Type 0 where
+  pub short : length text ≤ 64
+  pub bytes : AreBytes text
+
+-- The greatest byte that stands for a kind of record in a half of this version: labels came with version 2.
+abbrev pub last_kind : ℕ → ℕ
+last_kind version = if version == 2 then 5 else 4
+
+-- A case may be stored where these cases are live, on an archive of so many data blocks. Its number isn't looked at. It has
+-- no label yet: that is said by a record of its own.
 pub record IsStorable (limit : ℕ) (cases : List Case) (c : Case) : Type 0 where
   pub name : IsName c.name
   pub new_name : is_name_of cases c.name ≡ false
@@ -37,14 +47,16 @@ pub record IsStorable (limit : ℕ) (cases : List Case) (c : Case) : Type 0 wher
   -- as many blocks as its bytes need
   pub enough : length c.blocks ≡ blocks_for c.len
   pub spare : AreSpare limit (used_blocks cases) c.blocks
+  pub no_label : c.label ≡ []
 
 -- the case of this number, if there is one
 abbrev pub case_numbered : ℕ → List Case → Option Case
 case_numbered seq [] = None
 case_numbered seq (c ∷ rest) = if c.seq == seq then Some c else case_numbered seq rest
 
-abbrev pub IsPinnable : List Case → ℕ → Type 0
-IsPinnable cases seq = (c : Case) × (case_numbered seq cases ≡ Some c)
+-- one of the cases has this number
+abbrev pub IsLive : List Case → ℕ → Type 0
+IsLive cases seq = (c : Case) × (case_numbered seq cases ≡ Some c)
 
 abbrev pub IsDroppable : List Case → ℕ → Type 0
 IsDroppable cases seq = (c : Case) × (case_numbered seq cases ≡ Some c) × (c.pinned ≡ false)
@@ -58,5 +70,6 @@ Rise last (seq ∷ rest) = (last < seq) × Rise seq rest
 abbrev pub IsSound : ℕ → Folded → Record → Type 0
 IsSound limit f (Store c) = (f.next ≤ c.seq) × (c.seq < 2 ^ 32) × IsStorable limit f.cases c
 IsSound limit f (Drop seqs) = (0 < length seqs) × Rise 0 seqs × AllByRecursion (λ (seq : ℕ). seq < 2 ^ 32) seqs × AllByRecursion (IsDroppable f.cases) seqs
-IsSound limit f (Pin seq flag) = (seq < 2 ^ 32) × IsPinnable f.cases seq
+IsSound limit f (Pin seq flag) = (seq < 2 ^ 32) × IsLive f.cases seq
 IsSound limit f (Next n) = (f.next ≤ n) × (n ≤ 2 ^ 32)
+IsSound limit f (Label seq text) = (f.version ≡ 2) × (seq < 2 ^ 32) × IsLive f.cases seq × IsLabel text

@@ -6,9 +6,10 @@ use Rattle.disk_model.specs.Places.{part}
 use Rattle.extents.specs.declared.run_list.Run.{Run}
 use Rattle.extents.specs.Runs.{runs_of}
 use Rattle.journal_layout.specs.Layout.{number_bytes, field}
-use Rattle.journal_layout.specs.Case.{Case}
-use Rattle.journal_layout.specs.Record.{Record, Store, Drop, Pin, Next, rounded, flag_byte, run_bytes, seq_bytes, store_facts, plain_size, record_size, record_kind, body, plain, behind_gate, spelling}
+use Rattle.journal_layout.specs.Case.{Case, unlabelled}
+use Rattle.journal_layout.specs.Record.{Record, Store, Drop, Pin, Next, Label, rounded, flag_byte, run_bytes, seq_bytes, store_facts, plain_size, record_size, record_kind, body, plain, behind_gate, spelling}
 use Rattle.journal_layout.specs.Reading.{kind_at, length_at}
+use Rattle.journal_layout.specs.Soundness.{last_kind}
 use Rattle.journal_layout.specs.Checks.{padding_fault}
 use Rattle.journal_layout.specs.ByteLaws.{length-number_bytes, number_read}
 use Rattle.journal_layout.specs.CheckLaws.{HasHead, padding_passes}
@@ -51,6 +52,11 @@ length-body (Drop seqs) =
     omega (arith, length-append (number_bytes 4 (length seqs)) (flat_map seq_bytes seqs), length-number_bytes 4 (length seqs), length-seqs seqs)
 length-body (Pin seq flag) = omega (arith, length-append (number_bytes 4 seq) (flag_byte flag ∷ []), length-number_bytes 4 seq)
 length-body (Next n) = omega (arith, length-number_bytes 8 n)
+length-body (Label seq text) =
+    let a = length-append (number_bytes 4 seq ++ number_bytes 2 (length text) ++ replicate 2 0) text in
+    let b = length-append (number_bytes 4 seq ++ number_bytes 2 (length text)) (replicate 2 0) in
+    let c = length-append (number_bytes 4 seq) (number_bytes 2 (length text)) in
+    omega (arith, length-number_bytes 4 seq, length-number_bytes 2 (length text))
 
 pub length-plain : (r : Record) → 1 + length (plain r) ≡ plain_size r
 unfolding plain
@@ -73,6 +79,7 @@ plain_some (Store c) = omega arith
 plain_some (Drop seqs) = omega arith
 plain_some (Pin seq flag) = omega arith
 plain_some (Next n) = omega arith
+plain_some (Label seq text) = omega arith
 
 pub record_some : (r : Record) → 16 ≤ record_size r
 record_some r = omega (arith, plain_some r)
@@ -82,12 +89,12 @@ kind_low (Store c) = omega arith
 kind_low (Drop seqs) = omega arith
 kind_low (Pin seq flag) = omega arith
 kind_low (Next n) = omega arith
+kind_low (Label seq text) = omega arith
 
-pub kind_high : (r : Record) → record_kind r ≤ 4
-kind_high (Store c) = omega arith
-kind_high (Drop seqs) = omega arith
-kind_high (Pin seq flag) = omega arith
-kind_high (Next n) = omega arith
+-- a case's label is no part of its Store record
+pub spelling_unlabelled : (c : Case) → spelling (Store (unlabelled c)) ≡ spelling (Store c)
+unfolding behind_gate plain body store_facts
+spelling_unlabelled c = refl
 
 -- What a spelling with anything behind it tells.
 module _ (r : Record) (tail : List ℕ) where
@@ -121,12 +128,13 @@ module _ (r : Record) (tail : List ℕ) where
       ∙ drop_at (165 ∷ plain r) (replicate zeros 0 ++ tail) (plain_size r) (omega (arith, length-plain r)))
       ∙ take_at (replicate zeros 0) tail zeros (length-replicate zeros 0)
 
-  -- the checks that every record begins with pass
-  pub tells_head : record_size r < 2 ^ 32 → record_size r + 1 ≤ length (spelling r ++ tail) → HasHead (spelling r ++ tail)
-  tells_head small room = record {
+  -- the checks that every record begins with pass, in a half of a version that has its kind
+  pub tells_head : (version : ℕ) → record_kind r ≤ last_kind version → record_size r < 2 ^ 32 → record_size r + 1 ≤ length (spelling r ++ tail)
+      → HasHead version (spelling r ++ tail)
+  tells_head version known small room = record {
     enough = omega (arith, record_some r);
     some_kind = rw tells_kind (kind_low r);
-    known_kind = rw tells_kind (kind_high r);
+    known_kind = rw tells_kind known;
     reserved = tells_reserved;
     long = rw (tells_length small) (record_some r);
     whole = rw (tells_length small) (rounded_whole (plain_size r));

@@ -1,5 +1,5 @@
 -- Laws of the record Store.
-use Rattle.std.proofs.Common.{◌≡◌, ◌≢◌, ◌⊎◌, inl, inr, ⊎_elim, ℕ, ◌+◌, ◌-◌, ◌*◌, ◌^◌, ◌<◌, ◌≤◌, Bool, false, not, nat_eq, ◌==◌, ◌&&◌, List, [], ◌∷◌, ◌++◌, length, replicate, take, drop, slice_index, refl, sym, ap, ◌∙◌, arith, None, cond, append_assoc}
+use Rattle.std.proofs.Common.{◌≡◌, ◌≢◌, ◌⊎◌, inl, inr, ⊎_elim, ℕ, ◌+◌, ◌-◌, ◌*◌, ◌^◌, ◌<◌, ◌≤◌, Bool, false, not, nat_eq, ◌==◌, ◌&&◌, List, [], ◌∷◌, ◌++◌, length, replicate, take, drop, slice_index, refl, sym, ap, ◌∙◌, arith, None, append_assoc}
 use Rattle.std.proofs.lemmas.List.{drop-drop, length-drop, take_at, drop_at}
 use Rattle.std.proofs.lemmas.Bool.{or_parts, or_from, not-false, not_from_true, and_cases, and_left, and_right, le-ltb, ltb-false, eq-eqb, eqb-true, ne_eqb, eqb-false}
 use Rattle.std.specs.Option.{option_or}
@@ -14,29 +14,20 @@ use Rattle.journal_layout.specs.declared.entry.Kind.TheVariants.{Core, Exec}
 use Rattle.journal_layout.specs.declared.faults.Field.TheVariants as named
 use Rattle.journal_layout.specs.Layout.{number_bytes, field}
 use Rattle.journal_layout.specs.Case.{Case}
-use Rattle.journal_layout.specs.Record.{Store, Drop, Pin, Next, rounded, kind_byte, flag_byte, run_bytes, store_facts, plain_size, record_size, body, plain, behind_gate, spelling}
-use Rattle.journal_layout.specs.Reading.{kind_at, length_at, name_length_at, run_count_at, runs_at, store_runs, name_place, name_at, kind_of_byte, case_at, drop_seqs, record_at}
+use Rattle.journal_layout.specs.Record.{Store, rounded, kind_byte, flag_byte, run_bytes, store_facts, plain_size, record_size, body, plain, behind_gate, spelling}
+use Rattle.journal_layout.specs.Reading.{kind_at, length_at, name_length_at, run_count_at, runs_at, store_runs, name_place, name_at, kind_of_byte, case_at, record_at}
 use Rattle.journal_layout.specs.Folding.{Folded, is_among, is_name_of, used_blocks}
 use Rattle.journal_layout.specs.Soundness.{IsSound, AreSpare, blocks_for}
-use Rattle.journal_layout.specs.Checks.{damaged, first_failing, store_checks, name_checks, first_bad_run, runs_fault, block_count, next_checks, store_fault, drop_fault, pin_fault, padding_fault, body_fault, record_fault}
+use Rattle.journal_layout.specs.Checks.{damaged, first_failing, store_checks, name_checks, first_bad_run, runs_fault, block_count, padding_fault, body_fault, record_fault}
 use Rattle.journal_layout.specs.Stands.{StandsFirst}
 use Rattle.journal_layout.specs.ByteLaws.{number_read, field_spelled, field_small}
 use Rattle.journal_layout.specs.CheckLaws.{HasHead, passes, passed, or_none, none_or, map_none, none_map}
+use Rattle.journal_layout.specs.KindLaws.{body_of, record_of, kind_high}
 use Rattle.journal_layout.specs.SpellLaws.{tells_kind, tells_length, tells_head, tells_zeros, rounded_up, length-runs}
 use Rattle.journal_layout.specs.FoundLaws.{record_passes, put_together, zeros_found, byte_part, flag_short, flag_back, flag_found, some_number, joined}
 use Rattle.journal_layout.specs.ChainLaws.{chain_of, blocks_back, shortest_back, blocks_counted}
 use Rattle.journal_layout.specs.SpareLaws.{runs_pass, runs_passed}
 use Rattle.journal_layout.specs.RunBytesLaws.{IsSmallRun, spare_runs_small, runs_read, runs_spelled, length-runs_at}
-
--- what a record of this kind is checked for, and what it is
-pub store_body : (limit at : ℕ) (rest : List ℕ) (f : Folded) → kind_at rest ≡ 1 → body_fault limit at rest f ≡ store_fault limit at rest f
-store_body limit at rest f kind =
-    ap (λ (k : ℕ). cond (k == 1) (store_fault limit at rest f) (cond (k == 2) (drop_fault at rest f) (cond (k == 3) (pin_fault at rest f) (first_failing at (next_checks rest f))))) kind
-
-pub store_is : (rest : List ℕ) → kind_at rest ≡ 1 → record_at rest ≡ Store (case_at rest)
-unfolding record_at
-store_is rest kind =
-    ap (λ (k : ℕ). cond (k == 1) (Store (case_at rest)) (cond (k == 2) (Drop (drop_seqs rest)) (cond (k == 3) (Pin (field rest 8 4) (slice_index rest 12 == 1)) (Next (field rest 8 8))))) kind
 
 -- what the checks up to the runs tell
 record HasFacts (rest : List ℕ) (f : Folded) : Type 0 where
@@ -208,11 +199,11 @@ module _ (c : Case) (tail : List ℕ) where
       ∙ drop_at (flat_map run_bytes (runs_of c.blocks)) (c.name ++ (zeros ++ tail)) (8 * n) (length-runs (runs_of c.blocks)))
       ∙ take_at c.name (zeros ++ tail) (length c.name) refl
 
-same_case : (seq pid signal time len seq2 pid2 signal2 time2 len2 : ℕ) (kind kind2 : Kind) (name name2 blocks blocks2 : List ℕ) (pinned pinned2 : Bool)
-    → seq ≡ seq2 → kind ≡ kind2 → name ≡ name2 → pid ≡ pid2 → signal ≡ signal2 → time ≡ time2 → pinned ≡ pinned2 → len ≡ len2 → blocks ≡ blocks2
-    → ◌≡◌ {A = Case} (record { seq = seq; kind = kind; name = name; pid = pid; signal = signal; time = time; pinned = pinned; len = len; blocks = blocks })
-    (record { seq = seq2; kind = kind2; name = name2; pid = pid2; signal = signal2; time = time2; pinned = pinned2; len = len2; blocks = blocks2 })
-same_case seq pid signal time len seq2 pid2 signal2 time2 len2 kind kind2 name name2 blocks blocks2 pinned pinned2 a b c d e f g h i = cc
+same_case : (seq pid signal time len seq2 pid2 signal2 time2 len2 : ℕ) (kind kind2 : Kind) (name name2 blocks blocks2 label label2 : List ℕ) (pinned pinned2 : Bool)
+    → seq ≡ seq2 → kind ≡ kind2 → name ≡ name2 → pid ≡ pid2 → signal ≡ signal2 → time ≡ time2 → pinned ≡ pinned2 → len ≡ len2 → blocks ≡ blocks2 → label ≡ label2
+    → ◌≡◌ {A = Case} (record { seq = seq; kind = kind; name = name; pid = pid; signal = signal; time = time; pinned = pinned; len = len; blocks = blocks; label = label })
+    (record { seq = seq2; kind = kind2; name = name2; pid = pid2; signal = signal2; time = time2; pinned = pinned2; len = len2; blocks = blocks2; label = label2 })
+same_case seq pid signal time len seq2 pid2 signal2 time2 len2 kind kind2 name name2 blocks blocks2 label label2 pinned pinned2 a b c d e f g h i j = cc
 
 -- what is written is read again
 pub store_again : (limit at : ℕ) (c : Case) (tail : List ℕ) (f : Folded) → limit ≤ 16777216 → record_size (Store c) < 2 ^ 32 → record_size (Store c) + 1 ≤ length (spelling (Store c) ++ tail) → IsSound limit f (Store c)
@@ -252,19 +243,19 @@ store_again limit at c tail f low small room sound =
     } in
     let good : first_bad_run limit (used_blocks f.cases) None 48 (store_runs b) ≡ None = ap (first_bad_run limit (used_blocks f.cases) None 48) runs ∙ runs_pass limit (used_blocks f.cases) None 48 rs chain spare in
     let padded : padding_fault at b (name_place b + name_length_at b) ≡ None = ap (padding_fault at b) size ∙ tells_zeros (Store c) tail at small in (
-      record_passes limit at b f (tells_head (Store c) tail small room)
-          (store_body limit at b f (tells_kind (Store c) tail)
+      record_passes limit at b f (tells_head (Store c) tail f.version (kind_high limit f (Store c) sound) small room)
+          (body_of limit at b f (Store c) (tells_kind (Store c) tail)
           ∙ none_or (first_failing at (store_checks b f)) _ (facts_pass at b f facts)
           (none_or (runs_fault limit at b f) _ (none_map (damaged at named.Run) (first_bad_run limit (used_blocks f.cases) None 48 (store_runs b)) good)
           (none_or (first_failing at (name_checks b f)) (padding_fault at b (name_place b + name_length_at b)) (name_passes at b f behind) padded))),
-      store_is b (tells_kind (Store c) tail)
+      record_of b (Store c) (tells_kind (Store c) tail)
           ∙ ap (λ (x : Case). Store x)
-          (same_case _ _ _ _ _ _ _ _ _ _ _ _ _ _ _ _ _ _ seq (ap kind_of_byte kind ∙ kind_back c.kind) name (tells_pid c tail fine.pid) (tells_signal c tail fine.signal) (tells_time c tail fine.time)
-          (ap (λ (n : ℕ). n == 1) pinned ∙ flag_back c.pinned) len (ap blocks_of runs ∙ blocks_back c.blocks)),
+          (same_case _ _ _ _ _ _ _ _ _ _ _ _ _ _ _ _ _ _ _ _ seq (ap kind_of_byte kind ∙ kind_back c.kind) name (tells_pid c tail fine.pid) (tells_signal c tail fine.signal) (tells_time c tail fine.time)
+          (ap (λ (n : ℕ). n == 1) pinned ∙ flag_back c.pinned) len (ap blocks_of runs ∙ blocks_back c.blocks) (sym fine.no_label)),
     )
 
 -- What bytes tell that pass the checks of a Store.
-module _ (rest : List ℕ) (f : Folded) (are : AreBytes rest) (head : HasHead rest) (facts : HasFacts rest f) where
+module _ (rest : List ℕ) (f : Folded) (are : AreBytes rest) (head : HasHead f.version rest) (facts : HasFacts rest f) where
   -- the places of the record up to its padding lie in the bytes
   within : 48 + 8 * run_count_at rest + name_length_at rest ≤ length rest
   within =
@@ -337,7 +328,7 @@ module _ (rest : List ℕ) (f : Folded) (are : AreBytes rest) (head : HasHead re
       (facts_spelled same) (runs_found ∙ ap (flat_map run_bytes) (sym same)) (ap (λ (k : ℕ). part rest k m) e)
 
 -- what is read is in the grammar
-pub store_found : (limit at : ℕ) (rest : List ℕ) (f : Folded) → AreBytes rest → slice_index rest 0 ≡ 165 → HasHead rest → kind_at rest ≡ 1
+pub store_found : (limit at : ℕ) (rest : List ℕ) (f : Folded) → AreBytes rest → slice_index rest 0 ≡ 165 → HasHead f.version rest → kind_at rest ≡ 1
     → body_fault limit at rest f ≡ None → StandsFirst limit rest f (Store (case_at rest)) × (record_size (Store (case_at rest)) ≡ length_at rest)
 store_found limit at rest f are open_gate head kind e =
     let c = case_at rest in
@@ -346,7 +337,7 @@ store_found limit at rest f are open_gate head kind e =
     let bad = runs_fault limit at rest f in
     let named_so = first_failing at (name_checks rest f) in
     let pad = padding_fault at rest (name_place rest + name_length_at rest) in
-    let one = or_none checks (option_or bad (option_or named_so pad)) (sym (store_body limit at rest f kind) ∙ e) in
+    let one = or_none checks (option_or bad (option_or named_so pad)) (sym (body_of limit at rest f (Store c) kind) ∙ e) in
     let two = or_none bad (option_or named_so pad) one.1 in
     let three = or_none named_so pad two.1 in
     let facts = facts_passed at rest f one.0 in
@@ -364,7 +355,7 @@ store_found limit at rest f are open_gate head kind e =
     let up = rounded_up n in (
       record {
         spelled =
-            put_together rest (Store c) (40 + 8 * run_count_at rest + name_length_at rest) are open_gate head kind long (omega (arith, size)) (body_spelled rest f are head facts same)
+            put_together f.version rest (Store c) (40 + 8 * run_count_at rest + name_length_at rest) are open_gate head kind long (omega (arith, size)) (body_spelled rest f are head facts same)
             (ap (λ (k : ℕ). part rest k (rounded k - k)) size
             ∙ zeros_found at rest n (rounded n) three.1 facts.long up (omega arith)
             ∙ ap (λ (k : ℕ). replicate (rounded k - k) 0) (sym size));
@@ -386,6 +377,7 @@ store_found limit at rest f are open_gate head kind e =
             bytes = field_small rest 32 8 are;
             enough = blocks_counted rs ∙ name.enough;
             spare = good.1;
+            no_label = refl;
           },
         );
       },

@@ -5,6 +5,9 @@ use extents::RunList;
 /// A name of 1 to 128 bytes, none of them NUL.
 pub type Name = ArrayVec<u8, 128>;
 
+/// What was noted about a case: 0 to 64 bytes of any value.
+pub type Label = ArrayVec<u8, 64>;
+
 /// What an image is.
 #[derive(Clone, Copy, Debug, PartialEq, Eq)]
 pub enum Kind {
@@ -31,4 +34,6 @@ pub struct Entry {
     pub length: u64,
     /// The blocks that hold them, in order.
     pub runs: RunList,
+    /// Empty at first. Version 2 of the layout keeps it; in version 1 it stays empty.
+    pub label: Label,
 }

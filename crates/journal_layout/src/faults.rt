@@ -26,6 +26,7 @@ pub enum Field {
     Count,
     Flag,
     Next,
+    LabelLength,
 }
 
 impl Field {
@@ -52,6 +53,7 @@ impl Field {
             Field::Count => "count",
             Field::Flag => "flag",
             Field::Next => "next",
+            Field::LabelLength => "label_length",
         }
     }
 }

@@ -1,5 +1,5 @@
 // What the definitions that the contracts cite say together. These functions do nothing.
-ghost use Rattle.journal_layout.specs.Grammar.{RecordsAreReadAgain, WhatIsReadStands, RecordsAreApart, OpeningsHaveOneAnswer, WhatStandsOpens, WhatStandsIsLive, SnapshotsSayAll, TheOtherHalfIsApart, AnOpenedHalfStands, DropsHaveRoom};
+ghost use Rattle.journal_layout.specs.Grammar.{RecordsAreReadAgain, WhatIsReadStands, RecordsAreApart, OpeningsHaveOneAnswer, WhatStandsOpens, WhatStandsIsLive, WhatStandsIsLabelled, VersionOneHasNoLabels, SnapshotsSayAll, TheOtherHalfIsApart, AnOpenedHalfStands, AnUpgradeSaysTheSame, LabelsTakeTheirRecords, DropsHaveRoom};
 
 /// What is written is read again: where the spelling of a sound record stands, with room for a gate behind it, no check
 /// of an opening fails, at any place of any archive, and the fields that an opening reads are those of the record.
@@ -30,8 +30,15 @@ pub fn live_cases_are_sound()
     ensures { WhatStandsIsLive }
 {}
 
-/// A snapshot says all: its records, one Store record for each live case in the order of their numbers and one Next
-/// record, are sound one behind the other from the first of a half on, and say exactly these cases and this next number.
+/// Version 2 of the layout keeps labels, and no other: in an archive of version 1 no case has one.
+pub fn labels_are_of_version_two()
+    ensures labelled { WhatStandsIsLabelled }
+    ensures none { VersionOneHasNoLabels }
+{}
+
+/// A snapshot says all: its records, one Store record for each live case in the order of their numbers, its Label record
+/// behind it where it has a label, and one Next record, are sound one behind the other from the first of a half on, and
+/// say exactly these cases and this next number.
 pub fn a_snapshot_says_all()
     ensures { SnapshotsSayAll }
 {}
@@ -42,6 +49,18 @@ pub fn a_snapshot_says_all()
 pub fn the_other_half_is_apart()
     ensures closed { TheOtherHalfIsApart }
     ensures opened { AnOpenedHalfStands }
+{}
+
+/// An upgrade says the same: what stands in version 1, written anew in version 2 into the half that is not taken, stands
+/// with the same cases and the same next number once that half's gate is opened, and no case has a label.
+pub fn an_upgrade_says_the_same()
+    ensures { AnUpgradeSaysTheSame }
+{}
+
+/// A label costs a snapshot its record: once a case's label has changed, a snapshot is longer by the record of the new one,
+/// and shorter by that of the old one. An empty label has no record there.
+pub fn labels_take_their_records()
+    ensures { LabelsTakeTheirRecords }
 {}
 
 /// The snapshot of what is left by a Drop record that may follow fits into a half: a drop is never short of bytes.

@@ -6,10 +6,10 @@ use Rattle.journal_layout.specs.declared.faults.Field.{Field}
 use Rattle.journal_layout.specs.declared.faults.Field.TheVariants as named
 use Rattle.journal_layout.specs.declared.faults.OpenFault.{OpenFault}
 use Rattle.journal_layout.specs.declared.faults.OpenFault.TheVariants.{Damaged, OutOfMemory}
-use Rattle.journal_layout.specs.Reading.{length_at, seq_count_at, drop_seqs}
+use Rattle.journal_layout.specs.Reading.{length_at, seq_count_at, drop_seqs, label_length_at}
 use Rattle.disk_model.specs.Places.{part}
 use Rattle.journal_layout.specs.Folding.{Folded}
-use Rattle.journal_layout.specs.Checks.{record_fault, Check, damaged, first_failing, first_set, first_bad_seq, padding_fault, pin_checks, pin_fault, count_checks, drop_fault}
+use Rattle.journal_layout.specs.Checks.{record_fault, Check, damaged, first_failing, first_set, first_bad_seq, padding_fault, pin_checks, pin_fault, label_checks, label_fault, count_checks, drop_fault}
 use Rattle.journal_records.specs.declared.cases.Cases.{Cases}
 use Rattle.journal_records.specs.Head.{TellsFault}
 use Rattle.journal_records.specs.Kept.{said_by, Reads, ReadsRecord}
@@ -46,6 +46,10 @@ drop_only at rest f =
 
 pub pin_only : (at : ℕ) (rest : List ℕ) (f : Folded) → OnlyDamaged (pin_fault at rest f)
 pin_only at rest f = or_only (first_failing at (pin_checks rest f)) (padding_fault at rest 13) (checks_only at (pin_checks rest f)) (padding_only at rest 13)
+
+pub label_only : (at : ℕ) (rest : List ℕ) (f : Folded) → OnlyDamaged (label_fault at rest f)
+label_only at rest f =
+    or_only (first_failing at (label_checks rest f)) (padding_fault at rest (16 + label_length_at rest)) (checks_only at (label_checks rest f)) (padding_only at rest (16 + label_length_at rest))
 
 -- the error is the fault
 damaged_tells : (fault : Option OpenFault) (e : OpenFault) → IsDamaged e → Some e ≡ fault → TellsFault fault e

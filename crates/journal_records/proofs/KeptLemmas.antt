@@ -11,7 +11,7 @@ use Rattle.std.specs.BTreeMap.{insert_entry}
 use Rattle.std.specs.Ordering.{nat_cmp}
 use Rattle.extents.specs.declared.run_list.Run.{Run}
 use Rattle.extents.specs.Runs.{runs_of, blocks_of}
-use Rattle.extents.specs.FreeSet.{is_free, one_if, with_runs, with_blocks, AreUsed}
+use Rattle.extents.specs.FreeSet.{is_free, one_if, with_runs, AreUsed}
 use Rattle.extents.specs.FreeSet as flags
 use Rattle.extents.specs.FreeLaws.{one_free_with, length_with}
 use Rattle.journal_layout.specs.declared.entry.Entry.{Entry}
@@ -20,7 +20,7 @@ use Rattle.journal_layout.specs.Folding.{used_blocks, is_name_of}
 use Rattle.journal_layout.specs.Soundness.{uses}
 use Rattle.journal_layout.specs.SpareLaws.{uses-append}
 use Rattle.journal_layout.specs.ChainLaws.{AreInChain, chain_of, blocks_back}
-use Rattle.journal_records.specs.Live.{cases_of, AreNumbered, with_flag, pinned_in}
+use Rattle.journal_records.specs.Live.{cases_of, AreNumbered, changed_in}
 use Rattle.journal_records.specs.Taken.{Accounts}
 use Rattle.journal_records.specs.Kept.{bearers}
 use Rattle.journal_records.proofs.LiveLemmas.{cases_append, insert_last}
@@ -42,12 +42,13 @@ sum_removed f test v (e ∷ es) is =
           omega (arith, rest, before, after)
     ] is
 
-pub sum_pinned : (f : Case → ℕ) (s : ℕ) (flag : Bool) → ((e : Entry) → f (case_of (with_flag flag e)) ≡ f (case_of e)) → (es : List (ℕ × Entry)) → sum_by f (cases_of (pinned_in s flag es)) ≡ sum_by f (cases_of es)
-sum_pinned f s flag same [] = refl
-sum_pinned f s flag same (e ∷ es) =
-    elim (nat_eq e.0 s) as (λ t. sum_by f (cases_of (cond t ((e.0, with_flag flag e.1) ∷ es) (e ∷ pinned_in s flag es))) ≡ sum_by f (cases_of (e ∷ es))) [
-      | true ↦ sum_by-cons f (case_of (with_flag flag e.1)) (cases_of es) ∙ ap (λ n. n + sum_by f (cases_of es)) (same e.1) ∙ sym (sum_by-cons f (case_of e.1) (cases_of es))
-      | false ↦ sum_by-cons f (case_of e.1) (cases_of (pinned_in s flag es)) ∙ ap (λ n. f (case_of e.1) + n) (sum_pinned f s flag same es) ∙ sym (sum_by-cons f (case_of e.1) (cases_of es))
+pub sum_changed : (f : Case → ℕ) (s : ℕ) (change : Entry → Entry) → ((e : Entry) → f (case_of (change e)) ≡ f (case_of e)) → (es : List (ℕ × Entry))
+    → sum_by f (cases_of (changed_in s change es)) ≡ sum_by f (cases_of es)
+sum_changed f s change same [] = refl
+sum_changed f s change same (e ∷ es) =
+    elim (nat_eq e.0 s) as (λ t. sum_by f (cases_of (cond t ((e.0, change e.1) ∷ es) (e ∷ changed_in s change es))) ≡ sum_by f (cases_of (e ∷ es))) [
+      | true ↦ sum_by-cons f (case_of (change e.1)) (cases_of es) ∙ ap (λ n. n + sum_by f (cases_of es)) (same e.1) ∙ sym (sum_by-cons f (case_of e.1) (cases_of es))
+      | false ↦ sum_by-cons f (case_of e.1) (cases_of (changed_in s change es)) ∙ ap (λ n. f (case_of e.1) + n) (sum_changed f s change same es) ∙ sym (sum_by-cons f (case_of e.1) (cases_of es))
     ]
 
 -- how often the cases use a block

@@ -10,9 +10,9 @@ use Rattle.std.specs.Map.{lookup, remove_entry, set_value, values_of}
 use Rattle.std.proofs.lemmas.Bool.{cases_lt, cases_eq, eq-eqb, ne_eqb}
 use Rattle.journal_layout.specs.declared.entry.Entry.{Entry}
 use Rattle.journal_layout.specs.Case.{Case, case_of}
-use Rattle.journal_layout.specs.Folding.{is_among, dropped, with_pin}
+use Rattle.journal_layout.specs.Folding.{is_among, dropped}
 use Rattle.journal_layout.specs.Soundness.{case_numbered}
-use Rattle.journal_records.specs.Live.{cases_of, AreNumbered, with_flag, pinned_in}
+use Rattle.journal_records.specs.Live.{cases_of, AreNumbered, changed_in}
 
 -- the test by which a number is looked up
 pub test_same : (s k : ℕ) → k ≡ s → is_eq (nat_cmp s k) ≡ true
@@ -131,69 +131,77 @@ dropped_more s more (c ∷ cs) =
       | false ↦ ap (λ (ds : List Case). cond (not (is_among more c.seq)) (c ∷ ds) ds) (dropped_more s more cs)
     ]
 
--- the entry of a number, with its flag set
-pub set_pinned : (s : ℕ) (flag : Bool) (found : Entry) (es : List (ℕ × Entry)) → Some found ≡ lookup (is_at (nat_cmp s)) es → set_value (is_at (nat_cmp s)) es (with_flag flag found) ≡ pinned_in s flag es
-set_pinned s flag found [] is = absurd (cc)
-set_pinned s flag found (e ∷ es) is =
-    elim (cases_eq e.0 s) as (λ _. set_value (is_at (nat_cmp s)) (e ∷ es) (with_flag flag found) ≡ pinned_in s flag (e ∷ es)) [
+-- a change of the entry of a number
+
+pub set_changed : (s : ℕ) (change : Entry → Entry) (found : Entry) (es : List (ℕ × Entry)) → Some found ≡ lookup (is_at (nat_cmp s)) es → set_value (is_at (nat_cmp s)) es (change found) ≡ changed_in s change es
+set_changed s change found [] is = absurd (cc)
+set_changed s change found (e ∷ es) is =
+    elim (cases_eq e.0 s) as (λ _. set_value (is_at (nat_cmp s)) (e ∷ es) (change found) ≡ changed_in s change (e ∷ es)) [
       | inl same ↦ (
           let here : Some found ≡ Some e.1 = is ∙ ap (λ t. cond t (Some e.1) (lookup (is_at (nat_cmp s)) es)) (test_same s e.0 same) in
           let one : found ≡ e.1 = cc in
-          ap (λ t. cond t ((e.0, with_flag flag found) ∷ es) (e ∷ set_value (is_at (nat_cmp s)) es (with_flag flag found))) (test_same s e.0 same)
-          ∙ ap (λ (v : Entry). (e.0, with_flag flag v) ∷ es) one
-          ∙ ap (λ t. cond t ((e.0, with_flag flag e.1) ∷ es) (e ∷ pinned_in s flag es)) (sym (eq-eqb e.0 s same)))
+          ap (λ t. cond t ((e.0, change found) ∷ es) (e ∷ set_value (is_at (nat_cmp s)) es (change found))) (test_same s e.0 same)
+          ∙ ap (λ (v : Entry). (e.0, change v) ∷ es) one
+          ∙ ap (λ t. cond t ((e.0, change e.1) ∷ es) (e ∷ changed_in s change es)) (sym (eq-eqb e.0 s same)))
       | inr other ↦ (
           let later : Some found ≡ lookup (is_at (nat_cmp s)) es = is ∙ ap (λ t. cond t (Some e.1) (lookup (is_at (nat_cmp s)) es)) (test_other s e.0 other) in
-          ap (λ t. cond t ((e.0, with_flag flag found) ∷ es) (e ∷ set_value (is_at (nat_cmp s)) es (with_flag flag found))) (test_other s e.0 other)
-          ∙ ap (λ (xs : List (ℕ × Entry)). e ∷ xs) (set_pinned s flag found es later)
-          ∙ ap (λ t. cond t ((e.0, with_flag flag e.1) ∷ es) (e ∷ pinned_in s flag es)) (sym (ne_eqb e.0 s other)))
+          ap (λ t. cond t ((e.0, change found) ∷ es) (e ∷ set_value (is_at (nat_cmp s)) es (change found))) (test_other s e.0 other)
+          ∙ ap (λ (xs : List (ℕ × Entry)). e ∷ xs) (set_changed s change found es later)
+          ∙ ap (λ t. cond t ((e.0, change e.1) ∷ es) (e ∷ changed_in s change es)) (sym (ne_eqb e.0 s other)))
     ]
 
-pub pinned_missing : (s : ℕ) (flag : Bool) (es : List (ℕ × Entry)) → None ≡ lookup (is_at (nat_cmp s)) es → pinned_in s flag es ≡ es
-pinned_missing s flag [] is = refl
-pinned_missing s flag (e ∷ es) is =
-    elim (cases_eq e.0 s) as (λ _. pinned_in s flag (e ∷ es) ≡ e ∷ es) [
+pub changed_missing : (s : ℕ) (change : Entry → Entry) (es : List (ℕ × Entry)) → None ≡ lookup (is_at (nat_cmp s)) es → changed_in s change es ≡ es
+changed_missing s change [] is = refl
+changed_missing s change (e ∷ es) is =
+    elim (cases_eq e.0 s) as (λ _. changed_in s change (e ∷ es) ≡ e ∷ es) [
       | inl same ↦ (
           let nothing : Option Entry = None in
           let here : nothing ≡ Some e.1 = is ∙ ap (λ t. cond t (Some e.1) (lookup (is_at (nat_cmp s)) es)) (test_same s e.0 same) in
           absurd (cc))
       | inr other ↦ (
           let later : None ≡ lookup (is_at (nat_cmp s)) es = is ∙ ap (λ t. cond t (Some e.1) (lookup (is_at (nat_cmp s)) es)) (test_other s e.0 other) in
-          ap (λ t. cond t ((e.0, with_flag flag e.1) ∷ es) (e ∷ pinned_in s flag es)) (ne_eqb e.0 s other)
-          ∙ ap (λ (xs : List (ℕ × Entry)). e ∷ xs) (pinned_missing s flag es later))
+          ap (λ t. cond t ((e.0, change e.1) ∷ es) (e ∷ changed_in s change es)) (ne_eqb e.0 s other)
+          ∙ ap (λ (xs : List (ℕ × Entry)). e ∷ xs) (changed_missing s change es later))
     ]
 
-pub numbered_pinned : (low high s : ℕ) (flag : Bool) (es : List (ℕ × Entry)) → AreNumbered low high es → AreNumbered low high (pinned_in s flag es)
-numbered_pinned low high s flag [] are = are
-numbered_pinned low high s flag (e ∷ es) are =
-    elim (nat_eq e.0 s) as (λ t. AreNumbered low high (cond t ((e.0, with_flag flag e.1) ∷ es) (e ∷ pinned_in s flag es))) [
-      | true ↦ are
-      | false ↦ (are.0, are.1, numbered_pinned (e.0 + 1) high s flag es are.2)
+pub numbered_changed : (low high s : ℕ) (change : Entry → Entry) → ((e : Entry) → (change e).seq ≡ e.seq) → (es : List (ℕ × Entry)) → AreNumbered low high es
+    → AreNumbered low high (changed_in s change es)
+numbered_changed low high s change same [] are = are
+numbered_changed low high s change same (e ∷ es) are =
+    elim (nat_eq e.0 s) as (λ t. AreNumbered low high (cond t ((e.0, change e.1) ∷ es) (e ∷ changed_in s change es))) [
+      | true ↦ (are.0, same e.1 ∙ are.1, are.2)
+      | false ↦ (are.0, are.1, numbered_changed (e.0 + 1) high s change same es are.2)
     ]
 
-with_pin_none : (low high s : ℕ) (flag : Bool) (es : List (ℕ × Entry)) → AreNumbered low high es → s < low → with_pin s flag (cases_of es) ≡ cases_of es
-with_pin_none low high s flag [] are below = refl
-with_pin_none low high s flag (e ∷ es) are below =
+-- the same of the cases
+abbrev pub changed_as : ℕ → (Case → Case) → Case → Case
+changed_as s told c = cond (nat_eq c.seq s) (told c) c
+
+changed_none : (low high s : ℕ) (told : Case → Case) (es : List (ℕ × Entry)) → AreNumbered low high es → s < low → map (changed_as s told) (cases_of es) ≡ cases_of es
+changed_none low high s told [] are below = refl
+changed_none low high s told (e ∷ es) are below =
     let a : low ≤ e.0 = are.0 in
     let number : e.1.seq ≡ e.0 = are.1 in
     let other : e.1.seq ≡ s → ⊥ = λ same. absurd (omega arith) in
-    ap (λ t. cond t (case_of (with_flag flag e.1)) (case_of e.1) ∷ with_pin s flag (cases_of es)) (ne_eqb e.1.seq s other)
-    ∙ ap (λ (cs : List Case). case_of e.1 ∷ cs) (with_pin_none (e.0 + 1) high s flag es are.2 (omega arith))
+    ap (λ t. cond t (told (case_of e.1)) (case_of e.1) ∷ map (changed_as s told) (cases_of es)) (ne_eqb e.1.seq s other)
+    ∙ ap (λ (cs : List Case). case_of e.1 ∷ cs) (changed_none (e.0 + 1) high s told es are.2 (omega arith))
 
--- the entries then say what the cases say once one is pinned
-pub pinned_cases : (low high s : ℕ) (flag : Bool) (es : List (ℕ × Entry)) → AreNumbered low high es → cases_of (pinned_in s flag es) ≡ with_pin s flag (cases_of es)
-pinned_cases low high s flag [] are = refl
-pinned_cases low high s flag (e ∷ es) are =
+-- the entries then say what the cases say once one is changed
+pub changed_cases : (low high s : ℕ) (change : Entry → Entry) (told : Case → Case) → ((e : Entry) → case_of (change e) ≡ told (case_of e)) → (es : List (ℕ × Entry))
+    → AreNumbered low high es → cases_of (changed_in s change es) ≡ map (changed_as s told) (cases_of es)
+changed_cases low high s change told says [] are = refl
+changed_cases low high s change told says (e ∷ es) are =
     let number : e.1.seq ≡ e.0 = are.1 in
-    elim (cases_eq e.0 s) as (λ _. cases_of (pinned_in s flag (e ∷ es)) ≡ with_pin s flag (cases_of (e ∷ es))) [
+    elim (cases_eq e.0 s) as (λ _. cases_of (changed_in s change (e ∷ es)) ≡ map (changed_as s told) (cases_of (e ∷ es))) [
       | inl same ↦
-          ap (λ t. cases_of (cond t ((e.0, with_flag flag e.1) ∷ es) (e ∷ pinned_in s flag es))) (eq-eqb e.0 s same)
-          ∙ ap (λ (cs : List Case). case_of (with_flag flag e.1) ∷ cs) (sym (with_pin_none (e.0 + 1) high s flag es are.2 (omega arith)))
-          ∙ ap (λ t. cond t (case_of (with_flag flag e.1)) (case_of e.1) ∷ with_pin s flag (cases_of es)) (sym (eq-eqb e.1.seq s (number ∙ same)))
+          ap (λ t. cases_of (cond t ((e.0, change e.1) ∷ es) (e ∷ changed_in s change es))) (eq-eqb e.0 s same)
+          ∙ ap (λ (d : Case). d ∷ cases_of es) (says e.1)
+          ∙ ap (λ (cs : List Case). told (case_of e.1) ∷ cs) (sym (changed_none (e.0 + 1) high s told es are.2 (omega arith)))
+          ∙ ap (λ t. cond t (told (case_of e.1)) (case_of e.1) ∷ map (changed_as s told) (cases_of es)) (sym (eq-eqb e.1.seq s (number ∙ same)))
       | inr other ↦
-          ap (λ t. cases_of (cond t ((e.0, with_flag flag e.1) ∷ es) (e ∷ pinned_in s flag es))) (ne_eqb e.0 s other)
-          ∙ ap (λ (cs : List Case). case_of e.1 ∷ cs) (pinned_cases (e.0 + 1) high s flag es are.2)
-          ∙ ap (λ t. cond t (case_of (with_flag flag e.1)) (case_of e.1) ∷ with_pin s flag (cases_of es)) (sym (ne_eqb e.1.seq s (λ f. other (sym number ∙ f))))
+          ap (λ t. cases_of (cond t ((e.0, change e.1) ∷ es) (e ∷ changed_in s change es))) (ne_eqb e.0 s other)
+          ∙ ap (λ (cs : List Case). case_of e.1 ∷ cs) (changed_cases (e.0 + 1) high s change told says es are.2)
+          ∙ ap (λ t. cond t (told (case_of e.1)) (case_of e.1) ∷ map (changed_as s told) (cases_of es)) (sym (ne_eqb e.1.seq s (λ f. other (sym number ∙ f))))
     ]
 
 pub missing_is : (found : Option Entry) → not (is_some found) ≡ is_none (option_map case_of found)

@@ -3,7 +3,7 @@ use Rattle.std.specs.Prelude.{◌≡◌, ℕ, ◌+◌, ◌%◌, ◌≤◌, List,
 use Rattle.journal_layout.specs.declared.faults.OpenFault.{OpenFault}
 use Rattle.journal_layout.specs.declared.faults.OpenFault.TheVariants.{Damaged, OutOfMemory}
 use Rattle.journal_records.specs.declared.kind.RecordKind.{RecordKind}
-use Rattle.journal_records.specs.declared.kind.RecordKind.TheVariants.{Store, Drop, Pin, Next}
+use Rattle.journal_records.specs.declared.kind.RecordKind.TheVariants.{Store, Drop, Pin, Next, Label}
 use Rattle.journal_layout.specs.Reading.{length_at, name_length_at, name_place}
 
 -- The record has a length, with which it and the gate behind it lie in these bytes.
@@ -18,6 +18,7 @@ byte_of Store = 1
 byte_of Drop = 2
 byte_of Pin = 3
 byte_of Next = 4
+byte_of Label = 5
 
 -- the error is this fault, if there is one, or there was no memory
 abbrev pub TellsFault : Option OpenFault → OpenFault → Type 0

@@ -1,5 +1,6 @@
 -- The live cases, as entries kept under their numbers.
 use Rattle.std.specs.Prelude.{◌≡◌, ℕ, ◌+◌, ◌≤◌, ◌==◌, if◌then◌else◌, Bool, List, [], ◌∷◌}
+use Rattle.arrayvec.specs.ArrayVec.{ArrayVec}
 use Rattle.journal_layout.specs.declared.entry.Entry.{Entry}
 use Rattle.journal_layout.specs.Case.{Case, case_of}
 
@@ -17,7 +18,11 @@ AreNumbered low high (e ∷ es) = (low ≤ e.0) × (e.1.seq ≡ e.0) × AreNumbe
 abbrev pub with_flag : Bool → Entry → Entry
 with_flag flag e = record e { pinned = flag }
 
--- the entries once the one of this number, if there is one, has been pinned or unpinned
-abbrev pub pinned_in : ℕ → Bool → List (ℕ × Entry) → List (ℕ × Entry)
-pinned_in seq flag [] = []
-pinned_in seq flag (e ∷ es) = if e.0 == seq then (e.0, with_flag flag e.1) ∷ es else e ∷ pinned_in seq flag es
+-- the entry, with this label
+abbrev pub with_text : ArrayVec ℕ → Entry → Entry
+with_text label e = record e { label = label }
+
+-- the entries once the one of this number, if there is one, has been changed so
+abbrev pub changed_in : ℕ → (Entry → Entry) → List (ℕ × Entry) → List (ℕ × Entry)
+changed_in seq change [] = []
+changed_in seq change (e ∷ es) = if e.0 == seq then (e.0, change e.1) ∷ es else e ∷ changed_in seq change es

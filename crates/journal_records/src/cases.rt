@@ -2,10 +2,10 @@
 ghost use Rattle.std.specs.Prelude.{◌≡◌, ℕ, ◌+◌, ◌*◌, ◌^◌, ◌<◌, ◌≤◌, ◌==◌, ◌∷◌, ◌++◌, [], List, IfOk, OnOk, length, slice_index};
 ghost use Rattle.journal_layout.specs.Layout.{field};
 ghost use Rattle.journal_layout.specs.Case.{case_of};
-ghost use Rattle.journal_layout.specs.Record.{Store, Drop, Pin, Next};
-ghost use Rattle.journal_layout.specs.Reading.{kind_at, drop_seqs, seq_count_at, case_at, record_at};
+ghost use Rattle.journal_layout.specs.Record.{Store, Drop, Pin, Next, Label};
+ghost use Rattle.journal_layout.specs.Reading.{kind_at, drop_seqs, seq_count_at, case_at, label_at, record_at};
 ghost use Rattle.journal_layout.specs.Folding.{nothing_yet, dropped, after};
-ghost use Rattle.journal_layout.specs.Checks.{store_fault, drop_fault, pin_fault, first_failing, next_checks, body_fault};
+ghost use Rattle.journal_layout.specs.Checks.{store_fault, drop_fault, pin_fault, first_failing, next_checks, label_fault, body_fault};
 ghost use Rattle.journal_records.specs.Head.{IsHeaded, byte_of};
 ghost use Rattle.journal_records.specs.Live.{cases_of, AreNumbered};
 ghost use Rattle.journal_records.specs.Kept.{said_by, AreKept, Says, OnlyMemory, Reads, ReadsRecord};
@@ -13,6 +13,7 @@ ghost use Rattle.journal_records.specs.Kept.{said_by, AreKept, Says, OnlyMemory,
 use crate::dropped::check_drop;
 use crate::head::check_head;
 use crate::kind::RecordKind;
+use crate::label::{check_label, label_at, set_label};
 use crate::names::{name_end, take_name};
 use crate::next::read_next;
 use crate::padding::check_padding;
@@ -162,6 +163,20 @@ impl Cases {
         Ok(())
     }
 
+    // Reads a Label record.
+    fn read_label(&mut self, rest: &[u8], at: u64) -> Result<(), OpenFault>
+        requires kept { AreKept self.old }
+        requires head { IsHeaded rest.now }
+        requires disk { at + length rest.now ≤ 2 ^ 63 }
+        ensures { Reads (label_fault at rest.now (said_by self.old))
+            (after (Label (field rest.now 8 4) (label_at rest.now)) (said_by self.old))
+            (length self.old.free) result self.new }
+    {
+        check_label(&self.live, rest, at)?;
+        set_label(&mut self.live, u32_at(rest, 8), label_at(rest));
+        Ok(())
+    }
+
     // Reads what stands behind the head of a record of this kind.
     fn read_body(
         &mut self,
@@ -183,6 +198,7 @@ impl Cases {
             RecordKind::Drop => self.read_drop(rest, at),
             RecordKind::Pin => self.read_pin(rest, at),
             RecordKind::Next => self.read_next(rest, at),
+            RecordKind::Label => self.read_label(rest, at),
         }
     }
 
@@ -194,7 +210,7 @@ impl Cases {
         requires disk { at + length rest.now ≤ 2 ^ 63 }
         ensures { ReadsRecord at rest.now self.old result self.new }
     {
-        let kind = check_head(rest, at)?;
+        let kind = check_head(self.version, rest, at)?;
         self.read_body(alloc, kind, rest, at)?;
         Ok(u32_at(rest, 4) as usize)
     }

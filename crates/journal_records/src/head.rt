@@ -9,18 +9,18 @@ use crate::kind::{RecordKind, kind_of};
 use crate::{damaged, u16_at, u32_at};
 use journal_layout::{Field, OpenFault};
 
-/// The checks of a record's head: 17 bytes are left, the kind is known, the two bytes behind it are zeros, and the length
-/// is that of a record which lies in the half with the gate behind it. Tells the kind.
-pub(crate) fn check_head(rest: &[u8], at: u64) -> Result<RecordKind, OpenFault>
+/// The checks of a record's head: 17 bytes are left, the kind is one of this version's, the two bytes behind it are zeros,
+/// and the length is that of a record which lies in the half with the gate behind it. Tells the kind.
+pub(crate) fn check_head(version: u32, rest: &[u8], at: u64) -> Result<RecordKind, OpenFault>
     requires { at + length rest.now ≤ 2 ^ 63 }
-    ensures fault { result_err result ≡ first_failing at (head_checks rest.now) }
+    ensures fault { result_err result ≡ first_failing at (head_checks version rest.now) }
     ensures head { OnOk result (IsHeaded rest.now) }
     ensures kind { IfOk result (λ kind. byte_of kind ≡ kind_at rest.now) }
 {
     if rest.len() < 17 {
         return Err(damaged(at, Field::Length, 4));
     }
-    let Some(kind) = kind_of(rest[1]) else {
+    let Some(kind) = kind_of(version, rest[1]) else {
         return Err(damaged(at, Field::Kind, 1));
     };
     if u16_at(rest, 2) != 0 {

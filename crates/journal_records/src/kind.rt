@@ -2,6 +2,7 @@
 ghost use Rattle.std.specs.Prelude.{◌≡◌, ◌≤◌, ◌||◌, not, nat_le, IfSome};
 ghost use Rattle.std.specs.Prelude.{◌&&◌};
 ghost use Rattle.std.specs.Option.{is_none};
+ghost use Rattle.journal_layout.specs.Soundness.{last_kind};
 ghost use Rattle.journal_records.specs.Head.{byte_of};
 
 /// What a record tells, by the byte behind its gate.
@@ -15,11 +16,13 @@ pub(crate) enum RecordKind {
     Pin,
     /// The next case gets a number.
     Next,
+    /// A case has a label from here on.
+    Label,
 }
 
-/// The kind that a byte stands for, if it stands for one.
-pub(crate) fn kind_of(byte: u8) -> Option<RecordKind>
-    ensures known { is_none result ≡ not (nat_le 1 byte && nat_le byte 4) }
+/// The kind that a byte stands for in a half of this version, if it stands for one.
+pub(crate) fn kind_of(version: u32, byte: u8) -> Option<RecordKind>
+    ensures known { is_none result ≡ not (nat_le 1 byte && nat_le byte (last_kind version)) }
     ensures kind { IfSome result (λ kind. byte_of kind ≡ byte) }
 {
     match byte {
@@ -27,6 +30,7 @@ pub(crate) fn kind_of(byte: u8) -> Option<RecordKind>
         2 => Some(RecordKind::Drop),
         3 => Some(RecordKind::Pin),
         4 => Some(RecordKind::Next),
+        5 if version == 2 => Some(RecordKind::Label),
         _ => None,
     }
 }

@@ -7,6 +7,7 @@ mod dropped;
 mod fields;
 mod head;
 mod kind;
+mod label;
 mod names;
 mod next;
 mod padding;
@@ -20,8 +21,8 @@ pub(crate) use fields::{damaged, rounded, u16_at, u32_at, u64_at};
 use journal_layout::Entry;
 pub use reading::{Replayed, replay};
 pub use spelling::{
-    GATE_OPEN, PIN_SIZE, drop_record, drop_size, next_record, pin_record, spell_store,
-    store_record, store_size,
+    GATE_OPEN, PIN_SIZE, case_size, drop_record, drop_size, label_record, label_size, next_record,
+    pin_record, spell_label, spell_store, store_record, store_size,
 };
 use std::collections::BTreeMap;
 

@@ -7,14 +7,14 @@ ghost use Rattle.journal_layout.specs.Soundness.{case_numbered};
 ghost use Rattle.journal_layout.specs.Layout.{field};
 ghost use Rattle.journal_layout.specs.Checks.{pin_fault};
 ghost use Rattle.journal_records.specs.Head.{IsHeaded};
-ghost use Rattle.journal_records.specs.Live.{AreNumbered, cases_of, pinned_in};
+ghost use Rattle.journal_records.specs.Live.{AreNumbered, cases_of, with_flag, changed_in};
 
 use crate::padding::check_padding;
 use crate::{Live, damaged, u32_at};
 use journal_layout::{Field, OpenFault};
 
-// Whether there is no live case of this number.
-fn is_missing(live: &Live, seq: u32) -> bool
+/// Whether there is no live case of this number.
+pub(crate) fn is_missing(live: &Live, seq: u32) -> bool
     requires { AreNumbered 0 (2 ^ 32) live.now.entries }
     ensures { result ≡ is_none (case_numbered seq (cases_of live.now.entries)) }
 {
@@ -43,7 +43,7 @@ pub(crate) fn check_pin(live: &Live, rest: &[u8], at: u64) -> Result<(), OpenFau
 
 /// Pins the case of this number, or unpins it. Where there is none, nothing changes.
 pub(crate) fn set_pin(live: &mut Live, seq: u32, flag: bool)
-    ensures { live.new.entries ≡ pinned_in seq flag live.old.entries }
+    ensures { live.new.entries ≡ changed_in seq (with_flag flag) live.old.entries }
 {
     if let Some(entry) = live.get_mut(&seq) {
         entry.pinned = flag;

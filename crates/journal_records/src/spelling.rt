@@ -4,13 +4,15 @@ ghost use Rattle.std.specs.List.{flat_map};
 ghost use Rattle.extents.specs.Runs.{runs_of};
 ghost use Rattle.journal_layout.specs.Case.{case_of, numbered};
 ghost use Rattle.journal_layout.specs.Layout.{number_bytes};
-ghost use Rattle.journal_layout.specs.Record.{Store, Drop, Pin, Next, kind_byte, run_bytes, seq_bytes, store_facts, plain_size, record_size, plain, behind_gate, spelling};
+ghost use Rattle.journal_layout.specs.Record.{Store, Drop, Pin, Next, Label, kind_byte, run_bytes, seq_bytes, store_facts, rounded, plain_size, record_size, plain, behind_gate, spelling};
+ghost use Rattle.journal_layout.specs.Folding.{sizes};
+ghost use Rattle.journal_layout.specs.Rewriting.{label_records};
 ghost use Rattle.journal_records.specs.Spelling.{stored_as};
 
 use crate::rounded;
 use byteorder::{ByteOrder, LittleEndian};
 use extents::Run;
-use journal_layout::{Entry, Kind};
+use journal_layout::{Entry, Kind, Label};
 use std::alloc::{AllocError, Global};
 
 /// The byte that opens a gate.
@@ -24,11 +26,33 @@ pub fn store_size(entry: &Entry) -> u64
     rounded(48 + 8 * entry.runs.runs().len() as u64 + entry.name.len() as u64)
 }
 
-/// The bytes of the Drop record of these cases.
+/// The bytes of the records that say a case with this label: its Store record, and the label's where it is not empty.
+pub fn case_size(entry: &Entry, label: &Label) -> u64
+    requires { length entry.now.runs ≤ 2 ^ 52 }
+    ensures { (seq : ℕ) → result
+        ≡ record_size (Store (numbered seq (case_of entry.now))) + sizes (label_records seq label.now.items) }
+{
+    let store = rounded(48 + 8 * entry.runs.runs().len() as u64 + entry.name.len() as u64);
+    if label.is_empty() {
+        return store;
+    }
+    store + rounded(16 + label.len() as u64)
+}
+
+/// The bytes of the Drop record of so many cases.
 pub fn drop_size(seqs: &[u32]) -> u64
     ensures { result ≡ record_size (Drop seqs.now) }
 {
     rounded(12 + 4 * seqs.len() as u64)
+}
+
+/// The bytes of the record of a label.
+pub fn label_size(label: &[u8]) -> u64
+    requires { length label.now ≤ 64 }
+    ensures bytes { result ≡ rounded (16 + length label.now) }
+    ensures record { (seq : ℕ) → result ≡ record_size (Label seq label.now) }
+{
+    rounded(16 + label.len() as u64)
 }
 
 fn kind_byte(kind: Kind) -> u8
@@ -230,6 +254,63 @@ pub fn drop_record(alloc: Global, seqs: &[u32], size: u64) -> Result<Vec<u8>, Al
     put_drop(&mut bytes, seqs, size);
     fill(&mut bytes, size);
     Ok(bytes)
+}
+
+// The numbers of a Label record's body.
+#[tactic(auto, unfolding(journal_layout::specs::Layout::number_bytes))]
+fn label_facts(seq: u32, label_length: u16) -> [u8; 8]
+    ensures bytes { result ≡ number_bytes 4 seq ++ number_bytes 2 label_length ++ replicate 2 0 }
+    ensures size { length result ≡ 8 }
+{
+    let mut bytes = [0; 8];
+    LittleEndian::write_u32(&mut bytes, seq);
+    LittleEndian::write_u16(&mut bytes[4..], label_length);
+    bytes
+}
+
+// Adds a Label record behind its gate, without its padding.
+#[tactic(auto, unfolding(journal_layout::specs::Record::plain, journal_layout::specs::Record::body))]
+fn put_label(bytes: &mut Vec<u8>, seq: u32, label: &[u8], size: u64)
+    requires short { length label.now ≤ 64 }
+    requires size { size ≡ record_size (Label seq label.now) }
+    requires room { vec_len bytes.old + plain_size (Label seq label.now) ≤ vec_capacity bytes.old + 1 }
+    ensures items { bytes.new.items ≡ bytes.old.items ++ plain (Label seq label.now) }
+    ensures capacity { vec_capacity bytes.old ≤ vec_capacity bytes.new }
+{
+    put(bytes, &head(5, size as u32));
+    put(bytes, &label_facts(seq, label.len() as u16));
+    put(bytes, label);
+}
+
+/// A Label record behind its gate, and the closed gate after it.
+pub fn label_record(alloc: Global, seq: u32, label: &[u8], size: u64) -> Result<Vec<u8>, AllocError>
+    requires short { length label.now ≤ 64 }
+    requires size { size ≡ record_size (Label seq label.now) }
+    ensures record { IfOk result (λ v. v.items ≡ behind_gate (Label seq label.now) ++ 0 ∷ []) }
+    ensures size { IfOk result (λ v. vec_len v ≡ size) }
+{
+    let mut bytes = Vec::with_capacity(alloc, size as usize)?;
+    put_label(&mut bytes, seq, label, size);
+    fill(&mut bytes, size);
+    Ok(bytes)
+}
+
+/// Spells the record of a case's label, its gate open, in place of what the buffer held. Where the record lies within the
+/// buffer's capacity, it succeeds, and the capacity never shrinks.
+pub fn spell_label(bytes: &mut Vec<u8>, seq: u32, label: &[u8]) -> Result<(), AllocError>
+    requires { length label.now ≤ 64 }
+    ensures record { OnOk result (bytes.new.items ≡ spelling (Label seq label.now)) }
+    ensures size { OnOk result (vec_len bytes.new ≡ record_size (Label seq label.now)) }
+    ensures succeeds { record_size (Label seq label.now) ≤ vec_capacity bytes.old → IsOk result }
+    ensures capacity { vec_capacity bytes.old ≤ vec_capacity bytes.new }
+{
+    let size = label_size(label);
+    bytes.clear();
+    bytes.reserve(size as usize)?;
+    put(bytes, &[GATE_OPEN]);
+    put_label(bytes, seq, label, size);
+    fill(bytes, size);
+    Ok(())
 }
 
 /// The bytes of a Pin record.

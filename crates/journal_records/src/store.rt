@@ -13,7 +13,7 @@ ghost use Rattle.journal_records.specs.Head.{IsHeaded, IsPlaced};
 
 use crate::{damaged, rounded, u16_at, u32_at, u64_at};
 use extents::RunList;
-use journal_layout::{Entry, Field, Kind, Name, OpenFault};
+use journal_layout::{Entry, Field, Kind, Label, Name, OpenFault};
 
 // Whether the length is not that of the runs and the name. It is where a record is too short for their numbers.
 fn is_bad_count(rest: &[u8]) -> bool
@@ -69,7 +69,7 @@ pub(crate) fn check_image(rest: &[u8], at: u64, blocks: u64) -> Result<(), OpenF
     Ok(())
 }
 
-/// The case that a Store record tells, with its name and its blocks.
+/// The case that a Store record tells, with its name and its blocks, and no label.
 pub(crate) fn entry_at(rest: &[u8], name: Name, runs: RunList) -> Entry
     requires room { 48 ≤ length rest.now }
     ensures { case_of result ≡ record (case_at rest.now) { name = name.items; blocks = runs } }
@@ -88,5 +88,6 @@ pub(crate) fn entry_at(rest: &[u8], name: Name, runs: RunList) -> Entry
         pinned: rest[13] == 1,
         length: u64_at(rest, 32),
         runs,
+        label: Label::new(),
     }
 }

@@ -2,9 +2,10 @@
 use Rattle.std.specs.Prelude.{ℕ, ◌+◌, Bool, List, [], ◌∷◌, if◌then◌else◌, ◌==◌, Option, Some, None}
 use Rattle.std.specs.List.{flat_map}
 use Rattle.journal_layout.specs.Case.{Case, case_of, numbered}
-use Rattle.journal_layout.specs.Record.{Store, Drop, Pin}
+use Rattle.journal_layout.specs.Record.{Store, Drop, Pin, Label}
 use Rattle.journal_layout.specs.Folding.{Folded, after, is_among}
 use Rattle.journal_layout.specs.Soundness.{Rise}
+use Rattle.journal_layout.specs.Rewriting.{in_version_two}
 use Rattle.journal_snapshot.specs.declared.change.Change.{Change}
 use Rattle.journal_snapshot.specs.declared.change.Change.TheVariants as change
 
@@ -14,6 +15,8 @@ changed change.Nothing f = f
 changed (change.Store seq e) f = after (Store (numbered seq (case_of e.now))) f
 changed (change.Drop seqs) f = after (Drop seqs.now) f
 changed (change.Pin seq flag) f = after (Pin seq flag) f
+changed (change.Label seq label) f = after (Label seq label.now.items) f
+changed change.Upgrade f = in_version_two f
 
 -- the numbers of those that go rise
 abbrev pub IsOrdered : Change → Type 0
@@ -26,15 +29,22 @@ flag_after change.Nothing c = Some c.pinned
 flag_after (change.Store seq e) c = Some c.pinned
 flag_after (change.Drop seqs) c = if is_among seqs.now c.seq then None else Some c.pinned
 flag_after (change.Pin seq flag) c = Some (if c.seq == seq then flag else c.pinned)
+flag_after (change.Label seq label) c = Some c.pinned
+flag_after change.Upgrade c = Some c.pinned
 
--- the case with this flag, if it has one
-abbrev pub flagged : Case → Option Bool → List Case
-flagged c None = []
-flagged c (Some flag) = record c { pinned = flag } ∷ []
+-- the label of a case after it, where it stays
+abbrev pub label_after : Change → Case → List ℕ
+label_after (change.Label seq label) c = if c.seq == seq then label.now.items else c.label
+label_after _ c = c.label
+
+-- the case with this flag, if it has one, and this label
+abbrev pub kept_as : Case → Option Bool → List ℕ → List Case
+kept_as c None text = []
+kept_as c (Some flag) text = record c { pinned = flag; label = text } ∷ []
 
 -- those of these cases that stay
 abbrev pub staying : Change → List Case → List Case
-staying ch cases = flat_map (λ (c : Case). flagged c (flag_after ch c)) cases
+staying ch cases = flat_map (λ (c : Case). kept_as c (flag_after ch c) (label_after ch c)) cases
 
 -- the case that comes
 abbrev pub added : Change → List Case

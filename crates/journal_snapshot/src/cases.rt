@@ -1,17 +1,18 @@
-// The records of the cases, one write for each.
+// The records of the cases, a write for each.
 ghost use Rattle.std.specs.Prelude.{◌≡◌, ◌+◌, ◌≤◌, length, vec_capacity};
 ghost use Rattle.disk_model.specs.Disk.{HasCause};
+ghost use Rattle.journal_layout.specs.Record.{Label, spelling};
 ghost use Rattle.journal_snapshot.specs.Changing.{IsOrdered};
-ghost use Rattle.journal_snapshot.specs.Writing.{Writes, written, written_entry, written_entries, written_added, AreAtMost};
+ghost use Rattle.journal_snapshot.specs.Writing.{Writes, written, written_label, written_case, written_entry, written_entries, written_added, AreAtMost};
 
 use crate::Change;
 use crate::filling::fill;
 use disk_model::{Disk, DiskFault};
-use journal_layout::Entry;
-use journal_records::spell_store;
+use journal_layout::{Entry, Label};
+use journal_records::{spell_label, spell_store};
 
 // Writes the Store record of a case, its gate open, by one write. Answers where it ends.
-fn write_case<D: Disk>(
+fn write_store<D: Disk>(
     disk: &mut D,
     at: u64,
     seq: u32,
@@ -31,7 +32,68 @@ fn write_case<D: Disk>(
     Ok(at + buffer.len() as u64)
 }
 
-// Writes the record of an entry, where it stays.
+// Writes the record of a label, its gate open, by one write. Answers where it ends.
+fn write_text<D: Disk>(
+    disk: &mut D,
+    at: u64,
+    seq: u32,
+    label: &[u8],
+    buffer: &mut Vec<u8>,
+) -> Result<u64, DiskFault>
+    requires short { length label.now ≤ 64 }
+    requires capacity { length (spelling (Label seq label.now)) ≤ vec_capacity buffer.old }
+    requires room { at + length (spelling (Label seq label.now)) ≤ D.size disk.old }
+    ensures writes { Writes D.Disk disk.old disk.new at (spelling (Label seq label.now)) result }
+    ensures kept { vec_capacity buffer.old ≤ vec_capacity buffer.new }
+    ensures cause { HasCause (D.failures disk.old) (D.failures disk.new) result }
+{
+    spell_label(buffer, seq, label).unwrap();
+    fill(disk, at, buffer)?;
+    Ok(at + buffer.len() as u64)
+}
+
+// Writes the record of a case's label, where it is not empty.
+fn write_label<D: Disk>(
+    disk: &mut D,
+    at: u64,
+    seq: u32,
+    label: &Label,
+    buffer: &mut Vec<u8>,
+) -> Result<u64, DiskFault>
+    requires capacity { length (written_label seq label.now.items) ≤ vec_capacity buffer.old }
+    requires room { at + length (written_label seq label.now.items) ≤ D.size disk.old }
+    ensures writes { Writes D.Disk disk.old disk.new at (written_label seq label.now.items) result }
+    ensures kept { vec_capacity buffer.old ≤ vec_capacity buffer.new }
+    ensures cause { HasCause (D.failures disk.old) (D.failures disk.new) result }
+{
+    if label.is_empty() {
+        return Ok(at);
+    }
+    write_text(disk, at, seq, label.as_slice(), buffer)
+}
+
+// Writes the records of a case: its Store record, and that of its label behind it.
+fn write_case<D: Disk>(
+    disk: &mut D,
+    at: u64,
+    seq: u32,
+    entry: &Entry,
+    pinned: bool,
+    label: &Label,
+    buffer: &mut Vec<u8>,
+) -> Result<u64, DiskFault>
+    requires small { length (written_case seq entry.now pinned label.now.items) ≤ 16777216 }
+    requires capacity { length (written_case seq entry.now pinned label.now.items) ≤ vec_capacity buffer.old }
+    requires room { at + length (written_case seq entry.now pinned label.now.items) ≤ D.size disk.old }
+    ensures writes { Writes D.Disk disk.old disk.new at (written_case seq entry.now pinned label.now.items) result }
+    ensures kept { vec_capacity buffer.old ≤ vec_capacity buffer.new }
+    ensures cause { HasCause (D.failures disk.old) (D.failures disk.new) result }
+{
+    let at = write_store(disk, at, seq, entry, pinned, buffer)?;
+    write_label(disk, at, seq, label, buffer)
+}
+
+// Writes the records of an entry, where it stays.
 fn write_entry<D: Disk>(
     disk: &mut D,
     at: u64,
@@ -50,7 +112,8 @@ fn write_entry<D: Disk>(
     let Some(pinned) = change.flag_of(entry) else {
         return Ok(at);
     };
-    write_case(disk, at, entry.seq, entry, pinned, buffer)
+    let label = change.label_of(entry);
+    write_case(disk, at, entry.seq, entry, pinned, label, buffer)
 }
 
 /// Writes the records of those of these entries that stay, in their order, from place `at` on. Answers where they end.
@@ -76,7 +139,7 @@ pub(crate) fn write_entries<D: Disk>(
     Ok(at)
 }
 
-/// Writes the record of the case that comes by a change, where one does.
+/// Writes the records of the case that comes by a change, where one does.
 pub(crate) fn write_added<D: Disk>(
     disk: &mut D,
     at: u64,
@@ -91,9 +154,13 @@ pub(crate) fn write_added<D: Disk>(
     ensures cause { HasCause (D.failures disk.old) (D.failures disk.new) result }
 {
     match change {
-        Change::Store(seq, entry) => write_case(disk, at, *seq, entry, entry.pinned, buffer),
+        Change::Store(seq, entry) => {
+            write_case(disk, at, *seq, entry, entry.pinned, &entry.label, buffer)
+        }
         Change::Nothing => Ok(at),
         Change::Drop(_) => Ok(at),
         Change::Pin(_, _) => Ok(at),
+        Change::Label(_, _) => Ok(at),
+        Change::Upgrade => Ok(at),
     }
 }

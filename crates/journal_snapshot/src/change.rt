@@ -3,9 +3,9 @@ ghost use Rattle.std.specs.Prelude.{◌≡◌, ◌==◌, ℕ, if◌then◌else�
 ghost use Rattle.journal_layout.specs.Folding.{is_among};
 ghost use Rattle.journal_layout.specs.Soundness.{Rise};
 ghost use Rattle.journal_layout.specs.Case.{case_of};
-ghost use Rattle.journal_snapshot.specs.Changing.{flag_after, IsOrdered};
+ghost use Rattle.journal_snapshot.specs.Changing.{flag_after, label_after, IsOrdered};
 
-use journal_layout::Entry;
+use journal_layout::{Entry, Label};
 
 /// What is to become of a journal's cases.
 #[derive(Clone, Copy)]
@@ -18,6 +18,10 @@ pub enum Change<'a> {
     Drop(&'a [u32]),
     /// The case of this number is pinned or not.
     Pin(u32, bool),
+    /// The case of this number has this label.
+    Label(u32, &'a Label),
+    /// They stay as they are, in version 2 of the layout.
+    Upgrade,
 }
 
 impl Change<'_> {
@@ -31,6 +35,22 @@ impl Change<'_> {
             Change::Store(_, _) => Some(entry.pinned),
             Change::Drop(seqs) => kept_flag(entry, is_listed(seqs, entry.seq)),
             Change::Pin(seq, flag) => Some(pinned_flag(entry, *seq, *flag)),
+            Change::Label(_, _) => Some(entry.pinned),
+            Change::Upgrade => Some(entry.pinned),
+        }
+    }
+
+    /// The label of a case then, where it is not gone.
+    pub(crate) fn label_of<'b>(&'b self, entry: &'b Entry) -> &'b Label
+        ensures { result.now.items ≡ label_after self.now (case_of entry.now) }
+    {
+        match self {
+            Change::Nothing => &entry.label,
+            Change::Store(_, _) => &entry.label,
+            Change::Drop(_) => &entry.label,
+            Change::Pin(_, _) => &entry.label,
+            Change::Label(seq, label) => given_label(entry, *seq, label),
+            Change::Upgrade => &entry.label,
         }
     }
 }
@@ -50,6 +70,17 @@ fn pinned_flag(entry: &Entry, seq: u32, flag: bool) -> bool
     ensures { result ≡ (if entry.now.seq == seq then flag else entry.now.pinned) }
 {
     if entry.seq == seq { flag } else { entry.pinned }
+}
+
+// The label of a case once the one of this number has that label.
+fn given_label<'b>(entry: &'b Entry, seq: u32, label: &'b Label) -> &'b Label
+    ensures { result.now.items ≡ (if entry.now.seq == seq then label.now.items else entry.now.label.items) }
+{
+    if entry.seq == seq {
+        label
+    } else {
+        &entry.label
+    }
 }
 
 /// Whether the number is one of these, which rise.

@@ -1,5 +1,5 @@
 // Writes into a half whose gate is closed.
-ghost use Rattle.std.specs.Prelude.{◌≡◌, ◌+◌, ◌≤◌, length, IsTrue, OnOk};
+ghost use Rattle.std.specs.Prelude.{◌≡◌, ◌+◌, ◌≤◌, length, IsTrue, OnOk, IsOkUnless};
 ghost use Rattle.disk_model.specs.Places.{part};
 ghost use Rattle.disk_model.specs.Disk.{HasCause};
 ghost use Rattle.journal_snapshot.specs.Filling.{Fills};
@@ -14,6 +14,7 @@ pub(crate) fn fill<D: Disk>(disk: &mut D, at: u64, bytes: &[u8]) -> Result<(), D
     ensures there { IsTrue (D.is_honest disk.old)
         → OnOk result (part (D.seen disk.new) at (length bytes.now) ≡ bytes.now) }
     ensures cause { HasCause (D.failures disk.old) (D.failures disk.new) result }
+    ensures kind { IsOkUnless result DiskFault.Write }
 {
     disk.write_at(at, bytes)
 }

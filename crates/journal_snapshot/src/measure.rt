@@ -6,14 +6,14 @@ ghost use Rattle.journal_snapshot.specs.Measuring.{IsMeasure, Grows, AreShort, I
 
 use crate::Change;
 use journal_layout::Entry;
-use journal_records::store_size;
+use journal_records::case_size;
 
 /// What a journal takes that is written anew.
 #[derive(Clone, Copy)]
 pub struct Measure {
     /// The bytes of the header and the records.
     pub used: u64,
-    /// The bytes of the longest record of a case.
+    /// The bytes of the records of a case, of which it has the most.
     pub largest: u64,
 }
 
@@ -21,7 +21,7 @@ pub struct Measure {
 const LEAST: u64 = 48;
 
 impl Measure {
-    // With a record of `size` bytes more; none where the gate behind it goes over the end of the half.
+    // With records of so many bytes more; none where the gate behind it goes over the end of the half.
     fn with(self, size: u64, half: u64) -> Option<Measure>
         requires half { half ≤ 16777216 }
         requires room { self.used + 1 ≤ half }
@@ -37,7 +37,7 @@ impl Measure {
         })
     }
 
-    // With the record of an entry more, where it stays.
+    // With the records of an entry more, where it stays.
     fn with_entry(self, entry: &Entry, change: &Change, half: u64) -> Option<Measure>
         requires order { IsOrdered change.now }
         requires short { length entry.now.runs ≤ 2 ^ 52 }
@@ -46,12 +46,12 @@ impl Measure {
         ensures { Grows self (length (written_entry change.now entry.now)) half result }
     {
         match change.flag_of(entry) {
-            Some(_) => self.with(store_size(entry), half),
+            Some(_) => self.with(case_size(entry, change.label_of(entry)), half),
             None => Some(self),
         }
     }
 
-    // With the record of the case that comes, where one does.
+    // With the records of the case that comes, where one does.
     fn with_added(self, change: &Change, half: u64) -> Option<Measure>
         requires short { IsShort change.now }
         requires half { half ≤ 16777216 }
@@ -59,10 +59,12 @@ impl Measure {
         ensures { Grows self (length (written_added change.now)) half result }
     {
         match change {
-            Change::Store(_, entry) => self.with(store_size(entry), half),
+            Change::Store(_, entry) => self.with(case_size(entry, &entry.label), half),
             Change::Nothing => Some(self),
             Change::Drop(_) => Some(self),
             Change::Pin(_, _) => Some(self),
+            Change::Label(_, _) => Some(self),
+            Change::Upgrade => Some(self),
         }
     }
 }

@@ -1,5 +1,5 @@
 // The last step: the other half's gate is opened, and from then on its records count.
-ghost use Rattle.std.specs.Prelude.{◌≡◌, ◌⊎◌, ◌+◌, ◌≤◌, ℕ, List, IsTrue, OnOk};
+ghost use Rattle.std.specs.Prelude.{◌≡◌, ◌≢◌, ◌⊎◌, ◌+◌, ◌≤◌, ℕ, List, IsTrue, OnOk, Err};
 ghost use Rattle.disk_model.specs.Disk.{HasCause};
 ghost use Rattle.disk_model.specs.Moments.{LeavesOnly, IsSettled};
 ghost use Rattle.journal_layout.specs.Folding.{Folded};
@@ -23,6 +23,7 @@ pub(crate) fn take_half<D: Disk>(disk: &mut D, start: u64) -> Result<(), DiskFau
         → IsReady D.Disk disk.old s f → OnOk result (Holds D.Disk disk.new (rewritten s f)) }
     ensures fills { Fills D.Disk disk.old disk.new start 1 }
     ensures cause { HasCause (D.failures disk.old) (D.failures disk.new) result }
+    ensures kind { result ≢ Err DiskFault.Read }
 {
     write_stable(disk, start, &[GATE_OPEN])
 }

@@ -26,8 +26,8 @@ is_name name some short bytes none = record { some = some; short = short; bytes 
 
 -- an image with no byte
 pub empty_storable : (limit : ℕ) (cases : List Case) (c : Case) → IsName c.name → is_name_of cases c.name ≡ false
-    → c.pid ≡ 0 → c.signal ≡ 0 → c.time ≡ 0 → c.len ≡ 0 → c.blocks ≡ [] → IsStorable limit cases c
-empty_storable limit cases c name new pid signal time bytes none = record {
+    → c.pid ≡ 0 → c.signal ≡ 0 → c.time ≡ 0 → c.len ≡ 0 → c.blocks ≡ [] → c.label ≡ [] → IsStorable limit cases c
+empty_storable limit cases c name new pid signal time bytes none unlabelled = record {
   name = name;
   new_name = new;
   pid = omega (arith, pid);
@@ -36,12 +36,13 @@ empty_storable limit cases c name new pid signal time bytes none = record {
   bytes = omega (arith, bytes);
   enough = ap (λ (l : List ℕ). length l) none ∙ sym (ap (λ (n : ℕ). (n + 4095) / 4096) bytes);
   spare = λ k some. absurd (omega (arith, some, ap (uses k) none));
+  no_label = unlabelled;
 }
 
 -- an image of 5 bytes in block 0, where there is no case
 pub first_storable : (limit : ℕ) (c : Case) → 0 < limit → IsName c.name
-    → c.pid ≡ 0 → c.signal ≡ 0 → c.time ≡ 0 → c.len ≡ 5 → c.blocks ≡ 0 ∷ [] → IsStorable limit [] c
-first_storable limit c blocks name pid signal time bytes one = record {
+    → c.pid ≡ 0 → c.signal ≡ 0 → c.time ≡ 0 → c.len ≡ 5 → c.blocks ≡ 0 ∷ [] → c.label ≡ [] → IsStorable limit [] c
+first_storable limit c blocks name pid signal time bytes one unlabelled = record {
   name = name;
   new_name = refl;
   pid = omega (arith, pid);
@@ -50,6 +51,7 @@ first_storable limit c blocks name pid signal time bytes one = record {
   bytes = omega (arith, bytes);
   enough = ap (λ (l : List ℕ). length l) one ∙ sym (ap (λ (n : ℕ). (n + 4095) / 4096) bytes);
   spare = λ k some. only k (subst (λ (l : List ℕ). 0 < uses k l) one some) (ap (uses k) one);
+  no_label = unlabelled;
 }
   where
     clash : 0 < 0 + 0 → ⊥

@@ -176,7 +176,9 @@ fn has_used(journal: &Journal, state: &State, used: u64) -> bool {
 fn each_step_is_there_again(rt: HostRuntime) -> Result<(), Fail> {
     let alloc = rt.alloc();
     let mut bench = fresh(alloc)?;
-    let used: [u64; 10] = [96, 160, 176, 192, 112, 176, 192, 176, 192, 112];
+    let used: [u64; 13] = [
+        96, 160, 176, 192, 112, 176, 192, 176, 192, 112, 112, 144, 144,
+    ];
     for (step, (state, used)) in script().iter().zip(states().iter().skip(1).zip(used)) {
         assert_eq!(rt; bench.take(alloc, *step)?, Ok(()), "{step:?}");
         assert!(rt; has_used(bench.journal(), state, used), "{step:?}");

@@ -10,7 +10,7 @@ ghost use Rattle.std.specs.Str.{bytes_eq};
 use case_journal::{Journal, JournalFault, format};
 use disk_model::{Disk, MemDisk};
 use extents::{Run, RunList};
-use journal_layout::{Entry, Kind, Name, OpenFault, Shape};
+use journal_layout::{Entry, Kind, Label, Name, OpenFault, Shape};
 use std::alloc::Global;
 use std::marker::Model;
 use std::test::Fail;
@@ -87,6 +87,7 @@ fn empty(alloc: Global, name: Name) -> Entry
         pinned: false,
         length: 0,
         runs: RunList::new(alloc),
+        label: Label::new(),
     }
 }
 
@@ -106,6 +107,7 @@ fn cat_entry(name: Name, runs: RunList) -> Entry
         pinned: false,
         length: 5,
         runs,
+        label: Label::new(),
     }
 }
 
@@ -138,8 +140,12 @@ pub enum Step {
     Pin(u32, bool),
     /// The case of this number ends.
     End(u32),
+    /// The case of this number gets the label.
+    Label(u32, &'static [u8]),
     /// The journal is written anew into its other half.
     Compact,
+    /// The same in version 2 of the layout.
+    Upgrade,
 }
 
 /// A journal and its disk.
@@ -241,6 +247,14 @@ impl<D: Disk + Drop> Bench<D> {
         Ok(self.journal.append_drop(&mut self.disk, &[seq]))
     }
 
+    /// Gives a live case a label.
+    pub fn label(&mut self, seq: u32, text: &[u8]) -> Result<Result<(), JournalFault>, Fail> {
+        if self.journal.entry(seq).is_none() || text.len() > 64 {
+            return Err(Fail::from("no case to be labelled, or no label"));
+        }
+        Ok(self.journal.append_label(&mut self.disk, seq, text))
+    }
+
     /// Writes the journal anew into its other half.
     pub fn compact(&mut self) -> Result<(), JournalFault> {
         self.journal.compact(&mut self.disk)
@@ -252,7 +266,9 @@ impl<D: Disk + Drop> Bench<D> {
             Step::Store(name) => Ok(self.store(alloc, name)?.map(|_| ())),
             Step::Pin(seq, flag) => self.pin(seq, flag),
             Step::End(seq) => self.end(seq),
+            Step::Label(seq, text) => self.label(seq, text),
             Step::Compact => Ok(self.compact()),
+            Step::Upgrade => Ok(self.journal.upgrade(&mut self.disk)),
         }
     }
 }

@@ -23,6 +23,12 @@ const DROP: [u8; 16] = [0xa5, 2, 0, 0, 16, 0, 0, 0, 1, 0, 0, 0, 1, 0, 0, 0];
 
 const PIN: [u8; 16] = [0xa5, 3, 0, 0, 16, 0, 0, 0, 1, 0, 0, 0, 1, 0, 0, 0];
 
+// Case 1 gets the label `ab`.
+const LABEL: [u8; 32] = [
+    0xa5, 5, 0, 0, 32, 0, 0, 0, 1, 0, 0, 0, 2, 0, 0, 0, 0x61, 0x62, 0, 0, 0, 0, 0, 0, 0, 0, 0, 0,
+    0, 0, 0, 0,
+];
+
 // The next case gets number 1.
 const NEXT: [u8; 16] = [0xa5, 4, 0, 0, 16, 0, 0, 0, 1, 0, 0, 0, 0, 0, 0, 0];
 
@@ -282,6 +288,33 @@ fn pin_records_are_checked(rt: HostRuntime) -> Result<(), Fail> {
     let both = with_record(&PIN);
     opens(&rt, &[(4128, &both)], None)?;
     are_damaged(&rt, &both, &PINS)
+}
+
+static LABELS: [Damage; 11] = [
+    (4193, &[6], 4193, Field::Kind),
+    (4200, &[2], 4200, Field::Seq),
+    (4204, &[65], 4204, Field::LabelLength),
+    (4205, &[1], 4204, Field::LabelLength),
+    (4206, &[1], 4206, Field::Reserved),
+    (4207, &[1], 4206, Field::Reserved),
+    (4196, &[16], 4196, Field::Length),
+    (4196, &[48], 4196, Field::Length),
+    (4204, &[0], 4196, Field::Length),
+    (4210, &[1], 4210, Field::Padding),
+    (4223, &[1], 4223, Field::Padding),
+];
+
+// Version 2 of the layout alone has such records.
+#[test]
+fn label_records_are_checked(rt: HostRuntime) -> Result<(), Fail> {
+    let base: [(u64, &[u8]); 3] = [(4128, &STORE), (4192, &LABEL), (4100, &[2])];
+    opens(&rt, &base, None)?;
+    is_damaged(&rt, &base[..2], 4193, Field::Kind)?;
+    for (at, bytes, place, field) in &LABELS {
+        let writes = [base[0], base[1], base[2], (*at, *bytes)];
+        is_damaged(&rt, &writes, *place, *field)?;
+    }
+    Ok(())
 }
 
 static NEXTS: [Damage; 3] = [

@@ -1,4 +1,4 @@
-// Scripts of appends and compactions, and what the journal shows before them and after each of their steps.
+// Scripts of appends, compactions and an upgrade, and what the journal shows before them and after each of their steps.
 use crate::appends::filled;
 use crate::bench::{Step, formatted};
 use case_journal::Journal;
@@ -7,7 +7,7 @@ use journal_layout::Entry;
 use std::alloc::Global;
 use std::test::Fail;
 
-static SCRIPT: [Step; 10] = [
+static SCRIPT: [Step; 13] = [
     Step::Store(b"a"),
     Step::Store(b"b"),
     Step::Pin(1, true),
@@ -18,68 +18,98 @@ static SCRIPT: [Step; 10] = [
     Step::Compact,
     Step::End(1),
     Step::Compact,
+    Step::Upgrade,
+    Step::Label(3, b"ab"),
+    Step::Compact,
 ];
 
 /// The script.
-pub fn script() -> &'static [Step; 10] {
+pub fn script() -> &'static [Step; 13] {
     &SCRIPT
 }
 
-/// The number, the name and the pin of each case, and the number of the next one.
+/// The number, the name and the pin of each case, the number of the next one, and the labels that are not empty.
 pub struct State {
     pub cases: &'static [(u32, &'static [u8], bool)],
     pub next: u64,
+    pub labels: &'static [(u32, &'static [u8])],
 }
 
-static STATES: [State; 11] = [
+static STATES: [State; 14] = [
     State {
         cases: &[],
         next: 1,
+        labels: &[],
     },
     State {
         cases: &[(1, b"a", false)],
         next: 2,
+        labels: &[],
     },
     State {
         cases: &[(1, b"a", false), (2, b"b", false)],
         next: 3,
+        labels: &[],
     },
     State {
         cases: &[(1, b"a", true), (2, b"b", false)],
         next: 3,
+        labels: &[],
     },
     State {
         cases: &[(1, b"a", true)],
         next: 3,
+        labels: &[],
     },
     State {
         cases: &[(1, b"a", true)],
         next: 3,
+        labels: &[],
     },
     State {
         cases: &[(1, b"a", true), (3, b"c", false)],
         next: 4,
+        labels: &[],
     },
     State {
         cases: &[(1, b"a", false), (3, b"c", false)],
         next: 4,
+        labels: &[],
     },
     State {
         cases: &[(1, b"a", false), (3, b"c", false)],
         next: 4,
+        labels: &[],
     },
     State {
         cases: &[(3, b"c", false)],
         next: 4,
+        labels: &[],
     },
     State {
         cases: &[(3, b"c", false)],
         next: 4,
+        labels: &[],
+    },
+    State {
+        cases: &[(3, b"c", false)],
+        next: 4,
+        labels: &[],
+    },
+    State {
+        cases: &[(3, b"c", false)],
+        next: 4,
+        labels: &[(3, b"ab")],
+    },
+    State {
+        cases: &[(3, b"c", false)],
+        next: 4,
+        labels: &[(3, b"ab")],
     },
 ];
 
 /// The states before the script, and after each of its steps.
-pub fn states() -> &'static [State; 11] {
+pub fn states() -> &'static [State; 14] {
     &STATES
 }
 
@@ -177,7 +207,29 @@ impl Course {
     }
 }
 
+// The label of a case.
+fn label_of(labels: &[(u32, &'static [u8])], seq: u32) -> &'static [u8] {
+    for (number, label) in labels {
+        if *number == seq {
+            return label;
+        }
+    }
+    b""
+}
+
+// Whether the cases have these labels, and the others none.
+fn have_labels(entries: &[Entry], labels: &[(u32, &'static [u8])]) -> bool {
+    for entry in entries {
+        if entry.label.as_slice() != label_of(labels, entry.seq) {
+            return false;
+        }
+    }
+    true
+}
+
 /// Whether the journal shows this state.
 pub fn shows(journal: &Journal, state: &State) -> bool {
-    journal.next_seq() == state.next && are_cases(journal.entries(), state.cases)
+    journal.next_seq() == state.next
+        && are_cases(journal.entries(), state.cases)
+        && have_labels(journal.entries(), state.labels)
 }

@@ -1,7 +1,8 @@
 -- What the code's commands say.
 use Rattle.std.specs.Prelude.{ℕ, List}
+use Rattle.arrayvec.specs.ArrayVec.{ArrayVec}
 use Rattle.script_words.specs.WordsLeft.{words_left}
-use Rattle.script_lines.specs.Said.{Said, ProcessSaid, process_in, silence, bad_line, long_line, begin_exec, begin_core, part_of, end_of, drop_of, delete_of, pin_of, retire_by, list_all_cases, count_free, inspect_of}
+use Rattle.script_lines.specs.Said.{Said, ProcessSaid, process_in, silence, bad_line, long_line, begin_exec, begin_core, part_of, end_of, drop_of, delete_of, pin_of, label_of, retire_by, list_all_cases, count_free, upgrade_archive, inspect_of}
 use Rattle.script_lines.specs.Queries.{query_of}
 use Rattle.script_lines.specs.declared.process.Process.{Process}
 use Rattle.script_lines.specs.declared.process.ProcessWords.{ProcessWords}
@@ -9,7 +10,7 @@ use Rattle.script_lines.specs.declared.command.Command.{Command}
 use Rattle.script_lines.specs.declared.names.NameWord.{NameWord}
 use Rattle.script_lines.specs.declared.command.Command.TheVariants.{Part, Inspect, Plain}
 use Rattle.script_lines.specs.declared.command.Request.{Request}
-use Rattle.script_lines.specs.declared.command.Request.TheVariants.{Silence, BadLine, LineTooLong, BeginExec, BeginCore, End, Drop, Delete, Pin, Retire, ListCases, CountFree}
+use Rattle.script_lines.specs.declared.command.Request.TheVariants.{Silence, BadLine, LineTooLong, BeginExec, BeginCore, End, Drop, Delete, Pin, Label, Retire, ListCases, CountFree, Upgrade}
 
 -- what is told of a process
 abbrev pub process_of : Process → ProcessSaid
@@ -35,6 +36,10 @@ process_told told = process_in (words_left told.words)
 abbrev pub name_text : NameWord → List ℕ
 name_text name = name.text.items
 
+-- the bytes of a label
+abbrev pub label_bytes : ArrayVec ℕ → List ℕ
+label_bytes label = label.items
+
 -- what a request says
 abbrev pub asked_by : Request → Said
 asked_by Silence = silence
@@ -46,9 +51,11 @@ asked_by (End slot) = end_of slot
 asked_by (Drop slot) = drop_of slot
 asked_by (Delete seq) = delete_of seq
 asked_by (Pin seq flag) = pin_of seq flag
+asked_by (Label seq label) = label_of seq label.items
 asked_by (Retire policy) = retire_by policy
 asked_by ListCases = list_all_cases
 asked_by CountFree = count_free
+asked_by Upgrade = upgrade_archive
 
 -- what a command says
 abbrev pub said_by : Command → Said

@@ -1,5 +1,5 @@
 -- What a line of a script says.
-use Rattle.std.specs.Prelude.{ℕ, ◌^◌, ◌-◌, Bool, true, false, nat_lt, List, [], ◌∷◌, length, Option, None, Some, codes, if◌then◌else◌}
+use Rattle.std.specs.Prelude.{ℕ, ◌^◌, ◌-◌, Bool, true, false, nat_lt, nat_le, List, [], ◌∷◌, length, Option, None, Some, codes, if◌then◌else◌}
 use Rattle.std.specs.Str.{bytes_eq}
 use Rattle.retention.specs.declared.Policy.{Policy}
 use Rattle.script_words.specs.Words.{words_of, is_plain_line, is_blank_or_comment_line}
@@ -45,12 +45,16 @@ pub data Said : Type 0 where
   delete_of : ℕ → Said
   -- the case of this number is kept from deletion, or no longer
   pin_of : ℕ → Bool → Said
+  -- the case of this number gets this label
+  label_of : ℕ → List ℕ → Said
   -- the cases that the rule drops under this policy are dropped
   retire_by : Policy → Said
   -- the cases
   list_all_cases : Said
   -- the free data blocks
   count_free : Said
+  -- the archive is brought to version 2 of the layout, which keeps labels
+  upgrade_archive : Said
   -- this is asked of the image of the case of this number
   inspect_of : ℕ → QuerySaid → Said
 
@@ -156,6 +160,27 @@ abbrev pub pins : Bool → Option ℕ → Option Said
 pins flag None = None
 pins flag (Some seq) = Some (pin_of seq flag)
 
+abbrev pub labels : Option ℕ → Option (List ℕ) → Option Said
+labels None label = None
+labels (Some seq) None = None
+labels (Some seq) (Some label) = Some (label_of seq label)
+
+-- a text of at most 64 bytes
+abbrev pub short_label : Option (List ℕ) → Option (List ℕ)
+short_label None = None
+short_label (Some text) = if nat_le (length text) 64 then Some text else None
+
+-- the label that stands behind the case: a text of at most 64 bytes; where none stands it is empty
+abbrev pub label_text : List (List ℕ) → Option (List ℕ)
+label_text [] = Some []
+label_text (text ∷ []) = short_label (text_of text)
+label_text (text ∷ more ∷ words) = None
+
+-- `label N [TEXT]`
+abbrev pub label_said : List (List ℕ) → Option Said
+label_said [] = None
+label_said (seq ∷ words) = labels (number_within 1 (2 ^ 32 - 1) seq) (label_text words)
+
 -- what pairs say that an archive is to be brought down to
 abbrev pub policy_in : List (List ℕ) → Policy
 policy_in words = record {
@@ -178,6 +203,11 @@ abbrev pub list_said : List (List ℕ) → Option Said
 list_said [] = Some list_all_cases
 list_said (more ∷ words) = None
 
+-- `upgrade`
+abbrev pub upgrade_said : List (List ℕ) → Option Said
+upgrade_said [] = Some upgrade_archive
+upgrade_said (more ∷ words) = None
+
 -- a case and a query
 abbrev pub inspects : Option ℕ → Option QuerySaid → Option Said
 inspects None query = None
@@ -189,16 +219,18 @@ abbrev pub inspect_said : List ℕ → List (List ℕ) → Option Said
 inspect_said command [] = None
 inspect_said command (seq ∷ words) = inspects (number_within 1 (2 ^ 32 - 1) seq) (query_in query_rows command words)
 
--- the commands on cases
+-- the commands on cases, and on the archive as a whole
 abbrev pub case_words_said : List ℕ → List (List ℕ) → Option Said
 case_words_said command words =
     if bytes_eq command (codes "delete") then deletes (case_alone words)
     else (if bytes_eq command (codes "pin") then pins true (case_alone words)
     else (if bytes_eq command (codes "unpin") then pins false (case_alone words)
+    else (if bytes_eq command (codes "label") then label_said words
     else (if bytes_eq command (codes "retire") then retire_said words
     else (if bytes_eq command (codes "list") then list_said words
     else (if bytes_eq command (codes "free") then free_said words
-    else inspect_said command words)))))
+    else (if bytes_eq command (codes "upgrade") then upgrade_said words
+    else inspect_said command words)))))))
 
 -- the commands on streams, and the others
 abbrev pub command_said : List ℕ → List (List ℕ) → Option Said
@@ -238,18 +270,22 @@ raw_length (end_of slot) = 0
 raw_length (drop_of slot) = 0
 raw_length (delete_of seq) = 0
 raw_length (pin_of seq flag) = 0
+raw_length (label_of seq label) = 0
 raw_length (retire_by policy) = 0
 raw_length list_all_cases = 0
 raw_length count_free = 0
+raw_length upgrade_archive = 0
 raw_length (inspect_of seq query) = 0
 
 -- The line asks for something that one line can do: it begins, feeds, ends and drops no stream, and is none that has no reply.
 abbrev pub is_question : Said → Bool
 is_question (delete_of seq) = true
 is_question (pin_of seq flag) = true
+is_question (label_of seq label) = true
 is_question (retire_by policy) = true
 is_question list_all_cases = true
 is_question count_free = true
+is_question upgrade_archive = true
 is_question (inspect_of seq query) = true
 is_question _ = false
 

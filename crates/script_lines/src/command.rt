@@ -3,8 +3,8 @@ ghost use Rattle.std.specs.Prelude.{◌≡◌, ◌<◌, ◌≤◌, ℕ, List, le
 ghost use Rattle.script_words.specs.Words.{words_of};
 ghost use Rattle.script_words.specs.WordsLeft.{words_left};
 ghost use Rattle.script_words.specs.Text.{text_of};
-ghost use Rattle.script_lines.specs.Said.{said, is_question, makes_room, only_looks, begin_said, exec_said, core_said, part_said, slot_alone, case_alone, pins, retire_said, list_said, free_said, inspect_said, case_words_said, words_said, short_line_said};
-ghost use Rattle.script_lines.specs.Commands.{said_by, asked_by, name_text};
+ghost use Rattle.script_lines.specs.Said.{said, is_question, makes_room, only_looks, begin_said, exec_said, core_said, part_said, slot_alone, case_alone, pins, label_text, short_label, label_said, retire_said, list_said, free_said, upgrade_said, inspect_said, case_words_said, words_said, short_line_said};
+ghost use Rattle.script_lines.specs.Commands.{said_by, asked_by, name_text, label_bytes};
 ghost use Rattle.script_lines.specs.LineWords.{AreWords};
 ghost use Rattle.script_streams.specs.Lines.{KeepsLine};
 
@@ -12,6 +12,7 @@ use crate::keys::{Keys, are_pairs, large_at};
 use crate::names::NameWord;
 use crate::process::ProcessWords;
 use crate::query::{Query, parse_query};
+use arrayvec::ArrayVec;
 use retention::Policy;
 use script_streams::KeptLine;
 use script_words::{
@@ -85,6 +86,13 @@ pub enum Request<'a> {
         /// It is kept.
         flag: bool,
     },
+    /// The case gets a label.
+    Label {
+        /// The number of the case, from 1 on.
+        seq: u32,
+        /// The label's bytes, at most 64: escapes are read. Where the line gives no text there are none.
+        label: ArrayVec<u8, 64>,
+    },
     /// The cases that the rule drops are dropped.
     Retire {
         /// What the archive is to be brought down to.
@@ -94,6 +102,8 @@ pub enum Request<'a> {
     ListCases,
     /// The free data blocks.
     CountFree,
+    /// The archive is brought to version 2 of the layout, which keeps labels.
+    Upgrade,
 }
 
 /// What a line says, which a reader of lines has kept.
@@ -161,7 +171,7 @@ fn parse_words(words: Words<'_>) -> Option<Command<'_>>
     }
 }
 
-// What the words of a line on cases say.
+// What the words of a line on cases, or on the archive as a whole, say.
 fn parse_case_words<'a>(command: &[u8], words: Words<'a>) -> Option<Command<'a>>
     requires { AreWords (words_left words) }
     ensures { option_map said_by result ≡ case_words_said command.now (words_left words.entry) }
@@ -174,12 +184,16 @@ fn parse_case_words<'a>(command: &[u8], words: Words<'a>) -> Option<Command<'a>>
         Some(Command::Plain(parse_pin(words, true)?))
     } else if command == b"unpin".as_slice() {
         Some(Command::Plain(parse_pin(words, false)?))
+    } else if command == b"label".as_slice() {
+        Some(Command::Plain(parse_label(words)?))
     } else if command == b"retire".as_slice() {
         Some(Command::Plain(parse_retire(words)?))
     } else if command == b"list".as_slice() {
         Some(Command::Plain(parse_list(words)?))
     } else if command == b"free".as_slice() {
         Some(Command::Plain(parse_free(words)?))
+    } else if command == b"upgrade".as_slice() {
+        Some(Command::Plain(parse_upgrade(words)?))
     } else {
         parse_inspect(command, words)
     }
@@ -291,6 +305,43 @@ fn parse_pin(words: Words<'_>, flag: bool) -> Option<Request<'_>>
     })
 }
 
+// `label`: the number of a case, and its label.
+fn parse_label(words: Words<'_>) -> Option<Request<'_>>
+    requires { AreWords (words_left words) }
+    ensures { option_map asked_by result ≡ label_said (words_left words.entry) }
+{
+    let mut rest = words;
+    let seq = rest.next()?;
+    Some(Request::Label {
+        seq: parse_case_number(seq)?,
+        label: parse_label_text(rest)?,
+    })
+}
+
+// The label behind the number of its case: a text, or nothing for the empty label.
+fn parse_label_text(words: Words<'_>) -> Option<ArrayVec<u8, 64>>
+    requires { AreWords (words_left words) }
+    ensures { option_map label_bytes result ≡ label_text (words_left words.entry) }
+{
+    let mut rest = words;
+    let Some(text) = rest.next() else {
+        return Some(ArrayVec::new());
+    };
+    if rest.next().is_some() {
+        return None;
+    }
+    decode_label(text)
+}
+
+// The label that a word stands for, unless that is too long.
+fn decode_label(word: &[u8]) -> Option<ArrayVec<u8, 64>>
+    requires { length word.now ≤ 1024 }
+    ensures { option_map label_bytes result ≡ short_label (text_of word.now) }
+{
+    let text = decode_text(word)?;
+    ArrayVec::try_from(text.as_slice()).ok()
+}
+
 // `retire`: the limits.
 fn parse_retire(words: Words<'_>) -> Option<Request<'_>>
     requires { AreWords (words_left words) }
@@ -330,6 +381,17 @@ fn parse_free(words: Words<'_>) -> Option<Request<'_>>
     Some(Request::CountFree)
 }
 
+// `upgrade`: nothing else.
+fn parse_upgrade(words: Words<'_>) -> Option<Request<'_>>
+    ensures { option_map asked_by result ≡ upgrade_said (words_left words.entry) }
+{
+    let mut rest = words;
+    if rest.next().is_some() {
+        return None;
+    }
+    Some(Request::Upgrade)
+}
+
 // A line that inspects: the number of a case, and what is asked of its image.
 fn parse_inspect<'a>(command: &[u8], words: Words<'a>) -> Option<Command<'a>>
     ensures { option_map said_by result ≡ inspect_said command.now (words_left words.entry) }
@@ -342,8 +404,8 @@ fn parse_inspect<'a>(command: &[u8], words: Words<'a>) -> Option<Command<'a>>
     })
 }
 
-/// Whether a line asks for something that one line can do: `delete`, `pin`, `unpin`, `retire`, `list`, `free` and the lines that
-/// inspect do; a line that begins, feeds, ends or drops a stream doesn't, nor does one outside the grammar, or with no reply.
+/// Whether a line asks for something that one line can do: `delete`, `pin`, `unpin`, `label`, `retire`, `list`, `free`, `upgrade`
+/// and the lines that inspect do; a line that begins, feeds, ends or drops a stream doesn't, nor does one outside the grammar, or with no reply.
 pub fn is_question(line: &[u8]) -> bool
     ensures { result ≡ is_question (said line.now) }
 {
@@ -360,9 +422,11 @@ fn is_asked(request: &Request<'_>) -> bool
     match request {
         Request::Delete { .. } => true,
         Request::Pin { .. } => true,
+        Request::Label { .. } => true,
         Request::Retire { .. } => true,
         Request::ListCases => true,
         Request::CountFree => true,
+        Request::Upgrade => true,
         Request::Silence => false,
         Request::BadLine => false,
         Request::LineTooLong => false,
@@ -391,8 +455,10 @@ fn is_retire(request: &Request<'_>) -> bool
         Request::Retire { .. } => true,
         Request::Delete { .. } => false,
         Request::Pin { .. } => false,
+        Request::Label { .. } => false,
         Request::ListCases => false,
         Request::CountFree => false,
+        Request::Upgrade => false,
         Request::Silence => false,
         Request::BadLine => false,
         Request::LineTooLong => false,
@@ -423,7 +489,9 @@ fn looks_alone(request: &Request<'_>) -> bool
         Request::CountFree => true,
         Request::Delete { .. } => false,
         Request::Pin { .. } => false,
+        Request::Label { .. } => false,
         Request::Retire { .. } => false,
+        Request::Upgrade => false,
         Request::Silence => false,
         Request::BadLine => false,
         Request::LineTooLong => false,

@@ -16,7 +16,7 @@ struct Row {
     size: usize,
     replies: &'static str,
     made_room: bool,
-    is_stored: bool,
+    stored: Option<u32>,
 }
 
 // How a store ends: nothing else is said of it here, so that no proof has to carry it.
@@ -55,7 +55,7 @@ fn stores<D: Disk + Drop>(rt: &(impl AllocGlobal + Abort), disk: D, row: &Row) -
     let (text, outcome, disk) = stored(rt.alloc(), disk, row)?;
     assert_eq!(rt; text.as_str(), row.replies);
     assert_eq!(rt; outcome.made_room, row.made_room);
-    assert_eq!(rt; outcome.is_stored, row.is_stored);
+    assert_eq!(rt; outcome.stored, row.stored);
     Ok(disk)
 }
 
@@ -84,7 +84,7 @@ static FULL: [Row; 4] = [
         size: 8192,
         replies: "name a\nok\nstored 1\nok\n",
         made_room: true,
-        is_stored: true,
+        stored: Some(1),
     },
     Row {
         before: b"retire keep=1",
@@ -92,7 +92,7 @@ static FULL: [Row; 4] = [
         size: 8192,
         replies: "ok\nname b\nok\nstored 2\nok\n",
         made_room: true,
-        is_stored: true,
+        stored: Some(2),
     },
     Row {
         before: b"retire keep=2",
@@ -100,7 +100,7 @@ static FULL: [Row; 4] = [
         size: 8192,
         replies: "ok\nname c\nok\nno SpaceFull\n",
         made_room: true,
-        is_stored: false,
+        stored: None,
     },
     Row {
         before: b"retire keep=1",
@@ -108,7 +108,7 @@ static FULL: [Row; 4] = [
         size: 8192,
         replies: "dropped 1\nok\nname c\nok\nstored 3\nok\n",
         made_room: true,
-        is_stored: true,
+        stored: Some(3),
     },
 ];
 
@@ -142,7 +142,7 @@ static KEPT: [Row; 4] = [
         size: 0,
         replies: "name c\nok\nstored 3\nok\n",
         made_room: true,
-        is_stored: true,
+        stored: Some(3),
     },
     Row {
         before: b"retire keep=2",
@@ -150,7 +150,7 @@ static KEPT: [Row; 4] = [
         size: 2,
         replies: "dropped 2\nok\nname d\nok\nstored 4\nok\n",
         made_room: true,
-        is_stored: true,
+        stored: Some(4),
     },
     Row {
         before: b"retire before=1 bytes=0",
@@ -158,7 +158,7 @@ static KEPT: [Row; 4] = [
         size: 1,
         replies: "dropped 3\ndropped 4\nok\nname core.e.0\nok\nstored 5\nok\n",
         made_room: true,
-        is_stored: true,
+        stored: Some(5),
     },
     Row {
         before: b"retire keep=0",
@@ -166,7 +166,7 @@ static KEPT: [Row; 4] = [
         size: 1,
         replies: "dropped 5\nunmet\nok\nno BadLine\n",
         made_room: true,
-        is_stored: false,
+        stored: None,
     },
 ];
 
@@ -206,7 +206,7 @@ static NO_ROOM_FOR_THE_RECORD: Row = Row {
     size: 5,
     replies: "no JournalFull\nname a\nok\nstored 63\nok\n",
     made_room: false,
-    is_stored: true,
+    stored: Some(63),
 };
 
 #[test]
@@ -222,7 +222,7 @@ static RETIRED_ALONE: Row = Row {
     size: 0,
     replies: "dropped 1\nok\nno BadLine\n",
     made_room: true,
-    is_stored: false,
+    stored: None,
 };
 
 // The same where the disk fails at its last call, so that the archive is stopped.
@@ -232,7 +232,7 @@ static STOPPED: Row = Row {
     size: 1,
     replies: "no Disk\nno Stopped\n",
     made_room: false,
-    is_stored: false,
+    stored: None,
 };
 
 #[test]

@@ -2,6 +2,8 @@
 #![tactic(auto)]
 
 #[cfg(test)]
+mod labels;
+#[cfg(test)]
 mod lines;
 #[cfg(test)]
 mod names;

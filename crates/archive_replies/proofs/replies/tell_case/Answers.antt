@@ -1,5 +1,6 @@
 use Rattle.std.proofs.Common.{ap}
 use Rattle.script_words.specs.Printing.{shown}
+use Rattle.archive_replies.specs.Texts.{label_word}
 use Rattle.script_streams.specs.TellLaws.{tells_then, tells_as}
 use Rattle.archive_replies.proofs.replies.tell_case.Goals as goal
 
@@ -14,4 +15,5 @@ returns g c =
     (tells_then _ _ _ _ _ _ _ _ _ _ _ c.tell_number-5.ensures
     (tells_then _ _ _ _ _ _ _ _ _ _ _ (tells_as _ _ _ _ _ _ _ _ c.pin_word.ensures c.tell-3.ensures)
     (tells_then _ _ _ _ _ _ _ _ _ _ _ c.tell-4.ensures
-    (tells_then _ _ _ _ _ _ _ _ _ _ _ (tells_as _ _ _ _ _ _ _ _ (ap shown c.as_slice.ensures.value) c.tell_text.ensures) c.tell-5.ensures)))))))))
+    (tells_then _ _ _ _ _ _ _ _ _ _ _ (tells_as _ _ _ _ _ _ _ _ (ap shown c.as_slice.ensures.value) c.tell_text.ensures)
+    (tells_then _ _ _ _ _ _ _ _ _ _ _ (tells_as _ _ _ _ _ _ _ _ (ap (label_word c.args.version) c.as_slice-2.ensures.value) c.tell_label.ensures) c.tell-5.ensures))))))))))

@@ -7,4 +7,4 @@ use Rattle.archive_replies.specs.Texts.{case_line}
 use Rattle.archive_replies.proofs.replies.tell_cases.Given as goal
 
 abbrev pub invariant-loop-entry : goal.invariant-loop-entry
-invariant-loop-entry g l = Tells (g.O.Output.taken l.initial.output) (g.O.Output.taken l.output) (g.O.Output.failures l.initial.output) (g.O.Output.failures l.output) l.initial.reply l.reply (flat_map case_line (map case_facts (map case_of (take l.entry-index l.cases))))
+invariant-loop-entry g l = Tells (g.O.Output.taken l.initial.output) (g.O.Output.taken l.output) (g.O.Output.failures l.initial.output) (g.O.Output.failures l.output) l.initial.reply l.reply (flat_map (case_line l.version) (map case_facts (map case_of (take l.entry-index l.cases))))

@@ -10,7 +10,7 @@ returns g c =
         c.finish-outcome.result,
         call,
         refl,
-        c.is_ok-is_stored.ensures.value,
+        c.ok-stored.ensures.value,
       ),
       c.tell_stored.ensures,
     )

@@ -17,4 +17,4 @@ returns-in-LineTooLong g c = rw c.in-LineTooLong.is (no_reply (codes "LineTooLon
 
 pub returns-in-ListCases : goal.returns-in-ListCases
 returns-in-ListCases g c =
-    rw c.in-ListCases.is (list_reply (state_of c.args.archive.now).stopped (state_of c.args.archive.now).cases, (refl, refl), c.answer_list.ensures)
+    rw c.in-ListCases.is (list_reply (state_of c.args.archive.now).stopped (state_of c.args.archive.now).version (state_of c.args.archive.now).cases, (refl, refl), c.answer_list.ensures)

@@ -7,7 +7,7 @@ use Rattle.inspector_cli.proofs.run.run_session.Goals as goal
 
 pub returns-in_default : goal.returns-in_default
 returns-in_default g c = λ before.
-    write_failed g.D.Disk (laws_of g.D.Disk c.calls_lead_from_mark_to_mark.ensures.stays c.calls_lead_from_mark_to_mark.ensures.finish c.calls_lead_from_mark_to_mark.ensures.delete c.calls_lead_from_mark_to_mark.ensures.pin c.calls_lead_from_mark_to_mark.ensures.retire) c.found_after_a_stop.ensures c.args.naming.now (g.I.Input.remaining c.args.input.now) (g.I.Input.remaining c.answer_script-answered.new.input)
+    write_failed g.D.Disk (laws_of g.D.Disk c.calls_lead_from_mark_to_mark.ensures.stays c.calls_lead_from_mark_to_mark.ensures.finish c.calls_lead_from_mark_to_mark.ensures.delete c.calls_lead_from_mark_to_mark.ensures.pin c.calls_lead_from_mark_to_mark.ensures.label c.calls_lead_from_mark_to_mark.ensures.upgrade c.calls_lead_from_mark_to_mark.ensures.retire) c.found_after_a_stop.ensures c.args.naming.now (g.I.Input.remaining c.args.input.now) (g.I.Input.remaining c.answer_script-answered.new.input)
     c.new-buffer.result c.answer_script-answered.new.buffer (g.I.Input.failures c.args.input.now) (g.I.Input.failures c.answer_script-answered.new.input)
     (g.O.Output.taken c.args.output.now) (g.O.Output.taken c.answer_script-answered.new.output) (g.O.Output.taken c.finish.new.output)
     (g.O.Output.failures c.args.output.now) (g.O.Output.failures c.answer_script-answered.new.output) (g.O.Output.failures c.finish.new.output)
@@ -18,7 +18,7 @@ returns-in_default g c = λ before.
 
 pub returns-in-Ok-answered : goal.returns-in-Ok-answered
 returns-in-Ok-answered g c = λ before.
-    ended g.D.Disk (laws_of g.D.Disk c.calls_lead_from_mark_to_mark.ensures.stays c.calls_lead_from_mark_to_mark.ensures.finish c.calls_lead_from_mark_to_mark.ensures.delete c.calls_lead_from_mark_to_mark.ensures.pin c.calls_lead_from_mark_to_mark.ensures.retire) c.found_after_a_stop.ensures c.args.naming.now (g.I.Input.remaining c.args.input.now) (g.I.Input.remaining c.answer_script-answered.new.input)
+    ended g.D.Disk (laws_of g.D.Disk c.calls_lead_from_mark_to_mark.ensures.stays c.calls_lead_from_mark_to_mark.ensures.finish c.calls_lead_from_mark_to_mark.ensures.delete c.calls_lead_from_mark_to_mark.ensures.pin c.calls_lead_from_mark_to_mark.ensures.label c.calls_lead_from_mark_to_mark.ensures.upgrade c.calls_lead_from_mark_to_mark.ensures.retire) c.found_after_a_stop.ensures c.args.naming.now (g.I.Input.remaining c.args.input.now) (g.I.Input.remaining c.answer_script-answered.new.input)
     c.new-buffer.result c.answer_script-answered.new.buffer (g.I.Input.failures c.args.input.now) (g.I.Input.failures c.answer_script-answered.new.input)
     (g.O.Output.taken c.args.output.now) (g.O.Output.taken c.answer_script-answered.new.output) (g.O.Output.taken c.finish.new.output)
     (g.O.Output.failures c.args.output.now) (g.O.Output.failures c.answer_script-answered.new.output) (g.O.Output.failures c.finish.new.output)
@@ -32,7 +32,7 @@ returns-in-Err g c = λ before.
     subst (λ (x : SessionFault). SessionEnds g.D.Disk c.args.naming.now (streams_of g.I.Input g.O.Output c.args.input.now c.answer_script-answered.new.input c.args.output.now c.finish.new.output)
     (stage_of c.args.archive.now before) c.close_streams.new.archive (Err x))
     (sym c.session_fault.ensures)
-    (read_stopped g.D.Disk (laws_of g.D.Disk c.calls_lead_from_mark_to_mark.ensures.stays c.calls_lead_from_mark_to_mark.ensures.finish c.calls_lead_from_mark_to_mark.ensures.delete c.calls_lead_from_mark_to_mark.ensures.pin c.calls_lead_from_mark_to_mark.ensures.retire) c.found_after_a_stop.ensures c.args.naming.now (g.I.Input.remaining c.args.input.now) (g.I.Input.remaining c.answer_script-answered.new.input)
+    (read_stopped g.D.Disk (laws_of g.D.Disk c.calls_lead_from_mark_to_mark.ensures.stays c.calls_lead_from_mark_to_mark.ensures.finish c.calls_lead_from_mark_to_mark.ensures.delete c.calls_lead_from_mark_to_mark.ensures.pin c.calls_lead_from_mark_to_mark.ensures.label c.calls_lead_from_mark_to_mark.ensures.upgrade c.calls_lead_from_mark_to_mark.ensures.retire) c.found_after_a_stop.ensures c.args.naming.now (g.I.Input.remaining c.args.input.now) (g.I.Input.remaining c.answer_script-answered.new.input)
     c.new-buffer.result c.answer_script-answered.new.buffer (g.I.Input.failures c.args.input.now) (g.I.Input.failures c.answer_script-answered.new.input)
     (g.O.Output.taken c.args.output.now) (g.O.Output.taken c.answer_script-answered.new.output) (g.O.Output.taken c.finish.new.output)
     (g.O.Output.failures c.args.output.now) (g.O.Output.failures c.answer_script-answered.new.output) (g.O.Output.failures c.finish.new.output)

@@ -15,7 +15,7 @@ loop-goes_on-init g c = record {
 pub returns-in_err-goes_on-clause-answers : goal.returns-in_err-goes_on-clause-answers
 returns-in_err-goes_on-clause-answers g c = λ before.
     let q = err_from_is_err_and c.from_residual.result c.from_residual.ensures.1 in
-    rw q.1 (stops_as g.D.Disk (laws_of g.D.Disk c.calls_lead_from_mark_to_mark.ensures.stays c.calls_lead_from_mark_to_mark.ensures.finish c.calls_lead_from_mark_to_mark.ensures.delete c.calls_lead_from_mark_to_mark.ensures.pin c.calls_lead_from_mark_to_mark.ensures.retire) c.args.naming.now (g.I.Input.remaining c.args.input.now) (g.I.Input.remaining c.loop-goes_on.input) (g.I.Input.remaining c.answer_command.new.input)
+    rw q.1 (stops_as g.D.Disk (laws_of g.D.Disk c.calls_lead_from_mark_to_mark.ensures.stays c.calls_lead_from_mark_to_mark.ensures.finish c.calls_lead_from_mark_to_mark.ensures.delete c.calls_lead_from_mark_to_mark.ensures.pin c.calls_lead_from_mark_to_mark.ensures.label c.calls_lead_from_mark_to_mark.ensures.upgrade c.calls_lead_from_mark_to_mark.ensures.retire) c.args.naming.now (g.I.Input.remaining c.args.input.now) (g.I.Input.remaining c.loop-goes_on.input) (g.I.Input.remaining c.answer_command.new.input)
     c.args.buffer.now c.loop-goes_on.buffer c.answer_command.new.buffer
     (g.O.Output.taken c.args.output.now) (g.O.Output.taken c.loop-goes_on.output) (g.O.Output.taken c.answer_command.new.output)
     (g.O.Output.failures c.args.output.now) (g.O.Output.failures c.loop-goes_on.output) (g.O.Output.failures c.answer_command.new.output)
@@ -26,7 +26,7 @@ returns-in_err-goes_on-clause-answers g c = λ before.
 pub loop-goes_on-preserved : goal.loop-goes_on-preserved
 loop-goes_on-preserved g c = record {
   along =
-      λ before. goes_along g.D.Disk (laws_of g.D.Disk c.calls_lead_from_mark_to_mark.ensures.stays c.calls_lead_from_mark_to_mark.ensures.finish c.calls_lead_from_mark_to_mark.ensures.delete c.calls_lead_from_mark_to_mark.ensures.pin c.calls_lead_from_mark_to_mark.ensures.retire) c.args.naming.now (g.I.Input.remaining c.args.input.now) (g.I.Input.remaining c.loop-goes_on.input) (g.I.Input.remaining c.answer_command.new.input)
+      λ before. goes_along g.D.Disk (laws_of g.D.Disk c.calls_lead_from_mark_to_mark.ensures.stays c.calls_lead_from_mark_to_mark.ensures.finish c.calls_lead_from_mark_to_mark.ensures.delete c.calls_lead_from_mark_to_mark.ensures.pin c.calls_lead_from_mark_to_mark.ensures.label c.calls_lead_from_mark_to_mark.ensures.upgrade c.calls_lead_from_mark_to_mark.ensures.retire) c.args.naming.now (g.I.Input.remaining c.args.input.now) (g.I.Input.remaining c.loop-goes_on.input) (g.I.Input.remaining c.answer_command.new.input)
       c.args.buffer.now c.loop-goes_on.buffer c.answer_command.new.buffer
       (g.O.Output.taken c.args.output.now) (g.O.Output.taken c.loop-goes_on.output) (g.O.Output.taken c.answer_command.new.output)
       (g.O.Output.failures c.args.output.now) (g.O.Output.failures c.loop-goes_on.output) (g.O.Output.failures c.answer_command.new.output)

@@ -4,7 +4,7 @@ use Rattle.inspector_cli.proofs.store.store_stream.Goals as goal
 
 pub returns-in_default-clause-ends : goal.returns-in_default-clause-ends
 returns-in_default-clause-ends g c = λ doubts.
-    store_failed g.D.Disk (laws_of g.D.Disk c.calls_lead_from_mark_to_mark.ensures.stays c.calls_lead_from_mark_to_mark.ensures.finish c.calls_lead_from_mark_to_mark.ensures.delete c.calls_lead_from_mark_to_mark.ensures.pin c.calls_lead_from_mark_to_mark.ensures.retire) c.found_after_a_stop.ensures c.args.naming.now (g.I.Input.remaining c.args.file.now) (g.I.Input.remaining c.answer_both-outcome.new.file)
+    store_failed g.D.Disk (laws_of g.D.Disk c.calls_lead_from_mark_to_mark.ensures.stays c.calls_lead_from_mark_to_mark.ensures.finish c.calls_lead_from_mark_to_mark.ensures.delete c.calls_lead_from_mark_to_mark.ensures.pin c.calls_lead_from_mark_to_mark.ensures.label c.calls_lead_from_mark_to_mark.ensures.upgrade c.calls_lead_from_mark_to_mark.ensures.retire) c.found_after_a_stop.ensures c.args.naming.now (g.I.Input.remaining c.args.file.now) (g.I.Input.remaining c.answer_both-outcome.new.file)
     (g.I.Input.failures c.args.file.now) (g.I.Input.failures c.answer_both-outcome.new.file)
     (g.O.Output.taken c.args.output.now) (g.O.Output.taken c.answer_both-outcome.new.output) (g.O.Output.taken c.finish.new.output)
     (g.O.Output.failures c.args.output.now) (g.O.Output.failures c.answer_both-outcome.new.output) (g.O.Output.failures c.finish.new.output)
@@ -19,7 +19,7 @@ returns-in_default-clause-quiet g c = c.abandon.ensures.quiet
 
 pub returns-clause-ends : goal.returns-clause-ends
 returns-clause-ends g c = λ doubts.
-    store_written g.D.Disk (laws_of g.D.Disk c.calls_lead_from_mark_to_mark.ensures.stays c.calls_lead_from_mark_to_mark.ensures.finish c.calls_lead_from_mark_to_mark.ensures.delete c.calls_lead_from_mark_to_mark.ensures.pin c.calls_lead_from_mark_to_mark.ensures.retire) c.found_after_a_stop.ensures c.args.naming.now (g.I.Input.remaining c.args.file.now) (g.I.Input.remaining c.answer_both-outcome.new.file)
+    store_written g.D.Disk (laws_of g.D.Disk c.calls_lead_from_mark_to_mark.ensures.stays c.calls_lead_from_mark_to_mark.ensures.finish c.calls_lead_from_mark_to_mark.ensures.delete c.calls_lead_from_mark_to_mark.ensures.pin c.calls_lead_from_mark_to_mark.ensures.label c.calls_lead_from_mark_to_mark.ensures.upgrade c.calls_lead_from_mark_to_mark.ensures.retire) c.found_after_a_stop.ensures c.args.naming.now (g.I.Input.remaining c.args.file.now) (g.I.Input.remaining c.answer_both-outcome.new.file)
     (g.I.Input.failures c.args.file.now) (g.I.Input.failures c.answer_both-outcome.new.file)
     (g.O.Output.taken c.args.output.now) (g.O.Output.taken c.answer_both-outcome.new.output) (g.O.Output.taken c.finish.new.output)
     (g.O.Output.failures c.args.output.now) (g.O.Output.failures c.answer_both-outcome.new.output) (g.O.Output.failures c.finish.new.output)

@@ -1,5 +1,5 @@
 use Rattle.std.proofs.Common.{◌≡◌, ℕ, refl, length, map, sym, ap, ◌∙◌, subst}
-use Rattle.std.proofs.Common.{List, Bool}
+use Rattle.std.proofs.Common.{List}
 use Rattle.journal_layout.specs.Case.{Case, case_of}
 use Rattle.journal_layout.specs.Folding.{Folded, nothing_yet, used_blocks}
 use Rattle.journal_layout.specs.Stands.{AreRead}

@@ -9,3 +9,9 @@ returns-in-Drop-clause-writes g c = rw c.in-Drop.is (writes_nothing g.D.Disk c.a
 
 pub returns-in-Pin-clause-writes : goal.returns-in-Pin-clause-writes
 returns-in-Pin-clause-writes g c = rw c.in-Pin.is (writes_nothing g.D.Disk c.args.disk.now c.args.at (g.met.D.Disk.only_now c.args.disk.now))
+
+pub returns-in-Label-clause-writes : goal.returns-in-Label-clause-writes
+returns-in-Label-clause-writes g c = rw c.in-Label.is (writes_nothing g.D.Disk c.args.disk.now c.args.at (g.met.D.Disk.only_now c.args.disk.now))
+
+pub returns-in-Upgrade-clause-writes : goal.returns-in-Upgrade-clause-writes
+returns-in-Upgrade-clause-writes g c = rw c.in-Upgrade.is (writes_nothing g.D.Disk c.args.disk.now c.args.at (g.met.D.Disk.only_now c.args.disk.now))

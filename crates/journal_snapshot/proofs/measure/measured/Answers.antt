@@ -1,5 +1,5 @@
 use Rattle.std.proofs.Common.{arith}
-use Rattle.journal_snapshot.proofs.MeasureLemmas.{lacks_room, used_more, most_more}
+use Rattle.journal_snapshot.proofs.MeasureLemmas.{lacks_room, used_more, most_more, least_more}
 use Rattle.journal_snapshot.proofs.measure.measured.Goals as goal
 
 pub returns-in_err-sum : goal.returns-in_err-sum
@@ -20,5 +20,6 @@ loop-entry-preserved c =
       used = used_more ch es i c.args.half c.entry-item.result c.loop-entry-test.true c.entry-item.is c.loop-entry.sum l.used c.in_ok-sum.sum grows;
       room = grows.1;
       most = most_more ch es i c.args.half c.entry-item.result c.loop-entry-test.true c.entry-item.is c.loop-entry.sum l.used c.in_ok-sum.sum grows l.most;
+      least = least_more ch es i c.args.half c.entry-item.result c.loop-entry-test.true c.entry-item.is c.loop-entry.sum l.used c.in_ok-sum.sum grows l.least;
       within = omega (arith, grows.0, grows.4, l.within);
     }

@@ -1,4 +1,4 @@
-use Rattle.std.proofs.Common.{◌≡◌, ◌+◌, ◌≤◌, length, take}
+use Rattle.std.proofs.Common.{◌≡◌, ◌+◌, ◌≤◌, ℕ, length, take}
 use Rattle.journal_snapshot.specs.Writing.{written_entries, AreAtMost}
 use Rattle.journal_snapshot.proofs.measure.measured.Given as goal
 
@@ -7,5 +7,6 @@ invariant-loop-entry l = record {
   used : l.sum.used ≡ 48 + length (written_entries l.change (take l.entry-index l.entries));
   room : l.sum.used + 1 ≤ l.half;
   most : AreAtMost l.sum.largest l.change (take l.entry-index l.entries);
+  least : (n : ℕ) → AreAtMost n l.change (take l.entry-index l.entries) → l.sum.largest ≤ n;
   within : l.sum.largest + 48 ≤ l.sum.used;
 }

@@ -1,7 +1,7 @@
 use Rattle.std.proofs.lemmas.Result.{err_from_is_err_and}
 use Rattle.case_journal.specs.Opening.{journal_of}
 use Rattle.case_journal.specs.Viewing.{ShowsOpening}
-use Rattle.case_journal.proofs.OpenLemmas.{some_view, view_after, view_before, finds_by, keeps_by, live_by}
+use Rattle.case_journal.proofs.OpenLemmas.{some_view, view_after, view_before, finds_by, keeps_by, live_by, labels_by}
 use Rattle.case_journal.proofs.journal.Journal.open.Goals as goal
 use Rattle.case_journal.proofs.journal.Journal.open.Given as given
 
@@ -31,3 +31,6 @@ returns-clause-keeps g c =
 
 pub returns-clause-live : goal.returns-clause-live
 returns-clause-live g c = live_by g.D.Disk c.args.disk.now c.read_journal.result (shows g c)
+
+pub returns-clause-labels : goal.returns-clause-labels
+returns-clause-labels g c = labels_by g.D.Disk c.args.disk.now c.read_journal.result (shows g c)

@@ -3,6 +3,7 @@ use Rattle.std.proofs.lemmas.Result.{err_from_is_err_and}
 use Rattle.disk_model.specs.MomentLaws.{started}
 use Rattle.journal_layout.specs.declared.entry.Entry.{Entry}
 use Rattle.journal_layout.specs.Case.{case_of}
+use Rattle.journal_layout.specs.Front.{is_known}
 use Rattle.journal_layout.specs.Layout.{half_length}
 use Rattle.journal_layout.specs.Standing.{folded_of}
 use Rattle.journal_layout.specs.Stands.{Stands}
@@ -52,8 +53,8 @@ returns-in_err-write_beside-clause-run g c =
     let found = subst (λ (l : List Entry). FindsRoom c.self.inside.shape c.self.inside.generation c.args.change.now l (Ok c.in_ok-measure.measure)) value c.in_ok-measure.ensures in
     let t = c.target-target in
     let is : IsWrittenAs c.args.self.now.standing (changed c.args.change.now (folded_of c.args.self.now.standing)) t.result c.args.change.now c.as_slice-2.result.now =
-    anew _ c.args.self.now c.args.change.now c.as_slice-2.result.now t.result c.in_ok-measure.measure c.self.view_is (ap (map case_of) (sym c.as_slice-2.ensures)) t.ensures.start t.ensures.version t.ensures.generation
-    (t.ensures.next ∙ c.requires.next) found c.self.invariant.known c.requires.live in
+    anew _ c.args.self.now c.args.change.now c.as_slice-2.result.now t.result c.in_ok-measure.measure c.self.view_is (ap (map case_of) (sym c.as_slice-2.ensures)) t.ensures.start (t.ensures.version ∙ c.requires.version) t.ensures.generation
+    (t.ensures.next ∙ c.requires.next) found (ap is_known t.ensures.version ∙ c.requires.known) c.requires.live c.requires.labels in
     record {
       moments = λ honest. c.write_beside.ensures.any_moment c.args.self.now.standing (changed c.args.change.now (folded_of c.args.self.now.standing)) is honest (c.requires.keeps.holds c.requires.runs honest);
       fills = half_fills g.D.Disk c.args.disk.now c.write_beside.new.disk c.args.self.now.standing.shape (other_half c.args.self.now.standing.half) t.result.start t.ensures.start
@@ -78,8 +79,8 @@ returns-clause-run g c =
     let found = subst (λ (l : List Entry). FindsRoom c.self.inside.shape c.self.inside.generation c.args.change.now l (Ok c.in_ok-measure.measure)) value c.in_ok-measure.ensures in
     let t = c.target-target in
     let is : IsWrittenAs c.args.self.now.standing (changed c.args.change.now (folded_of c.args.self.now.standing)) t.result c.args.change.now c.as_slice-2.result.now =
-    anew _ c.args.self.now c.args.change.now c.as_slice-2.result.now t.result c.in_ok-measure.measure c.self.view_is (ap (map case_of) (sym c.as_slice-2.ensures)) t.ensures.start t.ensures.version t.ensures.generation
-    (t.ensures.next ∙ c.requires.next) found c.self.invariant.known c.requires.live in
+    anew _ c.args.self.now c.args.change.now c.as_slice-2.result.now t.result c.in_ok-measure.measure c.self.view_is (ap (map case_of) (sym c.as_slice-2.ensures)) t.ensures.start (t.ensures.version ∙ c.requires.version) t.ensures.generation
+    (t.ensures.next ∙ c.requires.next) found (ap is_known t.ensures.version ∙ c.requires.known) c.requires.live c.requires.labels in
     record {
       moments = λ honest. c.write_beside.ensures.any_moment c.args.self.now.standing (changed c.args.change.now (folded_of c.args.self.now.standing)) is honest (c.requires.keeps.holds c.requires.runs honest);
       fills = half_fills g.D.Disk c.args.disk.now c.write_beside.new.disk c.args.self.now.standing.shape (other_half c.args.self.now.standing.half) t.result.start t.ensures.start
@@ -94,6 +95,6 @@ returns-clause-holds g c honest =
     let found = subst (λ (l : List Entry). FindsRoom c.self.inside.shape c.self.inside.generation c.args.change.now l (Ok c.in_ok-measure.measure)) value c.in_ok-measure.ensures in
     let t = c.target-target in
     let is : IsWrittenAs c.args.self.now.standing (changed c.args.change.now (folded_of c.args.self.now.standing)) t.result c.args.change.now c.as_slice-2.result.now =
-    anew _ c.args.self.now c.args.change.now c.as_slice-2.result.now t.result c.in_ok-measure.measure c.self.view_is (ap (map case_of) (sym c.as_slice-2.ensures)) t.ensures.start t.ensures.version t.ensures.generation
-    (t.ensures.next ∙ c.requires.next) found c.self.invariant.known c.requires.live in
+    anew _ c.args.self.now c.args.change.now c.as_slice-2.result.now t.result c.in_ok-measure.measure c.self.view_is (ap (map case_of) (sym c.as_slice-2.ensures)) t.ensures.start (t.ensures.version ∙ c.requires.version) t.ensures.generation
+    (t.ensures.next ∙ c.requires.next) found (ap is_known t.ensures.version ∙ c.requires.known) c.requires.live c.requires.labels in
     rw c.in_ok-write_beside.was at (c.write_beside.ensures.taken c.args.self.now.standing (changed c.args.change.now (folded_of c.args.self.now.standing)) is honest (c.requires.keeps.holds c.requires.runs honest))

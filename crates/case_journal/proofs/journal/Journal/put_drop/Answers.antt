@@ -1,5 +1,6 @@
 use Rattle.std.proofs.Common.{subst}
-use Rattle.journal_layout.specs.Live.{AreLive}
+use Rattle.journal_layout.specs.LabelledLaws.{labelled_dropped}
+use Rattle.journal_layout.specs.Live.{AreLive, AreLabelled}
 use Rattle.journal_layout.specs.LiveLaws.{live_dropped}
 use Rattle.journal_layout.specs.Record.{Drop}
 use Rattle.case_journal.specs.Journaled.{Journaled}
@@ -11,3 +12,7 @@ put_beside-requires-clause-live g c = live_dropped _ _ _ c.args.seqs.now (subst 
 
 pub returns-in_err-record-clause-run : goal.returns-in_err-record-clause-run
 returns-in_err-record-clause-run g c = nothing_runs g.D.Disk c.args.disk.now c.args.self.now (Drop c.args.seqs.now) (g.met.D.Disk.only_now c.args.disk.now) c.requires.keeps c.requires.runs
+
+pub put_beside-requires-clause-labels : goal.put_beside-requires-clause-labels
+put_beside-requires-clause-labels g c =
+    labelled_dropped _ c.args.seqs.now _ (subst (λ (j : Journaled). AreLabelled j.standing.version j.standing.cases) c.self.view_is c.self.invariant.labels)

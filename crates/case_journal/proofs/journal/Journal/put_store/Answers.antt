@@ -1,5 +1,6 @@
 use Rattle.std.proofs.Common.{subst}
-use Rattle.journal_layout.specs.Live.{AreLive}
+use Rattle.journal_layout.specs.LabelledLaws.{labelled_stored}
+use Rattle.journal_layout.specs.Live.{AreLive, AreLabelled}
 use Rattle.journal_layout.specs.LiveLaws.{live_stored}
 use Rattle.journal_layout.specs.Record.{Store}
 use Rattle.case_journal.specs.Journaled.{Journaled}
@@ -15,3 +16,7 @@ put_beside-requires-clause-live g c =
 pub returns-in_err-record-clause-run : goal.returns-in_err-record-clause-run
 returns-in_err-record-clause-run g c =
     nothing_runs g.D.Disk c.args.disk.now c.args.self.now (Store (numbered c.args.seq (case_of c.args.entry.now))) (g.met.D.Disk.only_now c.args.disk.now) c.requires.keeps c.requires.runs
+
+pub put_beside-requires-clause-labels : goal.put_beside-requires-clause-labels
+put_beside-requires-clause-labels g c =
+    labelled_stored _ _ (numbered c.args.seq (case_of c.args.entry.now)) (subst (λ (j : Journaled). AreLabelled j.standing.version j.standing.cases) c.self.view_is c.self.invariant.labels) c.requires.sound.2.no_label

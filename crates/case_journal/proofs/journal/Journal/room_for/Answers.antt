@@ -22,7 +22,7 @@ returns-in_err-room_beside c =
     let same : s.cases ≡ map case_of c.as_slice.result.now = ap (λ (j : Journaled). j.standing.cases) (sym c.self.view_is) ∙ ap (map case_of) (sym c.as_slice.ensures) in
     let found : FindsRoom s.shape s.generation (change.Store 0 c.args.entry) c.as_slice.result.now (Err f) =
     subst (λ (j : Journaled). FindsRoom j.standing.shape j.standing.generation (change.Store 0 c.args.entry) c.as_slice.result.now (Err f)) c.self.view_is c.in_err-room_beside.ensures in
-    rw (p.1, p.2) (room_lacking s c.as_slice.result.now c.args.entry same c.args.size f c.requires.size (sym c.fits.ensures.room ∙ c.if-not-fits.true) found)
+    rw (p.1, p.2) (room_lacking s c.as_slice.result.now c.args.entry same c.requires.no_label c.args.size f c.requires.size (sym c.fits.ensures.room ∙ c.if-not-fits.true) found)
 
 pub returns-in_ok-room_beside : goal.returns-in_ok-room_beside
 returns-in_ok-room_beside c =
@@ -31,4 +31,4 @@ returns-in_ok-room_beside c =
     let same : s.cases ≡ map case_of c.as_slice.result.now = ap (λ (j : Journaled). j.standing.cases) (sym c.self.view_is) ∙ ap (map case_of) (sym c.as_slice.ensures) in
     let found : FindsRoom s.shape s.generation (change.Store 0 c.args.entry) c.as_slice.result.now (Ok m) =
     subst (λ (j : Journaled). FindsRoom j.standing.shape j.standing.generation (change.Store 0 c.args.entry) c.as_slice.result.now (Ok m)) c.self.view_is c.in_ok-room_beside.ensures in
-    room_beside_is s c.as_slice.result.now c.args.entry same m found
+    room_beside_is s c.as_slice.result.now c.args.entry same c.requires.no_label m found

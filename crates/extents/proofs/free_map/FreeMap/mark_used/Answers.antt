@@ -1,5 +1,5 @@
 use Rattle.std.proofs.Common.{ap, refl, arith, length}
-use Rattle.extents.proofs.WordLemmas.{length_flags_of}
+use Rattle.extents.proofs.MapLemmas.{length_flags_of}
 use Rattle.extents.proofs.RunLemmas.{stretch_cut}
 use Rattle.extents.proofs.free_map.FreeMap.mark_used.Goals as goal
 
@@ -16,3 +16,12 @@ returns-then-stretch-run c = (
   stretch_cut c.args.self.now c.args.run c.stretch.result c.stretch.ensures c.if-stretch-run.true,
   refl,
 )
+
+pub returns : goal.returns
+returns c =
+    let at_most = c.stretch.ensures.at_most in
+    let whole = c.if-stretch-run.false in (
+      omega (arith, ap length c.self.view_is, length_flags_of c.self.inside.words.items c.self.inside.blocks),
+      λ k from below. c.stretch.ensures.free k from (omega arith),
+      c.use_run.ensures,
+    )

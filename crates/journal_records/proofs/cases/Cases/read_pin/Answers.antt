@@ -4,7 +4,7 @@ use Rattle.journal_layout.specs.Checks.{pin_fault}
 use Rattle.journal_layout.specs.Record.{Pin}
 use Rattle.journal_layout.specs.Folding.{after}
 use Rattle.journal_records.specs.Kept.{said_by}
-use Rattle.journal_records.specs.Live.{pinned_in}
+use Rattle.journal_records.specs.Live.{with_flag, changed_in}
 use Rattle.journal_records.specs.declared.cases.Cases.{Cases}
 use Rattle.journal_records.proofs.LiveLemmas.{numbered_up}
 use Rattle.journal_records.proofs.FaultLemmas.{handed_on, tells, pin_only}
@@ -29,5 +29,5 @@ returns c =
     let flag = nat_eq (slice_index rest 12) 1 in
     let new : Cases = record old { live = c.set_pin.new.live } in (
       sym (c.in_ok-check_pin.ensures.fault (said_by old)),
-      pin_says old new (field rest 8 4) flag c.requires.kept refl (c.set_pin.ensures ∙ ap (λ s. pinned_in s flag old.live.entries) c.u32_at.ensures) refl refl refl,
+      pin_says old new (field rest 8 4) flag c.requires.kept refl (c.set_pin.ensures ∙ ap (λ s. changed_in s (with_flag flag) old.live.entries) c.u32_at.ensures) refl refl refl,
     )

@@ -12,9 +12,9 @@ returns-in_err-kind c =
     let old = c.args.self.now in
     let rest = c.args.rest.now in
     let e = c.in_err-kind.field-0.0 in
-    let head = first_failing c.args.at (head_checks rest) in
+    let head = first_failing c.args.at (head_checks old.version rest) in
     handed_record c.args.at rest old c.from_residual.result old e c.from_residual.ensures.1
-    (tells_first head (body_fault (length old.free) c.args.at rest (said_by old)) e (tells head e (checks_only c.args.at (head_checks rest)) c.in_err-kind.ensures.fault))
+    (tells_first head (body_fault (length old.free) c.args.at rest (said_by old)) e (tells head e (checks_only c.args.at (head_checks old.version rest)) c.in_err-kind.ensures.fault))
 
 pub returns-in_err-read_body : goal.returns-in_err-read_body
 unfolding record_fault
@@ -22,7 +22,7 @@ returns-in_err-read_body c =
     let old = c.args.self.now in
     let rest = c.args.rest.now in
     let e = c.in_err-read_body.field-0.0 in
-    let head = first_failing c.args.at (head_checks rest) in
+    let head = first_failing c.args.at (head_checks old.version rest) in
     handed_record c.args.at rest old c.from_residual-in_err-read_body.result c.read_body.new.self e c.from_residual-in_err-read_body.ensures.1
     (tells_second head (body_fault (length old.free) c.args.at rest (said_by old)) e (sym c.in_ok-kind.ensures.fault) c.in_err-read_body.ensures)
 

@@ -1,8 +1,0 @@
-use Rattle.std.proofs.Common.{◌≡◌, ◌-◌, ◌+◌, ◌*◌, ◌≤◌, ℕ, length}
-use Rattle.extents.specs.FreeSet.{without}
-use Rattle.extents.specs.FreeLaws.{run_of}
-use Rattle.extents.specs.FreeWords.{flags_of}
-use Rattle.extents.proofs.free_map.clear_bits.Given as goal
-
-abbrev pub invariant-loop-block : goal.invariant-loop-block
-invariant-loop-block l = (n : ℕ) → l.fn.run.start + l.fn.run.count ≤ n → n ≤ 64 * length l.fn.words → flags_of l.words n ≡ without (flags_of l.fn.words n) (run_of l.fn.run.start (l.block - l.fn.run.start))
