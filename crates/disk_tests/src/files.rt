@@ -14,11 +14,15 @@ fn path_of(rt: &HostRuntime, name: &str) -> Result<String, Fail> {
     Ok(format!(in rt.alloc(); "{}/corekeep-{name}-{id}", folder.as_str())?)
 }
 
-// Whether the file can be opened as a disk.
-fn opened<R: AllocGlobal + Files<File = File>>(rt: &R, path: &str) -> Result<(), FileFault> {
+// Whether the file can be opened as a disk, where there is memory.
+fn opened<R: AllocGlobal + Files<File = File>>(
+    rt: &R,
+    path: &str,
+) -> Result<Result<(), FileFault>, Fail> {
     match FileDisk::open(rt, path) {
-        Ok(_) => Ok(()),
-        Err(fault) => Err(fault),
+        Ok(_) => Ok(Ok(())),
+        Err(FileFault::OutOfMemory) => Err(Fail::from("there is no memory")),
+        Err(fault) => Ok(Err(fault)),
     }
 }
 
@@ -72,7 +76,7 @@ fn a_file<R: Abort + AllocGlobal + Files<File = File>>(rt: &R, path: &str) -> Re
 fn a_file_keeps_its_bytes(rt: HostRuntime) -> Result<(), Fail> {
     let path = path_of(&rt, "disk")?;
     let path = path.as_str();
-    assert_eq!(rt; opened(&rt, path), Err(FileFault::Missing));
+    assert_eq!(rt; opened(&rt, path)?, Err(FileFault::Missing));
     a_file(&rt, path)?;
     let mut bytes = [9u8; 5];
     let mut disk = FileDisk::open(&rt, path)?;
@@ -95,7 +99,7 @@ fn from_a_locked_file<R: Abort + AllocGlobal + Files<File = File>>(
     assert_eq!(rt; file.try_lock().is_ok(), true);
     let disk = FileDisk::from_locked(rt.alloc(), file)?;
     assert_eq!(rt; disk.length(), 10);
-    assert_eq!(rt; opened(rt, path), Err(FileFault::Busy));
+    assert_eq!(rt; opened(rt, path)?, Err(FileFault::Busy));
     Ok(())
 }
 
@@ -105,11 +109,11 @@ fn a_file_is_one_disks_at_a_time(rt: HostRuntime) -> Result<(), Fail> {
     let path = path.as_str();
     let disk = FileDisk::create(&rt, path, 10)?;
     assert_eq!(rt; created(&rt, path), Err(FileFault::Exists));
-    assert_eq!(rt; opened(&rt, path), Err(FileFault::Busy));
+    assert_eq!(rt; opened(&rt, path)?, Err(FileFault::Busy));
     drop(disk);
     from_a_locked_file(&rt, path)?;
-    assert_eq!(rt; opened(&rt, path), Ok(()));
-    assert_eq!(rt; opened(&rt, "/"), Err(FileFault::Folder));
+    assert_eq!(rt; opened(&rt, path)?, Ok(()));
+    assert_eq!(rt; opened(&rt, "/")?, Err(FileFault::Folder));
     fs::remove_file(&rt, path)?;
     Ok(())
 }
@@ -141,7 +145,7 @@ fn is_read_by_two<R: Abort + AllocGlobal + Files<File = File>>(
 ) -> Result<(), Fail> {
     let mut disk = FileDisk::open_for_reading(rt, path)?;
     assert_eq!(rt; looked_at(rt, path), Ok(()));
-    assert_eq!(rt; opened(rt, path), Err(FileFault::Busy));
+    assert_eq!(rt; opened(rt, path)?, Err(FileFault::Busy));
     is_only_read(rt, &mut disk)
 }
 
