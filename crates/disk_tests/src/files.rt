@@ -26,11 +26,15 @@ fn opened<R: AllocGlobal + Files<File = File>>(
     }
 }
 
-// Whether a new file can be made there as a disk of ten bytes.
-fn created<R: AllocGlobal + Files<File = File>>(rt: &R, path: &str) -> Result<(), FileFault> {
+// Whether a new file can be made there as a disk of ten bytes, where there is memory.
+fn created<R: AllocGlobal + Files<File = File>>(
+    rt: &R,
+    path: &str,
+) -> Result<Result<(), FileFault>, Fail> {
     match FileDisk::create(rt, path, 10) {
-        Ok(_) => Ok(()),
-        Err(fault) => Err(fault),
+        Ok(_) => Ok(Ok(())),
+        Err(FileFault::OutOfMemory) => Err(Fail::from("there is no memory")),
+        Err(fault) => Ok(Err(fault)),
     }
 }
 
@@ -108,7 +112,7 @@ fn a_file_is_one_disks_at_a_time(rt: HostRuntime) -> Result<(), Fail> {
     let path = path_of(&rt, "lock")?;
     let path = path.as_str();
     let disk = FileDisk::create(&rt, path, 10)?;
-    assert_eq!(rt; created(&rt, path), Err(FileFault::Exists));
+    assert_eq!(rt; created(&rt, path)?, Err(FileFault::Exists));
     assert_eq!(rt; opened(&rt, path)?, Err(FileFault::Busy));
     drop(disk);
     from_a_locked_file(&rt, path)?;
