@@ -107,7 +107,7 @@ impl Journal {
         self.shape
     }
 
-    // Whether a record of so many bytes, and the gate behind it, go behind those that stand there.
+    // Whether a record of `size` bytes, and the gate behind it, go behind those that stand there.
     pub(crate) fn fits(&self, size: u64) -> bool
         ensures room { result ≡ nat_lt (self.now.standing.used + size) (half_length self.now.standing.shape) }
         ensures small { result ≡ true → size ≤ 16777216 }

@@ -7,11 +7,11 @@ use Rattle.intake.specs.State.{blocks_for}
 use Rattle.intake.specs.declared.faults.ArchiveFault.{ArchiveFault}
 use Rattle.intake.specs.declared.faults.ArchiveFault.TheVariants.{OutOfMemory, Disk}
 
--- the runs lie among the first `data_blocks` blocks
+-- the runs lie among the first `limit` blocks
 abbrev pub LieWithin : ℕ → List Run → Type 0
 LieWithin limit runs = All (λ (r : Run). r.start + r.count ≤ limit) runs
 
--- An image of `len` bytes lies in these blocks, which are among the first `data_blocks`.
+-- An image of `len` bytes lies in these blocks, which are among the first `limit`.
 pub record LiesIn (limit : ℕ) (blocks : List ℕ) (len : ℕ) : Type 0 where
   pub within : LieWithin limit (runs_of blocks)
   pub few : length blocks ≤ limit

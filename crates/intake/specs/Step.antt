@@ -214,7 +214,7 @@ case_at seq (c ∷ rest) = if c.seq == seq then Some c else case_at seq rest
 abbrev pub HasCase : ArchiveState → ℕ → CaseFacts → Type 0
 HasCase old seq c = (old.stopped ≡ false) × (case_at seq old.cases ≡ Some c)
 
--- the bytes of the record that drops `count` cases
+-- the bytes of the record that drops n cases
 abbrev pub drop_size : ℕ → ℕ
 drop_size n = rounded (12 + 4 * n)
 

@@ -35,8 +35,8 @@ pub record IsLabel (text : List ℕ) : Type 0 where
 abbrev pub last_kind : ℕ → ℕ
 last_kind version = if version == 2 then 5 else 4
 
--- A case may be stored where these cases are live, on an archive of so many data blocks. Its number isn't looked at. It has
--- no label yet: that is said by a record of its own.
+-- A case may be stored where these cases are live, on an archive of `limit` data blocks. Its number isn't looked at. It has no
+-- label yet: that is said by a record of its own.
 pub record IsStorable (limit : ℕ) (cases : List Case) (c : Case) : Type 0 where
   pub name : IsName c.name
   pub new_name : is_name_of cases c.name ≡ false

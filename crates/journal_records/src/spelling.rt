@@ -39,7 +39,7 @@ pub fn case_size(entry: &Entry, label: &Label) -> u64
     store + rounded(16 + label.len() as u64)
 }
 
-/// The bytes of the Drop record of so many cases.
+/// The bytes of the Drop record of these cases.
 pub fn drop_size(seqs: &[u32]) -> u64
     ensures { result ≡ record_size (Drop seqs.now) }
 {

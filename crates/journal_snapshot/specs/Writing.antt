@@ -46,7 +46,7 @@ abbrev pub written_added : Change → List ℕ
 written_added (change.Store seq e) = written_case seq e.now e.now.pinned e.now.label.items
 written_added _ = []
 
--- the records of each of these entries fit into so many bytes
+-- the records of each of these entries fit into `most` bytes
 abbrev pub AreAtMost : ℕ → Change → List Entry → Type 0
 AreAtMost most ch es = All (λ (e : Entry). length (written_entry ch e) ≤ most) es
 

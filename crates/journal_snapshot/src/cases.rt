@@ -1,4 +1,4 @@
-// The records of the cases, a write for each.
+// The records of the cases, one write for each.
 ghost use Rattle.std.specs.Prelude.{◌≡◌, ◌+◌, ◌≤◌, length, vec_capacity};
 ghost use Rattle.disk_model.specs.Disk.{HasCause};
 ghost use Rattle.journal_layout.specs.Record.{Label, spelling};
