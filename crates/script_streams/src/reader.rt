@@ -57,11 +57,21 @@ impl ScriptBuffer {
         ensures empty { held_bytes result ≡ [] }
         ensures unread { reads_made result ≡ 0 }
     {
+        ScriptBuffer::after_reads(0)
+    }
+
+    /// A buffer that holds nothing, behind `reads` reads, each of which gave a byte that was used: of 2^40 that a script may
+    /// take the others are left.
+    pub fn after_reads(reads: u64) -> Self
+        requires { reads ≤ 2 ^ 40 }
+        ensures empty { held_bytes result ≡ [] }
+        ensures counted { reads_made result ≡ reads }
+    {
         ScriptBuffer {
             bytes: zeros(),
             start: 0,
             end: 0,
-            reads: 0,
+            reads,
         }
     }
 

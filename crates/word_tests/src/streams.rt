@@ -193,6 +193,20 @@ fn input_that_fails(rt: HostRuntime) -> Result<(), Fail> {
     Ok(())
 }
 
+// Of 2^40 reads three are left, each of which gives one line; the fourth line is not asked for.
+#[test]
+fn reads_are_bounded(rt: HostRuntime) -> Result<(), Fail> {
+    let mut script = script_of(b"a\nb\nc\nd\n", 2, false);
+    script.buffer = ScriptBuffer::after_reads((1 << 40) - 3);
+    line_is(&rt, &mut script, LineEnding::Newline, b"a")?;
+    line_is(&rt, &mut script, LineEnding::Newline, b"b")?;
+    line_is(&rt, &mut script, LineEnding::Newline, b"c")?;
+    assert_eq!(rt; next_line(&mut script), Err(ReadStop::TooManyReads));
+    assert_eq!(rt; next_part(&mut script), Err(ReadStop::TooManyReads));
+    assert_eq!(rt; script.input.rest, b"d\n".as_slice());
+    Ok(())
+}
+
 #[test]
 fn output_that_fails(rt: HostRuntime) -> Result<(), Fail> {
     let mut output = Narrow {
