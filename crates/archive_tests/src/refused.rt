@@ -1,10 +1,11 @@
 //! Calls that answer for want of memory. Run as they are these tests meet no refusal; `scripts/fail-alloc archive_tests refused::`
 //! refuses each allocation in turn, and then a test that has met one ends in an error of its own.
-use crate::bench::{SETTINGS, SHAPE, formatted, has_image, is_image, opened};
-use crate::rows::{Call, OK, has_cases, is_free, make};
+use crate::bench::{SETTINGS, SHAPE, formatted, fresh, has_image, is_image, opened};
+use crate::rows::{Call, OK, Row, answers_on, has_cases, is_free, make};
 use disk_model::{Disk, MemDisk};
 use intake::{Archive, ArchiveFault};
 use journal_layout::OpenFault;
+use std::alloc::{AllocError, Global};
 use std::process::Abort;
 use std::test::Fail;
 
@@ -137,5 +138,39 @@ fn a_refused_call_is_made_the_next_time(rt: HostRuntime) -> Result<(), Fail> {
     if first || second || third {
         Err("a call was refused, and accepted the next time")?;
     }
+    Ok(())
+}
+
+/// From here on `scripts/fail-alloc` refuses all memory in a run of its own: it knows the place by the size that is asked for.
+fn no_memory_from_here(alloc: Global) -> Result<(), AllocError> {
+    let _mark: Vec<u8> = Vec::with_capacity(alloc, 54_321)?;
+    Ok(())
+}
+
+static A_CASE_AND_A_STREAM: [Row; 4] = [
+    (Call::Store(b"a", 1, 5, 1), OK),
+    (Call::Pin(1, true), OK),
+    (Call::Begin(7, b"b"), OK),
+    (Call::Put(7, 2, 0, 4096), OK),
+];
+
+static WITHOUT_MEMORY: [Row; 8] = [
+    (Call::Put(7, 2, 4096, 8191), OK),
+    (Call::Pin(1, true), OK),
+    (Call::Pin(2, true), Err(ArchiveFault::NoCase)),
+    (Call::Delete(1), Err(ArchiveFault::Pinned)),
+    (Call::Free(2), OK),
+    (Call::Abandon(7), OK),
+    (Call::Free(3), OK),
+    (Call::Cases(&[(1, true)]), OK),
+];
+
+#[test]
+fn bytes_looks_and_refusals_take_no_memory(rt: HostRuntime) -> Result<(), Fail> {
+    let mut archive = fresh(rt.alloc())?;
+    answers_on(&rt, &mut archive, &A_CASE_AND_A_STREAM)?;
+    no_memory_from_here(rt.alloc())?;
+    answers_on(&rt, &mut archive, &WITHOUT_MEMORY)?;
+    assert_eq!(rt; Ok(archive.close().length()), SHAPE.length());
     Ok(())
 }

@@ -3,6 +3,7 @@ ghost use Rattle.std.specs.Prelude.{◌≡◌, ◌≤◌};
 
 use disk_model::{Disk, MemDisk};
 use extents::{FreeMap, Run, RunList, UseFault, read_block, write_block};
+use std::alloc::{AllocError, Global};
 use std::process::Abort;
 use std::test::Fail;
 
@@ -11,6 +12,12 @@ fn run(start: u32, count: u32) -> Run
     ensures count { result.count ≡ count }
 {
     Run { start, count }
+}
+
+// From here on `scripts/fail-alloc` refuses all memory in a run of its own: it knows the place by the size that is asked for.
+fn no_memory_from_here(alloc: Global) -> Result<(), AllocError> {
+    let _mark: Vec<u8> = Vec::with_capacity(alloc, 54_321)?;
+    Ok(())
 }
 
 const OUT_OF_RANGE: Result<(), UseFault> = Err(UseFault::OutOfRange);
@@ -49,6 +56,7 @@ fn refusals(rt: &impl Abort, map: &mut FreeMap) {
 #[test]
 fn four_blocks(rt: HostRuntime) -> Result<(), Fail> {
     let mut map = FreeMap::new(rt.alloc(), 4)?;
+    no_memory_from_here(rt.alloc())?;
     has_free(&rt, &map, 4);
     takes(&rt, &mut map, 1, Some(run(0, 1)));
     has_free(&rt, &map, 3);
@@ -65,6 +73,7 @@ fn four_blocks(rt: HostRuntime) -> Result<(), Fail> {
 #[test]
 fn given_back(rt: HostRuntime) -> Result<(), Fail> {
     let mut map = FreeMap::new(rt.alloc(), 4)?;
+    no_memory_from_here(rt.alloc())?;
     let first = map.take(2).expect(&rt, "blocks are free");
     assert_eq!(rt; first, run(0, 2));
     let marked = map.mark_used(run(2, 1));
@@ -109,6 +118,7 @@ fn runs_of_a_list(rt: HostRuntime) -> Result<(), Fail> {
     for run in [run(7, 2), run(9, 1), run(3, 1)] {
         list.append(run)?;
     }
+    no_memory_from_here(rt.alloc())?;
     assert_eq!(rt; list.runs(), [run(7, 3), run(3, 1)].as_slice());
     let blocks = [list.block_at(2), list.block_at(3), list.block_at(4)];
     assert_eq!(rt; blocks, [Some(9), Some(3), None]);

@@ -5,6 +5,7 @@ use crate::states::Course;
 use case_journal::JournalFault;
 use disk_model::{Disk, MemDisk};
 use journal_layout::OpenFault;
+use std::alloc::{AllocError, Global};
 use std::process::Abort;
 use std::test::Fail;
 
@@ -71,5 +72,20 @@ fn a_refused_append_to_a_full_half_is_made_the_next_time(rt: HostRuntime) -> Res
     if is_one_refused(&rt, Course::Full)? {
         Err("an append was refused, and made the next time")?;
     }
+    Ok(())
+}
+
+/// From here on `scripts/fail-alloc` refuses all memory in a run of its own: it knows the place by the size that is asked for.
+fn no_memory_from_here(alloc: Global) -> Result<(), AllocError> {
+    let _mark: Vec<u8> = Vec::with_capacity(alloc, 54_321)?;
+    Ok(())
+}
+
+#[test]
+fn looks_at_a_full_half_take_no_memory(rt: HostRuntime) -> Result<(), Fail> {
+    let (bench, _) = opened_at_last(&rt, Course::Full.begins(rt.alloc())?)?;
+    no_memory_from_here(rt.alloc())?;
+    assert!(rt; Course::Full.is_shown(bench.journal(), 0) && bench.journal().use_bytes() > 4000);
+    assert_eq!(rt; bench.journal().shape().length(), Ok(bench.disk().length()));
     Ok(())
 }

@@ -3,6 +3,7 @@ use crate::shown::{Look, shows};
 use address_space::AddressSpace;
 use elf_view::sample::{LoadPart, core_image, stack_core};
 use elf_view::{Elf, Want};
+use std::alloc::{AllocError, Global};
 use std::process::Abort;
 use std::test::Fail;
 
@@ -20,11 +21,19 @@ fn load(segment: &Dumped) -> LoadPart<'static> {
     }
 }
 
-/// In the core's memory stands what each look finds.
+/// From here on `scripts/fail-alloc` refuses all memory in a run of its own: it knows the place by the size that is asked for.
+fn no_memory_from_here(alloc: Global) -> Result<(), AllocError> {
+    let _mark: Vec<u8> = Vec::with_capacity(alloc, 54_321)?;
+    Ok(())
+}
+
+/// In the core's memory stands what each look finds. No look takes memory.
 fn image_shows(rt: &(impl AllocGlobal + Abort), image: &[u8], looks: &[Look]) -> Result<(), Fail> {
     let elf = Elf::read(image, Want::Core).ok().ok_or("refused")?;
+    let indexed = AddressSpace::indexed(rt.alloc(), &elf, None)?;
+    no_memory_from_here(rt.alloc())?;
     shows(rt, &AddressSpace::new(rt.alloc(), &elf, None), looks);
-    shows(rt, &AddressSpace::indexed(rt.alloc(), &elf, None)?, looks);
+    shows(rt, &indexed, looks);
     Ok(())
 }
 

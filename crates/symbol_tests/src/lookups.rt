@@ -1,7 +1,7 @@
 //! Which function an address is named by.
 use elf_view::sample::{SymbolPart, executable, executable_image};
 use elf_view::{Elf, Want};
-use std::alloc::Global;
+use std::alloc::{AllocError, Global};
 use std::process::Abort;
 use std::test::Fail;
 use symbols::{Symbols, vaddr_of_offset};
@@ -31,7 +31,13 @@ fn answers(symbols: &Symbols<'_>, address: u64, name: Option<&[u8]>) -> bool {
     }
 }
 
-/// Looks up each address among functions, whose names are one letter each.
+/// From here on `scripts/fail-alloc` refuses all memory in a run of its own: it knows the place by the size that is asked for.
+fn no_memory_from_here(alloc: Global) -> Result<(), AllocError> {
+    let _mark: Vec<u8> = Vec::with_capacity(alloc, 54_321)?;
+    Ok(())
+}
+
+/// Looks up each address among functions, whose names are one letter each. No look-up takes memory.
 fn look_up(
     rt: &impl Abort,
     alloc: Global,
@@ -41,6 +47,7 @@ fn look_up(
     let image = executable_image(alloc, parts, b"\0a\0b\0c\0d\0")?;
     let elf = Elf::read(&image, Want::Exec).ok().ok_or("refused")?;
     let symbols = Symbols::read(alloc, &elf).ok().ok_or("refused")?;
+    no_memory_from_here(alloc)?;
     for (address, name) in wanted {
         assert!(rt; answers(&symbols, *address, *name), "at {address}");
     }
