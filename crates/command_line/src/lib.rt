@@ -6,7 +6,6 @@ mod asked;
 mod failures;
 mod grammar;
 mod raw_words;
-mod read_ahead;
 mod single;
 mod tables;
 mod words;

@@ -5,21 +5,24 @@ use crate::archives::{Access, look_at, make_archive, take_disk};
 use crate::asked::{Asked, Place, SessionWords, StoreLines, read_words};
 use crate::failures::{Failure, Refusal, Word, tell_failure};
 use crate::raw_words::words_of;
-use crate::read_ahead::ReadAhead;
 use crate::single::{ask, extract, tell_answer};
 use disk_model::{Disk, FileFault};
 use inspector_cli::{Naming, memory_session, open_and_run, open_and_store};
 use intake::Settings;
 use journal_layout::Shape;
 use name_template::Template;
-use script_streams::{Input, Output, ReadInput};
+use script_streams::{Output, ReadInput};
 use std::alloc::Global;
 use std::fs::File;
+use std::io::{BufReader, Read};
 use std::rt::{Env, Files};
+
+// How many bytes `store` asks for at a time.
+const AHEAD: usize = 65_536;
 
 /// The program but for its standard streams, which its `main` hands in. Its words are those of the process, of any bytes.
 /// It answers the status that the program ends with, as `run_words` does.
-pub fn run_program<R: Env + AllocGlobal + Files<File = File>, I: Input, O: Output, E: Output>(
+pub fn run_program<R: Env + AllocGlobal + Files<File = File>, I: Read, O: Output, E: Output>(
     rt: &R,
     input: &mut I,
     output: &mut O,
@@ -64,7 +67,7 @@ pub fn run_program<R: Env + AllocGlobal + Files<File = File>, I: Input, O: Outpu
 /// `errors`), or the session ends before its script, with one line `fault NAME` on `errors`; 2 where the words are refused,
 /// with the reason on `errors`. Help goes to `output`, and the status is 0 then. What is refused is looked for in this
 /// order: the words, the template, the shape, ARCHIVE, FILE.
-pub fn run_words<R: AllocGlobal + Files<File = File>, I: Input, O: Output, E: Output>(
+pub fn run_words<R: AllocGlobal + Files<File = File>, I: Read, O: Output, E: Output>(
     rt: &R,
     words: &[String],
     input: &mut I,
@@ -82,7 +85,7 @@ pub fn run_words<R: AllocGlobal + Files<File = File>, I: Input, O: Output, E: Ou
 }
 
 // Does what the words ask for.
-fn answer_words<R: AllocGlobal + Files<File = File>, I: Input, O: Output>(
+fn answer_words<R: AllocGlobal + Files<File = File>, I: Read, O: Output>(
     rt: &R,
     words: &[String],
     input: &mut I,
@@ -118,7 +121,7 @@ fn answer_words<R: AllocGlobal + Files<File = File>, I: Input, O: Output>(
 }
 
 // Runs a script over the archive in a file.
-fn run_file<R: AllocGlobal + Files<File = File>, I: Input, O: Output>(
+fn run_file<R: AllocGlobal + Files<File = File>, I: Read, O: Output>(
     rt: &R,
     place: Place<'_>,
     settings: SessionWords<'_>,
@@ -131,7 +134,7 @@ fn run_file<R: AllocGlobal + Files<File = File>, I: Input, O: Output>(
 }
 
 // Runs a script over a fresh archive in memory.
-fn run_memory<R: AllocGlobal, I: Input, O: Output>(
+fn run_memory<R: AllocGlobal, I: Read, O: Output>(
     rt: &R,
     shape: Shape,
     settings: SessionWords<'_>,
@@ -139,20 +142,21 @@ fn run_memory<R: AllocGlobal, I: Input, O: Output>(
     output: &mut O,
 ) -> Result<(), Failure> {
     let naming = naming_of(settings)?;
+    let mut script = ReadInput::new(input);
     let limit = settings.limit;
     let ended = memory_session(
         rt.alloc(),
         shape,
         Settings { limit },
         &naming,
-        input,
+        &mut script,
         output,
     );
     Ok(ended?)
 }
 
 // Opens the archive on a disk and runs a script over it.
-fn run_over<D: Disk + Drop, I: Input, O: Output>(
+fn run_over<D: Disk + Drop, I: Read, O: Output>(
     alloc: Global,
     disk: D,
     limit: u64,
@@ -160,7 +164,9 @@ fn run_over<D: Disk + Drop, I: Input, O: Output>(
     input: &mut I,
     output: &mut O,
 ) -> Result<(), Failure> {
-    let (ended, _) = open_and_run(alloc, disk, Settings { limit }, naming, input, output);
+    let mut script = ReadInput::new(input);
+    let settings = Settings { limit };
+    let (ended, _) = open_and_run(alloc, disk, settings, naming, &mut script, output);
     Ok(ended?)
 }
 
@@ -175,7 +181,7 @@ struct Stored<'a> {
 
 // Stores a file, or the standard input. The file is opened before the archive's lock is taken, so that a pipe that nobody
 // writes to keeps no other process waiting; yet what is wrong with the archive is told first.
-fn store<R: AllocGlobal + Files<File = File>, I: Input, O: Output>(
+fn store<R: AllocGlobal + Files<File = File>, I: Read, O: Output>(
     rt: &R,
     file: &str,
     stored: Stored<'_>,
@@ -189,7 +195,7 @@ fn store<R: AllocGlobal + Files<File = File>, I: Input, O: Output>(
     let opened = File::open(rt, file);
     let disk = take_disk(rt, stored.archive, Access::Changing)?;
     match opened {
-        Ok(file) => store_from(rt.alloc(), disk, stored, &mut ReadInput::new(file), output),
+        Ok(mut file) => store_from(rt.alloc(), disk, stored, &mut file, output),
         Err(error) => {
             look_at(rt.alloc(), disk, stored.limit)?;
             Err(Failure::Refused(Refusal::File(Word::File, FileFault::from(error))))
@@ -197,14 +203,16 @@ fn store<R: AllocGlobal + Files<File = File>, I: Input, O: Output>(
     }
 }
 
-// Opens the archive on a disk and stores what an input gives, which is read ahead.
-fn store_from<D: Disk + Drop, I: Input, O: Output>(
+// Opens the archive on a disk and stores what a reader gives. It is read ahead: the archive takes its blocks one by one, and one
+// call of the operating system gives many of them.
+fn store_from<D: Disk + Drop, I: Read, O: Output>(
     alloc: Global,
     disk: D,
     stored: Stored<'_>,
     input: &mut I,
     output: &mut O,
 ) -> Result<(), Failure> {
+    let ahead = BufReader::with_capacity(alloc, AHEAD, input).map_err(|_| Refusal::OutOfMemory)?;
     let settings = Settings {
         limit: stored.limit,
     };
@@ -215,7 +223,7 @@ fn store_from<D: Disk + Drop, I: Input, O: Output>(
         stored.naming,
         &stored.lines.room,
         &stored.lines.begin,
-        &mut ReadAhead::new(input),
+        &mut ReadInput::new(ahead),
         output,
     );
     let outcome = ended?;

@@ -2,7 +2,7 @@
 #![tactic(auto)]
 
 use command_line::run_program;
-use script_streams::{ReadInput, WriteOutput};
+use script_streams::WriteOutput;
 use std::fs::File;
 use std::io;
 use std::process::ExitCode;
@@ -11,7 +11,7 @@ use std::rt::Files;
 fn main(rt: HostRuntime) -> io::Result<ExitCode> {
     // Before anything else is opened: an archive must not get the descriptor of a standard stream that is closed.
     let _held = hold_standard_streams(&rt)?;
-    let mut input = ReadInput::new(rt.stdin());
+    let mut input = rt.stdin();
     let mut output = WriteOutput::new(rt.stdout());
     let mut errors = WriteOutput::new(rt.stderr());
     let status = run_program(&rt, &mut input, &mut output, &mut errors);
