@@ -107,6 +107,21 @@ module _ (space : Space) (c : Cursor) (p : IsPlaced space c) where
       let e : c.at + (n - 1) ≡ c.at + n - 1 = omega arith in
       first_behind space (c.at + n) (subst (λ b. is_text_at space b ≡ false) e (text_here false (n - 1) (omega arith) (others (n - 1) (omega arith))))
 
+  -- a text that begins at the address before these and goes over the first n of them
+  goes_over : (n : ℕ) → n < length c.here.now → ((k : ℕ) → k < n → is_text_byte (get_or c.here.now k 0) ≡ true) → (a : ℕ) → a + 1 ≡ c.at → is_text_at space a ≡ true → (k : ℕ) → k < n + 1 → is_text_at space (a + k) ≡ true
+  goes_over n less text a next first zero h = let e : a ≡ a + zero = omega arith in subst (λ b. is_text_at space b ≡ true) e first
+  goes_over n less text a next first (suc k) h =
+      let e : c.at + k ≡ a + suc k = omega arith in
+      subst (λ b. is_text_at space b ≡ true) e (text_here true k (omega arith) (text k (omega arith)))
+
+  -- it ends there, where the next one is no text
+  pub ends_here : (n : ℕ) → n < length c.here.now → ((k : ℕ) → k < n → is_text_byte (get_or c.here.now k 0) ≡ true) → is_text_byte (get_or c.here.now n 0) ≡ false → (a : ℕ) → a + 1 ≡ c.at → is_text_at space a ≡ true → text_len space a (2 ^ 64 - a) ≡ n + 1
+  ends_here n less text stop a next first =
+      let fits = c.fits in
+      let within = c.within in
+      let e : c.at + n ≡ a + (n + 1) = omega arith in
+      text_len_ends space a (2 ^ 64 - a) (n + 1) (omega arith) (goes_over n less text a next first) (λ h. subst (λ b. is_text_at space b ≡ false) e (text_here false n less stop))
+
 pub above_zero : (a : ℕ) → not (eqb a 0) ≡ true → 0 < a
 above_zero a h = let n = eqb-false a 0 (not-true (eqb a 0) h) in elim (cases_lt 0 a) as (λ _. 0 < a) [ inl some ↦ some | inr none ↦ absurd (n (omega arith)) ]
 

@@ -90,6 +90,19 @@ impl<'a> AddressSpace<'a> {
         length
     }
 
+    /// How long the text is that begins at `start`, where a cursor is that has passed its bytes at hand. If others are at
+    /// hand there, it ends where the cursor is; else it is followed on.
+    fn text_len_passed(&self, start: u64, rest: &Cursor<'a>) -> u128
+        requires { 0 < length rest.now.here.now
+            → (start ≤ rest.now.at) × (spec.text_len (space_of self.now) start (2 ^ 64 - start) ≡ rest.now.at - start) }
+        ensures { result ≡ spec.text_len (space_of self.now) start (2 ^ 64 - start) }
+    {
+        if rest.here.is_empty() {
+            return self.text_len(start);
+        }
+        u128::from(rest.at - start)
+    }
+
     /// Whether the address before has a byte of text.
     fn is_text_before(&self, address: u64) -> bool
         ensures { result ≡ (not (address == 0) && spec.is_text_at (space_of self.now) (address - 1)) }
@@ -97,7 +110,7 @@ impl<'a> AddressSpace<'a> {
         address > 0 && self.is_text_at(address - 1)
     }
 
-    /// Looks for the first address of a text among the next addresses.
+    /// Looks for the first address of a text among the next addresses. The cursor is behind the text's bytes at hand then.
     fn start_on(&self, cursor: Cursor<'a>) -> (Option<u64>, Cursor<'a>)
         requires placed { IsPlaced (space_of self.now) cursor }
         requires more { 0 < length cursor.here.now }
@@ -108,6 +121,8 @@ impl<'a> AddressSpace<'a> {
             ≡ to_come (space_of self.now) (spec.begins_text (space_of self.now)) result.1)
             (λ a. to_come (space_of self.now) (spec.begins_text (space_of self.now)) cursor.entry
             ≡ a ∷ to_come (space_of self.now) (spec.begins_text (space_of self.now)) result.1) }
+        ensures ended { IfSome result.0 (λ a. 0 < length result.1.here.now
+            → (a ≤ result.1.at) × (spec.text_len (space_of self.now) a (2 ^ 64 - a) ≡ result.1.at - a)) }
     {
         let others = other_front(cursor.here);
         if others == cursor.here.len() {
@@ -133,6 +148,8 @@ fn next_start<'a>(space: &AddressSpace<'a>, cursor: Cursor<'a>) -> Option<(u64, 
         (to_come (space_of space.now) (spec.begins_text (space_of space.now)) cursor.entry ≡ [])
         (λ r. to_come (space_of space.now) (spec.begins_text (space_of space.now)) cursor.entry
         ≡ r.0 ∷ to_come (space_of space.now) (spec.begins_text (space_of space.now)) r.1) }
+    ensures ended { IfSome result (λ r. 0 < length r.1.here.now
+        → (r.0 ≤ r.1.at) × (spec.text_len (space_of space.now) r.0 (2 ^ 64 - r.0) ≡ r.1.at - r.0)) }
 {
     let mut ahead = cursor;
     while let Some(here) = space.settle(ahead) {
@@ -163,7 +180,7 @@ fn next_text<'a>(
 {
     let mut ahead = cursor;
     while let Some((start, rest)) = next_start(space, ahead) {
-        let length = space.text_len(start);
+        let length = space.text_len_passed(start, &rest);
         if length >= u128::from(least) {
             return Some(((start, length), rest));
         }

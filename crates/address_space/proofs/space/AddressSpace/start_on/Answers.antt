@@ -1,9 +1,9 @@
-use Rattle.std.proofs.Common.{◌≡◌, ◌<◌, ◌+◌, ◌-◌, ◌||◌, not, eqb, ◌∷◌, length, sym, ap, subst, ◌∙◌, true, arith}
+use Rattle.std.proofs.Common.{◌≡◌, ◌<◌, ◌+◌, ◌-◌, ◌||◌, not, eqb, ◌∷◌, length, length-drop, sym, ap, subst, ◌∙◌, true, arith}
 use Rattle.std.proofs.lemmas.Bool.{and_parts}
 use Rattle.address_space.specs.Occurrence.{begins_text, is_text_at}
 use Rattle.address_space.specs.SpaceWords.{space_of}
 use Rattle.address_space.proofs.Finding.{come_passed, come_found}
-use Rattle.address_space.proofs.Texts.{none_other, none_within, text_here, text_begins, first_of_all, first_after, above_zero}
+use Rattle.address_space.proofs.Texts.{none_other, none_within, text_here, text_begins, first_of_all, first_after, above_zero, ends_here}
 use Rattle.address_space.proofs.space.AddressSpace.start_on.Goals as goal
 use Rattle.address_space.proofs.space.AddressSpace.start_on.Goals.{else-others-eq0-via-then-others-eq0+else-is_text_before, else-others-eq0-via-else-others-eq0}
 
@@ -46,3 +46,24 @@ returns-clause-same c =
     let at : behind.at ≡ cursor.at + (m + 1) = c.passed-behind.ensures.at (omega arith) in
     let e : cursor.at + m ≡ behind.at - 1 = omega (arith, at) in
     none_within space behind (c.passed-behind.ensures.placed space c.requires.placed) n front c.text_front-front-2.ensures.text (omega (arith, at)) (subst (λ b. is_text_at space b ≡ true) e text) k h))
+
+pub returns-clause-ended : goal.returns-clause-ended
+returns-clause-ended c some =
+    let space = space_of c.args.self.now in
+    let cursor = c.args.cursor in
+    let m = c.other_front-others.result in
+    let within = c.other_front-others.ensures.within in
+    let less : m < length cursor.here.now = omega arith in
+    let text : is_text_at space (cursor.at + m) ≡ true = text_here space cursor c.requires.placed true m less (c.other_front-others.ensures.ends less) in
+    let behind = c.passed-behind.result in
+    let rest = c.passed-2.result in
+    let n = c.text_front-front-2.result in
+    let left : length rest.here.now ≡ length behind.here.now - n = ap length c.passed-2.ensures.here ∙ length-drop n behind.here.now in
+    let short : n < length behind.here.now = omega arith in
+    let bound = behind.within in
+    let room = rest.within in
+    let at : behind.at ≡ cursor.at + (m + 1) = c.passed-behind.ensures.at (omega arith) in
+    let far : rest.at ≡ behind.at + n = c.passed-2.ensures.at (omega arith) in
+    let next : cursor.at + m + 1 ≡ behind.at = omega arith in
+    let sum : n + 1 ≡ rest.at - (cursor.at + m) = omega arith in
+    (omega arith, ends_here space behind (c.passed-behind.ensures.placed space c.requires.placed) n short c.text_front-front-2.ensures.text (c.text_front-front-2.ensures.ends short) (cursor.at + m) next text ∙ sum)
