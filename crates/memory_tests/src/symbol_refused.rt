@@ -1,4 +1,4 @@
-//! A read that answers for want of memory. Run as it is this test meets no refusal; `scripts/fail-alloc symbol_tests refused::`
+//! A read that answers for want of memory. Run as it is this test meets no refusal; `scripts/fail-alloc memory_tests refused::`
 //! refuses each allocation in turn, and then the test ends in an error of its own.
 use elf_view::sample::{SymbolPart, executable_image};
 use elf_view::{Elf, Want};
