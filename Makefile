@@ -1,5 +1,5 @@
 # corekeep: `make help` says what there is.
-.PHONY: help try run build check plant fmt test install
+.PHONY: help try run build check plant wrong-bodies fmt test install
 
 PREFIX ?= /usr/local
 SOURCES := crates.txt $(shell find crates -path '*/out' -prune -o -type f \( -name '*.rt' -o -name '*.antt' \) -print)
@@ -11,6 +11,7 @@ help:
 	@echo 'make test                the gate: every proof, wrong body, test and run from nothing: an hour'
 	@echo 'make check [CRATE=name]  proves one crate and those that it stands on, or all'
 	@echo 'make plant CRATE=name    tries wrong bodies on a copy of a crate'
+	@echo 'make wrong-bodies [CRATE=name]   tries those that are written down and left out of the gate'
 	@echo 'make fmt                 lays the sources out'
 	@echo 'make install [PREFIX=/usr/local]   installs the program, its manual page and completion for bash'
 
@@ -33,6 +34,9 @@ check:
 plant:
 	@[ -n "$(CRATE)" ] || { echo 'make plant CRATE=name'; exit 2; }
 	@cd "crates/$(CRATE)" && rt plant
+
+wrong-bodies:
+	@scripts/wrong-bodies $(CRATE)
 
 fmt:
 	@for crate in crates/*/; do (cd "$$crate" && rt fmt) || exit 1; done
