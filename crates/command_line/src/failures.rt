@@ -4,7 +4,7 @@ ghost use Rattle.std.specs.Prelude.{◌≡◌, ◌≢◌, ◌≤◌};
 use case_journal::FormatFault;
 use clap::error::ErrorKind;
 use disk_model::FileFault;
-use inspector_cli::{ImageFault, LifeFault, MemoryFault, SessionFault, reason};
+use inspector_cli::{CopyFault, ImageFault, LifeFault, MemoryFault, SessionFault, reason};
 use intake::ArchiveFault;
 use journal_layout::{BadShape, OpenFault};
 use name_template::TemplateFault;
@@ -90,6 +90,17 @@ impl From<ImageFault> for Failure {
         match fault {
             ImageFault::Open(fault) => Failure::Aside(Refusal::Open(fault)),
             ImageFault::Archive(fault) => Failure::Aside(Refusal::Call(fault)),
+        }
+    }
+}
+
+impl From<CopyFault> for Failure {
+    fn from(fault: CopyFault) -> Self {
+        match fault {
+            CopyFault::Open(fault) => Failure::Aside(Refusal::Open(fault)),
+            CopyFault::Archive(fault) => Failure::Aside(Refusal::Call(fault)),
+            CopyFault::Disk => Failure::Aside(Refusal::Call(ArchiveFault::Disk)),
+            CopyFault::Output => Failure::Faulted(SessionFault::WriteFailed),
         }
     }
 }

@@ -4,7 +4,8 @@ use crate::asked::Place;
 use crate::failures::{Failure, Refusal, Word};
 use disk_model::{Disk, FileFault};
 use inspector_cli::{
-    Naming, SessionFault, is_question, only_looks, open_and_run, read_image, write_image,
+    Naming, SessionFault, copy_image, is_question, only_looks, open_and_run, read_image,
+    write_image,
 };
 use intake::Settings;
 use name_template::Template;
@@ -53,7 +54,7 @@ fn extract_to<R: AllocGlobal + Files<File = File>, O: Output>(
     }
 }
 
-// A file that was made stays where it was half written, and goes where nothing was.
+// What is in a file that was made stays there, whatever failed behind it; one in which nothing was written goes.
 fn extract_to_file<R: AllocGlobal + Files<File = File>>(
     rt: &R,
     place: Place<'_>,
@@ -65,17 +66,40 @@ fn extract_to_file<R: AllocGlobal + Files<File = File>>(
         fault,
     )))?;
     let mut output = WriteOutput::new(file);
-    let done = extract_to(rt, place, seq, &mut output);
+    let done = copy_to(rt, place, seq, &mut output);
     let file = output.into_inner();
     match done {
         Ok(()) => file
             .sync_all()
             .map_err(|_| Failure::Faulted(SessionFault::WriteFailed)),
-        Err(Failure::Aside(refusal)) => {
-            let _ = fs::remove_file(rt, path);
-            Err(Failure::Aside(refusal))
+        Err(failure) => {
+            if is_empty(&file) {
+                let _ = fs::remove_file(rt, path);
+            }
+            Err(failure)
         }
-        Err(failure) => Err(failure),
+    }
+}
+
+// The archive is held until the last byte is written: the output is a file of its own, which keeps nobody waiting.
+fn copy_to<R: AllocGlobal + Files<File = File>, O: Output>(
+    rt: &R,
+    place: Place<'_>,
+    seq: u32,
+    output: &mut O,
+) -> Result<(), Failure> {
+    let taken = take_disk(rt, place, Access::Looking);
+    let disk = taken.map_err(|refusal| Failure::Aside(refusal))?;
+    let (copied, _) = copy_image(rt.alloc(), disk, Settings { limit: 0 }, seq, output);
+    copied?;
+    Ok(())
+}
+
+// Whether a file is known to have no bytes.
+fn is_empty(file: &File) -> bool {
+    match file.metadata() {
+        Ok(attributes) => attributes.len() == 0,
+        Err(_) => false,
     }
 }
 

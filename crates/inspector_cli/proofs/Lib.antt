@@ -17,3 +17,4 @@ pub mod HeldLemmas
 pub mod KeptLemmas
 pub mod FoundLemmas
 pub mod MemoryLemmas
+pub mod CopyLemmas

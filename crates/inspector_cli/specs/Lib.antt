@@ -10,3 +10,4 @@ pub mod Told
 pub mod Stored
 pub mod Memory
 pub mod Extracting
+pub mod Copying

@@ -3,6 +3,7 @@
 
 mod answers;
 mod begin;
+mod copying;
 mod extract;
 mod laws;
 mod life;
@@ -17,6 +18,7 @@ mod store_life;
 mod stored;
 
 pub use archive_replies::reason;
+pub use copying::{CopyFault, copy_image};
 pub use extract::{ImageFault, read_image, write_image};
 pub use laws::{a_script_has_one_cut, a_silent_line_makes_no_room, sessions_are_runs};
 pub use life::open_and_run;

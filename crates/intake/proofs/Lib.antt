@@ -35,3 +35,4 @@ pub mod FactLemmas
 pub mod NameLemmas
 pub mod LabelLemmas
 pub mod UpgradeLemmas
+pub mod RangeLemmas

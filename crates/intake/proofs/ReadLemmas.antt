@@ -1,4 +1,4 @@
--- The bytes of runs, as they are read, and a disk that is only read.
+-- The bytes of runs, as they are read.
 use Rattle.std.proofs.Common.{◌≡◌, ℕ, zero, suc, ◌+◌, ◌-◌, ◌*◌, ◌<◌, ◌≤◌, List, [], ◌∷◌, ◌++◌, length, get_or, take, drop, refl, sym, ap, ◌∙◌, subst, arith, IsTrue}
 use Rattle.std.specs.List.{range_with_len}
 use Rattle.std.proofs.lemmas.List.{append-nil, length-append, take_more, take_all, take-append-drop}
@@ -6,7 +6,6 @@ use Rattle.std.proofs.lemmas.List.Concat.{flat_map-append}
 use Rattle.std.proofs.lemmas.List.FromFn.{length-range_with_len}
 use Rattle.std.proofs.lemmas.Slice.{take-put_mid}
 use borrow.Rule.Slice.PartMut.{put_mid}
-use Rattle.disk_model.specs.MomentLaws.{started, weakened, then_again}
 use Rattle.disk_model.specs.Places.{part}
 use Rattle.disk_model.specs.PartLaws.{part_is, part_split}
 use Rattle.disk_model.specs.declared.disk.Disk as disk
@@ -17,6 +16,7 @@ use Rattle.journal_layout.specs.LiveCounts.{blocks_of-append}
 use Rattle.journal_layout.specs.declared.shape.Shape.{Shape}
 use Rattle.case_journal.specs.Viewing.{OnlyReads}
 use Rattle.intake.specs.Blocks.{block_start, block_bytes, joined}
+use Rattle.intake.specs.QuietLaws.{quiet_none, quiet_then}
 
 -- the blocks of a run lie one behind another, so its bytes are theirs joined
 pub run_bytes : (shape : Shape) (bytes : List ℕ) (start count : ℕ) → part bytes (block_start shape start) (4096 * count) ≡ joined shape bytes (range_with_len start count)
@@ -34,13 +34,13 @@ pub blocks_back : (runs : List Run) (blocks : List ℕ) → runs ≡ runs_of blo
 blocks_back runs blocks is = ap blocks_of is ∙ blocks_of_runs blocks
 
 -- the blocks of the first runs
-blocks_more : (runs : List Run) (i : ℕ) (r : Run) → i < length runs → blocks_of (take (i + 1) runs) ≡ blocks_of (take i runs) ++ run_blocks (get_or runs i r)
+pub blocks_more : (runs : List Run) (i : ℕ) (r : Run) → i < length runs → blocks_of (take (i + 1) runs) ≡ blocks_of (take i runs) ++ run_blocks (get_or runs i r)
 blocks_more runs i r below =
     ap blocks_of (take_more runs i r below)
     ∙ blocks_of-append (take i runs) (get_or runs i r ∷ [])
     ∙ ap (λ (x : List ℕ). blocks_of (take i runs) ++ x) (append-nil (run_blocks (get_or runs i r)))
 
-count_more : (runs : List Run) (i : ℕ) (r : Run) → i < length runs → length (blocks_of (take (i + 1) runs)) ≡ length (blocks_of (take i runs)) + (get_or runs i r).count
+pub count_more : (runs : List Run) (i : ℕ) (r : Run) → i < length runs → length (blocks_of (take (i + 1) runs)) ≡ length (blocks_of (take i runs)) + (get_or runs i r).count
 count_more runs i r below =
     ap length (blocks_more runs i r below)
     ∙ length-append (blocks_of (take i runs)) (run_blocks (get_or runs i r))
@@ -56,28 +56,7 @@ count_front runs n =
 pub run_within : (runs : List Run) (i done : ℕ) (r : Run) → i < length runs → done ≡ 4096 * length (blocks_of (take i runs)) → done + 4096 * (get_or runs i r).count ≤ 4096 * length (blocks_of runs)
 run_within runs i done r below is = omega (arith, count_more runs i r below, count_front runs (i + 1))
 
--- a disk that is only read
 module _ {D : Type 0} (g : disk.Ghosts D) where
-  pub quiet_none : (d : D) → ((c : List ℕ) → g.left_since d (g.clock d) c → g.may_leave d c) → OnlyReads g d d
-  quiet_none d only = record {
-    seen = λ honest. refl;
-    crash = λ honest c may. may;
-    moments = λ honest. started g d (g.may_leave d) only;
-    honesty = refl;
-    size = refl;
-  }
-
-  pub quiet_then : (old mid new : D) → OnlyReads g old mid → OnlyReads g mid new → OnlyReads g old new
-  quiet_then old mid new first second =
-      let still : IsTrue (g.is_honest old) → IsTrue (g.is_honest mid) = λ honest. subst IsTrue (sym first.honesty) honest in record {
-        seen = λ honest. second.seen (still honest) ∙ first.seen honest;
-        crash = λ honest c may. first.crash honest c (second.crash (still honest) c may);
-        moments = λ honest. then_again g old mid new (g.may_leave old) (first.moments honest)
-            (weakened g mid new (g.may_leave mid) (g.may_leave old) (first.crash honest) (second.moments (still honest)));
-        honesty = second.honesty ∙ first.honesty;
-        size = second.size ∙ first.size;
-      }
-
   -- The first n runs are read, from a disk that was so at first.
   pub record FrontIsRead (shape : Shape) (runs : List Run) (old now : D) (into : List ℕ) (done n : ℕ) : Type 0 where
     pub place : done ≡ 4096 * length (blocks_of (take n runs))
@@ -89,7 +68,7 @@ module _ {D : Type 0} (g : disk.Ghosts D) where
   pub none_read : (shape : Shape) (runs : List Run) (d : D) (into : List ℕ) → ((c : List ℕ) → g.left_since d (g.clock d) c → g.may_leave d c) → FrontIsRead shape runs d d into 0 0
   none_read shape runs d into only = record {
     place = omega arith;
-    quiet = quiet_none d only;
+    quiet = quiet_none g d only;
     later = omega arith;
     bytes = λ honest. refl;
   }
@@ -101,7 +80,7 @@ module _ {D : Type 0} (g : disk.Ghosts D) where
       → FrontIsRead shape runs old new (put_mid done k into bytes) end (i + 1)
   one_more_read shape runs old mid new into bytes done end i k r so_far below low ends is long quiet later read = record {
     place = (let p = so_far.place in omega (arith, count_more runs i r below));
-    quiet = quiet_then old mid new so_far.quiet quiet;
+    quiet = quiet_then g old mid new so_far.quiet quiet;
     later = (let l = so_far.later in omega arith);
     bytes = λ honest.
         let still : IsTrue (g.is_honest mid) = subst IsTrue (sym so_far.quiet.honesty) honest in

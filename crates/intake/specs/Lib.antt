@@ -28,3 +28,5 @@ pub mod Step
 pub mod StreamView
 pub mod Untouched
 pub mod Lasts
+pub mod QuietLaws
+pub mod Ranges

@@ -22,6 +22,7 @@ use crate::buffer::Buffer;
 use crate::dropping::{hold_listed, release_listed};
 use crate::names::{copied, forget_name, forget_names, keep_name, names_of};
 use crate::opening::open_parts;
+use crate::ranges::{ByteRange, ranges_of};
 use crate::reading::read_image;
 use crate::retiring::decide_for;
 use crate::slots::Slots;
@@ -85,6 +86,7 @@ impl<D: Disk> Archive<D> {
     ghost use Rattle.intake.specs.Contents.{DropBytes};
     ghost use Rattle.intake.specs.Opened.{CaseReply, CasesReply};
     ghost use Rattle.intake.specs.Calls.{OpenCall, BeginCall, AdvanceCall, FinishCall, AbandonCall, PinCall, LabelCall, UpgradeCall, DeleteCall, RetireCall, ImageCall, CloseCall, Changes};
+    ghost use Rattle.intake.specs.Ranges.{RangesReply};
     ghost use Rattle.intake.specs.Room.{LendsRoom, room_of, FitsFree};
     ghost use Rattle.intake.specs.Slots.{stream_at};
     ghost use Rattle.std.specs.Borrow.{sem};
@@ -472,6 +474,22 @@ impl<D: Disk> Archive<D> {
                 Err(fault)
             }
         }
+    }
+
+    /// Where on the disk the bytes of a case's image lie, in their order: so they can be read piece by piece once the archive
+    /// is closed, as long as nothing is written to the disk. Answers, in this order: `Stopped`; `NoCase`; `OutOfMemory`.
+    pub fn image_ranges(&self, seq: u32) -> Result<Vec<ByteRange>, ArchiveFault>
+        ensures { RangesReply D.Disk self.now seq result }
+    {
+        if self.stopped {
+            return Err(ArchiveFault::Stopped);
+        }
+        let Some(stored) = self.journal.entry(seq) else {
+            return Err(ArchiveFault::NoCase);
+        };
+        let shape = self.journal.shape();
+        let ranges = ranges_of(self.alloc, shape, stored.runs.runs(), stored.length)?;
+        Ok(ranges)
     }
 
     /// Lets the disk go. Unless a disk fault has stopped the archive, opening it again finds the cases that it showed.

@@ -9,6 +9,7 @@ mod faults;
 mod laws;
 mod names;
 mod opening;
+mod ranges;
 mod reading;
 mod retiring;
 mod slots;
@@ -24,4 +25,5 @@ pub use laws::{
     numbers_are_given_once, numbers_stay_given, runs_are_the_fewest, the_next_number_is_above,
     what_calls_leave, what_is_closed_is_found, what_stands_is_one,
 };
+pub use ranges::ByteRange;
 pub use space::Space;
