@@ -32,8 +32,17 @@ pub(crate) fn extract<R: AllocGlobal + Files<File = File>, O: Output>(
         return Err(Failure::Aside(Refusal::BadLine));
     };
     match file {
+        None if output_is_file(rt) => copy_to(rt, place, seq, output),
         None => extract_to(rt, place, seq, output),
         Some(path) => extract_to_file(rt, place, seq, path),
+    }
+}
+
+// Whether standard output is a file, and no pipe, terminal or other device, behind which somebody may read slowly.
+fn output_is_file<R: Files<File = File>>(rt: &R) -> bool {
+    match fs::metadata(rt, "/dev/stdout") {
+        Ok(attributes) => attributes.is_file(),
+        Err(_) => false,
     }
 }
 
@@ -81,7 +90,7 @@ fn extract_to_file<R: AllocGlobal + Files<File = File>>(
     }
 }
 
-// The archive is held until the last byte is written: the output is a file of its own, which keeps nobody waiting.
+// The archive is held until the last byte is written: the output is a file, which keeps nobody waiting.
 fn copy_to<R: AllocGlobal + Files<File = File>, O: Output>(
     rt: &R,
     place: Place<'_>,

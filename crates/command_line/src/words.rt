@@ -91,7 +91,20 @@ fn answer_words<R: AllocGlobal + Files<File = File>, I: Read, O: Output>(
     input: &mut I,
     output: &mut O,
 ) -> Result<(), Failure> {
-    match read_words(rt.alloc(), words)? {
+    match read_words(rt.alloc(), words) {
+        Ok(asked) => answer_asked(rt, asked, input, output),
+        Err(failure) => Err(beside_an_image(words, failure)),
+    }
+}
+
+// Does what is asked for.
+fn answer_asked<R: AllocGlobal + Files<File = File>, I: Read, O: Output>(
+    rt: &R,
+    asked: Asked<'_>,
+    input: &mut I,
+    output: &mut O,
+) -> Result<(), Failure> {
+    match asked {
         Asked::Format { archive, wanted } => Ok(make_archive(rt, archive, wanted)?),
         Asked::Run { archive, settings } => run_file(rt, archive, settings, input, output),
         Asked::Memory { shape, settings } => run_memory(rt, shape, settings, input, output),
@@ -117,6 +130,21 @@ fn answer_words<R: AllocGlobal + Files<File = File>, I: Read, O: Output>(
         } => extract(rt, archive, case, file, output),
         Asked::Ask { archive, line } => ask(rt, archive, line, output),
         Asked::Nothing => Ok(()),
+    }
+}
+
+// What `extract` is refused is told beside its output, which is that of an image, also where its words could not be read.
+fn beside_an_image(words: &[String], failure: Failure) -> Failure {
+    match failure {
+        Failure::Refused(refusal) if asks_for_an_image(words) => Failure::Aside(refusal),
+        other => other,
+    }
+}
+
+fn asks_for_an_image(words: &[String]) -> bool {
+    match words.first() {
+        Some(word) => word.as_str() == "extract",
+        None => false,
     }
 }
 

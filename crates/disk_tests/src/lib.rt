@@ -1,4 +1,4 @@
-//! Tests of disks in memory and in files, of maps of free blocks, and of what the records of a journal half say.
+//! Tests of disks in memory and in files, and of maps of free blocks.
 #![tactic(auto)]
 
 #[cfg(test)]
@@ -7,5 +7,3 @@ mod disks;
 mod files;
 #[cfg(test)]
 mod maps;
-#[cfg(test)]
-mod readings;

@@ -1,7 +1,5 @@
-//! Headers, segments, notes and sections of images, and the first field of one that is at fault.
-use elf_view::sample::{
-    LoadPart, NotePart, core_image, executable, file_core, mapped_core, stack_core,
-};
+//! Headers, segments, notes and sections of images, and images that are cut. Rows of `examples/rows` have the fields at fault.
+use elf_view::sample::{LoadPart, core_image, executable, file_core, mapped_core, stack_core};
 use elf_view::{Elf, ElfFault, ElfField, Header, Note, SectionFault, Segment, Want};
 use std::alloc::{AllocError, Global};
 use std::process::Abort;
@@ -27,24 +25,6 @@ fn fault(field: ElfField, index: u64) -> Option<ElfFault> {
 
 fn fault_of(image: &[u8], want: Want) -> Option<ElfFault> {
     Elf::read(image, want).err()
-}
-
-/// The image of a core with other bytes from a place on is refused by this field.
-fn is_refused(
-    rt: &(impl AllocGlobal + Abort),
-    image: &[u8],
-    at: usize,
-    bytes: &[u8],
-    field: ElfField,
-    index: u64,
-) -> Result<(), Fail> {
-    let image = patched(rt.alloc(), image, at, bytes)?;
-    assert_eq!(rt;
-        fault_of(&image, Want::Core),
-        fault(field, index),
-        "at {at}"
-    );
-    Ok(())
 }
 
 /// One segment's numbers, in the order of its fields.
@@ -307,71 +287,6 @@ fn memory_may_be_cut(rt: HostRuntime) -> Result<(), Fail> {
     Ok(())
 }
 
-/// A place of a core, what is written there, and the field that is named then, with its index.
-static FAULTS: [(usize, &[u8], ElfField, u64); 15] = [
-    (3, b"f", ElfField::Magic, 0),
-    (4, &[1], ElfField::EiClass, 0),
-    (6, &[0], ElfField::EiVersion, 0),
-    (16, &[3], ElfField::EType, 0),
-    (18, &[62], ElfField::EMachine, 0),
-    (20, &[2], ElfField::EVersion, 0),
-    (54, &[55], ElfField::EPhentsize, 0),
-    (56, &[0xff, 0xff], ElfField::EShoff, 0),
-    (39, &[1], ElfField::EPhoff, 0),
-    (152, &[1], ElfField::PFilesz, 1),
-    (136, &[0xff; 8], ElfField::PMemsz, 1),
-    (72, &[0xff; 8], ElfField::POffset, 0),
-    (176, &[0xff; 4], ElfField::NNamesz, 0),
-    (180, &[0xff; 4], ElfField::NDescsz, 0),
-    (176 + 396 + 4, &[0xff; 4], ElfField::NDescsz, 1),
-];
-
-/// Each of these is refused by its field.
-fn each_is_refused(rt: &(impl AllocGlobal + Abort), core: &[u8]) -> Result<(), Fail> {
-    for (at, bytes, field, index) in &FAULTS {
-        is_refused(rt, core, *at, bytes, *field, *index)?;
-    }
-    Ok(())
-}
-
-#[test]
-fn the_first_faulty_field_is_named(rt: HostRuntime) -> Result<(), Fail> {
-    let core = stack_core(rt.alloc())?;
-    let ident = patched(rt.alloc(), &core, 18, &[62])?;
-    is_refused(&rt, &ident, 5, &[2], ElfField::EiData, 0)?;
-    each_is_refused(&rt, &core)?;
-    assert_eq!(rt; fault_of(&core, Want::Exec), fault(ElfField::EType, 0));
-    Ok(())
-}
-
-#[test]
-fn a_segment_may_end_with_the_address_space(rt: HostRuntime) -> Result<(), Fail> {
-    let core = stack_core(rt.alloc())?;
-    let core = patched(rt.alloc(), &core, 136, &u64::MAX.to_le_bytes())?;
-    let core = patched(rt.alloc(), &core, 152, &0u64.to_le_bytes())?;
-    let one = patched(rt.alloc(), &core, 160, &1u64.to_le_bytes())?;
-    assert_eq!(rt; fault_of(&one, Want::Core), None);
-    is_refused(&rt, &core, 160, &2u64.to_le_bytes(), ElfField::PMemsz, 1)
-}
-
-/// How many segments a core has.
-fn segments_of(image: &[u8]) -> Option<u64> {
-    let elf = Elf::read(image, Want::Core).ok()?;
-    Some(elf.header().segments)
-}
-
-#[test]
-fn many_segments_are_counted_in_section_zero(rt: HostRuntime) -> Result<(), Fail> {
-    let core = stack_core(rt.alloc())?;
-    let placed = patched(rt.alloc(), &core, 40, &4824u64.to_le_bytes())?;
-    is_refused(&rt, &placed, 56, &[0xff, 0xff], ElfField::EShoff, 0)?;
-    let cut = patched(rt.alloc(), &placed, 56, &[0xff, 0xff])?;
-    let zero = patched(rt.alloc(), &[0; 64], 44, &[2])?;
-    let image = patched(rt.alloc(), &cut, 4824, &zero)?;
-    assert_eq!(rt; segments_of(&image), Some(2));
-    is_refused(&rt, &image, 4824 + 44, &[0xff; 4], ElfField::EPhoff, 0)
-}
-
 /// All these segments are counted, and the last has one byte.
 fn has_many_segments(rt: &impl Abort, image: &[u8]) -> Result<(), Fail> {
     let elf = Elf::read(image, Want::Core).ok().ok_or("refused")?;
@@ -393,73 +308,6 @@ fn a_large_count_of_segments_is_read(rt: HostRuntime) -> Result<(), Fail> {
     let loads = vec![in rt.alloc(); load; 65536]?;
     let image = core_image(rt.alloc(), &[], &loads)?;
     has_many_segments(&rt, &image)
-}
-
-/// A core of one PT_NOTE with these bytes.
-fn core_of_notes(alloc: Global, bytes: &[u8]) -> Result<Vec<u8>, AllocError> {
-    let note = NotePart {
-        name: b"",
-        kind: 0,
-        desc: &[],
-    };
-    let image = core_image(alloc, &[note], &[])?;
-    let image = patched(alloc, &image, 64 + 32, &(bytes.len() as u64).to_le_bytes())?;
-    let mut out = Vec::from_slice(alloc, &image[..image.len().min(120)])?;
-    out.extend_from_slice(bytes)?;
-    Ok(out)
-}
-
-/// The name of the first note of an image, and how many bytes it has.
-fn first_note(image: &[u8]) -> Option<(&[u8], usize)> {
-    let elf = Elf::read(image, Want::Core).ok()?;
-    let note = elf.notes().next()?;
-    Some((note.name, note.desc.len()))
-}
-
-/// The bytes of notes, the name of the first and how many bytes it has; or none, where there is no note.
-static FIRST_NOTES: [(&[u8], Option<(&[u8], usize)>); 5] = [
-    (b"\x04\0\0\0\x01\0\0\0\x07\0\0\0COREd", Some((b"CORE", 1))),
-    (
-        b"\x06\0\0\0\x01\0\0\0\x07\0\0\0CORE\0\0..d...",
-        Some((b"CORE\0", 1)),
-    ),
-    (
-        b"\x05\0\0\0\x01\0\0\0\x07\0\0\0CORE\0...d.",
-        Some((b"CORE", 1)),
-    ),
-    (&[0; 24], Some((b"", 0))),
-    (b"", None),
-];
-
-/// A core of these bytes is read, and begins with this note.
-fn begins_with_note(
-    rt: &(impl AllocGlobal + Abort),
-    bytes: &[u8],
-    wanted: Option<(&[u8], usize)>,
-) -> Result<(), Fail> {
-    let image = core_of_notes(rt.alloc(), bytes)?;
-    is_sound(rt, &image, Want::Core);
-    assert_eq!(rt; first_note(&image), wanted);
-    Ok(())
-}
-
-/// The notes of a core of these bytes end within the one of this index.
-fn ends_in_a_note(rt: &(impl AllocGlobal + Abort), bytes: &[u8], index: u64) -> Result<(), Fail> {
-    let image = core_of_notes(rt.alloc(), bytes)?;
-    assert_eq!(rt;
-        fault_of(&image, Want::Core),
-        fault(ElfField::NNamesz, index)
-    );
-    Ok(())
-}
-
-#[test]
-fn notes_end_where_their_segment_does(rt: HostRuntime) -> Result<(), Fail> {
-    for (bytes, wanted) in &FIRST_NOTES {
-        begins_with_note(&rt, bytes, *wanted)?;
-    }
-    ends_in_a_note(&rt, &[0; 35], 2)?;
-    ends_in_a_note(&rt, b"\x05\0\0\0\0\0\0\0\x07\0\0\0CORE\0..", 0)
 }
 
 /// What a view of the image gives, when the view and its iterators are gone.

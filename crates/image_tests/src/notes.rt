@@ -1,9 +1,6 @@
-//! The typed notes of a core file, and the first field of one that is at fault.
-use core_notes::{AuxvPair, CoreNotes, NoteFault, NoteField, descriptors};
-use elf_view::sample::{
-    FilePart, NT_AUXV, NT_FILE, NT_PRPSINFO, NT_PRSTATUS, NT_SIGINFO, NotePart, core_image,
-    file_core, files, process, registers, stack_core, status,
-};
+//! The typed notes of a core file, and descriptors of each length. Rows of `examples/rows` have the first faulty note.
+use core_notes::{AuxvPair, CoreNotes, NoteField, descriptors};
+use elf_view::sample::{FilePart, file_core, files, stack_core};
 use elf_view::{Elf, Note, Want};
 use std::alloc::{AllocError, Global};
 use std::process::Abort;
@@ -15,24 +12,6 @@ fn note_of(desc: &[u8]) -> Note<'_> {
         name: b"CORE",
         kind: 0,
         desc,
-    }
-}
-
-/// A note named CORE.
-fn note_part(kind: u32, desc: &[u8]) -> NotePart<'_> {
-    NotePart {
-        name: b"CORE",
-        kind,
-        desc,
-    }
-}
-
-/// The first fault of a core of these notes.
-fn fault_of(alloc: Global, notes: &[NotePart<'_>]) -> Result<Option<NoteFault>, AllocError> {
-    let image = core_image(alloc, notes, &[])?;
-    match Elf::read(&image, Want::Core) {
-        Ok(elf) => Ok(CoreNotes::of(&elf).err()),
-        Err(_) => Ok(None),
     }
 }
 
@@ -204,54 +183,6 @@ fn process_fields_stand_at_their_places(rt: HostRuntime) -> Result<(), Fail> {
     Ok(())
 }
 
-/// The descriptor of a signal, with 16 where its sender may stand, and 7 behind it.
-fn signal_of(signo: i32, code: i32) -> [u8; 24] {
-    let mut desc = [0u8; 24];
-    desc[..4].copy_from_slice(&signo.to_le_bytes());
-    desc[8..12].copy_from_slice(&code.to_le_bytes());
-    desc[16] = 16;
-    desc[20] = 7;
-    desc
-}
-
-/// A signal and its code, the process and the user that sent it, and its address.
-type Signal = (i32, i32, Option<i32>, Option<u32>, Option<u64>);
-
-/// The signal shows its sender, its address or neither.
-fn shows(rt: &impl Abort, wanted: Signal) -> Result<(), Fail> {
-    let (signo, code, ..) = wanted;
-    let desc = signal_of(signo, code);
-    let signal = descriptors::siginfo(&note_of(&desc)).ok().ok_or("size")?;
-    let found = (
-        signal.si_signo(),
-        signal.si_code(),
-        signal.si_pid(),
-        signal.si_uid(),
-        signal.si_addr(),
-    );
-    assert_eq!(rt; found, wanted);
-    assert_eq!(rt; signal.si_errno(), 0);
-    Ok(())
-}
-
-static SIGNALS: [Signal; 7] = [
-    (11, 1, None, None, Some(0x7_0000_0010)),
-    (11, 0, Some(16), Some(7), None),
-    (6, -6, Some(16), Some(7), None),
-    (10, -1, Some(16), Some(7), None),
-    (7, 2, None, None, Some(0x7_0000_0010)),
-    (9, 1, None, None, None),
-    (5, -2, None, None, Some(0x7_0000_0010)),
-];
-
-#[test]
-fn a_signal_shows_its_sender_or_its_address(rt: HostRuntime) -> Result<(), Fail> {
-    for signal in &SIGNALS {
-        shows(&rt, *signal)?;
-    }
-    Ok(())
-}
-
 /// The pairs of an auxiliary vector of these bytes, and no more.
 fn has_pairs(rt: &impl Abort, desc: &[u8], wanted: &[(u64, u64)]) -> Result<(), Fail> {
     let mut pairs = descriptors::auxv(&note_of(desc))
@@ -324,24 +255,19 @@ fn each_size_is_checked(rt: HostRuntime) {
 }
 
 /// An NT_FILE of one entry.
-fn one_file(alloc: Global, page: u64, end: u64, offset: u64) -> Result<Vec<u8>, AllocError> {
-    let start = 0x10000;
-    let name = b"/bin/cat";
-    files(
-        alloc,
-        page,
-        &[FilePart {
-            start,
-            end,
-            offset,
-            name,
-        }],
-    )
+fn one_file(alloc: Global) -> Result<Vec<u8>, AllocError> {
+    let entry = FilePart {
+        start: 0x10000,
+        end: 0x11000,
+        offset: 0,
+        name: b"/bin/cat",
+    };
+    files(alloc, 4096, &[entry])
 }
 
 #[test]
 fn a_file_list_has_its_entries_and_names(rt: HostRuntime) -> Result<(), Fail> {
-    let desc = one_file(rt.alloc(), 4096, 0x11000, 0)?;
+    let desc = one_file(rt.alloc())?;
     for length in 0..desc.len() {
         let cut = note_of(&desc[..length]);
         let field = if length < 40 {
@@ -357,29 +283,6 @@ fn a_file_list_has_its_entries_and_names(rt: HostRuntime) -> Result<(), Fail> {
         descriptors::files(&note_of(&most)).err(),
         Some(NoteField::FileCount)
     );
-    Ok(())
-}
-
-/// The size of a page, where a file ends, its place in pages, and its fault.
-static PLACES: [(u64, u64, u64, Option<NoteField>); 6] = [
-    (2, 0x11000, 1 << 63, Some(NoteField::FileOffset)),
-    (1, 0xffff, 0, Some(NoteField::FileOffset)),
-    (1, 0x11000, u64::MAX - 0x1000, None),
-    (1, 0x11000, u64::MAX - 0xfff, Some(NoteField::FileOffset)),
-    (0, 0x11000, u64::MAX, None),
-    (1, 0x10000, 0, None),
-];
-
-#[test]
-fn the_place_of_a_file_fits(rt: HostRuntime) -> Result<(), Fail> {
-    for (page, end, offset, fault) in &PLACES {
-        let desc = one_file(rt.alloc(), *page, *end, *offset)?;
-        assert_eq!(rt;
-            descriptors::files(&note_of(&desc)).err(),
-            *fault,
-            "{offset}"
-        );
-    }
     Ok(())
 }
 
@@ -425,51 +328,5 @@ fn the_first_entry_that_maps_an_address_is_found(rt: HostRuntime) -> Result<(), 
             "{address}"
         );
     }
-    Ok(())
-}
-
-/// The first faulty note of a core of these notes is named so.
-fn names_note(
-    rt: &(impl AllocGlobal + Abort),
-    notes: &[NotePart<'_>],
-    index: u64,
-    field: NoteField,
-) -> Result<(), Fail> {
-    let wanted = Some(NoteFault { index, field });
-    assert_eq!(rt; fault_of(rt.alloc(), notes)?, wanted);
-    Ok(())
-}
-
-#[test]
-fn the_first_faulty_note_is_named(rt: HostRuntime) -> Result<(), Fail> {
-    let state = status(11, 1, &registers());
-    let good = note_part(NT_PRSTATUS, &state);
-    for kind in [NT_PRSTATUS, NT_PRPSINFO, NT_AUXV, NT_SIGINFO] {
-        let notes = [good, note_part(2, b"f"), note_part(kind, b"short")];
-        names_note(&rt, &notes, 2, NoteField::DescSize)?;
-    }
-    let files = [
-        good,
-        note_part(NT_FILE, b"short"),
-        note_part(NT_AUXV, b"short"),
-    ];
-    names_note(&rt, &files, 1, NoteField::FileCount)?;
-    let states = [good, good, note_part(NT_PRSTATUS, b"short")];
-    names_note(&rt, &states, 2, NoteField::DescSize)
-}
-
-#[test]
-fn some_notes_are_not_looked_at(rt: HostRuntime) -> Result<(), Fail> {
-    let process = process();
-    let known = note_part(NT_PRPSINFO, &process);
-    let second = [known, note_part(NT_PRPSINFO, b"short")];
-    assert_eq!(rt; fault_of(rt.alloc(), &second)?, None);
-    let other = NotePart {
-        name: b"LINUX",
-        ..note_part(NT_PRSTATUS, b"short")
-    };
-    assert_eq!(rt; fault_of(rt.alloc(), &[known, other])?, None);
-    let untyped = note_part(5, b"short");
-    assert_eq!(rt; fault_of(rt.alloc(), &[known, untyped])?, None);
     Ok(())
 }

@@ -1,11 +1,11 @@
-//! Threads, their registers, and the names of registers and signals.
+//! Threads, their registers, and the names of these.
 use core_notes::CoreNotes;
 use elf_view::sample::{NT_PRSTATUS, NotePart, core_image, registers, stack_core, status};
 use elf_view::{Elf, Want};
 use std::alloc::{AllocError, Global};
 use std::process::Abort;
 use std::test::Fail;
-use thread_regs::{Reg, Thread, signal_name, threads};
+use thread_regs::{Reg, Thread, threads};
 
 /// Each register's name with another, and what it holds in the sample.
 static REGISTERS: [(&[u8], &[u8], u64); 33] = [
@@ -118,54 +118,6 @@ fn registers_are_their_words(rt: HostRuntime) -> Result<(), Fail> {
     holds_registers(&rt, &stack_core(rt.alloc())?)?;
     names_are_unknown(&rt);
     names_are_known(&rt)
-}
-
-/// Signals, with the names that they have.
-static SIGNALS: [(i32, Option<&str>); 37] = [
-    (1, Some("HUP")),
-    (2, Some("INT")),
-    (3, Some("QUIT")),
-    (4, Some("ILL")),
-    (5, Some("TRAP")),
-    (6, Some("ABRT")),
-    (7, Some("BUS")),
-    (8, Some("FPE")),
-    (9, Some("KILL")),
-    (10, Some("USR1")),
-    (11, Some("SEGV")),
-    (12, Some("USR2")),
-    (13, Some("PIPE")),
-    (14, Some("ALRM")),
-    (15, Some("TERM")),
-    (16, Some("STKFLT")),
-    (17, Some("CHLD")),
-    (18, Some("CONT")),
-    (19, Some("STOP")),
-    (20, Some("TSTP")),
-    (21, Some("TTIN")),
-    (22, Some("TTOU")),
-    (23, Some("URG")),
-    (24, Some("XCPU")),
-    (25, Some("XFSZ")),
-    (26, Some("VTALRM")),
-    (27, Some("PROF")),
-    (28, Some("WINCH")),
-    (29, Some("IO")),
-    (30, Some("PWR")),
-    (31, Some("SYS")),
-    (i32::MIN, None),
-    (-1, None),
-    (0, None),
-    (32, None),
-    (33, None),
-    (i32::MAX, None),
-];
-
-#[test]
-fn signals_have_names(rt: HostRuntime) {
-    for (signal, name) in &SIGNALS {
-        assert_eq!(rt; signal_name(*signal), *name, "{signal}");
-    }
 }
 
 /// A leader, and 10,000 threads behind it.

@@ -1,5 +1,4 @@
-//! Tests of a journal over a disk in memory: the checks of an opening one by one, appends and compactions over reopenings, and stops at
-//! each disk call.
+//! Tests of a journal over a disk in memory: appends and compactions over reopenings, and stops at each disk call.
 #![tactic(auto)]
 
 #[cfg(test)]
@@ -10,8 +9,6 @@ mod bench;
 mod compactions;
 #[cfg(test)]
 mod formats;
-#[cfg(test)]
-mod openings;
 #[cfg(test)]
 mod refused;
 #[cfg(test)]

@@ -1,15 +1,9 @@
-//! Tests of the words, numbers and texts of a script, its streams, the names of cores, and policies.
+//! Tests of the streams of a script, of the lines that may be asked, and of policies.
 #![tactic(auto)]
 
 #[cfg(test)]
-mod labels;
-#[cfg(test)]
-mod lines;
-#[cfg(test)]
-mod names;
+mod asking;
 #[cfg(test)]
 mod policies;
-#[cfg(test)]
-mod queries;
 #[cfg(test)]
 mod streams;
