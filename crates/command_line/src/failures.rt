@@ -14,7 +14,7 @@ use std::alloc::{AllocError, Global};
 // Why the program did not do what its words ask for.
 #[derive(Drop)]
 pub(crate) enum Failure {
-    // The words are outside the grammar, or ask for help, or there was no memory to read them.
+    // The words are outside the grammar, or ask for help.
     Words(clap::Error),
     // It was refused.
     Refused(Refusal),
@@ -60,6 +60,9 @@ pub(crate) enum Refusal {
 
 impl From<clap::Error> for Failure {
     fn from(error: clap::Error) -> Self {
+        if error.kind() == ErrorKind::OutOfMemory {
+            return Failure::Refused(Refusal::OutOfMemory);
+        }
         Failure::Words(error)
     }
 }
@@ -187,9 +190,6 @@ fn tell_words<O: Output, E: Output>(
     ensures most { result ≤ 2 }
     ensures quiet { result ≢ 2 → errors.new ≡ errors.old }
 {
-    if error.kind() == ErrorKind::OutOfMemory {
-        return tell_refusal(Refusal::OutOfMemory, output);
-    }
     let Ok(text) = format!(in alloc; "{error}") else {
         return tell_refusal(Refusal::OutOfMemory, output);
     };
