@@ -18,3 +18,4 @@ pub mod KeptLemmas
 pub mod FoundLemmas
 pub mod MemoryLemmas
 pub mod CopyLemmas
+pub mod RoomMadeLemmas

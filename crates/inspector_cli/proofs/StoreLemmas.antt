@@ -22,6 +22,9 @@ use Rattle.script_streams.specs.declared.streams.StreamFault.{StreamFault}
 use Rattle.stream_names.specs.declared.naming.Naming.{Naming}
 use Rattle.script_lines.specs.Said.{Said, ProcessSaid, silence, bad_line, long_line, begin_exec, begin_core, part_of, end_of, drop_of, delete_of, pin_of, label_of, retire_by, list_all_cases, count_free, upgrade_archive, inspect_of, said}
 use Rattle.inspector_cli.specs.Reply.{Begins, TakeStep, TakeBytes, Takes}
+use Rattle.std.specs.Borrow.{Bor}
+use Rattle.stream_names.specs.Commands.{stream_found}
+use Rattle.stream_names.specs.declared.names.NewStream.{NewStream}
 use Rattle.stream_names.specs.Streams.{exec_unless, exec_stream, core_unless, core_stream, name_fault, core_name}
 use Rattle.inspector_cli.specs.declared.session.SessionFault.TheVariants.{WriteFailed}
 use Rattle.inspector_cli.specs.declared.session.StoreOutcome.{StoreOutcome}
@@ -32,7 +35,7 @@ use Rattle.inspector_cli.specs.declared.store.TakeStop.TheVariants.{File, Refuse
 use Rattle.script_streams.specs.Replies.{Telling, TellsReply, no_reply}
 use Rattle.inspector_cli.specs.Stages.{Stage, Moves, MayLeave, mark_at, marks_of, IsFoundAfterAStop}
 use Rattle.inspector_cli.specs.Session.{Streams}
-use Rattle.inspector_cli.specs.Storing.{first_stream, TakesFile, TakesMore, FileReplies, RestReplies, StoresStream, policy_before, MakesRoom, Stores, said_before, StoreStages, StoreEnds, StoresAlone}
+use Rattle.inspector_cli.specs.Storing.{first_stream, TakesFile, TakesMore, FileReplies, RestReplies, StoresStream, policy_before, MakesRoom, IsChosen, MakesRoomFor, Stores, said_before, StoreStages, StoreEnds, StoresAlone}
 use Rattle.intake.specs.StayLaws.{stays_none, stays_as, stays_then}
 use Rattle.inspector_cli.proofs.StageLemmas.{Laws, Reaches, stage_of, line_moves, still, begins_stays}
 use Rattle.script_streams.specs.TellLaws.{tells_then}
@@ -78,6 +81,10 @@ first_fresh naming list_all_cases = tt
 first_fresh naming count_free = tt
 first_fresh naming upgrade_archive = tt
 first_fresh naming (inspect_of seq query) = tt
+
+pub found_fresh : (r : Result NewStream (Bor (List ℕ))) → IsFresh (stream_found r)
+found_fresh (Ok stream) = refl
+found_fresh (Err reason) = tt
 
 set_there : {X : Type 0} (xs : List (Option X)) (slot : ℕ) (a : Option X) → slot < length xs → stream_at (slice_set xs slot a) slot ≡ a
 set_there [] slot a there = absurd (omega arith)
@@ -165,20 +172,20 @@ module _ {D : Type 0} (g : disk.Ghosts D) (file mid file' : Option (List ℕ)) (
 
 module _ {D : Type 0} (g : disk.Ghosts D) where
   -- a first line and what stands behind it
-  pub stores : (naming : Naming) (file file' : Option (List ℕ)) (fails fails' : ℕ) (o p q : Option (List ℕ)) (f i h : ℕ) (u v w : Reply) (old mid new : Parts D) (line : List ℕ) (stored : Option ℕ)
-      → TellsReply (record { taken = o; taken' = p; failures = f; failures' = i; reply = u; reply' = v }) (λ text. Begins g old 0 (first_stream naming (said line)) text mid true)
+  pub stores : (found : Result StreamFacts (List ℕ)) (file file' : Option (List ℕ)) (fails fails' : ℕ) (o p q : Option (List ℕ)) (f i h : ℕ) (u v w : Reply) (old mid new : Parts D) (stored : Option ℕ)
+      → TellsReply (record { taken = o; taken' = p; failures = f; failures' = i; reply = u; reply' = v }) (λ text. Begins g old 0 found text mid true)
       → TellsReply (record { taken = p; taken' = q; failures = i; failures' = h; reply = v; reply' = w }) (λ text. (filled : Parts D) × RestReplies g file file' fails fails' mid true filled text new stored)
-      → TellsReply (record { taken = o; taken' = q; failures = f; failures' = h; reply = u; reply' = w }) (λ text. StoresStream g naming file file' fails fails' old line text new stored)
-  stores naming file file' fails fails' o p q f i h u v w old mid new line stored first rest = (
+      → TellsReply (record { taken = o; taken' = q; failures = f; failures' = h; reply = u; reply' = w }) (λ text. StoresStream g file file' fails fails' old found text new stored)
+  stores found file file' fails fails' o p q f i h u v w old mid new stored first rest = (
     first.0 ++ rest.0,
     record { first = first.0; mid = mid; accepted = true; begins = first.1; filled = rest.1.0; rest = rest.0; goes_on = rest.1.1; text = refl },
     tells_then o p q f i h u v w first.0 rest.0 first.2 rest.2,
   )
 
-  pub stores_none : (naming : Naming) (file : Option (List ℕ)) (fails : ℕ) (t : Telling) (old new : Parts D) (line : List ℕ)
-      → TellsReply t (λ text. Begins g old 0 (first_stream naming (said line)) text new false)
-      → TellsReply t (λ text. StoresStream g naming file file fails fails old line text new None)
-  stores_none naming file fails t old new line first = (
+  pub stores_none : (found : Result StreamFacts (List ℕ)) (file : Option (List ℕ)) (fails : ℕ) (t : Telling) (old new : Parts D)
+      → TellsReply t (λ text. Begins g old 0 found text new false)
+      → TellsReply t (λ text. StoresStream g file file fails fails old found text new None)
+  stores_none found file fails t old new first = (
     first.0,
     record {
       first = first.0;
@@ -223,9 +230,9 @@ module _ {D : Type 0} (g : disk.Ghosts D) where
 
   pub stages_of : (laws : Laws g) → FoundAfterAStop g → (naming : Naming) (file file' : Option (List ℕ)) (fails fails' : ℕ) (old : Stage D) (before line replies : List ℕ) (end : Parts D) (outcome : StoreOutcome) (new : Parts D)
       → (s : Stores g naming file file' fails fails' old.archive before line replies end outcome) → ChangesNoCase g end new
-      → (in_doubt : List Durable) × StoreStages g old (policy_before before) s.told s.room s.stores.filled s.stores.rest (stage_of end in_doubt) new
+      → (in_doubt : List Durable) × StoreStages g old s.makes_room.policy s.told s.room s.stores.filled s.stores.rest (stage_of end in_doubt) new
   stages_of laws found naming file file' fails fails' old before line replies end outcome new s closes =
-      let r = room_moves laws naming old s.room (policy_before before) s.told outcome.made_room s.makes_room in
+      let r = room_moves laws naming old s.room s.makes_room.policy s.told outcome.made_room s.makes_room.makes_room in
       let t = s.stores in
       let doubts : List Durable = r.0 ++ old.in_doubt in
       let m =
@@ -245,8 +252,8 @@ module _ {D : Type 0} (g : disk.Ghosts D) where
 
   -- a line that makes room, and the stream behind it
   pub stores_both : (naming : Naming) (file file' : Option (List ℕ)) (fails fails' : ℕ) (o p q : Option (List ℕ)) (f i h : ℕ) (u v w : Reply) (old room new : Parts D) (before line : List ℕ) (made : Bool) (stored : Option ℕ)
-      → TellsReply (record { taken = o; taken' = p; failures = f; failures' = i; reply = u; reply' = v }) (λ text. MakesRoom g old (policy_before before) text room made)
-      → TellsReply (record { taken = p; taken' = q; failures = i; failures' = h; reply = v; reply' = w }) (λ text. StoresStream g naming file file' fails fails' room line text new stored)
+      → TellsReply (record { taken = o; taken' = p; failures = f; failures' = i; reply = u; reply' = v }) (λ text. MakesRoomFor g old (policy_before before) (first_stream naming (said line)) text room made)
+      → TellsReply (record { taken = p; taken' = q; failures = i; failures' = h; reply = v; reply' = w }) (λ text. StoresStream g file file' fails fails' room (first_stream naming (said line)) text new stored)
       → TellsReply (record { taken = o; taken' = q; failures = f; failures' = h; reply = u; reply' = w })
       (λ text. Stores g naming file file' fails fails' old before line text new (record { made_room = made; stored = stored }))
   stores_both naming file file' fails fails' o p q f i h u v w old room new before line made stored first rest = (
@@ -261,11 +268,17 @@ none_doubted : {D : Type 0} (g : disk.Ghosts D) (old : Parts D) (reply : List �
 none_doubted g old reply [] doubted = refl
 none_doubted g old reply (x ∷ xs) doubted = ⊎_elim (λ none. none) (λ some. absurd some.1.0) doubted
 
+-- where no room is asked for, none is made
+not_chosen : (s : ArchiveState) (asked : Option Policy) (found : Result StreamFacts (List ℕ)) (policy : Option Policy) → asked ≡ None → IsChosen s asked found policy → policy ≡ None
+not_chosen s asked found None none chosen = refl
+not_chosen s asked found (Some policy) none chosen = absurd (let e : None ≡ Some policy = sym none ∙ chosen in cc)
+
 -- with no line before, it is the stream alone
 pub stores_alone : {D : Type 0} (g : disk.Ghosts D) → StoresAlone g
 stores_alone {D} g naming file file' fails fails' old before line replies end new outcome none s stages =
-    let room = subst (λ (p : Option Policy). MakesRoom g old.archive p s.told s.room outcome.made_room) none s.makes_room in
-    let still = subst (λ (p : Option Policy). Moves g old (said_before p) s.told (stage_of s.room stages.in_doubt)) none stages.makes_room in
+    let no_policy : s.makes_room.policy ≡ None = not_chosen (state_of old.archive) (policy_before before) (first_stream naming (said line)) s.makes_room.policy none s.makes_room.chosen in
+    let room = subst (λ (p : Option Policy). MakesRoom g old.archive p s.told s.room outcome.made_room) no_policy s.makes_room.makes_room in
+    let still = subst (λ (p : Option Policy). Moves g old (said_before p) s.told (stage_of s.room stages.in_doubt)) no_policy stages.makes_room in
     let same : stages.in_doubt ≡ old.in_doubt = still.in_doubt ∙ ap (λ (xs : List Durable). xs ++ old.in_doubt) (none_doubted g old.archive s.told still.doubts still.doubted) in
     let t = s.stores in
     let found =

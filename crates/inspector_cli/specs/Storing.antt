@@ -5,9 +5,12 @@ use Rattle.intake.specs.declared.faults.ArchiveFault.{ArchiveFault}
 use Rattle.disk_model.specs.declared.disk.Disk as disk
 use Rattle.intake.specs.Calls.{ChangesNoCase, AbandonCall}
 use Rattle.intake.specs.Durable.{Durable}
-use Rattle.intake.specs.Parts.{Parts}
+use Rattle.intake.specs.Parts.{Parts, state_of}
 use Rattle.intake.specs.Slots.{stream_at}
+use Rattle.intake.specs.Opened.{IsOpened}
+use Rattle.intake.specs.Retiring.{KeepsTheName}
 use Rattle.intake.specs.State.{ArchiveState, StreamFacts}
+use Rattle.intake.specs.Step.{is_named}
 use Rattle.failure_count.specs.Counts.{HasRisen}
 use Rattle.stream_names.specs.declared.naming.Naming.{Naming}
 use Rattle.inspector_cli.specs.declared.session.SessionFault.{SessionFault}
@@ -66,13 +69,13 @@ RestReplies g file file' fails fails' old true filled reply new stored =
 RestReplies g file file' fails fails' old false filled reply new stored =
     (file' ≡ file) × (fails' ≡ fails) × (filled ≡ old) × (reply ≡ []) × (new ≡ old) × (stored ≡ None)
 
--- a line and its file: the replies, and the case's number where it is stored
-pub record StoresStream {D : Type 0} (g : disk.Ghosts D) (naming : Naming) (file file' : Option (List ℕ)) (fails fails' : ℕ) (old : Parts D) (line : List ℕ)
+-- what a line begins, or why it begins nothing, and its file: the replies, and the case's number where it is stored
+pub record StoresStream {D : Type 0} (g : disk.Ghosts D) (file file' : Option (List ℕ)) (fails fails' : ℕ) (old : Parts D) (found : Result StreamFacts (List ℕ))
     (replies : List ℕ) (new : Parts D) (stored : Option ℕ) : Type 0 where
   pub first : List ℕ
   pub mid : Parts D
   pub accepted : Bool
-  pub begins : Begins g old 0 (first_stream naming (said line)) first mid accepted
+  pub begins : Begins g old 0 found first mid accepted
   -- when the file's bytes are taken
   pub filled : Parts D
   pub rest : List ℕ
@@ -94,15 +97,44 @@ abbrev pub MakesRoom : {D : Type 0} → disk.Ghosts D → Parts D → Option Pol
 MakesRoom g old None reply new made = (reply ≡ []) × (new ≡ old) × (made ≡ true)
 MakesRoom g old (Some policy) reply new made = (answered : Retires g old policy reply new) × (made ≡ is_ok answered.0)
 
--- a line before that makes room, and behind it a line and its file, whatever the first was answered
+-- No room is made for it: the line begins no stream, or the name is that of a case that would stay.
+abbrev pub CannotBegin : ArchiveState → Policy → Result StreamFacts (List ℕ) → Type 0
+CannotBegin s policy (Err reason) = Unit {0}
+CannotBegin s policy (Ok stream) = KeepsTheName s policy stream.name true × (is_named stream.name s.cases ≡ true)
+
+-- Nothing but want of memory, or a stream that is open already, keeps the stream from beginning.
+abbrev pub MayBeginNow : ArchiveState → Result StreamFacts (List ℕ) → Type 0
+MayBeginNow s (Err reason) = ⊥
+MayBeginNow s (Ok stream) = (s.stopped ≡ false) × (is_named stream.name s.cases ≡ false)
+
+-- The policy by which room is made: the one that was asked for, or none, where the stream can't begin after it.
+abbrev pub IsChosen : ArchiveState → Option Policy → Result StreamFacts (List ℕ) → Option Policy → Type 0
+IsChosen s asked found None = (asked ≡ None) ⊎ ((policy : Policy) × (asked ≡ Some policy) × CannotBegin s policy found)
+IsChosen s asked found (Some policy) = asked ≡ Some policy
+
+-- Room for a stream: it is made only where the stream can begin then.
+pub record MakesRoomFor {D : Type 0} (g : disk.Ghosts D) (old : Parts D) (asked : Option Policy) (found : Result StreamFacts (List ℕ)) (told : List ℕ) (new : Parts D) (made : Bool) : Type 0 where
+  pub policy : Option Policy
+  pub chosen : IsChosen (state_of old) asked found policy
+  pub makes_room : MakesRoom g old policy told new made
+  -- where room was made, the stream may begin
+  pub needed : (p : Policy) → policy ≡ Some p → made ≡ true → MayBeginNow (state_of new) found
+
+-- The same of a stream of this name: nothing is done where a case that stays has the name.
+abbrev pub MakesRoomNamed : {D : Type 0} → disk.Ghosts D → Parts D → Policy → List ℕ → List ℕ → Parts D → Bool → Type 0
+MakesRoomNamed g old policy name told new made =
+    ((told ≡ []) × (new ≡ old) × (made ≡ true) × KeepsTheName (state_of old) policy name true × (is_named name (state_of old).cases ≡ true))
+    ⊎ ((answered : Retires g old policy told new) × (made ≡ is_ok answered.0) × (made ≡ true → ((state_of new).stopped ≡ false) × (is_named name (state_of new).cases ≡ false)))
+
+-- a line before that makes room for the stream that a line begins, and then that line and its file
 pub record Stores {D : Type 0} (g : disk.Ghosts D) (naming : Naming) (file file' : Option (List ℕ)) (fails fails' : ℕ) (old : Parts D) (before line : List ℕ)
     (replies : List ℕ) (new : Parts D) (outcome : StoreOutcome) : Type 0 where
   pub told : List ℕ
   -- when room is made
   pub room : Parts D
-  pub makes_room : MakesRoom g old (policy_before before) told room outcome.made_room
+  pub makes_room : MakesRoomFor g old (policy_before before) (first_stream naming (said line)) told room outcome.made_room
   pub more : List ℕ
-  pub stores : StoresStream g naming file file' fails fails' room line more new outcome.stored
+  pub stores : StoresStream g file file' fails fails' room (first_stream naming (said line)) more new outcome.stored
   pub all : replies ≡ told ++ more
 
 -- no stream is open in slot 0
@@ -130,11 +162,11 @@ abbrev pub StoreEnds : {D : Type 0} → disk.Ghosts D → Naming → Streams →
 StoreEnds {D} g naming t old before line new (Ok outcome) =
     (replies : List ℕ) × (end : Stage D) × (dropped : Result (Unit {0}) ArchiveFault)
     × (s : Stores g naming t.input t.input' t.fails t.fails' old.archive before line replies end.archive outcome) × AbandonCall g end.archive 0 dropped new × Appends t.taken t.taken' replies
-    × StoreStages g old (policy_before before) s.told s.room s.stores.filled s.stores.rest end new
+    × StoreStages g old s.makes_room.policy s.told s.room s.stores.filled s.stores.rest end new
 StoreEnds {D} g naming t old before line new (Err WriteFailed) =
     (out : List ℕ) × (rest : List ℕ) × (end : Stage D) × (outcome : StoreOutcome) × (dropped : Result (Unit {0}) ArchiveFault)
     × (s : Stores g naming t.input t.input' t.fails t.fails' old.archive before line (out ++ rest) end.archive outcome) × AbandonCall g end.archive 0 dropped new × Appends t.taken t.taken' out × HasRisen t.lost t.lost'
-    × StoreStages g old (policy_before before) s.told s.room s.stores.filled s.stores.rest end new
+    × StoreStages g old s.makes_room.policy s.told s.room s.stores.filled s.stores.rest end new
 StoreEnds g naming t old before line new (Err ReadFailed) = ⊥
 StoreEnds g naming t old before line new (Err TooManyReads) = ⊥
 
@@ -142,7 +174,7 @@ StoreEnds g naming t old before line new (Err TooManyReads) = ⊥
 -- stood, and nothing comes in doubt before its end.
 pub record IsAlone {D : Type 0} (g : disk.Ghosts D) (naming : Naming) (file file' : Option (List ℕ)) (fails fails' : ℕ) (old : Stage D) (line : List ℕ)
     (replies : List ℕ) (end : Stage D) (new : Parts D) (outcome : StoreOutcome) : Type 0 where
-  pub stores : StoresStream g naming file file' fails fails' old.archive line replies end.archive outcome.stored
+  pub stores : StoresStream g file file' fails fails' old.archive (first_stream naming (said line)) replies end.archive outcome.stored
   pub made : outcome.made_room ≡ true
   pub takes : ChangesNoCase g old.archive stores.filled
   pub moves : Moves g (record { archive = stores.filled; in_doubt = old.in_doubt }) (end_of 0) stores.rest end
@@ -152,8 +184,24 @@ abbrev pub StoresAlone : {D : Type 0} → disk.Ghosts D → Type 0
 StoresAlone {D} g = (naming : Naming) (file file' : Option (List ℕ)) (fails fails' : ℕ) (old : Stage D) (before line replies : List ℕ) (end : Stage D) (new : Parts D) (outcome : StoreOutcome)
     → policy_before before ≡ None
     → (s : Stores g naming file file' fails fails' old.archive before line replies end.archive outcome)
-    → StoreStages g old (policy_before before) s.told s.room s.stores.filled s.stores.rest end new
+    → StoreStages g old s.makes_room.policy s.told s.room s.stores.filled s.stores.rest end new
     → IsAlone g naming file file' fails fails' old line replies end new outcome
+
+-- Nothing is retired but for a stream that is begun then. Over an archive without streams, as an opening answers it, room that
+-- was made is followed by the stream that it is for; only want of memory keeps it from beginning.
+abbrev pub RoomIsForAStream : {D : Type 0} → disk.Ghosts D → Type 0
+RoomIsForAStream {D} g = (naming : Naming) (file file' : Option (List ℕ)) (fails fails' : ℕ) (old : Parts D) (before line replies : List ℕ) (end : Parts D) (outcome : StoreOutcome) (limit : ℕ)
+    → IsOpened limit old
+    → (s : Stores g naming file file' fails fails' old before line replies end outcome)
+    → outcome.made_room ≡ true
+    → (s.room ≡ old) ⊎ (s.stores.accepted ≡ true) ⊎ (s.stores.first ≡ no_reply (codes "OutOfMemory"))
+
+-- Room that was asked for is left out only where the stream is refused.
+abbrev pub RoomIsLeftOutForARefusal : {D : Type 0} → disk.Ghosts D → Type 0
+RoomIsLeftOutForARefusal {D} g = (naming : Naming) (file file' : Option (List ℕ)) (fails fails' : ℕ) (old : Parts D) (before line replies : List ℕ) (end : Parts D) (outcome : StoreOutcome) (policy : Policy)
+    → policy_before before ≡ Some policy
+    → (s : Stores g naming file file' fails fails' old before line replies end outcome)
+    → (s.makes_room.policy ≡ Some policy) ⊎ (s.stores.accepted ≡ false)
 
 -- a line of no bytes makes no room
 abbrev pub NoLineIsSilent : Type 0

@@ -132,7 +132,7 @@ fn answer_upgrade<O: Output, D: Disk>(reply: &mut Reply, output: &mut O, archive
 }
 
 // Answers `retire`. Says whether it was answered other than `no REASON`.
-pub(crate) fn answer_retire<O: Output, D: Disk>(
+fn answer_retire<O: Output, D: Disk>(
     policy: Policy,
     reply: &mut Reply,
     output: &mut O,

@@ -1,30 +1,55 @@
 // Room that is made before a stream is stored.
-ghost use Rattle.std.specs.Prelude.{◌≡◌, is_ok};
-ghost use Rattle.script_lines.specs.Said.{said};
+ghost use Rattle.std.specs.Prelude.{◌≡◌};
 ghost use Rattle.script_lines.specs.Commands.{asked_by, said_by};
-ghost use Rattle.inspector_cli.specs.Storing.{MakesRoom, policy_before, retired_by};
+ghost use Rattle.inspector_cli.specs.Storing.{MakesRoomFor, MakesRoomNamed, policy_before, retired_by};
+ghost use Rattle.stream_names.specs.Commands.{stream_found};
 ghost use Rattle.script_streams.specs.Replies.{TellsReply, telling};
 
-use crate::answers::answer_retire;
+use archive_replies::tell_retired;
 use disk_model::Disk;
 use intake::Archive;
+use journal_layout::Name;
 use retention::Policy;
 use script_lines::{Command, Request, parse_text};
 use script_streams::{Output, Reply};
+use stream_names::NewStream;
 
-// Carries out the line that makes room, if it is one. Says whether it was answered other than `no REASON`.
+// Carries out the line that makes room, if it is one, for this stream, if there is one. Says whether it was answered other than
+// `no REASON`.
 pub(crate) fn make_room<O: Output, D: Disk>(
     line: &[u8],
+    found: &Result<NewStream, &'static [u8]>,
     reply: &mut Reply,
     output: &mut O,
     archive: &mut Archive<D>,
 ) -> bool
-    ensures { TellsReply (telling O.Output output.old output.new reply.old reply.new) (λ text. MakesRoom D.Disk archive.old (policy_before line.now) text archive.new result) }
+    ensures { TellsReply (telling O.Output output.old output.new reply.old reply.new) (λ text. MakesRoomFor D.Disk archive.old (policy_before line.now) (stream_found found.now) text archive.new result) }
 {
-    match retired_by(parse_text(line)) {
-        Some(policy) => answer_retire(policy, reply, output, archive),
-        None => true,
+    let Some(policy) = retired_by(parse_text(line)) else {
+        return true;
+    };
+    match found {
+        Ok(stream) => make_room_for(policy, &stream.name, reply, output, archive),
+        Err(_) => true,
     }
+}
+
+// Makes room for a stream of this name, unless a case that stays has it. Says whether it was answered other than `no REASON`.
+fn make_room_for<O: Output, D: Disk>(
+    policy: Policy,
+    name: &Name,
+    reply: &mut Reply,
+    output: &mut O,
+    archive: &mut Archive<D>,
+) -> bool
+    ensures { TellsReply (telling O.Output output.old output.new reply.old reply.new) (λ text. MakesRoomNamed D.Disk archive.old policy name.now.items text archive.new result) }
+{
+    let Some(outcome) = archive.retire_for(&policy, name) else {
+        return true;
+    };
+    let is_carried_out = outcome.is_ok();
+    tell_retired(reply, output, outcome);
+    is_carried_out
 }
 
 // The policy by which a line retires, if it does.

@@ -2,7 +2,6 @@
 ghost use Rattle.std.specs.Prelude.{◌≡◌, ℕ, true, List, [], Ok};
 ghost use Rattle.intake.specs.Durable.{Durable};
 ghost use Rattle.intake.specs.Parts.{Parts, state_of};
-ghost use Rattle.script_lines.specs.Said.{said};
 ghost use Rattle.script_lines.specs.Commands.{asked_by, said_by};
 ghost use Rattle.stream_names.specs.Commands.{stream_found};
 ghost use Rattle.inspector_cli.specs.Reply.{Begins, Takes};
@@ -33,11 +32,12 @@ enum TakeStop {
     Refused(ArchiveFault),
 }
 
-/// Stores one stream, with room made for it before. `before` is the line `retire ..`, without its newline: it is carried out
-/// first, and the stream is stored whatever it was answered. With no line, or another one, no room is made and nothing is told
-/// of it.
+/// Stores one stream, with room made for it before. `line` begins a stream in slot 0, and `before` is the line `retire ..`,
+/// without its newline. It is carried out first, if the stream can begin then: its line is in order, and no case that stays
+/// has its name. Otherwise nothing is retired, and nothing is told of it; so too with no line before, or another one. The
+/// stream is stored whatever the line before was answered.
 ///
-/// Then a line is answered that begins a stream in slot 0. Where it is accepted, the stream takes all bytes of `file` and becomes a
+/// Then the line is answered that begins the stream. Where it is accepted, the stream takes all bytes of `file` and becomes a
 /// case, and the reply goes on by that of the first step that was refused, or else by that of the line `end 0`. A `file`
 /// that cannot be read, or that has not ended after 2^40 reads, is a step that is refused with the reply `no File`. Says
 /// whether room was made, and the number of the case where it is stored. No stream is open in slot 0 then. Any other line is refused with the reply
@@ -82,42 +82,41 @@ fn answer_both<I: Input, O: Output, D: Disk>(
     ensures { TellsReply (telling O.Output output.old output.new reply.old reply.new) (λ text. Stores D.Disk naming.now (I.remaining file.old) (I.remaining file.new) (I.failures file.old) (I.failures file.new)
         archive.old before.now line.now text archive.new result) }
 {
-    let made_room = make_room(before, reply, output, archive);
-    let stored = answer_store(line, file, reply, output, archive, naming);
+    let found = first_stream(parse_text(line), naming);
+    let made_room = make_room(before, &found, reply, output, archive);
+    let stored = answer_store(found, file, reply, output, archive);
     StoreOutcome { made_room, stored }
 }
 
-// Answers the line that begins a stream, and then its file. Says the number of the case, where it is stored.
+// Answers the line that begins this stream, or nothing for this reason, and then its file. Says the number of the case, where
+// it is stored.
 fn answer_store<I: Input, O: Output, D: Disk>(
-    line: &[u8],
+    found: Result<NewStream, &'static [u8]>,
     file: &mut I,
     reply: &mut Reply,
     output: &mut O,
     archive: &mut Archive<D>,
-    naming: &Naming,
 ) -> Option<u32>
-    ensures { TellsReply (telling O.Output output.old output.new reply.old reply.new) (λ text. StoresStream D.Disk naming.now (I.remaining file.old) (I.remaining file.new) (I.failures file.old) (I.failures file.new)
-        archive.old line.now text archive.new result) }
+    ensures { TellsReply (telling O.Output output.old output.new reply.old reply.new) (λ text. StoresStream D.Disk (I.remaining file.old) (I.remaining file.new) (I.failures file.old) (I.failures file.new)
+        archive.old (stream_found found.entry) text archive.new result) }
 {
-    let is_begun = answer_first(line, reply, output, archive, naming);
+    let is_begun = answer_first(found, reply, output, archive);
     if !is_begun {
         return None;
     }
     answer_file(file, reply, output, archive)
 }
 
-// Answers the line that begins the stream. Says whether it has begun.
+// Answers the line that begins the stream. Says whether it has begun: then it has no bytes yet.
 fn answer_first<O: Output, D: Disk>(
-    line: &[u8],
+    found: Result<NewStream, &'static [u8]>,
     reply: &mut Reply,
     output: &mut O,
     archive: &mut Archive<D>,
-    naming: &Naming,
 ) -> bool
-    ensures first { TellsReply (telling O.Output output.old output.new reply.old reply.new) (λ text. Begins D.Disk archive.old 0 (first_stream naming.now (said line.now)) text archive.new result) }
+    ensures first { TellsReply (telling O.Output output.old output.new reply.old reply.new) (λ text. Begins D.Disk archive.old 0 (stream_found found.entry) text archive.new result) }
     ensures begun { result ≡ true → Takes D.Disk archive.new 0 [] (Ok tt) archive.new }
 {
-    let found = first_stream(parse_text(line), naming);
     answer_begin(0, found, reply, output, archive)
 }
 

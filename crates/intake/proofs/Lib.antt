@@ -36,3 +36,4 @@ pub mod NameLemmas
 pub mod LabelLemmas
 pub mod UpgradeLemmas
 pub mod RangeLemmas
+pub mod KeptNameLemmas

@@ -146,3 +146,9 @@ some_dropped (x ∷ xs) none = omega arith
 pub none_dropped : (xs : List ℕ) → length xs ≡ 0 → xs ≡ []
 none_dropped [] e = refl
 none_dropped (x ∷ xs) e = absurd (omega (arith, e))
+
+-- the numbers of those that go rise, also where none goes
+pub retired_rise : (j : Journaled) (policy : Policy) (dropped : List ℕ) (unmet : Bool) → AreLive j.standing.shape.data_blocks j.standing.cases j.standing.next
+    → IsDecision policy (map brief_of (map case_facts j.standing.cases)) dropped unmet → IsStrictlyIncreasing dropped → Rise 0 dropped
+retired_rise j policy [] unmet live decision rises = tt
+retired_rise j policy (seq ∷ seqs) unmet live decision rises = retire_rises j policy (seq ∷ seqs) unmet live decision rises (omega arith)

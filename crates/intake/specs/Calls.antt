@@ -1,5 +1,5 @@
 -- What a call promises as a whole: the state, the bytes, and what a crash at any moment of it leaves.
-use Rattle.std.specs.Prelude.{◌≡◌, ℕ, ◌+◌, ◌<◌, ◌≤◌, Bool, false, List, [], ◌∷◌, length, None, Some, Result, Err, IfOk, IsTrue, Vec, vec_len}
+use Rattle.std.specs.Prelude.{◌≡◌, ℕ, ◌+◌, ◌<◌, ◌≤◌, Bool, true, false, List, [], ◌∷◌, length, Option, None, Some, Result, Err, IfOk, IsTrue, Vec, vec_len}
 use Rattle.std.specs.Global.{Global}
 use Rattle.disk_model.specs.Disk.{HasRisen}
 use Rattle.disk_model.specs.Moments.{AddsOnly, LeavesOnly}
@@ -16,10 +16,11 @@ use Rattle.intake.specs.Durable.{Durable, StandsFor, FindsAgain, durable_of, wit
 use Rattle.intake.specs.Guarding.{Leaves, StoresIn, MayBeRetired}
 use Rattle.intake.specs.Opened.{IsOpened, disk_in, journal_in}
 use Rattle.intake.specs.Parts.{Parts, state_of, contents_of}
+use Rattle.intake.specs.Retiring.{KeepsTheName}
 use Rattle.intake.specs.Slots.{stream_at}
 use Rattle.intake.specs.State.{CaseFacts, StreamFacts}
 use Rattle.intake.specs.Growth.{IsDiskFault}
-use Rattle.intake.specs.Step.{BeginStep, AdvanceStep, FinishStep, AbandonStep, PinStep, LabelStep, UpgradeStep, DeleteStep, RetireStep, ImageStep, IsLastGeneration, case_at, pin_size}
+use Rattle.intake.specs.Step.{BeginStep, AdvanceStep, FinishStep, AbandonStep, PinStep, LabelStep, UpgradeStep, DeleteStep, RetireStep, ImageStep, IsLastGeneration, case_at, is_named, pin_size}
 use Rattle.intake.specs.Untouched.{RefusalSpares, AdvanceSpares, FinishSpares, PinSpares, LabelSpares, UpgradeSpares, RetireSpares}
 use Rattle.intake.specs.declared.faults.ArchiveFault.{ArchiveFault}
 use Rattle.intake.specs.declared.faults.ArchiveFault.TheVariants.{JournalFull, OutOfMemory}
@@ -138,6 +139,13 @@ pub record RetireCall {D : Type 0} (g : disk.Ghosts D) (old : Parts D) (policy :
   -- as of a deletion
   pub full : IsTrue (g.is_honest old.disk) → r ≡ Err JournalFull → IsLastGeneration (state_of old)
   pub untouched : RetireSpares r old.disk new.disk
+
+-- Retire for a stream of this name. Where a case that stays has the name, nothing is done; else it is `retire`, and where that
+-- is done, no case has the name.
+abbrev pub RetireForCall : {D : Type 0} → disk.Ghosts D → Parts D → Policy → List ℕ → Option (Result Decision ArchiveFault) → Parts D → Type 0
+RetireForCall g old policy name None new =
+    (new ≡ old) × KeepsTheName (state_of old) policy name true × (is_named name (state_of old).cases ≡ true)
+RetireForCall g old policy name (Some r) new = RetireCall g old policy r new × IfOk r (λ d. is_named name (state_of new).cases ≡ false)
 
 pub record ImageCall {D : Type 0} (g : disk.Ghosts D) (old : Parts D) (seq : ℕ) (r : Result (Vec ℕ Global) ArchiveFault) (new : Parts D) : Type 0 where
   pub step : ImageStep (state_of old) seq r (state_of new)

@@ -21,6 +21,10 @@ abbrev pub has_name : List ℕ → Option StreamFacts → Bool
 has_name name None = false
 has_name name (Some s) = bytes_eq s.name name
 
+-- one of the cases has the name
+abbrev pub is_named : List ℕ → List CaseFacts → Bool
+is_named name cases = list_any (λ (c : CaseFacts). bytes_eq c.name name) cases
+
 -- a live case or an open stream has the name
 abbrev pub is_taken : ArchiveState → List ℕ → Bool
 is_taken s name = list_any (λ (c : CaseFacts). bytes_eq c.name name) s.cases || list_any (has_name name) s.streams

@@ -20,7 +20,7 @@ use crate::ArchiveFault;
 use crate::blocks::{append_case, grow, release, seal, stops};
 use crate::buffer::Buffer;
 use crate::dropping::{hold_listed, release_listed};
-use crate::names::{copied, forget_name, forget_names, keep_name, names_of};
+use crate::names::{copied, forget_name, forget_names, is_name_kept, keep_name, names_of};
 use crate::opening::open_parts;
 use crate::ranges::{ByteRange, ranges_of};
 use crate::reading::read_image;
@@ -32,7 +32,7 @@ use case_journal::Journal;
 use disk_model::Disk;
 use extents::{FreeMap, RunList};
 use journal_layout::{Entry, Kind, Name, OpenFault};
-use retention::{Decision, Policy};
+use retention::{Decision, Policy, a_decision_is_one};
 use std::alloc::Global;
 use std::collections::BTreeSet;
 use std::marker::Model;
@@ -85,8 +85,9 @@ impl<D: Disk> Archive<D> {
     ghost use Rattle.intake.specs.Step.{RoomReply, FreeReply, VersionReply, DropStep, IsLastGeneration};
     ghost use Rattle.intake.specs.Contents.{DropBytes};
     ghost use Rattle.intake.specs.Opened.{CaseReply, CasesReply};
-    ghost use Rattle.intake.specs.Calls.{OpenCall, BeginCall, AdvanceCall, FinishCall, AbandonCall, PinCall, LabelCall, UpgradeCall, DeleteCall, RetireCall, ImageCall, CloseCall, Changes};
+    ghost use Rattle.intake.specs.Calls.{OpenCall, BeginCall, AdvanceCall, FinishCall, AbandonCall, PinCall, LabelCall, UpgradeCall, DeleteCall, RetireCall, RetireForCall, ImageCall, CloseCall, Changes};
     ghost use Rattle.intake.specs.Ranges.{RangesReply};
+    ghost use Rattle.intake.specs.Retiring.{NameReply};
     ghost use Rattle.intake.specs.Room.{LendsRoom, room_of, FitsFree};
     ghost use Rattle.intake.specs.Slots.{stream_at};
     ghost use Rattle.std.specs.Borrow.{sem};
@@ -444,6 +445,39 @@ impl<D: Disk> Archive<D> {
         let names = names_of(self.alloc, self.journal.entries(), seqs)?;
         self.drop_cases(seqs, &names)?;
         Ok(decision)
+    }
+
+    // Whether a case that stays under this policy has the name. Answers `Stopped`; `OutOfMemory`.
+    fn keeps_name(&self, policy: &Policy, name: &Name) -> Result<bool, ArchiveFault>
+        ensures { NameReply (state_of self.now) policy.now name.now.items result }
+    {
+        if self.stopped {
+            return Err(ArchiveFault::Stopped);
+        }
+        let decision = decide_for(self.alloc, self.journal.entries(), policy)?;
+        let seqs = decision.dropped.as_slice();
+        Ok(is_name_kept(self.journal.entries(), seqs, name))
+    }
+
+    /// Drops the cases that the rule drops under this policy, as `retire` does, to make room for a stream of this name.
+    /// Where a case that stays has the name, no such stream can begin: nothing is done, and there is no answer.
+    pub fn retire_for(
+        &mut self,
+        policy: &Policy,
+        name: &Name,
+    ) -> Option<Result<Decision, ArchiveFault>>
+        ensures { RetireForCall D.Disk self.old policy.now name.now.items result self.new }
+    {
+        a_decision_is_one();
+        let _ = &self.disk;
+        let is_kept = match self.keeps_name(policy, name) {
+            Ok(is_kept) => is_kept,
+            Err(fault) => return Some(Err(fault)),
+        };
+        if is_kept {
+            return None;
+        }
+        Some(self.retire(policy))
     }
 
     /// Whether a disk fault has stopped it. Unless one has, what a crash now leaves stands for the cases that it shows.

@@ -3,6 +3,7 @@ ghost use Rattle.std.specs.Prelude.{◌≡◌, ◌++◌, ◌∷◌, [], ◌≤�
 ghost use Rattle.intake.specs.Names.{KeepsName, ForgetsName, ForgetsNames, items_of, names_gone};
 ghost use Rattle.journal_layout.specs.Case.{case_of};
 ghost use Rattle.journal_layout.specs.Soundness.{Rise};
+ghost use Rattle.intake.specs.Retiring.{stays_named};
 ghost use Rattle.intake.specs.declared.faults.ArchiveFault.TheVariants as fault;
 
 use crate::ArchiveFault;
@@ -72,4 +73,24 @@ pub(crate) fn names_of(
         add_if_listed(&mut names, entry, seqs)?;
     }
     Ok(names)
+}
+
+// Whether an entry is not one of these numbers and has this name.
+fn stays_so_named(entry: &Entry, seqs: &[u32], name: &Name) -> bool
+    requires { Rise 0 seqs.now }
+    ensures { result ≡ stays_named name.now.items seqs.now (case_of entry.now ∷ []) }
+{
+    !is_listed(seqs, entry.seq) && entry.name.as_slice() == name.as_slice()
+}
+
+/// Whether an entry that is not one of these numbers has this name.
+pub(crate) fn is_name_kept(entries: &[Entry], seqs: &[u32], name: &Name) -> bool
+    requires { Rise 0 seqs.now }
+    ensures { result ≡ stays_named name.now.items seqs.now (map case_of entries.now) }
+{
+    let mut is_kept = false;
+    for entry in entries {
+        is_kept = is_kept || stays_so_named(entry, seqs, name);
+    }
+    is_kept
 }

@@ -1,3 +1,4 @@
 pub mod StayLemmas
 pub mod RisingLemmas
 pub mod KindLemmas
+mod OneLemmas

@@ -70,3 +70,8 @@ pub record IsDecision (policy : Policy) (cases : List Brief) (dropped : List ℕ
   pub fewer_fail : (n : ℕ) → n < count → holds_after policy cases n ≡ false
   pub unmet_is : unmet ≡ not (holds_after policy cases count)
   pub all_where_unmet : unmet ≡ true → count ≡ spare_count policy cases
+
+-- Two decisions by one policy for the same cases drop the same.
+abbrev pub IsOneDecision : Type 0
+IsOneDecision = (policy : Policy) (cases : List Brief) (dropped dropped' : List ℕ) (unmet unmet' : Bool)
+    → IsDecision policy cases dropped unmet → IsDecision policy cases dropped' unmet' → dropped ≡ dropped'

@@ -1,6 +1,6 @@
 //! What the words of the rule mean.
 ghost use Rattle.std.specs.Prelude.{◌≡◌, ℕ, List, [], take, drop, filter};
-ghost use Rattle.retention.specs.Rule.{is_pinned, is_old, is_spare, goes, stays};
+ghost use Rattle.retention.specs.Rule.{is_pinned, is_old, is_spare, goes, stays, IsOneDecision};
 ghost use Rattle.retention.specs.declared.Brief.{Brief};
 ghost use Rattle.retention.specs.declared.Policy.{Policy};
 
@@ -19,4 +19,9 @@ pub fn what_goes_and_what_stays()
         → filter (is_spare policy) (stays policy n cases) ≡ drop n (filter (is_spare policy) cases) }
     ensures pinned_stay { (policy : Policy) (n : ℕ) (cases : List Brief)
         → filter is_pinned (stays policy n cases) ≡ filter is_pinned cases }
+{}
+
+/// The rule says one thing: two decisions by one policy for the same cases drop the same.
+pub fn a_decision_is_one()
+    ensures { IsOneDecision }
 {}

@@ -4,7 +4,7 @@
 mod laws;
 mod rule;
 
-pub use laws::what_goes_and_what_stays;
+pub use laws::{a_decision_is_one, what_goes_and_what_stays};
 pub use rule::decide;
 
 /// What the rule looks at of a case.

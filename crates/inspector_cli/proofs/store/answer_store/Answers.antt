@@ -1,13 +1,12 @@
 use Rattle.std.proofs.Common.{Bool, subst}
-use Rattle.script_lines.specs.Said.{said}
+use Rattle.stream_names.specs.Commands.{stream_found}
 use Rattle.inspector_cli.specs.Reply.{Begins}
-use Rattle.inspector_cli.specs.Storing.{first_stream}
 use Rattle.inspector_cli.proofs.StoreLemmas.{stores, stores_none}
 use Rattle.inspector_cli.proofs.store.answer_store.Goals as goal
 
 pub returns-then-not-is_begun : goal.returns-then-not-is_begun
 returns-then-not-is_begun g c =
-    stores_none g.D.Disk c.args.naming.now (g.I.Input.remaining c.args.file.now) (g.I.Input.failures c.args.file.now)
+    stores_none g.D.Disk (stream_found c.args.found) (g.I.Input.remaining c.args.file.now) (g.I.Input.failures c.args.file.now)
     (record {
       taken = g.O.Output.taken c.args.output.now;
       taken' = g.O.Output.taken c.answer_first-is_begun.new.output;
@@ -16,25 +15,25 @@ returns-then-not-is_begun g c =
       reply = c.args.reply.now;
       reply' = c.answer_first-is_begun.new.reply;
     })
-    c.args.archive.now c.answer_first-is_begun.new.archive c.args.line.now
+    c.args.archive.now c.answer_first-is_begun.new.archive
     (let first = c.answer_first-is_begun.ensures.first in (
       first.0,
-      subst (λ (b : Bool). Begins g.D.Disk c.args.archive.now 0 (first_stream c.args.naming.now (said c.args.line.now)) first.0 c.answer_first-is_begun.new.archive b)
+      subst (λ (b : Bool). Begins g.D.Disk c.args.archive.now 0 (stream_found c.args.found) first.0 c.answer_first-is_begun.new.archive b)
           c.if-not-is_begun.true first.1,
       first.2,
     ))
 
 pub returns : goal.returns
 returns g c =
-    stores g.D.Disk c.args.naming.now (g.I.Input.remaining c.args.file.now) (g.I.Input.remaining c.answer_file.new.file)
+    stores g.D.Disk (stream_found c.args.found) (g.I.Input.remaining c.args.file.now) (g.I.Input.remaining c.answer_file.new.file)
     (g.I.Input.failures c.args.file.now) (g.I.Input.failures c.answer_file.new.file)
     (g.O.Output.taken c.args.output.now) (g.O.Output.taken c.answer_first-is_begun.new.output) (g.O.Output.taken c.answer_file.new.output)
     (g.O.Output.failures c.args.output.now) (g.O.Output.failures c.answer_first-is_begun.new.output) (g.O.Output.failures c.answer_file.new.output)
     c.args.reply.now c.answer_first-is_begun.new.reply c.answer_file.new.reply
-    c.args.archive.now c.answer_first-is_begun.new.archive c.answer_file.new.archive c.args.line.now c.answer_file.result
+    c.args.archive.now c.answer_first-is_begun.new.archive c.answer_file.new.archive c.answer_file.result
     (let first = c.answer_first-is_begun.ensures.first in (
       first.0,
-      subst (λ (b : Bool). Begins g.D.Disk c.args.archive.now 0 (first_stream c.args.naming.now (said c.args.line.now)) first.0 c.answer_first-is_begun.new.archive b)
+      subst (λ (b : Bool). Begins g.D.Disk c.args.archive.now 0 (stream_found c.args.found) first.0 c.answer_first-is_begun.new.archive b)
           c.if-not-is_begun.false first.1,
       first.2,
     ))
