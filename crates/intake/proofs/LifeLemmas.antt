@@ -7,7 +7,7 @@ use Rattle.intake.specs.Durable.{Durable, FoundCase, StandsFor}
 use Rattle.intake.specs.Calls.{OpenCall, FinishCall}
 use Rattle.intake.specs.Opened.{disk_in}
 use Rattle.journal_layout.specs.declared.faults.OpenFault.{OpenFault}
-use Rattle.intake.specs.Lives.{Life, IsLived, IsAmong, IsReached, IsFollowed, IsTried, AreTried, Attempt, Restarts, disk_after, HoldsCase, AllHoldCase, AreLived, AreKept, last_acknowledged}
+use Rattle.intake.specs.Lives.{Life, IsLived, IsMadeAnew, IsLeftBy, IsAmong, IsReached, IsFollowed, IsTried, AreTried, Attempt, Restarts, disk_after, HoldsCase, AllHoldCase, AreLived, AreKept, last_acknowledged}
 use Rattle.intake.specs.Marks.{Mark, IsOneOf, Has, IsMarkSettled, FindsOne, HasOne, IsRunOfMarks, last_of, mark_of}
 use Rattle.intake.specs.Parts.{Parts, state_of}
 use Rattle.intake.specs.State.{ArchiveState}
@@ -51,8 +51,13 @@ module _ {D : Type 0} (g : disk.Ghosts D) (counts : (d : D) (t : ℕ) (c : List 
   tried_restarts left d t starts tried =
       ⊎_elim
       (λ back. subst (Restarts g left) (sym back.1) (opened_restarts left d t.limit t.answer starts tried.0))
-      (λ stop. subst (λ (b : List ℕ). Restarts g b t.next) (starts.settled stop.0 ((tried.0.any_moment starts.honest).each stop.0 stop.1)) stop.2)
+      (⊎_elim
+      (λ anew. again anew.left (counts (disk_in t.answer) (g.clock d) anew.left (tried.0.any_moment starts.honest).later anew.may) anew.restarts)
+      (λ stop. again stop.0 stop.1 stop.2))
       tried.1
+    where
+      again : (was : List ℕ) → g.left_since (disk_in t.answer) (g.clock d) was → Restarts g was t.next → Restarts g left t.next
+      again was since restarts = subst (λ (b : List ℕ). Restarts g b t.next) (starts.settled was ((tried.0.any_moment starts.honest).each was since)) restarts
 
   all_restart : (left : List ℕ) (d : D) (ts : List (Attempt D)) → Restarts g left d → AreTried g d ts → Restarts g left (disk_after d ts)
   all_restart left d [] starts tried = starts
@@ -80,12 +85,26 @@ module _ {D : Type 0} (g : disk.Ghosts D) (counts : (d : D) (t : ℕ) (c : List 
       let end = run_settled l.first l.acknowledged lived.honest lived.settled lived.before in
       found_has (last_acknowledged l) l.later left x end.0 end.1 lived.after was stands
 
+  -- time goes on in a run
+  later_clock : (m : Mark D) (ns : List (Mark D)) → IsTrue (g.is_honest m.disk) → IsRunOfMarks g m ns → g.clock m.disk ≤ g.clock (last_of m ns).disk
+  later_clock m [] honest run = omega arith
+  later_clock m (n ∷ ns) honest run =
+      let now = (run.0.crash honest).later in
+      let rest = later_clock n ns (run.0.honesty ∙ honest) run.1 in
+      omega (arith, now, rest)
+
+  pub left_by_a_stop : (l : Life D) (left : List ℕ) → IsLived g l → IsLeftBy g l left → g.left_since (last_of (last_acknowledged l) l.later).disk (g.clock (last_acknowledged l).disk) left
+  left_by_a_stop l left lived ends =
+      let end = run_settled l.first l.acknowledged lived.honest lived.settled lived.before in
+      ⊎_elim (λ stop. stop) (λ may. counts (last_of (last_acknowledged l) l.later).disk (g.clock (last_acknowledged l).disk) left (later_clock (last_acknowledged l) l.later end.0 lived.after) may) ends
+
   pub kept : (l : Life D) (ls : List (Life D)) → AreLived g l ls → AreKept l ls
   kept l [] lived = tt
   kept l (n ∷ ns) lived =
       let end = run_settled l.first l.acknowledged lived.0.honest lived.0.settled lived.0.before in
-      let some = one_stands_for (last_acknowledged l) l.later lived.1.left (found_from g only (last_acknowledged l) l.later end.0 end.1 lived.0.after lived.1.left lived.1.stop) in
-      (subst (HasOne (last_acknowledged l) l.later) (sym (begins g counts l n lived.1 some.0 some.1)) (found_has (last_acknowledged l) l.later lived.1.left some.0 end.0 end.1 lived.0.after lived.1.stop some.1), kept n ns lived.2)
+      let stop = left_by_a_stop l lived.1.left lived.0 lived.1.ends in
+      let some = one_stands_for (last_acknowledged l) l.later lived.1.left (found_from g only (last_acknowledged l) l.later end.0 end.1 lived.0.after lived.1.left stop) in
+      (subst (HasOne (last_acknowledged l) l.later) (sym (begins g counts l n lived.1 some.0 some.1)) (found_has (last_acknowledged l) l.later lived.1.left some.0 end.0 end.1 lived.0.after stop some.1), kept n ns lived.2)
 
   all_hold : (c : FoundCase) (xs : List Durable) (x : Durable) → AllByRecursion (λ (y : Durable). IsAmong y.cases c) xs → IsOneOf xs x → IsAmong x.cases c
   all_hold c [] x all one = absurd one

@@ -34,18 +34,26 @@ pub record Restarts {D : Type 0} (g : disk.Ghosts D) (left : List ℕ) (d : D) :
   pub seen : g.seen d ≡ left
   pub settled : Only left (g.may_leave d)
 
+-- A disk that is made anew from the file of another one, which may have failed. The operating system may keep in memory what
+-- the device never got. When the file is opened, what still waits is made durable and the rest is read from the device. So reads
+-- give one of the lists that a crash at the other disk's end could leave, and until something is written a crash leaves that.
+pub record IsMadeAnew {D : Type 0} (g : disk.Ghosts D) (old new : D) : Type 0 where
+  pub left : List ℕ
+  pub may : g.may_leave old left
+  pub restarts : Restarts g left new
+
 -- An opening that began no life: what it answered, and the disk that the next one is tried on.
 pub record Attempt (D : Type 0) : Type 0 where
   pub limit : ℕ
   pub answer : Result (Parts D) (OpenFault × D)
   pub next : D
 
--- It was refused, and the next one is tried on the disk that it handed back; or the machine stopped within it or behind it, and
--- the disk restarts.
+-- It was refused, and the next one is tried on the disk that it handed back; or on a disk that is made anew from its file; or the
+-- machine stopped within it or behind it, and the disk restarts.
 abbrev pub IsTried : {D : Type 0} → disk.Ghosts D → D → Attempt D → Type 0
 IsTried g d t =
     OpenCall g t.limit d t.answer
-    × ((IsErr t.answer × (t.next ≡ disk_in t.answer)) ⊎ ((left : List ℕ) × g.left_since (disk_in t.answer) (g.clock d) left × Restarts g left t.next))
+    × ((IsErr t.answer × (t.next ≡ disk_in t.answer)) ⊎ IsMadeAnew g (disk_in t.answer) t.next ⊎ ((left : List ℕ) × g.left_since (disk_in t.answer) (g.clock d) left × Restarts g left t.next))
 
 abbrev pub AreTried : {D : Type 0} → disk.Ghosts D → D → List (Attempt D) → Type 0
 AreTried g d [] = Unit {0}
@@ -56,11 +64,17 @@ abbrev pub disk_after : {D : Type 0} → D → List (Attempt D) → D
 disk_after d [] = d
 disk_after d (t ∷ ts) = disk_after t.next ts
 
--- The machine stops at any moment since the last acknowledgement. Openings may fail then, and stops within openings, as many as
+-- What is left of a life: the machine stops at any moment since the last acknowledgement; or the process ends, after a disk
+-- fault too, and what reads give of its file when it is opened next is one of the lists that a crash then could leave.
+abbrev pub IsLeftBy : {D : Type 0} → disk.Ghosts D → Life D → List ℕ → Type 0
+IsLeftBy g l left =
+    g.left_since (last_of (last_acknowledged l) l.later).disk (g.clock (last_acknowledged l).disk) left ⊎ g.may_leave (last_of (last_acknowledged l) l.later).disk left
+
+-- The machine stops, or the process ends. Openings may fail then, and stops within openings, as many as
 -- there are; the next life begins with the archive that an opening answers at last, and nothing is in doubt there.
 pub record IsFollowed {D : Type 0} (g : disk.Ghosts D) (l next : Life D) : Type 0 where
   pub left : List ℕ
-  pub stop : g.left_since (last_of (last_acknowledged l) l.later).disk (g.clock (last_acknowledged l).disk) left
+  pub ends : IsLeftBy g l left
   pub disk : D
   pub restarts : Restarts g left disk
   pub attempts : List (Attempt D)
@@ -78,6 +92,10 @@ AreLived g l (n ∷ ns) = IsLived g l × IsFollowed g l n × AreLived g n ns
 abbrev pub AreKept : {D : Type 0} → Life D → List (Life D) → Type 0
 AreKept l [] = Unit {0}
 AreKept l (n ∷ ns) = HasOne (last_acknowledged l) l.later n.first.durable × AreKept n ns
+
+-- A process that ends without a stop of the machine leaves nothing that a stop could not have left.
+abbrev pub AReopeningIsAStop : {D : Type 0} → disk.Ghosts D → Type 0
+AReopeningIsAStop {D} g = (l : Life D) (left : List ℕ) → IsLived g l → IsLeftBy g l left → g.left_since (last_of (last_acknowledged l) l.later).disk (g.clock (last_acknowledged l).disk) left
 
 -- Whatever bytes a stop leaves of a life, what they stand for is what its last acknowledged mark has, or a later one.
 abbrev pub KeptOverAStop : {D : Type 0} → disk.Ghosts D → Type 0

@@ -3,7 +3,7 @@ ghost use Rattle.std.specs.Prelude.{◌≡◌};
 ghost use Rattle.intake.specs.Durable.{durable_of, durable_part};
 ghost use Rattle.intake.specs.Lasting.{WhatStandsIsOne, NumbersAreAbove, ImagesAreWhole, LabelsAreOfVersionTwo, RunsAreTheFewest};
 ghost use Rattle.intake.specs.Lasts.{FinishLasts, DeleteLasts, PinLasts, LabelLasts, UpgradeLasts, RetireLasts, RefusalsLast, AnUpgradeLeavesTheCases};
-ghost use Rattle.intake.specs.Lives.{KeptOverAStop, KeptOverManyStops, ACaseIsFound, NumbersStayGiven, NumbersAreGivenOnce, WhatIsClosedIsFound};
+ghost use Rattle.intake.specs.Lives.{AReopeningIsAStop, KeptOverAStop, KeptOverManyStops, ACaseIsFound, NumbersStayGiven, NumbersAreGivenOnce, WhatIsClosedIsFound};
 ghost use Rattle.intake.specs.Making.{CallsAreMarks, AnImageIsWhatWasTaken, AnImageIsAnsweredAsItWasTaken};
 ghost use Rattle.intake.specs.Marks.{FoundAfterAStop, NothingElseIsLeft, StaysLead, FinishLeads, DeleteLeads, PinLeads, LabelLeads, UpgradeLeads, RetireLeads};
 ghost use Rattle.intake.specs.Parts.{Parts, state_of, contents_of};
@@ -110,7 +110,14 @@ pub fn what_is_closed_is_found<D: Disk>()
     ensures { WhatIsClosedIsFound D.Disk }
 {}
 
-/// Crash safety over many stops: each life of an archive begins with what the last acknowledged mark of the life before has, or
+/// A process that ends without a stop of the machine, after a disk fault too, leaves nothing that a stop could not have left:
+/// what the next one reads is one of the lists that a crash then could leave, since a file is opened as its device has it
+/// (`FileDisk`). So what the laws say of stops holds of it.
+pub fn a_reopening_is_a_stop<D: Disk>()
+    ensures { AReopeningIsAStop D.Disk }
+{}
+
+/// Crash safety over many stops and reopenings: each life of an archive begins with what the last acknowledged mark of the life before has, or
 /// a later one, however many openings fail between, and however often the machine stops within one.
 pub fn kept_over_many_stops<D: Disk>()
     ensures one { KeptOverAStop D.Disk }
