@@ -8,6 +8,14 @@
    ZERO                 it takes or gives no byte, and does not fail
    KILL                 the process is killed before the call
    TEAR                 it takes half of its bytes, and the process is killed
+   LOST                 it fails as EIO, and what it was to make durable is lost (fsync, with FAULT_DEVICE)
+
+   With FAULT_DEVICE the archive's file is what Linux has of it in memory, and the file of that name is what its device has. A
+   page of 4,096 bytes that is written is dirty: the byte of its number in the file FAULT_DEVICE.dirty is 1. An fsync copies the
+   dirty pages to the device and makes them clean. Where it is LOST, it makes them clean and copies none, as Linux does where a
+   page can't be written. Where there is a file FAULT_DEVICE.error, one fsync fails and takes that file away, as where writing
+   failed between two processes. posix_fadvise with POSIX_FADV_DONTNEED copies the clean pages of its range back from the
+   device, unless there is FAULT_KEEPS.
 
    With FAULT_READS a read of standard input gives at most so many bytes, so that a script comes in many reads, and its
    replies go in many writes.
@@ -21,12 +29,16 @@
 #include <fcntl.h>
 #include <signal.h>
 #include <stdint.h>
+#include <stdio.h>
 #include <stdlib.h>
 #include <string.h>
+#include <sys/stat.h>
 #include <sys/types.h>
 #include <unistd.h>
 
-enum kind { NONE, FAILS, SHORT, ONES, ZERO, KILL, TEAR };
+enum kind { NONE, FAILS, SHORT, ONES, ZERO, KILL, TEAR, LOST };
+
+enum { PAGE = 4096 };
 
 struct fault {
     enum kind kind;
@@ -48,6 +60,7 @@ typedef ssize_t (*write_type)(int, const void *, size_t);
 typedef ssize_t (*pread_type)(int, void *, size_t, off_t);
 typedef ssize_t (*pwrite_type)(int, const void *, size_t, off_t);
 typedef int (*fsync_type)(int);
+typedef int (*advise_type)(int, off_t, off_t, int);
 
 static void read_settings(void) {
     const char *reads = getenv("FAULT_READS"), *path = getenv("FAULT_TRACE");
@@ -72,6 +85,7 @@ static void read_fault(void) {
                  : begins(text, "ZERO:") ? ZERO
                  : begins(text, "KILL:") ? KILL
                  : begins(text, "TEAR:") ? TEAR
+                 : begins(text, "LOST:") ? LOST
                                          : FAILS;
     fault.error = begins(text, "EIO:") ? EIO : begins(text, "EINTR:") ? EINTR : ENOSPC;
     if ((size_t)(second - first - 1) < sizeof fault.call)
@@ -128,6 +142,96 @@ static void tell(char kind, off_t at, ssize_t size, const void *bytes) {
         abort();
 }
 
+static int is_regular(int file) {
+    struct stat about;
+    return !fstat(file, &about) && S_ISREG(about.st_mode);
+}
+
+/* A file beside the device's, or the device's own. */
+static int open_beside(const char *suffix, int flags) {
+    char path[4096];
+    if (snprintf(path, sizeof path, "%s%s", getenv("FAULT_DEVICE"), suffix) >= (int)sizeof path)
+        abort();
+    return open(path, flags | O_CLOEXEC, 0600);
+}
+
+/* Copies a page of one file to the other, as far as there is one. */
+static void copy_page(int from, int to, off_t page) {
+    REAL(pread_type, "pread64");
+    char bytes[PAGE];
+    ssize_t size = real(from, bytes, PAGE, page * PAGE);
+    pwrite_type put = (pwrite_type)dlsym(RTLD_NEXT, "pwrite64");
+    if (size < 0 || put(to, bytes, (size_t)size, page * PAGE) != size)
+        abort();
+}
+
+/* Makes the pages dirty that a write has changed. */
+static void dirty(off_t at, ssize_t size) {
+    REAL(pwrite_type, "pwrite64");
+    int pages;
+    off_t page;
+    if (!getenv("FAULT_DEVICE") || size <= 0)
+        return;
+    pages = open_beside(".dirty", O_RDWR | O_CREAT);
+    for (page = at / PAGE; page <= (at + size - 1) / PAGE; page++)
+        if (real(pages, "\1", 1, page) != 1)
+            abort();
+    close(pages);
+}
+
+/* Goes over the pages of the archive's file. The dirty ones are made clean, and copied to the device unless they are lost; or,
+   of the pages from one to another, the clean ones are copied back from the device. */
+static void settle(int file, int is_lost, int is_back, off_t from, off_t to) {
+    REAL(pread_type, "pread64");
+    pwrite_type put = (pwrite_type)dlsym(RTLD_NEXT, "pwrite64");
+    struct stat about;
+    int device = open_beside("", O_RDWR | O_CREAT), pages = open_beside(".dirty", O_RDWR | O_CREAT);
+    off_t page;
+    if (fstat(file, &about) || ftruncate(device, about.st_size))
+        abort();
+    for (page = from; page < to && page * PAGE < about.st_size; page++) {
+        char is_dirty = 0;
+        real(pages, &is_dirty, 1, page);
+        if (is_back && !is_dirty)
+            copy_page(device, file, page);
+        if (is_back || !is_dirty)
+            continue;
+        if (!is_lost)
+            copy_page(file, device, page);
+        put(pages, "", 1, page);
+    }
+    close(device);
+    close(pages);
+}
+
+/* What an fsync of the archive's file does. */
+static int sync_pages(int file, int is_lost) {
+    int error = open_beside(".error", O_RDONLY);
+    char path[4096];
+    settle(file, is_lost, 0, 0, INT32_MAX);
+    if (error >= 0) {
+        close(error);
+        snprintf(path, sizeof path, "%s.error", getenv("FAULT_DEVICE"));
+        unlink(path);
+        is_lost = 1;
+    }
+    errno = EIO;
+    return is_lost ? -1 : 0;
+}
+
+int posix_fadvise64(int file, off_t at, off_t size, int advice) {
+    REAL(advise_type, "posix_fadvise64");
+    if (!getenv("FAULT_DEVICE"))
+        return real(file, at, size, advice);
+    if (advice == POSIX_FADV_DONTNEED && !getenv("FAULT_KEEPS"))
+        settle(file, 0, 1, (at + PAGE - 1) / PAGE, size ? (at + size) / PAGE : INT32_MAX);
+    return 0;
+}
+
+int posix_fadvise(int file, off_t at, off_t size, int advice) {
+    return posix_fadvise64(file, at, size, advice);
+}
+
 ssize_t read(int file, void *into, size_t size) {
     REAL(read_type, "read");
     int met = is_met("read");
@@ -169,6 +273,7 @@ ssize_t pwrite64(int file, const void *from, size_t size, off_t at) {
         return failed();
     done = real(file, from, met ? moved(size) : size, at);
     tell('W', at, done, from);
+    dirty(at, done);
     return met ? torn(done) : done;
 }
 
@@ -179,8 +284,11 @@ ssize_t pwrite(int file, const void *from, size_t size, off_t at) {
 int fsync(int file) {
     int done;
     REAL(fsync_type, "fsync");
-    if (is_met("fsync") && fault.kind == FAILS)
+    int met = is_met("fsync");
+    if (met && fault.kind == FAILS)
         return (int)failed();
+    if (getenv("FAULT_DEVICE") && is_regular(file))
+        return sync_pages(file, met && fault.kind == LOST);
     done = real(file);
     tell('S', 0, done, "");
     return done;

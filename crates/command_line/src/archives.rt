@@ -7,7 +7,7 @@ use intake::{Archive, Settings};
 use journal_layout::Shape;
 use std::alloc::Global;
 use std::fs;
-use std::fs::{File, TryLockError};
+use std::fs::{File, Metadata, TryLockError};
 use std::os::unix::fs::MetadataExt;
 use std::rt::Files;
 
@@ -83,13 +83,14 @@ fn disk_of<R: AllocGlobal + Files<File = File>>(
     }
 }
 
-// Opens the file and takes its lock. While it waited, another file may have been put in its place: then it begins again.
+// Opens the file and takes its lock. Opening a pipe could wait for ever, so what is no regular file is refused before. While it waited, another file may have been put in its place: then it begins again.
 fn take_file<R: Files<File = File>>(
     rt: &R,
     place: Place<'_>,
     access: Access,
 ) -> Result<File, FileFault> {
     for _ in 0..MOST_TRIES {
+        look_at_file(rt, place.path)?;
         let file = open_file(rt, place.path, access)?;
         lock(&file, place.waits, access)?;
         if is_named(rt, place.path, &file)? {
@@ -97,6 +98,35 @@ fn take_file<R: Files<File = File>>(
         }
     }
     Err(FileFault::Busy)
+}
+
+// Refuses a path that names neither a regular file nor a folder, which is refused once it is open.
+fn look_at_file<R: Files<File = File>>(rt: &R, path: &str) -> Result<(), FileFault> {
+    let named = fs::metadata(rt, path)?;
+    if named.is_file() || named.is_dir() {
+        Ok(())
+    } else {
+        Err(FileFault::Special)
+    }
+}
+
+// Whether one of the words names the file that standard output goes to. What the program tells would be written over it.
+pub(crate) fn names_output<R: Files<File = File>>(rt: &R, words: &[String]) -> bool {
+    match fs::metadata(rt, "/dev/stdout") {
+        Ok(output) if output.is_file() => words.iter().any(|word| names(rt, word, &output)),
+        _ => false,
+    }
+}
+
+fn names<R: Files<File = File>>(rt: &R, path: &str, file: &Metadata) -> bool {
+    match fs::metadata(rt, path) {
+        Ok(named) => is_same(&named, file),
+        Err(_) => false,
+    }
+}
+
+fn is_same(one: &Metadata, other: &Metadata) -> bool {
+    one.dev() == other.dev() && one.ino() == other.ino()
 }
 
 fn open_file<R: Files<File = File>>(rt: &R, path: &str, access: Access) -> Result<File, FileFault> {
@@ -132,7 +162,7 @@ fn wait_for_lock(file: &File, access: Access) -> Result<(), FileFault> {
 fn is_named<R: Files<File = File>>(rt: &R, path: &str, file: &File) -> Result<bool, FileFault> {
     let named = fs::metadata(rt, path)?;
     let opened = file.metadata()?;
-    Ok(named.dev() == opened.dev() && named.ino() == opened.ino())
+    Ok(is_same(&named, &opened))
 }
 
 // Opens the archive on a disk for the sake of what is wrong with it.

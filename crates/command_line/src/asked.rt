@@ -1,6 +1,6 @@
 // What the words ask for.
 use crate::archives::NewArchive;
-use crate::failures::{Failure, Refusal};
+use crate::failures::{Failure, Part, Refusal};
 use crate::grammar::program;
 use crate::raw_words::{is_text, push_escaped};
 use clap::ArgMatches;
@@ -126,10 +126,14 @@ fn text_of<'a>(found: &ArgMatches<'a>, id: &str) -> Result<&'a str, Refusal> {
 
 // A word that has to be text.
 fn checked<'a>(word: &'a str) -> Result<&'a str, Refusal> {
+    checked_part(word, Part::Other)
+}
+
+fn checked_part<'a>(word: &'a str, part: Part) -> Result<&'a str, Refusal> {
     if is_text(word) {
         Ok(word)
     } else {
-        Err(Refusal::NotUtf8)
+        Err(Refusal::NotUtf8(part))
     }
 }
 
@@ -269,7 +273,7 @@ fn push_value(line: &mut Vec<u8>, value: &str, escapes: bool) -> Result<(), Refu
     if escapes {
         push_escaped(line, value)?;
     } else {
-        push_text(line, checked(value)?)?;
+        push_text(line, checked_part(value, Part::Value)?)?;
     }
     Ok(())
 }

@@ -8,7 +8,7 @@ use inspector_cli::{CopyFault, ImageFault, LifeFault, MemoryFault, SessionFault,
 use intake::ArchiveFault;
 use journal_layout::{BadShape, OpenFault};
 use name_template::TemplateFault;
-use script_streams::{Output, Reply};
+use script_streams::{Output, Reply, StreamFault};
 use std::alloc::{AllocError, Global};
 
 // Why the program did not do what its words ask for.
@@ -33,6 +33,15 @@ pub(crate) enum Word {
     File,
 }
 
+// Which part of the command line is not UTF-8.
+#[derive(Clone, Copy, Debug, PartialEq, Eq)]
+pub(crate) enum Part {
+    // The VALUE of a pair, or NAME: `--escape` takes its bytes as they are.
+    Value,
+    // Any other word.
+    Other,
+}
+
 // What a line `no REASON` tells.
 #[derive(Clone, Copy, Debug, PartialEq, Eq)]
 pub(crate) enum Refusal {
@@ -46,8 +55,12 @@ pub(crate) enum Refusal {
     BadShape,
     // The file that a word names could not be made, opened or locked.
     File(Word, FileFault),
+    // Standard output goes to a file that a word names.
+    Output,
+    // A line of over 1,024 bytes.
+    LineTooLong,
     // A word is not UTF-8.
-    NotUtf8,
+    NotUtf8(Part),
     // There was no memory.
     OutOfMemory,
     // The disk failed while the archive was made.
@@ -194,18 +207,19 @@ fn tell_words<O: Output, E: Output>(
         return tell_refusal(Refusal::OutOfMemory, output);
     };
     if error.use_stderr() {
-        tell_text(errors, text.as_bytes());
-        2
-    } else {
-        tell_text(output, text.as_bytes());
-        0
+        let _ = tell_text(errors, text.as_bytes());
+        return 2;
+    }
+    match tell_text(output, text.as_bytes()) {
+        Ok(()) => 0,
+        Err(_) => 1,
     }
 }
 
-fn tell_text<O: Output>(output: &mut O, text: &[u8]) {
+fn tell_text<O: Output>(output: &mut O, text: &[u8]) -> Result<(), StreamFault> {
     let mut reply = Reply::new();
     reply.tell(output, text);
-    let _ = reply.finish(output);
+    reply.finish(output)
 }
 
 // Tells people what a reason for scripts leaves open.
@@ -213,15 +227,21 @@ fn tell_in_words<E: Output>(alloc: Global, refusal: Refusal, errors: &mut E) {
     let text = match refusal {
         Refusal::File(Word::Archive, fault) => format!(in alloc; "corekeep: ARCHIVE: {fault}\n"),
         Refusal::File(Word::File, fault) => format!(in alloc; "corekeep: FILE: {fault}\n"),
-        Refusal::NotUtf8 => format!(in alloc;
-            "corekeep: a word is not UTF-8; with --escape such bytes may stand in the VALUE of a pair and in NAME\n"
+        Refusal::Output => format!(in alloc;
+            "corekeep: standard output goes to a file that the command names, and would overwrite it\n"
+        ),
+        Refusal::NotUtf8(Part::Value) => format!(in alloc;
+            "corekeep: the VALUE of a pair, or NAME, is not UTF-8: --escape takes its bytes as they are\n"
+        ),
+        Refusal::NotUtf8(Part::Other) => format!(in alloc;
+            "corekeep: a word is not UTF-8: name the file otherwise, or write such bytes of a line as \\xHH\n"
         ),
         _ => return,
     };
     let Ok(text) = text else {
         return;
     };
-    tell_text(errors, text.as_bytes());
+    let _ = tell_text(errors, text.as_bytes());
 }
 
 // Tells what is refused.
@@ -237,8 +257,10 @@ fn tell_refusal<O: Output>(refusal: Refusal, output: &mut O) -> u8
         Refusal::BadShape => reply.tell(output, b"BadShape"),
         Refusal::File(_, FileFault::Busy) => reply.tell(output, b"Busy"),
         Refusal::File(_, FileFault::OutOfMemory) => reply.tell(output, b"OutOfMemory"),
-        Refusal::File(_, _) => reply.tell(output, b"File"),
-        Refusal::NotUtf8 => reply.tell(output, b"NotUtf8"),
+        Refusal::File(_, FileFault::Settle) => reply.tell(output, b"Disk"),
+        Refusal::File(_, _) | Refusal::Output => reply.tell(output, b"File"),
+        Refusal::LineTooLong => reply.tell(output, b"LineTooLong"),
+        Refusal::NotUtf8(_) => reply.tell(output, b"NotUtf8"),
         Refusal::OutOfMemory => reply.tell(output, b"OutOfMemory"),
         Refusal::Disk => reply.tell(output, b"Disk"),
         Refusal::Open(fault) => tell_open_fault(&mut reply, output, fault),

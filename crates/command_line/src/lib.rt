@@ -5,6 +5,7 @@ mod archives;
 mod asked;
 mod failures;
 mod grammar;
+mod held;
 mod raw_words;
 mod single;
 mod tables;

@@ -2,6 +2,7 @@
 use crate::archives::{Access, take_disk};
 use crate::asked::Place;
 use crate::failures::{Failure, Refusal, Word};
+use crate::held::Held;
 use disk_model::{Disk, FileFault};
 use inspector_cli::{
     Naming, SessionFault, copy_image, is_question, only_looks, open_and_run, read_image,
@@ -9,13 +10,16 @@ use inspector_cli::{
 };
 use intake::Settings;
 use name_template::Template;
-use script_streams::{Output, ReadInput, Reply, WriteOutput};
+use script_streams::{Output, ReadInput, WriteOutput};
 use script_words::parse_case_number;
 use std::alloc::Global;
 use std::fs;
 use std::fs::{File, Permissions};
 use std::os::unix::fs::{OpenOptionsExt, PermissionsExt};
 use std::rt::Files;
+
+// The most bytes of a line of a script.
+const LONGEST_LINE: usize = 1024;
 
 // Its owner may read and write a file, and nobody else.
 const OWNER_ALONE: u32 = 0o600;
@@ -130,6 +134,9 @@ pub(crate) fn ask<R: AllocGlobal + Files<File = File>, O: Output>(
     line: Vec<u8>,
     output: &mut O,
 ) -> Result<(), Failure> {
+    if line.len() > LONGEST_LINE {
+        return Err(Failure::Refused(Refusal::LineTooLong));
+    }
     if !is_question(&line) {
         return Err(Failure::Refused(Refusal::BadLine));
     }
@@ -141,7 +148,8 @@ pub(crate) fn ask<R: AllocGlobal + Files<File = File>, O: Output>(
     }
 }
 
-// Carries out one line of a script over the archive on a disk, and writes its reply. Says whether it was accepted.
+// Carries out one line of a script over the archive on a disk, and writes its reply once the disk is let go. Says whether it
+// was accepted.
 pub(crate) fn tell_answer<D: Disk + Drop, O: Output>(
     alloc: Global,
     disk: D,
@@ -151,14 +159,15 @@ pub(crate) fn tell_answer<D: Disk + Drop, O: Output>(
     let mut script = line;
     script.extend_from_slice(b"\n")?;
     let naming = no_naming()?;
-    let mut text = Vec::new(alloc);
-    let mut replies = WriteOutput::new(&mut text);
+    let mut replies = Held::new(alloc, output);
     let mut input = ReadInput::new(script.as_slice());
     let settings = Settings { limit: 0 };
     let (ended, _) = open_and_run(alloc, disk, settings, &naming, &mut input, &mut replies);
     ended?;
-    write_text(&text, output)?;
-    Ok(!is_refused(&text))
+    match replies.finish() {
+        Ok(is_accepted) => Ok(is_accepted),
+        Err(_) => Err(Failure::Faulted(SessionFault::WriteFailed)),
+    }
 }
 
 // A line that changes nothing needs no right to write the archive's file.
@@ -177,20 +186,4 @@ fn no_naming() -> Result<Naming, Refusal> {
         template,
         uses_pid: false,
     })
-}
-
-fn write_text<O: Output>(text: &[u8], output: &mut O) -> Result<(), Failure> {
-    let mut reply = Reply::new();
-    reply.tell(output, text);
-    match reply.finish(output) {
-        Ok(()) => Ok(()),
-        Err(_) => Err(Failure::Faulted(SessionFault::WriteFailed)),
-    }
-}
-
-// Whether the last line of a text is `no REASON`.
-fn is_refused(text: &[u8]) -> bool {
-    let lines = text.strip_suffix(b"\n").unwrap_or(text);
-    let last = lines.rsplit(|byte| *byte == b'\n').next().unwrap_or(lines);
-    last.starts_with(b"no ")
 }

@@ -1,7 +1,7 @@
 // The program: what its words ask for, and the status that it ends with.
 ghost use Rattle.std.specs.Prelude.{◌≡◌, ◌≤◌};
 
-use crate::archives::{Access, look_at, make_archive, take_disk};
+use crate::archives::{Access, look_at, make_archive, names_output, take_disk};
 use crate::asked::{Asked, Place, SessionWords, StoreLines, read_words};
 use crate::failures::{Failure, Refusal, Word, tell_failure};
 use crate::raw_words::words_of;
@@ -14,7 +14,7 @@ use name_template::Template;
 use script_streams::{Output, ReadInput};
 use std::alloc::Global;
 use std::fs::File;
-use std::io::{BufReader, Read};
+use std::io::{BufRead, BufReader, Read};
 use std::rt::{Env, Files};
 
 // How many bytes `store` asks for at a time.
@@ -84,13 +84,16 @@ pub fn run_words<R: AllocGlobal + Files<File = File>, I: Read, O: Output, E: Out
     }
 }
 
-// Does what the words ask for.
+// Does what the words ask for, unless what is told of it would overwrite a file that they name.
 fn answer_words<R: AllocGlobal + Files<File = File>, I: Read, O: Output>(
     rt: &R,
     words: &[String],
     input: &mut I,
     output: &mut O,
 ) -> Result<(), Failure> {
+    if names_output(rt, words) {
+        return Err(Failure::Aside(Refusal::Output));
+    }
     match read_words(rt.alloc(), words) {
         Ok(asked) => answer_asked(rt, asked, input, output),
         Err(failure) => Err(beside_an_image(words, failure)),
@@ -117,6 +120,7 @@ fn answer_asked<R: AllocGlobal + Files<File = File>, I: Read, O: Output>(
             let naming = naming_of(settings)?;
             let stored = Stored {
                 archive,
+                room: &lines.room,
                 lines: &lines,
                 naming: &naming,
                 limit: settings.limit,
@@ -202,6 +206,8 @@ fn run_over<D: Disk + Drop, I: Read, O: Output>(
 #[derive(Clone, Copy)]
 struct Stored<'a> {
     archive: Place<'a>,
+    // The line that makes room first, which is empty where none is to be made.
+    room: &'a [u8],
     lines: &'a StoreLines,
     naming: &'a Naming,
     limit: u64,
@@ -223,7 +229,14 @@ fn store<R: AllocGlobal + Files<File = File>, I: Read, O: Output>(
     let opened = File::open(rt, file);
     let disk = take_disk(rt, stored.archive, Access::Changing)?;
     match opened {
-        Ok(mut file) => store_from(rt.alloc(), disk, stored, &mut file, output),
+        Ok(mut file) => {
+            let stored = if is_longer(&file, stored.limit) {
+                without_room(stored)
+            } else {
+                stored
+            };
+            store_from(rt.alloc(), disk, stored, &mut file, output)
+        }
         Err(error) => {
             look_at(rt.alloc(), disk, stored.limit)?;
             Err(Failure::Refused(Refusal::File(Word::File, FileFault::from(error))))
@@ -231,8 +244,33 @@ fn store<R: AllocGlobal + Files<File = File>, I: Read, O: Output>(
     }
 }
 
+// Whether a file is known to have more bytes than an image may.
+fn is_longer(file: &File, limit: u64) -> bool {
+    match file.metadata() {
+        Ok(attributes) => attributes.is_file() && attributes.len() > limit,
+        Err(_) => false,
+    }
+}
+
+// No room is made for what can't be stored.
+fn without_room(stored: Stored<'_>) -> Stored<'_> {
+    Stored {
+        room: &[],
+        ..stored
+    }
+}
+
+// Whether a reader's first bytes can be read, and are no more than an image may have.
+fn begins_well<I: BufRead>(input: &mut I, limit: u64) -> bool {
+    match input.fill_buf() {
+        Ok(first) => first.len() as u64 <= limit,
+        Err(_) => false,
+    }
+}
+
 // Opens the archive on a disk and stores what a reader gives. It is read ahead: the archive takes its blocks one by one, and one
-// call of the operating system gives many of them.
+// call of the operating system gives many of them. Where room is to be made, the first bytes are read before the archive is
+// changed.
 fn store_from<D: Disk + Drop, I: Read, O: Output>(
     alloc: Global,
     disk: D,
@@ -240,7 +278,14 @@ fn store_from<D: Disk + Drop, I: Read, O: Output>(
     input: &mut I,
     output: &mut O,
 ) -> Result<(), Failure> {
-    let ahead = BufReader::with_capacity(alloc, AHEAD, input).map_err(|_| Refusal::OutOfMemory)?;
+    let opened = BufReader::with_capacity(alloc, AHEAD, input);
+    let mut ahead = opened.map_err(|_| Refusal::OutOfMemory)?;
+    let is_needed = stored.room.is_empty() || begins_well(&mut ahead, stored.limit);
+    let stored = if is_needed {
+        stored
+    } else {
+        without_room(stored)
+    };
     let settings = Settings {
         limit: stored.limit,
     };
@@ -249,7 +294,7 @@ fn store_from<D: Disk + Drop, I: Read, O: Output>(
         disk,
         settings,
         stored.naming,
-        &stored.lines.room,
+        stored.room,
         &stored.lines.begin,
         &mut ReadInput::new(ahead),
         output,

@@ -2,7 +2,7 @@
 #![tactic(auto)]
 
 use command_line::run_program;
-use script_streams::WriteOutput;
+use script_streams::{Output, Reply, WriteOutput};
 use std::fs::File;
 use std::io;
 use std::process::ExitCode;
@@ -10,12 +10,31 @@ use std::rt::Files;
 
 fn main(rt: HostRuntime) -> io::Result<ExitCode> {
     // Before anything else is opened: an archive must not get the descriptor of a standard stream that is closed.
-    let _held = hold_standard_streams(&rt)?;
+    let held = hold_standard_streams(&rt);
     let mut input = rt.stdin();
     let mut output = WriteOutput::new(rt.stdout());
     let mut errors = WriteOutput::new(rt.stderr());
-    let status = run_program(&rt, &mut input, &mut output, &mut errors);
+    let status = match &held {
+        Ok(_) => run_program(&rt, &mut input, &mut output, &mut errors),
+        Err(_) => refuse_descriptors(&mut output, &mut errors),
+    };
     Ok(ExitCode::from(status))
+}
+
+// Says that the process may not open as many files as it needs. Answers the status.
+fn refuse_descriptors<O: Output, E: Output>(output: &mut O, errors: &mut E) -> u8 {
+    tell(
+        errors,
+        b"corekeep: the process may not open as many files as it needs\n",
+    );
+    tell(output, b"no File\n");
+    1
+}
+
+fn tell<O: Output>(output: &mut O, text: &[u8]) {
+    let mut reply = Reply::new();
+    reply.tell(output, text);
+    let _ = reply.finish(output);
 }
 
 // Opens the null device three times. A file gets the lowest descriptor that is free, so as long as these are there, none of

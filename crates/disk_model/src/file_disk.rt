@@ -10,6 +10,7 @@ use std::alloc::{AllocError, Global};
 use std::fs::{File, Permissions, TryLockError};
 use std::io;
 use std::io::ErrorKind;
+use std::os::fd::AsRawFd;
 use std::os::unix::fs::{FileExt, OpenOptionsExt, PermissionsExt};
 use std::path::Path;
 use std::rt::Files;
@@ -20,6 +21,11 @@ const OWNER_ALONE: u32 = 0o600;
 
 // The bytes of one write of zeros.
 const ZEROS: usize = 65_536;
+
+// How many bytes at the front of the file are read from its device when it is opened. A superblock and a journal take 32 MiB
+// and a block at most. It is a whole number of the largest pieces in which Linux keeps a file in memory (2 MiB), and the last
+// of them that can hold some of a journal ends before it: a piece that is only partly named is not dropped.
+const FRONT: i64 = 64 << 20;
 
 /// Why a disk in a file could not be made or opened.
 #[derive(Clone, Copy, Debug, PartialEq, Eq, Error)]
@@ -36,6 +42,9 @@ pub enum FileFault {
     /// It is a folder.
     #[error("it is a folder")]
     Folder,
+    /// It is neither a regular file nor a folder: a pipe, a socket or a device.
+    #[error("it is no regular file")]
+    Special,
     /// The file system is full. Only `create` and `create_sparse` answer this.
     #[error("the file system is full")]
     Full,
@@ -54,6 +63,9 @@ pub enum FileFault {
     /// Another has its lock.
     #[error("another process has the file")]
     Busy,
+    /// What its device has could not be made what reads give. Only what opens a file answers this.
+    #[error("the file could not be brought to what its device has")]
+    Settle,
     /// There is no memory for the bytes of its writes.
     #[error("there is no memory")]
     OutOfMemory,
@@ -78,6 +90,17 @@ impl From<io::Error> for FileFault {
     }
 }
 
+// What of a file's bytes its device is known to have.
+#[derive(Clone, Copy, Debug, PartialEq, Eq)]
+enum Durability {
+    // All that reads give.
+    Synced,
+    // All but what was written since the last sync.
+    Written,
+    // A sync failed. Linux then keeps what was written in memory as if it were on the device, and tells of it once.
+    Unknown,
+}
+
 /// A disk in a file, of the length that the file has when it is made or opened. As long as it is there it holds the file's
 /// advisory lock (flock(2)), so that no two disks change one file at a time: a second one, of another process or of the
 /// same, is refused as `Busy`. Disks for reading alone share a lock with one another. A process that ends in any way holds
@@ -86,6 +109,12 @@ impl From<io::Error> for FileFault {
 /// Writes that adjoin are gathered, and written as one before a write that does not adjoin, before they are too many, and
 /// before a sync. A read gives what was gathered too. A write that the file refuses is told by the call that met it, which
 /// may be a later write or a sync, and what was gathered is kept to be written again.
+///
+/// Opening a file makes what reads give what its device has. When Linux fails to write a page to the device, it keeps the
+/// page's new bytes in memory, takes them for written, and tells of it in one sync. An earlier process may have met that, or
+/// have been killed before it. So what still waits is synced, and then the pages at the front of the file, where an archive
+/// keeps its journal, are dropped from memory and read anew from the device. For the same reason no sync succeeds after one
+/// that failed: the file has to be opened again.
 ///
 /// Nothing is promised of its bytes, or of what a crash leaves of them: it is not honest by proof, so what else is
 /// proved over a disk holds of it where the file system keeps to the disk model.
@@ -96,6 +125,7 @@ pub struct FileDisk {
     failures: u64,
     // None where the file is only read.
     gathered: Option<Gathered>,
+    durability: Durability,
     ghost small: { length < 2 ^ 64 },
 }
 
@@ -176,7 +206,8 @@ impl FileDisk {
         FileDisk::holding(file, None)
     }
 
-    // A disk in a file. A folder, which may be opened for reading, is refused as `Folder`.
+    // A disk in a file, which reads as its device does. A folder, which may be opened for reading, is refused as `Folder`, and
+    // what is no regular file as `Special`.
     fn holding(file: File, gathered: Option<Gathered>) -> Result<FileDisk, FileFault>
         ensures uncounted { IfOk result (λ d. d.failures ≡ 0) }
     {
@@ -184,12 +215,39 @@ impl FileDisk {
         if metadata.is_dir() {
             return Err(FileFault::Folder);
         }
+        if !metadata.is_file() {
+            return Err(FileFault::Special);
+        }
+        settle(&file)?;
         Ok(FileDisk {
             file,
             length: metadata.len(),
             failures: 0,
             gathered,
+            durability: Durability::Synced,
         })
+    }
+
+    // Writes what was gathered, and makes the file's bytes durable. Where nothing was written since the last sync there is
+    // nothing to do; where a sync failed, nobody knows what there is to do.
+    fn make_bytes_durable(&mut self) -> io::Result<()>
+        ensures length { self.new.length ≡ self.old.length }
+        ensures failures { self.new.failures ≡ self.old.failures }
+    {
+        match self.durability {
+            Durability::Synced => return Ok(()),
+            Durability::Written => {}
+            Durability::Unknown => return Err(ErrorKind::Other.into()),
+        }
+        if let Some(gathered) = &mut self.gathered {
+            gathered.write_out(&self.file)?;
+        }
+        let synced = self.file.sync_all();
+        self.durability = match synced {
+            Ok(()) => Durability::Synced,
+            Err(_) => Durability::Unknown,
+        };
+        synced
     }
 
     // Counts a failure where the call failed, which is answered as this fault.
@@ -232,6 +290,7 @@ fn made<R: AllocGlobal + Files<File = File>>(
         length,
         failures: 0,
         gathered: Some(gathered),
+        durability: Durability::Written,
     })
 }
 
@@ -264,7 +323,27 @@ fn write_zeros(file: &File, length: u64) -> Result<(), FileFault> {
 // Makes the file's bytes, its length and its name in its folder durable.
 fn make_durable<R: Files<File = File>>(rt: &R, path: &str, file: &File) -> Result<(), FileFault> {
     file.sync_all().map_err(|_| FileFault::Sync)?;
+    drop_pages(file).map_err(|_| FileFault::Sync)?;
     sync_folder(rt, path).map_err(|_| FileFault::Sync)
+}
+
+// Makes what reads of the file's front give what its device has. The first sync may tell of a write that an earlier process
+// made and never saw synced: nothing was promised of it, so the second one decides.
+fn settle(file: &File) -> Result<(), FileFault> {
+    if file.sync_all().is_err() {
+        file.sync_all().map_err(|_| FileFault::Settle)?;
+    }
+    drop_pages(file).map_err(|_| FileFault::Settle)
+}
+
+// Drops the pages of the file's front from memory, so that the next read of them asks the device.
+fn drop_pages(file: &File) -> io::Result<()> {
+    let advised = libc::posix_fadvise(file.as_raw_fd(), 0, FRONT, libc::POSIX_FADV_DONTNEED);
+    if advised == 0 {
+        Ok(())
+    } else {
+        Err(io::Error::from_raw_os_error(advised))
+    }
 }
 
 // Makes the names in the file's folder durable.
@@ -287,14 +366,6 @@ fn write_gathered(
         Some(gathered) => gathered.write(file, at, from),
         None => file.write_all_at(from, at),
     }
-}
-
-// Writes what was gathered, and makes the file's bytes durable.
-fn sync_gathered(file: &File, gathered: &mut Option<Gathered>) -> io::Result<()> {
-    if let Some(gathered) = gathered {
-        gathered.write_out(file)?;
-    }
-    file.sync_all()
 }
 
 impl Disk for FileDisk {
@@ -341,12 +412,15 @@ impl Disk for FileDisk {
     }
 
     fn write_at(&mut self, at: u64, from: &[u8]) -> Result<(), DiskFault> {
+        if self.durability == Durability::Synced {
+            self.durability = Durability::Written;
+        }
         let outcome = write_gathered(&self.file, &mut self.gathered, at, from);
         self.counted(outcome, DiskFault::Write)
     }
 
     fn sync(&mut self) -> Result<(), DiskFault> {
-        let outcome = sync_gathered(&self.file, &mut self.gathered);
+        let outcome = self.make_bytes_durable();
         self.counted(outcome, DiskFault::Sync)
     }
 }
