@@ -15,6 +15,8 @@ mod images;
 #[cfg(test)]
 mod refused;
 #[cfg(test)]
+mod reopened;
+#[cfg(test)]
 mod retirement;
 #[cfg(test)]
 mod rows;

@@ -11,3 +11,4 @@ pub mod Notes
 pub mod PartLaws
 pub mod PlaceLaws
 pub mod Places
+pub mod Anew

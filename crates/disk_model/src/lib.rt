@@ -2,6 +2,7 @@
 #![tactic(auto)]
 
 mod agree;
+mod cached_disk;
 mod crash;
 mod disk;
 mod file_disk;
@@ -13,6 +14,7 @@ mod one_fault;
 mod stable;
 
 pub use agree::agrees_outside_writes;
+pub use cached_disk::CachedDisk;
 pub use crash::Pick;
 pub use disk::{Disk, DiskFault};
 pub use file_disk::{FileDisk, FileFault};

@@ -1,5 +1,5 @@
 //! A disk in memory, what crashes leave of it, and disks that fail.
-use disk_model::{Disk, DiskFault, Fuse, MemDisk, OneFault, Pick, write_stable};
+use disk_model::{CachedDisk, Disk, DiskFault, Fuse, MemDisk, OneFault, Pick, write_stable};
 use std::process::Abort;
 use std::test::Fail;
 
@@ -177,5 +177,26 @@ fn one_fault_fails_one_call(rt: HostRuntime) -> Result<(), Fail> {
         assert_eq!(rt; disk.calls(), 3, "call {at}");
         assert_eq!(rt; disk.into_inner().bytes(), bytes.as_slice(), "call {at}");
     }
+    Ok(())
+}
+
+// Behind a lost sync the cache has what the device never got, until the file is opened anew.
+#[test]
+fn a_lost_sync_is_seen_when_the_file_is_opened_anew(rt: HostRuntime) -> Result<(), Fail> {
+    let mut disk = CachedDisk::new(MemDisk::new(rt.alloc(), 4)?, 1);
+    put(&mut disk, 0, &[1, 2])??;
+    assert_eq!(rt; disk.sync(), DONE);
+    put(&mut disk, 1, &[7, 7])??;
+    assert_eq!(rt; disk.sync(), SYNC);
+    assert_eq!(rt; disk.sync(), SYNC);
+    let mut bytes = [0u8; 4];
+    read(&mut disk, 0, &mut bytes)??;
+    assert_eq!(rt; bytes, [1, 7, 7, 0]);
+    let mut anew = disk.reopened()?;
+    read(&mut anew, 0, &mut bytes)??;
+    assert_eq!(rt; bytes, [1, 2, 0, 0]);
+    put(&mut anew, 3, &[9])??;
+    assert_eq!(rt; anew.sync(), DONE);
+    assert_eq!(rt; anew.after_stop()?.bytes(), [1, 2, 0, 9].as_slice());
     Ok(())
 }

@@ -7,7 +7,8 @@ use Rattle.intake.specs.Durable.{Durable, FoundCase, StandsFor}
 use Rattle.intake.specs.Calls.{OpenCall, FinishCall}
 use Rattle.intake.specs.Opened.{disk_in}
 use Rattle.journal_layout.specs.declared.faults.OpenFault.{OpenFault}
-use Rattle.intake.specs.Lives.{Life, IsLived, IsMadeAnew, IsLeftBy, IsAmong, IsReached, IsFollowed, IsTried, AreTried, Attempt, Restarts, disk_after, HoldsCase, AllHoldCase, AreLived, AreKept, last_acknowledged}
+use Rattle.disk_model.specs.Anew.{Restarts}
+use Rattle.intake.specs.Lives.{Life, IsLived, IsLeftBy, IsAmong, IsReached, IsFollowed, IsTried, AreTried, Attempt, disk_after, HoldsCase, AllHoldCase, AreLived, AreKept, last_acknowledged}
 use Rattle.intake.specs.Marks.{Mark, IsOneOf, Has, IsMarkSettled, FindsOne, HasOne, IsRunOfMarks, last_of, mark_of}
 use Rattle.intake.specs.Parts.{Parts, state_of}
 use Rattle.intake.specs.State.{ArchiveState}

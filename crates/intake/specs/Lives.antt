@@ -1,7 +1,7 @@
 -- An archive over many stops, and what follows for one case and for the numbers of the cases.
 use Rattle.std.specs.Prelude.{◌≡◌, ◌⊎◌, ℕ, ◌<◌, ◌≤◌, false, List, [], ◌∷◌, Result, Ok, IsErr, IsTrue}
 use Rattle.std.specs.List.{AllByRecursion}
-use Rattle.disk_model.specs.Disk.{Only}
+use Rattle.disk_model.specs.Anew.{IsMadeAnew, Restarts}
 use Rattle.disk_model.specs.declared.disk.Disk as disk
 use Rattle.journal_layout.specs.declared.faults.OpenFault.{OpenFault}
 use Rattle.intake.specs.Calls.{OpenCall, FinishCall, CloseCall}
@@ -27,20 +27,6 @@ pub record IsLived {D : Type 0} (g : disk.Ghosts D) (l : Life D) : Type 0 where
   pub settled : IsMarkSettled g l.first
   pub before : IsRunOfMarks g l.first l.acknowledged
   pub after : IsRunOfMarks g (last_acknowledged l) l.later
-
--- A disk after a stop that left these bytes: reads give them, and until something is written a crash leaves them.
-pub record Restarts {D : Type 0} (g : disk.Ghosts D) (left : List ℕ) (d : D) : Type 0 where
-  pub honest : IsTrue (g.is_honest d)
-  pub seen : g.seen d ≡ left
-  pub settled : Only left (g.may_leave d)
-
--- A disk that is made anew from the file of another one, which may have failed. The operating system may keep in memory what
--- the device never got. When the file is opened, what still waits is made durable and the rest is read from the device. So reads
--- give one of the lists that a crash at the other disk's end could leave, and until something is written a crash leaves that.
-pub record IsMadeAnew {D : Type 0} (g : disk.Ghosts D) (old new : D) : Type 0 where
-  pub left : List ℕ
-  pub may : g.may_leave old left
-  pub restarts : Restarts g left new
 
 -- An opening that began no life: what it answered, and the disk that the next one is tried on.
 pub record Attempt (D : Type 0) : Type 0 where

@@ -1,0 +1,18 @@
+-- A disk that begins anew: after a stop of the machine, or where its file is opened again.
+use Rattle.std.specs.Prelude.{◌≡◌, ℕ, List, IsTrue}
+use Rattle.disk_model.specs.Disk.{Only}
+use Rattle.disk_model.specs.declared.disk.Disk as disk
+
+-- A disk after a stop that left these bytes: reads give them, and until something is written a crash leaves them.
+pub record Restarts {D : Type 0} (g : disk.Ghosts D) (left : List ℕ) (d : D) : Type 0 where
+  pub honest : IsTrue (g.is_honest d)
+  pub seen : g.seen d ≡ left
+  pub settled : Only left (g.may_leave d)
+
+-- A disk that is made anew from the file of another one, which may have failed. The operating system may keep in memory what
+-- the device never got. When the file is opened, what still waits is made durable and the rest is read from the device. So reads
+-- give one of the lists that a crash at the other disk's end could leave, and until something is written a crash leaves that.
+pub record IsMadeAnew {D : Type 0} (g : disk.Ghosts D) (old new : D) : Type 0 where
+  pub left : List ℕ
+  pub may : g.may_leave old left
+  pub restarts : Restarts g left new
