@@ -13,3 +13,5 @@ pub mod Rows
 pub mod Pairs
 pub mod Sorting
 pub mod Extents
+pub mod Layering
+pub mod Sheets

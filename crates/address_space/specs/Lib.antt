@@ -4,6 +4,7 @@ pub mod Pieces
 pub mod Occurrence
 pub mod Ranges
 pub mod ScanWords
+pub mod Layers
 pub mod MappedFiles
 pub mod SourceWords
 pub mod SpaceWords

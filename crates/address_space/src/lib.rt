@@ -5,6 +5,7 @@ mod cursor;
 mod file_table;
 mod find;
 mod laws;
+mod layers;
 mod locate;
 mod mappings;
 mod pieces;

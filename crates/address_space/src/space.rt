@@ -1,10 +1,12 @@
 // The address space of a core.
-ghost use Rattle.std.specs.Prelude.{◌≡◌, map};
+ghost use Rattle.std.specs.Prelude.{◌≡◌, ℕ, map, IfOk};
 ghost use Rattle.std.specs.List.Sorted.{IsPermutation};
-ghost use Rattle.std.specs.Option.{ForSome};
-ghost use Rattle.elf_view.specs.Header.{segments_of};
+ghost use Rattle.std.specs.Option.{ForSome, option_map};
+ghost use Rattle.elf_view.specs.Header.{SegmentView, segments_of};
 ghost use Rattle.elf_view.specs.ViewWords.{image_of};
 ghost use Rattle.core_notes.specs.FileWords.{file_view};
+ghost use Rattle.address_space.specs.Source.{first_from, is_covering};
+ghost use Rattle.address_space.specs.Layers.{IsSheet, holder};
 ghost use Rattle.address_space.specs.Disjoint.{segment_extent, taking_from};
 ghost use Rattle.address_space.specs.MappedFiles.{files_in};
 ghost use Rattle.address_space.specs.ScanWords.{row_view};
@@ -18,7 +20,7 @@ use crate::source::{PieceKind, Source};
 use crate::strings::Strings;
 use crate::table::Table;
 use core_notes::Files;
-use elf_view::Elf;
+use elf_view::{Elf, accepted_segments_fit};
 use std::alloc::{AllocError, Global};
 
 /// An executable that stands for the mapped file of that path.
@@ -36,15 +38,33 @@ pub struct AddressSpace<'a> {
     pub(crate) executables: Vec<Executable<'a>>,
     pub(crate) table: Option<Table>,
     pub(crate) file_table: Option<FileTable<'a>>,
+    pub(crate) sheet: Option<Table>,
     /// Its rows are the program headers that take addresses.
     ghost whole: { ForSome table (λ t. ∥ IsPermutation (taking_from 0 (map segment_extent (segments_of (image_of elf))))
         (map row_view t.rows.items) ∥₁) },
+    /// Its rows are laid out side by side.
+    ghost laid: { ForSome sheet (λ t. ∥ IsSheet t.rows.items ∥₁) },
+    /// They are of the program headers that decide their addresses.
+    ghost deciding: { ForSome sheet (λ t. (a : ℕ) → holder t.rows.items a
+        ≡ option_map (λ (d : ℕ × SegmentView). d.0) (first_from (is_covering a) 0 (segments_of (image_of elf)))) },
     /// Its files are the entries of NT_FILE.
     ghost listed: { ForSome file_table (λ t. map file_view t.maps.items ≡ files_in files) },
 }
 
+/// The sheet of the segments: each row has addresses that one segment decides. The error is that there is no memory for it.
+fn segment_sheet(alloc: Global, elf: &Elf<'_>) -> Result<Table, AllocError>
+    ensures laid { IfOk result (λ t. ∥ IsSheet t.rows.items ∥₁) }
+    ensures deciding { IfOk result (λ t. (a : ℕ) → holder t.rows.items a
+        ≡ option_map (λ (d : ℕ × SegmentView). d.0) (first_from (is_covering a) 0 (segments_of (image_of elf.now)))) }
+{
+    accepted_segments_fit();
+    let rows = segment_rows(alloc, elf.segments())?;
+    let sheet = Table::layered(alloc, &rows)?;
+    Ok(sheet)
+}
+
 impl<'a> AddressSpace<'a> {
-    ghost use Rattle.std.specs.Prelude.{◌+◌, ◌^◌, ◌<◌, ◌≤◌, ◌↔◌, [], IfOk, IsTrue, OnErr, OnOk, length};
+    ghost use Rattle.std.specs.Prelude.{◌+◌, ◌^◌, ◌<◌, ◌≤◌, ◌↔◌, [], IsTrue, OnErr, OnOk, length};
     ghost use Rattle.address_space.specs.Source.{source_at, mappings_of, with_executable};
     ghost use Rattle.address_space.specs.Disjoint.{AreDisjoint, AreFilesDisjoint};
     ghost use Rattle.address_space.specs.TableWords.{has_file_table, has_table};
@@ -68,13 +88,15 @@ impl<'a> AddressSpace<'a> {
             executables: Vec::new(alloc),
             table: None,
             file_table: None,
+            sheet: None,
         }
     }
 
     /// What `new` makes, with a table of the segments, sorted by address, where no two PT_LOADs have an address in common,
-    /// and one of the mapped files, where no two entries of NT_FILE have: by these the segment and the file of an address
-    /// are found in a number of steps that is the logarithm of theirs. Where two have one in common there is none, and a
-    /// scan finds them, as with `new`. The error is that there is no memory for the tables.
+    /// and one of the mapped files, where no two entries of NT_FILE have. Where two PT_LOADs have one in common a sheet stands
+    /// in for the table: its rows are the addresses that each segment decides. By these the segment and the file of an address
+    /// are found in a number of steps that is the logarithm of theirs. Where two entries of NT_FILE have an address in common
+    /// a scan finds them, as with `new`. The error is that there is no memory for the tables.
     #[tactic(auto, unfolding(crate::specs::SpaceWords::space_of))]
     pub fn indexed(
         alloc: Global,
@@ -87,12 +109,18 @@ impl<'a> AddressSpace<'a> {
     {
         let rows = segment_rows(alloc, elf.segments())?;
         let file_table = FileTable::of(alloc, files)?;
+        let table = Table::of(rows);
+        let sheet = match table {
+            Some(_) => None,
+            None => Some(segment_sheet(alloc, elf)?),
+        };
         Ok(AddressSpace {
             elf: *elf,
             files,
             executables: Vec::new(alloc),
-            table: Table::of(rows),
+            table,
             file_table,
+            sheet,
         })
     }
 
