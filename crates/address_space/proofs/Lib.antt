@@ -15,3 +15,4 @@ pub mod Sorting
 pub mod Extents
 pub mod Layering
 pub mod Sheets
+pub mod Leaping

@@ -53,7 +53,7 @@ sheet_apart rows sheet k d h =
     subst (λ j. past_of (get_or rows k d) ≤ (get_or rows j d).start) (sym next) (laid_next rows 0 (2 ^ 64) k d sheet.laid (omega (arith, h)))
 
 -- a row of a sheet that has the address
-laid_found : (rows : List Row) (low high k a : ℕ) (row : Row) → IsLaid low high rows → k < length rows → get_or rows k row ≡ row → row.start ≤ a → a < past_of row → holder rows a ≡ Some row.number
+pub laid_found : (rows : List Row) (low high k a : ℕ) (row : Row) → IsLaid low high rows → k < length rows → get_or rows k row ≡ row → row.start ≤ a → a < past_of row → holder rows a ≡ Some row.number
 laid_found [] low high k a row laid h e p q = absurd (omega (arith, h))
 laid_found (r ∷ rows) low high zero a row laid h e p q =
     let start : r.start ≡ row.start = ap (λ (x : Row). x.start) e in
@@ -77,7 +77,7 @@ laid_wide [] low high k d laid h = absurd (omega (arith, h))
 laid_wide (r ∷ rows) low high zero d laid h = laid.1
 laid_wide (r ∷ rows) low high (suc k) d laid h = laid_wide rows (past_of r) high k d laid.2 (omega (arith, h))
 
-same_default : (rows : List Row) (k : ℕ) (d e : Row) → k < length rows → get_or rows k d ≡ get_or rows k e
+pub same_default : (rows : List Row) (k : ℕ) (d e : Row) → k < length rows → get_or rows k d ≡ get_or rows k e
 same_default rows k d e h = get_or_default rows k d e h
 
 pub sheet_found : (rows : List Row) (a limit m : ℕ) (row : Row) → IsSheet rows → 0 < limit → Contains rows row → row.start ≤ a → a < past_of row → m ≡ min limit (past_of row - a) → (Some row.number ≡ holder rows a) × IsHeld (holder rows) a limit m

@@ -5,6 +5,7 @@ pub mod Occurrence
 pub mod Ranges
 pub mod ScanWords
 pub mod Layers
+pub mod Orders
 pub mod MappedFiles
 pub mod SourceWords
 pub mod SpaceWords

@@ -162,7 +162,7 @@ impl<'a> AddressSpace<'a> {
         ensures covers { IfSome result.0 (λ d. d.segment.vaddr ≤ at) }
     {
         match &self.sheet {
-            Some(sheet) => self.looked_up_in_sheet(sheet, at, limit),
+            Some(sheet) => self.looked_up_in_sheet(&sheet.table, at, limit),
             None => first_segment(self.elf.segments(), at, limit),
         }
     }

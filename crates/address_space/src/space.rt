@@ -1,5 +1,5 @@
 // The address space of a core.
-ghost use Rattle.std.specs.Prelude.{◌≡◌, ℕ, map, IfOk};
+ghost use Rattle.std.specs.Prelude.{◌≡◌, ℕ, map};
 ghost use Rattle.std.specs.List.Sorted.{IsPermutation};
 ghost use Rattle.std.specs.Option.{ForSome, option_map};
 ghost use Rattle.elf_view.specs.Header.{SegmentView, segments_of};
@@ -7,6 +7,7 @@ ghost use Rattle.elf_view.specs.ViewWords.{image_of};
 ghost use Rattle.core_notes.specs.FileWords.{file_view};
 ghost use Rattle.address_space.specs.Source.{first_from, is_covering};
 ghost use Rattle.address_space.specs.Layers.{IsSheet, holder};
+ghost use Rattle.address_space.specs.Orders.{IsOrderOf};
 ghost use Rattle.address_space.specs.Disjoint.{segment_extent, taking_from};
 ghost use Rattle.address_space.specs.MappedFiles.{files_in};
 ghost use Rattle.address_space.specs.ScanWords.{row_view};
@@ -16,11 +17,12 @@ use crate::find::Matches;
 use crate::mappings::Mappings;
 use crate::pieces::Pieces;
 use crate::row::segment_rows;
+use crate::sheet::Sheet;
 use crate::source::{PieceKind, Source};
 use crate::strings::Strings;
 use crate::table::Table;
 use core_notes::Files;
-use elf_view::{Elf, accepted_segments_fit};
+use elf_view::Elf;
 use std::alloc::{AllocError, Global};
 
 /// An executable that stands for the mapped file of that path.
@@ -38,33 +40,22 @@ pub struct AddressSpace<'a> {
     pub(crate) executables: Vec<Executable<'a>>,
     pub(crate) table: Option<Table>,
     pub(crate) file_table: Option<FileTable<'a>>,
-    pub(crate) sheet: Option<Table>,
+    pub(crate) sheet: Option<Sheet>,
     /// Its rows are the program headers that take addresses.
     ghost whole: { ForSome table (λ t. ∥ IsPermutation (taking_from 0 (map segment_extent (segments_of (image_of elf))))
         (map row_view t.rows.items) ∥₁) },
-    /// Its rows are laid out side by side.
-    ghost laid: { ForSome sheet (λ t. ∥ IsSheet t.rows.items ∥₁) },
-    /// They are of the program headers that decide their addresses.
-    ghost deciding: { ForSome sheet (λ t. (a : ℕ) → holder t.rows.items a
-        ≡ option_map (λ (d : ℕ × SegmentView). d.0) (first_from (is_covering a) 0 (segments_of (image_of elf)))) },
     /// Its files are the entries of NT_FILE.
     ghost listed: { ForSome file_table (λ t. map file_view t.maps.items ≡ files_in files) },
-}
-
-/// The sheet of the segments: each row has addresses that one segment decides. The error is that there is no memory for it.
-fn segment_sheet(alloc: Global, elf: &Elf<'_>) -> Result<Table, AllocError>
-    ensures laid { IfOk result (λ t. ∥ IsSheet t.rows.items ∥₁) }
-    ensures deciding { IfOk result (λ t. (a : ℕ) → holder t.rows.items a
-        ≡ option_map (λ (d : ℕ × SegmentView). d.0) (first_from (is_covering a) 0 (segments_of (image_of elf.now)))) }
-{
-    accepted_segments_fit();
-    let rows = segment_rows(alloc, elf.segments())?;
-    let sheet = Table::layered(alloc, &rows)?;
-    Ok(sheet)
+    /// Its rows are the addresses that the program headers decide.
+    ghost laid: { ForSome sheet (λ s. ∥ IsSheet s.table.rows.items ∥₁) },
+    ghost deciding: { ForSome sheet (λ s. (a : ℕ) → holder s.table.rows.items a
+        ≡ option_map (λ (d : ℕ × SegmentView). d.0) (first_from (is_covering a) 0 (segments_of (image_of elf)))) },
+    ghost ordered: { ForSome sheet (λ s. IsOrderOf (λ a. option_map (λ (d : ℕ × SegmentView). d.0)
+        (first_from (is_covering a) 0 (segments_of (image_of elf)))) s.order.rows.items) },
 }
 
 impl<'a> AddressSpace<'a> {
-    ghost use Rattle.std.specs.Prelude.{◌+◌, ◌^◌, ◌<◌, ◌≤◌, ◌↔◌, [], IsTrue, OnErr, OnOk, length};
+    ghost use Rattle.std.specs.Prelude.{◌+◌, ◌^◌, ◌<◌, ◌≤◌, ◌↔◌, [], IfOk, IsTrue, OnErr, OnOk, length};
     ghost use Rattle.address_space.specs.Source.{source_at, mappings_of, with_executable};
     ghost use Rattle.address_space.specs.Disjoint.{AreDisjoint, AreFilesDisjoint};
     ghost use Rattle.address_space.specs.TableWords.{has_file_table, has_table};
@@ -110,10 +101,7 @@ impl<'a> AddressSpace<'a> {
         let rows = segment_rows(alloc, elf.segments())?;
         let file_table = FileTable::of(alloc, files)?;
         let table = Table::of(rows);
-        let sheet = match table {
-            Some(_) => None,
-            None => Some(segment_sheet(alloc, elf)?),
-        };
+        let sheet = Sheet::unless(table.is_some(), alloc, elf)?;
         Ok(AddressSpace {
             elf: *elf,
             files,
