@@ -1,5 +1,5 @@
 -- What is found in a sheet of rows is what a scan of all items finds.
-use Rattle.std.proofs.Common.{◌≡◌, ◌<◌, ◌≤◌, ℕ, zero, suc, ◌+◌, ◌-◌, ◌^◌, eqb, leb, ltb, cond, true, false, List, [], ◌∷◌, map, length, get_or, Option, None, Some, Contains, min, refl, sym, ap, subst, ◌∙◌, arith, inl, inr}
+use Rattle.std.proofs.Common.{◌≡◌, ◌<◌, ◌≤◌, ℕ, zero, suc, ◌+◌, ◌-◌, ◌^◌, eqb, leb, ltb, cond, true, false, List, [], ◌∷◌, map, length, get_or, Option, None, Some, All, Contains, min, refl, sym, ap, subst, ◌∙◌, arith, inl, inr}
 use Rattle.std.specs.List.{AllAdjacentBelow, AllByRecursion, slice_get}
 use Rattle.std.specs.List.Sorted.{IsNonDecreasingBy}
 use Rattle.std.specs.Option.{option_map}
@@ -8,8 +8,10 @@ use Rattle.std.proofs.lemmas.List.{get_or_default}
 use Rattle.std.proofs.lemmas.Option.{same_Some, none-some}
 use Rattle.elf_view.specs.Header.{SegmentView}
 use Rattle.elf_view.specs.Sound.{IsLoadable}
+use Rattle.core_notes.specs.FileWords.{file_view}
+use Rattle.core_notes.specs.declared.file_list.FileMap.{FileMap}
 use Rattle.address_space.specs.Source.{first_from, span}
-use Rattle.address_space.specs.Disjoint.{Extent, is_within, segment_extent, takes_addresses, taking_from}
+use Rattle.address_space.specs.Disjoint.{Extent, is_within, segment_extent, file_extent, takes_addresses, taking_from}
 use Rattle.address_space.specs.Pieces.{same_number}
 use Rattle.address_space.specs.Ranges.{IsAlike}
 use Rattle.address_space.specs.ScanWords.{past_of, row_view}
@@ -294,3 +296,7 @@ segments_fit (s ∷ segments) all = (
   ],
   segments_fit segments all.1,
 )
+
+pub files_fit : (files : List FileMap) → All (λ (f : FileMap). f.past < 2 ^ 64) files → AllByRecursion IsFitting (map file_extent (map file_view files))
+files_fit [] all = tt
+files_fit (f ∷ files) all = (λ less. let fits = all 0 f (omega arith) in omega (arith, fits), files_fit files (λ k d h. all (suc k) d (omega (arith, h))))

@@ -2,6 +2,7 @@
 #![tactic(auto)]
 
 mod cursor;
+mod file_sheet;
 mod file_table;
 mod find;
 mod laws;

@@ -94,6 +94,21 @@ impl<'a> AddressSpace<'a> {
         }
     }
 
+    /// The same as `file_at`, by a sheet or a scan of the entries.
+    #[tactic(auto, unfolding(crate::specs::SpaceWords::space_of, crate::specs::Source::entry_at))]
+    fn file_without_table(&self, at: u64, limit: u64) -> (Option<FileMap<'a>>, u64)
+        requires { 0 < limit }
+        ensures first { option_map file_view result.0
+            ≡ option_map (λ (e : ℕ × FileView). e.1) (source.entry_at (space_of self.now) at) }
+        ensures alike { IsAlike (source.entry_at (space_of self.now)) at limit result.1 }
+        ensures maps { IfSome result.0 (λ f. (f.start ≤ at) × (at < f.past)) }
+    {
+        match &self.file_sheet {
+            Some(sheet) => sheet.find(at, limit),
+            None => self.scanned_file(at, limit),
+        }
+    }
+
     /// The mapped file at the address `at`, and how many addresses of the `limit` from there on the same entry maps.
     #[tactic(auto, unfolding(crate::specs::SpaceWords::space_of, crate::specs::Source::entry_at))]
     pub(crate) fn file_at(&self, at: u64, limit: u64) -> (Option<FileMap<'a>>, u64)
@@ -105,7 +120,7 @@ impl<'a> AddressSpace<'a> {
     {
         match &self.file_table {
             Some(table) => table.find(at, limit),
-            None => self.scanned_file(at, limit),
+            None => self.file_without_table(at, limit),
         }
     }
 

@@ -12,6 +12,7 @@ ghost use Rattle.address_space.specs.Disjoint.{segment_extent, taking_from};
 ghost use Rattle.address_space.specs.MappedFiles.{files_in};
 ghost use Rattle.address_space.specs.ScanWords.{row_view};
 
+use crate::file_sheet::FileSheet;
 use crate::file_table::FileTable;
 use crate::find::Matches;
 use crate::mappings::Mappings;
@@ -41,11 +42,14 @@ pub struct AddressSpace<'a> {
     pub(crate) table: Option<Table>,
     pub(crate) file_table: Option<FileTable<'a>>,
     pub(crate) sheet: Option<Sheet>,
+    pub(crate) file_sheet: Option<FileSheet<'a>>,
     /// Its rows are the program headers that take addresses.
     ghost whole: { ForSome table (λ t. ∥ IsPermutation (taking_from 0 (map segment_extent (segments_of (image_of elf))))
         (map row_view t.rows.items) ∥₁) },
     /// Its files are the entries of NT_FILE.
     ghost listed: { ForSome file_table (λ t. map file_view t.maps.items ≡ files_in files) },
+    /// So are those of a sheet.
+    ghost files_listed: { ForSome file_sheet (λ s. map file_view s.maps.items ≡ files_in files) },
     /// Its rows are the addresses that the program headers decide.
     ghost laid: { ForSome sheet (λ s. ∥ IsSheet s.table.rows.items ∥₁) },
     ghost deciding: { ForSome sheet (λ s. (a : ℕ) → holder s.table.rows.items a
@@ -80,14 +84,14 @@ impl<'a> AddressSpace<'a> {
             table: None,
             file_table: None,
             sheet: None,
+            file_sheet: None,
         }
     }
 
-    /// What `new` makes, with a table of the segments, sorted by address, where no two PT_LOADs have an address in common,
-    /// and one of the mapped files, where no two entries of NT_FILE have. Where two PT_LOADs have one in common a sheet stands
-    /// in for the table: its rows are the addresses that each segment decides. By these the segment and the file of an address
-    /// are found in a number of steps that is the logarithm of theirs. Where two entries of NT_FILE have an address in common
-    /// a scan finds them, as with `new`. The error is that there is no memory for the tables.
+    /// What `new` makes, with tables by which the segment and the file of an address are found in a number of steps that is
+    /// the logarithm of theirs. Where no two PT_LOADs have an address in common the table is that of the segments, sorted by
+    /// address. Where two have, it is a sheet: its rows are the addresses that each segment decides. So it is for the entries
+    /// of NT_FILE. The error is that there is no memory for the tables.
     #[tactic(auto, unfolding(crate::specs::SpaceWords::space_of))]
     pub fn indexed(
         alloc: Global,
@@ -102,6 +106,7 @@ impl<'a> AddressSpace<'a> {
         let file_table = FileTable::of(alloc, files)?;
         let table = Table::of(rows);
         let sheet = Sheet::unless(table.is_some(), alloc, elf)?;
+        let file_sheet = FileSheet::unless(file_table.is_some(), alloc, files)?;
         Ok(AddressSpace {
             elf: *elf,
             files,
@@ -109,6 +114,7 @@ impl<'a> AddressSpace<'a> {
             table,
             file_table,
             sheet,
+            file_sheet,
         })
     }
 
