@@ -28,16 +28,16 @@ placed {A = A} test i (x ∷ xs) d h = elim (cases_Bool (test x)) as (λ _. (i �
       (omega arith, ap (slice_get (x ∷ xs)) up ∙ rest.1)
 ]
 
-numbered : {A : Type 0} (test : A → Bool) (xs : List A) (d : ℕ × A) → first_from test 0 xs ≡ Some d → slice_get xs d.0 ≡ Some d.1
+pub numbered : {A : Type 0} (test : A → Bool) (xs : List A) (d : ℕ × A) → first_from test 0 xs ≡ Some d → slice_get xs d.0 ≡ Some d.1
 numbered test xs d h =
     let all : d.0 - 0 ≡ d.0 = omega arith in
     subst (λ n. slice_get xs n ≡ Some d.1) all (placed test 0 xs d h).1
 
 -- an item's extent, with its number
-abbrev extent_at : {A : Type 0} → (A → Extent) → ℕ × A → ℕ × Extent
+abbrev pub extent_at : {A : Type 0} → (A → Extent) → ℕ × A → ℕ × Extent
 extent_at f d = (d.0, f d.1)
 
-first_extent : {A : Type 0} (f : A → Extent) (test : Extent → Bool) (i : ℕ) (xs : List A) → first_from test i (map f xs) ≡ option_map (extent_at f) (first_from (λ x. test (f x)) i xs)
+pub first_extent : {A : Type 0} (f : A → Extent) (test : Extent → Bool) (i : ℕ) (xs : List A) → first_from test i (map f xs) ≡ option_map (extent_at f) (first_from (λ x. test (f x)) i xs)
 first_extent f test i [] = refl
 first_extent {A = A} f test i (x ∷ xs) =
     elim (test (f x)) as (λ t. cond t (Some (i, f x)) (first_from test (i + 1) (map f xs)) ≡ option_map (extent_at f) (cond t (Some (i, x)) (first_from (λ y. test (f y)) (i + 1) xs))) [

@@ -13,3 +13,6 @@ pub mod Rows
 pub mod Pairs
 pub mod Sorting
 pub mod Extents
+pub mod Layering
+pub mod Sheets
+pub mod Leaping

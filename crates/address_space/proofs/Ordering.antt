@@ -26,7 +26,7 @@ filter_skip p (suc m) a n none =
     ∙ filter_skip p m (a + 1) n (λ k h. let at : a + suc k ≡ a + 1 + k = omega arith in subst (λ b. p b ≡ false) at (none (suc k) (omega arith)))
     ∙ ap (λ b. filter p (range_with_len b n)) next
 
-filter_empty : (p : ℕ → Bool) (a n : ℕ) → n ≡ 0 → filter p (range_with_len a n) ≡ []
+pub filter_empty : (p : ℕ → Bool) (a n : ℕ) → n ≡ 0 → filter p (range_with_len a n) ≡ []
 filter_empty p a n h = ap (λ q. filter p (range_with_len a q)) h
 
 -- where nothing is left the address does not matter
@@ -55,11 +55,11 @@ found_behind space test i a left m b le none one at =
     ∙ ap (λ q. (a + m) ∷ filter p (range_with_len q (left - (m + 1)))) next
     ∙ ap (λ xs. (a + m) ∷ xs) (filter_onward p (a + (m + 1)) b (left - (m + 1)) (λ h. sym (at h)))
 
-decided_number : (i : ℕ) (o : Option (ℕ × SegmentView)) → option_map (λ (d : ℕ × SegmentView). d.0) o ≡ Some i → is_number i o ≡ true
+pub decided_number : (i : ℕ) (o : Option (ℕ × SegmentView)) → option_map (λ (d : ℕ × SegmentView). d.0) o ≡ Some i → is_number i o ≡ true
 decided_number i None h = absurd (none-some i h)
 decided_number i (Some d) h = eq-eqb d.0 i (same_Some d.0 i h)
 
-number_decided : (i : ℕ) (o : Option (ℕ × SegmentView)) → is_number i o ≡ true → option_map (λ (d : ℕ × SegmentView). d.0) o ≡ Some i
+pub number_decided : (i : ℕ) (o : Option (ℕ × SegmentView)) → is_number i o ≡ true → option_map (λ (d : ℕ × SegmentView). d.0) o ≡ Some i
 number_decided i None h = absurd (false≢true h)
 number_decided i (Some d) h = ap Some (eqb-true d.0 i h)
 

@@ -4,6 +4,8 @@ pub mod Pieces
 pub mod Occurrence
 pub mod Ranges
 pub mod ScanWords
+pub mod Layers
+pub mod Orders
 pub mod MappedFiles
 pub mod SourceWords
 pub mod SpaceWords

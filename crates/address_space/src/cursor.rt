@@ -1,8 +1,14 @@
 // Going through all addresses that have a value, by the number of the segment that decides them.
-ghost use Rattle.std.specs.Prelude.{◌≡◌, ◌+◌, ◌-◌, ◌^◌, ◌<◌, ◌≤◌, ℕ, Bool, [], MatchOption, IfSome, drop, length};
-ghost use Rattle.address_space.specs.Occurrence.{ordered_from};
+ghost use Rattle.std.specs.Prelude.{◌≡◌, ◌+◌, ◌-◌, ◌^◌, ◌<◌, ◌≤◌, ℕ, Bool, [], MatchOption, IfSome, Some, None, drop, false, length};
+ghost use Rattle.std.specs.Option.{option_map};
+ghost use Rattle.elf_view.specs.Header.{SegmentView, segments_of};
+ghost use Rattle.elf_view.specs.ViewWords.{image_of};
+ghost use Rattle.address_space.specs.Source.{first_from, is_covering};
+ghost use Rattle.address_space.specs.Occurrence.{is_decided_by, ordered_from};
+ghost use Rattle.address_space.specs.Orders.{IsOrderOf};
 
-use crate::runs::values_by;
+use crate::order::Order;
+use crate::runs::{Run, is_by, values_by};
 use crate::scan::span;
 use crate::space::AddressSpace;
 use elf_view::accepted_segments_fit;
@@ -47,7 +53,7 @@ impl<'a> Cursor<'a> {
 }
 
 impl<'a> AddressSpace<'a> {
-    ghost use Rattle.address_space.specs.CursorWords.{IsPlaced, WantsValue, to_come, work_left};
+    ghost use Rattle.address_space.specs.CursorWords.{IsPlaced, IsRun, WantsValue, to_come, work_left};
     ghost use Rattle.address_space.specs.SpaceWords.{space_of};
 
     /// There are fewer than 2^32 program headers. It does nothing.
@@ -77,6 +83,63 @@ impl<'a> AddressSpace<'a> {
         })
     }
 
+    /// Where the segment at hand does not decide the next address: the next address that it decides or, if there is none, the
+    /// front of the next segment that decides any.
+    #[tactic(auto, unfolding(crate::specs::Source::decider, crate::specs::SpaceWords::space_of))]
+    fn leap(&self, order: &Order, cursor: Cursor<'a>) -> Option<Cursor<'a>>
+        requires placed { IsPlaced (space_of self.now) cursor }
+        requires none { length cursor.here.now ≡ 0 }
+        requires left { 0 < cursor.left }
+        requires order { IsOrderOf (λ a. option_map (λ (d : ℕ × SegmentView). d.0)
+            (first_from (is_covering a) 0 (segments_of (image_of self.now.elf)))) order.now.rows.items }
+        requires elsewhere { is_decided_by (space_of self.now) cursor.number cursor.at ≡ false }
+        ensures placed { IfSome result (IsPlaced (space_of self.now)) }
+        ensures less { IfSome result (λ d. work_left (space_of self.now) d < work_left (space_of self.now) cursor.entry) }
+        ensures same { (test : ℕ → Bool) → MatchOption result
+            (to_come (space_of self.now) test cursor.entry ≡ [])
+            (λ d. to_come (space_of self.now) test cursor.entry ≡ to_come (space_of self.now) test d) }
+    {
+        let row = order.next(cursor.number, cursor.at)?;
+        if row.number > cursor.number {
+            self.segments_are_few();
+            return self.begin(row.number);
+        }
+        let skipped = cursor.left.min(row.start - cursor.at);
+        Some(Cursor {
+            number: cursor.number,
+            at: cursor.at.saturating_add(skipped),
+            left: cursor.left - skipped,
+            here: &[],
+        })
+    }
+
+    /// A step of a search on, where the segment at hand has no values for the next addresses.
+    fn skipped(&self, cursor: Cursor<'a>, run: Run<'a>) -> Option<Cursor<'a>>
+        requires placed { IsPlaced (space_of self.now) cursor }
+        requires none { length cursor.here.now ≡ 0 }
+        requires left { 0 < cursor.left }
+        requires run { IsRun (space_of self.now) cursor.at cursor.left run.length run.number
+            (option_map (λ bytes. bytes.now) run.bytes) }
+        requires absent { run.number ≡ Some cursor.number → option_map (λ bytes. bytes.now) run.bytes ≡ None }
+        ensures placed { IfSome result (IsPlaced (space_of self.now)) }
+        ensures less { IfSome result (λ d. work_left (space_of self.now) d < work_left (space_of self.now) cursor.entry) }
+        ensures same { (test : ℕ → Bool) → WantsValue (space_of self.now) test → MatchOption result
+            (to_come (space_of self.now) test cursor.entry ≡ [])
+            (λ d. to_come (space_of self.now) test cursor.entry ≡ to_come (space_of self.now) test d) }
+    {
+        if let Some(sheet) = &self.sheet {
+            if !is_by(run, cursor.number) {
+                return self.leap(&sheet.order, cursor);
+            }
+        }
+        Some(Cursor {
+            number: cursor.number,
+            at: cursor.at.saturating_add(run.length),
+            left: cursor.left - run.length,
+            here: &[],
+        })
+    }
+
     /// A step of a search on, where no values are at hand.
     fn onward(&self, cursor: Cursor<'a>) -> Option<Cursor<'a>>
         requires placed { IsPlaced (space_of self.now) cursor }
@@ -99,12 +162,7 @@ impl<'a> AddressSpace<'a> {
                 left: cursor.left,
                 here,
             }),
-            None => Some(Cursor {
-                number: cursor.number,
-                at: cursor.at.saturating_add(run.length),
-                left: cursor.left - run.length,
-                here: &[],
-            }),
+            None => self.skipped(cursor, run),
         }
     }
 

@@ -1,5 +1,5 @@
 // The mapped files by address, where no two entries of NT_FILE have an address in common.
-ghost use Rattle.std.specs.Prelude.{◌≡◌, ◌<◌, ◌≤◌, ◌↔◌, ℕ, map, length, IfOk, IfSome, IsSome, slice_get};
+ghost use Rattle.std.specs.Prelude.{◌≡◌, ◌^◌, ◌<◌, ◌≤◌, ◌↔◌, ℕ, All, map, length, IfOk, IfSome, IsSome, slice_get};
 ghost use Rattle.std.specs.List.Sorted.{IsPermutation};
 ghost use Rattle.std.specs.Option.{option_map, ForSome};
 ghost use Rattle.core_notes.specs.FileList.{FileView};
@@ -27,13 +27,14 @@ pub(crate) struct FileTable<'a> {
 
 impl<'a> FileTable<'a> {
     /// The mapped files, of which a core may tell nothing, and their rows.
-    fn listed(
+    pub(crate) fn listed(
         alloc: Global,
         files: Option<Files<'a>>,
     ) -> Result<(Vec<FileMap<'a>>, Vec<Row>), AllocError>
         ensures maps { IfOk result (λ v. map file_view v.0.items ≡ files_in files.entry) }
         ensures rows { IfOk result (λ v. map row_view v.1.items
             ≡ taking_from 0 (map file_extent (map file_view v.0.items))) }
+        ensures fits { IfOk result (λ v. All (λ f. f.past < 2 ^ 64) v.0.items) }
     {
         match files {
             Some(files) => file_rows(alloc, files.maps()),

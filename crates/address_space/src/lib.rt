@@ -2,15 +2,19 @@
 #![tactic(auto)]
 
 mod cursor;
+mod file_sheet;
 mod file_table;
 mod find;
 mod laws;
+mod layers;
 mod locate;
 mod mappings;
+mod order;
 mod pieces;
 mod row;
 mod runs;
 mod scan;
+mod sheet;
 mod source;
 mod space;
 mod strings;

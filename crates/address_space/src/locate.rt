@@ -11,6 +11,7 @@ ghost use Rattle.core_notes.specs.FileWords.{file_view};
 ghost use Rattle.address_space.specs.Source as source;
 ghost use Rattle.address_space.specs.Pieces.{content_from};
 ghost use Rattle.address_space.specs.Disjoint.{segment_extent, taking_from};
+ghost use Rattle.address_space.specs.Layers.{IsSheet, holder};
 ghost use Rattle.address_space.specs.Ranges.{IsAlike, IsFull, IsStretch, place_number};
 ghost use Rattle.address_space.specs.ScanWords.{decided_view, row_view};
 ghost use Rattle.address_space.specs.SourceWords.{kind_view, spot_view};
@@ -93,6 +94,21 @@ impl<'a> AddressSpace<'a> {
         }
     }
 
+    /// The same as `file_at`, by a sheet or a scan of the entries.
+    #[tactic(auto, unfolding(crate::specs::SpaceWords::space_of, crate::specs::Source::entry_at))]
+    fn file_without_table(&self, at: u64, limit: u64) -> (Option<FileMap<'a>>, u64)
+        requires { 0 < limit }
+        ensures first { option_map file_view result.0
+            ≡ option_map (λ (e : ℕ × FileView). e.1) (source.entry_at (space_of self.now) at) }
+        ensures alike { IsAlike (source.entry_at (space_of self.now)) at limit result.1 }
+        ensures maps { IfSome result.0 (λ f. (f.start ≤ at) × (at < f.past)) }
+    {
+        match &self.file_sheet {
+            Some(sheet) => sheet.find(at, limit),
+            None => self.scanned_file(at, limit),
+        }
+    }
+
     /// The mapped file at the address `at`, and how many addresses of the `limit` from there on the same entry maps.
     #[tactic(auto, unfolding(crate::specs::SpaceWords::space_of, crate::specs::Source::entry_at))]
     pub(crate) fn file_at(&self, at: u64, limit: u64) -> (Option<FileMap<'a>>, u64)
@@ -104,7 +120,7 @@ impl<'a> AddressSpace<'a> {
     {
         match &self.file_table {
             Some(table) => table.find(at, limit),
-            None => self.scanned_file(at, limit),
+            None => self.file_without_table(at, limit),
         }
     }
 
@@ -134,6 +150,38 @@ impl<'a> AddressSpace<'a> {
         }
     }
 
+    /// The same, by a table of segments that may have addresses in common.
+    #[tactic(auto, unfolding(crate::specs::SpaceWords::space_of, crate::specs::Source::decider))]
+    fn looked_up_in_sheet(&self, sheet: &Table, at: u64, limit: u64) -> (Option<Decided<'a>>, u64)
+        requires some { 0 < limit }
+        requires laid { ∥ IsSheet sheet.now.rows.items ∥₁ }
+        requires deciding { (a : ℕ) → holder sheet.now.rows.items a ≡ option_map (λ (d : ℕ × SegmentView). d.0)
+            (source.first_from (source.is_covering a) 0 (segments_of (image_of self.now.elf))) }
+        ensures first { option_map decided_view result.0 ≡ source.decider (space_of self.now) at }
+        ensures alike { IsAlike (source.decider (space_of self.now)) at limit result.1 }
+        ensures covers { IfSome result.0 (λ d. d.segment.vaddr ≤ at) }
+    {
+        let (row, length) = sheet.find(at, limit);
+        match row {
+            Some(row) => (self.segment_at(row.number), length),
+            None => (None, length),
+        }
+    }
+
+    /// The segment that decides the address `at`, by a sheet or a scan of the segments.
+    #[tactic(auto, unfolding(crate::specs::SpaceWords::space_of, crate::specs::Source::decider))]
+    fn decide_without_table(&self, at: u64, limit: u64) -> (Option<Decided<'a>>, u64)
+        requires { 0 < limit }
+        ensures first { option_map decided_view result.0 ≡ source.decider (space_of self.now) at }
+        ensures alike { IsAlike (source.decider (space_of self.now)) at limit result.1 }
+        ensures covers { IfSome result.0 (λ d. d.segment.vaddr ≤ at) }
+    {
+        match &self.sheet {
+            Some(sheet) => self.looked_up_in_sheet(&sheet.table, at, limit),
+            None => first_segment(self.elf.segments(), at, limit),
+        }
+    }
+
     /// The segment that decides the address `at`, and how many addresses of the `limit` from there on it decides too.
     #[tactic(auto, unfolding(crate::specs::SpaceWords::space_of, crate::specs::Source::decider))]
     pub(crate) fn decide(&self, at: u64, limit: u64) -> (Option<Decided<'a>>, u64)
@@ -144,7 +192,7 @@ impl<'a> AddressSpace<'a> {
     {
         match &self.table {
             Some(table) => self.looked_up(table, at, limit),
-            None => first_segment(self.elf.segments(), at, limit),
+            None => self.decide_without_table(at, limit),
         }
     }
 

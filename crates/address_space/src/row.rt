@@ -1,5 +1,5 @@
 // The addresses of program headers and of mapped files, with their numbers.
-ghost use Rattle.std.specs.Prelude.{◌≡◌, ◌+◌, ◌^◌, ◌<◌, List, [], ◌++◌, ◌∷◌, map, filter, length, IfOk, OnOk};
+ghost use Rattle.std.specs.Prelude.{◌≡◌, ◌+◌, ◌^◌, ◌<◌, List, [], ◌++◌, ◌∷◌, map, filter, length, All, IfOk, OnOk};
 ghost use Rattle.elf_view.specs.SegmentWords.{segments_left};
 ghost use Rattle.core_notes.specs.FileWords.{file_view, files_left};
 ghost use Rattle.address_space.specs.Disjoint.{file_extent, segment_extent, takes_addresses, taking_from};
@@ -55,6 +55,18 @@ pub(crate) fn segment_rows(
     Ok(rows)
 }
 
+/// The row of a mapped file of that number.
+fn file_row(number: u64, file: FileMap) -> Row
+    ensures row { row_view result ≡ (number, file_extent (file_view file.entry)) }
+    ensures fits { file.entry.past < 2 ^ 64 }
+{
+    Row {
+        number,
+        start: file.start,
+        size: file.past - file.start,
+    }
+}
+
 /// The mapped files, and the rows of those that have addresses, in their order.
 pub(crate) fn file_rows<'a>(
     alloc: Global,
@@ -63,15 +75,12 @@ pub(crate) fn file_rows<'a>(
     ensures maps { IfOk result (λ v. map file_view v.0.items ≡ files_left files.entry) }
     ensures rows { IfOk result (λ v. map row_view v.1.items
         ≡ taking_from 0 (map file_extent (files_left files.entry))) }
+    ensures fits { IfOk result (λ v. All (λ f. f.past < 2 ^ 64) v.0.items) }
 {
     let mut maps = Vec::new(alloc);
     let mut rows = Vec::new(alloc);
     while let Some(file) = files.next() {
-        let row = Row {
-            number: maps.len() as u64,
-            start: file.start,
-            size: file.past - file.start,
-        };
+        let row = file_row(maps.len() as u64, file);
         add(&mut rows, row)?;
         maps.push(file)?;
     }

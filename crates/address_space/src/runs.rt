@@ -1,5 +1,5 @@
 // The values of addresses in a row.
-ghost use Rattle.std.specs.Prelude.{◌≡◌, ◌+◌, ◌<◌, ◌≤◌, ℕ, [], Some, None, MatchOption, IfSome, length, slice_index};
+ghost use Rattle.std.specs.Prelude.{◌≡◌, ◌+◌, ◌<◌, ◌≤◌, ℕ, [], Some, None, MatchBool, MatchOption, IfSome, length, slice_index};
 ghost use Rattle.std.specs.Option.{option_map};
 ghost use Rattle.elf_view.specs.SegmentWords.{segment_view};
 ghost use Rattle.address_space.specs.Source.{Space, content_by, placed, value_of};
@@ -45,6 +45,16 @@ pub(crate) fn values_by<'a>(run: Run<'a>, number: u64) -> Option<&'a [u8]>
         run.bytes
     } else {
         None
+    }
+}
+
+/// Whether the segment of that number decides the addresses.
+pub(crate) fn is_by(run: Run, number: u64) -> bool
+    ensures { MatchBool result (run.entry.number ≡ Some number) (¬ (run.entry.number ≡ Some number)) }
+{
+    match run.number {
+        Some(by) => by == number,
+        None => false,
     }
 }
 

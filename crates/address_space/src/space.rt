@@ -1,19 +1,24 @@
 // The address space of a core.
-ghost use Rattle.std.specs.Prelude.{◌≡◌, map};
+ghost use Rattle.std.specs.Prelude.{◌≡◌, ℕ, map};
 ghost use Rattle.std.specs.List.Sorted.{IsPermutation};
-ghost use Rattle.std.specs.Option.{ForSome};
-ghost use Rattle.elf_view.specs.Header.{segments_of};
+ghost use Rattle.std.specs.Option.{ForSome, option_map};
+ghost use Rattle.elf_view.specs.Header.{SegmentView, segments_of};
 ghost use Rattle.elf_view.specs.ViewWords.{image_of};
 ghost use Rattle.core_notes.specs.FileWords.{file_view};
+ghost use Rattle.address_space.specs.Source.{first_from, is_covering};
+ghost use Rattle.address_space.specs.Layers.{IsSheet, holder};
+ghost use Rattle.address_space.specs.Orders.{IsOrderOf};
 ghost use Rattle.address_space.specs.Disjoint.{segment_extent, taking_from};
 ghost use Rattle.address_space.specs.MappedFiles.{files_in};
 ghost use Rattle.address_space.specs.ScanWords.{row_view};
 
+use crate::file_sheet::FileSheet;
 use crate::file_table::FileTable;
 use crate::find::Matches;
 use crate::mappings::Mappings;
 use crate::pieces::Pieces;
 use crate::row::segment_rows;
+use crate::sheet::Sheet;
 use crate::source::{PieceKind, Source};
 use crate::strings::Strings;
 use crate::table::Table;
@@ -36,11 +41,21 @@ pub struct AddressSpace<'a> {
     pub(crate) executables: Vec<Executable<'a>>,
     pub(crate) table: Option<Table>,
     pub(crate) file_table: Option<FileTable<'a>>,
+    pub(crate) sheet: Option<Sheet>,
+    pub(crate) file_sheet: Option<FileSheet<'a>>,
     /// Its rows are the program headers that take addresses.
     ghost whole: { ForSome table (λ t. ∥ IsPermutation (taking_from 0 (map segment_extent (segments_of (image_of elf))))
         (map row_view t.rows.items) ∥₁) },
     /// Its files are the entries of NT_FILE.
     ghost listed: { ForSome file_table (λ t. map file_view t.maps.items ≡ files_in files) },
+    /// So are those of a sheet.
+    ghost files_listed: { ForSome file_sheet (λ s. map file_view s.maps.items ≡ files_in files) },
+    /// Its rows are the addresses that the program headers decide.
+    ghost laid: { ForSome sheet (λ s. ∥ IsSheet s.table.rows.items ∥₁) },
+    ghost deciding: { ForSome sheet (λ s. (a : ℕ) → holder s.table.rows.items a
+        ≡ option_map (λ (d : ℕ × SegmentView). d.0) (first_from (is_covering a) 0 (segments_of (image_of elf)))) },
+    ghost ordered: { ForSome sheet (λ s. IsOrderOf (λ a. option_map (λ (d : ℕ × SegmentView). d.0)
+        (first_from (is_covering a) 0 (segments_of (image_of elf)))) s.order.rows.items) },
 }
 
 impl<'a> AddressSpace<'a> {
@@ -68,13 +83,15 @@ impl<'a> AddressSpace<'a> {
             executables: Vec::new(alloc),
             table: None,
             file_table: None,
+            sheet: None,
+            file_sheet: None,
         }
     }
 
-    /// What `new` makes, with a table of the segments, sorted by address, where no two PT_LOADs have an address in common,
-    /// and one of the mapped files, where no two entries of NT_FILE have: by these the segment and the file of an address
-    /// are found in a number of steps that is the logarithm of theirs. Where two have one in common there is none, and a
-    /// scan finds them, as with `new`. The error is that there is no memory for the tables.
+    /// What `new` makes, with tables by which the segment and the file of an address are found in a number of steps that is
+    /// the logarithm of theirs. Where no two PT_LOADs have an address in common the table is that of the segments, sorted by
+    /// address. Where two have, it is a sheet: its rows are the addresses that each segment decides. So it is for the entries
+    /// of NT_FILE. The error is that there is no memory for the tables.
     #[tactic(auto, unfolding(crate::specs::SpaceWords::space_of))]
     pub fn indexed(
         alloc: Global,
@@ -87,12 +104,17 @@ impl<'a> AddressSpace<'a> {
     {
         let rows = segment_rows(alloc, elf.segments())?;
         let file_table = FileTable::of(alloc, files)?;
+        let table = Table::of(rows);
+        let sheet = Sheet::unless(table.is_some(), alloc, elf)?;
+        let file_sheet = FileSheet::unless(file_table.is_some(), alloc, files)?;
         Ok(AddressSpace {
             elf: *elf,
             files,
             executables: Vec::new(alloc),
-            table: Table::of(rows),
+            table,
             file_table,
+            sheet,
+            file_sheet,
         })
     }
 

@@ -1,15 +1,18 @@
-// Rows sorted by address, where no two of them have an address in common.
-ghost use Rattle.std.specs.Prelude.{◌≡◌, ◌+◌, ◌-◌, ◌^◌, ◌<◌, ◌≤◌, ◌↔◌, ℕ, List, map, length, min, slice_index_or, Contains, AllPairs, MatchBool, MatchOption, IsSome};
+// Rows sorted by address, of which no two have an address in common.
+ghost use Rattle.std.specs.Prelude.{◌≡◌, ◌+◌, ◌-◌, ◌^◌, ◌<◌, ◌≤◌, ◌↔◌, ℕ, List, map, length, min, slice_index_or, Contains, AllPairs, MatchBool, MatchOption, IfOk, IsSome};
 ghost use Rattle.std.specs.List.{AllAdjacentBelow};
 ghost use Rattle.std.specs.List.Sorted.{IsNonDecreasingBy, IsPermutation};
 ghost use Rattle.std.specs.Option.{option_map, ForSome};
 ghost use Rattle.address_space.specs.Source.{first_from};
 ghost use Rattle.address_space.specs.Disjoint.{AreApart, Extent, is_within, taking_from};
 ghost use Rattle.address_space.specs.Ranges.{IsAlike};
+ghost use Rattle.address_space.specs.Layers.{IsHeld, IsNumbered, IsSheet, holder};
 ghost use Rattle.address_space.specs.ScanWords.{past_of, row_view};
 ghost use Rattle.address_space.specs.declared.row.Row as row;
 
+use crate::layers::layered;
 use crate::row::Row;
+use std::alloc::{AllocError, Global};
 
 /// Rows sorted by address. None has an address of another.
 #[derive(Debug, Drop)]
@@ -61,6 +64,17 @@ impl Table {
             return None;
         }
         Some(Table { rows })
+    }
+
+    /// The table of rows that may have addresses in common, where the first row that has an address decides it. The error is
+    /// that there is no memory for it.
+    pub(crate) fn layered(alloc: Global, rows: &[Row]) -> Result<Table, AllocError>
+        requires { IsNumbered 0 rows.now }
+        ensures sheet { IfOk result (λ t. ∥ IsSheet t.rows.items ∥₁) }
+        ensures same { IfOk result (λ t. (a : ℕ) → holder t.rows.items a ≡ holder rows.now a) }
+    {
+        let rows = layered(alloc, rows)?;
+        Ok(Table { rows })
     }
 
     /// How many of them begin at an address or below it.
@@ -116,6 +130,9 @@ impl Table {
         ensures alike { (extents : List Extent)
             → ∥ IsPermutation (taking_from 0 extents) (map row_view self.now.rows.items) ∥₁
             → IsAlike (λ a. first_from (is_within a) 0 extents) at limit result.1 }
+        ensures number { ∥ IsSheet self.now.rows.items ∥₁
+            → option_map (λ row. row.number) result.0 ≡ holder self.now.rows.items at }
+        ensures held { ∥ IsSheet self.now.rows.items ∥₁ → IsHeld (holder self.now.rows.items) at limit result.1 }
     {
         let count = self.count_to(at);
         match self.covering(at, count) {

@@ -9,5 +9,5 @@ pub returns-clause-table : goal.returns-clause-table
 returns-clause-table c =
     let segments = segments_left c.segments.result in
     let headers = c.segments.ensures.headers in
-    let there = c.of-2.ensures.there (map segment_extent segments) c.in_ok-rows.ensures in
+    let there = c.of-table.ensures.there (map segment_extent segments) c.in_ok-rows.ensures in
     (λ some. subst AreDisjoint headers (items_apart segment_extent segments (there.0 some)), λ given. there.1 (extents_apart segment_extent segments (subst AreDisjoint (sym headers) given)))
