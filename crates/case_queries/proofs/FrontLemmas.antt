@@ -1,18 +1,14 @@
 -- The first bytes of an image, read one part after the other.
-use Rattle.std.proofs.Common.{◌≡◌, ◌⊎◌, inl, inr, ⊎_elim, ℕ, ◌+◌, ◌-◌, ◌<◌, ◌≤◌, Bool, true, false, List, [], ◌∷◌, ◌++◌, take, drop, length, replicate, Option, None, Some, Result, Ok, Err, Vec, Global, refl, ap, sym, ◌∙◌, subst, arith}
-use Rattle.std.specs.Prelude.{IsTrue}
+use Rattle.std.proofs.Common.{◌≡◌, ◌⊎◌, inl, inr, ⊎_elim, ℕ, ◌+◌, ◌-◌, ◌≤◌, Bool, true, false, List, [], ◌∷◌, ◌++◌, take, length, replicate, Option, None, Some, Result, Ok, Err, Vec, Global, refl, ap, sym, ◌∙◌, subst, arith}
 use Rattle.std.proofs.lemmas.Bool.{false≢true}
 use Rattle.std.proofs.lemmas.Option.{same_Some}
 use Rattle.std.proofs.lemmas.List.{length-append, length-replicate, take_all}
 use Rattle.std.proofs.Math.Seq.{take-append_seam, take-add}
-use Rattle.case_journal.specs.Viewing.{OnlyReads}
 use Rattle.disk_model.specs.Places.{part}
 use Rattle.disk_model.specs.PartLaws.{part_is}
 use Rattle.disk_model.specs.declared.disk.Disk as disk
 use Rattle.elf_view.specs.declared.faults.Want.{Want}
-use Rattle.intake.specs.Calls.{ImageCall}
 use Rattle.intake.specs.Contents.{Contents, UnmovedBytes, image_at}
-use Rattle.intake.specs.Growth.{IsDiskFault}
 use Rattle.intake.specs.Part.{PartCall}
 use Rattle.intake.specs.Parts.{Parts, state_of, contents_of}
 use Rattle.intake.specs.QuietLaws.{quiet_none, quiet_then}
@@ -22,13 +18,13 @@ use Rattle.intake.specs.Step.{ImageStep, HasCase, case_at}
 use Rattle.intake.specs.Untouched.{RefusalSpares}
 use Rattle.intake.specs.declared.faults.ArchiveFault.{ArchiveFault}
 use Rattle.intake.specs.declared.faults.ArchiveFault.TheVariants.{Stopped, NoCase, OutOfMemory, Disk}
-use Rattle.case_queries.specs.Fronts.{HasSize, IsEnough, IsSoundFront, ReadsEnough, ReadsFront, ReadsUpTo, SeesEnough}
+use Rattle.case_queries.specs.Fronts.{HasSize, IsSoundFront, ReadsEnough, ReadsFront, ReadsUpTo, SeesEnough}
 use Rattle.case_queries.specs.LeaveLaws.{own_still, looks_leaves}
 use Rattle.case_queries.specs.Seeing.{AreOfCase, IsKept, LooksAt, SeesImage, image_held}
 use Rattle.case_queries.specs.declared.kept_image.KeptImage.{KeptImage}
 use Rattle.case_queries.proofs.AgainLemmas.{seen_again}
 
--- two fronts of an image, one behind the other
+-- the first bytes of an image, and those after them
 behind : (image front bytes : List ℕ) (n : ℕ) → front ≡ take (length front) image → bytes ≡ part image (length front) n → length bytes ≡ n → front ++ bytes ≡ take (length (front ++ bytes)) image
 behind image front bytes n first second long =
     ap (λ x. x ++ bytes) first
@@ -40,11 +36,8 @@ behind image front bytes n first second long =
 begins : (image bytes : List ℕ) (n : ℕ) → bytes ≡ part image 0 n → length bytes ≡ n → bytes ≡ take (length bytes) image
 begins image bytes n is long = is ∙ part_is image 0 n ∙ ap (λ k. take k image) (sym long)
 
--- the fault that reading a part has is one of the disk
+-- Reading a part of a case's image fails by the disk alone.
 module _ (s t : ArchiveState) (seq : ℕ) (c : CaseFacts) (has : HasCase s seq c) where
-  abbrev still_stopped : Bool → Type 0
-  still_stopped b = b ≡ true
-
   part_step : (f : ArchiveFault) → ImageStep {T = Unit {0}} s seq (Err f) t → ImageStep {T = Vec ℕ Global} s seq (Err f) t
   part_step Stopped step = step
   part_step NoCase step = step
@@ -52,15 +45,15 @@ module _ (s t : ArchiveState) (seq : ℕ) (c : CaseFacts) (has : HasCase s seq c
   part_step Disk step = step
   part_step _ step = absurd step
 
-  part_spares : {D : Type 0} (old mid new : D) (f : ArchiveFault) → ImageStep {T = Unit {0}} s seq (Err f) t → (◌≡◌ {A = Result (Unit {0}) ArchiveFault} (Err f) (Err OutOfMemory) → ⊥) → RefusalSpares {T = Vec ℕ Global} (Err f) old new
-  part_spares old mid new Disk step never = tt
-  part_spares old mid new Stopped step never = absurd (false≢true (sym has.0 ∙ step.0))
-  part_spares old mid new NoCase step never = absurd (none_some (sym step.1 ∙ has.1))
+  part_spares : {D : Type 0} (old new : D) (f : ArchiveFault) → ImageStep {T = Unit {0}} s seq (Err f) t → (◌≡◌ {A = Result (Unit {0}) ArchiveFault} (Err f) (Err OutOfMemory) → ⊥) → RefusalSpares {T = Vec ℕ Global} (Err f) old new
+  part_spares old new Disk step never = tt
+  part_spares old new Stopped step never = absurd (false≢true (sym has.0 ∙ step.0))
+  part_spares old new NoCase step never = absurd (none_some (sym step.1 ∙ has.1))
     where
       none_some : ◌≡◌ {A = Option CaseFacts} None (Some c) → ⊥
       none_some e = cc
-  part_spares old mid new OutOfMemory step never = absurd (never refl)
-  part_spares old mid new _ step never = absurd step
+  part_spares old new OutOfMemory step never = absurd (never refl)
+  part_spares old new _ step never = absurd step
 
 module _ {D : Type 0} (g : disk.Ghosts D) where
   -- nothing is read yet
@@ -86,7 +79,7 @@ module _ {D : Type 0} (g : disk.Ghosts D) where
     long = tt;
     quiet = call.quiet;
     stays = call.stays;
-    untouched = part_spares (state_of old) (state_of new) seq c has old.disk old.disk new.disk f call.step call.never;
+    untouched = part_spares (state_of old) (state_of new) seq c has old.disk new.disk f call.step call.never;
   }
 
   -- a part that can't be read, of an image of which the first bytes were
@@ -102,7 +95,7 @@ module _ {D : Type 0} (g : disk.Ghosts D) where
         long = tt;
         quiet = quiet_then g old.disk mid.disk new.disk reads.quiet call.quiet;
         stays = stays_then g old mid new reads.stays call.stays;
-        untouched = part_spares (state_of old) (state_of new) seq c has old.disk mid.disk new.disk f step call.never;
+        untouched = part_spares (state_of old) (state_of new) seq c has old.disk new.disk f step call.never;
       }
 
   first_read : (old new : Parts D) (seq n : ℕ) (bytes : List ℕ) → PartCall g old seq 0 n (Ok tt) bytes new → ReadsFront g old seq bytes new

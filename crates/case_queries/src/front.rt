@@ -1,5 +1,5 @@
 // The first bytes of an image, for the lines that ask no more of it.
-ghost use Rattle.std.specs.Prelude.{◌≡◌, ◌⊎◌, ◌+◌, ◌-◌, ◌<◌, ◌≤◌, ℕ, Some, IfOk, IfSome, drop, length, take, true, false, vec_len, vec_capacity};
+ghost use Rattle.std.specs.Prelude.{◌≡◌, ◌⊎◌, ◌-◌, ◌<◌, ◌≤◌, Some, IfOk, IfSome, drop, length, take, true, false, vec_len, vec_capacity};
 ghost use Rattle.intake.specs.Part.{PartCall};
 ghost use Rattle.intake.specs.Parts.{state_of};
 ghost use Rattle.intake.specs.State.{CaseFacts};
@@ -28,7 +28,7 @@ fn is_sound(want: Want, front: &[u8]) -> bool
     }
 }
 
-// Whether no more of an image of `size` bytes is read.
+// Whether these bytes of an image of `size` bytes are enough: they are all, or sound.
 fn is_enough(want: Want, front: &[u8], size: usize) -> bool
     requires { length front.now ≤ size }
     ensures enough { result ≡ true → (length front.now ≡ size) ⊎ IsSoundFront want front.now }
@@ -74,9 +74,9 @@ fn read_up_to<D: Disk>(
     read_behind(seq, at, image, archive)
 }
 
-// Reads the first bytes of an image of `size` bytes, until they are enough: each byte once at most. Room for all of them is
-// taken before the first read, since a line that has read says no longer that there is no memory; room that is not written to
-// takes no page.
+// Reads the first bytes of an image of `size` bytes until they are enough, each byte once at most. Room for all of them is taken
+// before the first read, because `OutOfMemory` promises that the disk is untouched. Room that is not read into costs address
+// space alone: the system gives it no page.
 fn read_front<D: Disk>(
     alloc: Global,
     seq: u32,
@@ -132,7 +132,7 @@ fn enough_of_case(seq: u32, want: Want, kept: Option<KeptImage>) -> Option<KeptI
     Some(image)
 }
 
-// As much of a case's image as a line asks that wants its headers and notes: what is kept, if it is of that case and enough.
+// As much of a case's image as the lines over headers and notes want: what is kept, if it is of that case and enough.
 // Otherwise the kept image is dropped with its executables, and the case's is read.
 pub(crate) fn see_front<D: Disk>(
     alloc: Global,
@@ -150,7 +150,7 @@ pub(crate) fn see_front<D: Disk>(
     if let Some(image) = enough_of_case(seq, want, kept) {
         return Ok(image);
     }
-    // Where there is no such case, the whole image is refused as its front is.
+    // If there is no such case, reading the whole image says why.
     let Some(size) = size_of(seq, archive) else {
         return see_image(seq, None, archive);
     };

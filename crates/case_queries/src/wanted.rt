@@ -1,5 +1,5 @@
-// How much of an image its headers and notes want, as far as its first bytes tell. What is answered from them rests on no
-// promise of this: a wrong number costs a read more.
+// How much of an image its headers and notes want, as far as its first bytes tell. No answer rests on this: a wrong number costs
+// one more read.
 ghost use Rattle.std.specs.Prelude.{◌+◌, ◌*◌, ◌<◌, ◌≤◌, length};
 
 use elf_view::{u16_at, u32_at, u64_at};
@@ -47,7 +47,7 @@ fn wanted_front(front: &[u8]) -> u64 {
     notes_end(front, table as usize, count).max(past)
 }
 
-// Up to which place an image of `size` bytes is read next, of which these are read and are not enough.
+// The place up to which an image of `size` bytes is read next: these bytes of it are read, and are not enough.
 pub(crate) fn next_end(front: &[u8], size: usize) -> usize
     requires { length front.now < size }
     ensures more { length front.now < result }

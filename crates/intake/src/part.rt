@@ -14,7 +14,7 @@ use disk_model::Disk;
 use extents::Run;
 use journal_layout::{BLOCK, Shape};
 
-// Reads bytes of a run from its byte `front` on, or nothing where none are wanted. Answers `Disk` alone.
+// Reads bytes of a run from its byte `front` on. It makes no read if none are wanted. Answers `Disk` alone.
 fn read_piece<D: Disk>(
     disk: &mut D,
     shape: Shape,
@@ -61,7 +61,7 @@ pub(crate) fn read_part<D: Disk>(
     ensures cause { IsDiskFault result → HasRisen (D.failures disk.old) (D.failures disk.new) }
     ensures later { D.failures disk.old ≤ D.failures disk.new }
 {
-    // How many bytes of the runs that are left lie before the part, and how many of the part are read.
+    // `skip` bytes of the remaining runs lie before the part; `done` bytes of the part are read.
     let mut skip = at;
     let mut done = 0;
     for run in runs {

@@ -1,6 +1,3 @@
-use Rattle.std.proofs.Common.{◌≡◌, ℕ, List, [], take}
-use Rattle.journal_layout.specs.declared.entry.Kind.{Kind}
-use Rattle.script_lines.specs.declared.query.ImageQuery.{ImageQuery}
 use Rattle.script_lines.specs.declared.query.ImageQuery.TheVariants.{Header, Notes, Threads, Registers, Process, Signal, AuxiliaryVector, Files, Maps}
 use Rattle.case_queries.specs.Inspecting.{want_of}
 use Rattle.case_queries.proofs.by_front.a_front_answers.Goals as goal

@@ -1,5 +1,4 @@
-use Rattle.std.proofs.Common.{◌≡◌, inl, inr, ⊎_elim, ℕ, List, [], length, take, ap, sym, subst, ◌∙◌}
-use Rattle.elf_view.specs.declared.faults.Want.{Want}
+use Rattle.std.proofs.Common.{◌≡◌, ⊎_elim, ℕ, List, [], length, take, ap, sym, subst, ◌∙◌}
 use Rattle.journal_layout.specs.declared.entry.Kind.{Kind}
 use Rattle.script_lines.specs.Queries.{image_query}
 use Rattle.script_lines.specs.declared.query.ImageQuery.{ImageQuery}
