@@ -33,7 +33,7 @@ module _ {D : Type 0} (g : disk.Ghosts D) (now : Parts D) (only : (c : List ℕ)
     size = refl;
   }
 
-  seen_again : (seq : ℕ) (image : List ℕ) → AreOfCase g now seq image → SeesImage g now seq image now
+  pub seen_again : (seq : ℕ) (image : List ℕ) → AreOfCase g now seq image → SeesImage g now seq image now
   seen_again seq image own = record { own = own; state = refl; contents = λ honest. refl; quiet = quiet_still; stays = stays_none g now }
 
   -- one more before those that are gathered again

@@ -1,5 +1,5 @@
 -- What was told of an image, and that it is still that of its case.
-use Rattle.std.proofs.Common.{◌≡◌, ℕ, List, Option, Some, Result, Ok, Err, refl, subst}
+use Rattle.std.proofs.Common.{◌≡◌, ℕ, List, Some, Result, Ok, Err, refl, subst}
 use Rattle.disk_model.specs.declared.disk.Disk as disk
 use Rattle.intake.specs.Parts.{Parts}
 use Rattle.intake.specs.declared.faults.ArchiveFault.{ArchiveFault}
@@ -13,7 +13,8 @@ use Rattle.case_queries.specs.declared.kept_image.KeptImage.{KeptImage}
 
 module _ {D : Type 0} (g : disk.Ghosts D) where
   pub kept_still : (old new : Parts D) (kind : Kind) (q : QuerySaid) (image : List ℕ) (reply : List ℕ) (kept : KeptImage) → Shows g old kind q image reply new → IsKept g old (Some kept) → IsKept g new (Some kept)
-  kept_still old new kind q image reply kept shows own = own_still g old new kept.seq kept.image.items (shows_leaves g old new kind q image (reads_executables q) reply shows) own
+  kept_still old new kind q image reply kept shows held =
+      (held.0, own_still g old new kept.seq held.0 (shows_leaves g old new kind q image (reads_executables q) reply shows) held.1, held.2, held.3)
 
   -- a reason, and an answer, as they were told
   pub reason_told : (a : Parts D) (seq : ℕ) (q : QuerySaid) (reason : List ℕ) (k : Result Kind (List ℕ)) → Err reason ≡ k → Asks g a seq q k (no_reply reason) a
@@ -22,3 +23,7 @@ module _ {D : Type 0} (g : disk.Ghosts D) where
   pub answer_told : (old mid new : Parts D) (seq : ℕ) (q : QuerySaid) (kind : Kind) (k : Result Kind (List ℕ)) (r : Result (List ℕ) ArchiveFault) (reply : List ℕ) → Ok kind ≡ k → LooksAt g old seq r mid
       → ShowsSeen g mid kind q r reply new → Asks g old seq q k reply new
   answer_told old mid new seq q kind k r reply is looks shows = subst (λ (x : Result Kind (List ℕ)). Asks g old seq q x reply new) is (r, mid, looks, shows)
+
+  -- what is asked of a case of a kind that may be asked
+  pub kind_told : (old new : Parts D) (seq : ℕ) (q : QuerySaid) (kind : Kind) (k : Result Kind (List ℕ)) (reply : List ℕ) → Ok kind ≡ k → Asks g old seq q (Ok kind) reply new → Asks g old seq q k reply new
+  kind_told old new seq q kind k reply is asks = subst (λ (x : Result Kind (List ℕ)). Asks g old seq q x reply new) is asks

@@ -2,3 +2,4 @@ pub mod GatherLemmas
 pub mod AskLemmas
 pub mod AgainLemmas
 pub mod ShowLemmas
+pub mod FrontLemmas

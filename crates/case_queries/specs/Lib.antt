@@ -4,3 +4,4 @@ pub mod GatheringWords
 pub mod Keeping
 pub mod Inspecting
 pub mod LeaveLaws
+pub mod Fronts

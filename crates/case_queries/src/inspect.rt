@@ -1,26 +1,21 @@
 // The answers to lines that ask an image.
-ghost use Rattle.std.specs.Prelude.{◌≡◌, [], false, IfOk};
+ghost use Rattle.std.specs.Prelude.{◌≡◌, false, IfOk};
 ghost use Rattle.intake.specs.Parts.{state_of};
-ghost use Rattle.script_streams.specs.Replies.{TellsReply, TellsText, telling, reply_of};
-ghost use Rattle.script_lines.specs.Queries.{query_of, image_query, ask_notes, ask_maps};
-ghost use Rattle.journal_layout.specs.declared.entry.Kind.{Kind};
-ghost use Rattle.case_queries.specs.Inspecting.{Inspects, Shows, answer_of, asked_view, kind_asked, kind_for, want_of};
+ghost use Rattle.script_streams.specs.Replies.{TellsReply, telling};
+ghost use Rattle.script_lines.specs.Queries.{query_of, image_query, ask_notes};
+ghost use Rattle.case_queries.specs.Inspecting.{Asks, Inspects, Shows, asked_view, kind_asked, kind_for};
 ghost use Rattle.case_queries.specs.Keeping.{AreKept, StayGathered};
 ghost use Rattle.case_queries.specs.Seeing.{IsKept};
 
+use crate::by_front::{answer_by_front, tell_image};
 use crate::gather::Executable;
 use crate::kept_image::{Images, see_image};
 use crate::memory::answer_memory;
 use archive_replies::reason;
 use disk_model::Disk;
-use elf_view::Want;
-use image_replies::{
-    CoreImage, tell_auxv, tell_core_fault, tell_files, tell_header, tell_notes, tell_process,
-    tell_regs, tell_signal, tell_threads,
-};
 use intake::Archive;
 use journal_layout::Kind;
-use memory_replies::{tell_maps, tell_symbol};
+use memory_replies::tell_symbol;
 use script_lines::{ImageQuery, Query};
 use script_streams::{Output, Reply, tell_no};
 use std::alloc::Global;
@@ -49,6 +44,29 @@ pub fn answer_query<O: Output, D: Disk>(
             return;
         }
     };
+    match query {
+        Query::Image(query) => answer_by_front(seq, kind, query, images, reply, output, archive),
+        _ => answer_by_image(seq, kind, query, images, reply, output, archive),
+    }
+}
+
+// Answers a line of a case of this kind from the whole image.
+fn answer_by_image<O: Output, D: Disk>(
+    seq: u32,
+    kind: Kind,
+    query: &Query,
+    images: &mut Images,
+    reply: &mut Reply,
+    output: &mut O,
+    archive: &mut Archive<D>,
+)
+    requires runs { archive.old.stopped ≡ false }
+    requires kept { IsKept D.Disk archive.old images.old.kept }
+    requires beside { AreKept D.Disk archive.old images.old.kept }
+    ensures answers { TellsReply (telling O.Output output.old output.new reply.old reply.new) (λ text. Asks D.Disk archive.old seq (query_of query.now) (Ok kind) text archive.new) }
+    ensures kept { IsKept D.Disk archive.new images.new.kept }
+    ensures beside { AreKept D.Disk archive.new images.new.kept }
+{
     match see_image(seq, images.kept.take(), archive) {
         Ok(seen) => {
             let mut seen = seen;
@@ -120,16 +138,6 @@ fn core_kind(kind: Kind) -> Result<Kind, &'static [u8]>
     }
 }
 
-// As what an image is read.
-fn want_of(kind: Kind) -> Want
-    ensures { result ≡ want_of kind }
-{
-    match kind {
-        Kind::Core => Want::Core,
-        Kind::Exec => Want::Exec,
-    }
-}
-
 // Answers a line from the image of its case, and from the executables that it reads beside it. Says whether there was memory
 // for it.
 fn answer_seen<O: Output, D: Disk>(
@@ -163,39 +171,5 @@ fn answer_seen<O: Output, D: Disk>(
             archive,
         ),
         Query::Symbol { address } => tell_symbol(alloc, reply, output, image, *address),
-    }
-}
-
-// Tells what an image alone answers.
-fn tell_image<O: Output>(
-    alloc: Global,
-    kind: Kind,
-    query: &ImageQuery,
-    image: &[u8],
-    reply: &mut Reply,
-    output: &mut O,
-)
-    ensures { TellsText (telling O.Output output.old output.new reply.old reply.new) (reply_of (answer_of kind (image_query query.now) image.now [])) }
-{
-    match query {
-        ImageQuery::Header => tell_header(reply, output, image, want_of(kind)),
-        ImageQuery::Notes => tell_notes(reply, output, image),
-        ImageQuery::Threads => tell_threads(reply, output, image),
-        ImageQuery::Registers { thread } => tell_regs(reply, output, image, *thread),
-        ImageQuery::Process => tell_process(reply, output, image),
-        ImageQuery::Signal => tell_signal(reply, output, image),
-        ImageQuery::AuxiliaryVector => tell_auxv(reply, output, image),
-        ImageQuery::Files => tell_files(reply, output, image),
-        ImageQuery::Maps => tell_mappings(alloc, image, reply, output),
-    }
-}
-
-// Tells the mappings of a core.
-fn tell_mappings<O: Output>(alloc: Global, image: &[u8], reply: &mut Reply, output: &mut O)
-    ensures { (kind : Kind) → TellsText (telling O.Output output.old output.new reply.old reply.new) (reply_of (answer_of kind ask_maps image.now [])) }
-{
-    match CoreImage::read(image) {
-        Ok(core) => tell_maps(alloc, reply, output, &core),
-        Err(fault) => tell_core_fault(reply, output, fault),
     }
 }

@@ -1,5 +1,5 @@
 // The image that the session read last.
-ghost use Rattle.std.specs.Prelude.{◌≡◌, Some, IfOk, IfSome};
+ghost use Rattle.std.specs.Prelude.{◌≡◌, Some, IfOk, IfSome, true};
 ghost use Rattle.case_queries.specs.Keeping.{AreKept};
 ghost use Rattle.case_queries.specs.Seeing.{IsKept, LooksAt, image_held};
 
@@ -17,17 +17,19 @@ pub struct Images {
     pub kept: Option<KeptImage>,
 }
 
-/// The image of a case, kept for the lines over the same case that come next, and the executables that were gathered for it, if
-/// a line has.
+/// The image of a case, or its first bytes, kept for the lines over the same case that come next, and the executables that were
+/// gathered for it, if a line has.
 #[derive(Drop)]
 pub struct KeptImage {
     pub(crate) seq: u32,
     pub(crate) image: Vec<u8>,
+    // Whether these are all its bytes.
+    pub(crate) is_whole: bool,
     pub(crate) executables: Option<Vec<Executable>>,
 }
 
-// The image of a case: the one that is kept, where it is of that case; or else that one goes with its executables, and the
-// case's is read.
+// The whole image of a case: the one that is kept, if it is of that case and whole. Otherwise the kept one is dropped with its
+// executables, and the case's is read.
 pub(crate) fn see_image<D: Disk>(
     seq: u32,
     kept: Option<KeptImage>,
@@ -46,16 +48,20 @@ pub(crate) fn see_image<D: Disk>(
     Ok(KeptImage {
         seq,
         image,
+        is_whole: true,
         executables: None,
     })
 }
 
-// The image that is kept, where it is of that case.
+// The image that is kept, if it is of that case and whole.
 fn of_case(seq: u32, kept: Option<KeptImage>) -> Option<KeptImage>
-    ensures { IfSome result (λ k. (kept ≡ Some k) × (k.seq ≡ seq)) }
+    ensures { IfSome result (λ k. (kept ≡ Some k) × (k.seq ≡ seq) × (k.is_whole ≡ true)) }
 {
     let image = kept?;
     if image.seq != seq {
+        return None;
+    }
+    if !image.is_whole {
         return None;
     }
     Some(image)

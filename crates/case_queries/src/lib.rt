@@ -1,10 +1,13 @@
 //! The answers to lines that ask the image of a case in an archive.
 #![tactic(auto)]
 
+mod by_front;
+mod front;
 mod gather;
 mod inspect;
 mod kept_image;
 mod memory;
+mod wanted;
 
 pub use gather::Executable;
 pub use inspect::answer_query;

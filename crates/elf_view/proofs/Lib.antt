@@ -6,3 +6,8 @@ pub mod LoadPlaces
 pub mod Rows
 pub mod FirstFault
 pub mod Grammar
+pub mod FrontFields
+pub mod FrontHeaders
+pub mod FrontNotes
+pub mod FrontWhole
+pub mod FrontSound

@@ -10,3 +10,4 @@ pub mod NoteWords
 pub mod SectionWords
 pub mod ViewWords
 pub mod NoteGrammar
+pub mod Front

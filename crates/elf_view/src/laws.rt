@@ -1,12 +1,13 @@
 // What the definitions that the contracts cite say together.
-ghost use Rattle.std.specs.Prelude.{◌≡◌, ◌↔◌, ◌+◌, ◌≤◌, ℕ, List, IsTrue, None, Some, length, slice_get};
+ghost use Rattle.std.specs.Prelude.{◌≡◌, ◌↔◌, ◌+◌, ◌≤◌, ℕ, List, IsTrue, None, Some, length, map, slice_get, take};
 ghost use Rattle.std.specs.List.{AllByRecursion, flat_map, list_all};
 ghost use Rattle.std.specs.List.Sorted.{IsPermutation};
+ghost use Rattle.elf_view.specs.Front.{headed};
 ghost use Rattle.elf_view.specs.Header.{SegmentView, segments_of};
 ghost use Rattle.elf_view.specs.NoteGrammar.{IsNoteList, segment_notes};
 ghost use Rattle.elf_view.specs.NoteList.{NoteView, note_rests, notes_in};
-ghost use Rattle.elf_view.specs.Sound.{AreNotesWhole, IsFirstFailing, IsLoadable, IsSound, Row, first_fault, header_checks, is_passed, passes, segment_checks, table_rows};
-ghost use Rattle.elf_view.specs.ViewWords.{notes_of};
+ghost use Rattle.elf_view.specs.Sound.{AreNotesWhole, IsFirstFailing, IsHeaderWhole, IsLoadable, IsSound, Row, first_fault, header_checks, is_passed, passes, segment_checks, table_rows};
+ghost use Rattle.elf_view.specs.ViewWords.{header_of, notes_of};
 ghost use Rattle.elf_view.specs.declared.faults.ElfFault.{ElfFault};
 ghost use Rattle.elf_view.specs.declared.faults.Want.{Want};
 
@@ -58,4 +59,16 @@ pub fn accepted_segments_fit()
         → slice_get (segments_of b) i ≡ Some s → s.kind ≡ 1 → IsLoadable s }
     ensures note_at { (b : List ℕ) (i : ℕ) (s : SegmentView) → IsSound Want.Core b
         → slice_get (segments_of b) i ≡ Some s → s.kind ≡ 4 → s.offset + s.filesz ≤ length b }
+{}
+
+/// A front of an image is its first bytes. If a front is sound, the image is sound, and both have the same header, the same
+/// program headers but for their bytes, and the same notes. So a reader of these needs no more of the image. It does nothing.
+pub fn a_sound_front_is_enough()
+    ensures header { (b : List ℕ) (n : ℕ) → IsHeaderWhole (take n b) → header_of (take n b) ≡ header_of b }
+    ensures segments { (b : List ℕ) (n : ℕ) → IsHeaderWhole (take n b)
+        → map headed (segments_of (take n b)) ≡ map headed (segments_of b) }
+    ensures notes { (want : Want) (b : List ℕ) (n : ℕ) → IsHeaderWhole (take n b) → IsSound want (take n b)
+        → notes_of want (take n b) ≡ notes_of want b }
+    ensures sound { (want : Want) (b : List ℕ) (n : ℕ) → IsHeaderWhole (take n b) → IsSound want (take n b)
+        → IsSound want b }
 {}

@@ -17,8 +17,8 @@ mod view;
 
 pub use faults::{ElfFault, ElfField, SectionFault, Want};
 pub use laws::{
-    accepted_segments_fit, note_lists_make_a_core_sound, notes_are_the_grammar,
-    soundness_has_no_order, the_fault_is_the_first,
+    a_sound_front_is_enough, accepted_segments_fit, note_lists_make_a_core_sound,
+    notes_are_the_grammar, soundness_has_no_order, the_fault_is_the_first,
 };
 pub use loads::{Load, Loads};
 pub use note_lists::{Note, Notes};

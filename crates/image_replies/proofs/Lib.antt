@@ -1,3 +1,4 @@
 pub mod TextLemmas
 pub mod NameLemmas
 pub mod CountLemmas
+pub mod FrontLemmas

@@ -18,7 +18,7 @@ pub use core_image::{CoreFault, CoreImage};
 pub use faults::{tell_core_fault, tell_elf_fault, tell_note_fault};
 pub use files::tell_files;
 pub use header::{flag_letters, tell_header};
-pub use laws::replies_are_read_one_way;
+pub use laws::{a_sound_front_answers, replies_are_read_one_way};
 pub use note_lines::tell_notes;
 pub use process::tell_process;
 pub use signal::tell_signal;

@@ -13,6 +13,7 @@ pub mod StoreLemmas
 pub mod HoldLemmas
 pub mod RecordedLemmas
 pub mod AfterLemmas
+pub mod PartLemmas
 pub mod PinLemmas
 pub mod ReadLemmas
 pub mod ImageLemmas

@@ -26,7 +26,7 @@ use Rattle.intake.proofs.ImageLemmas.{has_case, bytes_of_case}
 use Rattle.intake.proofs.ReadLemmas.{run_bytes, blocks_more, count_more}
 
 -- the first n of two lists one behind the other
-take_over : {X : Type 0} (n : ℕ) (xs ys : List X) → take n (xs ++ ys) ≡ take n xs ++ take (n - length xs) ys
+pub take_over : {X : Type 0} (n : ℕ) (xs ys : List X) → take n (xs ++ ys) ≡ take n xs ++ take (n - length xs) ys
 take_over zero [] ys = refl
 take_over zero (x ∷ xs) ys = let e : 0 - suc (length xs) ≡ 0 = omega arith in ap (λ k. take k ys) (sym e)
 take_over (suc n) [] ys = let e : suc n - 0 ≡ suc n = omega arith in ap (λ k. take k ys) (sym e)
@@ -51,12 +51,12 @@ part_front b p n m =
     (cases_lt n m)
 
 -- a run has as many bytes as its blocks
-run_long : (shape : Shape) (b : List ℕ) (r : Run) → length b ≡ disk_length shape → r.start + r.count ≤ shape.data_blocks → length (joined shape b (run_blocks r)) ≡ 4096 * r.count
+pub run_long : (shape : Shape) (b : List ℕ) (r : Run) → length b ≡ disk_length shape → r.start + r.count ≤ shape.data_blocks → length (joined shape b (run_blocks r)) ≡ 4096 * r.count
 run_long shape b r whole within =
     ap length (sym (run_bytes shape b r.start r.count))
     ∙ part_length b (block_start shape r.start) (4096 * r.count) (omega (arith, whole, within))
 
-joined_long : (shape : Shape) (b : List ℕ) (runs : List Run) → length b ≡ disk_length shape → LieWithin shape.data_blocks runs → length (joined shape b (blocks_of runs)) ≡ 4096 * length (blocks_of runs)
+pub joined_long : (shape : Shape) (b : List ℕ) (runs : List Run) → length b ≡ disk_length shape → LieWithin shape.data_blocks runs → length (joined shape b (blocks_of runs)) ≡ 4096 * length (blocks_of runs)
 joined_long shape b [] whole within = refl
 joined_long shape b (r ∷ rest) whole within =
     let P : Run → Type 0 = λ x. x.start + x.count ≤ shape.data_blocks in

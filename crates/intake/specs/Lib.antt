@@ -16,6 +16,7 @@ pub mod Making
 pub mod Marks
 pub mod Names
 pub mod Opened
+pub mod Part
 pub mod Parts
 pub mod Reading
 pub mod Retiring

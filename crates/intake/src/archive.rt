@@ -1,5 +1,5 @@
 // The archive: its cases, and the streams on their way into it.
-ghost use Rattle.std.specs.Prelude.{◌≡◌, ◌<◌, ◌≤◌, [], ◌∷◌, ℕ, List, length, OnOk, IfOk, Err, map, IsTrue, false};
+ghost use Rattle.std.specs.Prelude.{◌≡◌, ◌<◌, ◌≤◌, ◌+◌, [], ◌∷◌, ℕ, List, length, OnOk, IfOk, Err, Some, map, IsTrue, false};
 ghost use Rattle.std.specs.Str.{bytes_eq};
 ghost use Rattle.disk_model.specs.Moments.{LeavesOnly, AddsOnly};
 ghost use Rattle.intake.specs.Durable.{Durable, StandsFor, FindsAgain, durable_of, durable_part, without, flagged, labelled, upgraded};
@@ -22,6 +22,7 @@ use crate::buffer::Buffer;
 use crate::dropping::{hold_listed, release_listed};
 use crate::names::{copied, forget_name, forget_names, is_name_kept, keep_name, names_of};
 use crate::opening::open_parts;
+use crate::part::read_part;
 use crate::ranges::{ByteRange, ranges_of};
 use crate::reading::read_image;
 use crate::retiring::decide_for;
@@ -81,11 +82,12 @@ impl<D: Disk> Model for Archive<D> {
 
 impl<D: Disk> Archive<D> {
     ghost use Rattle.intake.specs.Parts.{Parts, StreamParts, state_of, contents_of};
-    ghost use Rattle.intake.specs.State.{ArchiveState, StreamFacts};
-    ghost use Rattle.intake.specs.Step.{RoomReply, FreeReply, VersionReply, DropStep, IsLastGeneration};
+    ghost use Rattle.intake.specs.State.{ArchiveState, CaseFacts, StreamFacts};
+    ghost use Rattle.intake.specs.Step.{RoomReply, FreeReply, VersionReply, DropStep, IsLastGeneration, case_at};
     ghost use Rattle.intake.specs.Contents.{DropBytes};
     ghost use Rattle.intake.specs.Opened.{CaseReply, CasesReply};
     ghost use Rattle.intake.specs.Calls.{OpenCall, BeginCall, AdvanceCall, FinishCall, AbandonCall, PinCall, LabelCall, UpgradeCall, DeleteCall, RetireCall, RetireForCall, ImageCall, CloseCall, Changes};
+    ghost use Rattle.intake.specs.Part.{PartCall};
     ghost use Rattle.intake.specs.Ranges.{RangesReply};
     ghost use Rattle.intake.specs.Retiring.{NameReply};
     ghost use Rattle.intake.specs.Room.{LendsRoom, room_of, FitsFree};
@@ -503,6 +505,28 @@ impl<D: Disk> Archive<D> {
         let shape = self.journal.shape();
         match read_image(self.alloc, &mut self.disk, shape, stored) {
             Ok(image) => Ok(image),
+            Err(fault) => {
+                self.stopped = end_streams(fault, &mut self.slots);
+                Err(fault)
+            }
+        }
+    }
+
+    /// Reads the bytes of a case's image from place `at` on into all of `into`. It takes no memory. Answers, in this order:
+    /// `Stopped`; `NoCase`; `Disk`. All but the last change nothing.
+    pub fn image_part(&mut self, seq: u32, at: u64, into: &mut [u8]) -> Result<(), ArchiveFault>
+        requires { (c : CaseFacts) → case_at seq (state_of self.old).cases ≡ Some c → at + length into.old ≤ c.len }
+        ensures { PartCall D.Disk self.old seq at (length into.old) result into.new self.new }
+    {
+        if self.stopped {
+            return Err(ArchiveFault::Stopped);
+        }
+        let Some(stored) = self.journal.entry(seq) else {
+            return Err(ArchiveFault::NoCase);
+        };
+        let shape = self.journal.shape();
+        match read_part(&mut self.disk, shape, stored.runs.runs(), at, into) {
+            Ok(()) => Ok(()),
             Err(fault) => {
                 self.stopped = end_streams(fault, &mut self.slots);
                 Err(fault)

@@ -9,6 +9,7 @@ mod faults;
 mod laws;
 mod names;
 mod opening;
+mod part;
 mod ranges;
 mod reading;
 mod retiring;

@@ -6,3 +6,4 @@ pub mod FrameLemmas
 pub mod TextLemmas
 pub mod PieceLemmas
 pub mod ValueLemmas
+pub mod FrontLemmas

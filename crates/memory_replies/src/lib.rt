@@ -7,6 +7,7 @@
 mod attached;
 mod dump;
 mod frames;
+mod laws;
 mod maps;
 mod named;
 mod named_image;
@@ -18,6 +19,7 @@ mod words;
 pub use attached::{Attached, names_file};
 pub use dump::tell_dump;
 pub use frames::tell_bt;
+pub use laws::a_sound_front_shows_the_mappings;
 pub use maps::tell_maps;
 pub use search::tell_find;
 pub use symbol::tell_symbol;

@@ -9,6 +9,8 @@ mod executables;
 #[cfg(test)]
 mod faults;
 #[cfg(test)]
+mod fronts;
+#[cfg(test)]
 mod images;
 #[cfg(test)]
 mod kinds;

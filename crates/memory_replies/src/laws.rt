@@ -1,0 +1,19 @@
+// What is told from the first bytes of a core.
+ghost use Rattle.std.specs.Prelude.{◌≡◌, ℕ, List, take};
+ghost use Rattle.elf_view.specs.Sound.{IsHeaderWhole, IsSound};
+ghost use Rattle.elf_view.specs.declared.faults.Want.{Want};
+ghost use Rattle.image_replies.specs.Lines.{in_core};
+ghost use Rattle.memory_replies.specs.Maps.{maps_answer};
+
+use elf_view::{Want, a_sound_front_is_enough};
+use image_replies::a_sound_front_answers;
+
+/// If the first bytes of a core are sound as a core of their own, they show the mappings that the whole core shows. It does
+/// nothing.
+pub fn a_sound_front_shows_the_mappings()
+    ensures { (b : List ℕ) (n : ℕ) → IsHeaderWhole (take n b) → IsSound Want.Core (take n b)
+        → in_core (take n b) (λ notes. maps_answer (take n b)) ≡ in_core b (λ notes. maps_answer b) }
+{
+    a_sound_front_is_enough();
+    a_sound_front_answers();
+}

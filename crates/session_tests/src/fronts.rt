@@ -1,0 +1,160 @@
+// How much of an image lines read that ask its headers and notes.
+ghost use Rattle.std.specs.Prelude.{◌≡◌, ◌+◌, ◌≤◌, length};
+
+use crate::archives::{disk_of, opened, told};
+use disk_model::{Disk, DiskFault, MemDisk};
+use elf_view::sample::{LoadPart, NotePart, core_image};
+use std::alloc::Global;
+use std::process::Abort;
+use std::test::Fail;
+
+// A disk that counts the bytes that are read of the one within.
+#[derive(Drop)]
+struct Counting<D> {
+    inner: D,
+    read: u64,
+}
+
+impl<D: Disk> Disk for Counting<D> {
+    ghost size = { λ f. D.size f.inner };
+
+    ghost seen = { λ f. D.seen f.inner };
+
+    ghost is_honest = { λ f. D.is_honest f.inner };
+
+    ghost failures = { λ f. D.failures f.inner };
+
+    ghost clock = { λ f. D.clock f.inner };
+
+    ghost may_leave = { λ f. D.may_leave f.inner };
+
+    ghost left_since = { λ f. D.left_since f.inner };
+
+    ghost addressed = { λ f. D.addressed f.inner };
+
+    ghost whole = { λ f. D.whole f.inner };
+
+    ghost sized = { λ f. D.sized f.inner };
+
+    ghost seen_bytes = { λ f. D.seen_bytes f.inner };
+
+    ghost left_bytes = { λ f. D.left_bytes f.inner };
+
+    ghost seen_may_stay = { λ f. D.seen_may_stay f.inner };
+
+    ghost counts_now = { λ f. D.counts_now f.inner };
+
+    ghost only_now = { λ f. D.only_now f.inner };
+
+    fn length(&self) -> u64 {
+        self.inner.length()
+    }
+
+    fn read_at(&mut self, at: u64, into: &mut [u8]) -> Result<(), DiskFault> {
+        self.read = self.read.saturating_add(into.len() as u64);
+        self.inner.read_at(at, into)
+    }
+
+    fn write_at(&mut self, at: u64, from: &[u8]) -> Result<(), DiskFault> {
+        self.inner.write_at(at, from)
+    }
+
+    fn sync(&mut self) -> Result<(), DiskFault> {
+        self.inner.sync()
+    }
+}
+
+// How many bytes an opening and a session over these lines read, each of which is answered.
+fn bytes_read(alloc: Global, disk: MemDisk, lines: &str) -> Result<u64, Fail> {
+    let disk = Counting {
+        inner: disk,
+        read: 0,
+    };
+    let mut archive = opened(alloc, disk, 1 << 30)?;
+    let text = told(alloc, &mut archive, lines.as_bytes())?;
+    if !text.ends_with("ok\n") {
+        Err("not answered")?;
+    }
+    Ok(archive.close().read)
+}
+
+// A core with an NT_SIGINFO and a MiB of memory behind it.
+fn large_core(alloc: Global) -> Result<Vec<u8>, Fail> {
+    let memory = vec![in alloc; 7u8; 1 << 20]?;
+    let signal = NotePart {
+        name: b"CORE",
+        kind: 0x5349_4749,
+        desc: &[0; 128],
+    };
+    let load = LoadPart {
+        flags: 6,
+        vaddr: 0x10000,
+        memsz: 1 << 20,
+        bytes: &memory,
+    };
+    Ok(core_image(alloc, &[signal], &[load])?)
+}
+
+// The same with its notes behind the memory: their program header, the first one, tells this place.
+fn notes_last(alloc: Global) -> Result<Vec<u8>, Fail> {
+    let mut image = large_core(alloc)?;
+    let end = image.len();
+    let notes = match image.get(176..324) {
+        Some(notes) => notes.to_vec(alloc)?,
+        None => Err("no notes")?,
+    };
+    image.extend_from_slice(&notes)?;
+    for (i, byte) in (end as u64).to_le_bytes().iter().enumerate() {
+        if let Some(place) = image.get_mut(72 + i) {
+            *place = *byte;
+        }
+    }
+    Ok(image)
+}
+
+// The disk of an archive whose first case is this core.
+fn with_core(alloc: Global, image: &[u8]) -> Result<MemDisk, Fail> {
+    let mut archive = opened(alloc, disk_of(alloc, 260)?, 1 << 30)?;
+    let mut script = b"begin core 0 comm=demo pid=1\n".to_vec(alloc)?;
+    for piece in image.chunks(4000) {
+        let part = format!(in alloc; "part 0 {}\n", piece.len())?;
+        script.extend_from_slice(part.as_bytes())?;
+        script.extend_from_slice(piece)?;
+    }
+    script.extend_from_slice(b"end 0\n")?;
+    let text = told(alloc, &mut archive, script.as_slice())?;
+    if !text.ends_with("ok\n") {
+        Err("not stored")?;
+    }
+    Ok(archive.close())
+}
+
+#[test]
+fn a_line_over_notes_reads_a_front(rt: HostRuntime) -> Result<(), Fail> {
+    let alloc = rt.alloc();
+    let core = large_core(alloc)?;
+    let read = bytes_read(alloc, with_core(alloc, &core)?, "signal 1\n")?;
+    assert!(rt; read < 200 << 10);
+    Ok(())
+}
+
+#[test]
+fn a_front_is_read_once_for_lines_in_a_row(rt: HostRuntime) -> Result<(), Fail> {
+    let alloc = rt.alloc();
+    let core = large_core(alloc)?;
+    let once = bytes_read(alloc, with_core(alloc, &core)?, "signal 1\n")?;
+    let lines = "signal 1\nmaps 1\nthreads 1\nheader 1\n";
+    let again = bytes_read(alloc, with_core(alloc, &core)?, lines)?;
+    assert_eq!(rt; again, once);
+    Ok(())
+}
+
+#[test]
+fn notes_behind_the_memory_are_read_with_each_byte_once(rt: HostRuntime) -> Result<(), Fail> {
+    let alloc = rt.alloc();
+    let core = notes_last(alloc)?;
+    let none = bytes_read(alloc, with_core(alloc, &core)?, "free\n")?;
+    let all = bytes_read(alloc, with_core(alloc, &core)?, "signal 1\n")?;
+    assert_eq!(rt; all.saturating_sub(none), core.len() as u64);
+    Ok(())
+}
