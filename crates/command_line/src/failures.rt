@@ -10,6 +10,7 @@ use journal_layout::{BadShape, OpenFault};
 use name_template::TemplateFault;
 use script_streams::{Output, Reply, StreamFault};
 use std::alloc::{AllocError, Global};
+use std::io;
 
 // Why the program did not do what its words ask for.
 #[derive(Drop)]
@@ -22,6 +23,8 @@ pub(crate) enum Failure {
     Aside(Refusal),
     // The session ended before its script.
     Faulted(SessionFault),
+    // The file of an image could not be written.
+    Unwritten(io::ErrorKind),
     // A step was refused, and its reply has said so.
     Told,
 }
@@ -189,6 +192,10 @@ pub(crate) fn tell_failure<O: Output, E: Output>(
             tell_refusal(*refusal, errors)
         }
         Failure::Faulted(fault) => tell_fault(*fault, errors),
+        Failure::Unwritten(kind) => {
+            tell_unwritten(b"FILE", *kind, errors);
+            tell_fault(SessionFault::WriteFailed, errors)
+        }
         Failure::Told => 1,
     }
 }
@@ -220,6 +227,23 @@ fn tell_text<O: Output>(output: &mut O, text: &[u8]) -> Result<(), StreamFault> 
     let mut reply = Reply::new();
     reply.tell(output, text);
     reply.finish(output)
+}
+
+/// Tells people why this file could not be written, where the file system has no room for it; of other reasons nothing is told.
+pub fn tell_unwritten<E: Output>(file: &[u8], kind: io::ErrorKind, errors: &mut E) {
+    let why: &[u8] = match kind {
+        io::ErrorKind::StorageFull => b"the file system is full",
+        io::ErrorKind::QuotaExceeded => b"the quota is used up",
+        io::ErrorKind::FileTooLarge => b"the file may not grow so large",
+        _ => return,
+    };
+    let mut reply = Reply::new();
+    reply.tell(errors, b"corekeep: ");
+    reply.tell(errors, file);
+    reply.tell(errors, b": ");
+    reply.tell(errors, why);
+    reply.tell(errors, b"\n");
+    let _ = reply.finish(errors);
 }
 
 // Tells people what a reason for scripts leaves open.

@@ -11,4 +11,5 @@ mod single;
 mod tables;
 mod words;
 
+pub use failures::tell_unwritten;
 pub use words::{run_program, run_words};

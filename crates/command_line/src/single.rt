@@ -15,6 +15,7 @@ use script_words::parse_case_number;
 use std::alloc::Global;
 use std::fs;
 use std::fs::{File, Permissions};
+use std::io::ErrorKind;
 use std::os::unix::fs::{OpenOptionsExt, PermissionsExt};
 use std::rt::Files;
 
@@ -80,17 +81,26 @@ fn extract_to_file<R: AllocGlobal + Files<File = File>>(
     )))?;
     let mut output = WriteOutput::new(file);
     let done = copy_to(rt, place, seq, &mut output);
+    let why = output.fault();
     let file = output.into_inner();
     match done {
         Ok(()) => file
             .sync_all()
-            .map_err(|_| Failure::Faulted(SessionFault::WriteFailed)),
+            .map_err(|error| Failure::Unwritten(error.kind())),
         Err(failure) => {
             if is_empty(&file) {
                 let _ = fs::remove_file(rt, path);
             }
-            Err(failure)
+            Err(told_why(failure, why))
         }
+    }
+}
+
+// What failed, with the reason where it is that of a write.
+fn told_why(failure: Failure, why: Option<ErrorKind>) -> Failure {
+    match (failure, why) {
+        (Failure::Faulted(SessionFault::WriteFailed), Some(kind)) => Failure::Unwritten(kind),
+        (failure, _) => failure,
     }
 }
 

@@ -1,7 +1,7 @@
 //! The program: its standard streams and its status.
 #![tactic(auto)]
 
-use command_line::run_program;
+use command_line::{run_program, tell_unwritten};
 use script_streams::{Output, Reply, WriteOutput};
 use std::fs::File;
 use std::io;
@@ -18,6 +18,9 @@ fn main(rt: HostRuntime) -> io::Result<ExitCode> {
         Ok(_) => run_program(&rt, &mut input, &mut output, &mut errors),
         Err(_) => refuse_descriptors(&mut output, &mut errors),
     };
+    if let Some(kind) = output.fault() {
+        tell_unwritten(b"standard output", kind, &mut errors);
+    }
     Ok(ExitCode::from(status))
 }
 

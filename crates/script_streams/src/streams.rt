@@ -4,7 +4,7 @@ ghost use Rattle.std.specs.Io.KnownBytes.{ReadConsumes, WriteAppends};
 ghost use Rattle.failure_count.specs.Counts.{HasRisen};
 
 use failure_count::after_failure;
-use std::io::{Read, Write};
+use std::io::{ErrorKind, Read, Write};
 use thiserror::Error;
 
 /// A stream's call failed, for whatever cause.
@@ -87,6 +87,8 @@ impl<R: Read> Input for ReadInput<R> {
 pub struct WriteOutput<W> {
     writer: W,
     failures: u64,
+    // Of the last write that failed.
+    fault: Option<ErrorKind>,
 }
 
 impl<W: Write> WriteOutput<W> {
@@ -98,7 +100,13 @@ impl<W: Write> WriteOutput<W> {
         WriteOutput {
             writer,
             failures: 0,
+            fault: None,
         }
+    }
+
+    /// Why the last write failed that did, if one has.
+    pub fn fault(&self) -> Option<ErrorKind> {
+        self.fault
     }
 
     /// The writer, with all that was written.
@@ -108,6 +116,7 @@ impl<W: Write> WriteOutput<W> {
         let WriteOutput {
             writer,
             failures: _,
+            fault: _,
         } = self;
         writer
     }
@@ -119,12 +128,13 @@ impl<W: Write> Output for WriteOutput<W> {
     ghost failures = { λ s. s.failures };
 
     fn write(&mut self, from: &[u8]) -> Result<usize, StreamFault> {
-        match self.writer.write(from) {
-            Ok(0) | Err(_) => {
-                self.failures = after_failure(self.failures);
-                Err(StreamFault)
-            }
-            Ok(count) => Ok(count),
-        }
+        let fault = match self.writer.write(from) {
+            Ok(0) => ErrorKind::WriteZero,
+            Ok(count) => return Ok(count),
+            Err(error) => error.kind(),
+        };
+        self.fault = Some(fault);
+        self.failures = after_failure(self.failures);
+        Err(StreamFault)
     }
 }
