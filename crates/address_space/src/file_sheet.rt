@@ -1,5 +1,5 @@
 // The mapped files by address, where entries of NT_FILE may have addresses in common.
-ghost use Rattle.std.specs.Prelude.{◌≡◌, ◌<◌, ◌≤◌, ℕ, map, length, IfOk, IfSome, slice_get};
+ghost use Rattle.std.specs.Prelude.{not, is_some, ◌≡◌, ◌<◌, ◌≤◌, ℕ, map, length, IfOk, IfSome, slice_get};
 ghost use Rattle.std.specs.Option.{option_map, ForSome};
 ghost use Rattle.core_notes.specs.FileList.{FileView};
 ghost use Rattle.core_notes.specs.FileWords.{file_view};
@@ -40,7 +40,8 @@ impl<'a> FileSheet<'a> {
         alloc: Global,
         files: Option<Files<'a>>,
     ) -> Result<Option<FileSheet<'a>>, AllocError>
-        ensures { IfOk result (λ o. ForSome o (λ s. map file_view s.maps.items ≡ files_in files.entry)) }
+        ensures there { IfOk result (λ o. is_some o ≡ not has_table) }
+        ensures maps { IfOk result (λ o. ForSome o (λ s. map file_view s.maps.items ≡ files_in files.entry)) }
     {
         if has_table {
             return Ok(None);

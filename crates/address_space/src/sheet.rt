@@ -1,5 +1,5 @@
 // The addresses that each segment decides, where PT_LOADs may have addresses in common.
-ghost use Rattle.std.specs.Prelude.{◌≡◌, ℕ, IfOk};
+ghost use Rattle.std.specs.Prelude.{not, is_some, ◌≡◌, ℕ, IfOk};
 ghost use Rattle.std.specs.Option.{ForSome, option_map};
 ghost use Rattle.elf_view.specs.Header.{SegmentView, segments_of};
 ghost use Rattle.elf_view.specs.ViewWords.{image_of};
@@ -42,6 +42,7 @@ impl Sheet {
         alloc: Global,
         elf: &Elf<'_>,
     ) -> Result<Option<Sheet>, AllocError>
+        ensures there { IfOk result (λ o. is_some o ≡ not has_table) }
         ensures laid { IfOk result (λ o. ForSome o (λ s. ∥ IsSheet s.table.rows.items ∥₁)) }
         ensures deciding { IfOk result (λ o. ForSome o (λ s. (a : ℕ) → holder s.table.rows.items a
             ≡ option_map (λ (d : ℕ × SegmentView). d.0) (first_from (is_covering a) 0 (segments_of (image_of elf.now))))) }
