@@ -21,6 +21,11 @@ pub(crate) enum Access {
 // How often a file is opened anew that is no longer the one of its path.
 const MOST_TRIES: u32 = 1_000_000;
 
+// The bytes of a block, and the most blocks of a half of a journal.
+const BLOCK: u64 = 4096;
+
+const MOST_HALF_BLOCKS: u32 = 4096;
+
 // What is asked of a new archive.
 #[derive(Clone, Copy)]
 pub(crate) struct NewArchive {
@@ -79,8 +84,30 @@ fn disk_of<R: AllocGlobal + Files<File = File>>(
     let file = take_file(rt, place, access)?;
     match access {
         Access::Looking => FileDisk::from_shared(file),
-        Access::Changing => FileDisk::from_locked(rt.alloc(), file),
+        Access::Changing => settled(FileDisk::from_locked(rt.alloc(), file)?),
     }
+}
+
+// Has the archive's superblock and journal written again. An earlier process may have failed to write some of it, and reads
+// don't tell. What is built on them then is as durable as they are.
+fn settled(disk: FileDisk) -> Result<FileDisk, FileFault> {
+    let mut disk = disk;
+    let front = front_of(&mut disk);
+    disk.write_again(front)?;
+    Ok(disk)
+}
+
+// How many bytes the superblock and the journal take. 0 where there is no archive.
+fn front_of<D: Disk>(disk: &mut D) -> u64 {
+    let mut start = [0u8; 20];
+    if disk.length() < BLOCK
+        || disk.read_at(0, &mut start).is_err()
+        || !start[8..].starts_with(b"COREKEEP")
+    {
+        return 0;
+    }
+    let half_blocks = u32::from_le_bytes([start[16], start[17], start[18], start[19]]);
+    BLOCK * (1 + 2 * u64::from(half_blocks.min(MOST_HALF_BLOCKS)))
 }
 
 // Opens the file and takes its lock. Opening a pipe could wait for ever, so what is no regular file is refused before. While it waited, another file may have been put in its place: then it begins again.
@@ -110,12 +137,26 @@ fn look_at_file<R: Files<File = File>>(rt: &R, path: &str) -> Result<(), FileFau
     }
 }
 
-// Whether one of the words names the file that standard output goes to. What the program tells would be written over it.
+// Whether one of the words of a command over an archive names the file that standard output goes to. What the program tells
+// would be written over it.
 pub(crate) fn names_output<R: Files<File = File>>(rt: &R, words: &[String]) -> bool {
+    let Some((command, others)) = words.split_first() else {
+        return false;
+    };
+    if !takes_archive(command) {
+        return false;
+    }
     match fs::metadata(rt, "/dev/stdout") {
-        Ok(output) if output.is_file() => words.iter().any(|word| names(rt, word, &output)),
+        Ok(output) if output.is_file() => others.iter().any(|word| names(rt, word, &output)),
         _ => false,
     }
+}
+
+fn takes_archive(command: &str) -> bool {
+    matches!(
+        command,
+        "format" | "run" | "store" | "extract" | "list" | "ask"
+    )
 }
 
 fn names<R: Files<File = File>>(rt: &R, path: &str, file: &Metadata) -> bool {

@@ -10,7 +10,6 @@ use std::alloc::{AllocError, Global};
 use std::fs::{File, Permissions, TryLockError};
 use std::io;
 use std::io::ErrorKind;
-use std::os::fd::AsRawFd;
 use std::os::unix::fs::{FileExt, OpenOptionsExt, PermissionsExt};
 use std::path::Path;
 use std::rt::Files;
@@ -19,13 +18,8 @@ use thiserror::Error;
 // Only its owner may read and write a file that is made here.
 const OWNER_ALONE: u32 = 0o600;
 
-// The bytes of one write of zeros.
+// The bytes of one write of zeros, or of bytes that are written again.
 const ZEROS: usize = 65_536;
-
-// How many bytes at the front of the file are read from its device when it is opened. A superblock and a journal take 32 MiB
-// and a block at most. It is a whole number of the largest pieces in which Linux keeps a file in memory (2 MiB), and the last
-// of them that can hold some of a journal ends before it: a piece that is only partly named is not dropped.
-const FRONT: i64 = 64 << 20;
 
 /// Why a disk in a file could not be made or opened.
 #[derive(Clone, Copy, Debug, PartialEq, Eq, Error)]
@@ -63,8 +57,8 @@ pub enum FileFault {
     /// Another has its lock.
     #[error("another process has the file")]
     Busy,
-    /// What its device has could not be made what reads give. Only what opens a file answers this.
-    #[error("the file could not be brought to what its device has")]
+    /// What an earlier process wrote could not be made durable. Only what opens a file, and `write_again`, answer this.
+    #[error("what was written before could not be made durable")]
     Settle,
     /// There is no memory for the bytes of its writes.
     #[error("there is no memory")]
@@ -110,11 +104,10 @@ enum Durability {
 /// before a sync. A read gives what was gathered too. A write that the file refuses is told by the call that met it, which
 /// may be a later write or a sync, and what was gathered is kept to be written again.
 ///
-/// Opening a file makes what reads give what its device has. When Linux fails to write a page to the device, it keeps the
-/// page's new bytes in memory, takes them for written, and tells of it in one sync. An earlier process may have met that, or
-/// have been killed before it. So what still waits is synced, and then the pages at the front of the file, where an archive
-/// keeps its journal, are dropped from memory and read anew from the device. For the same reason no sync succeeds after one
-/// that failed: the file has to be opened again.
+/// When Linux fails to write a page to the device, it keeps the page's new bytes in memory, takes them for written, and tells of
+/// it in one sync. An earlier process may have met that, or have been killed before it. So opening a file makes durable what
+/// still waits, and whoever is to build on bytes of an earlier process has them written again first (`write_again`). For the
+/// same reason no sync succeeds after one that failed: the file has to be opened again.
 ///
 /// Nothing is promised of its bytes, or of what a crash leaves of them: it is not honest by proof, so what else is
 /// proved over a disk holds of it where the file system keeps to the disk model.
@@ -206,7 +199,18 @@ impl FileDisk {
         FileDisk::holding(file, None)
     }
 
-    // A disk in a file, which reads as its device does. A folder, which may be opened for reading, is refused as `Folder`, and
+    /// Writes the first `length` bytes of the file again, as they read, and makes them durable. So the device has what reads
+    /// give of them, also where an earlier process failed to write them. Bytes that the device has already are written over by
+    /// themselves.
+    pub fn write_again(&mut self, length: u64) -> Result<(), FileFault>
+        ensures uncounted { self.new.failures ≡ self.old.failures }
+    {
+        let front = length.min(self.length);
+        write_front(&self.file, front).map_err(|_| FileFault::Settle)?;
+        self.file.sync_all().map_err(|_| FileFault::Settle)
+    }
+
+    // A disk in a file. A folder, which may be opened for reading, is refused as `Folder`, and
     // what is no regular file as `Special`.
     fn holding(file: File, gathered: Option<Gathered>) -> Result<FileDisk, FileFault>
         ensures uncounted { IfOk result (λ d. d.failures ≡ 0) }
@@ -323,27 +327,34 @@ fn write_zeros(file: &File, length: u64) -> Result<(), FileFault> {
 // Makes the file's bytes, its length and its name in its folder durable.
 fn make_durable<R: Files<File = File>>(rt: &R, path: &str, file: &File) -> Result<(), FileFault> {
     file.sync_all().map_err(|_| FileFault::Sync)?;
-    drop_pages(file).map_err(|_| FileFault::Sync)?;
     sync_folder(rt, path).map_err(|_| FileFault::Sync)
 }
 
-// Makes what reads of the file's front give what its device has. The first sync may tell of a write that an earlier process
-// made and never saw synced: nothing was promised of it, so the second one decides.
+// Makes durable what an earlier process has left to be written. The first sync may tell of a write that it never saw synced:
+// nothing was promised of it, so the second one decides.
 fn settle(file: &File) -> Result<(), FileFault> {
     if file.sync_all().is_err() {
         file.sync_all().map_err(|_| FileFault::Settle)?;
     }
-    drop_pages(file).map_err(|_| FileFault::Settle)
+    Ok(())
 }
 
-// Drops the pages of the file's front from memory, so that the next read of them asks the device.
-fn drop_pages(file: &File) -> io::Result<()> {
-    let advised = libc::posix_fadvise(file.as_raw_fd(), 0, FRONT, libc::POSIX_FADV_DONTNEED);
-    if advised == 0 {
-        Ok(())
-    } else {
-        Err(io::Error::from_raw_os_error(advised))
+// Writes the first bytes of the file over themselves.
+fn write_front(file: &File, length: u64) -> io::Result<()> {
+    let mut bytes = [0u8; ZEROS];
+    let mut at = 0u64;
+    while at < length {
+        let left = length - at;
+        let size = if left < ZEROS as u64 {
+            left as usize
+        } else {
+            ZEROS
+        };
+        file.read_exact_at(&mut bytes[..size], at)?;
+        file.write_all_at(&bytes[..size], at)?;
+        at += size as u64;
     }
+    Ok(())
 }
 
 // Makes the names in the file's folder durable.
