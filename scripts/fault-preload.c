@@ -14,8 +14,8 @@
    page of 4,096 bytes that is written is dirty: the byte of its number in the file FAULT_DEVICE.dirty is 1. An fsync copies the
    dirty pages to the device and makes them clean. Where it is LOST, it makes them clean and copies none, as Linux does where a
    page can't be written. Where there is a file FAULT_DEVICE.error, one fsync fails and takes that file away, as where writing
-   failed between two processes. posix_fadvise with POSIX_FADV_DONTNEED copies the clean pages of its range back from the
-   device, unless there is FAULT_KEEPS.
+   failed between two processes. With FAULT_ONCE a write of bytes that the file has already makes no page dirty, as if the
+   program did not write them again.
 
    With FAULT_READS a read of standard input gives at most so many bytes, so that a script comes in many reads, and its
    replies go in many writes.
@@ -60,7 +60,6 @@ typedef ssize_t (*write_type)(int, const void *, size_t);
 typedef ssize_t (*pread_type)(int, void *, size_t, off_t);
 typedef ssize_t (*pwrite_type)(int, const void *, size_t, off_t);
 typedef int (*fsync_type)(int);
-typedef int (*advise_type)(int, off_t, off_t, int);
 
 static void read_settings(void) {
     const char *reads = getenv("FAULT_READS"), *path = getenv("FAULT_TRACE");
@@ -165,6 +164,20 @@ static void copy_page(int from, int to, off_t page) {
         abort();
 }
 
+/* Whether a file has these bytes there. */
+static int has(int file, const char *bytes, size_t size, off_t at) {
+    REAL(pread_type, "pread64");
+    char there[PAGE];
+    size_t done = 0;
+    while (done < size) {
+        size_t count = size - done < PAGE ? size - done : PAGE;
+        if (real(file, there, count, at + (off_t)done) != (ssize_t)count || memcmp(there, bytes + done, count))
+            return 0;
+        done += count;
+    }
+    return 1;
+}
+
 /* Makes the pages dirty that a write has changed. */
 static void dirty(off_t at, ssize_t size) {
     REAL(pwrite_type, "pwrite64");
@@ -179,9 +192,8 @@ static void dirty(off_t at, ssize_t size) {
     close(pages);
 }
 
-/* Goes over the pages of the archive's file. The dirty ones are made clean, and copied to the device unless they are lost; or,
-   of the pages from one to another, the clean ones are copied back from the device. */
-static void settle(int file, int is_lost, int is_back, off_t from, off_t to) {
+/* Makes the dirty pages of the archive's file clean, and copies them to the device unless they are lost. */
+static void clean(int file, int is_lost) {
     REAL(pread_type, "pread64");
     pwrite_type put = (pwrite_type)dlsym(RTLD_NEXT, "pwrite64");
     struct stat about;
@@ -189,12 +201,10 @@ static void settle(int file, int is_lost, int is_back, off_t from, off_t to) {
     off_t page;
     if (fstat(file, &about) || ftruncate(device, about.st_size))
         abort();
-    for (page = from; page < to && page * PAGE < about.st_size; page++) {
+    for (page = 0; page * PAGE < about.st_size; page++) {
         char is_dirty = 0;
         real(pages, &is_dirty, 1, page);
-        if (is_back && !is_dirty)
-            copy_page(device, file, page);
-        if (is_back || !is_dirty)
+        if (!is_dirty)
             continue;
         if (!is_lost)
             copy_page(file, device, page);
@@ -208,7 +218,7 @@ static void settle(int file, int is_lost, int is_back, off_t from, off_t to) {
 static int sync_pages(int file, int is_lost) {
     int error = open_beside(".error", O_RDONLY);
     char path[4096];
-    settle(file, is_lost, 0, 0, INT32_MAX);
+    clean(file, is_lost);
     if (error >= 0) {
         close(error);
         snprintf(path, sizeof path, "%s.error", getenv("FAULT_DEVICE"));
@@ -217,19 +227,6 @@ static int sync_pages(int file, int is_lost) {
     }
     errno = EIO;
     return is_lost ? -1 : 0;
-}
-
-int posix_fadvise64(int file, off_t at, off_t size, int advice) {
-    REAL(advise_type, "posix_fadvise64");
-    if (!getenv("FAULT_DEVICE"))
-        return real(file, at, size, advice);
-    if (advice == POSIX_FADV_DONTNEED && !getenv("FAULT_KEEPS"))
-        settle(file, 0, 1, (at + PAGE - 1) / PAGE, size ? (at + size) / PAGE : INT32_MAX);
-    return 0;
-}
-
-int posix_fadvise(int file, off_t at, off_t size, int advice) {
-    return posix_fadvise64(file, at, size, advice);
 }
 
 ssize_t read(int file, void *into, size_t size) {
@@ -268,12 +265,14 @@ ssize_t pread(int file, void *into, size_t size, off_t at) {
 ssize_t pwrite64(int file, const void *from, size_t size, off_t at) {
     ssize_t done;
     REAL(pwrite_type, "pwrite64");
-    int met = is_met("pwrite");
+    int is_same, met = is_met("pwrite");
     if (met && fault.kind == FAILS)
         return failed();
+    is_same = getenv("FAULT_ONCE") && has(file, from, size, at);
     done = real(file, from, met ? moved(size) : size, at);
     tell('W', at, done, from);
-    dirty(at, done);
+    if (!is_same)
+        dirty(at, done);
     return met ? torn(done) : done;
 }
 
