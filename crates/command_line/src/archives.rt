@@ -92,25 +92,29 @@ fn disk_of<R: AllocGlobal + Files<File = File>>(
 // don't tell. What is built on them then is as durable as they are.
 fn settled(disk: FileDisk) -> Result<FileDisk, FileFault> {
     let mut disk = disk;
-    let front = front_of(&mut disk);
+    let front = front_of(&mut disk)?;
     disk.write_again(front)?;
     Ok(disk)
 }
 
 // How many bytes the superblock and the journal take. 0 where there is no archive.
-fn front_of<D: Disk>(disk: &mut D) -> u64 {
+fn front_of<D: Disk>(disk: &mut D) -> Result<u64, FileFault> {
     let mut start = [0u8; 20];
-    if disk.length() < BLOCK
-        || disk.read_at(0, &mut start).is_err()
-        || !start[8..].starts_with(b"COREKEEP")
-    {
-        return 0;
+    if disk.length() < BLOCK {
+        return Ok(0);
+    }
+    if disk.read_at(0, &mut start).is_err() {
+        return Err(FileFault::Settle);
+    }
+    if !start[8..].starts_with(b"COREKEEP") {
+        return Ok(0);
     }
     let half_blocks = u32::from_le_bytes([start[16], start[17], start[18], start[19]]);
-    BLOCK * (1 + 2 * u64::from(half_blocks.min(MOST_HALF_BLOCKS)))
+    Ok(BLOCK * (1 + 2 * u64::from(half_blocks.min(MOST_HALF_BLOCKS))))
 }
 
-// Opens the file and takes its lock. Opening a pipe could wait for ever, so what is no regular file is refused before. While it waited, another file may have been put in its place: then it begins again.
+// Opens the file and takes its lock. Opening a pipe could wait for ever, so what is no regular file is refused before. While
+// it waited, another file may have been put in its place: then it begins again.
 fn take_file<R: Files<File = File>>(
     rt: &R,
     place: Place<'_>,

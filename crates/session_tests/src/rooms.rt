@@ -134,8 +134,8 @@ fn after(alloc: Global, script: &[u8]) -> Result<MemDisk, Fail> {
 static PINNED: &[u8] = b"begin exec 0 a\nend 0\nbegin core 0 comm=b time=9\nend 0\npin 1\n";
 
 // What is pinned stays, and is counted; what is too old goes; and a limit that does not hold even so refuses nothing. A line that
-// is no `retire` makes no room.
-static KEPT: [Row; 4] = [
+// is no `retire` makes no room, and none is made for a line that begins no stream, or whose name a case has that stays.
+static KEPT: [Row; 6] = [
     Row {
         before: b"list",
         line: b"begin exec 0 c",
@@ -162,9 +162,25 @@ static KEPT: [Row; 4] = [
     },
     Row {
         before: b"retire keep=0",
-        line: b"begin exec 1 f",
+        line: b"begin exec 0 f",
         size: 1,
-        replies: "dropped 5\nunmet\nok\nno BadLine\n",
+        replies: "dropped 5\nunmet\nok\nname f\nok\nstored 6\nok\n",
+        made_room: true,
+        stored: Some(6),
+    },
+    Row {
+        before: b"retire keep=0",
+        line: b"begin exec 1 g",
+        size: 1,
+        replies: "no BadLine\n",
+        made_room: true,
+        stored: None,
+    },
+    Row {
+        before: b"retire keep=0",
+        line: b"begin exec 0 a",
+        size: 1,
+        replies: "no NameTaken\n",
         made_room: true,
         stored: None,
     },
@@ -177,7 +193,7 @@ fn what_is_pinned_stays(rt: HostRuntime) -> Result<(), Fail> {
         after(rt.alloc(), PINNED)?,
         &KEPT,
         b"list\n",
-        "1 exec 0 0 0 0 pinned a\nok\n",
+        "1 exec 0 0 0 0 pinned a\n6 exec 1 0 0 0 - f\nok\n",
     )
 }
 
@@ -215,17 +231,7 @@ fn a_case_is_stored_where_no_room_is_made(rt: HostRuntime) -> Result<(), Fail> {
     Ok(())
 }
 
-// A line that retires, and one that begins no stream.
-static RETIRED_ALONE: Row = Row {
-    before: b"retire keep=0",
-    line: b"list",
-    size: 0,
-    replies: "dropped 1\nok\nno BadLine\n",
-    made_room: true,
-    stored: None,
-};
-
-// The same where the disk fails at its last call, so that the archive is stopped.
+// A line that retires, where the disk fails at its last call, so that the archive is stopped.
 static STOPPED: Row = Row {
     before: b"retire keep=0",
     line: b"begin exec 0 b",
@@ -239,7 +245,9 @@ static STOPPED: Row = Row {
 fn a_disk_that_fails_where_room_is_made(rt: HostRuntime) -> Result<(), Fail> {
     let disk = after(rt.alloc(), b"begin exec 0 a\nend 0\n")?;
     let copy = OneFault::new(disk.after_crash(Pick::Nothing)?, 0);
-    let whole = stores(&rt, copy, &RETIRED_ALONE)?;
-    let _ = stores(&rt, OneFault::new(disk, whole.calls()), &STOPPED)?;
+    let mut archive = opened(rt.alloc(), copy, 1 << 30)?;
+    tells(&rt, &mut archive, b"retire keep=0\n", "dropped 1\nok\n")?;
+    let calls = archive.close().calls();
+    let _ = stores(&rt, OneFault::new(disk, calls), &STOPPED)?;
     Ok(())
 }
