@@ -76,7 +76,7 @@ module _ {D : Type 0} (g : disk.Ghosts D) where
       → Copies g d d (tells_from taken taken failures failures reply reply) whole (Ok tt)
   copies_none d taken failures reply only whole none = record {
     text = [];
-    told = tells_nothing taken failures reply;
+    told = tells_nothing;
     front = λ honest. none (g.seen d);
     quiet = quiet_none g d only;
     later = omega arith;
@@ -90,7 +90,7 @@ module _ {D : Type 0} (g : disk.Ghosts D) where
       → Copies g old new (tells_from a c f f'' x z) (λ (bytes : List ℕ). first bytes ++ second bytes) r
   copies_then old mid new a b c f f' f'' x y z first second r so_far more = record {
     text = so_far.text ++ more.text;
-    told = tells_then a b c f f' f'' x y z so_far.text more.text so_far.told more.told;
+    told = tells_then so_far.told more.told;
     front = λ honest.
         let still : IsTrue (g.is_honest mid) = subst IsTrue (sym so_far.quiet.honesty) honest in
         front_then r so_far.text more.text (first (g.seen old)) (second (g.seen old)) (so_far.front honest)

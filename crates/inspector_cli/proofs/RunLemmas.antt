@@ -40,7 +40,7 @@ Along g naming r t old new false = ScriptEnds g naming r t old new (Ok tt)
 module _ {D : Type 0} (g : disk.Ghosts D) where
   pub begun : (naming : Naming) (a : Option (List ℕ)) (b : ScriptBuffer) (o : Option (List ℕ)) (f : ℕ) (reply : Reply) (s : Stage D)
       → Along g naming (record { before = a; after = a; buffer = b; buffer' = b }) (record { taken = o; taken' = o; failures = f; failures' = f; reply = reply; reply' = reply }) s s.archive true
-  begun naming a b o f reply s = ([], [], [], tt, gives_nothing a b, refl, refl, tells_nothing o f reply)
+  begun naming a b o f reply s = ([], [], [], tt, gives_nothing a b, refl, refl, tells_nothing)
 
   module _ (laws : Laws g) (naming : Naming) (a b c : Option (List ℕ)) (x y z : ScriptBuffer) (o p q : Option (List ℕ)) (f i h : ℕ) (u v w : Reply) (old : Stage D) (mid new : Parts D)
       (so_far : Along g naming (record { before = a; after = b; buffer = x; buffer' = y }) (record { taken = o; taken' = p; failures = f; failures' = i; reply = u; reply' = v }) old mid true) where
@@ -75,7 +75,7 @@ module _ {D : Type 0} (g : disk.Ghosts D) where
               (gives_then a b c x y z (flat_map spelled so_far.0) (spelled e.0) so_far.4 e.2),
           run_then g naming old so_far.0 so_far.1 so_far.2 e.0 e.3.0 s so_far.5 e.3.1 m.1,
           ap (λ (t : Stage D). t.archive) (last_then g old s so_far.2),
-          tells_then o p q f i h u v w so_far.1 e.3.0 so_far.7 e.3.2,
+          tells_then so_far.7 e.3.2,
         )
 
     script_answered : CommandEnds g naming next_reading next_telling here.archive new (Ok false) → Along g naming all_reading all_telling old new false
@@ -101,7 +101,7 @@ module _ {D : Type 0} (g : disk.Ghosts D) where
             text = refl;
           },
           refl,
-          tells_then o p q f i h u v w so_far.1 e.4 so_far.7 e.6,
+          tells_then so_far.7 e.6,
         )
 
     pub goes_along : (more : Bool) → CommandEnds g naming next_reading next_telling mid new (Ok more) → Along g naming all_reading all_telling old new more
@@ -127,7 +127,7 @@ module _ {D : Type 0} (g : disk.Ghosts D) where
             moves = m.1;
           },
           refl,
-          tells_then o p q f i h u v w so_far.1 [] so_far.7 e.4,
+          tells_then so_far.7 e.4,
         )
 
     unheard_here : CommandEnds g naming next_reading next_telling here.archive new (Err Unheard) → ScriptEnds g naming all_reading all_telling old new (Err Unheard)
@@ -151,7 +151,7 @@ module _ {D : Type 0} (g : disk.Ghosts D) where
           refl,
           refl,
           e.3,
-          tells_then o p q f i h u v w so_far.1 [] so_far.7 e.4,
+          tells_then so_far.7 e.4,
         )
 
     pub stops_along : (stop : ScriptStop) → CommandEnds g naming next_reading next_telling mid new (Err stop) → ScriptEnds g naming all_reading all_telling old new (Err stop)

@@ -179,7 +179,7 @@ module _ {D : Type 0} (g : disk.Ghosts D) where
   stores found file file' fails fails' o p q f i h u v w old mid new stored first rest = (
     first.0 ++ rest.0,
     record { first = first.0; mid = mid; accepted = true; begins = first.1; filled = rest.1.0; rest = rest.0; goes_on = rest.1.1; text = refl },
-    tells_then o p q f i h u v w first.0 rest.0 first.2 rest.2,
+    tells_then first.2 rest.2,
   )
 
   pub stores_none : (found : Result StreamFacts (List ℕ)) (file : Option (List ℕ)) (fails : ℕ) (t : Telling) (old new : Parts D)
@@ -259,7 +259,7 @@ module _ {D : Type 0} (g : disk.Ghosts D) where
   stores_both naming file file' fails fails' o p q f i h u v w old room new before line made stored first rest = (
     first.0 ++ rest.0,
     record { told = first.0; room = room; makes_room = first.1; more = rest.0; stores = rest.1; all = refl },
-    tells_then o p q f i h u v w first.0 rest.0 first.2 rest.2,
+    tells_then first.2 rest.2,
   )
 
 -- a line that says nothing leaves nothing in doubt

@@ -14,16 +14,15 @@ use stream_names::{NewStream, copied};
 pub(crate) fn answer_begin<O: Output, D: Disk>(
     slot: u8,
     found: Result<NewStream, &'static [u8]>,
-    reply: &mut Reply,
-    output: &mut O,
+    reply: &mut Reply<'_, O>,
     archive: &mut Archive<D>,
 ) -> bool
-    ensures { TellsReply (telling O.Output output.old output.new reply.old reply.new) (λ text. Begins D.Disk archive.old slot (stream_found found.entry) text archive.new result) }
+    ensures { TellsReply (telling O.Output reply.old reply.new) (λ text. Begins D.Disk archive.old slot (stream_found found.entry) text archive.new result) }
 {
     match found {
-        Ok(stream) => begin_stream(slot, stream, reply, output, archive),
+        Ok(stream) => begin_stream(slot, stream, reply, archive),
         Err(reason) => {
-            tell_no(reply, output, reason);
+            tell_no(reply, reason);
             false
         }
     }
@@ -33,11 +32,10 @@ pub(crate) fn answer_begin<O: Output, D: Disk>(
 fn begin_stream<O: Output, D: Disk>(
     slot: u8,
     stream: NewStream,
-    reply: &mut Reply,
-    output: &mut O,
+    reply: &mut Reply<'_, O>,
     archive: &mut Archive<D>,
 ) -> bool
-    ensures { TellsReply (telling O.Output output.old output.new reply.old reply.new) (λ text. Begins D.Disk archive.old slot (stream_found (Ok stream)) text archive.new result) }
+    ensures { TellsReply (telling O.Output reply.old reply.new) (λ text. Begins D.Disk archive.old slot (stream_found (Ok stream)) text archive.new result) }
 {
     let NewStream {
         kind,
@@ -49,6 +47,6 @@ fn begin_stream<O: Output, D: Disk>(
     let shown = copied(name.as_slice());
     let outcome = archive.begin(slot, kind, name, pid, signal, time);
     let is_begun = outcome.is_ok();
-    tell_begun(reply, output, shown.as_slice(), outcome);
+    tell_begun(reply, shown.as_slice(), outcome);
     is_begun
 }

@@ -59,6 +59,6 @@ pub fn write_image<O: Output>(output: &mut O, image: &[u8]) -> Result<(), Stream
         image.now result }
 {
     let mut reply = Reply::new();
-    reply.tell(output, image);
-    reply.finish(output)
+    reply.tell(image);
+    reply.finish()
 }

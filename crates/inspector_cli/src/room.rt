@@ -19,17 +19,16 @@ use stream_names::NewStream;
 pub(crate) fn make_room<O: Output, D: Disk>(
     line: &[u8],
     found: &Result<NewStream, &'static [u8]>,
-    reply: &mut Reply,
-    output: &mut O,
+    reply: &mut Reply<'_, O>,
     archive: &mut Archive<D>,
 ) -> bool
-    ensures { TellsReply (telling O.Output output.old output.new reply.old reply.new) (λ text. MakesRoomFor D.Disk archive.old (policy_before line.now) (stream_found found.now) text archive.new result) }
+    ensures { TellsReply (telling O.Output reply.old reply.new) (λ text. MakesRoomFor D.Disk archive.old (policy_before line.now) (stream_found found.now) text archive.new result) }
 {
     let Some(policy) = retired_by(parse_text(line)) else {
         return true;
     };
     match found {
-        Ok(stream) => make_room_for(policy, &stream.name, reply, output, archive),
+        Ok(stream) => make_room_for(policy, &stream.name, reply, archive),
         Err(_) => true,
     }
 }
@@ -38,17 +37,16 @@ pub(crate) fn make_room<O: Output, D: Disk>(
 fn make_room_for<O: Output, D: Disk>(
     policy: Policy,
     name: &Name,
-    reply: &mut Reply,
-    output: &mut O,
+    reply: &mut Reply<'_, O>,
     archive: &mut Archive<D>,
 ) -> bool
-    ensures { TellsReply (telling O.Output output.old output.new reply.old reply.new) (λ text. MakesRoomNamed D.Disk archive.old policy name.now.items text archive.new result) }
+    ensures { TellsReply (telling O.Output reply.old reply.new) (λ text. MakesRoomNamed D.Disk archive.old policy name.now.items text archive.new result) }
 {
     let Some(outcome) = archive.retire_for(&policy, name) else {
         return true;
     };
     let is_carried_out = outcome.is_ok();
-    tell_retired(reply, output, outcome);
+    tell_retired(reply, outcome);
     is_carried_out
 }
 

@@ -44,7 +44,7 @@ pub fn run_session<I: Input, O: Output, D: Disk>(
         naming,
     );
     close_streams(archive);
-    let Ok(()) = reply.finish(output) else {
+    let Ok(()) = reply.finish() else {
         return Err(SessionFault::WriteFailed);
     };
     match answered {

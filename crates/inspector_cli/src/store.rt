@@ -63,7 +63,7 @@ pub fn store_stream<I: Input, O: Output, D: Disk>(
     let mut reply = Reply::new();
     let outcome = answer_both(before, line, file, &mut reply, output, archive, naming);
     let _ = archive.abandon(0);
-    let Ok(()) = reply.finish(output) else {
+    let Ok(()) = reply.finish() else {
         return Err(SessionFault::WriteFailed);
     };
     Ok(outcome)
@@ -74,17 +74,16 @@ fn answer_both<I: Input, O: Output, D: Disk>(
     before: &[u8],
     line: &[u8],
     file: &mut I,
-    reply: &mut Reply,
-    output: &mut O,
+    reply: &mut Reply<'_, O>,
     archive: &mut Archive<D>,
     naming: &Naming,
 ) -> StoreOutcome
-    ensures { TellsReply (telling O.Output output.old output.new reply.old reply.new) (λ text. Stores D.Disk naming.now (I.remaining file.old) (I.remaining file.new) (I.failures file.old) (I.failures file.new)
+    ensures { TellsReply (telling O.Output reply.old reply.new) (λ text. Stores D.Disk naming.now (I.remaining file.old) (I.remaining file.new) (I.failures file.old) (I.failures file.new)
         archive.old before.now line.now text archive.new result) }
 {
     let found = first_stream(parse_text(line), naming);
-    let made_room = make_room(before, &found, reply, output, archive);
-    let stored = answer_store(found, file, reply, output, archive);
+    let made_room = make_room(before, &found, reply, archive);
+    let stored = answer_store(found, file, reply, archive);
     StoreOutcome { made_room, stored }
 }
 
@@ -93,31 +92,29 @@ fn answer_both<I: Input, O: Output, D: Disk>(
 fn answer_store<I: Input, O: Output, D: Disk>(
     found: Result<NewStream, &'static [u8]>,
     file: &mut I,
-    reply: &mut Reply,
-    output: &mut O,
+    reply: &mut Reply<'_, O>,
     archive: &mut Archive<D>,
 ) -> Option<u32>
-    ensures { TellsReply (telling O.Output output.old output.new reply.old reply.new) (λ text. StoresStream D.Disk (I.remaining file.old) (I.remaining file.new) (I.failures file.old) (I.failures file.new)
+    ensures { TellsReply (telling O.Output reply.old reply.new) (λ text. StoresStream D.Disk (I.remaining file.old) (I.remaining file.new) (I.failures file.old) (I.failures file.new)
         archive.old (stream_found found.entry) text archive.new result) }
 {
-    let is_begun = answer_first(found, reply, output, archive);
+    let is_begun = answer_first(found, reply, archive);
     if !is_begun {
         return None;
     }
-    answer_file(file, reply, output, archive)
+    answer_file(file, reply, archive)
 }
 
 // Answers the line that begins the stream. Says whether it has begun: then it has no bytes yet.
 fn answer_first<O: Output, D: Disk>(
     found: Result<NewStream, &'static [u8]>,
-    reply: &mut Reply,
-    output: &mut O,
+    reply: &mut Reply<'_, O>,
     archive: &mut Archive<D>,
 ) -> bool
-    ensures first { TellsReply (telling O.Output output.old output.new reply.old reply.new) (λ text. Begins D.Disk archive.old 0 (stream_found found.entry) text archive.new result) }
+    ensures first { TellsReply (telling O.Output reply.old reply.new) (λ text. Begins D.Disk archive.old 0 (stream_found found.entry) text archive.new result) }
     ensures begun { result ≡ true → Takes D.Disk archive.new 0 [] (Ok tt) archive.new }
 {
-    answer_begin(0, found, reply, output, archive)
+    answer_begin(0, found, reply, archive)
 }
 
 // What the first line begins, or why it begins nothing.
@@ -165,22 +162,21 @@ fn requested_stream(request: Request<'_>, naming: &Naming) -> Result<NewStream, 
 // Takes a file into the stream in slot 0, and makes it a case. Says its number, where it is stored.
 fn answer_file<I: Input, O: Output, D: Disk>(
     file: &mut I,
-    reply: &mut Reply,
-    output: &mut O,
+    reply: &mut Reply<'_, O>,
     archive: &mut Archive<D>,
 ) -> Option<u32>
     requires { Takes D.Disk archive.old 0 [] (Ok tt) archive.old }
-    ensures { TellsReply (telling O.Output output.old output.new reply.old reply.new) (λ text. (filled : Parts D) × RestReplies D.Disk (I.remaining file.old) (I.remaining file.new) (I.failures file.old) (I.failures file.new)
+    ensures { TellsReply (telling O.Output reply.old reply.new) (λ text. (filled : Parts D) × RestReplies D.Disk (I.remaining file.old) (I.remaining file.new) (I.failures file.old) (I.failures file.new)
         archive.old true filled text archive.new result) }
 {
     match take_file(file, archive) {
-        Ok(()) => answer_end(0, reply, output, archive),
+        Ok(()) => answer_end(0, reply, archive),
         Err(TakeStop::File) => {
-            tell_no(reply, output, b"File");
+            tell_no(reply, b"File");
             None
         }
         Err(TakeStop::Refused(fault)) => {
-            tell_no(reply, output, reason(fault));
+            tell_no(reply, reason(fault));
             None
         }
     }

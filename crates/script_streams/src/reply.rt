@@ -181,6 +181,7 @@ impl<'a, O: Output> Reply<'a, O> {
         ensures tells { Tells (sink O.Output self.old) (sink O.Output self.new) [] }
         ensures emptied { held_text self.new ≡ [] }
         ensures failed { has_failed self.old ≡ true → has_failed self.new ≡ true }
+        ensures same { self.new.output.ghost_name ≡ self.old.output.ghost_name }
     {
         self.unwritten.failed = pass_on(
             self.unwritten.failed,

@@ -7,7 +7,7 @@ use Rattle.inspector_cli.proofs.copying.copy_piece.Goals as goal
 pub returns-in-Err : goal.returns-in-Err
 returns-in-Err g c = record {
   text = [];
-  told = tells_nothing _ _ _;
+  told = tells_nothing;
   front = λ honest. (_, refl);
   quiet = quiet_read g.D.Disk c.args.disk.now c.read_at.new.self (g.met.D.Disk.only_now c.args.disk.now) c.in-Err.ensures.seen c.in-Err.ensures.crash c.in-Err.ensures.time c.in-Err.ensures.honesty c.in-Err.ensures.size;
   later = c.in-Err.ensures.cause.later;

@@ -8,7 +8,7 @@ use Rattle.inspector_cli.proofs.room.make_room.Goals as goal
 pub returns-in_default : goal.returns-in_default
 returns-in_default g c =
     let none : policy_before c.args.line.now ≡ None = ap retired_by (sym c.parse_text.ensures) ∙ (sym c.retired_by.ensures ∙ c.in_default.is) in
-    ([], room_not_asked g.D.Disk c.args.archive.now (policy_before c.args.line.now) (stream_found c.args.found.now) none, tells_nothing _ _ _)
+    ([], room_not_asked g.D.Disk c.args.archive.now (policy_before c.args.line.now) (stream_found c.args.found.now) none, tells_nothing)
 
 pub returns-in-Ok : goal.returns-in-Ok
 returns-in-Ok g c =
@@ -19,4 +19,4 @@ returns-in-Ok g c =
 pub returns-in-Err : goal.returns-in-Err
 returns-in-Err g c =
     let is : policy_before c.args.line.now ≡ Some c.in-Some.policy = ap retired_by (sym c.parse_text.ensures) ∙ (sym c.retired_by.ensures ∙ c.in-Some.is) in
-    rw c.in-Err.is ([], room_for_none g.D.Disk c.args.archive.now (policy_before c.args.line.now) c.in-Some.policy _ is, tells_nothing _ _ _)
+    rw c.in-Err.is ([], room_for_none g.D.Disk c.args.archive.now (policy_before c.args.line.now) c.in-Some.policy _ is, tells_nothing)

@@ -10,7 +10,7 @@ pub returns-in-EndOfInput-clause-answers : goal.returns-in-EndOfInput-clause-ans
 returns-in-EndOfInput-clause-answers g c =
     let line = rw c.in-EndOfInput.is at c.in_ok-ending.ensures.gives in
     let last = c.answer_last.ensures.answers line.0 line.2 in
-    (last_line line.0, (line.1, line.3), line.4, line.5, last.0, last.1, tells_then _ _ _ _ _ _ _ c.next_line.new.reply _ [] _ c.in_ok-ending.ensures.tells last.2)
+    (last_line line.0, (line.1, line.3), line.4, line.5, last.0, last.1, tells_then c.in_ok-ending.ensures.tells last.2)
 
 pub returns-in_ok-goes_on-in-Newline-clause-answers : goal.returns-in_ok-goes_on-in-Newline-clause-answers
 returns-in_ok-goes_on-in-Newline-clause-answers g c =

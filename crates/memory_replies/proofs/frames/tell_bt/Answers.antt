@@ -21,5 +21,5 @@ returns g c = (
   (thread_shown _ _ _ _ _ _ _ _ _ c.in-Some.ensures c.threads.ensures c.notes.ensures c.in-Ok.ensures
       (mapped_are c.files.result _ _ c.files.ensures c.notes-2.ensures)
       (ap (map named_view) c.deref.ensures.value ∙ c.in-Ok-named_images.ensures)),
-  tells_then _ _ _ _ _ _ _ _ _ _ _ c.tell_thread.ensures c.tell_ok.ensures,
+  tells_then c.tell_thread.ensures c.tell_ok.ensures,
 )
