@@ -16,8 +16,7 @@ use Rattle.intake.specs.Marks.{FoundAfterAStop}
 use Rattle.intake.specs.Parts.{Parts, state_of, stream_facts, contents_of, taken_in}
 use Rattle.intake.specs.Step.{BeginStep, with_stream, longer}
 use Rattle.failure_count.specs.Counts.{HasRisen}
-use Rattle.script_streams.specs.Telling.{Told, IsDelivered}
-use Rattle.script_streams.specs.declared.reply.Reply.{Reply}
+use Rattle.script_streams.specs.Telling.{Sink, Told, IsDelivered}
 use Rattle.script_streams.specs.declared.streams.StreamFault.{StreamFault}
 use Rattle.stream_names.specs.declared.naming.Naming.{Naming}
 use Rattle.script_lines.specs.Said.{Said, ProcessSaid, silence, bad_line, long_line, begin_exec, begin_core, part_of, end_of, drop_of, delete_of, pin_of, label_of, retire_by, list_all_cases, count_free, upgrade_archive, inspect_of, said}
@@ -172,11 +171,11 @@ module _ {D : Type 0} (g : disk.Ghosts D) (file mid file' : Option (List ℕ)) (
 
 module _ {D : Type 0} (g : disk.Ghosts D) where
   -- a first line and what stands behind it
-  pub stores : (found : Result StreamFacts (List ℕ)) (file file' : Option (List ℕ)) (fails fails' : ℕ) (o p q : Option (List ℕ)) (f i h : ℕ) (u v w : Reply) (old mid new : Parts D) (stored : Option ℕ)
-      → TellsReply (record { taken = o; taken' = p; failures = f; failures' = i; reply = u; reply' = v }) (λ text. Begins g old 0 found text mid true)
-      → TellsReply (record { taken = p; taken' = q; failures = i; failures' = h; reply = v; reply' = w }) (λ text. (filled : Parts D) × RestReplies g file file' fails fails' mid true filled text new stored)
-      → TellsReply (record { taken = o; taken' = q; failures = f; failures' = h; reply = u; reply' = w }) (λ text. StoresStream g file file' fails fails' old found text new stored)
-  stores found file file' fails fails' o p q f i h u v w old mid new stored first rest = (
+  pub stores : (found : Result StreamFacts (List ℕ)) (file file' : Option (List ℕ)) (fails fails' : ℕ) (o p q : Sink) (old mid new : Parts D) (stored : Option ℕ)
+      → TellsReply (record { before = o; after = p }) (λ text. Begins g old 0 found text mid true)
+      → TellsReply (record { before = p; after = q }) (λ text. (filled : Parts D) × RestReplies g file file' fails fails' mid true filled text new stored)
+      → TellsReply (record { before = o; after = q }) (λ text. StoresStream g file file' fails fails' old found text new stored)
+  stores found file file' fails fails' o p q old mid new stored first rest = (
     first.0 ++ rest.0,
     record { first = first.0; mid = mid; accepted = true; begins = first.1; filled = rest.1.0; rest = rest.0; goes_on = rest.1.1; text = refl },
     tells_then first.2 rest.2,
@@ -251,12 +250,12 @@ module _ {D : Type 0} (g : disk.Ghosts D) where
       )
 
   -- a line that makes room, and the stream behind it
-  pub stores_both : (naming : Naming) (file file' : Option (List ℕ)) (fails fails' : ℕ) (o p q : Option (List ℕ)) (f i h : ℕ) (u v w : Reply) (old room new : Parts D) (before line : List ℕ) (made : Bool) (stored : Option ℕ)
-      → TellsReply (record { taken = o; taken' = p; failures = f; failures' = i; reply = u; reply' = v }) (λ text. MakesRoomFor g old (policy_before before) (first_stream naming (said line)) text room made)
-      → TellsReply (record { taken = p; taken' = q; failures = i; failures' = h; reply = v; reply' = w }) (λ text. StoresStream g file file' fails fails' room (first_stream naming (said line)) text new stored)
-      → TellsReply (record { taken = o; taken' = q; failures = f; failures' = h; reply = u; reply' = w })
+  pub stores_both : (naming : Naming) (file file' : Option (List ℕ)) (fails fails' : ℕ) (o p q : Sink) (old room new : Parts D) (before line : List ℕ) (made : Bool) (stored : Option ℕ)
+      → TellsReply (record { before = o; after = p }) (λ text. MakesRoomFor g old (policy_before before) (first_stream naming (said line)) text room made)
+      → TellsReply (record { before = p; after = q }) (λ text. StoresStream g file file' fails fails' room (first_stream naming (said line)) text new stored)
+      → TellsReply (record { before = o; after = q })
       (λ text. Stores g naming file file' fails fails' old before line text new (record { made_room = made; stored = stored }))
-  stores_both naming file file' fails fails' o p q f i h u v w old room new before line made stored first rest = (
+  stores_both naming file file' fails fails' o p q old room new before line made stored first rest = (
     first.0 ++ rest.0,
     record { told = first.0; room = room; makes_room = first.1; more = rest.0; stores = rest.1; all = refl },
     tells_then first.2 rest.2,
@@ -302,25 +301,25 @@ stores_alone {D} g naming file file' fails fails' old before line replies end ne
     }
 
 -- what was told is written, or a front of it
-module _ {D : Type 0} (g : disk.Ghosts D) (laws : Laws g) (law : FoundAfterAStop g) (naming : Naming) (file file' : Option (List ℕ)) (fails fails' : ℕ) (o p q : Option (List ℕ)) (f i h : ℕ) (u v : Reply)
+module _ {D : Type 0} (g : disk.Ghosts D) (laws : Laws g) (law : FoundAfterAStop g) (naming : Naming) (file file' : Option (List ℕ)) (fails fails' : ℕ) (start : Option (List ℕ)) (count name : ℕ) (o p : Sink) (q : Option (List ℕ)) (h : ℕ)
     (old : Stage D) (end new : Parts D) (before line : List ℕ) (outcome : StoreOutcome)
-    (dropped : Result (Unit {0}) ArchiveFault) (begun : Told o f o f u [])
-    (told : TellsReply (record { taken = o; taken' = p; failures = f; failures' = i; reply = u; reply' = v }) (λ text. Stores g naming file file' fails fails' old.archive before line text end outcome))
+    (dropped : Result (Unit {0}) ArchiveFault) (begun : Told start count name o [])
+    (told : TellsReply (record { before = o; after = p }) (λ text. Stores g naming file file' fails fails' old.archive before line text end outcome))
     (drops : AbandonCall g end 0 dropped new) where
   abbrev pub streams : Streams
-  streams = record { input = file; input' = file'; fails = fails; fails' = fails'; taken = o; taken' = q; lost = f; lost' = h }
+  streams = record { input = file; input' = file'; fails = fails; fails' = fails'; taken = start; taken' = q; lost = count; lost' = h }
 
   abbrev pub WritesOut : Result (Unit {0}) StreamFault → Type 0
-  WritesOut r = (start : Option (List ℕ)) (count : ℕ) (text : List ℕ) → Told start count p i v text → IsDelivered start count q h text r
+  WritesOut r = (start : Option (List ℕ)) (count name : ℕ) (text : List ℕ) → Told start count name p text → IsDelivered start count q h text r
 
   pub store_written : (s : Unit {0}) → WritesOut (Ok s) → StoreEnds g naming streams old before line new (Ok outcome)
   store_written s d =
       let stages = stages_of g laws law naming file file' fails fails' old before line told.0 end outcome new told.1 drops.stays in
-      (told.0, stage_of end stages.0, dropped, told.1, drops, d o f told.0 (told.2 o f [] begun), stages.1)
+      (told.0, stage_of end stages.0, dropped, told.1, drops, d start count name told.0 (told.2 start count name [] begun), stages.1)
 
   pub store_failed : (fault : StreamFault) → WritesOut (Err fault) → StoreEnds g naming streams old before line new (Err WriteFailed)
   store_failed fault d =
-      let t = d o f told.0 (told.2 o f [] begun) in
+      let t = d start count name told.0 (told.2 start count name [] begun) in
       let same = subst (λ (text : List ℕ). Stores g naming file file' fails fails' old.archive before line text end outcome) (sym t.2) told.1 in
       let stages = stages_of g laws law naming file file' fails fails' old before line (t.0 ++ t.1) end outcome new same drops.stays in
       (t.0, t.1, stage_of end stages.0, outcome, dropped, same, drops, t.3, t.4, stages.1)

@@ -112,8 +112,8 @@ fn write_out<D: Disk, O: Output>(
     ensures { WritesOut D.Disk disk.old disk.new (O.taken output.old) (O.taken output.new) (O.failures output.old) (O.failures output.new)
         (λ (b : List ℕ). bytes_in b ranges.now) result }
 {
-    let mut reply = Reply::new();
-    let copied = copy_ranges(disk, ranges, buffer, &mut reply, output);
+    let mut reply = Reply::new(output);
+    let copied = copy_ranges(disk, ranges, buffer, &mut reply);
     let written = reply.finish();
     match copied {
         Ok(()) => match written {

@@ -33,13 +33,12 @@ pub fn run_session<I: Input, O: Output, D: Disk>(
     calls_lead_from_mark_to_mark::<D>();
     found_after_a_stop::<D>();
     let mut buffer = ScriptBuffer::new();
-    let mut reply = Reply::new();
+    let mut reply = Reply::new(output);
     let answered = answer_script(
         alloc,
         &mut buffer,
         input,
         &mut reply,
-        output,
         archive,
         naming,
     );

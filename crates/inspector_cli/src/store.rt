@@ -60,8 +60,8 @@ pub fn store_stream<I: Input, O: Output, D: Disk>(
 {
     calls_lead_from_mark_to_mark::<D>();
     found_after_a_stop::<D>();
-    let mut reply = Reply::new();
-    let outcome = answer_both(before, line, file, &mut reply, output, archive, naming);
+    let mut reply = Reply::new(output);
+    let outcome = answer_both(before, line, file, &mut reply, archive, naming);
     let _ = archive.abandon(0);
     let Ok(()) = reply.finish() else {
         return Err(SessionFault::WriteFailed);
