@@ -24,6 +24,8 @@ front_grows {x = x} {more = more} before is next = record {
 }
 
 pub front_ends : {a b : Sink} {whole left : List ℕ} → TellsFront a b whole left → left ≡ [] → Tells a b whole
-front_ends before is = tells_as handed on
+front_ends before is = tells_as (sym (append-nil before.front) ∙ sym (ap (λ (t : List ℕ). before.front ++ t) is) ∙ before.split) before.told
+
+-- a signed number that is handed on
 pub signed_as : (w : Width) (x z : ℤ) → x ≡ z → SFits w x → to_z w (of_z w x) ≡ z
 signed_as w x z is fits = to_z-of_z w x fits ∙ is

@@ -5,4 +5,9 @@ use Rattle.image_replies.proofs.threads.tell_register_lines.Goals as goal
 
 pub loop-word-init : goal.loop-word-init
 loop-word-init g c = front_begins
-loop-word-preserved g c = front_grows (no_registers _ c.loop-word.word (omega arith))
+
+pub loop-word-preserved : goal.loop-word-preserved
+loop-word-preserved g c = front_grows c.loop-word.invariant (first_register _ c.loop-word.word c.loop-word-test.true) c.tell_register_line.ensures
+
+pub returns : goal.returns
+returns g c = front_ends c.loop-word.invariant (no_registers _ c.loop-word.word (omega arith))
