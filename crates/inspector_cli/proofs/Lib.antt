@@ -19,3 +19,4 @@ pub mod FoundLemmas
 pub mod MemoryLemmas
 pub mod CopyLemmas
 pub mod RoomMadeLemmas
+pub mod HeadlineLemmas

@@ -11,3 +11,4 @@ pub mod Stored
 pub mod Memory
 pub mod Extracting
 pub mod Copying
+pub mod Headline

@@ -1,10 +1,11 @@
 //! What holds over every script and every session. These functions do nothing.
 ghost use Rattle.inspector_cli.specs.Cuts.{HasOneCut, HasACut, HasOneFront};
 ghost use Rattle.inspector_cli.specs.Storing.{StoresAlone, NoLineIsSilent, RoomIsForAStream, RoomIsLeftOutForARefusal};
+ghost use Rattle.inspector_cli.specs.Headline.{SessionsAreCrashSafe};
 ghost use Rattle.inspector_cli.specs.Runs.{WholeIsARun, FrontIsARun, StagesAreClear, SessionsAreLived};
 
 use disk_model::Disk;
-use intake::calls_lead_from_mark_to_mark;
+use intake::{calls_lead_from_mark_to_mark, nothing_else_is_left, what_calls_leave};
 use script_streams::lines_are_cut_one_way;
 
 /// A script has one cut into lines, each with the bytes that it says stand behind it, and an ending; and every text has one.
@@ -27,6 +28,17 @@ pub fn sessions_are_runs<D: Disk>()
     ensures lives { SessionsAreLived D.Disk }
 {
     calls_lead_from_mark_to_mark::<D>();
+}
+
+/// The headline, of each session from an opening on. Whenever the machine stops after a line has been answered, between two disk
+/// writes or within one, what is left opens as what the archive held then, or behind a later line, or as what a line that was
+/// answered `no Disk` would have left. Each line does what it says, or is refused and changes nothing.
+pub fn a_session_is_crash_safe<D: Disk>()
+    ensures { SessionsAreCrashSafe D.Disk }
+{
+    what_calls_leave::<D>();
+    nothing_else_is_left::<D>();
+    sessions_are_runs::<D>();
 }
 
 /// With no line before, or one that does not say `retire`, `store_stream` stores the stream alone: it tells what it tells of the

@@ -21,7 +21,7 @@ pub use archive_replies::reason;
 pub use copying::{CopyFault, copy_image};
 pub use extract::{ImageFault, read_image, write_image};
 pub use laws::{
-    a_script_has_one_cut, a_silent_line_makes_no_room, room_is_made_for_a_stream, sessions_are_runs,
+    a_session_is_crash_safe, a_script_has_one_cut, a_silent_line_makes_no_room, room_is_made_for_a_stream, sessions_are_runs,
 };
 pub use life::open_and_run;
 pub use memory_life::memory_session;
