@@ -179,7 +179,7 @@ module _ {D : Type 0} (g : disk.Ghosts D) (naming : Naming) (lasts : LastingLaws
   stands_then earlier old new a stands r moves slot =
       subst (λ (o : Option (List ℕ)). Stands g naming slot new o) (sym (behind_then slot None earlier a)) (answer_stands g naming slot old new a (parts_in slot earlier) (stands slot) r moves)
 
-  pub lines_of : List Answer → List (Stage D) → List Line
+  abbrev pub lines_of : List Answer → List (Stage D) → List Line
   lines_of [] ss = []
   lines_of (a ∷ list) [] = []
   lines_of (a ∷ list) (s ∷ ss) = record { answer = a; then = moment_at s } ∷ lines_of list ss
@@ -362,9 +362,9 @@ module _ {D : Type 0} (g : disk.Ghosts D) (lasts : LastingLaws g) (nothing_else 
 
 module _ {D : Type 0} (g : disk.Ghosts D) (lasts : LastingLaws g) (nothing_else : NothingElseIsLeft g) (whole_run : WholeIsARun g) (front_run : FrontIsARun g) where
   pub sessions_safe : SessionsAreCrashSafe g
-  sessions_safe limit naming t before after (Ok u) lived honest =
+  sessions_safe limit naming t before after (Ok u) lived = λ honest.
       ended_safe g lasts nothing_else whole_run front_run limit naming t before after lived.opened lived.closed lived.opening lived.disk honest (Ok u) lived.goes
-  sessions_safe limit naming t before after (Err (life.Session f)) lived honest =
+  sessions_safe limit naming t before after (Err (life.Session f)) lived = λ honest.
       ended_safe g lasts nothing_else whole_run front_run limit naming t before after lived.opened lived.closed lived.opening lived.disk honest (Err f) lived.goes
-  sessions_safe limit naming t before after (Err (life.Open f)) lived honest =
+  sessions_safe limit naming t before after (Err (life.Open f)) lived = λ honest.
       (lived.0.opening.seen honest, λ left was. (lived.0.opening.any_moment honest).each left was)

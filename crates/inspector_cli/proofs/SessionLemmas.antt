@@ -47,7 +47,7 @@ module _ {D : Type 0} (g : disk.Ghosts D) (laws : Laws g) (law : FoundAfterAStop
 
   -- what the output was told, it took, or a front of it
   abbrev pub Delivers : Result (Unit {0}) StreamFault → Type 0
-  Delivers r = (start : Option (List ℕ)) (count name : ℕ) (told : List ℕ) → Told start count name p told → IsDelivered start count q h told r
+  Delivers r = (told : List ℕ) → Told start count name p told → IsDelivered start count q h told r
 
   closes_from : (end : Stage D) → end.archive ≡ mid → DropsStreams g end.archive new
   closes_from end is = subst (λ (m : Parts D). DropsStreams g m new) (sym is) closes
@@ -68,7 +68,7 @@ module _ {D : Type 0} (g : disk.Ghosts D) (laws : Laws g) (law : FoundAfterAStop
     e.3,
     consumed a b x y e.0 empty e.5.1 e.4,
     e.5.0,
-    d start count name e.1 (e.8 start count name [] begun),
+    d e.1 (e.8 start count name [] begun),
     e.6,
     closes_from e.3 e.7,
     all_found e.0 e.1 e.2 e.3 e.7 e.6,
@@ -81,7 +81,7 @@ module _ {D : Type 0} (g : disk.Ghosts D) (laws : Laws g) (law : FoundAfterAStop
     e.2,
     e.3,
     consumed a b x y e.0 empty e.5 e.4,
-    d start count name e.1 (e.8 start count name [] begun),
+    d e.1 (e.8 start count name [] begun),
     e.6,
     closes_from e.3 e.7,
     whole_found e.0 e.1 e.2 e.3 e.7 e.6,
@@ -96,7 +96,7 @@ module _ {D : Type 0} (g : disk.Ghosts D) (laws : Laws g) (law : FoundAfterAStop
     e.2,
     e.3,
     consumed a b x y e.0 empty e.5 e.4,
-    d start count name e.1 (e.8 start count name [] begun),
+    d e.1 (e.8 start count name [] begun),
     e.6,
     closes_from e.3 e.7,
     whole_found e.0 e.1 e.2 e.3 e.7 e.6,
@@ -110,7 +110,7 @@ module _ {D : Type 0} (g : disk.Ghosts D) (laws : Laws g) (law : FoundAfterAStop
 
   pub write_failed : (fault : StreamFault) (r : Result (Unit {0}) ScriptStop) → ScriptEnds g naming reading telling old mid r → Delivers (Err fault) → SessionEnds g naming streams old new (Err WriteFailed)
   write_failed fault (Ok s) e d =
-      let t = d start count name e.1 (e.8 start count name [] begun) in (
+      let t = d e.1 (e.8 start count name [] begun) in (
         e.0,
         [],
         t.0,
@@ -125,7 +125,7 @@ module _ {D : Type 0} (g : disk.Ghosts D) (laws : Laws g) (law : FoundAfterAStop
         t.4,
       )
   write_failed fault (Err (Read s)) e d =
-      let t = d start count name e.1 (e.8 start count name [] begun) in (
+      let t = d e.1 (e.8 start count name [] begun) in (
         e.0,
         [],
         t.0,
@@ -140,7 +140,7 @@ module _ {D : Type 0} (g : disk.Ghosts D) (laws : Laws g) (law : FoundAfterAStop
         t.4,
       )
   write_failed fault (Err Unheard) e d =
-      let t = d start count name e.2 (e.10 start count name [] begun) in (
+      let t = d e.2 (e.10 start count name [] begun) in (
         e.0,
         e.1 ++ held_bytes y,
         t.0,

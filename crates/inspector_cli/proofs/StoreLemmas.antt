@@ -310,16 +310,16 @@ module _ {D : Type 0} (g : disk.Ghosts D) (laws : Laws g) (law : FoundAfterAStop
   streams = record { input = file; input' = file'; fails = fails; fails' = fails'; taken = start; taken' = q; lost = count; lost' = h }
 
   abbrev pub WritesOut : Result (Unit {0}) StreamFault → Type 0
-  WritesOut r = (start : Option (List ℕ)) (count name : ℕ) (text : List ℕ) → Told start count name p text → IsDelivered start count q h text r
+  WritesOut r = (text : List ℕ) → Told start count name p text → IsDelivered start count q h text r
 
   pub store_written : (s : Unit {0}) → WritesOut (Ok s) → StoreEnds g naming streams old before line new (Ok outcome)
   store_written s d =
       let stages = stages_of g laws law naming file file' fails fails' old before line told.0 end outcome new told.1 drops.stays in
-      (told.0, stage_of end stages.0, dropped, told.1, drops, d start count name told.0 (told.2 start count name [] begun), stages.1)
+      (told.0, stage_of end stages.0, dropped, told.1, drops, d told.0 (told.2 start count name [] begun), stages.1)
 
   pub store_failed : (fault : StreamFault) → WritesOut (Err fault) → StoreEnds g naming streams old before line new (Err WriteFailed)
   store_failed fault d =
-      let t = d start count name told.0 (told.2 start count name [] begun) in
+      let t = d told.0 (told.2 start count name [] begun) in
       let same = subst (λ (text : List ℕ). Stores g naming file file' fails fails' old.archive before line text end outcome) (sym t.2) told.1 in
       let stages = stages_of g laws law naming file file' fails fails' old before line (t.0 ++ t.1) end outcome new same drops.stays in
       (t.0, t.1, stage_of end stages.0, outcome, dropped, same, drops, t.3, t.4, stages.1)

@@ -8,11 +8,11 @@ pub returns-in_default-clause-ends : goal.returns-in_default-clause-ends
 returns-in_default-clause-ends g c = λ doubts.
     store_failed g.D.Disk (laws_of g.D.Disk c.calls_lead_from_mark_to_mark.ensures.stays c.calls_lead_from_mark_to_mark.ensures.finish c.calls_lead_from_mark_to_mark.ensures.delete c.calls_lead_from_mark_to_mark.ensures.pin c.calls_lead_from_mark_to_mark.ensures.label c.calls_lead_from_mark_to_mark.ensures.upgrade c.calls_lead_from_mark_to_mark.ensures.retire) c.found_after_a_stop.ensures c.args.naming.now (g.I.Input.remaining c.args.file.now) (g.I.Input.remaining c.answer_both-outcome.new.file)
     (g.I.Input.failures c.args.file.now) (g.I.Input.failures c.answer_both-outcome.new.file)
-    (g.O.Output.taken c.args.output.now) (g.O.Output.failures c.args.output.now) c.args.output.ghost_name (sink g.O.Output c.new-reply.result) (sink g.O.Output c.answer_both-outcome.new.reply) _ _
+    (g.O.Output.taken c.args.output.now) (g.O.Output.failures c.args.output.now) _ (sink g.O.Output c.new-reply.result) (sink g.O.Output c.answer_both-outcome.new.reply) _ _
     (stage_of c.args.archive.now doubts) c.answer_both-outcome.new.archive c.abandon.new.self c.args.before.now c.args.line.now c.answer_both-outcome.result
     c.abandon.result c.new-reply.ensures.told c.answer_both-outcome.ensures
     c.abandon.ensures
-    c.in_default.field-0 (λ start count name told one. (let taken = c.in_default.ensures.delivered start count name told one in search (one.same, c.finish.ensures.same, taken, rules)))
+    c.in_default.field-0 (λ told one. (let taken = c.in_default.ensures.delivered _ _ _ told one in search (one.same, c.finish.ensures.same, taken, rules)))
 
 pub returns-in_default-clause-quiet : goal.returns-in_default-clause-quiet
 returns-in_default-clause-quiet g c = c.abandon.ensures.quiet
@@ -21,11 +21,11 @@ pub returns-clause-ends : goal.returns-clause-ends
 returns-clause-ends g c = λ doubts.
     store_written g.D.Disk (laws_of g.D.Disk c.calls_lead_from_mark_to_mark.ensures.stays c.calls_lead_from_mark_to_mark.ensures.finish c.calls_lead_from_mark_to_mark.ensures.delete c.calls_lead_from_mark_to_mark.ensures.pin c.calls_lead_from_mark_to_mark.ensures.label c.calls_lead_from_mark_to_mark.ensures.upgrade c.calls_lead_from_mark_to_mark.ensures.retire) c.found_after_a_stop.ensures c.args.naming.now (g.I.Input.remaining c.args.file.now) (g.I.Input.remaining c.answer_both-outcome.new.file)
     (g.I.Input.failures c.args.file.now) (g.I.Input.failures c.answer_both-outcome.new.file)
-    (g.O.Output.taken c.args.output.now) (g.O.Output.failures c.args.output.now) c.args.output.ghost_name (sink g.O.Output c.new-reply.result) (sink g.O.Output c.answer_both-outcome.new.reply) _ _
+    (g.O.Output.taken c.args.output.now) (g.O.Output.failures c.args.output.now) _ (sink g.O.Output c.new-reply.result) (sink g.O.Output c.answer_both-outcome.new.reply) _ (g.O.Output.failures c.finish.new.self.output.now)
     (stage_of c.args.archive.now doubts) c.answer_both-outcome.new.archive c.abandon.new.self c.args.before.now c.args.line.now c.answer_both-outcome.result
     c.abandon.result c.new-reply.ensures.told c.answer_both-outcome.ensures
     c.abandon.ensures
-    c.in-Ok.field-0 (λ start count name told one. (let taken = c.in-Ok.ensures.delivered start count name told one in search (one.same, c.finish.ensures.same, taken, rules)))
+    c.in-Ok.field-0 (λ told one. (let taken = c.in-Ok.ensures.delivered _ _ _ told one in search (one.same, c.finish.ensures.same, taken, rules)))
 
 pub returns-clause-quiet : goal.returns-clause-quiet
 returns-clause-quiet g c = c.abandon.ensures.quiet
