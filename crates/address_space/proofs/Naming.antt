@@ -1,7 +1,7 @@
 -- The first executable of a path, by its number.
 use Rattle.std.proofs.Common.{◌≡◌, inl, inr, ℕ, suc, ◌+◌, Bool, true, false, cond, List, [], ◌∷◌, ◌++◌, length, Option, None, Some, refl, sym, ap, ◌∙◌, arith}
 use Rattle.std.specs.List.{find, slice_get}
-use Rattle.std.specs.Option.{is_some, option_map, option_or, option_and_then}
+use Rattle.std.specs.Option.{MatchOption, is_some, option_map, option_or, option_and_then}
 use Rattle.std.specs.Str.{bytes_eq}
 use Rattle.std.proofs.lemmas.Bool.{cases_Bool, cond-true, cond-false, false≢true}
 use Rattle.std.proofs.lemmas.Slice.Eq.{bytes_eq-Decides}
@@ -75,6 +75,10 @@ by_number : {A : Type 0} (test : A → Bool) (xs : List A) (o : Option (ℕ × A
 by_number {A = A} test xs None is = ap (option_map (λ (e : ℕ × A). e.1)) (sym is) ∙ first_find test 0 xs
 by_number {A = A} test xs (Some d) is = numbered test xs d is ∙ ap (option_map (λ (e : ℕ × A). e.1)) (sym is) ∙ first_find test 0 xs
 
--- what stands at the number of the first that passes is that
-pub found_by : {A : Type 0} (test : A → Bool) (xs : List A) (o : Option ℕ) → o ≡ number_of (first_from test 0 xs) → option_and_then (λ n. slice_get xs n) o ≡ find test xs
+found_by : {A : Type 0} (test : A → Bool) (xs : List A) (o : Option ℕ) → o ≡ number_of (first_from test 0 xs) → option_and_then (λ n. slice_get xs n) o ≡ find test xs
 found_by test xs o is = ap (option_and_then (λ n. slice_get xs n)) is ∙ by_number test xs (first_from test 0 xs) refl
+
+-- what stands at the number of the first that passes is that
+pub there_is : {A : Type 0} (test : A → Bool) (xs : List A) (o : Option ℕ) → o ≡ number_of (first_from test 0 xs) → MatchOption o (find test xs ≡ None) (λ n. slice_get xs n ≡ find test xs)
+there_is test xs None is = sym (found_by test xs None is)
+there_is test xs (Some n) is = found_by test xs (Some n) is

@@ -1,5 +1,5 @@
 // The paths of a list, looked up in a number of steps that is the logarithm of theirs.
-ghost use Rattle.std.specs.Prelude.{◌≡◌, ◌++◌, ◌∷◌, [], ℕ, List, OnOk, OnErr, length};
+ghost use Rattle.std.specs.Prelude.{◌≡◌, ◌++◌, ◌∷◌, [], ℕ, List, MatchOption, None, OnOk, OnErr, find, length, slice_get};
 ghost use Rattle.std.specs.Option.{option_map};
 ghost use Rattle.address_space.specs.Source.{ExecutableView, first_from, is_named};
 
@@ -38,11 +38,20 @@ impl<'a> ByPath<'a> {
         Ok(())
     }
 
-    /// The number of the first executable of that path.
-    pub fn number(&self, path: &[u8]) -> Option<usize>
-        ensures { (all : List ExecutableView) → AreNumbered self.now all
-            → result ≡ option_map (λ (e : ℕ × ExecutableView). e.0) (first_from (is_named path.now) 0 all) }
+    /// The number of a path, if the table has it.
+    fn number_in(&self, path: &[u8]) -> Option<usize>
+        ensures { result ≡ number_in self.now path.now }
     {
         self.numbers.get(path).copied()
+    }
+
+    /// The number of the first executable of that path in a list, where this is the table of it.
+    pub fn number(&self, path: &[u8]) -> Option<usize>
+        ensures first { (all : List ExecutableView) → AreNumbered self.now all
+            → result ≡ option_map (λ (e : ℕ × ExecutableView). e.0) (first_from (is_named path.now) 0 all) }
+        ensures there { (all : List ExecutableView) → AreNumbered self.now all
+            → MatchOption result (find (is_named path.now) all ≡ None) (λ n. slice_get all n ≡ find (is_named path.now) all) }
+    {
+        self.number_in(path)
     }
 }
