@@ -14,9 +14,9 @@ ghost use Rattle.memory_replies.specs.Memory.{attached_view};
 ghost use Rattle.memory_replies.specs.Words.{hex_word};
 ghost use Rattle.memory_replies.specs.Dump as spec;
 
-use crate::attached::{Attached, space_with};
+use crate::attached::space_with;
 use crate::words::{tell_hex_word, tell_spot};
-use address_space::{AddressSpace, FileSpot, Piece, PieceKind};
+use address_space::{AddressSpace, Attached, FileSpot, Piece, PieceKind};
 use elf_view::part;
 use image_replies::CoreImage;
 use script_streams::{Output, Reply, tell_no, tell_ok};

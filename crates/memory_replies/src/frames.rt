@@ -3,7 +3,7 @@ ghost use Rattle.std.specs.Prelude.{◌≡◌, ◌++◌, map};
 ghost use Rattle.std.specs.List.{flat_map};
 ghost use Rattle.std.specs.Option.{option_map};
 ghost use Rattle.script_streams.specs.Replies.{TellsReply, TellsText, reply_of, telling};
-ghost use Rattle.address_space.specs.SpaceWords.{files_in, space_of};
+ghost use Rattle.address_space.specs.SpaceWords.{space_of};
 ghost use Rattle.backtrace.specs.FrameWords.{frames_left, stop_left};
 ghost use Rattle.thread_regs.specs.ThreadWords.{thread_bytes};
 ghost use Rattle.image_replies.specs.CoreWords.{core_bytes};
@@ -12,13 +12,12 @@ ghost use Rattle.memory_replies.specs.Backtrace as spec;
 ghost use Rattle.memory_replies.specs.Memory.{attached_view};
 ghost use Rattle.memory_replies.specs.NamedWords.{named_view, place_view};
 
-use crate::attached::{Attached, space_with};
-use crate::named::{Place, named_images, place_of};
-use crate::named_image::NamedImage;
+use crate::attached::space_and_images;
+use crate::named::{Place, place_of};
+use crate::named_images::NamedImages;
 use crate::words::tell_hex_word;
-use address_space::AddressSpace;
+use address_space::{AddressSpace, Attached};
 use backtrace::{Frame, Frames, Stop};
-use core_notes::Files;
 use image_replies::CoreImage;
 use script_streams::{Output, Reply, tell_no, tell_ok};
 use std::alloc::Global;
@@ -53,18 +52,18 @@ fn tell_return<O: Output>(reply: &mut Reply<'_, O>, ra: u64, frame: Frame)
 #[tactic(auto, unfolding(crate::specs::Backtrace::frame_line))]
 fn tell_frame<O: Output>(
     reply: &mut Reply<'_, O>,
-    files: Option<Files<'_>>,
-    images: &[NamedImage<'_>],
+    space: &AddressSpace<'_>,
+    images: &NamedImages<'_>,
     ra: u64,
     frame: Frame,
 )
     ensures { TellsText (telling O.Output reply.old reply.new)
-        (spec.frame_line (files_in files.entry) (map named_view images.now) ra frame) }
+        (spec.frame_line (space_of space.now).files (map named_view images.now.list.items) ra frame) }
 {
     reply.tell_decimal(u128::from(frame.index));
     reply.tell(b" ");
     tell_hex_word(reply, frame.pc);
-    tell_place(reply, place_of(files, images, frame));
+    tell_place(reply, place_of(space, images, frame));
     reply.tell(b" fp ");
     reply.tell_hexadecimal(u128::from(frame.fp));
     tell_return(reply, ra, frame);
@@ -96,18 +95,18 @@ fn tell_stop<O: Output>(reply: &mut Reply<'_, O>, stop: Stop)
 /// Tells a line for each frame that is left, and why they end.
 fn tell_frames<O: Output>(
     reply: &mut Reply<'_, O>,
-    files: Option<Files<'_>>,
-    images: &[NamedImage<'_>],
+    space: &AddressSpace<'_>,
+    images: &NamedImages<'_>,
     ra: u64,
     frames: Frames<'_, '_>,
 )
     ensures { TellsText (telling O.Output reply.old reply.new)
-        (flat_map (spec.frame_line (files_in files.entry) (map named_view images.now) ra) (frames_left frames.entry)
+        (flat_map (spec.frame_line (space_of space.now).files (map named_view images.now.list.items) ra) (frames_left frames.entry)
         ++ spec.stop_line (stop_left frames.entry)) }
 {
     let mut frames = frames;
     while let Some(frame) = frames.next() {
-        tell_frame(reply, files, images, ra, frame);
+        tell_frame(reply, space, images, ra, frame);
     }
     if let Some(stop) = frames.stop() {
         tell_stop(reply, stop);
@@ -118,18 +117,17 @@ fn tell_frames<O: Output>(
 fn tell_thread<O: Output>(
     reply: &mut Reply<'_, O>,
     space: &AddressSpace<'_>,
-    files: Option<Files<'_>>,
-    images: &[NamedImage<'_>],
+    images: &NamedImages<'_>,
     thread: Thread<'_>,
 )
     ensures { TellsText (telling O.Output reply.old reply.new)
-        (spec.thread_lines (space_of space.now) (files_in files.entry) (map named_view images.now)
+        (spec.thread_lines (space_of space.now) (space_of space.now).files (map named_view images.now.list.items)
         (thread_bytes thread.entry)) }
 {
     let ra = thread.register(Reg::of_word(1));
     let pc = thread.register(Reg::of_word(0));
     let fp = thread.register(Reg::of_word(8));
-    tell_frames(reply, files, images, ra, Frames::new(space, pc, fp));
+    tell_frames(reply, space, images, ra, Frames::new(space, pc, fp));
 }
 
 /// Tells the frames of a core's thread, by its number among the threads: `0 PC WHERE fp h ra h`, then `I PC WHERE fp h` for
@@ -146,11 +144,7 @@ pub fn tell_bt<O: Output>(
     ensures { TellsReply (telling O.Output reply.old reply.new)
         (AnswersWith result (spec.bt_answer (core_bytes core.now) (map attached_view attached.now) thread)) }
 {
-    let Ok(space) = space_with(alloc, core, attached) else {
-        tell_no(reply, b"OutOfMemory");
-        return false;
-    };
-    let Ok(images) = named_images(alloc, attached) else {
+    let Ok((space, images)) = space_and_images(alloc, core, attached) else {
         tell_no(reply, b"OutOfMemory");
         return false;
     };
@@ -158,7 +152,7 @@ pub fn tell_bt<O: Output>(
         tell_no(reply, b"NoThread");
         return true;
     };
-    tell_thread(reply, &space, core.notes().files(), &images, thread);
+    tell_thread(reply, &space, &images, thread);
     tell_ok(reply);
     true
 }

@@ -9,8 +9,8 @@ ghost use Rattle.memory_replies.specs.Answers.{AnswersWith};
 ghost use Rattle.memory_replies.specs.Memory.{attached_view};
 ghost use Rattle.memory_replies.specs.Find as spec;
 
-use crate::attached::{Attached, space_with};
-use address_space::AddressSpace;
+use crate::attached::space_with;
+use address_space::{AddressSpace, Attached};
 use image_replies::CoreImage;
 use script_streams::{Output, Reply, tell_no, tell_ok};
 use std::alloc::Global;

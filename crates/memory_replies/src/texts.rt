@@ -12,9 +12,9 @@ ghost use Rattle.memory_replies.specs.Answers.{AnswersWith};
 ghost use Rattle.memory_replies.specs.Memory.{attached_view};
 ghost use Rattle.memory_replies.specs.Texts as spec;
 
-use crate::attached::{Attached, space_with};
+use crate::attached::space_with;
 use crate::words::tell_hex_word;
-use address_space::{AddressSpace, PieceKind, Source};
+use address_space::{AddressSpace, Attached, PieceKind, Source};
 use image_replies::CoreImage;
 use script_streams::{Output, Reply, tell_no, tell_ok};
 use std::alloc::Global;
