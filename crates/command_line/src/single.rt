@@ -160,7 +160,7 @@ pub(crate) fn ask<R: AllocGlobal + Files<File = File>, O: Output>(
 
 // Carries out one line of a script over the archive on a disk, and writes its reply once the disk is let go. Says whether it
 // was accepted.
-pub(crate) fn tell_answer<D: Disk + Drop, O: Output>(
+fn tell_answer<D: Disk + Drop, O: Output>(
     alloc: Global,
     disk: D,
     line: Vec<u8>,

@@ -2,15 +2,17 @@
 ghost use Rattle.std.specs.Prelude.{◌≡◌, ◌≤◌};
 
 use crate::archives::{Access, look_at, make_archive, names_output, take_disk};
-use crate::asked::{Asked, Place, SessionWords, StoreLines, read_words};
+use crate::asked::{Asked, Place, SessionWords, StoreWords, read_words};
 use crate::failures::{Failure, Refusal, Word, tell_failure};
 use crate::raw_words::words_of;
-use crate::single::{ask, extract, tell_answer};
+use crate::single::{ask, extract};
+use arrayvec::ArrayVec;
 use disk_model::{Disk, FileFault};
-use inspector_cli::{Naming, memory_session, open_and_run, open_and_store};
+use inspector_cli::{Naming, NewStream, line_stream, memory_session, open_and_run, open_and_store};
 use intake::Settings;
 use journal_layout::Shape;
 use name_template::Template;
+use retention::Policy;
 use script_streams::{Output, ReadInput};
 use std::alloc::Global;
 use std::fs::File;
@@ -114,17 +116,10 @@ fn answer_asked<R: AllocGlobal + Files<File = File>, I: Read, O: Output>(
         Asked::Store {
             archive,
             file,
-            lines,
+            wanted,
             settings,
         } => {
-            let naming = naming_of(settings)?;
-            let stored = Stored {
-                archive,
-                room: &lines.room,
-                lines: &lines,
-                naming: &naming,
-                limit: settings.limit,
-            };
+            let stored = stored_by(archive, wanted, settings)?;
             store(rt, file, stored, input, output)
         }
         Asked::Extract {
@@ -202,15 +197,37 @@ fn run_over<D: Disk + Drop, I: Read, O: Output>(
     Ok(ended?)
 }
 
-// Into which archive something is stored, and how.
-#[derive(Clone, Copy)]
+// Into which archive something is stored, and as what.
+#[derive(Drop)]
 struct Stored<'a> {
     archive: Place<'a>,
-    // The line that makes room first, which is empty where none is to be made.
-    room: &'a [u8],
-    lines: &'a StoreLines,
-    naming: &'a Naming,
+    // By which room is made first, if it is.
+    policy: Option<Policy>,
+    // The stream, or why there is none.
+    found: Result<NewStream, &'static [u8]>,
+    label: Option<ArrayVec<u8, 64>>,
     limit: u64,
+}
+
+// What is stored, as the words say it.
+fn stored_by<'a>(
+    archive: Place<'a>,
+    wanted: StoreWords,
+    settings: SessionWords<'_>,
+) -> Result<Stored<'a>, Refusal> {
+    let StoreWords {
+        policy,
+        begin,
+        label,
+    } = wanted;
+    let naming = naming_of(settings)?;
+    Ok(Stored {
+        archive,
+        policy,
+        found: line_stream(&begin, &naming),
+        label,
+        limit: settings.limit,
+    })
 }
 
 // Stores a file, or the standard input. The file is opened before the archive's lock is taken, so that a pipe that nobody
@@ -255,7 +272,7 @@ fn is_longer(file: &File, limit: u64) -> bool {
 // No room is made for what can't be stored.
 fn without_room(stored: Stored<'_>) -> Stored<'_> {
     Stored {
-        room: &[],
+        policy: None,
         ..stored
     }
 }
@@ -280,7 +297,7 @@ fn store_from<D: Disk + Drop, I: Read, O: Output>(
 ) -> Result<(), Failure> {
     let opened = BufReader::with_capacity(alloc, AHEAD, input);
     let mut ahead = opened.map_err(|_| Refusal::OutOfMemory)?;
-    let is_needed = stored.room.is_empty() || begins_well(&mut ahead, stored.limit);
+    let is_needed = stored.policy.is_none() || begins_well(&mut ahead, stored.limit);
     let stored = if is_needed {
         stored
     } else {
@@ -289,43 +306,22 @@ fn store_from<D: Disk + Drop, I: Read, O: Output>(
     let settings = Settings {
         limit: stored.limit,
     };
-    let (ended, disk) = open_and_store(
+    let (ended, _) = open_and_store(
         alloc,
         disk,
         settings,
-        stored.naming,
-        stored.room,
-        &stored.lines.begin,
+        stored.policy,
+        stored.found,
+        &stored.label,
         &mut ReadInput::new(ahead),
         output,
     );
     let outcome = ended?;
-    let is_done = match outcome.stored {
-        Some(seq) => label_stored(alloc, disk, seq, stored.lines, output)?,
-        None => false,
-    };
-    if outcome.made_room && is_done {
+    if outcome.made_room && outcome.stored.is_some() && outcome.labelled {
         Ok(())
     } else {
         Err(Failure::Told)
     }
-}
-
-// Gives the new case its label, where one is asked for. The archive is opened again for it, under the same lock. Says whether
-// the case has the label that it is to have.
-fn label_stored<D: Disk + Drop, O: Output>(
-    alloc: Global,
-    disk: D,
-    seq: u32,
-    lines: &StoreLines,
-    output: &mut O,
-) -> Result<bool, Failure> {
-    let Some(label) = &lines.label else {
-        return Ok(true);
-    };
-    let mut line = format!(in alloc; "label {seq} ")?.into_bytes();
-    line.extend_from_slice(label)?;
-    tell_answer(alloc, disk, line, output)
 }
 
 // How cores are named.

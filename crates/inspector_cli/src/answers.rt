@@ -43,7 +43,9 @@ pub(crate) fn answer_plain<O: Output, D: Disk>(
         Request::Drop { slot } => answer_drop(slot, reply, archive),
         Request::Delete { seq } => answer_delete(seq, reply, archive),
         Request::Pin { seq, flag } => answer_pin(seq, flag, reply, archive),
-        Request::Label { seq, label } => answer_label(seq, &label, reply, archive),
+        Request::Label { seq, label } => {
+            let _ = answer_label(seq, &label, reply, archive);
+        }
         Request::Retire { policy } => {
             let _ = answer_retire(policy, reply, archive);
         }
@@ -104,17 +106,19 @@ fn answer_pin<O: Output, D: Disk>(
     tell_outcome(reply, outcome);
 }
 
-// Answers `label`.
-fn answer_label<O: Output, D: Disk>(
+// Answers `label`. Says whether it was answered other than `no REASON`.
+pub(crate) fn answer_label<O: Output, D: Disk>(
     seq: u32,
     label: &ArrayVec<u8, 64>,
     reply: &mut Reply<'_, O>,
     archive: &mut Archive<D>,
-)
-    ensures { TellsReply (telling O.Output reply.old reply.new) (λ text. Labels D.Disk archive.old seq label.now.items text archive.new) }
+) -> bool
+    ensures { TellsReply (telling O.Output reply.old reply.new) (λ text. (answered : Labels D.Disk archive.old seq label.now.items text archive.new) × (result ≡ is_ok answered.0)) }
 {
     let outcome = archive.label(seq, label.as_slice());
+    let is_carried_out = outcome.is_ok();
     tell_outcome(reply, outcome);
+    is_carried_out
 }
 
 // Answers `upgrade`.

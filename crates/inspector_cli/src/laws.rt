@@ -1,7 +1,7 @@
 //! What holds over every script and every session. These functions do nothing.
 ghost use Rattle.inspector_cli.specs.Cuts.{HasOneCut, HasACut, HasOneFront};
-ghost use Rattle.inspector_cli.specs.Storing.{StoresAlone, NoLineIsSilent, RoomIsForAStream, RoomIsLeftOutForARefusal};
 ghost use Rattle.inspector_cli.specs.Headline.{SessionsAreCrashSafe};
+ghost use Rattle.inspector_cli.specs.Storing.{RoomIsForAStream, RoomIsLeftOutForARefusal, NoRoomIsMadeUnasked};
 ghost use Rattle.inspector_cli.specs.Runs.{WholeIsARun, FrontIsARun, StagesAreClear, SessionsAreLived};
 
 use disk_model::Disk;
@@ -41,17 +41,11 @@ pub fn a_session_is_crash_safe<D: Disk>()
     sessions_are_runs::<D>();
 }
 
-/// With no line before, or one that does not say `retire`, `store_stream` stores the stream alone: it tells what it tells of the
-/// stream, over the archive as it stood; nothing is in doubt before the stream's end, and `made_room` is true.
-pub fn a_silent_line_makes_no_room<D: Disk>()
-    ensures alone { StoresAlone D.Disk }
-    ensures silent { NoLineIsSilent }
-{}
-
 /// `store_stream` retires no case in vain: over an archive as an opening answers it, room that was made is followed by the stream
 /// that it is for, and only want of memory keeps that from beginning; room that was asked for is left out only where the stream
-/// is refused.
+/// is refused. Where no room is asked for, nothing is retired.
 pub fn room_is_made_for_a_stream<D: Disk>()
     ensures begun { RoomIsForAStream D.Disk }
     ensures left_out { RoomIsLeftOutForARefusal D.Disk }
+    ensures unasked { NoRoomIsMadeUnasked D.Disk }
 {}
