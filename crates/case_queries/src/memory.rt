@@ -12,12 +12,13 @@ ghost use Rattle.case_queries.specs.Inspecting.{Shows, ShowsCore, answer_of};
 ghost use Rattle.case_queries.specs.Keeping.{StayGathered};
 
 use crate::gather::{Executable, gather, lent};
+use address_space::Attached;
 use archive_replies::reason;
 use disk_model::Disk;
 use image_replies::{CoreImage, tell_core_fault};
 use intake::{Archive, ArchiveFault};
 use journal_layout::Kind;
-use memory_replies::{Attached, tell_bt, tell_dump, tell_find, tell_strings};
+use memory_replies::{tell_bt, tell_dump, tell_find, tell_strings};
 use script_lines::MemoryQuery;
 use script_streams::{Output, Reply, tell_no};
 use std::alloc::Global;
