@@ -1,5 +1,5 @@
 // The commands of a script, one after the other.
-ghost use Rattle.std.specs.Prelude.{◌≡◌, true, ℕ, ◌<◌, List, length};
+ghost use Rattle.std.specs.Prelude.{◌≡◌, true, false, ℕ, ◌<◌, List, length};
 ghost use Rattle.script_streams.specs.Lines.{IsLine, KeepsLine};
 ghost use Rattle.script_streams.specs.Reading.{Stops};
 ghost use Rattle.script_streams.specs.Telling.{has_failed};
@@ -122,6 +122,7 @@ fn answer_line<I: Input, O: Output, D: Disk>(
     archive: &mut Archive<D>,
     naming: &Naming,
 ) -> Result<bool, ReadStop>
+    requires heard { has_failed reply.old ≡ false }
     requires line { (text : List ℕ) × KeepsLine text line.now }
     requires kept { IsKept D.Disk archive.old images.old.kept }
     requires beside { AreKept D.Disk archive.old images.old.kept }
@@ -158,6 +159,7 @@ fn answer_last<O: Output, D: Disk>(
     archive: &mut Archive<D>,
     naming: &Naming,
 )
+    requires heard { has_failed reply.old ≡ false }
     requires line { (text : List ℕ) × KeepsLine text line.now }
     requires kept { IsKept D.Disk archive.old images.old.kept }
     requires beside { AreKept D.Disk archive.old images.old.kept }
