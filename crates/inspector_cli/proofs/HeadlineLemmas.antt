@@ -40,7 +40,7 @@ use Rattle.inspector_cli.proofs.KeptLemmas.{LastingLaws}
 use Rattle.inspector_cli.proofs.FoundLemmas.{Stands, answer_stands, answers_stand}
 use Rattle.inspector_cli.proofs.StageLemmas.{begins_stays, truncates_stays, broken_stays}
 
-module _ {D : Type 0} (g : disk.Ghosts D) (naming : Naming) (lasts : LastingLaws g) where
+module _ {D : Type 0} (g : disk.Ghosts D) (naming : Naming) (lasts : LastingLaws g) (stays : (d : D) → IsTrue (g.is_honest d) → g.may_leave d (g.seen d)) where
   abbrev held : Parts D → Durable
   held a = durable_of g.seen a
 
@@ -151,8 +151,8 @@ module _ {D : Type 0} (g : disk.Ghosts D) (naming : Naming) (lasts : LastingLaws
         (λ b. absurd (subst (λ (w : Said). MayLeave g old w x) b.1 may)) finishes
 
   -- how things stand at a stage
-  abbrev pub moment_at : Stage D → Moment
-  moment_at s = record { holds = held s.archive; in_doubt = s.in_doubt; at = g.clock s.archive.disk }
+  abbrev pub moment_at : Stage D → Moment D
+  moment_at s = record { disk = s.archive.disk; holds = held s.archive; in_doubt = s.in_doubt }
 
   leads_on : (earlier : List Answer) (old new : Stage D) (what : Said) (reply : List ℕ) → Leads earlier what reply (held old.archive) (held new.archive)
       → ((x : Durable) → reply ≡ no_reply (codes "Disk") → MayLeave g old.archive what x → WouldLeave earlier what (held old.archive) x) → Moves g old what reply new → LeadsOn earlier (moment_at old) what reply (moment_at new)
@@ -179,7 +179,7 @@ module _ {D : Type 0} (g : disk.Ghosts D) (naming : Naming) (lasts : LastingLaws
   stands_then earlier old new a stands r moves slot =
       subst (λ (o : Option (List ℕ)). Stands g naming slot new o) (sym (behind_then slot None earlier a)) (answer_stands g naming slot old new a (parts_in slot earlier) (stands slot) r moves)
 
-  abbrev pub lines_of : List Answer → List (Stage D) → List Line
+  abbrev pub lines_of : List Answer → List (Stage D) → List (Line D)
   lines_of [] ss = []
   lines_of (a ∷ list) [] = []
   lines_of (a ∷ list) (s ∷ ss) = record { answer = a; then = moment_at s } ∷ lines_of list ss
@@ -194,7 +194,7 @@ module _ {D : Type 0} (g : disk.Ghosts D) (naming : Naming) (lasts : LastingLaws
   moments_are old [] [] run = refl
   moments_are old [] (s ∷ ss) run = absurd run
   moments_are old (a ∷ list) [] run = absurd run
-  moments_are old (a ∷ list) (s ∷ ss) run = ap (λ (x : List Moment). moment_at s ∷ x) (moments_are s list ss run.2)
+  moments_are old (a ∷ list) (s ∷ ss) run = ap (λ (x : List (Moment D)). moment_at s ∷ x) (moments_are s list ss run.2)
 
   last_is : (old : Stage D) (list : List Answer) (ss : List (Stage D)) → Answers g naming old list ss → last_moment (moment_at old) (lines_of list ss) ≡ moment_at (last_stage old ss)
   last_is old [] [] run = refl
@@ -219,7 +219,7 @@ module _ {D : Type 0} (g : disk.Ghosts D) (naming : Naming) (lasts : LastingLaws
   -- a session from its first stage on
   module _ (old end : Stage D) (closed : Parts D) (list : List Answer) (ss : List (Stage D)) (last : Said) (reply : List ℕ) (answered : Answers g naming old list ss) (finishes : Finishes g naming (last_stage old ss).archive last reply end.archive)
       (moves : Moves g (last_stage old ss) last reply end) (closes : ChangesNoCase g end.archive closed) (stands : AllStand [] old) where
-    abbrev pub course : Course
+    abbrev pub course : Course D
     course = record { begin = moment_at old; lines = lines_of list ss; last = last; reply = reply; end = moment_at end }
 
     pub is_course : old.in_doubt ≡ [] → IsCourse course
@@ -235,7 +235,7 @@ module _ {D : Type 0} (g : disk.Ghosts D) (naming : Naming) (lasts : LastingLaws
           lines = all_lead [] old list ss stands answered;
           last =
               subst (λ (x : List Answer). LeadsOn x (last_moment (moment_at old) (lines_of list ss)) last reply (moment_at end)) (sym (answers_are old list ss answered))
-              (subst (λ (m : Moment). LeadsOn list m last reply (moment_at end)) (sym (last_is old list ss answered)) ends);
+              (subst (λ (m : Moment D). LeadsOn list m last reply (moment_at end)) (sym (last_is old list ss answered)) ends);
         }
 
     abbrev closing : Mark D
@@ -245,7 +245,7 @@ module _ {D : Type 0} (g : disk.Ghosts D) (naming : Naming) (lasts : LastingLaws
     honest_end = moves.passes.honesty ∙ (all_stand old list ss stands answered 0).honest
 
     closing_found : (c : List ℕ) → FindsMark c closing → FindsMoment c (moment_at end)
-    closing_found c found = subst (λ (x : Durable). FindsMoment c (record { holds = x; in_doubt = end.in_doubt; at = g.clock end.archive.disk })) (closes.durable honest_end) found
+    closing_found c found = subst (λ (x : Durable). FindsMoment {D = D} c (record { disk = end.archive.disk; holds = x; in_doubt = end.in_doubt })) (closes.durable honest_end) found
 
     found_since : (m : Stage D) (xs : List (Stage D)) (c : List ℕ) → FindsOne c (mark_at g.seen m) (marks_of g.seen xs end closed) → FindsSince c (moment_at m) (map moment_at xs ++ moment_at end ∷ [])
     found_since m [] c found = ⊎_elim (λ here. inl here) (λ there. inr (⊎_elim (λ at_end. at_end) (λ after. closing_found c after) there)) found
@@ -263,18 +263,25 @@ module _ {D : Type 0} (g : disk.Ghosts D) (naming : Naming) (lasts : LastingLaws
     from_end : IsFoundFrom g (mark_at g.seen end) (closing ∷ []) → (left : List ℕ) → g.left_since closed.disk (g.clock end.archive.disk) left → FindsSince left (moment_at end) []
     from_end found left was = ⊎_elim (λ here. here) (λ after. closing_found left after) (found left was)
 
-    are_safe : (m : Stage D) (xs : List (Stage D)) → IsFoundSince g (mark_at g.seen m) (marks_of g.seen xs end closed) → AreSafe g closed.disk (moment_at m) (map moment_at xs ++ moment_at end ∷ [])
-    are_safe m [] found = (from_mark m [] found.0, from_end found.1.0)
-    are_safe m (x ∷ xs) found = (from_mark m (x ∷ xs) found.0, are_safe x xs found.1)
+    are_safe : (m : Stage D) (xs : List (Stage D)) → IsTrue (g.is_honest m.archive.disk) → IsMarkSettled g (mark_at g.seen m) → IsRunOfMarks g (mark_at g.seen m) (marks_of g.seen xs end closed)
+        → IsFoundSince g (mark_at g.seen m) (marks_of g.seen xs end closed) → AreSafe g closed.disk (moment_at m) (map moment_at xs ++ moment_at end ∷ [])
+    are_safe m [] honest settled run found = (
+      record { reads = settled (g.seen m.archive.disk) (stays m.archive.disk honest); stops = from_mark m [] found.0 },
+      record { reads = run.0.settled honest settled (g.seen end.archive.disk) (stays end.archive.disk (run.0.honesty ∙ honest)); stops = from_end found.1.0 },
+    )
+    are_safe m (x ∷ xs) honest settled run found = (
+      record { reads = settled (g.seen m.archive.disk) (stays m.archive.disk honest); stops = from_mark m (x ∷ xs) found.0 },
+      are_safe x xs (run.0.honesty ∙ honest) (run.0.settled honest settled) run.1 found.1,
+    )
 
-    abbrev pub later : List Moment
+    abbrev pub later : List (Moment D)
     later = map moment_of (lines_of list ss) ++ moment_at end ∷ []
 
     later_is : map moment_at ss ++ moment_at end ∷ [] ≡ later
-    later_is = ap (λ (x : List Moment). x ++ moment_at end ∷ []) (sym (moments_are old list ss answered))
+    later_is = ap (λ (x : List (Moment D)). x ++ moment_at end ∷ []) (sym (moments_are old list ss answered))
 
-    pub session_safe : IsFoundSince g (mark_at g.seen old) (marks_of g.seen ss end closed) → AreSafe g closed.disk (moment_at old) later
-    session_safe found = subst (AreSafe g closed.disk (moment_at old)) later_is (are_safe old ss found)
+    pub session_safe : IsMarkSettled g (mark_at g.seen old) → IsRunOfMarks g (mark_at g.seen old) (marks_of g.seen ss end closed) → IsFoundSince g (mark_at g.seen old) (marks_of g.seen ss end closed) → AreSafe g closed.disk (moment_at old) later
+    session_safe settled run found = subst (AreSafe g closed.disk (moment_at old)) later_is (are_safe old ss (stands 0).honest settled run found)
 
     -- a crash since the opening began
     pub opening_safe : NothingElseIsLeft g → IsRunOfMarks g (mark_at g.seen old) (marks_of g.seen ss end closed) → (before : D) → LeavesOnly g before old.archive.disk (g.may_leave before)
@@ -286,7 +293,7 @@ module _ {D : Type 0} (g : disk.Ghosts D) (naming : Naming) (lasts : LastingLaws
         (subst (λ (k : Mark D). g.left_since k.disk (g.clock before) left) (sym (last_mark (mark_at g.seen old) ss)) was))
 
 -- the three ways in which a session that was opened ends: its text
-module _ {D : Type 0} (g : disk.Ghosts D) (lasts : LastingLaws g) (nothing_else : NothingElseIsLeft g) (whole_run : WholeIsARun g) (front_run : FrontIsARun g) (limit : ℕ) (naming : Naming) (t : Streams) (before after : D) (opened closed : Parts D)
+module _ {D : Type 0} (g : disk.Ghosts D) (lasts : LastingLaws g) (stays : (d : D) → IsTrue (g.is_honest d) → g.may_leave d (g.seen d)) (nothing_else : NothingElseIsLeft g) (whole_run : WholeIsARun g) (front_run : FrontIsARun g) (limit : ℕ) (naming : Naming) (t : Streams) (before after : D) (opened closed : Parts D)
     (opening : OpenCall g limit before (Ok opened)) (disk : after ≡ closed.disk) (honest : IsTrue (g.is_honest before)) where
   abbrev first : Stage D
   first = record { archive = opened; in_doubt = [] }
@@ -308,12 +315,12 @@ module _ {D : Type 0} (g : disk.Ghosts D) (lasts : LastingLaws g) (nothing_else 
     crash_safe =
         let told = session_told g naming read (written ++ unwritten) first stages end closed answers drops in
         let is = told.3 in
-        let same = answers_are g naming lasts first told.0 stages is.had.answered in
+        let same = answers_are g naming lasts stays first told.0 stages is.had.answered in
         let settled : IsMarkSettled g (mark_at g.seen first) = λ c may. (durable_of g.seen opened, opening.settled honest c may, inl refl) in
         record {
-          course = course g naming lasts first end closed told.0 stages told.1 told.2 is.had.answered is.had.finishes is.had.moves drops.stays begins;
+          course = course g naming lasts stays first end closed told.0 stages told.1 told.2 is.had.answered is.had.finishes is.had.moves drops.stays begins;
           found = λ x stands. opening.found_again x honest stands;
-          is = is_course g naming lasts first end closed told.0 stages told.1 told.2 is.had.answered is.had.finishes is.had.moves drops.stays begins refl;
+          is = is_course g naming lasts stays first end closed told.0 stages told.1 told.2 is.had.answered is.had.finishes is.had.moves drops.stays begins refl;
           text = record {
             read = read;
             rest = is.rest;
@@ -328,11 +335,11 @@ module _ {D : Type 0} (g : disk.Ghosts D) (lasts : LastingLaws g) (nothing_else 
           };
           all = all;
           opening =
-              subst (λ (d : D). (left : List ℕ) → g.left_since d (g.clock before) left → g.may_leave before left ⊎ FindsSince left (moment_at g naming lasts first) (later g naming lasts first end closed told.0 stages told.1 told.2 is.had.answered is.had.finishes is.had.moves drops.stays begins)) (sym disk)
-              (opening_safe g naming lasts first end closed told.0 stages told.1 told.2 is.had.answered is.had.finishes is.had.moves drops.stays begins nothing_else run before (opening.any_moment honest));
+              subst (λ (d : D). (left : List ℕ) → g.left_since d (g.clock before) left → g.may_leave before left ⊎ FindsSince left (moment_at g naming lasts stays first) (later g naming lasts stays first end closed told.0 stages told.1 told.2 is.had.answered is.had.finishes is.had.moves drops.stays begins)) (sym disk)
+              (opening_safe g naming lasts stays first end closed told.0 stages told.1 told.2 is.had.answered is.had.finishes is.had.moves drops.stays begins nothing_else run before (opening.any_moment honest));
           safe =
-              subst (λ (d : D). AreSafe g d (moment_at g naming lasts first) (later g naming lasts first end closed told.0 stages told.1 told.2 is.had.answered is.had.finishes is.had.moves drops.stays begins)) (sym disk)
-              (session_safe g naming lasts first end closed told.0 stages told.1 told.2 is.had.answered is.had.finishes is.had.moves drops.stays begins (found (opening.honesty ∙ honest) settled));
+              subst (λ (d : D). AreSafe g d (moment_at g naming lasts stays first) (later g naming lasts stays first end closed told.0 stages told.1 told.2 is.had.answered is.had.finishes is.had.moves drops.stays begins)) (sym disk)
+              (session_safe g naming lasts stays first end closed told.0 stages told.1 told.2 is.had.answered is.had.finishes is.had.moves drops.stays begins settled run (found (opening.honesty ∙ honest) settled));
         }
 
   nothing_more : (a b : Option (List ℕ)) (x : List ℕ) → Consumes a b x → Consumes a b (x ++ [])
@@ -360,11 +367,11 @@ module _ {D : Type 0} (g : disk.Ghosts D) (lasts : LastingLaws g) (nothing_else 
       crash_safe (Err (life.Session WriteFailed)) e.0 e.1 e.2 e.3 e.4 e.5 e.6 e.7
       (⊎_elim (λ all. inl all.0) (λ whole. inr whole.0) e.8) e.9 e.10 tt
 
-module _ {D : Type 0} (g : disk.Ghosts D) (lasts : LastingLaws g) (nothing_else : NothingElseIsLeft g) (whole_run : WholeIsARun g) (front_run : FrontIsARun g) where
+module _ {D : Type 0} (g : disk.Ghosts D) (lasts : LastingLaws g) (stays : (d : D) → IsTrue (g.is_honest d) → g.may_leave d (g.seen d)) (nothing_else : NothingElseIsLeft g) (whole_run : WholeIsARun g) (front_run : FrontIsARun g) where
   pub sessions_safe : SessionsAreCrashSafe g
   sessions_safe limit naming t before after (Ok u) lived = λ honest.
-      ended_safe g lasts nothing_else whole_run front_run limit naming t before after lived.opened lived.closed lived.opening lived.disk honest (Ok u) lived.goes
+      ended_safe g lasts stays nothing_else whole_run front_run limit naming t before after lived.opened lived.closed lived.opening lived.disk honest (Ok u) lived.goes
   sessions_safe limit naming t before after (Err (life.Session f)) lived = λ honest.
-      ended_safe g lasts nothing_else whole_run front_run limit naming t before after lived.opened lived.closed lived.opening lived.disk honest (Err f) lived.goes
+      ended_safe g lasts stays nothing_else whole_run front_run limit naming t before after lived.opened lived.closed lived.opening lived.disk honest (Err f) lived.goes
   sessions_safe limit naming t before after (Err (life.Open f)) lived = λ honest.
       (lived.0.opening.seen honest, λ left was. (lived.0.opening.any_moment honest).each left was)

@@ -39,79 +39,84 @@ abbrev pub WouldLeave : List Answer → Said → Durable → Durable → Type 0
 WouldLeave earlier what x y = (reply : List ℕ) × Does earlier what reply x y
 
 -- How things stand at a moment between two lines.
-pub record Moment : Type 0 where
+pub record Moment (D : Type 0) : Type 0 where
+  pub disk : D
+  -- what the archive holds
   pub holds : Durable
   -- what lines that were answered `no Disk` would have left
   pub in_doubt : List Durable
-  -- by the disk's clock
-  pub at : ℕ
 
 -- A line that was answered, and how things stand then.
-pub record Line : Type 0 where
+pub record Line (D : Type 0) : Type 0 where
   pub answer : Answer
-  pub then : Moment
+  pub then : Moment D
 
 -- A session: how it begins, its lines, how its script ends, and how things stand then.
-pub record Course : Type 0 where
-  pub begin : Moment
-  pub lines : List Line
+pub record Course (D : Type 0) : Type 0 where
+  pub begin : Moment D
+  pub lines : List (Line D)
   -- what stands behind the last newline, and the reply to it
   pub last : Said
   pub reply : List ℕ
-  pub end : Moment
+  pub end : Moment D
 
 -- A line leads from moment to moment. Only where it is answered `no Disk` is anything in doubt anew.
-pub record LeadsOn (earlier : List Answer) (old : Moment) (what : Said) (reply : List ℕ) (new : Moment) : Type 0 where
+pub record LeadsOn {D : Type 0} (earlier : List Answer) (old : Moment D) (what : Said) (reply : List ℕ) (new : Moment D) : Type 0 where
   pub leads : Leads earlier what reply old.holds new.holds
   pub doubts : List Durable
   pub in_doubt : new.in_doubt ≡ doubts ++ old.in_doubt
   pub doubted : (doubts ≡ []) ⊎ ((reply ≡ no_reply (codes "Disk")) × AllByRecursion (WouldLeave earlier what old.holds) doubts)
 
-abbrev pub answer_of : Line → Answer
+abbrev pub answer_of : {D : Type 0} → Line D → Answer
 answer_of l = l.answer
 
-abbrev pub moment_of : Line → Moment
+abbrev pub moment_of : {D : Type 0} → Line D → Moment D
 moment_of l = l.then
 
-abbrev pub AllLead : List Answer → Moment → List Line → Type 0
+abbrev pub AllLead : {D : Type 0} → List Answer → Moment D → List (Line D) → Type 0
 AllLead earlier old [] = Unit {0}
 AllLead earlier old (l ∷ ls) = LeadsOn earlier old (what_of l.answer) l.answer.reply l.then × AllLead (earlier ++ l.answer ∷ []) l.then ls
 
 -- behind the last line
-abbrev pub last_moment : Moment → List Line → Moment
+abbrev pub last_moment : {D : Type 0} → Moment D → List (Line D) → Moment D
 last_moment m [] = m
 last_moment m (l ∷ ls) = last_moment l.then ls
 
 -- each line does what it says, from what the archive held before it
-pub record IsCourse (c : Course) : Type 0 where
+pub record IsCourse {D : Type 0} (c : Course D) : Type 0 where
   pub clear : c.begin.in_doubt ≡ []
   pub lines : AllLead [] c.begin c.lines
   pub last : LeadsOn (map answer_of c.lines) (last_moment c.begin c.lines) c.last c.reply c.end
 
 -- An opening of these bytes finds what the archive held at this moment, or what was in doubt then.
-abbrev pub FindsMoment : List ℕ → Moment → Type 0
+abbrev pub FindsMoment : {D : Type 0} → List ℕ → Moment D → Type 0
 FindsMoment left m = (x : Durable) × StandsFor left x × ((x ≡ m.holds) ⊎ IsOneOf m.in_doubt x)
 
 -- the same of this moment or a later one
-abbrev pub FindsSince : List ℕ → Moment → List Moment → Type 0
+abbrev pub FindsSince : {D : Type 0} → List ℕ → Moment D → List (Moment D) → Type 0
 FindsSince left m [] = FindsMoment left m
 FindsSince left m (n ∷ ns) = FindsMoment left m ⊎ FindsSince left n ns
 
--- Whenever the machine stops after a line has been answered, between two disk writes or within one, what is left opens as what
--- the archive held then, or behind a later line.
-abbrev pub AreSafe : {D : Type 0} → disk.Ghosts D → D → Moment → List Moment → Type 0
-AreSafe g end m [] = (left : List ℕ) → g.left_since end m.at left → FindsSince left m []
-AreSafe g end m (n ∷ ns) = ((left : List ℕ) → g.left_since end m.at left → FindsSince left m (n ∷ ns)) × AreSafe g end n ns
+-- What reads of the disk give at a moment opens as that moment. And whenever the machine stops from then on, between two disk
+-- writes or within one, what is left opens as what the archive held then, or after a later line.
+pub record IsSafe {D : Type 0} (g : disk.Ghosts D) (end : D) (m : Moment D) (later : List (Moment D)) : Type 0 where
+  pub reads : FindsMoment (g.seen m.disk) m
+  pub stops : (left : List ℕ) → g.left_since end (g.clock m.disk) left → FindsSince left m later
 
-abbrev pub answers_of : Course → List Answer
+-- the same of each moment
+abbrev pub AreSafe : {D : Type 0} → disk.Ghosts D → D → Moment D → List (Moment D) → Type 0
+AreSafe g end m [] = IsSafe g end m []
+AreSafe g end m (n ∷ ns) = IsSafe g end m (n ∷ ns) × AreSafe g end n ns
+
+abbrev pub answers_of : {D : Type 0} → Course D → List Answer
 answers_of c = map answer_of c.lines
 
 -- each with the bytes behind its newline
-abbrev pub commands : Course → List Item
+abbrev pub commands : {D : Type 0} → Course D → List Item
 commands c = map (λ (a : Answer). a.item) (answers_of c)
 
 -- The script that was read, and the text of the replies: all that was written is a front of it.
-pub record IsText (t : Streams) (c : Course) : Type 0 where
+pub record IsText {D : Type 0} (t : Streams) (c : Course D) : Type 0 where
   pub read : List ℕ
   pub rest : List ℕ
   -- what was read and not carried out
@@ -131,7 +136,7 @@ IsAll (Err f) more input' unwritten = Unit {0}
 
 -- The headline of a session over a disk, `before` it and `after` it.
 pub record IsCrashSafe {D : Type 0} (T E : Type 0) (g : disk.Ghosts D) (t : Streams) (before after : D) (r : Result T E) : Type 0 where
-  pub course : Course
+  pub course : Course D
   -- it begins with exactly what the disk stands for
   pub found : (x : Durable) → StandsFor (g.seen before) x → course.begin.holds ≡ x
   pub is : IsCourse course
