@@ -1,10 +1,11 @@
 // Why the program ends with a status other than 0, and how it says so.
 ghost use Rattle.std.specs.Prelude.{◌≡◌, ◌≢◌, ◌≤◌};
 
+use crate::outcomes::life_failure;
 use case_journal::FormatFault;
 use clap::error::ErrorKind;
 use disk_model::FileFault;
-use inspector_cli::{CopyFault, ImageFault, LifeFault, MemoryFault, SessionFault, reason};
+use inspector_cli::{MemoryFault, SessionFault, reason};
 use intake::ArchiveFault;
 use journal_layout::{BadShape, OpenFault};
 use name_template::TemplateFault;
@@ -95,42 +96,13 @@ impl From<SessionFault> for Failure {
     }
 }
 
-impl From<LifeFault> for Failure {
-    fn from(fault: LifeFault) -> Self {
-        match fault {
-            LifeFault::Open(fault) => Failure::Refused(Refusal::Open(fault)),
-            LifeFault::Session(fault) => Failure::Faulted(fault),
-        }
-    }
-}
-
-impl From<ImageFault> for Failure {
-    fn from(fault: ImageFault) -> Self {
-        match fault {
-            ImageFault::Open(fault) => Failure::Aside(Refusal::Open(fault)),
-            ImageFault::Archive(fault) => Failure::Aside(Refusal::Call(fault)),
-        }
-    }
-}
-
-impl From<CopyFault> for Failure {
-    fn from(fault: CopyFault) -> Self {
-        match fault {
-            CopyFault::Open(fault) => Failure::Aside(Refusal::Open(fault)),
-            CopyFault::Archive(fault) => Failure::Aside(Refusal::Call(fault)),
-            CopyFault::Disk => Failure::Aside(Refusal::Call(ArchiveFault::Disk)),
-            CopyFault::Output => Failure::Faulted(SessionFault::WriteFailed),
-        }
-    }
-}
-
 impl From<MemoryFault> for Failure {
     fn from(fault: MemoryFault) -> Self {
         match fault {
             MemoryFault::BadShape => Failure::Refused(Refusal::BadShape),
             MemoryFault::OutOfMemory => Failure::Refused(Refusal::OutOfMemory),
             MemoryFault::Disk => Failure::Refused(Refusal::Disk),
-            MemoryFault::Life(fault) => Failure::from(fault),
+            MemoryFault::Life(fault) => life_failure(fault),
         }
     }
 }
