@@ -57,10 +57,7 @@ pub fn tell_stored<O: Output>(reply: &mut Reply<'_, O>, outcome: Result<u32, Arc
 }
 
 /// Tells the cases that were dropped, and whether the limits do not hold even so; or why none was dropped.
-pub fn tell_retired<O: Output>(
-    reply: &mut Reply<'_, O>,
-    outcome: Result<Decision, ArchiveFault>,
-)
+pub fn tell_retired<O: Output>(reply: &mut Reply<'_, O>, outcome: Result<Decision, ArchiveFault>)
     ensures { TellsText (telling O.Output reply.old reply.new) (retire_reply outcome) }
 {
     match outcome {

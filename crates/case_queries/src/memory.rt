@@ -129,19 +129,9 @@ fn tell_memory<O: Output>(
             tell_dump(alloc, reply, core, attached, *first, *length)
         }
         MemoryQuery::Find { needle } => {
-            tell_find(
-                alloc,
-                reply,
-                core,
-                attached,
-                needle.bytes.as_slice(),
-            )
+            tell_find(alloc, reply, core, attached, needle.bytes.as_slice())
         }
-        MemoryQuery::Strings { least } => {
-            tell_strings(alloc, reply, core, attached, *least)
-        }
-        MemoryQuery::Backtrace { thread } => {
-            tell_bt(alloc, reply, core, attached, *thread)
-        }
+        MemoryQuery::Strings { least } => { tell_strings(alloc, reply, core, attached, *least) }
+        MemoryQuery::Backtrace { thread } => { tell_bt(alloc, reply, core, attached, *thread) }
     }
 }

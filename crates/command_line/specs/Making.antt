@@ -1,5 +1,5 @@
 -- Archives that are made on a disk.
-use Rattle.std.specs.Prelude.{◌≡◌, ℕ, Bool, true, false, List, [], Result, Ok, Err, IsTrue}
+use Rattle.std.specs.Prelude.{ℕ, Bool, true, false, List, [], Result, Ok, Err, IsTrue}
 use Rattle.disk_model.specs.Moments.{IsSettled}
 use Rattle.disk_model.specs.declared.disk.Disk as disk
 use Rattle.intake.specs.Durable.{Durable, StandsFor}

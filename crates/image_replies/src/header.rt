@@ -58,11 +58,7 @@ fn tell_segment_lines<O: Output>(reply: &mut Reply<'_, O>, segments: Segments<'_
     }
 }
 
-fn tell_segment_line<O: Output>(
-    reply: &mut Reply<'_, O>,
-    index: u64,
-    segment: &Segment<'_>,
-)
+fn tell_segment_line<O: Output>(reply: &mut Reply<'_, O>, index: u64, segment: &Segment<'_>)
     ensures { TellsText (telling O.Output reply.old reply.new)
         (spec.segment_line index (segment_view segment.now)) }
 {

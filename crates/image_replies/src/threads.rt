@@ -107,11 +107,7 @@ fn tell_register_lines<O: Output>(reply: &mut Reply<'_, O>, thread: &Thread<'_>)
     }
 }
 
-fn tell_register_line<O: Output>(
-    reply: &mut Reply<'_, O>,
-    thread: &Thread<'_>,
-    word: usize,
-)
+fn tell_register_line<O: Output>(reply: &mut Reply<'_, O>, thread: &Thread<'_>, word: usize)
     requires { word < 32 }
     ensures { TellsText (telling O.Output reply.old reply.new)
         (spec.register_line (thread_bytes thread.now) word) }

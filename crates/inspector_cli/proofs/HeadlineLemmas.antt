@@ -1,5 +1,5 @@
 -- A session is a course of lines, and each stop of the machine leaves what stands behind one of them.
-use Rattle.std.proofs.Common.{◌≡◌, ◌⊎◌, inl, inr, ⊎_elim, ℕ, zero, suc, Bool, true, false, List, [], ◌∷◌, ◌++◌, length, map, Option, Some, None, Result, Ok, Err, refl, sym, ap, subst, ◌∙◌, append_assoc}
+use Rattle.std.proofs.Common.{◌≡◌, ◌⊎◌, inl, inr, ⊎_elim, ℕ, zero, suc, true, false, List, [], ◌∷◌, ◌++◌, map, Option, Some, None, Result, Ok, Err, refl, sym, ap, subst, ◌∙◌}
 use Rattle.std.proofs.lemmas.Bool.{false≢true}
 use Rattle.std.proofs.lemmas.List.{append-nil}
 use Rattle.std.specs.Prelude.{codes, option_map, IsTrue}
@@ -9,7 +9,7 @@ use Rattle.disk_model.specs.Moments.{LeavesOnly}
 use Rattle.disk_model.specs.declared.disk.Disk as disk
 use Rattle.intake.specs.Calls.{ChangesNoCase, OpenCall}
 use Rattle.intake.specs.Contents.{Taken}
-use Rattle.intake.specs.Durable.{Durable, StandsFor, durable_of}
+use Rattle.intake.specs.Durable.{Durable, durable_of}
 use Rattle.intake.specs.Marks.{Mark, NothingElseIsLeft, IsRunOfMarks, IsMarkSettled, IsFoundFrom, IsFoundSince, FindsMark, FindsOne, mark_of, last_of}
 use Rattle.intake.specs.Parts.{Parts, state_of}
 use Rattle.intake.specs.Growth.{IsDiskFault}
@@ -20,7 +20,7 @@ use Rattle.stream_names.specs.Streams.{exec_stream, core_stream}
 use Rattle.script_lines.specs.Said.{Said, silence, bad_line, long_line, begin_exec, begin_core, part_of, end_of, drop_of, delete_of, pin_of, label_of, retire_by, list_all_cases, count_free, upgrade_archive, inspect_of, said, raw_length}
 use Rattle.script_streams.specs.Replies.{no_reply, ok_reply}
 use Rattle.archive_replies.specs.Reasons.{reason_of}
-use Rattle.archive_replies.specs.Texts.{end_reply, plain_reply, retire_reply}
+use Rattle.archive_replies.specs.Texts.{end_reply}
 use Rattle.case_queries.specs.Inspecting.{kind_asked}
 use Rattle.case_queries.specs.LeaveLaws.{asks_leaves}
 use Rattle.inspector_cli.specs.Reply.{Replies, Ends}
@@ -29,11 +29,11 @@ use Rattle.inspector_cli.specs.declared.session.SessionFault.TheVariants.{ReadFa
 use Rattle.inspector_cli.specs.declared.session.LifeFault.{LifeFault}
 use Rattle.inspector_cli.specs.declared.session.LifeFault.TheVariants as life
 use Rattle.inspector_cli.specs.Runs.{WholeIsARun, FrontIsARun}
-use Rattle.inspector_cli.specs.Session.{AnswersAll, AnswersWhole, IsItem, Item, SessionEnds, Streams, spelled, Ending, complete, last_line, cut_part, said_last, last_stage, LastReplies, EndReplies, Truncates, DropsStreams}
+use Rattle.inspector_cli.specs.Session.{AnswersAll, AnswersWhole, IsItem, SessionEnds, Streams, spelled, Ending, complete, last_line, cut_part, said_last, last_stage, LastReplies, EndReplies, Truncates, DropsStreams}
 use Rattle.inspector_cli.specs.Stages.{Stage, Moves, MayLeave, IsFoundAfterAStop, mark_at, marks_of}
 use Rattle.inspector_cli.specs.Told.{Answer, Answers, Finishes, what_of, is_no, held_then, held_behind, parts_in}
-use Rattle.inspector_cli.specs.Headline.{IsAll, IsCrashSafe, SessionsAreCrashSafe, Does, Leads, WouldLeave, Moment, Line, Course, LeadsOn, AllLead, IsCourse, FindsMoment, FindsSince, AreSafe, last_moment, answer_of, moment_of}
-use Rattle.inspector_cli.proofs.ClearLemmas.{line_halts, end_told}
+use Rattle.inspector_cli.specs.Headline.{IsAll, IsCrashSafe, SessionsAreCrashSafe, Leads, WouldLeave, Moment, Line, Course, LeadsOn, AllLead, IsCourse, FindsMoment, FindsSince, AreSafe, last_moment, answer_of, moment_of}
+use Rattle.inspector_cli.proofs.ClearLemmas.{end_told}
 use Rattle.inspector_cli.proofs.HeldLemmas.{IsHeld, taken_at, none_taken, opening_quiet}
 use Rattle.inspector_cli.proofs.ToldLemmas.{session_told}
 use Rattle.inspector_cli.proofs.KeptLemmas.{LastingLaws}

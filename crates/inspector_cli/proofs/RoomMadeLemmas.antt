@@ -1,12 +1,11 @@
 -- Room is made for a stream that begins then, and for no other.
 use Rattle.std.proofs.Common.{◌≡◌, ◌⊎◌, inl, inr, ⊎_elim, ℕ, Bool, true, false, ◌||◌, List, [], Option, Some, None, Result, Ok, Err, is_ok, refl, sym, ap, ◌∙◌, replicate, arith, subst, map, length}
-use Rattle.std.proofs.lemmas.Bool.{true≢false, false≢true}
+use Rattle.std.proofs.lemmas.Bool.{true≢false}
 use Rattle.std.specs.List.{list_any}
 use Rattle.std.specs.Prelude.{codes, option_map, IfOk}
 use Rattle.disk_model.specs.declared.disk.Disk as disk
 use Rattle.archive_replies.specs.Texts.{begin_reply}
 use Rattle.intake.specs.Calls.{BeginCall}
-use Rattle.intake.specs.Opened.{IsOpened}
 use Rattle.intake.specs.Parts.{Parts, state_of, stream_facts}
 use Rattle.intake.specs.Slots.{stream_at}
 use Rattle.intake.specs.State.{ArchiveState, StreamFacts}

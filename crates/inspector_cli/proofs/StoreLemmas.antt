@@ -1,5 +1,5 @@
 -- One stream that is stored from its own input, with room made for it first, and the label of its case.
-use Rattle.std.proofs.Common.{◌≡◌, ◌⊎◌, inl, ⊎_elim, ℕ, zero, suc, ◌+◌, ◌<◌, ◌≤◌, Bool, true, false, List, [], ◌∷◌, ◌++◌, length, Option, Some, None, Result, Ok, Err, is_ok, refl, sym, ap, subst, ◌∙◌, arith, length-append}
+use Rattle.std.proofs.Common.{◌≡◌, inl, ℕ, zero, suc, ◌+◌, ◌<◌, ◌≤◌, Bool, true, false, List, [], ◌∷◌, ◌++◌, length, Option, Some, None, Result, Ok, Err, is_ok, refl, sym, ap, subst, ◌∙◌, arith, length-append}
 use Rattle.std.proofs.lemmas.List.{append-nil, length-map}
 use Rattle.std.proofs.KnownBytes.{Consumes-trans}
 use Rattle.std.specs.Io.KnownBytes.{Consumes}
@@ -18,7 +18,7 @@ use Rattle.intake.specs.Step.{BeginStep, with_stream, longer}
 use Rattle.failure_count.specs.Counts.{HasRisen}
 use Rattle.script_streams.specs.Telling.{Sink, Told, IsDelivered}
 use Rattle.script_streams.specs.declared.streams.StreamFault.{StreamFault}
-use Rattle.script_lines.specs.Said.{silence, end_of, label_of, retire_by}
+use Rattle.script_lines.specs.Said.{silence, end_of}
 use Rattle.inspector_cli.specs.Reply.{Begins, TakeStep, TakeBytes, Takes}
 use Rattle.std.specs.Borrow.{Bor}
 use Rattle.stream_names.specs.Commands.{stream_found}

@@ -70,11 +70,7 @@ pub(crate) fn answer_end<O: Output, D: Disk>(
 }
 
 // Answers `drop`.
-fn answer_drop<O: Output, D: Disk>(
-    slot: u8,
-    reply: &mut Reply<'_, O>,
-    archive: &mut Archive<D>,
-)
+fn answer_drop<O: Output, D: Disk>(slot: u8, reply: &mut Reply<'_, O>, archive: &mut Archive<D>)
     ensures { TellsReply (telling O.Output reply.old reply.new) (λ text. Drops D.Disk archive.old slot text archive.new) }
 {
     let outcome = archive.abandon(slot);
@@ -82,11 +78,7 @@ fn answer_drop<O: Output, D: Disk>(
 }
 
 // Answers `delete`.
-fn answer_delete<O: Output, D: Disk>(
-    seq: u32,
-    reply: &mut Reply<'_, O>,
-    archive: &mut Archive<D>,
-)
+fn answer_delete<O: Output, D: Disk>(seq: u32, reply: &mut Reply<'_, O>, archive: &mut Archive<D>)
     ensures { TellsReply (telling O.Output reply.old reply.new) (λ text. Deletes D.Disk archive.old seq text archive.new) }
 {
     let outcome = archive.delete(seq);

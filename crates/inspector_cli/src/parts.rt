@@ -56,9 +56,7 @@ fn take_part<I: Input, O: Output, D: Disk>(
     let mut verdict = archive.advance(slot, 0);
     let mut missing = count;
     while missing > 0 {
-        let (taken, answer) = take_piece(
-            slot, missing, verdict, buffer, input, reply, archive,
-        )?;
+        let (taken, answer) = take_piece(slot, missing, verdict, buffer, input, reply, archive)?;
         verdict = answer;
         if taken == 0 {
             return Ok((missing, verdict));

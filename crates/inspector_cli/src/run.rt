@@ -34,14 +34,7 @@ pub fn run_session<I: Input, O: Output, D: Disk>(
     found_after_a_stop::<D>();
     let mut buffer = ScriptBuffer::new();
     let mut reply = Reply::new(output);
-    let answered = answer_script(
-        alloc,
-        &mut buffer,
-        input,
-        &mut reply,
-        archive,
-        naming,
-    );
+    let answered = answer_script(alloc, &mut buffer, input, &mut reply, archive, naming);
     close_streams(archive);
     let Ok(()) = reply.finish() else {
         return Err(SessionFault::WriteFailed);

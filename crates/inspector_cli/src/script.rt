@@ -173,9 +173,7 @@ fn answer_last<O: Output, D: Disk>(
             images.kept = None;
             answer_cut(slot, count, reply, archive)
         }
-        Command::Inspect { seq, query } => {
-            answer_query(seq, &query, images, reply, archive)
-        }
+        Command::Inspect { seq, query } => { answer_query(seq, &query, images, reply, archive) }
         Command::Plain(request) => {
             images.kept = None;
             answer_plain(request, reply, archive, naming)

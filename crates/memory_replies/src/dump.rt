@@ -38,13 +38,7 @@ fn tell_row_address<O: Output>(reply: &mut Reply<'_, O>, first: u64, i: u64)
 }
 
 /// Tells row `i` of bytes that stand from an address on.
-fn tell_row<O: Output>(
-    reply: &mut Reply<'_, O>,
-    word: &[u8],
-    first: u64,
-    bytes: &[u8],
-    i: u64,
-)
+fn tell_row<O: Output>(reply: &mut Reply<'_, O>, word: &[u8], first: u64, bytes: &[u8], i: u64)
     requires { 16 * i < 2 ^ 64 }
     ensures { TellsText (telling O.Output reply.old reply.new)
         (spec.row_line word.now first bytes.now i) }

@@ -25,11 +25,7 @@ fn tell_address<O: Output>(reply: &mut Reply<'_, O>, address: u64)
 
 /// Tells a line for each address at which the bytes occur.
 #[tactic(auto, using(crate::proofs::TellLemmas::up_to_start))]
-fn tell_matches<O: Output>(
-    reply: &mut Reply<'_, O>,
-    space: &AddressSpace<'_>,
-    needle: &[u8],
-)
+fn tell_matches<O: Output>(reply: &mut Reply<'_, O>, space: &AddressSpace<'_>, needle: &[u8])
     requires { 0 < length needle.now }
     ensures { TellsText (telling O.Output reply.old reply.new)
         (flat_map spec.address_line (occurrences (space_of space.now) needle.now)) }

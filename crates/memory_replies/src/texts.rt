@@ -110,12 +110,7 @@ fn tell_shown<O: Output>(
 }
 
 /// Tells the line of a text.
-fn tell_line<O: Output>(
-    reply: &mut Reply<'_, O>,
-    space: &AddressSpace<'_>,
-    start: u64,
-    count: u128,
-)
+fn tell_line<O: Output>(reply: &mut Reply<'_, O>, space: &AddressSpace<'_>, start: u64, count: u128)
     requires { count ≡ text_len (space_of space.now) start (2 ^ 64 - start) }
     ensures { TellsText (telling O.Output reply.old reply.new)
         (spec.text_line (space_of space.now) (start, count)) }

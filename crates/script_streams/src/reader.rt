@@ -247,7 +247,11 @@ impl ScriptBuffer {
 
     // Asks the input for more, where nothing of it is held, and nothing of the replies is held back: so whoever gives the input
     // sees each reply before the next line is waited for.
-    fn refill<I: Input, O: Output>(&mut self, input: &mut I, reply: &Reply<'_, O>) -> Result<(), ReadStop>
+    fn refill<I: Input, O: Output>(
+        &mut self,
+        input: &mut I,
+        reply: &Reply<'_, O>,
+    ) -> Result<(), ReadStop>
         requires empty { held_bytes self.old ≡ [] }
         requires heard { held_text reply.now ≡ [] }
         ensures gives { Gives (I.remaining input.old) (I.remaining input.new) self.old self.new [] }

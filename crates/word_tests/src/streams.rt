@@ -237,9 +237,7 @@ fn tell_and_read(script: &mut Script<'_>, text: &[u8]) -> Result<LineEnding, Rea
     let mut reply = Reply::new(&mut script.output);
     reply.tell(text);
     let line = &mut script.line;
-    script
-        .buffer
-        .next_line(&mut script.input, line, &mut reply)
+    script.buffer.next_line(&mut script.input, line, &mut reply)
 }
 
 #[test]

@@ -1,4 +1,4 @@
-use Rattle.std.proofs.Common.{◌≡◌, [], length, arith, refl}
+use Rattle.std.proofs.Common.{◌≡◌, length, arith, refl}
 use Rattle.std.proofs.lemmas.Result.{err_from_is_err_and}
 use Rattle.std.specs.Prelude.{codes}
 use Rattle.script_streams.specs.Replies.{no_reply}

@@ -1,4 +1,4 @@
-use Rattle.std.proofs.Common.{[], Ok, Err}
+use Rattle.std.proofs.Common.{Ok, Err}
 use Rattle.std.proofs.lemmas.Result.{err_from_is_err_and}
 use Rattle.script_lines.specs.Said.{said}
 use Rattle.inspector_cli.specs.Session.{last_line}

@@ -1,5 +1,4 @@
 use Rattle.std.proofs.Common.{◌++◌, sym, ap, refl}
-use Rattle.script_streams.specs.Telling.{sink}
 use Rattle.script_streams.proofs.TellingLemmas.{told_on}
 use Rattle.script_streams.proofs.reply.Reply.write_behind.Goals as goal
 
