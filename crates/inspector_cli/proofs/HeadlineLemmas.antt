@@ -10,7 +10,7 @@ use Rattle.disk_model.specs.declared.disk.Disk as disk
 use Rattle.intake.specs.Calls.{ChangesNoCase, OpenCall}
 use Rattle.intake.specs.Contents.{Taken}
 use Rattle.intake.specs.Durable.{Durable, durable_of}
-use Rattle.intake.specs.Marks.{Mark, NothingElseIsLeft, IsRunOfMarks, IsMarkSettled, IsFoundFrom, IsFoundSince, FindsMark, FindsOne, mark_of, last_of}
+use Rattle.intake.specs.Marks.{NothingElseIsLeft, IsRunOfMarks, IsMarkSettled, IsFoundSince}
 use Rattle.intake.specs.Parts.{Parts, state_of}
 use Rattle.intake.specs.Growth.{IsDiskFault}
 use Rattle.intake.specs.Step.{FinishStep}
@@ -32,16 +32,17 @@ use Rattle.inspector_cli.specs.Runs.{WholeIsARun, FrontIsARun}
 use Rattle.inspector_cli.specs.Session.{AnswersAll, AnswersWhole, IsItem, SessionEnds, Streams, spelled, Ending, complete, last_line, cut_part, said_last, last_stage, LastReplies, EndReplies, Truncates, DropsStreams}
 use Rattle.inspector_cli.specs.Stages.{Stage, Moves, MayLeave, IsFoundAfterAStop, mark_at, marks_of}
 use Rattle.inspector_cli.specs.Told.{Answer, Answers, Finishes, what_of, is_no, held_then, held_behind, parts_in}
-use Rattle.inspector_cli.specs.Headline.{IsAll, IsCrashSafe, SessionsAreCrashSafe, Leads, WouldLeave, Moment, Line, Course, LeadsOn, AllLead, IsCourse, FindsMoment, FindsSince, AreSafe, last_moment, answer_of, moment_of}
+use Rattle.inspector_cli.specs.Headline.{IsAll, IsCrashSafe, SessionsAreCrashSafe, Leads, WouldLeave, Moment, Line, Course, LeadsOn, AllLead, IsCourse, FindsSince, AreSafe, last_moment, answer_of, moment_of}
 use Rattle.inspector_cli.proofs.ClearLemmas.{end_told}
 use Rattle.inspector_cli.proofs.HeldLemmas.{IsHeld, taken_at, none_taken, opening_quiet}
+use Rattle.inspector_cli.proofs.SafeLemmas.{are_safe, leads_on, since_opening}
 use Rattle.inspector_cli.proofs.ToldLemmas.{session_told}
 use Rattle.inspector_cli.proofs.KeptLemmas.{LastingLaws}
 use Rattle.inspector_cli.proofs.FoundLemmas.{Stands, answer_stands, answers_stand}
 use Rattle.inspector_cli.proofs.StageLemmas.{begins_stays, truncates_stays, broken_stays}
 
 module _ {D : Type 0} (g : disk.Ghosts D) (naming : Naming) (lasts : LastingLaws g) (stays : (d : D) → IsTrue (g.is_honest d) → g.may_leave d (g.seen d)) where
-  abbrev held : Parts D → Durable
+  abbrev pub held : Parts D → Durable
   held a = durable_of g.seen a
 
   -- a refused line
@@ -55,7 +56,7 @@ module _ {D : Type 0} (g : disk.Ghosts D) (naming : Naming) (lasts : LastingLaws
   parts_taken : (earlier : List Answer) (old : Parts D) (slot : ℕ) (taken : Taken) → IsHeld g slot old (parts_in slot earlier) → old.stopped ≡ false → taken_at g slot old ≡ Some taken.bytes → parts_in slot earlier ≡ Some taken.bytes
   parts_taken earlier old slot taken has runs is = ⊎_elim (λ stopped. absurd (false≢true (sym runs ∙ stopped))) (λ holds. sym holds ∙ is) has
 
-  line_leads : (earlier : List Answer) (old new : Parts D) (what : Said) (raw reply : List ℕ) → IsTrue (g.is_honest old.disk) → ((slot : ℕ) → IsHeld g slot old (parts_in slot earlier))
+  pub line_leads : (earlier : List Answer) (old new : Parts D) (what : Said) (raw reply : List ℕ) → IsTrue (g.is_honest old.disk) → ((slot : ℕ) → what ≡ end_of slot → IsHeld g slot old (parts_in slot earlier))
       → Replies g naming old what raw reply new → Leads earlier what reply (held old) (held new)
   line_leads earlier old new silence raw reply honest has r = inl (same_archive old new r.1)
   line_leads earlier old new bad_line raw reply honest has r = inl (same_archive old new r.1)
@@ -66,7 +67,7 @@ module _ {D : Type 0} (g : disk.Ghosts D) (naming : Naming) (lasts : LastingLaws
   line_leads earlier old new (end_of slot) raw reply honest has (stored, (Ok seq, call, told, is)) =
       let m = lasts.finish old new slot seq honest call in
       let taken : taken_at g slot old ≡ Some m.1.1.bytes = ap (option_map (λ (t : Taken). t.bytes)) m.1.3 in
-      inl (m.1.1.bytes, m.1.0, m.0, parts_taken earlier old slot m.1.1 (has slot) call.step.2.0 taken, told ∙ ap (λ (n : ℕ). end_reply (Ok n)) call.step.6, m.1.5)
+      inl (m.1.1.bytes, m.1.0, m.0, parts_taken earlier old slot m.1.1 (has slot refl) call.step.2.0 taken, told ∙ ap (λ (n : ℕ). end_reply (Ok n)) call.step.6, m.1.5)
   line_leads earlier old new (end_of slot) raw reply honest has (stored, (Err f, call, told, is)) =
       refused earlier (end_of slot) reply (reason_of f) (held old) (held new) told (lasts.refusals old new f honest (inl (slot, call)))
   line_leads earlier old new (drop_of slot) raw reply honest has r = inl (r.1.stays.durable honest)
@@ -100,11 +101,11 @@ module _ {D : Type 0} (g : disk.Ghosts D) (naming : Naming) (lasts : LastingLaws
       fault_runs (Ok seq) fault step = absurd fault
       fault_runs (Err f) fault step = (subst (λ (e : ArchiveFault). FinishStep (state_of old) slot (Err e) (state_of new)) fault step).1.0
 
-  line_would : (earlier : List Answer) (old new : Parts D) (what : Said) (raw reply : List ℕ) (x : Durable) → ((slot : ℕ) → IsHeld g slot old (parts_in slot earlier))
+  pub line_would : (earlier : List Answer) (old new : Parts D) (what : Said) (raw reply : List ℕ) (x : Durable) → ((slot : ℕ) → what ≡ end_of slot → IsHeld g slot old (parts_in slot earlier))
       → Replies g naming old what raw reply new → reply ≡ no_reply (codes "Disk") → MayLeave g old what x → WouldLeave earlier what (held old) x
   line_would earlier old new (end_of slot) raw reply x has r told may =
       let taken : taken_at g slot old ≡ Some may.1.1.bytes = ap (option_map (λ (t : Taken). t.bytes)) may.1.3 in
-      (end_reply (Ok (held old).next), (may.1.1.bytes, may.1.0, may.0, parts_taken earlier old slot may.1.1 (has slot) (ends_runs old new slot reply r.0 r.1 told) taken, refl, may.1.5))
+      (end_reply (Ok (held old).next), (may.1.1.bytes, may.1.0, may.0, parts_taken earlier old slot may.1.1 (has slot refl) (ends_runs old new slot reply r.0 r.1 told) taken, refl, may.1.5))
   line_would earlier old new (delete_of seq) raw reply x has r told may = (ok_reply, (refl, may))
   line_would earlier old new (pin_of seq flag) raw reply x has r told may = (ok_reply, (refl, inl may))
   line_would earlier old new (label_of seq label) raw reply x has r told may = (ok_reply, (refl, inl may))
@@ -123,11 +124,11 @@ module _ {D : Type 0} (g : disk.Ghosts D) (naming : Naming) (lasts : LastingLaws
 
   module _ (earlier : List Answer) (old new : Parts D) (reply : List ℕ) (honest : IsTrue (g.is_honest old.disk)) (has : (slot : ℕ) → IsHeld g slot old (parts_in slot earlier)) where
     last_leads : (what : Said) (n : ℕ) → LastReplies g naming n old what reply new → Leads earlier what reply (held old) (held new)
-    last_leads what zero r = line_leads earlier old new what [] reply honest has r
+    last_leads what zero r = line_leads earlier old new what [] reply honest (λ slot is. has slot) r
     last_leads what (suc n) cut = cut_leads earlier old new what [] reply honest cut
 
     last_would : (what : Said) (n : ℕ) (x : Durable) → LastReplies g naming n old what reply new → reply ≡ no_reply (codes "Disk") → MayLeave g old what x → WouldLeave earlier what (held old) x
-    last_would what zero x r told may = line_would earlier old new what [] reply x has r told may
+    last_would what zero x r told may = line_would earlier old new what [] reply x (λ slot is. has slot) r told may
     last_would what (suc n) x cut told may = cut_would earlier old new what [] reply x cut may
 
     end_leads : (e : Ending) → EndReplies g naming old e reply new → Leads earlier (said_last e) reply (held old) (held new)
@@ -153,19 +154,6 @@ module _ {D : Type 0} (g : disk.Ghosts D) (naming : Naming) (lasts : LastingLaws
   -- how things stand at a stage
   abbrev pub moment_at : Stage D → Moment D
   moment_at s = record { disk = s.archive.disk; holds = held s.archive; in_doubt = s.in_doubt }
-
-  leads_on : (earlier : List Answer) (old new : Stage D) (what : Said) (reply : List ℕ) → Leads earlier what reply (held old.archive) (held new.archive)
-      → ((x : Durable) → reply ≡ no_reply (codes "Disk") → MayLeave g old.archive what x → WouldLeave earlier what (held old.archive) x) → Moves g old what reply new → LeadsOn earlier (moment_at old) what reply (moment_at new)
-  leads_on earlier old new what reply leads would moves = record {
-    leads = leads;
-    doubts = moves.doubts;
-    in_doubt = moves.in_doubt;
-    doubted = ⊎_elim (λ none. inl none) (λ may. inr (may.0, all_would moves.doubts may.0 may.1)) moves.doubted;
-  }
-    where
-      all_would : (xs : List Durable) → reply ≡ no_reply (codes "Disk") → AllByRecursion (MayLeave g old.archive what) xs → AllByRecursion (WouldLeave earlier what (held old.archive)) xs
-      all_would [] told all = tt
-      all_would (x ∷ xs) told all = (would x told all.0, all_would xs told all.1)
 
   -- what each slot holds is told by the lines before
   abbrev AllStand : List Answer → Stage D → Type 0
@@ -207,9 +195,9 @@ module _ {D : Type 0} (g : disk.Ghosts D) (naming : Naming) (lasts : LastingLaws
   all_lead earlier old [] (s ∷ ss) stands run = absurd run
   all_lead earlier old (a ∷ list) [] stands run = absurd run
   all_lead earlier old (a ∷ list) (s ∷ ss) stands run = (
-    leads_on earlier old s (what_of a) a.reply
-        (line_leads earlier old.archive s.archive (what_of a) a.item.raw a.reply (stands 0).honest (λ slot. (stands slot).has) run.0)
-        (λ x told may. line_would earlier old.archive s.archive (what_of a) a.item.raw a.reply x (λ slot. (stands slot).has) run.0 told may) run.1,
+    leads_on g earlier old s (what_of a) a.reply
+        (line_leads earlier old.archive s.archive (what_of a) a.item.raw a.reply (stands 0).honest (λ slot is. (stands slot).has) run.0)
+        (λ x told may. line_would earlier old.archive s.archive (what_of a) a.item.raw a.reply x (λ slot is. (stands slot).has) run.0 told may) run.1,
     all_lead (earlier ++ a ∷ []) s list ss (stands_then earlier old s a stands run.0 run.1) run.2,
   )
 
@@ -226,7 +214,7 @@ module _ {D : Type 0} (g : disk.Ghosts D) (naming : Naming) (lasts : LastingLaws
     is_course clear =
         let here = all_stand old list ss stands answered in
         let ends =
-        leads_on list (last_stage old ss) end last reply
+        leads_on g list (last_stage old ss) end last reply
         (finish_leads list (last_stage old ss).archive end.archive reply (here 0).honest (λ slot. (here slot).has) last finishes)
         (λ x told may. finish_would list (last_stage old ss).archive end.archive reply (here 0).honest (λ slot. (here slot).has) last x finishes told may) moves
         in
@@ -238,41 +226,8 @@ module _ {D : Type 0} (g : disk.Ghosts D) (naming : Naming) (lasts : LastingLaws
               (subst (λ (m : Moment D). LeadsOn list m last reply (moment_at end)) (sym (last_is old list ss answered)) ends);
         }
 
-    abbrev closing : Mark D
-    closing = mark_of g.seen closed end.in_doubt
-
     honest_end : IsTrue (g.is_honest end.archive.disk)
     honest_end = moves.passes.honesty ∙ (all_stand old list ss stands answered 0).honest
-
-    closing_found : (c : List ℕ) → FindsMark c closing → FindsMoment c (moment_at end)
-    closing_found c found = subst (λ (x : Durable). FindsMoment {D = D} c (record { disk = end.archive.disk; holds = x; in_doubt = end.in_doubt })) (closes.durable honest_end) found
-
-    found_since : (m : Stage D) (xs : List (Stage D)) (c : List ℕ) → FindsOne c (mark_at g.seen m) (marks_of g.seen xs end closed) → FindsSince c (moment_at m) (map moment_at xs ++ moment_at end ∷ [])
-    found_since m [] c found = ⊎_elim (λ here. inl here) (λ there. inr (⊎_elim (λ at_end. at_end) (λ after. closing_found c after) there)) found
-    found_since m (x ∷ xs) c found = ⊎_elim (λ here. inl here) (λ there. inr (found_since x xs c there)) found
-
-    last_mark : (m : Mark D) (xs : List (Stage D)) → last_of m (marks_of g.seen xs end closed) ≡ closing
-    last_mark m [] = refl
-    last_mark m (x ∷ xs) = last_mark (mark_at g.seen x) xs
-
-    from_mark : (m : Stage D) (xs : List (Stage D)) → IsFoundFrom g (mark_at g.seen m) (marks_of g.seen xs end closed)
-        → (left : List ℕ) → g.left_since closed.disk (g.clock m.archive.disk) left → FindsSince left (moment_at m) (map moment_at xs ++ moment_at end ∷ [])
-    from_mark m xs found left was =
-        found_since m xs left (found left (subst (λ (k : Mark D). g.left_since k.disk (g.clock m.archive.disk) left) (sym (last_mark (mark_at g.seen m) xs)) was))
-
-    from_end : IsFoundFrom g (mark_at g.seen end) (closing ∷ []) → (left : List ℕ) → g.left_since closed.disk (g.clock end.archive.disk) left → FindsSince left (moment_at end) []
-    from_end found left was = ⊎_elim (λ here. here) (λ after. closing_found left after) (found left was)
-
-    are_safe : (m : Stage D) (xs : List (Stage D)) → IsTrue (g.is_honest m.archive.disk) → IsMarkSettled g (mark_at g.seen m) → IsRunOfMarks g (mark_at g.seen m) (marks_of g.seen xs end closed)
-        → IsFoundSince g (mark_at g.seen m) (marks_of g.seen xs end closed) → AreSafe g closed.disk (moment_at m) (map moment_at xs ++ moment_at end ∷ [])
-    are_safe m [] honest settled run found = (
-      record { reads = settled (g.seen m.archive.disk) (stays m.archive.disk honest); stops = from_mark m [] found.0 },
-      record { reads = run.0.settled honest settled (g.seen end.archive.disk) (stays end.archive.disk (run.0.honesty ∙ honest)); stops = from_end found.1.0 },
-    )
-    are_safe m (x ∷ xs) honest settled run found = (
-      record { reads = settled (g.seen m.archive.disk) (stays m.archive.disk honest); stops = from_mark m (x ∷ xs) found.0 },
-      are_safe x xs (run.0.honesty ∙ honest) (run.0.settled honest settled) run.1 found.1,
-    )
 
     abbrev pub later : List (Moment D)
     later = map moment_of (lines_of list ss) ++ moment_at end ∷ []
@@ -280,17 +235,14 @@ module _ {D : Type 0} (g : disk.Ghosts D) (naming : Naming) (lasts : LastingLaws
     later_is : map moment_at ss ++ moment_at end ∷ [] ≡ later
     later_is = ap (λ (x : List (Moment D)). x ++ moment_at end ∷ []) (sym (moments_are old list ss answered))
 
-    pub session_safe : IsMarkSettled g (mark_at g.seen old) → IsRunOfMarks g (mark_at g.seen old) (marks_of g.seen ss end closed) → IsFoundSince g (mark_at g.seen old) (marks_of g.seen ss end closed) → AreSafe g closed.disk (moment_at old) later
-    session_safe settled run found = subst (AreSafe g closed.disk (moment_at old)) later_is (are_safe old ss (stands 0).honest settled run found)
+    pub session_safe : IsMarkSettled g (mark_at g.seen old) → IsRunOfMarks g (mark_at g.seen old) (marks_of g.seen ss end closed) → IsFoundSince g (mark_at g.seen old) (marks_of g.seen ss end closed)
+        → AreSafe g closed.disk (moment_at old) later
+    session_safe settled run found = subst (AreSafe g closed.disk (moment_at old)) later_is (are_safe g stays end closed honest_end closes old ss (stands 0).honest settled run found)
 
-    -- a crash since the opening began
     pub opening_safe : NothingElseIsLeft g → IsRunOfMarks g (mark_at g.seen old) (marks_of g.seen ss end closed) → (before : D) → LeavesOnly g before old.archive.disk (g.may_leave before)
         → (left : List ℕ) → g.left_since closed.disk (g.clock before) left → g.may_leave before left ⊎ FindsSince left (moment_at old) later
     opening_safe law run before leaves left was =
-        ⊎_elim (λ earlier. inl (leaves.each left earlier))
-        (λ found. inr (subst (FindsSince left (moment_at old)) later_is (found_since old ss left found)))
-        (law (mark_at g.seen old) (marks_of g.seen ss end closed) (g.clock before) left (stands 0).honest run leaves.later
-        (subst (λ (k : Mark D). g.left_since k.disk (g.clock before) left) (sym (last_mark (mark_at g.seen old) ss)) was))
+        ⊎_elim inl (λ found. inr (subst (FindsSince left (moment_at old)) later_is found)) (since_opening g stays end closed honest_end closes law old ss (stands 0).honest run before leaves left was)
 
 -- the three ways in which a session that was opened ends: its text
 module _ {D : Type 0} (g : disk.Ghosts D) (lasts : LastingLaws g) (stays : (d : D) → IsTrue (g.is_honest d) → g.may_leave d (g.seen d)) (nothing_else : NothingElseIsLeft g) (whole_run : WholeIsARun g) (front_run : FrontIsARun g) (limit : ℕ) (naming : Naming) (t : Streams) (before after : D) (opened closed : Parts D)

@@ -20,3 +20,5 @@ pub mod MemoryLemmas
 pub mod CopyLemmas
 pub mod RoomMadeLemmas
 pub mod HeadlineLemmas
+pub mod SafeLemmas
+pub mod StoreHeadLemmas

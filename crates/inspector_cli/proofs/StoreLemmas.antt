@@ -173,12 +173,12 @@ module _ {D : Type 0} (g : disk.Ghosts D) where
     end_reaches (Err (Refused fault)) reply stored ends = still g laws old new (end_of 0) reply (stays_as g old.archive new ends.1)
 
     -- room that is made, or none
-    room_moves : (policy : Option Policy) (told : List ℕ) (made : Bool) → MakesRoom g old.archive policy told new made → Reaches g laws old new (said_room policy) told
+    pub room_moves : (policy : Option Policy) (told : List ℕ) (made : Bool) → MakesRoom g old.archive policy told new made → Reaches g laws old new (said_room policy) told
     room_moves None told made makes = still g laws old new silence told (stays_as g old.archive new makes.1)
     room_moves (Some policy) told made makes = retires_moves g laws old new policy told makes.0
 
     -- the label of the case, or none
-    label_moves : (stored : Option ℕ) (label : Option (List ℕ)) (last : List ℕ) (done : Bool) → LabelsCase g old.archive stored label last new done → Reaches g laws old new (said_label stored label) last
+    pub label_moves : (stored : Option ℕ) (label : Option (List ℕ)) (last : List ℕ) (done : Bool) → LabelsCase g old.archive stored label last new done → Reaches g laws old new (said_label stored label) last
     label_moves (Some seq) (Some label) last done labels = labels_moves g laws old new seq label last labels.0
     label_moves (Some seq) None last done labels = still g laws old new silence last (stays_as g old.archive new labels.1)
     label_moves None label last done labels = still g laws old new silence last (stays_as g old.archive new labels.1)

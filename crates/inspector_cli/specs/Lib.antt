@@ -12,3 +12,4 @@ pub mod Memory
 pub mod Extracting
 pub mod Copying
 pub mod Headline
+pub mod StoreHeadline

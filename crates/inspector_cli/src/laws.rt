@@ -1,11 +1,14 @@
 //! What holds over every script and every session. These functions do nothing.
 ghost use Rattle.inspector_cli.specs.Cuts.{HasOneCut, HasACut, HasOneFront};
 ghost use Rattle.inspector_cli.specs.Headline.{SessionsAreCrashSafe};
+ghost use Rattle.inspector_cli.specs.StoreHeadline.{StoresAreCrashSafe};
 ghost use Rattle.inspector_cli.specs.Storing.{RoomIsForAStream, RoomIsLeftOutForARefusal, NoRoomIsMadeUnasked};
 ghost use Rattle.inspector_cli.specs.Runs.{WholeIsARun, FrontIsARun, StagesAreClear, SessionsAreLived};
 
 use disk_model::Disk;
-use intake::{calls_lead_from_mark_to_mark, nothing_else_is_left, what_calls_leave};
+use intake::{
+    calls_lead_from_mark_to_mark, found_after_a_stop, nothing_else_is_left, what_calls_leave,
+};
 use script_streams::lines_are_cut_one_way;
 
 /// A script has one cut into lines, each with the bytes that it says stand behind it, and an ending; and every text has one.
@@ -39,6 +42,17 @@ pub fn a_session_is_crash_safe<D: Disk>()
     what_calls_leave::<D>();
     nothing_else_is_left::<D>();
     sessions_are_runs::<D>();
+}
+
+/// The headline of each store from an opening on: what the archive holds when room is made, when the case is stored, and when it has
+/// its label. The case is the stream that was begun, with all bytes of FILE as its image.
+pub fn a_store_is_crash_safe<D: Disk>()
+    ensures { StoresAreCrashSafe D.Disk }
+{
+    calls_lead_from_mark_to_mark::<D>();
+    found_after_a_stop::<D>();
+    nothing_else_is_left::<D>();
+    what_calls_leave::<D>();
 }
 
 /// `store_stream` retires no case in vain: over an archive as an opening answers it, room that was made is followed by the stream

@@ -1,9 +1,11 @@
 // One stream, stored from the opening of its archive on.
 ghost use Rattle.stream_names.specs.Commands.{stream_found};
 ghost use Rattle.inspector_cli.specs.Session.{streams_of};
+ghost use Rattle.inspector_cli.specs.StoreHeadline.{StoreHeadline};
 ghost use Rattle.inspector_cli.specs.Life.{LifeEnds, StoresOver};
 ghost use Rattle.inspector_cli.specs.Storing.{label_asked};
 
+use crate::laws::a_store_is_crash_safe;
 use crate::session::{LifeFault, StoreOutcome};
 use crate::store::store_stream;
 use arrayvec::ArrayVec;
@@ -24,6 +26,24 @@ use stream_names::NewStream;
 /// `Open` where the archive could not be opened: nothing is written then, and no stream is touched. `Session` as
 /// `store_stream` ends.
 pub fn open_and_store<I: Input, O: Output, D: Disk>(
+    alloc: Global,
+    disk: D,
+    settings: Settings,
+    policy: Option<Policy>,
+    found: Result<NewStream, &'static [u8]>,
+    label: &Option<ArrayVec<u8, 64>>,
+    file: &mut I,
+    output: &mut O,
+) -> (Result<StoreOutcome, LifeFault>, D)
+    ensures crash_safe { let streams = streams_of I.Input O.Output file.old file.new output.old output.new in LifeEnds D.Disk settings.limit streams disk result.0 result.1 (StoresOver D.Disk policy (stream_found found.entry) (label_asked label.now) streams) }
+    ensures headline { StoreHeadline D.Disk (streams_of I.Input O.Output file.old file.new output.old output.new) policy (stream_found found.entry) (label_asked label.now) disk result.0 result.1 }
+{
+    a_store_is_crash_safe::<D>();
+    open_then_store(alloc, disk, settings, policy, found, label, file, output)
+}
+
+// Opens the archive on a disk, stores one stream, and hands the disk back.
+fn open_then_store<I: Input, O: Output, D: Disk>(
     alloc: Global,
     disk: D,
     settings: Settings,
