@@ -1,5 +1,5 @@
 -- What the program does over the archive on a disk, by the values that its words say.
-use Rattle.std.specs.Prelude.{◌≡◌, ◌⊎◌, ℕ, List, [], ◌∷◌, ◌++◌, Option, None, Some, Result, Err, Vec}
+use Rattle.std.specs.Prelude.{◌≡◌, ◌⊎◌, ℕ, List, [], ◌∷◌, ◌++◌, Option, None, Some, Result, Ok, Err, Vec}
 use Rattle.std.specs.Global.{Global}
 use Rattle.std.specs.Io.KnownBytes.{Keeps}
 use Rattle.disk_model.specs.declared.disk.Disk as disk
@@ -12,11 +12,14 @@ use Rattle.inspector_cli.specs.declared.copying.CopyFault.{CopyFault}
 use Rattle.inspector_cli.specs.declared.extract.ImageFault.{ImageFault}
 use Rattle.inspector_cli.specs.declared.session.LifeFault.{LifeFault}
 use Rattle.inspector_cli.specs.declared.session.StoreOutcome.{StoreOutcome}
+use Rattle.intake.specs.Calls.{OpenCall}
+use Rattle.intake.specs.Parts.{Parts}
 use Rattle.stream_names.specs.Commands.{stream_found}
 use Rattle.stream_names.specs.declared.naming.Naming.{Naming}
 use Rattle.command_line.specs.declared.failures.Failure.{Failure}
 use Rattle.command_line.specs.declared.failures.Failure.TheVariants.{Refused}
-use Rattle.command_line.specs.declared.failures.Refusal.TheVariants.{OutOfMemory}
+use Rattle.command_line.specs.declared.failures.Refusal.{Refusal}
+use Rattle.command_line.specs.declared.failures.Refusal.TheVariants.{OutOfMemory, Open}
 use Rattle.command_line.specs.declared.storing.StoreRequest.{StoreRequest}
 use Rattle.command_line.specs.Told.{run_told, store_told, copy_told, image_told}
 
@@ -70,3 +73,9 @@ CopiesOnDisk g seq taken taken' lost lost' before r after =
 abbrev pub ReadsOnDisk : {D : Type 0} → disk.Ghosts D → ℕ → D → Result (Vec ℕ Global) Failure → D → Type 0
 ReadsOnDisk g seq before r after =
     (read : Result (Vec ℕ Global) ImageFault) × ReadsImage g 0 seq before read after × (r ≡ image_told read)
+
+-- The archive on a disk is opened, and no more; or why it is not.
+abbrev pub LooksOnDisk : {D : Type 0} → disk.Ghosts D → ℕ → D → Result (Unit {0}) Refusal → D → Type 0
+LooksOnDisk {D} g limit before (Ok u) after = (opened : Parts D) × OpenCall g limit before (Ok opened) × (after ≡ opened.disk)
+LooksOnDisk g limit before (Err (Open f)) after = OpenCall g limit before (Err (f, after))
+LooksOnDisk g limit before (Err _) after = ⊥

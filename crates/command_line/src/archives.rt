@@ -3,9 +3,7 @@ use crate::asked::Place;
 use crate::failures::{Refusal, Word};
 use crate::making::format_over;
 use disk_model::{Disk, FileDisk, FileFault};
-use intake::{Archive, Settings};
 use journal_layout::Shape;
-use std::alloc::Global;
 use std::fs;
 use std::fs::{File, Metadata, TryLockError};
 use std::os::unix::fs::MetadataExt;
@@ -196,12 +194,4 @@ fn is_named<R: Files<File = File>>(rt: &R, path: &str, file: &File) -> Result<bo
     let named = fs::metadata(rt, path)?;
     let opened = file.metadata()?;
     Ok(is_same(&named, &opened))
-}
-
-// Opens the archive on a disk for the sake of what is wrong with it.
-pub(crate) fn look_at<D: Disk + Drop>(alloc: Global, disk: D, limit: u64) -> Result<(), Refusal> {
-    match Archive::open(alloc, disk, Settings { limit }) {
-        Ok(_) => Ok(()),
-        Err((fault, _)) => Err(Refusal::Open(fault)),
-    }
 }

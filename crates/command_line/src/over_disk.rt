@@ -1,13 +1,13 @@
 // What `run`, `ask` and `extract` do over the archive on a disk.
 ghost use Rattle.std.specs.Prelude.{◌≡◌, ◌^◌, ◌-◌, option_map};
 ghost use Rattle.inspector_cli.specs.Session.{streams_of};
-ghost use Rattle.command_line.specs.OverDisks.{RunsOnDisk, AnswersLine, CopiesOnDisk, ReadsOnDisk};
+ghost use Rattle.command_line.specs.OverDisks.{RunsOnDisk, AnswersLine, CopiesOnDisk, ReadsOnDisk, LooksOnDisk};
 
 use crate::failures::{Failure, Refusal};
 use crate::outcomes::{copy_told, image_told, run_told};
 use disk_model::Disk;
 use inspector_cli::{Naming, copy_image, open_and_run, read_image};
-use intake::Settings;
+use intake::{Archive, Settings};
 use script_streams::{Input, Output, ReadInput};
 use script_words::parse_case_number;
 use std::alloc::Global;
@@ -86,4 +86,17 @@ pub(crate) fn read_over<D: Disk>(
 {
     let (read, disk) = read_image(alloc, disk, Settings { limit: 0 }, case.seq);
     (image_told(read), disk)
+}
+
+// Opens the archive on a disk for the sake of what is wrong with it, and hands the disk back.
+pub(crate) fn look_over<D: Disk>(alloc: Global, disk: D, limit: u64) -> (Result<(), Refusal>, D)
+    ensures { LooksOnDisk D.Disk limit disk result.0 result.1 }
+{
+    match Archive::open(alloc, disk, Settings { limit }) {
+        Ok(archive) => {
+            let disk = archive.close();
+            (Ok(()), disk)
+        }
+        Err((fault, disk)) => (Err(Refusal::Open(fault)), disk),
+    }
 }

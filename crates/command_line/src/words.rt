@@ -1,10 +1,10 @@
 // The program: what its words ask for, and the status that it ends with.
 ghost use Rattle.std.specs.Prelude.{◌≡◌, ◌≤◌};
 
-use crate::archives::{Access, look_at, make_archive, names_output, take_disk};
+use crate::archives::{Access, make_archive, names_output, take_disk};
 use crate::asked::{Asked, Place, SessionWords, read_words};
 use crate::failures::{Failure, Refusal, Word, tell_failure};
-use crate::over_disk::run_over;
+use crate::over_disk::{look_over, run_over};
 use crate::raw_words::words_of;
 use crate::single::{ask, extract};
 use crate::storing::{StoreRequest, store_from};
@@ -216,7 +216,8 @@ fn store<R: AllocGlobal + Files<File = File>, I: Read, O: Output>(
             ended
         }
         Err(error) => {
-            look_at(rt.alloc(), disk, request.limit())?;
+            let (looked, _) = look_over(rt.alloc(), disk, request.limit());
+            looked?;
             Err(Failure::Refused(Refusal::File(Word::File, FileFault::from(error))))
         }
     }
