@@ -8,6 +8,8 @@ pub mod Layers
 pub mod Orders
 pub mod MappedFiles
 pub mod SourceWords
+pub mod AttachedWords
+pub mod PathWords
 pub mod SpaceWords
 pub mod TableWords
 pub mod PieceWords

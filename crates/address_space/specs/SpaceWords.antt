@@ -5,16 +5,13 @@ use Rattle.elf_view.specs.ViewWords.{image_of}
 use Rattle.elf_view.specs.declared.view.Elf.{Elf}
 use Rattle.core_notes.specs.declared.file_list.Files.{Files}
 use Rattle.address_space.specs.Source.{Space, ExecutableView}
+pub use Rattle.address_space.specs.AttachedWords.{attached_view}
 pub use Rattle.address_space.specs.MappedFiles.{files_in}
-use Rattle.address_space.specs.declared.space.Executable.{Executable}
 use Rattle.address_space.specs.declared.space.AddressSpace.{AddressSpace}
-
-abbrev pub executable_view : Executable → ExecutableView
-executable_view x = record { path = x.path.now; image = x.image.now }
 
 -- a core, its mapped files and the executables that are attached
 abbrev pub space_view : Elf → Option Files → List ExecutableView → Space
 space_view elf files executables = record { segments = segments_of (image_of elf); files = files_in files; executables = executables }
 
 unfoldable pub space_of : AddressSpace → Space
-space_of s = space_view s.elf s.files (map executable_view s.executables.items)
+space_of s = space_view s.elf s.files (map attached_view s.executables.list.items)

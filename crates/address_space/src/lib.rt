@@ -1,6 +1,8 @@
 //! The memory of a process, as its core tells it: the program headers, the mapped files and attached executables.
 #![tactic(auto)]
 
+mod attached;
+mod by_path;
 mod cursor;
 mod file_sheet;
 mod file_table;
@@ -21,6 +23,8 @@ mod strings;
 mod table;
 mod words;
 
+pub use attached::Attached;
+pub use by_path::ByPath;
 pub use find::Matches;
 pub use laws::{cut_is_past_the_image, stretches_are_the_range, texts_are_maximal};
 pub use mappings::{Mapping, Mappings};

@@ -43,12 +43,8 @@ impl<'a> AddressSpace<'a> {
         ensures { option_map (λ image. image.now) result
             ≡ option_map (λ (x : source.ExecutableView). x.image) (source.executable_named (space_of self.now) name.now) }
     {
-        for executable in &self.executables {
-            if executable.path == name {
-                return Some(executable.image);
-            }
-        }
-        None
+        let executable = self.executables.named(name)?;
+        Some(executable.image)
     }
 
     /// What stands at addresses that the entry maps and the core has no bytes for, and how many of the `limit` are of
@@ -260,7 +256,7 @@ impl<'a> AddressSpace<'a> {
     }
 
     /// Where the address lies in the file that is mapped there.
-    pub(crate) fn spot(&self, at: u64) -> Option<FileSpot<'a>>
+    pub fn spot(&self, at: u64) -> Option<FileSpot<'a>>
         ensures { option_map spot_view result ≡ source.spot_of at (source.entry_at (space_of self.now) at) }
     {
         let file = self.file_at(at, 1).0?;

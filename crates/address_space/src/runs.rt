@@ -112,7 +112,7 @@ impl<'a> AddressSpace<'a> {
             (option_map (λ bytes. bytes.now) result.bytes) }
         ensures full { IfSome result.bytes (λ bytes. length bytes.now ≡ result.length) }
     {
-        if self.executables.as_slice().is_empty() {
+        if self.executables.is_empty() {
             return self.run_in_core(at, limit);
         }
         let located = self.locate(at, limit);

@@ -12,6 +12,7 @@ ghost use Rattle.address_space.specs.Disjoint.{segment_extent, taking_from};
 ghost use Rattle.address_space.specs.MappedFiles.{files_in};
 ghost use Rattle.address_space.specs.ScanWords.{row_view};
 
+use crate::attached::{Attached, Executables};
 use crate::file_sheet::FileSheet;
 use crate::file_table::FileTable;
 use crate::find::Matches;
@@ -26,19 +27,12 @@ use core_notes::Files;
 use elf_view::Elf;
 use std::alloc::{AllocError, Global};
 
-/// An executable that stands for the mapped file of that path.
-#[derive(Clone, Copy, Debug)]
-pub(crate) struct Executable<'a> {
-    pub path: &'a [u8],
-    pub image: &'a [u8],
-}
-
 /// The memory of a process, as its core tells it.
 #[derive(Drop)]
 pub struct AddressSpace<'a> {
     pub(crate) elf: Elf<'a>,
     pub(crate) files: Option<Files<'a>>,
-    pub(crate) executables: Vec<Executable<'a>>,
+    pub(crate) executables: Executables<'a>,
     pub(crate) table: Option<Table>,
     pub(crate) file_table: Option<FileTable<'a>>,
     pub(crate) sheet: Option<Sheet>,
@@ -80,7 +74,7 @@ impl<'a> AddressSpace<'a> {
         AddressSpace {
             elf: *elf,
             files,
-            executables: Vec::new(alloc),
+            executables: Executables::new(alloc),
             table: None,
             file_table: None,
             sheet: None,
@@ -110,7 +104,7 @@ impl<'a> AddressSpace<'a> {
         Ok(AddressSpace {
             elf: *elf,
             files,
-            executables: Vec::new(alloc),
+            executables: Executables::new(alloc),
             table,
             file_table,
             sheet,
@@ -128,11 +122,10 @@ impl<'a> AddressSpace<'a> {
         ensures table { has_table self.new ≡ has_table self.old }
         ensures files { has_file_table self.new ≡ has_file_table self.old }
     {
-        self.executables.push(Executable {
+        self.executables.push(Attached {
             path,
             image: elf.image(),
-        })?;
-        Ok(())
+        })
     }
 
     /// What stands at an address. The first segment, in table order, that covers it decides.

@@ -13,143 +13,138 @@ use retention::Decision;
 use script_streams::{Output, Reply, tell_no, tell_ok};
 
 /// Tells a call's answer that has no lines.
-pub fn tell_outcome<O: Output>(reply: &mut Reply, output: &mut O, outcome: Result<(), ArchiveFault>)
-    ensures { TellsText (telling O.Output output.old output.new reply.old reply.new) (plain_reply outcome) }
+pub fn tell_outcome<O: Output>(reply: &mut Reply<'_, O>, outcome: Result<(), ArchiveFault>)
+    ensures { TellsText (telling O.Output reply.old reply.new) (plain_reply outcome) }
 {
     match outcome {
-        Ok(()) => tell_ok(reply, output),
-        Err(fault) => tell_no(reply, output, reason(fault)),
+        Ok(()) => tell_ok(reply),
+        Err(fault) => tell_no(reply, reason(fault)),
     }
 }
 
 /// Tells the name of a stream that was begun, or why it was not.
 pub fn tell_begun<O: Output>(
-    reply: &mut Reply,
-    output: &mut O,
+    reply: &mut Reply<'_, O>,
     name: &[u8],
     outcome: Result<(), ArchiveFault>,
 )
-    ensures { TellsText (telling O.Output output.old output.new reply.old reply.new) (begin_reply name.now outcome) }
+    ensures { TellsText (telling O.Output reply.old reply.new) (begin_reply name.now outcome) }
 {
     match outcome {
         Ok(()) => {
-            reply.tell(output, b"name ");
-            reply.tell_text(output, name);
-            reply.tell(output, b"\n");
-            tell_ok(reply, output);
+            reply.tell(b"name ");
+            reply.tell_text(name);
+            reply.tell(b"\n");
+            tell_ok(reply);
         }
-        Err(fault) => tell_no(reply, output, reason(fault)),
+        Err(fault) => tell_no(reply, reason(fault)),
     }
 }
 
 /// Tells the number of a case that was stored, or why there is none.
-pub fn tell_stored<O: Output>(reply: &mut Reply, output: &mut O, outcome: Result<u32, ArchiveFault>)
-    ensures { TellsText (telling O.Output output.old output.new reply.old reply.new) (end_reply outcome) }
+pub fn tell_stored<O: Output>(reply: &mut Reply<'_, O>, outcome: Result<u32, ArchiveFault>)
+    ensures { TellsText (telling O.Output reply.old reply.new) (end_reply outcome) }
 {
     match outcome {
         Ok(seq) => {
-            reply.tell(output, b"stored ");
-            reply.tell_decimal(output, u128::from(seq));
-            reply.tell(output, b"\n");
-            tell_ok(reply, output);
+            reply.tell(b"stored ");
+            reply.tell_decimal(u128::from(seq));
+            reply.tell(b"\n");
+            tell_ok(reply);
         }
-        Err(fault) => tell_no(reply, output, reason(fault)),
+        Err(fault) => tell_no(reply, reason(fault)),
     }
 }
 
 /// Tells the cases that were dropped, and whether the limits do not hold even so; or why none was dropped.
-pub fn tell_retired<O: Output>(
-    reply: &mut Reply,
-    output: &mut O,
-    outcome: Result<Decision, ArchiveFault>,
-)
-    ensures { TellsText (telling O.Output output.old output.new reply.old reply.new) (retire_reply outcome) }
+pub fn tell_retired<O: Output>(reply: &mut Reply<'_, O>, outcome: Result<Decision, ArchiveFault>)
+    ensures { TellsText (telling O.Output reply.old reply.new) (retire_reply outcome) }
 {
     match outcome {
         Ok(decision) => {
-            tell_dropped(reply, output, decision.dropped.as_slice());
+            tell_dropped(reply, decision.dropped.as_slice());
             if decision.unmet {
-                reply.tell(output, b"unmet\n");
+                reply.tell(b"unmet\n");
             }
-            tell_ok(reply, output);
+            tell_ok(reply);
         }
-        Err(fault) => tell_no(reply, output, reason(fault)),
+        Err(fault) => tell_no(reply, reason(fault)),
     }
 }
 
 // Tells a line for each case that was dropped.
-fn tell_dropped<O: Output>(reply: &mut Reply, output: &mut O, dropped: &[u32])
-    ensures { TellsText (telling O.Output output.old output.new reply.old reply.new) (flat_map dropped_line dropped.now) }
+fn tell_dropped<O: Output>(reply: &mut Reply<'_, O>, dropped: &[u32])
+    ensures { TellsText (telling O.Output reply.old reply.new) (flat_map dropped_line dropped.now) }
 {
     for seq in dropped {
-        reply.tell(output, b"dropped ");
-        reply.tell_decimal(output, u128::from(*seq));
-        reply.tell(output, b"\n");
+        reply.tell(b"dropped ");
+        reply.tell_decimal(u128::from(*seq));
+        reply.tell(b"\n");
     }
 }
 
 /// Tells how many data blocks are free, and how many there are.
-pub fn tell_free<O: Output>(reply: &mut Reply, output: &mut O, outcome: Result<Space, ArchiveFault>)
-    ensures { TellsText (telling O.Output output.old output.new reply.old reply.new) (free_reply outcome) }
+pub fn tell_free<O: Output>(reply: &mut Reply<'_, O>, outcome: Result<Space, ArchiveFault>)
+    ensures { TellsText (telling O.Output reply.old reply.new) (free_reply outcome) }
 {
     match outcome {
         Ok(space) => {
-            reply.tell(output, b"free ");
-            reply.tell_decimal(output, u128::from(space.free));
-            reply.tell(output, b" of ");
-            reply.tell_decimal(output, u128::from(space.data_blocks));
-            reply.tell(output, b"\n");
-            tell_ok(reply, output);
+            reply.tell(b"free ");
+            reply.tell_decimal(u128::from(space.free));
+            reply.tell(b" of ");
+            reply.tell_decimal(u128::from(space.data_blocks));
+            reply.tell(b"\n");
+            tell_ok(reply);
         }
-        Err(fault) => tell_no(reply, output, reason(fault)),
+        Err(fault) => tell_no(reply, reason(fault)),
     }
 }
 
 /// Tells a line for each case of an archive of this version of the layout: version 2 keeps labels.
-pub fn tell_cases<O: Output>(reply: &mut Reply, output: &mut O, version: u32, cases: &[Entry])
-    ensures { TellsText (telling O.Output output.old output.new reply.old reply.new) (flat_map (case_line version) (map case_facts
+pub fn tell_cases<O: Output>(reply: &mut Reply<'_, O>, version: u32, cases: &[Entry])
+    ensures { TellsText (telling O.Output reply.old reply.new) (flat_map (case_line version) (map case_facts
         (map case_of cases.now)) ++ ok_reply) }
 {
     for entry in cases {
-        tell_case(reply, output, version, entry);
+        tell_case(reply, version, entry);
     }
-    tell_ok(reply, output);
+    tell_ok(reply);
 }
 
 // Tells the line of a case.
-fn tell_case<O: Output>(reply: &mut Reply, output: &mut O, version: u32, entry: &Entry)
-    ensures { TellsText (telling O.Output output.old output.new reply.old reply.new) (case_line version (case_facts (case_of entry.now))) }
+fn tell_case<O: Output>(reply: &mut Reply<'_, O>, version: u32, entry: &Entry)
+    ensures { TellsText (telling O.Output reply.old reply.new) (case_line version (case_facts (case_of entry.now))) }
 {
-    tell_number(reply, output, entry.seq as u64);
-    reply.tell(output, kind_word(entry.kind));
-    reply.tell(output, b" ");
-    tell_number(reply, output, entry.length);
-    tell_number(reply, output, entry.pid as u64);
-    tell_number(reply, output, entry.signal as u64);
-    tell_number(reply, output, entry.time);
-    reply.tell(output, pin_word(entry.pinned));
-    reply.tell(output, b" ");
-    reply.tell_text(output, entry.name.as_slice());
-    tell_label(reply, output, version, entry.label.as_slice());
-    reply.tell(output, b"\n");
+    tell_number(reply, entry.seq as u64);
+    reply.tell(kind_word(entry.kind));
+    reply.tell(b" ");
+    tell_number(reply, entry.length);
+    tell_number(reply, entry.pid as u64);
+    tell_number(reply, entry.signal as u64);
+    tell_number(reply, entry.time);
+    reply.tell(pin_word(entry.pinned));
+    reply.tell(b" ");
+    reply.tell_text(entry.name.as_slice());
+    tell_label(reply, version, entry.label.as_slice());
+    reply.tell(b"\n");
 }
 
 // Tells a space and the label of a case, where the archive's version keeps labels.
-fn tell_label<O: Output>(reply: &mut Reply, output: &mut O, version: u32, label: &[u8])
-    ensures { TellsText (telling O.Output output.old output.new reply.old reply.new) (label_word version label.now) }
+fn tell_label<O: Output>(reply: &mut Reply<'_, O>, version: u32, label: &[u8])
+    ensures { TellsText (telling O.Output reply.old reply.new) (label_word version label.now) }
 {
     if version == 2 {
-        reply.tell(output, b" ");
-        reply.tell_text(output, label);
+        reply.tell(b" ");
+        reply.tell_text(label);
     }
 }
 
 // Tells a number and a space.
-fn tell_number<O: Output>(reply: &mut Reply, output: &mut O, number: u64)
-    ensures { TellsText (telling O.Output output.old output.new reply.old reply.new) (number_word number) }
+fn tell_number<O: Output>(reply: &mut Reply<'_, O>, number: u64)
+    ensures { TellsText (telling O.Output reply.old reply.new) (number_word number) }
 {
-    reply.tell_decimal(output, u128::from(number));
-    reply.tell(output, b" ");
+    reply.tell_decimal(u128::from(number));
+    reply.tell(b" ");
 }
 
 fn kind_word(kind: Kind) -> &'static [u8]

@@ -1,7 +1,8 @@
 // Making an archive with no case.
 ghost use Rattle.std.specs.Prelude.{◌≡◌, ◌↔◌, ◌≤◌, false, ◌∷◌, ◌++◌, [], drop, length, IsTrue, OnOk, Err};
-ghost use Rattle.disk_model.specs.Disk.{HasCause, HasRisen};
+ghost use Rattle.disk_model.specs.Disk.{HasCause};
 ghost use Rattle.disk_model.specs.Moments.{IsSettled};
+ghost use Rattle.disk_model.specs.Keeping.{KeepsDisk};
 ghost use Rattle.journal_layout.specs.Layout.{superblock, half_header, disk_length, IsWithinLimits};
 ghost use Rattle.journal_layout.specs.Front.{is_shape_of};
 ghost use Rattle.journal_layout.specs.Stands.{Stands};
@@ -87,11 +88,7 @@ pub fn format<D: Disk>(disk: &mut D, shape: Shape) -> Result<(), FormatFault>
     // All that the layout fixes of it stands there: the superblock with zeros to its block's end, and the halves' headers.
     ensures written { IsTrue (D.is_honest disk.old) → OnOk result (HasFront 165 shape (D.seen disk.new)) }
     ensures stable { IsTrue (D.is_honest disk.old) → OnOk result (IsSettled D.Disk disk.new) }
-    ensures cause { result ≡ Err FormatFault.Disk
-        → HasRisen (D.failures disk.old) (D.failures disk.new) }
-    ensures later { D.failures disk.old ≤ D.failures disk.new }
-    ensures honesty { D.is_honest disk.new ≡ D.is_honest disk.old }
-    ensures size { D.size disk.new ≡ D.size disk.old }
+    ensures disk { KeepsDisk D.Disk disk.old disk.new (result ≡ Err FormatFault.Disk) }
 {
     if !is_shape_of(disk.length(), shape) {
         return Err(FormatFault::BadShape);

@@ -3,6 +3,7 @@ ghost use Rattle.std.specs.Prelude.{◌≡◌, ◌⊎◌, ◌*◌, ◌≤◌, tr
 ghost use Rattle.disk_model.specs.Disk.{HasRisen};
 ghost use Rattle.disk_model.specs.Moments.{LeavesOnly};
 ghost use Rattle.disk_model.specs.Places.{SameOutside};
+ghost use Rattle.disk_model.specs.Keeping.{KeepsDisk};
 ghost use Rattle.journal_layout.specs.Layout.{half_length};
 ghost use Rattle.journal_layout.specs.Front.{is_known};
 ghost use Rattle.journal_layout.specs.Record.{Label};
@@ -56,10 +57,7 @@ impl Journal {
             → LeavesOutside D.Disk disk.old disk.new self.old.standing }
         ensures others { IsTrue (D.is_honest disk.old)
             → SameOutside 4096 (2 * half_length self.old.standing.shape) (D.seen disk.old) (D.seen disk.new) }
-        ensures cause { result ≡ Err JournalFault.Disk → HasRisen (D.failures disk.old) (D.failures disk.new) }
-        ensures later { D.failures disk.old ≤ D.failures disk.new }
-        ensures honesty { D.is_honest disk.new ≡ D.is_honest disk.old }
-        ensures size { D.size disk.new ≡ D.size disk.old }
+        ensures disk { KeepsDisk D.Disk disk.old disk.new (result ≡ Err JournalFault.Disk) }
     {
         if self.stopped {
             return Err(JournalFault::Stopped);
@@ -89,10 +87,7 @@ impl Journal {
             → LeavesOutside D.Disk disk.old disk.new self.old.standing }
         ensures others { IsTrue (D.is_honest disk.old)
             → SameOutside 4096 (2 * half_length self.old.standing.shape) (D.seen disk.old) (D.seen disk.new) }
-        ensures cause { result ≡ Err JournalFault.Disk → HasRisen (D.failures disk.old) (D.failures disk.new) }
-        ensures later { D.failures disk.old ≤ D.failures disk.new }
-        ensures honesty { D.is_honest disk.new ≡ D.is_honest disk.old }
-        ensures size { D.size disk.new ≡ D.size disk.old }
+        ensures disk { KeepsDisk D.Disk disk.old disk.new (result ≡ Err JournalFault.Disk) }
     {
         match self.put_label(disk, seq, &label) {
             Ok(place) => {
@@ -181,10 +176,7 @@ impl Journal {
             → LeavesOutside D.Disk disk.old disk.new self.old.standing }
         ensures others { IsTrue (D.is_honest disk.old)
             → SameOutside 4096 (2 * half_length self.old.standing.shape) (D.seen disk.old) (D.seen disk.new) }
-        ensures cause { result ≡ Err JournalFault.Disk → HasRisen (D.failures disk.old) (D.failures disk.new) }
-        ensures later { D.failures disk.old ≤ D.failures disk.new }
-        ensures honesty { D.is_honest disk.new ≡ D.is_honest disk.old }
-        ensures size { D.size disk.new ≡ D.size disk.old }
+        ensures disk { KeepsDisk D.Disk disk.old disk.new (result ≡ Err JournalFault.Disk) }
     {
         if self.stopped {
             return Err(JournalFault::Stopped);

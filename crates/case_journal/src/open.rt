@@ -2,6 +2,7 @@
 ghost use Rattle.std.specs.Prelude.{◌≡◌, ℕ, List, ◌+◌, ◌-◌, ◌≤◌, false, length, IsTrue, IfOk, OnOk, IsOkUnless, Ok, Err};
 ghost use Rattle.disk_model.specs.Disk.{HasCause, HasRisen, Only};
 ghost use Rattle.disk_model.specs.Moments.{LeavesOnly, IsSettled};
+ghost use Rattle.disk_model.specs.Keeping.{KeepsDisk};
 ghost use Rattle.journal_layout.specs.Layout.{disk_length, half_length, IsWithinLimits};
 ghost use Rattle.journal_layout.specs.Stands.{Stands, records_start};
 ghost use Rattle.journal_layout.specs.Standing.{Standing};
@@ -136,11 +137,7 @@ impl Journal {
         ensures seen { IsTrue (D.is_honest disk.old) → D.seen disk.new ≡ D.seen disk.old }
         // From then on one leaves what reads give.
         ensures settled { IsTrue (D.is_honest disk.old) → OnOk result (IsSettled D.Disk disk.new) }
-        ensures cause { result ≡ Err OpenFault.Disk
-            → HasRisen (D.failures disk.old) (D.failures disk.new) }
-        ensures later { D.failures disk.old ≤ D.failures disk.new }
-        ensures honesty { D.is_honest disk.new ≡ D.is_honest disk.old }
-        ensures size { D.size disk.new ≡ D.size disk.old }
+        ensures disk { KeepsDisk D.Disk disk.old disk.new (result ≡ Err OpenFault.Disk) }
     {
         settle(disk)?;
         read_journal(alloc, disk)

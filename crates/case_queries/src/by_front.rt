@@ -61,23 +61,22 @@ pub(crate) fn answer_by_front<O: Output, D: Disk>(
     kind: Kind,
     query: &ImageQuery,
     images: &mut Images,
-    reply: &mut Reply,
-    output: &mut O,
+    reply: &mut Reply<'_, O>,
     archive: &mut Archive<D>,
 )
     requires kept { IsKept D.Disk archive.old images.old.kept }
     requires beside { AreKept D.Disk archive.old images.old.kept }
-    ensures answers { TellsReply (telling O.Output output.old output.new reply.old reply.new) (λ text. Asks D.Disk archive.old seq (image_query query.now) (Ok kind) text archive.new) }
+    ensures answers { TellsReply (telling O.Output reply.old reply.new) (λ text. Asks D.Disk archive.old seq (image_query query.now) (Ok kind) text archive.new) }
     ensures kept { IsKept D.Disk archive.new images.new.kept }
     ensures beside { AreKept D.Disk archive.new images.new.kept }
 {
     let want = front_want(kind, query);
     match see_front(images.alloc, seq, want, images.kept.take(), archive) {
         Ok(seen) => {
-            tell_front(images.alloc, kind, query, &seen.image, reply, output);
+            tell_front(images.alloc, kind, query, &seen.image, reply);
             images.kept = Some(seen);
         }
-        Err(fault) => tell_no(reply, output, reason(fault)),
+        Err(fault) => tell_no(reply, reason(fault)),
     }
 }
 
@@ -87,14 +86,13 @@ fn tell_front<O: Output>(
     kind: Kind,
     query: &ImageQuery,
     front: &[u8],
-    reply: &mut Reply,
-    output: &mut O,
+    reply: &mut Reply<'_, O>,
 )
     ensures { (image : List ℕ) → IsEnough (front_want kind query.now) front.now image
-        → TellsText (telling O.Output output.old output.new reply.old reply.new) (reply_of (answer_of kind (image_query query.now) image [])) }
+        → TellsText (telling O.Output reply.old reply.new) (reply_of (answer_of kind (image_query query.now) image [])) }
 {
     a_front_answers();
-    tell_image(alloc, kind, query, front, reply, output);
+    tell_image(alloc, kind, query, front, reply);
 }
 
 // Tells what an image alone answers.
@@ -103,30 +101,29 @@ pub(crate) fn tell_image<O: Output>(
     kind: Kind,
     query: &ImageQuery,
     image: &[u8],
-    reply: &mut Reply,
-    output: &mut O,
+    reply: &mut Reply<'_, O>,
 )
-    ensures { TellsText (telling O.Output output.old output.new reply.old reply.new) (reply_of (answer_of kind (image_query query.now) image.now [])) }
+    ensures { TellsText (telling O.Output reply.old reply.new) (reply_of (answer_of kind (image_query query.now) image.now [])) }
 {
     match query {
-        ImageQuery::Header => tell_header(reply, output, image, want_of(kind)),
-        ImageQuery::Notes => tell_notes(reply, output, image),
-        ImageQuery::Threads => tell_threads(reply, output, image),
-        ImageQuery::Registers { thread } => tell_regs(reply, output, image, *thread),
-        ImageQuery::Process => tell_process(reply, output, image),
-        ImageQuery::Signal => tell_signal(reply, output, image),
-        ImageQuery::AuxiliaryVector => tell_auxv(reply, output, image),
-        ImageQuery::Files => tell_files(reply, output, image),
-        ImageQuery::Maps => tell_mappings(alloc, image, reply, output),
+        ImageQuery::Header => tell_header(reply, image, want_of(kind)),
+        ImageQuery::Notes => tell_notes(reply, image),
+        ImageQuery::Threads => tell_threads(reply, image),
+        ImageQuery::Registers { thread } => tell_regs(reply, image, *thread),
+        ImageQuery::Process => tell_process(reply, image),
+        ImageQuery::Signal => tell_signal(reply, image),
+        ImageQuery::AuxiliaryVector => tell_auxv(reply, image),
+        ImageQuery::Files => tell_files(reply, image),
+        ImageQuery::Maps => tell_mappings(alloc, image, reply),
     }
 }
 
 // Tells the mappings of a core.
-fn tell_mappings<O: Output>(alloc: Global, image: &[u8], reply: &mut Reply, output: &mut O)
-    ensures { (kind : Kind) → TellsText (telling O.Output output.old output.new reply.old reply.new) (reply_of (answer_of kind ask_maps image.now [])) }
+fn tell_mappings<O: Output>(alloc: Global, image: &[u8], reply: &mut Reply<'_, O>)
+    ensures { (kind : Kind) → TellsText (telling O.Output reply.old reply.new) (reply_of (answer_of kind ask_maps image.now [])) }
 {
     match CoreImage::read(image) {
-        Ok(core) => tell_maps(alloc, reply, output, &core),
-        Err(fault) => tell_core_fault(reply, output, fault),
+        Ok(core) => tell_maps(alloc, reply, &core),
+        Err(fault) => tell_core_fault(reply, fault),
     }
 }

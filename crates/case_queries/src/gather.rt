@@ -1,18 +1,20 @@
 // The executables that a line over memory reads beside its core.
-ghost use Rattle.std.specs.Prelude.{◌≡◌, ◌∷◌, ◌++◌, [], false, map, IfOk, OnOk};
+ghost use Rattle.std.specs.Prelude.{◌≡◌, ◌∷◌, ◌++◌, [], ℕ, List, false, map, IfOk, OnOk};
 ghost use Rattle.image_replies.specs.CoreWords.{core_bytes};
 ghost use Rattle.intake.specs.Parts.{case_facts, state_of};
 ghost use Rattle.journal_layout.specs.Case.{case_of};
+ghost use Rattle.memory_replies.specs.FileNameWords.{AreNamesOf};
 ghost use Rattle.memory_replies.specs.Memory.{attached_view};
 ghost use Rattle.case_queries.specs.Gathering.{Gathers, GathersAll, wanted_of, is_wanted};
 ghost use Rattle.case_queries.specs.GatheringWords.{executable_view, gathered_view, wanted_view};
 
 use crate::kept_image::see_image;
+use address_space::Attached;
 use disk_model::Disk;
 use image_replies::CoreImage;
 use intake::{Archive, ArchiveFault};
 use journal_layout::{Entry, Kind, Name};
-use memory_replies::{Attached, names_file};
+use memory_replies::FileNames;
 use std::alloc::{AllocError, Global};
 use stream_names::copied;
 
@@ -67,21 +69,22 @@ fn wanted_among(
 ) -> Result<Vec<WantedCase>, AllocError>
     ensures { IfOk result (λ v. map wanted_view v.items ≡ wanted_of (core_bytes core.now) (map case_facts (map case_of entries.now))) }
 {
+    let names = FileNames::of(alloc, core)?;
     let mut wanted = Vec::new(alloc);
     for entry in entries {
-        add_wanted(core, entry, &mut wanted)?;
+        add_wanted(&names, entry, &mut wanted)?;
     }
     Ok(wanted)
 }
 
 fn add_wanted(
-    core: &CoreImage<'_>,
+    names: &FileNames<'_>,
     entry: &Entry,
     wanted: &mut Vec<WantedCase>,
 ) -> Result<(), AllocError>
-    ensures { OnOk result (map wanted_view wanted.new.items ≡ map wanted_view wanted.old.items ++ wanted_of (core_bytes core.now) (case_facts (case_of entry.now) ∷ [])) }
+    ensures { OnOk result ((core : List ℕ) → AreNamesOf core names.now → map wanted_view wanted.new.items ≡ map wanted_view wanted.old.items ++ wanted_of core (case_facts (case_of entry.now) ∷ [])) }
 {
-    if is_wanted(core, entry) {
+    if is_wanted(names, entry) {
         wanted.push(WantedCase {
             seq: entry.seq,
             path: copied(entry.name.as_slice()),
@@ -90,12 +93,12 @@ fn add_wanted(
     Ok(())
 }
 
-fn is_wanted(core: &CoreImage<'_>, entry: &Entry) -> bool
-    ensures { result ≡ is_wanted (core_bytes core.now) (case_facts (case_of entry.now)) }
+fn is_wanted(names: &FileNames<'_>, entry: &Entry) -> bool
+    ensures { (core : List ℕ) → AreNamesOf core names.now → result ≡ is_wanted core (case_facts (case_of entry.now)) }
 {
     match entry.kind {
         Kind::Core => false,
-        Kind::Exec => names_file(core, entry.name.as_slice()),
+        Kind::Exec => names.contains(entry.name.as_slice()),
     }
 }
 

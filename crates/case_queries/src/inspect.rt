@@ -27,26 +27,25 @@ pub fn answer_query<O: Output, D: Disk>(
     seq: u32,
     query: &Query,
     images: &mut Images,
-    reply: &mut Reply,
-    output: &mut O,
+    reply: &mut Reply<'_, O>,
     archive: &mut Archive<D>,
 )
     requires kept { IsKept D.Disk archive.old images.old.kept }
     requires beside { AreKept D.Disk archive.old images.old.kept }
-    ensures answers { TellsReply (telling O.Output output.old output.new reply.old reply.new) (λ text. Inspects D.Disk archive.old seq (query_of query.now) text archive.new) }
+    ensures answers { TellsReply (telling O.Output reply.old reply.new) (λ text. Inspects D.Disk archive.old seq (query_of query.now) text archive.new) }
     ensures kept { IsKept D.Disk archive.new images.new.kept }
     ensures beside { AreKept D.Disk archive.new images.new.kept }
 {
     let kind = match kind_asked(seq, query, archive) {
         Ok(kind) => kind,
         Err(reason) => {
-            tell_no(reply, output, reason);
+            tell_no(reply, reason);
             return;
         }
     };
     match query {
-        Query::Image(query) => answer_by_front(seq, kind, query, images, reply, output, archive),
-        _ => answer_by_image(seq, kind, query, images, reply, output, archive),
+        Query::Image(query) => answer_by_front(seq, kind, query, images, reply, archive),
+        _ => answer_by_image(seq, kind, query, images, reply, archive),
     }
 }
 
@@ -56,14 +55,13 @@ fn answer_by_image<O: Output, D: Disk>(
     kind: Kind,
     query: &Query,
     images: &mut Images,
-    reply: &mut Reply,
-    output: &mut O,
+    reply: &mut Reply<'_, O>,
     archive: &mut Archive<D>,
 )
     requires runs { archive.old.stopped ≡ false }
     requires kept { IsKept D.Disk archive.old images.old.kept }
     requires beside { AreKept D.Disk archive.old images.old.kept }
-    ensures answers { TellsReply (telling O.Output output.old output.new reply.old reply.new) (λ text. Asks D.Disk archive.old seq (query_of query.now) (Ok kind) text archive.new) }
+    ensures answers { TellsReply (telling O.Output reply.old reply.new) (λ text. Asks D.Disk archive.old seq (query_of query.now) (Ok kind) text archive.new) }
     ensures kept { IsKept D.Disk archive.new images.new.kept }
     ensures beside { AreKept D.Disk archive.new images.new.kept }
 {
@@ -77,14 +75,13 @@ fn answer_by_image<O: Output, D: Disk>(
                 &seen.image,
                 &mut seen.executables,
                 reply,
-                output,
                 archive,
             );
             if has_room {
                 images.kept = Some(seen);
             }
         }
-        Err(fault) => tell_no(reply, output, reason(fault)),
+        Err(fault) => tell_no(reply, reason(fault)),
     }
 }
 
@@ -146,18 +143,17 @@ fn answer_seen<O: Output, D: Disk>(
     query: &Query,
     image: &[u8],
     executables: &mut Option<Vec<Executable>>,
-    reply: &mut Reply,
-    output: &mut O,
+    reply: &mut Reply<'_, O>,
     archive: &mut Archive<D>,
 ) -> bool
     requires runs { archive.old.stopped ≡ false }
     requires beside { StayGathered D.Disk archive.old image.now executables.old }
-    ensures answers { TellsReply (telling O.Output output.old output.new reply.old reply.new) (λ text. Shows D.Disk archive.old kind (query_of query.now) image.now text archive.new) }
+    ensures answers { TellsReply (telling O.Output reply.old reply.new) (λ text. Shows D.Disk archive.old kind (query_of query.now) image.now text archive.new) }
     ensures beside { StayGathered D.Disk archive.new image.now executables.new }
 {
     match query {
         Query::Image(query) => {
-            tell_image(alloc, kind, query, image, reply, output);
+            tell_image(alloc, kind, query, image, reply);
             true
         }
         Query::Memory(query) => answer_memory(
@@ -167,9 +163,8 @@ fn answer_seen<O: Output, D: Disk>(
             image,
             executables,
             reply,
-            output,
             archive,
         ),
-        Query::Symbol { address } => tell_symbol(alloc, reply, output, image, *address),
+        Query::Symbol { address } => tell_symbol(alloc, reply, image, *address),
     }
 }

@@ -12,12 +12,13 @@ ghost use Rattle.case_queries.specs.Inspecting.{Shows, ShowsCore, answer_of};
 ghost use Rattle.case_queries.specs.Keeping.{StayGathered};
 
 use crate::gather::{Executable, gather, lent};
+use address_space::Attached;
 use archive_replies::reason;
 use disk_model::Disk;
 use image_replies::{CoreImage, tell_core_fault};
 use intake::{Archive, ArchiveFault};
 use journal_layout::Kind;
-use memory_replies::{Attached, tell_bt, tell_dump, tell_find, tell_strings};
+use memory_replies::{tell_bt, tell_dump, tell_find, tell_strings};
 use script_lines::MemoryQuery;
 use script_streams::{Output, Reply, tell_no};
 use std::alloc::Global;
@@ -30,19 +31,18 @@ pub(crate) fn answer_memory<O: Output, D: Disk>(
     query: &MemoryQuery,
     image: &[u8],
     kept: &mut Option<Vec<Executable>>,
-    reply: &mut Reply,
-    output: &mut O,
+    reply: &mut Reply<'_, O>,
     archive: &mut Archive<D>,
 ) -> bool
     requires runs { archive.old.stopped ≡ false }
     requires kept { StayGathered D.Disk archive.old image.now kept.old }
-    ensures answers { TellsReply (telling O.Output output.old output.new reply.old reply.new) (λ text. Shows D.Disk archive.old kind (memory_query query.now) image.now text archive.new) }
+    ensures answers { TellsReply (telling O.Output reply.old reply.new) (λ text. Shows D.Disk archive.old kind (memory_query query.now) image.now text archive.new) }
     ensures kept { StayGathered D.Disk archive.new image.now kept.new }
 {
     match CoreImage::read(image) {
-        Ok(core) => answer_core(alloc, kind, query, &core, kept, reply, output, archive),
+        Ok(core) => answer_core(alloc, kind, query, &core, kept, reply, archive),
         Err(fault) => {
-            tell_core_fault(reply, output, fault);
+            tell_core_fault(reply, fault);
             true
         }
     }
@@ -55,23 +55,22 @@ fn answer_core<O: Output, D: Disk>(
     query: &MemoryQuery,
     core: &CoreImage<'_>,
     kept: &mut Option<Vec<Executable>>,
-    reply: &mut Reply,
-    output: &mut O,
+    reply: &mut Reply<'_, O>,
     archive: &mut Archive<D>,
 ) -> bool
     requires runs { archive.old.stopped ≡ false }
     requires kept { StayGathered D.Disk archive.old (core_bytes core.now) kept.old }
-    ensures answers { TellsReply (telling O.Output output.old output.new reply.old reply.new) (λ text. ShowsCore D.Disk archive.old kind (memory_query query.now) (core_bytes core.now) text archive.new) }
+    ensures answers { TellsReply (telling O.Output reply.old reply.new) (λ text. ShowsCore D.Disk archive.old kind (memory_query query.now) (core_bytes core.now) text archive.new) }
     ensures kept { StayGathered D.Disk archive.new (core_bytes core.now) kept.new }
 {
     match gathered(alloc, core, kept.take(), archive) {
         Ok(executables) => {
-            let has_room = tell_beside(alloc, kind, query, core, &executables, reply, output);
+            let has_room = tell_beside(alloc, kind, query, core, &executables, reply);
             *kept = Some(executables);
             has_room
         }
         Err(fault) => {
-            tell_no(reply, output, reason(fault));
+            tell_no(reply, reason(fault));
             false
         }
     }
@@ -102,15 +101,14 @@ fn tell_beside<O: Output>(
     query: &MemoryQuery,
     core: &CoreImage<'_>,
     executables: &[Executable],
-    reply: &mut Reply,
-    output: &mut O,
+    reply: &mut Reply<'_, O>,
 ) -> bool
-    ensures { TellsReply (telling O.Output output.old output.new reply.old reply.new) (AnswersWith result (answer_of kind (memory_query query.now) (core_bytes core.now) (map executable_view executables.now))) }
+    ensures { TellsReply (telling O.Output reply.old reply.new) (AnswersWith result (answer_of kind (memory_query query.now) (core_bytes core.now) (map executable_view executables.now))) }
 {
     match lent(alloc, executables) {
-        Ok(attached) => tell_memory(alloc, kind, query, core, &attached, reply, output),
+        Ok(attached) => tell_memory(alloc, kind, query, core, &attached, reply),
         Err(_) => {
-            tell_no(reply, output, b"OutOfMemory");
+            tell_no(reply, b"OutOfMemory");
             false
         }
     }
@@ -122,30 +120,18 @@ fn tell_memory<O: Output>(
     query: &MemoryQuery,
     core: &CoreImage<'_>,
     attached: &[Attached<'_>],
-    reply: &mut Reply,
-    output: &mut O,
+    reply: &mut Reply<'_, O>,
 ) -> bool
-    ensures { TellsReply (telling O.Output output.old output.new reply.old reply.new) (AnswersWith result (answer_of kind (memory_query query.now) (core_bytes core.now) (map attached_view attached.now))) }
+    ensures { TellsReply (telling O.Output reply.old reply.new) (AnswersWith result (answer_of kind (memory_query query.now) (core_bytes core.now) (map attached_view attached.now))) }
 {
     match query {
         MemoryQuery::Dump { first, length } => {
-            tell_dump(alloc, reply, output, core, attached, *first, *length)
+            tell_dump(alloc, reply, core, attached, *first, *length)
         }
         MemoryQuery::Find { needle } => {
-            tell_find(
-                alloc,
-                reply,
-                output,
-                core,
-                attached,
-                needle.bytes.as_slice(),
-            )
+            tell_find(alloc, reply, core, attached, needle.bytes.as_slice())
         }
-        MemoryQuery::Strings { least } => {
-            tell_strings(alloc, reply, output, core, attached, *least)
-        }
-        MemoryQuery::Backtrace { thread } => {
-            tell_bt(alloc, reply, output, core, attached, *thread)
-        }
+        MemoryQuery::Strings { least } => { tell_strings(alloc, reply, core, attached, *least) }
+        MemoryQuery::Backtrace { thread } => { tell_bt(alloc, reply, core, attached, *thread) }
     }
 }

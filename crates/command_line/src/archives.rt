@@ -1,11 +1,9 @@
 // Archives, made, and taken from their files.
 use crate::asked::Place;
 use crate::failures::{Refusal, Word};
-use case_journal::format;
+use crate::making::format_over;
 use disk_model::{Disk, FileDisk, FileFault};
-use intake::{Archive, Settings};
 use journal_layout::Shape;
-use std::alloc::Global;
 use std::fs;
 use std::fs::{File, Metadata, TryLockError};
 use std::os::unix::fs::MetadataExt;
@@ -36,8 +34,7 @@ pub(crate) struct NewArchive {
     pub(crate) is_sparse: bool,
 }
 
-// Makes an archive in a new file. The shape is looked at before there is one. One that keeps labels is made as any other, and
-// brought to version 2 of the layout then.
+// Makes an archive in a new file. The shape is looked at before there is one.
 pub(crate) fn make_archive<R: AllocGlobal + Files<File = File>>(
     rt: &R,
     path: &str,
@@ -49,20 +46,9 @@ pub(crate) fn make_archive<R: AllocGlobal + Files<File = File>>(
     } else {
         FileDisk::create(rt, path, length)
     };
-    let mut disk = made.map_err(|fault| Refusal::File(Word::Archive, fault))?;
-    format(&mut disk, wanted.shape)?;
-    if wanted.keeps_labels {
-        upgrade(rt.alloc(), disk)?;
-    }
-    Ok(())
-}
-
-// Brings the archive on a disk to version 2 of the layout.
-fn upgrade<D: Disk + Drop>(alloc: Global, disk: D) -> Result<(), Refusal> {
-    match Archive::open(alloc, disk, Settings { limit: 0 }) {
-        Ok(mut archive) => archive.upgrade().map_err(|fault| Refusal::Call(fault)),
-        Err((fault, _)) => Err(Refusal::Open(fault)),
-    }
+    let disk = made.map_err(|fault| Refusal::File(Word::Archive, fault))?;
+    let (formatted, _) = format_over(rt.alloc(), disk, wanted);
+    formatted
 }
 
 // Takes the disk of an archive in a file. This alone waits: for the file's lock, as long as another process has it, or, of
@@ -208,12 +194,4 @@ fn is_named<R: Files<File = File>>(rt: &R, path: &str, file: &File) -> Result<bo
     let named = fs::metadata(rt, path)?;
     let opened = file.metadata()?;
     Ok(is_same(&named, &opened))
-}
-
-// Opens the archive on a disk for the sake of what is wrong with it.
-pub(crate) fn look_at<D: Disk + Drop>(alloc: Global, disk: D, limit: u64) -> Result<(), Refusal> {
-    match Archive::open(alloc, disk, Settings { limit }) {
-        Ok(_) => Ok(()),
-        Err((fault, _)) => Err(Refusal::Open(fault)),
-    }
 }

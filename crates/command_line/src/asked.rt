@@ -3,9 +3,11 @@ use crate::archives::NewArchive;
 use crate::failures::{Failure, Part, Refusal};
 use crate::grammar::program;
 use crate::raw_words::{is_text, push_escaped};
+use arrayvec::ArrayVec;
 use clap::ArgMatches;
-use inspector_cli::{is_question, makes_room};
 use journal_layout::Shape;
+use retention::Policy;
+use script_lines::{Command, Request, parse_text};
 use script_words::parse_number;
 use std::alloc::{AllocError, Global};
 
@@ -31,7 +33,7 @@ pub(crate) enum Asked<'a> {
     Store {
         archive: Place<'a>,
         file: &'a str,
-        lines: StoreLines,
+        wanted: StoreWords,
         settings: SessionWords<'a>,
     },
     // The image of a case, in a new file or on the output.
@@ -49,15 +51,15 @@ pub(crate) enum Asked<'a> {
     Nothing,
 }
 
-// The lines of a script by which something is stored.
+// What a file is stored as.
 #[derive(Drop)]
-pub(crate) struct StoreLines {
-    // The line that makes room first, which is empty where none is asked for.
-    pub(crate) room: Vec<u8>,
-    // The line that begins the stream.
+pub(crate) struct StoreWords {
+    // By which room is made first, where that is asked for.
+    pub(crate) policy: Option<Policy>,
+    // The line of a script that begins the stream.
     pub(crate) begin: Vec<u8>,
-    // What stands behind the case in the line that gives it a label, where one is asked for.
-    pub(crate) label: Option<Vec<u8>>,
+    // The label of the case, where one is asked for.
+    pub(crate) label: Option<ArrayVec<u8, 64>>,
 }
 
 // The file of an archive, and whether to wait for it where another process has it.
@@ -95,8 +97,8 @@ pub(crate) fn read_words<'a>(alloc: Global, words: &'a [String]) -> Result<Asked
         Some(("store", found)) => Ok(Asked::Store {
             archive: place_of(found)?,
             file: text_of(found, "file")?,
-            lines: StoreLines {
-                room: room_line(alloc, found)?,
+            wanted: StoreWords {
+                policy: policy_of(found)?,
                 begin: first_line(alloc, found)?,
                 label: label_of(alloc, found)?,
             },
@@ -179,52 +181,44 @@ fn first_line(alloc: Global, found: &ArgMatches<'_>) -> Result<Vec<u8>, Refusal>
     }
 }
 
-// The line of a script that makes room, of the limits that are there; empty where there is none.
-fn room_line(alloc: Global, found: &ArgMatches<'_>) -> Result<Vec<u8>, Refusal> {
-    let mut limits = Vec::new(alloc);
-    for key in ["keep", "bytes", "before"] {
-        if let Some(number) = found.get_str(key) {
-            push_limit(&mut limits, key, number)?;
-        }
+// What the archive is to be brought down to, of the limits that are there.
+fn policy_of(found: &ArgMatches<'_>) -> Result<Option<Policy>, Refusal> {
+    let keep = limit_of(found, "keep")?;
+    let bytes = limit_of(found, "bytes")?;
+    let before = limit_of(found, "before")?;
+    if keep.is_none() && bytes.is_none() && before.is_none() {
+        return Ok(None);
     }
-    if limits.is_empty() {
-        return Ok(limits);
-    }
-    let mut line = b"retire".to_vec(alloc)?;
-    line.extend_from_slice(&limits)?;
-    if makes_room(&line) {
-        Ok(line)
-    } else {
-        Err(Refusal::BadLine)
+    Ok(Some(Policy {
+        keep,
+        bytes,
+        before,
+    }))
+}
+
+// A limit, whose number is as a script has it.
+fn limit_of(found: &ArgMatches<'_>, id: &str) -> Result<Option<u64>, Refusal> {
+    let Some(number) = found.get_str(id) else {
+        return Ok(None);
+    };
+    match parse_number(number.as_bytes()) {
+        Some(limit) => Ok(Some(limit)),
+        None => Err(Refusal::BadLine),
     }
 }
 
-// The label of the case that is stored, where one is asked for. What no line can say is refused before anything is stored.
-fn label_of(alloc: Global, found: &ArgMatches<'_>) -> Result<Option<Vec<u8>>, Refusal> {
+// The label of the case that is stored, where one is asked for. It is read as the line `label` of a script has it, and what no
+// line can say is refused before anything is stored.
+fn label_of(alloc: Global, found: &ArgMatches<'_>) -> Result<Option<ArrayVec<u8, 64>>, Refusal> {
     let Some(text) = found.get_str("label") else {
         return Ok(None);
     };
-    let mut label = Vec::new(alloc);
-    push_value(&mut label, text, found.get_flag("escape"))?;
     let mut line = b"label 1 ".to_vec(alloc)?;
-    line.extend_from_slice(&label)?;
-    if is_question(&line) {
-        Ok(Some(label))
-    } else {
-        Err(Refusal::BadLine)
+    push_value(&mut line, text, found.get_flag("escape"))?;
+    match parse_text(&line) {
+        Command::Plain(Request::Label { label, .. }) => Ok(Some(label)),
+        _ => Err(Refusal::BadLine),
     }
-}
-
-// Adds a limit, whose number is as a script has it.
-fn push_limit(line: &mut Vec<u8>, key: &str, number: &str) -> Result<(), Refusal> {
-    if parse_number(number.as_bytes()).is_none() {
-        return Err(Refusal::BadLine);
-    }
-    push_text(line, " ")?;
-    push_text(line, key)?;
-    push_text(line, "=")?;
-    push_text(line, number)?;
-    Ok(())
 }
 
 // The line of a script that these words are.

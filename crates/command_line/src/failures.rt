@@ -1,10 +1,11 @@
 // Why the program ends with a status other than 0, and how it says so.
 ghost use Rattle.std.specs.Prelude.{◌≡◌, ◌≢◌, ◌≤◌};
 
+use crate::outcomes::life_failure;
 use case_journal::FormatFault;
 use clap::error::ErrorKind;
 use disk_model::FileFault;
-use inspector_cli::{CopyFault, ImageFault, LifeFault, MemoryFault, SessionFault, reason};
+use inspector_cli::{MemoryFault, SessionFault, reason};
 use intake::ArchiveFault;
 use journal_layout::{BadShape, OpenFault};
 use name_template::TemplateFault;
@@ -95,42 +96,13 @@ impl From<SessionFault> for Failure {
     }
 }
 
-impl From<LifeFault> for Failure {
-    fn from(fault: LifeFault) -> Self {
-        match fault {
-            LifeFault::Open(fault) => Failure::Refused(Refusal::Open(fault)),
-            LifeFault::Session(fault) => Failure::Faulted(fault),
-        }
-    }
-}
-
-impl From<ImageFault> for Failure {
-    fn from(fault: ImageFault) -> Self {
-        match fault {
-            ImageFault::Open(fault) => Failure::Aside(Refusal::Open(fault)),
-            ImageFault::Archive(fault) => Failure::Aside(Refusal::Call(fault)),
-        }
-    }
-}
-
-impl From<CopyFault> for Failure {
-    fn from(fault: CopyFault) -> Self {
-        match fault {
-            CopyFault::Open(fault) => Failure::Aside(Refusal::Open(fault)),
-            CopyFault::Archive(fault) => Failure::Aside(Refusal::Call(fault)),
-            CopyFault::Disk => Failure::Aside(Refusal::Call(ArchiveFault::Disk)),
-            CopyFault::Output => Failure::Faulted(SessionFault::WriteFailed),
-        }
-    }
-}
-
 impl From<MemoryFault> for Failure {
     fn from(fault: MemoryFault) -> Self {
         match fault {
             MemoryFault::BadShape => Failure::Refused(Refusal::BadShape),
             MemoryFault::OutOfMemory => Failure::Refused(Refusal::OutOfMemory),
             MemoryFault::Disk => Failure::Refused(Refusal::Disk),
-            MemoryFault::Life(fault) => Failure::from(fault),
+            MemoryFault::Life(fault) => life_failure(fault),
         }
     }
 }
@@ -224,9 +196,9 @@ fn tell_words<O: Output, E: Output>(
 }
 
 fn tell_text<O: Output>(output: &mut O, text: &[u8]) -> Result<(), StreamFault> {
-    let mut reply = Reply::new();
-    reply.tell(output, text);
-    reply.finish(output)
+    let mut reply = Reply::new(output);
+    reply.tell(text);
+    reply.finish()
 }
 
 /// Tells people why this file could not be written, where the file system has no room for it; of other reasons nothing is told.
@@ -237,13 +209,13 @@ pub fn tell_unwritten<E: Output>(file: &[u8], kind: io::ErrorKind, errors: &mut 
         io::ErrorKind::FileTooLarge => b"the file may not grow so large",
         _ => return,
     };
-    let mut reply = Reply::new();
-    reply.tell(errors, b"corekeep: ");
-    reply.tell(errors, file);
-    reply.tell(errors, b": ");
-    reply.tell(errors, why);
-    reply.tell(errors, b"\n");
-    let _ = reply.finish(errors);
+    let mut reply = Reply::new(errors);
+    reply.tell(b"corekeep: ");
+    reply.tell(file);
+    reply.tell(b": ");
+    reply.tell(why);
+    reply.tell(b"\n");
+    let _ = reply.finish();
 }
 
 // Tells people what a reason for scripts leaves open.
@@ -272,44 +244,44 @@ fn tell_in_words<E: Output>(alloc: Global, refusal: Refusal, errors: &mut E) {
 fn tell_refusal<O: Output>(refusal: Refusal, output: &mut O) -> u8
     ensures { result ≡ 1 }
 {
-    let mut reply = Reply::new();
-    reply.tell(output, b"no ");
+    let mut reply = Reply::new(output);
+    reply.tell(b"no ");
     match refusal {
-        Refusal::BadLine => reply.tell(output, b"BadLine"),
-        Refusal::Pipe => reply.tell(output, b"Pipe"),
-        Refusal::TemplateTooLong => reply.tell(output, b"TemplateTooLong"),
-        Refusal::BadShape => reply.tell(output, b"BadShape"),
-        Refusal::File(_, FileFault::Busy) => reply.tell(output, b"Busy"),
-        Refusal::File(_, FileFault::OutOfMemory) => reply.tell(output, b"OutOfMemory"),
-        Refusal::File(_, FileFault::Settle) => reply.tell(output, b"Disk"),
-        Refusal::File(_, _) | Refusal::Output => reply.tell(output, b"File"),
-        Refusal::LineTooLong => reply.tell(output, b"LineTooLong"),
-        Refusal::NotUtf8(_) => reply.tell(output, b"NotUtf8"),
-        Refusal::OutOfMemory => reply.tell(output, b"OutOfMemory"),
-        Refusal::Disk => reply.tell(output, b"Disk"),
-        Refusal::Open(fault) => tell_open_fault(&mut reply, output, fault),
-        Refusal::Call(fault) => reply.tell(output, reason(fault)),
+        Refusal::BadLine => reply.tell(b"BadLine"),
+        Refusal::Pipe => reply.tell(b"Pipe"),
+        Refusal::TemplateTooLong => reply.tell(b"TemplateTooLong"),
+        Refusal::BadShape => reply.tell(b"BadShape"),
+        Refusal::File(_, FileFault::Busy) => reply.tell(b"Busy"),
+        Refusal::File(_, FileFault::OutOfMemory) => reply.tell(b"OutOfMemory"),
+        Refusal::File(_, FileFault::Settle) => reply.tell(b"Disk"),
+        Refusal::File(_, _) | Refusal::Output => reply.tell(b"File"),
+        Refusal::LineTooLong => reply.tell(b"LineTooLong"),
+        Refusal::NotUtf8(_) => reply.tell(b"NotUtf8"),
+        Refusal::OutOfMemory => reply.tell(b"OutOfMemory"),
+        Refusal::Disk => reply.tell(b"Disk"),
+        Refusal::Open(fault) => tell_open_fault(&mut reply, fault),
+        Refusal::Call(fault) => reply.tell(reason(fault)),
     }
-    reply.tell(output, b"\n");
-    let _ = reply.finish(output);
+    reply.tell(b"\n");
+    let _ = reply.finish();
     1
 }
 
 // Tells why an archive could not be opened.
-fn tell_open_fault<O: Output>(reply: &mut Reply, output: &mut O, fault: OpenFault) {
+fn tell_open_fault<O: Output>(reply: &mut Reply<'_, O>, fault: OpenFault) {
     match fault {
-        OpenFault::Disk => reply.tell(output, b"Disk"),
-        OpenFault::NotAnArchive => reply.tell(output, b"NotAnArchive"),
-        OpenFault::OutOfMemory => reply.tell(output, b"OutOfMemory"),
+        OpenFault::Disk => reply.tell(b"Disk"),
+        OpenFault::NotAnArchive => reply.tell(b"NotAnArchive"),
+        OpenFault::OutOfMemory => reply.tell(b"OutOfMemory"),
         OpenFault::UnknownVersion(version) => {
-            reply.tell(output, b"UnknownVersion ");
-            reply.tell_decimal(output, u128::from(version));
+            reply.tell(b"UnknownVersion ");
+            reply.tell_decimal(u128::from(version));
         }
         OpenFault::Damaged { at, field } => {
-            reply.tell(output, b"Damaged ");
-            reply.tell_decimal(output, u128::from(at));
-            reply.tell(output, b" ");
-            reply.tell(output, field.name().as_bytes());
+            reply.tell(b"Damaged ");
+            reply.tell_decimal(u128::from(at));
+            reply.tell(b" ");
+            reply.tell(field.name().as_bytes());
         }
     }
 }
@@ -318,11 +290,11 @@ fn tell_open_fault<O: Output>(reply: &mut Reply, output: &mut O, fault: OpenFaul
 fn tell_fault<E: Output>(fault: SessionFault, errors: &mut E) -> u8
     ensures { result ≡ 1 }
 {
-    let mut reply = Reply::new();
-    reply.tell(errors, b"fault ");
-    reply.tell(errors, fault_name(fault));
-    reply.tell(errors, b"\n");
-    let _ = reply.finish(errors);
+    let mut reply = Reply::new(errors);
+    reply.tell(b"fault ");
+    reply.tell(fault_name(fault));
+    reply.tell(b"\n");
+    let _ = reply.finish();
     1
 }
 

@@ -38,11 +38,12 @@ impl<'a, O: Output> Held<'a, O> {
     fn let_go(&mut self) -> Result<(), StreamFault>
         ensures failures { self.new.failures ≡ self.old.failures }
     {
-        let mut reply = Reply::new();
-        reply.tell(self.output, &self.text);
+        let mut reply = Reply::new(self.output);
+        reply.tell(&self.text);
+        let written = reply.finish();
         self.text.clear();
         self.is_let_go = true;
-        reply.finish(self.output)
+        written
     }
 
     // Holds these bytes, or passes on some of them. Says how many were taken.

@@ -6,8 +6,12 @@ mod asked;
 mod failures;
 mod grammar;
 mod held;
+mod making;
+mod outcomes;
+mod over_disk;
 mod raw_words;
 mod single;
+mod storing;
 mod tables;
 mod words;
 

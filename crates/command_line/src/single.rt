@@ -1,18 +1,17 @@
 // What needs no script: an image out of its archive, and one line with its reply.
+ghost use Rattle.std.specs.Prelude.{◌≡◌};
+ghost use Rattle.script_lines.specs.Said.{said, only_looks};
+ghost use Rattle.command_line.specs.Told.{access_by};
+
 use crate::archives::{Access, take_disk};
 use crate::asked::Place;
 use crate::failures::{Failure, Refusal, Word};
 use crate::held::Held;
-use disk_model::{Disk, FileFault};
-use inspector_cli::{
-    Naming, SessionFault, copy_image, is_question, only_looks, open_and_run, read_image,
-    write_image,
-};
-use intake::Settings;
+use crate::over_disk::{CaseNumber, answer_over, copy_over, read_over};
+use disk_model::FileFault;
+use inspector_cli::{Naming, SessionFault, is_question, only_looks, write_image};
 use name_template::Template;
-use script_streams::{Output, ReadInput, WriteOutput};
-use script_words::parse_case_number;
-use std::alloc::Global;
+use script_streams::{Output, WriteOutput};
 use std::fs;
 use std::fs::{File, Permissions};
 use std::io::ErrorKind;
@@ -33,13 +32,13 @@ pub(crate) fn extract<R: AllocGlobal + Files<File = File>, O: Output>(
     file: Option<&str>,
     output: &mut O,
 ) -> Result<(), Failure> {
-    let Some(seq) = parse_case_number(case.as_bytes()) else {
+    let Some(case) = CaseNumber::of(case.as_bytes()) else {
         return Err(Failure::Aside(Refusal::BadLine));
     };
     match file {
-        None if output_is_file(rt) => copy_to(rt, place, seq, output),
-        None => extract_to(rt, place, seq, output),
-        Some(path) => extract_to_file(rt, place, seq, path),
+        None if output_is_file(rt) => copy_to(rt, place, case, output),
+        None => extract_to(rt, place, case, output),
+        Some(path) => extract_to_file(rt, place, case, path),
     }
 }
 
@@ -55,12 +54,12 @@ fn output_is_file<R: Files<File = File>>(rt: &R) -> bool {
 fn extract_to<R: AllocGlobal + Files<File = File>, O: Output>(
     rt: &R,
     place: Place<'_>,
-    seq: u32,
+    case: CaseNumber,
     output: &mut O,
 ) -> Result<(), Failure> {
     let taken = take_disk(rt, place, Access::Looking);
     let disk = taken.map_err(|refusal| Failure::Aside(refusal))?;
-    let (read, disk) = read_image(rt.alloc(), disk, Settings { limit: 0 }, seq);
+    let (read, disk) = read_over(rt.alloc(), disk, case);
     drop(disk);
     match write_image(output, &read?) {
         Ok(()) => Ok(()),
@@ -72,7 +71,7 @@ fn extract_to<R: AllocGlobal + Files<File = File>, O: Output>(
 fn extract_to_file<R: AllocGlobal + Files<File = File>>(
     rt: &R,
     place: Place<'_>,
-    seq: u32,
+    case: CaseNumber,
     path: &str,
 ) -> Result<(), Failure> {
     let file = new_file(rt, path).map_err(|fault| Failure::Aside(Refusal::File(
@@ -80,7 +79,7 @@ fn extract_to_file<R: AllocGlobal + Files<File = File>>(
         fault,
     )))?;
     let mut output = WriteOutput::new(file);
-    let done = copy_to(rt, place, seq, &mut output);
+    let done = copy_to(rt, place, case, &mut output);
     let why = output.fault();
     let file = output.into_inner();
     match done {
@@ -108,14 +107,13 @@ fn told_why(failure: Failure, why: Option<ErrorKind>) -> Failure {
 fn copy_to<R: AllocGlobal + Files<File = File>, O: Output>(
     rt: &R,
     place: Place<'_>,
-    seq: u32,
+    case: CaseNumber,
     output: &mut O,
 ) -> Result<(), Failure> {
     let taken = take_disk(rt, place, Access::Looking);
     let disk = taken.map_err(|refusal| Failure::Aside(refusal))?;
-    let (copied, _) = copy_image(rt.alloc(), disk, Settings { limit: 0 }, seq, output);
-    copied?;
-    Ok(())
+    let (copied, _) = copy_over(rt.alloc(), disk, case, output);
+    copied
 }
 
 // Whether a file is known to have no bytes.
@@ -137,7 +135,7 @@ fn new_file<R: Files<File = File>>(rt: &R, path: &str) -> Result<File, FileFault
     Ok(file)
 }
 
-// Carries out one line of a script, and writes its reply.
+// Carries out one line of a script, and writes its reply once the archive is let go.
 pub(crate) fn ask<R: AllocGlobal + Files<File = File>, O: Output>(
     rt: &R,
     place: Place<'_>,
@@ -150,38 +148,23 @@ pub(crate) fn ask<R: AllocGlobal + Files<File = File>, O: Output>(
     if !is_question(&line) {
         return Err(Failure::Refused(Refusal::BadLine));
     }
-    let disk = take_disk(rt, place, access_of(&line))?;
-    if tell_answer(rt.alloc(), disk, line, output)? {
-        Ok(())
-    } else {
-        Err(Failure::Told)
-    }
-}
-
-// Carries out one line of a script over the archive on a disk, and writes its reply once the disk is let go. Says whether it
-// was accepted.
-pub(crate) fn tell_answer<D: Disk + Drop, O: Output>(
-    alloc: Global,
-    disk: D,
-    line: Vec<u8>,
-    output: &mut O,
-) -> Result<bool, Failure> {
-    let mut script = line;
-    script.extend_from_slice(b"\n")?;
     let naming = no_naming()?;
-    let mut replies = Held::new(alloc, output);
-    let mut input = ReadInput::new(script.as_slice());
-    let settings = Settings { limit: 0 };
-    let (ended, _) = open_and_run(alloc, disk, settings, &naming, &mut input, &mut replies);
-    ended?;
+    let disk = take_disk(rt, place, access_of(&line))?;
+    let mut replies = Held::new(rt.alloc(), output);
+    let (answered, disk) = answer_over(rt.alloc(), disk, line, &naming, &mut replies);
+    drop(disk);
+    answered?;
     match replies.finish() {
-        Ok(is_accepted) => Ok(is_accepted),
+        Ok(true) => Ok(()),
+        Ok(false) => Err(Failure::Told),
         Err(_) => Err(Failure::Faulted(SessionFault::WriteFailed)),
     }
 }
 
 // A line that changes nothing needs no right to write the archive's file.
-fn access_of(line: &[u8]) -> Access {
+fn access_of(line: &[u8]) -> Access
+    ensures { result ≡ access_by (only_looks (said line.now)) }
+{
     if only_looks(line) {
         Access::Looking
     } else {

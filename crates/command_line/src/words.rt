@@ -1,24 +1,22 @@
 // The program: what its words ask for, and the status that it ends with.
 ghost use Rattle.std.specs.Prelude.{◌≡◌, ◌≤◌};
 
-use crate::archives::{Access, look_at, make_archive, names_output, take_disk};
-use crate::asked::{Asked, Place, SessionWords, StoreLines, read_words};
+use crate::archives::{Access, make_archive, names_output, take_disk};
+use crate::asked::{Asked, Place, SessionWords, read_words};
 use crate::failures::{Failure, Refusal, Word, tell_failure};
+use crate::over_disk::{look_over, run_over};
 use crate::raw_words::words_of;
-use crate::single::{ask, extract, tell_answer};
-use disk_model::{Disk, FileFault};
-use inspector_cli::{Naming, memory_session, open_and_run, open_and_store};
+use crate::single::{ask, extract};
+use crate::storing::{StoreRequest, store_from};
+use disk_model::FileFault;
+use inspector_cli::{Naming, memory_session};
 use intake::Settings;
 use journal_layout::Shape;
 use name_template::Template;
 use script_streams::{Output, ReadInput};
-use std::alloc::Global;
 use std::fs::File;
-use std::io::{BufRead, BufReader, Read};
+use std::io::Read;
 use std::rt::{Env, Files};
-
-// How many bytes `store` asks for at a time.
-const AHEAD: usize = 65_536;
 
 /// The program but for its standard streams, which its `main` hands in. Its words are those of the process, of any bytes.
 /// It answers the status that the program ends with, as `run_words` does.
@@ -114,18 +112,12 @@ fn answer_asked<R: AllocGlobal + Files<File = File>, I: Read, O: Output>(
         Asked::Store {
             archive,
             file,
-            lines,
+            wanted,
             settings,
         } => {
             let naming = naming_of(settings)?;
-            let stored = Stored {
-                archive,
-                room: &lines.room,
-                lines: &lines,
-                naming: &naming,
-                limit: settings.limit,
-            };
-            store(rt, file, stored, input, output)
+            let request = StoreRequest::of(wanted, &naming, settings.limit);
+            store(rt, archive, file, request, input, output)
         }
         Asked::Extract {
             archive,
@@ -162,7 +154,16 @@ fn run_file<R: AllocGlobal + Files<File = File>, I: Read, O: Output>(
 ) -> Result<(), Failure> {
     let naming = naming_of(settings)?;
     let disk = take_disk(rt, place, Access::Changing)?;
-    run_over(rt.alloc(), disk, settings.limit, &naming, input, output)
+    let mut script = ReadInput::new(input);
+    let (ended, _) = run_over(
+        rt.alloc(),
+        disk,
+        settings.limit,
+        &naming,
+        &mut script,
+        output,
+    );
+    ended
 }
 
 // Runs a script over a fresh archive in memory.
@@ -187,58 +188,36 @@ fn run_memory<R: AllocGlobal, I: Read, O: Output>(
     Ok(ended?)
 }
 
-// Opens the archive on a disk and runs a script over it.
-fn run_over<D: Disk + Drop, I: Read, O: Output>(
-    alloc: Global,
-    disk: D,
-    limit: u64,
-    naming: &Naming,
-    input: &mut I,
-    output: &mut O,
-) -> Result<(), Failure> {
-    let mut script = ReadInput::new(input);
-    let settings = Settings { limit };
-    let (ended, _) = open_and_run(alloc, disk, settings, naming, &mut script, output);
-    Ok(ended?)
-}
-
-// Into which archive something is stored, and how.
-#[derive(Clone, Copy)]
-struct Stored<'a> {
-    archive: Place<'a>,
-    // The line that makes room first, which is empty where none is to be made.
-    room: &'a [u8],
-    lines: &'a StoreLines,
-    naming: &'a Naming,
-    limit: u64,
-}
-
 // Stores a file, or the standard input. The file is opened before the archive's lock is taken, so that a pipe that nobody
 // writes to keeps no other process waiting; yet what is wrong with the archive is told first.
 fn store<R: AllocGlobal + Files<File = File>, I: Read, O: Output>(
     rt: &R,
+    place: Place<'_>,
     file: &str,
-    stored: Stored<'_>,
+    request: StoreRequest,
     input: &mut I,
     output: &mut O,
 ) -> Result<(), Failure> {
     if file == "-" {
-        let disk = take_disk(rt, stored.archive, Access::Changing)?;
-        return store_from(rt.alloc(), disk, stored, input, output);
+        let disk = take_disk(rt, place, Access::Changing)?;
+        let (ended, _) = store_from(rt.alloc(), disk, request, input, output);
+        return ended;
     }
     let opened = File::open(rt, file);
-    let disk = take_disk(rt, stored.archive, Access::Changing)?;
+    let disk = take_disk(rt, place, Access::Changing)?;
     match opened {
         Ok(mut file) => {
-            let stored = if is_longer(&file, stored.limit) {
-                without_room(stored)
+            let request = if is_longer(&file, request.limit()) {
+                request.without_room()
             } else {
-                stored
+                request
             };
-            store_from(rt.alloc(), disk, stored, &mut file, output)
+            let (ended, _) = store_from(rt.alloc(), disk, request, &mut file, output);
+            ended
         }
         Err(error) => {
-            look_at(rt.alloc(), disk, stored.limit)?;
+            let (looked, _) = look_over(rt.alloc(), disk, request.limit());
+            looked?;
             Err(Failure::Refused(Refusal::File(Word::File, FileFault::from(error))))
         }
     }
@@ -250,82 +229,6 @@ fn is_longer(file: &File, limit: u64) -> bool {
         Ok(attributes) => attributes.is_file() && attributes.len() > limit,
         Err(_) => false,
     }
-}
-
-// No room is made for what can't be stored.
-fn without_room(stored: Stored<'_>) -> Stored<'_> {
-    Stored {
-        room: &[],
-        ..stored
-    }
-}
-
-// Whether a reader's first bytes can be read, and are no more than an image may have.
-fn begins_well<I: BufRead>(input: &mut I, limit: u64) -> bool {
-    match input.fill_buf() {
-        Ok(first) => first.len() as u64 <= limit,
-        Err(_) => false,
-    }
-}
-
-// Opens the archive on a disk and stores what a reader gives. It is read ahead: the archive takes its blocks one by one, and one
-// call of the operating system gives many of them. Where room is to be made, the first bytes are read before the archive is
-// changed.
-fn store_from<D: Disk + Drop, I: Read, O: Output>(
-    alloc: Global,
-    disk: D,
-    stored: Stored<'_>,
-    input: &mut I,
-    output: &mut O,
-) -> Result<(), Failure> {
-    let opened = BufReader::with_capacity(alloc, AHEAD, input);
-    let mut ahead = opened.map_err(|_| Refusal::OutOfMemory)?;
-    let is_needed = stored.room.is_empty() || begins_well(&mut ahead, stored.limit);
-    let stored = if is_needed {
-        stored
-    } else {
-        without_room(stored)
-    };
-    let settings = Settings {
-        limit: stored.limit,
-    };
-    let (ended, disk) = open_and_store(
-        alloc,
-        disk,
-        settings,
-        stored.naming,
-        stored.room,
-        &stored.lines.begin,
-        &mut ReadInput::new(ahead),
-        output,
-    );
-    let outcome = ended?;
-    let is_done = match outcome.stored {
-        Some(seq) => label_stored(alloc, disk, seq, stored.lines, output)?,
-        None => false,
-    };
-    if outcome.made_room && is_done {
-        Ok(())
-    } else {
-        Err(Failure::Told)
-    }
-}
-
-// Gives the new case its label, where one is asked for. The archive is opened again for it, under the same lock. Says whether
-// the case has the label that it is to have.
-fn label_stored<D: Disk + Drop, O: Output>(
-    alloc: Global,
-    disk: D,
-    seq: u32,
-    lines: &StoreLines,
-    output: &mut O,
-) -> Result<bool, Failure> {
-    let Some(label) = &lines.label else {
-        return Ok(true);
-    };
-    let mut line = format!(in alloc; "label {seq} ")?.into_bytes();
-    line.extend_from_slice(label)?;
-    tell_answer(alloc, disk, line, output)
 }
 
 // How cores are named.

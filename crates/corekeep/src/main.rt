@@ -35,9 +35,9 @@ fn refuse_descriptors<O: Output, E: Output>(output: &mut O, errors: &mut E) -> u
 }
 
 fn tell<O: Output>(output: &mut O, text: &[u8]) {
-    let mut reply = Reply::new();
-    reply.tell(output, text);
-    let _ = reply.finish(output);
+    let mut reply = Reply::new(output);
+    reply.tell(text);
+    let _ = reply.finish();
 }
 
 // Opens the null device three times. A file gets the lowest descriptor that is free, so as long as these are there, none of

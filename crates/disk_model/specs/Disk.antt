@@ -1,7 +1,7 @@
 -- What the calls of a disk do to the bytes that it shows, and to those that a crash may leave.
-use Rattle.std.specs.Prelude.{◌≡◌, ◌⊎◌, ℕ, ◌≤◌, List, Result, OnErr}
+use Rattle.std.specs.Prelude.{◌≡◌, ◌⊎◌, ℕ, ◌≤◌, List, Result, OnOk, OnErr}
 use Rattle.disk_model.specs.Places.{SameOutside}
-pub use Rattle.failure_count.specs.Counts.{HasRisen}
+pub use Rattle.failure_count.specs.Counts.{HasRisen, IsNextCount, joined}
 
 -- each new outcome of a crash is an old outcome after a step
 abbrev pub Follows : (List ℕ → List ℕ → Type 0) → (List ℕ → Type 0) → (List ℕ → Type 0) → Type 0
@@ -23,7 +23,7 @@ pub record Elapses {D : Type 0} (clock : D → ℕ) (may_leave : D → List ℕ 
   -- where the clock stands still, a crash leaves nothing new
   pub still : clock new ≡ clock old → (c : List ℕ) → may_leave new c → may_leave old c
 
--- a failure is answered only where the count of failures rose
+-- A failure that is answered was counted, once; where none is answered, none was counted.
 pub record HasCause {T E : Type 0} (before now : ℕ) (result : Result T E) : Type 0 where
-  pub later : before ≤ now
-  pub risen : OnErr result (HasRisen before now)
+  pub ok : OnOk result (now ≡ before)
+  pub err : OnErr result (IsNextCount before now)

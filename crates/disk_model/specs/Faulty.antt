@@ -1,25 +1,24 @@
 -- What is known of a disk that fails by plan: the disk within, its plan, and the calls that were made.
 use Rattle.std.specs.Prelude.{ℕ}
-use Rattle.disk_model.specs.declared.fuse.Fuse.{Fuse}
-use Rattle.disk_model.specs.declared.one_fault.OneFault.{OneFault}
+use Rattle.disk_model.specs.declared.faulty.Faulty.{Faulty}
+use Rattle.disk_model.specs.declared.fuse.Limit.{Limit}
+use Rattle.disk_model.specs.declared.one_fault.OneCall.{OneCall}
+
+module _ {D P : Type 0} where
+  abbrev pub faulty_inner : Faulty D P → D
+  faulty_inner f = f.inner
+
+  abbrev pub faulty_plan : Faulty D P → P
+  faulty_plan f = f.plan
+
+  abbrev pub faulty_calls : Faulty D P → ℕ
+  faulty_calls f = f.calls
 
 module _ {D : Type 0} where
-  abbrev pub fuse_inner : Fuse D → D
-  fuse_inner f = f.inner
+  -- how many calls a fuse passes
+  abbrev pub fuse_limit : Faulty D Limit → ℕ
+  fuse_limit f = f.plan.limit
 
-  -- how many calls it passes
-  abbrev pub fuse_limit : Fuse D → ℕ
-  fuse_limit f = f.limit
-
-  abbrev pub fuse_calls : Fuse D → ℕ
-  fuse_calls f = f.calls
-
-  abbrev pub fault_inner : OneFault D → D
-  fault_inner f = f.inner
-
-  -- the call that it fails, counted from 1
-  abbrev pub fault_at : OneFault D → ℕ
-  fault_at f = f.at
-
-  abbrev pub fault_calls : OneFault D → ℕ
-  fault_calls f = f.calls
+  -- the call that a single fault is at, counted from 1
+  abbrev pub fault_at : Faulty D OneCall → ℕ
+  fault_at f = f.plan.at

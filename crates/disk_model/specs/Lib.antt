@@ -1,8 +1,10 @@
 pub mod Agree
+pub mod CauseLaws
 pub mod Crash
 pub mod CrashLaws
 pub mod Disk
 pub mod Faulty
+pub mod Keeping
 pub mod MemDisk
 pub mod MomentLaws
 pub mod Moments

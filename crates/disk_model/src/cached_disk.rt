@@ -1,7 +1,7 @@
 // A disk in a file, as Linux has one: what it keeps in memory, and what the device has.
-ghost use Rattle.std.specs.Prelude.{◌≡◌, ◌+◌, ◌≤◌, ◌↔◌, List, ℕ, IsTrue, IfOk};
+ghost use Rattle.std.specs.Prelude.{◌≡◌, ◌↔◌, List, ℕ, IsTrue, IfOk};
 ghost use Rattle.disk_model.specs.Anew.{IsMadeAnew};
-ghost use Rattle.disk_model.specs.Disk.{HasRisen};
+ghost use Rattle.disk_model.specs.Disk.{IsNextCount, joined};
 ghost use Rattle.disk_model.specs.NoteLaws.{held_kept, shown_bytes, shown_stays, now_counts, now_alone};
 
 use crate::{Disk, DiskFault, MemDisk, Pick};
@@ -64,8 +64,8 @@ impl CachedDisk {
     // Whether this sync reaches the device.
     fn reaches_device(&mut self) -> bool
         ensures disk { self.new.disk ≡ self.old.disk }
-        ensures grows { self.old.faults ≤ self.new.faults }
-        ensures fault { (IsTrue result → ⊥) → HasRisen self.old.faults self.new.faults }
+        ensures reached { IsTrue result → self.new.faults ≡ self.old.faults }
+        ensures lost { (IsTrue result → ⊥) → IsNextCount self.old.faults self.new.faults }
     {
         if self.is_lost || self.spared == 0 {
             self.is_lost = true;
@@ -84,7 +84,7 @@ impl Disk for CachedDisk {
 
     ghost is_honest = { λ d. ⟦<MemDisk as Disk>⟧.is_honest d.disk };
 
-    ghost failures = { λ d. ⟦<MemDisk as Disk>⟧.failures d.disk + d.faults };
+    ghost failures = { λ d. joined (⟦<MemDisk as Disk>⟧.failures d.disk) d.faults };
 
     ghost clock = { λ d. ⟦<MemDisk as Disk>⟧.clock d.disk };
 

@@ -36,7 +36,7 @@ pub trait Disk {
     /// Whether the disk keeps to the disk model.
     ghost is_honest: { Self → Bool };
 
-    /// How often the disk has failed.
+    /// How often the disk has failed: a call that answers a fault counts once. At the greatest number of 64 bits it stays.
     ghost failures: { Self → ℕ };
 
     /// The moment: a number that never falls, and grows with each call that changes what a crash may leave.

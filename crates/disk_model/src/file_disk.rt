@@ -170,20 +170,6 @@ impl FileDisk {
         FileDisk::from_locked(rt.alloc(), file)
     }
 
-    /// Opens a file that is there for reading alone, which needs no right to write. It shares the file's lock with others
-    /// that read, so none of them waits for another, and nobody changes the file meanwhile. Its writes answer `Write`; its
-    /// syncs are the file's. It never waits: where another may change the file, it answers `Busy`.
-    pub fn open_for_reading<R: Files<File = File>>(
-        rt: &R,
-        path: &str,
-    ) -> Result<FileDisk, FileFault>
-        ensures uncounted { IfOk result (λ d. ⟦<FileDisk as Disk>⟧.failures d ≡ 0) }
-    {
-        let file = File::open(rt, path)?;
-        asked_for(file.try_lock_shared())?;
-        FileDisk::from_shared(file)
-    }
-
     /// A disk in a file that is open for reading and writing, and whose lock the caller has taken.
     pub fn from_locked(alloc: Global, file: File) -> Result<FileDisk, FileFault>
         ensures uncounted { IfOk result (λ d. ⟦<FileDisk as Disk>⟧.failures d ≡ 0) }
@@ -192,7 +178,8 @@ impl FileDisk {
         FileDisk::holding(file, Some(gathered))
     }
 
-    /// A disk for reading alone in a file that is open for reading, and whose lock the caller shares.
+    /// A disk for reading alone in a file that is open for reading, and whose lock the caller shares with others that read:
+    /// so nobody changes the file meanwhile. Its writes answer `Write`; its syncs are the file's.
     pub fn from_shared(file: File) -> Result<FileDisk, FileFault>
         ensures uncounted { IfOk result (λ d. ⟦<FileDisk as Disk>⟧.failures d ≡ 0) }
     {

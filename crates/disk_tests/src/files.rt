@@ -1,6 +1,6 @@
 //! Disks in files, which lie in the folder for temporary files.
 use disk_model::{Disk, DiskFault, FileDisk, FileFault};
-use std::fs::File;
+use std::fs::{File, TryLockError};
 use std::os::unix::fs::MetadataExt;
 use std::process::Abort;
 use std::rt::Files;
@@ -122,9 +122,19 @@ fn a_file_is_one_disks_at_a_time(rt: HostRuntime) -> Result<(), Fail> {
     Ok(())
 }
 
+// The file as a disk for reading alone. Its lock is shared, and not waited for.
+fn shared<R: Files<File = File>>(rt: &R, path: &str) -> Result<FileDisk, FileFault> {
+    let file = File::open(rt, path)?;
+    match file.try_lock_shared() {
+        Ok(()) => FileDisk::from_shared(file),
+        Err(TryLockError::WouldBlock) => Err(FileFault::Busy),
+        Err(TryLockError::Error(_)) => Err(FileFault::Lock),
+    }
+}
+
 // Whether the file can be opened as a disk for reading alone.
 fn looked_at<R: Files<File = File>>(rt: &R, path: &str) -> Result<(), FileFault> {
-    match FileDisk::open_for_reading(rt, path) {
+    match shared(rt, path) {
         Ok(_) => Ok(()),
         Err(fault) => Err(fault),
     }
@@ -147,7 +157,7 @@ fn is_read_by_two<R: Abort + AllocGlobal + Files<File = File>>(
     rt: &R,
     path: &str,
 ) -> Result<(), Fail> {
-    let mut disk = FileDisk::open_for_reading(rt, path)?;
+    let mut disk = shared(rt, path)?;
     assert_eq!(rt; looked_at(rt, path), Ok(()));
     assert_eq!(rt; opened(rt, path)?, Err(FileFault::Busy));
     is_only_read(rt, &mut disk)

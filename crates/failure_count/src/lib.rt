@@ -1,11 +1,12 @@
 //! A count of failures: what a disk's calls and a stream's calls say of it.
 #![tactic(auto)]
 
-ghost use Rattle.failure_count.specs.Counts.{HasRisen};
+ghost use Rattle.failure_count.specs.Counts.{HasRisen, IsNextCount};
 
 /// The count behind one more failure. It stands still at the greatest number of 64 bits.
 pub fn after_failure(count: u64) -> u64
     ensures risen { HasRisen count result }
+    ensures next { IsNextCount count result }
 {
     count.saturating_add(1)
 }

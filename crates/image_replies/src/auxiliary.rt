@@ -14,55 +14,55 @@ use script_streams::{Output, Reply, tell_no, tell_ok};
 
 /// Tells the auxiliary vector of the process of a core, or the first that holds of: the core or a typed note is at fault,
 /// it has no NT_AUXV (`no Missing`).
-pub fn tell_auxv<O: Output>(reply: &mut Reply, output: &mut O, image: &[u8])
-    ensures { TellsText (telling O.Output output.old output.new reply.old reply.new) (reply_of (spec.auxv_answer image.now)) }
+pub fn tell_auxv<O: Output>(reply: &mut Reply<'_, O>, image: &[u8])
+    ensures { TellsText (telling O.Output reply.old reply.new) (reply_of (spec.auxv_answer image.now)) }
 {
     match CoreImage::read(image) {
-        Ok(core) => tell_found(reply, output, core.notes().auxv()),
-        Err(fault) => tell_core_fault(reply, output, fault),
+        Ok(core) => tell_found(reply, core.notes().auxv()),
+        Err(fault) => tell_core_fault(reply, fault),
     }
 }
 
 /// Tells an auxiliary vector, if it is there.
-fn tell_found<O: Output>(reply: &mut Reply, output: &mut O, auxv: Option<Auxv<'_>>)
-    ensures { TellsText (telling O.Output output.old output.new reply.old reply.new)
+fn tell_found<O: Output>(reply: &mut Reply<'_, O>, auxv: Option<Auxv<'_>>)
+    ensures { TellsText (telling O.Output reply.old reply.new)
         (reply_of (if_there (option_map auxv_bytes auxv.entry) spec.pair_lines)) }
 {
     match auxv {
         Some(auxv) => {
-            tell_pair_lines(reply, output, auxv.pairs());
-            tell_ok(reply, output);
+            tell_pair_lines(reply, auxv.pairs());
+            tell_ok(reply);
         }
-        None => tell_no(reply, output, b"Missing"),
+        None => tell_no(reply, b"Missing"),
     }
 }
 
 /// Tells a line for each pair.
-fn tell_pair_lines<O: Output>(reply: &mut Reply, output: &mut O, pairs: AuxvPairs<'_>)
-    ensures { TellsText (telling O.Output output.old output.new reply.old reply.new) (flat_map spec.pair_line (pairs_left pairs.entry)) }
+fn tell_pair_lines<O: Output>(reply: &mut Reply<'_, O>, pairs: AuxvPairs<'_>)
+    ensures { TellsText (telling O.Output reply.old reply.new) (flat_map spec.pair_line (pairs_left pairs.entry)) }
 {
     let mut rest = pairs;
     while let Some(pair) = rest.next() {
-        tell_pair_line(reply, output, pair);
+        tell_pair_line(reply, pair);
     }
 }
 
-fn tell_pair_line<O: Output>(reply: &mut Reply, output: &mut O, pair: AuxvPair)
-    ensures { TellsText (telling O.Output output.old output.new reply.old reply.new) (spec.pair_line pair) }
+fn tell_pair_line<O: Output>(reply: &mut Reply<'_, O>, pair: AuxvPair)
+    ensures { TellsText (telling O.Output reply.old reply.new) (spec.pair_line pair) }
 {
-    tell_type(reply, output, pair.kind);
-    reply.tell(output, b" ");
-    reply.tell_hexadecimal(output, u128::from(pair.value));
-    reply.tell(output, b"\n");
+    tell_type(reply, pair.kind);
+    reply.tell(b" ");
+    reply.tell_hexadecimal(u128::from(pair.value));
+    reply.tell(b"\n");
 }
 
 /// Tells the name of a type, or its number.
-fn tell_type<O: Output>(reply: &mut Reply, output: &mut O, kind: u64)
-    ensures { TellsText (telling O.Output output.old output.new reply.old reply.new) (spec.name_or_number (spec.auxv_name kind) kind) }
+fn tell_type<O: Output>(reply: &mut Reply<'_, O>, kind: u64)
+    ensures { TellsText (telling O.Output reply.old reply.new) (spec.name_or_number (spec.auxv_name kind) kind) }
 {
     match auxv_name(kind) {
-        Some(name) => reply.tell(output, name.as_bytes()),
-        None => reply.tell_decimal(output, u128::from(kind)),
+        Some(name) => reply.tell(name.as_bytes()),
+        None => reply.tell_decimal(u128::from(kind)),
     }
 }
 

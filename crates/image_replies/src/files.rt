@@ -15,45 +15,45 @@ use script_streams::{Output, Reply, tell_no, tell_ok};
 
 /// Tells the mapped files of the process of a core, or the first that holds of: the core or a typed note is at fault, it
 /// has no NT_FILE (`no Missing`).
-pub fn tell_files<O: Output>(reply: &mut Reply, output: &mut O, image: &[u8])
-    ensures { TellsText (telling O.Output output.old output.new reply.old reply.new) (reply_of (spec.files_answer image.now)) }
+pub fn tell_files<O: Output>(reply: &mut Reply<'_, O>, image: &[u8])
+    ensures { TellsText (telling O.Output reply.old reply.new) (reply_of (spec.files_answer image.now)) }
 {
     match CoreImage::read(image) {
-        Ok(core) => tell_found(reply, output, core.notes().files()),
-        Err(fault) => tell_core_fault(reply, output, fault),
+        Ok(core) => tell_found(reply, core.notes().files()),
+        Err(fault) => tell_core_fault(reply, fault),
     }
 }
 
 /// Tells mapped files, if they are there.
-fn tell_found<O: Output>(reply: &mut Reply, output: &mut O, files: Option<Files<'_>>)
-    ensures { TellsText (telling O.Output output.old output.new reply.old reply.new)
+fn tell_found<O: Output>(reply: &mut Reply<'_, O>, files: Option<Files<'_>>)
+    ensures { TellsText (telling O.Output reply.old reply.new)
         (reply_of (if_there (option_map files_bytes files.entry) spec.file_lines)) }
 {
     match files {
         Some(files) => {
-            tell_file_lines(reply, output, files.maps());
-            tell_ok(reply, output);
+            tell_file_lines(reply, files.maps());
+            tell_ok(reply);
         }
-        None => tell_no(reply, output, b"Missing"),
+        None => tell_no(reply, b"Missing"),
     }
 }
 
 /// Tells a line for each mapped file.
-fn tell_file_lines<O: Output>(reply: &mut Reply, output: &mut O, maps: FileMaps<'_>)
-    ensures { TellsText (telling O.Output output.old output.new reply.old reply.new) (flat_map spec.file_line (files_left maps.entry)) }
+fn tell_file_lines<O: Output>(reply: &mut Reply<'_, O>, maps: FileMaps<'_>)
+    ensures { TellsText (telling O.Output reply.old reply.new) (flat_map spec.file_line (files_left maps.entry)) }
 {
     let mut rest = maps;
     while let Some(map) = rest.next() {
-        tell_file_line(reply, output, &map);
+        tell_file_line(reply, &map);
     }
 }
 
-fn tell_file_line<O: Output>(reply: &mut Reply, output: &mut O, map: &FileMap<'_>)
-    ensures { TellsText (telling O.Output output.old output.new reply.old reply.new) (spec.file_line (file_view map.now)) }
+fn tell_file_line<O: Output>(reply: &mut Reply<'_, O>, map: &FileMap<'_>)
+    ensures { TellsText (telling O.Output reply.old reply.new) (spec.file_line (file_view map.now)) }
 {
-    tell_address(reply, output, map.start);
-    tell_address(reply, output, map.past);
-    tell_address(reply, output, map.offset);
-    reply.tell_text(output, map.name);
-    reply.tell(output, b"\n");
+    tell_address(reply, map.start);
+    tell_address(reply, map.past);
+    tell_address(reply, map.offset);
+    reply.tell_text(map.name);
+    reply.tell(b"\n");
 }

@@ -12,81 +12,76 @@ use elf_view::{Elf, Header, Segment, Segments, Want};
 use script_streams::{Output, Reply, tell_ok};
 
 /// Tells the file header of an image and a line for each of its program headers, or the first of its checks that fails.
-pub fn tell_header<O: Output>(reply: &mut Reply, output: &mut O, image: &[u8], want: Want)
-    ensures { TellsText (telling O.Output output.old output.new reply.old reply.new) (reply_of (spec.header_answer want image.now)) }
+pub fn tell_header<O: Output>(reply: &mut Reply<'_, O>, image: &[u8], want: Want)
+    ensures { TellsText (telling O.Output reply.old reply.new) (reply_of (spec.header_answer want image.now)) }
 {
     match Elf::read(image, want) {
-        Ok(elf) => tell_headers(reply, output, &elf),
-        Err(fault) => tell_elf_fault(reply, output, fault),
+        Ok(elf) => tell_headers(reply, &elf),
+        Err(fault) => tell_elf_fault(reply, fault),
     }
 }
 
 /// Tells the headers of an image, and `ok`.
-fn tell_headers<O: Output>(reply: &mut Reply, output: &mut O, elf: &Elf<'_>)
-    ensures { TellsText (telling O.Output output.old output.new reply.old reply.new)
+fn tell_headers<O: Output>(reply: &mut Reply<'_, O>, elf: &Elf<'_>)
+    ensures { TellsText (telling O.Output reply.old reply.new)
         (reply_of (Ok (spec.header_line (header_of (image_of elf.now)) ++ spec.segment_lines (segments_of (image_of elf.now))))) }
 {
-    tell_header_line(reply, output, elf.header());
-    tell_segment_lines(reply, output, elf.segments());
-    tell_ok(reply, output);
+    tell_header_line(reply, elf.header());
+    tell_segment_lines(reply, elf.segments());
+    tell_ok(reply);
 }
 
-fn tell_header_line<O: Output>(reply: &mut Reply, output: &mut O, header: Header)
-    ensures { TellsText (telling O.Output output.old output.new reply.old reply.new) (spec.header_line header) }
+fn tell_header_line<O: Output>(reply: &mut Reply<'_, O>, header: Header)
+    ensures { TellsText (telling O.Output reply.old reply.new) (spec.header_line header) }
 {
-    reply.tell(output, b"type ");
-    reply.tell_decimal(output, u128::from(header.kind));
-    reply.tell(output, b" entry ");
-    reply.tell_hexadecimal(output, u128::from(header.entry));
-    reply.tell(output, b" flags ");
-    reply.tell_hexadecimal(output, u128::from(header.flags));
-    reply.tell(output, b" segments ");
-    reply.tell_decimal(output, u128::from(header.segments));
-    reply.tell(output, b"\n");
+    reply.tell(b"type ");
+    reply.tell_decimal(u128::from(header.kind));
+    reply.tell(b" entry ");
+    reply.tell_hexadecimal(u128::from(header.entry));
+    reply.tell(b" flags ");
+    reply.tell_hexadecimal(u128::from(header.flags));
+    reply.tell(b" segments ");
+    reply.tell_decimal(u128::from(header.segments));
+    reply.tell(b"\n");
 }
 
 /// Tells a line for each program header, the first being number 0.
-fn tell_segment_lines<O: Output>(reply: &mut Reply, output: &mut O, segments: Segments<'_>)
+fn tell_segment_lines<O: Output>(reply: &mut Reply<'_, O>, segments: Segments<'_>)
     requires { length (segments_left segments) < 2 ^ 32 }
-    ensures { TellsText (telling O.Output output.old output.new reply.old reply.new) (spec.segment_lines (segments_left segments.entry)) }
+    ensures { TellsText (telling O.Output reply.old reply.new) (spec.segment_lines (segments_left segments.entry)) }
 {
     let mut rest = segments;
     let mut index: u64 = 0;
     while let Some(segment) = rest.next() {
-        tell_segment_line(reply, output, index, &segment);
+        tell_segment_line(reply, index, &segment);
         index += 1;
     }
 }
 
-fn tell_segment_line<O: Output>(
-    reply: &mut Reply,
-    output: &mut O,
-    index: u64,
-    segment: &Segment<'_>,
-)
-    ensures { TellsText (telling O.Output output.old output.new reply.old reply.new)
+fn tell_segment_line<O: Output>(reply: &mut Reply<'_, O>, index: u64, segment: &Segment<'_>)
+    ensures { TellsText (telling O.Output reply.old reply.new)
         (spec.segment_line index (segment_view segment.now)) }
 {
-    tell_number(reply, output, u128::from(index));
-    tell_type(reply, output, segment.kind);
-    reply.tell(output, b" ");
-    reply.tell(output, &flag_letters(segment.flags));
-    reply.tell(output, b" ");
-    tell_address(reply, output, segment.offset);
-    tell_address(reply, output, segment.vaddr);
-    tell_address(reply, output, segment.filesz);
-    reply.tell_hexadecimal(output, u128::from(segment.memsz));
-    reply.tell(output, b"\n");
+    tell_number(reply, u128::from(index));
+    tell_type(reply, segment.kind);
+    reply.tell(b" ");
+    reply.tell(&flag_letters(segment.flags));
+    reply.tell(b" ");
+    tell_address(reply, segment.offset);
+    tell_address(reply, segment.vaddr);
+    tell_address(reply, segment.filesz);
+    reply.tell_hexadecimal(u128::from(segment.memsz));
+    reply.tell(b"\n");
 }
 
 /// Tells a p_type: `load`, `note` or its number.
-fn tell_type<O: Output>(reply: &mut Reply, output: &mut O, kind: u32)
-    ensures { TellsText (telling O.Output output.old output.new reply.old reply.new) (spec.type_word kind) }
+fn tell_type<O: Output>(reply: &mut Reply<'_, O>, kind: u32)
+    ensures { TellsText (telling O.Output reply.old reply.new) (spec.type_word kind) }
 {
     match kind {
-        1 => reply.tell(output, b"load"),
-        4 => reply.tell(output, b"note"),
-        _ => reply.tell_hexadecimal(output, u128::from(kind)),
+        1 => reply.tell(b"load"),
+        4 => reply.tell(b"note"),
+        _ => reply.tell_hexadecimal(u128::from(kind)),
     }
 }
 

@@ -11,12 +11,12 @@ use elf_view::{Elf, Note, Notes, Want};
 use script_streams::{Output, Reply, tell_ok};
 
 /// Tells a line for each note of a core, or the first check of its headers and notes that fails. It looks at no typed note.
-pub fn tell_notes<O: Output>(reply: &mut Reply, output: &mut O, image: &[u8])
-    ensures { TellsText (telling O.Output output.old output.new reply.old reply.new) (reply_of (spec.notes_answer image.now)) }
+pub fn tell_notes<O: Output>(reply: &mut Reply<'_, O>, image: &[u8])
+    ensures { TellsText (telling O.Output reply.old reply.new) (reply_of (spec.notes_answer image.now)) }
 {
     match Elf::read(image, Want::Core) {
-        Ok(elf) => tell_note_list(reply, output, notes_in(&elf)),
-        Err(fault) => tell_elf_fault(reply, output, fault),
+        Ok(elf) => tell_note_list(reply, notes_in(&elf)),
+        Err(fault) => tell_elf_fault(reply, fault),
     }
 }
 
@@ -39,35 +39,35 @@ fn notes_in<'a>(elf: &Elf<'a>) -> Notes<'a>
 }
 
 /// Tells the notes, and `ok`.
-fn tell_note_list<O: Output>(reply: &mut Reply, output: &mut O, notes: Notes<'_>)
+fn tell_note_list<O: Output>(reply: &mut Reply<'_, O>, notes: Notes<'_>)
     requires { length (notes_left notes) < 2 ^ 128 }
-    ensures { TellsText (telling O.Output output.old output.new reply.old reply.new)
+    ensures { TellsText (telling O.Output reply.old reply.new)
         (reply_of (Ok (spec.note_lines (notes_left notes.entry)))) }
 {
-    tell_note_lines(reply, output, notes);
-    tell_ok(reply, output);
+    tell_note_lines(reply, notes);
+    tell_ok(reply);
 }
 
 /// Tells a line for each note, the first being number 0.
-fn tell_note_lines<O: Output>(reply: &mut Reply, output: &mut O, notes: Notes<'_>)
+fn tell_note_lines<O: Output>(reply: &mut Reply<'_, O>, notes: Notes<'_>)
     requires { length (notes_left notes) < 2 ^ 128 }
-    ensures { TellsText (telling O.Output output.old output.new reply.old reply.new) (spec.note_lines (notes_left notes.entry)) }
+    ensures { TellsText (telling O.Output reply.old reply.new) (spec.note_lines (notes_left notes.entry)) }
 {
     let mut rest = notes;
     let mut index: u128 = 0;
     while let Some(note) = rest.next() {
-        tell_note_line(reply, output, index, &note);
+        tell_note_line(reply, index, &note);
         index += 1;
     }
 }
 
-fn tell_note_line<O: Output>(reply: &mut Reply, output: &mut O, index: u128, note: &Note<'_>)
-    ensures { TellsText (telling O.Output output.old output.new reply.old reply.new) (spec.note_line index (note_view note.now)) }
+fn tell_note_line<O: Output>(reply: &mut Reply<'_, O>, index: u128, note: &Note<'_>)
+    ensures { TellsText (telling O.Output reply.old reply.new) (spec.note_line index (note_view note.now)) }
 {
-    tell_number(reply, output, index);
-    reply.tell_text(output, note.name);
-    reply.tell(output, b" ");
-    tell_address(reply, output, u64::from(note.kind));
-    reply.tell_decimal(output, note.desc.len() as u128);
-    reply.tell(output, b"\n");
+    tell_number(reply, index);
+    reply.tell_text(note.name);
+    reply.tell(b" ");
+    tell_address(reply, u64::from(note.kind));
+    reply.tell_decimal(note.desc.len() as u128);
+    reply.tell(b"\n");
 }

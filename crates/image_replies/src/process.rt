@@ -14,80 +14,80 @@ use script_streams::{Output, Reply, tell_no, tell_ok};
 
 /// Tells the state and the names of the process of a core, or the first that holds of: the core or a typed note is at
 /// fault, it has no NT_PRPSINFO (`no Missing`).
-pub fn tell_process<O: Output>(reply: &mut Reply, output: &mut O, image: &[u8])
-    ensures { TellsText (telling O.Output output.old output.new reply.old reply.new) (reply_of (spec.process_answer image.now)) }
+pub fn tell_process<O: Output>(reply: &mut Reply<'_, O>, image: &[u8])
+    ensures { TellsText (telling O.Output reply.old reply.new) (reply_of (spec.process_answer image.now)) }
 {
     match CoreImage::read(image) {
-        Ok(core) => tell_found(reply, output, core.notes().psinfo()),
-        Err(fault) => tell_core_fault(reply, output, fault),
+        Ok(core) => tell_found(reply, core.notes().psinfo()),
+        Err(fault) => tell_core_fault(reply, fault),
     }
 }
 
 /// Tells a process, if it is there.
-fn tell_found<O: Output>(reply: &mut Reply, output: &mut O, process: Option<PsInfo<'_>>)
-    ensures { TellsText (telling O.Output output.old output.new reply.old reply.new)
+fn tell_found<O: Output>(reply: &mut Reply<'_, O>, process: Option<PsInfo<'_>>)
+    ensures { TellsText (telling O.Output reply.old reply.new)
         (reply_of (if_there (option_map psinfo_bytes process.entry) spec.process_lines)) }
 {
     match process {
         Some(process) => {
-            tell_process_lines(reply, output, &process);
-            tell_ok(reply, output);
+            tell_process_lines(reply, &process);
+            tell_ok(reply);
         }
-        None => tell_no(reply, output, b"Missing"),
+        None => tell_no(reply, b"Missing"),
     }
 }
 
-fn tell_process_lines<O: Output>(reply: &mut Reply, output: &mut O, process: &PsInfo<'_>)
-    ensures { TellsText (telling O.Output output.old output.new reply.old reply.new) (spec.process_lines (psinfo_bytes process.now)) }
+fn tell_process_lines<O: Output>(reply: &mut Reply<'_, O>, process: &PsInfo<'_>)
+    ensures { TellsText (telling O.Output reply.old reply.new) (spec.process_lines (psinfo_bytes process.now)) }
 {
-    tell_numbers(reply, output, process);
-    tell_owner(reply, output, process);
-    tell_state(reply, output, process);
-    tell_names(reply, output, process);
+    tell_numbers(reply, process);
+    tell_owner(reply, process);
+    tell_state(reply, process);
+    tell_names(reply, process);
 }
 
-fn tell_numbers<O: Output>(reply: &mut Reply, output: &mut O, process: &PsInfo<'_>)
-    ensures { TellsText (telling O.Output output.old output.new reply.old reply.new) (spec.numbers_line (psinfo_bytes process.now)) }
+fn tell_numbers<O: Output>(reply: &mut Reply<'_, O>, process: &PsInfo<'_>)
+    ensures { TellsText (telling O.Output reply.old reply.new) (spec.numbers_line (psinfo_bytes process.now)) }
 {
-    tell_labelled(reply, output, b"pid ", process.pr_pid());
-    tell_labelled(reply, output, b" ppid ", process.pr_ppid());
-    tell_labelled(reply, output, b" pgrp ", process.pr_pgrp());
-    tell_labelled(reply, output, b" sid ", process.pr_sid());
-    reply.tell(output, b"\n");
+    tell_labelled(reply, b"pid ", process.pr_pid());
+    tell_labelled(reply, b" ppid ", process.pr_ppid());
+    tell_labelled(reply, b" pgrp ", process.pr_pgrp());
+    tell_labelled(reply, b" sid ", process.pr_sid());
+    reply.tell(b"\n");
 }
 
-fn tell_owner<O: Output>(reply: &mut Reply, output: &mut O, process: &PsInfo<'_>)
-    ensures { TellsText (telling O.Output output.old output.new reply.old reply.new) (spec.owner_line (psinfo_bytes process.now)) }
+fn tell_owner<O: Output>(reply: &mut Reply<'_, O>, process: &PsInfo<'_>)
+    ensures { TellsText (telling O.Output reply.old reply.new) (spec.owner_line (psinfo_bytes process.now)) }
 {
-    reply.tell(output, b"uid ");
-    reply.tell_decimal(output, u128::from(process.pr_uid()));
-    reply.tell(output, b" gid ");
-    reply.tell_decimal(output, u128::from(process.pr_gid()));
-    reply.tell(output, b"\n");
+    reply.tell(b"uid ");
+    reply.tell_decimal(u128::from(process.pr_uid()));
+    reply.tell(b" gid ");
+    reply.tell_decimal(u128::from(process.pr_gid()));
+    reply.tell(b"\n");
 }
 
-fn tell_state<O: Output>(reply: &mut Reply, output: &mut O, process: &PsInfo<'_>)
-    ensures { TellsText (telling O.Output output.old output.new reply.old reply.new) (spec.state_line (psinfo_bytes process.now)) }
+fn tell_state<O: Output>(reply: &mut Reply<'_, O>, process: &PsInfo<'_>)
+    ensures { TellsText (telling O.Output reply.old reply.new) (spec.state_line (psinfo_bytes process.now)) }
 {
-    reply.tell(output, b"state ");
-    reply.tell_decimal(output, u128::from(process.pr_state()));
-    reply.tell(output, b" ");
-    reply.tell_text(output, &[process.pr_sname()]);
-    reply.tell(output, b" zomb ");
-    reply.tell_decimal(output, u128::from(process.pr_zomb()));
-    tell_labelled(reply, output, b" nice ", i32::from(process.pr_nice()));
-    reply.tell(output, b" flag ");
-    reply.tell_hexadecimal(output, u128::from(process.pr_flag()));
-    reply.tell(output, b"\n");
+    reply.tell(b"state ");
+    reply.tell_decimal(u128::from(process.pr_state()));
+    reply.tell(b" ");
+    reply.tell_text(&[process.pr_sname()]);
+    reply.tell(b" zomb ");
+    reply.tell_decimal(u128::from(process.pr_zomb()));
+    tell_labelled(reply, b" nice ", i32::from(process.pr_nice()));
+    reply.tell(b" flag ");
+    reply.tell_hexadecimal(u128::from(process.pr_flag()));
+    reply.tell(b"\n");
 }
 
-fn tell_names<O: Output>(reply: &mut Reply, output: &mut O, process: &PsInfo<'_>)
-    ensures { TellsText (telling O.Output output.old output.new reply.old reply.new)
+fn tell_names<O: Output>(reply: &mut Reply<'_, O>, process: &PsInfo<'_>)
+    ensures { TellsText (telling O.Output reply.old reply.new)
         (spec.name_line (psinfo_bytes process.now) ++ spec.words_line (psinfo_bytes process.now)) }
 {
-    reply.tell(output, b"name ");
-    reply.tell_text(output, process.pr_fname());
-    reply.tell(output, b"\nargs ");
-    reply.tell_text(output, process.pr_psargs());
-    reply.tell(output, b"\n");
+    reply.tell(b"name ");
+    reply.tell_text(process.pr_fname());
+    reply.tell(b"\nargs ");
+    reply.tell_text(process.pr_psargs());
+    reply.tell(b"\n");
 }

@@ -18,12 +18,12 @@ use script_streams::{Output, Reply, tell_no, tell_ok};
 use thread_regs::{Reg, Thread, ThreadList, threads};
 
 /// Tells a line for each thread of a core, or the first fault of the core and its typed notes.
-pub fn tell_threads<O: Output>(reply: &mut Reply, output: &mut O, image: &[u8])
-    ensures { TellsText (telling O.Output output.old output.new reply.old reply.new) (reply_of (spec.threads_answer image.now)) }
+pub fn tell_threads<O: Output>(reply: &mut Reply<'_, O>, image: &[u8])
+    ensures { TellsText (telling O.Output reply.old reply.new) (reply_of (spec.threads_answer image.now)) }
 {
     match CoreImage::read(image) {
-        Ok(core) => tell_thread_list(reply, output, threads_of(&core)),
-        Err(fault) => tell_core_fault(reply, output, fault),
+        Ok(core) => tell_thread_list(reply, threads_of(&core)),
+        Err(fault) => tell_core_fault(reply, fault),
     }
 }
 
@@ -38,89 +38,84 @@ fn threads_of<'a>(core: &CoreImage<'a>) -> ThreadList<'a>
 }
 
 /// Tells the threads, and `ok`.
-fn tell_thread_list<O: Output>(reply: &mut Reply, output: &mut O, threads: ThreadList<'_>)
+fn tell_thread_list<O: Output>(reply: &mut Reply<'_, O>, threads: ThreadList<'_>)
     requires { length (threads_left threads) < 2 ^ 128 }
-    ensures { TellsText (telling O.Output output.old output.new reply.old reply.new)
+    ensures { TellsText (telling O.Output reply.old reply.new)
         (reply_of (Ok (spec.thread_lines (threads_left threads.entry)))) }
 {
-    tell_thread_lines(reply, output, threads);
-    tell_ok(reply, output);
+    tell_thread_lines(reply, threads);
+    tell_ok(reply);
 }
 
 /// Tells a line for each thread, the first being number 0.
-fn tell_thread_lines<O: Output>(reply: &mut Reply, output: &mut O, threads: ThreadList<'_>)
+fn tell_thread_lines<O: Output>(reply: &mut Reply<'_, O>, threads: ThreadList<'_>)
     requires { length (threads_left threads) < 2 ^ 128 }
-    ensures { TellsText (telling O.Output output.old output.new reply.old reply.new) (spec.thread_lines (threads_left threads.entry)) }
+    ensures { TellsText (telling O.Output reply.old reply.new) (spec.thread_lines (threads_left threads.entry)) }
 {
     let mut rest = threads;
     let mut index: u128 = 0;
     while let Some(thread) = rest.next() {
-        tell_thread_line(reply, output, index, &thread);
+        tell_thread_line(reply, index, &thread);
         index += 1;
     }
 }
 
-fn tell_thread_line<O: Output>(reply: &mut Reply, output: &mut O, index: u128, thread: &Thread<'_>)
-    ensures { TellsText (telling O.Output output.old output.new reply.old reply.new)
+fn tell_thread_line<O: Output>(reply: &mut Reply<'_, O>, index: u128, thread: &Thread<'_>)
+    ensures { TellsText (telling O.Output reply.old reply.new)
         (spec.thread_line index (thread_bytes thread.now)) }
 {
-    tell_number(reply, output, index);
-    reply.tell_signed(output, i64::from(thread.tid()));
-    reply.tell(output, b" ");
-    reply.tell_signed(output, i64::from(thread.signal()));
-    reply.tell(output, b" ");
-    reply.tell_hexadecimal(output, u128::from(word_of(thread, 0)));
-    reply.tell(output, b"\n");
+    tell_number(reply, index);
+    reply.tell_signed(i64::from(thread.tid()));
+    reply.tell(b" ");
+    reply.tell_signed(i64::from(thread.signal()));
+    reply.tell(b" ");
+    reply.tell_hexadecimal(u128::from(word_of(thread, 0)));
+    reply.tell(b"\n");
 }
 
 /// Tells the registers of a thread of a core, or the first that holds of: the core or a typed note is at fault, there are
 /// fewer threads (`no NoThread`).
-pub fn tell_regs<O: Output>(reply: &mut Reply, output: &mut O, image: &[u8], thread: u64)
-    ensures { TellsText (telling O.Output output.old output.new reply.old reply.new) (reply_of (spec.regs_answer image.now thread)) }
+pub fn tell_regs<O: Output>(reply: &mut Reply<'_, O>, image: &[u8], thread: u64)
+    ensures { TellsText (telling O.Output reply.old reply.new) (reply_of (spec.regs_answer image.now thread)) }
 {
     match CoreImage::read(image) {
-        Ok(core) => tell_registers_of(reply, output, threads_of(&core).thread(thread)),
-        Err(fault) => tell_core_fault(reply, output, fault),
+        Ok(core) => tell_registers_of(reply, threads_of(&core).thread(thread)),
+        Err(fault) => tell_core_fault(reply, fault),
     }
 }
 
 /// Tells the registers of a thread, if it is there.
-fn tell_registers_of<O: Output>(reply: &mut Reply, output: &mut O, thread: Option<Thread<'_>>)
-    ensures { TellsText (telling O.Output output.old output.new reply.old reply.new)
+fn tell_registers_of<O: Output>(reply: &mut Reply<'_, O>, thread: Option<Thread<'_>>)
+    ensures { TellsText (telling O.Output reply.old reply.new)
         (reply_of (spec.registers_of (option_map thread_bytes thread.entry))) }
 {
     match thread {
         Some(thread) => {
-            tell_register_lines(reply, output, &thread);
-            tell_ok(reply, output);
+            tell_register_lines(reply, &thread);
+            tell_ok(reply);
         }
-        None => tell_no(reply, output, b"NoThread"),
+        None => tell_no(reply, b"NoThread"),
     }
 }
 
 /// Tells a line for each word of a thread's registers.
-fn tell_register_lines<O: Output>(reply: &mut Reply, output: &mut O, thread: &Thread<'_>)
-    ensures { TellsText (telling O.Output output.old output.new reply.old reply.new) (spec.register_lines (thread_bytes thread.now)) }
+fn tell_register_lines<O: Output>(reply: &mut Reply<'_, O>, thread: &Thread<'_>)
+    ensures { TellsText (telling O.Output reply.old reply.new) (spec.register_lines (thread_bytes thread.now)) }
 {
     for word in 0..32 {
-        tell_register_line(reply, output, thread, word);
+        tell_register_line(reply, thread, word);
     }
 }
 
-fn tell_register_line<O: Output>(
-    reply: &mut Reply,
-    output: &mut O,
-    thread: &Thread<'_>,
-    word: usize,
-)
+fn tell_register_line<O: Output>(reply: &mut Reply<'_, O>, thread: &Thread<'_>, word: usize)
     requires { word < 32 }
-    ensures { TellsText (telling O.Output output.old output.new reply.old reply.new)
+    ensures { TellsText (telling O.Output reply.old reply.new)
         (spec.register_line (thread_bytes thread.now) word) }
 {
-    reply.tell(output, register_name(word).as_bytes());
-    reply.tell(output, b" ");
-    reply.tell_hexadecimal(output, u128::from(word_of(thread, word)));
-    reply.tell(output, b"\n");
+    reply.tell(register_name(word).as_bytes());
+    reply.tell(b" ");
+    reply.tell_hexadecimal(u128::from(word_of(thread, word)));
+    reply.tell(b"\n");
 }
 
 /// The name in the psABI of the register that a word of a thread's state holds.

@@ -60,7 +60,7 @@ told_as_disk NumbersSpent is = reason_apart NumbersSpent refl is
 told_as_disk OutOfMemory is = reason_apart OutOfMemory refl is
 told_as_disk OldVersion is = reason_apart OldVersion refl is
 
-end_told : (r : Result ℕ ArchiveFault) → end_reply r ≡ no_reply (codes "Disk") → IsDiskFault r
+pub end_told : (r : Result ℕ ArchiveFault) → end_reply r ≡ no_reply (codes "Disk") → IsDiskFault r
 end_told (Ok seq) is = absurd (first_apart (end_reply (Ok seq)) refl is)
 end_told (Err f) is = told_as_disk f is
 

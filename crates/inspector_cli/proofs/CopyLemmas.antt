@@ -15,10 +15,9 @@ use Rattle.intake.specs.QuietLaws.{quiet_none, quiet_then}
 use Rattle.intake.specs.Ranges.{bytes_in}
 use Rattle.intake.specs.declared.ranges.ByteRange.{ByteRange}
 use Rattle.script_streams.specs.Replies.{Telling}
-use Rattle.script_streams.specs.Telling.{IsDelivered}
+use Rattle.script_streams.specs.Telling.{Sink, IsDelivered}
 use Rattle.script_streams.specs.declared.streams.StreamFault.{StreamFault}
 use Rattle.script_streams.specs.TellLaws.{tells_nothing, tells_then}
-use Rattle.script_streams.specs.declared.reply.Reply.{Reply}
 use Rattle.intake.specs.Calls.{OpenCall}
 use Rattle.intake.specs.Durable.{durable_of}
 use Rattle.intake.specs.Parts.{Parts}
@@ -35,8 +34,8 @@ front_then (Ok u) a b x y same is = ap (λ l. l ++ b) same ∙ ap (λ l. x ++ l)
 front_then (Err f) a b x y same is = (is.0, append_assoc a b is.0 ∙ ap (λ l. l ++ (b ++ is.0)) same ∙ ap (λ l. x ++ l) is.1)
 
 -- an output before and after
-abbrev pub tells_from : Option (List ℕ) → Option (List ℕ) → ℕ → ℕ → Reply → Reply → Telling
-tells_from a b f f' x y = record { taken = a; taken' = b; failures = f; failures' = f'; reply = x; reply' = y }
+abbrev pub tells_from : Sink → Sink → Telling
+tells_from a b = record { before = a; after = b }
 
 abbrev is_given : {A B : Type 0} → Result A B → Bool
 is_given (Ok x) = true
@@ -71,12 +70,12 @@ module _ {D : Type 0} (g : disk.Ghosts D) where
   }
 
   -- nothing was told yet
-  pub copies_none : (d : D) (taken : Option (List ℕ)) (failures : ℕ) (reply : Reply) → ((c : List ℕ) → g.left_since d (g.clock d) c → g.may_leave d c)
+  pub copies_none : (d : D) (a : Sink) → ((c : List ℕ) → g.left_since d (g.clock d) c → g.may_leave d c)
       → (whole : List ℕ → List ℕ) → ((b : List ℕ) → [] ≡ whole b)
-      → Copies g d d (tells_from taken taken failures failures reply reply) whole (Ok tt)
-  copies_none d taken failures reply only whole none = record {
+      → Copies g d d (tells_from a a) whole (Ok tt)
+  copies_none d a only whole none = record {
     text = [];
-    told = tells_nothing taken failures reply;
+    told = tells_nothing;
     front = λ honest. none (g.seen d);
     quiet = quiet_none g d only;
     later = omega arith;
@@ -85,12 +84,12 @@ module _ {D : Type 0} (g : disk.Ghosts D) where
   }
 
   -- one text behind another
-  pub copies_then : (old mid new : D) (a b c : Option (List ℕ)) (f f' f'' : ℕ) (x y z : Reply) (first second : List ℕ → List ℕ) (r : Result (Unit {0}) Halt)
-      → Copies g old mid (tells_from a b f f' x y) first (Ok tt) → Copies g mid new (tells_from b c f' f'' y z) second r
-      → Copies g old new (tells_from a c f f'' x z) (λ (bytes : List ℕ). first bytes ++ second bytes) r
-  copies_then old mid new a b c f f' f'' x y z first second r so_far more = record {
+  pub copies_then : (old mid new : D) (a b c : Sink) (first second : List ℕ → List ℕ) (r : Result (Unit {0}) Halt)
+      → Copies g old mid (tells_from a b) first (Ok tt) → Copies g mid new (tells_from b c) second r
+      → Copies g old new (tells_from a c) (λ (bytes : List ℕ). first bytes ++ second bytes) r
+  copies_then old mid new a b c first second r so_far more = record {
     text = so_far.text ++ more.text;
-    told = tells_then a b c f f' f'' x y z so_far.text more.text so_far.told more.told;
+    told = tells_then so_far.told more.told;
     front = λ honest.
         let still : IsTrue (g.is_honest mid) = subst IsTrue (sym so_far.quiet.honesty) honest in
         front_then r so_far.text more.text (first (g.seen old)) (second (g.seen old)) (so_far.front honest)

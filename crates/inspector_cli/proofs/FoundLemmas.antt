@@ -43,12 +43,12 @@ some_is {X = X} x y is = ap (λ o. get o) is
 
 module _ {D : Type 0} (g : disk.Ghosts D) (naming : Naming) where
   -- how things stand behind answers: honest, nothing is in doubt unless the archive is stopped, and what the stream in a slot holds
-  record Stands (slot : ℕ) (s : Stage D) (held : Option (List ℕ)) : Type 0 where
-    honest : IsTrue (g.is_honest s.archive.disk)
-    clear : IsClear s
-    has : IsHeld g slot s.archive held
+  pub record Stands (slot : ℕ) (s : Stage D) (held : Option (List ℕ)) : Type 0 where
+    pub honest : IsTrue (g.is_honest s.archive.disk)
+    pub clear : IsClear s
+    pub has : IsHeld g slot s.archive held
 
-  answer_stands : (slot : ℕ) (old new : Stage D) (a : Answer) (held : Option (List ℕ)) → Stands slot old held → Replies g naming old.archive (what_of a) a.item.raw a.reply new.archive → Moves g old (what_of a) a.reply new
+  pub answer_stands : (slot : ℕ) (old new : Stage D) (a : Answer) (held : Option (List ℕ)) → Stands slot old held → Replies g naming old.archive (what_of a) a.item.raw a.reply new.archive → Moves g old (what_of a) a.reply new
       → Stands slot new (held_then slot (what_of a) a.item.raw (is_no a.reply) held)
   answer_stands slot old new a held stands replies moves =
       let halts = line_halts g naming old.archive new.archive (what_of a) a.item.raw a.reply replies in
@@ -58,7 +58,7 @@ module _ {D : Type 0} (g : disk.Ghosts D) (naming : Naming) where
         has = then_held g slot naming old.archive new.archive (what_of a) a.item.raw a.reply held stands.honest halts.0 replies stands.has;
       }
 
-  answers_stand : (slot : ℕ) (old : Stage D) (list : List Answer) (ss : List (Stage D)) (held : Option (List ℕ)) → Stands slot old held → Answers g naming old list ss → Stands slot (last_stage old ss) (held_behind slot held list)
+  pub answers_stand : (slot : ℕ) (old : Stage D) (list : List Answer) (ss : List (Stage D)) (held : Option (List ℕ)) → Stands slot old held → Answers g naming old list ss → Stands slot (last_stage old ss) (held_behind slot held list)
   answers_stand slot old [] [] held stands answers = stands
   answers_stand slot old [] (s ∷ ss) held stands answers = absurd answers
   answers_stand slot old (a ∷ list) [] held stands answers = absurd answers

@@ -19,3 +19,6 @@ pub mod FoundLemmas
 pub mod MemoryLemmas
 pub mod CopyLemmas
 pub mod RoomMadeLemmas
+pub mod HeadlineLemmas
+pub mod SafeLemmas
+pub mod StoreHeadLemmas

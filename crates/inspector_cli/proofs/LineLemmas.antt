@@ -5,8 +5,7 @@ use Rattle.intake.specs.Parts.{Parts}
 use Rattle.script_streams.specs.Lines.{IsLine}
 use Rattle.script_streams.specs.Reading.{Gives, Stops}
 use Rattle.failure_count.specs.Counts.{HasRisen}
-use Rattle.script_streams.specs.Telling.{Tells}
-use Rattle.script_streams.specs.declared.reply.Reply.{Reply}
+use Rattle.script_streams.specs.Telling.{Sink, Tells}
 use Rattle.script_streams.specs.declared.reader.ScriptBuffer.{ScriptBuffer}
 use Rattle.script_streams.specs.declared.reader.ReadStop.{ReadStop}
 use Rattle.script_streams.specs.declared.reader.ReadStop.TheVariants.{ReadFailed, TooManyReads}
@@ -86,12 +85,12 @@ module _ {D : Type 0} (g : disk.Ghosts D) where
     line_answered (Err stop) p = (line ++ 10 ∷ p.0, with_raw p.0 p.2, p.3, inr (line, p.0, refl, one, p.1, p.4), p.5)
 
 -- a part that is answered behind nothing more told
-pub told_before : {D : Type 0} (g : disk.Ghosts D) (naming : Naming) (o p q : Option (List ℕ)) (f i h : ℕ) (u v w : Reply) (r : Reading) (old new : Parts D) (what : Said) (answer : Result Bool ReadStop) → Tells o p f i u v []
-    → PartAnswers g naming r (record { taken = p; taken' = q; failures = i; failures' = h; reply = v; reply' = w }) old what new answer
-    → PartAnswers g naming r (record { taken = o; taken' = q; failures = f; failures' = h; reply = u; reply' = w }) old what new answer
-told_before g naming o p q f i h u v w r old new what (Ok true) first a = (a.0, a.1, a.2, (a.3.0, a.3.1, tells_then o p q f i h u v w [] a.3.0 first a.3.2))
-told_before g naming o p q f i h u v w r old new what (Ok false) first a = (a.0, a.1, a.2, a.3, a.4, a.5, tells_then o p q f i h u v w [] a.4 first a.6)
-told_before g naming o p q f i h u v w r old new what (Err stop) first a = (a.0, a.1, a.2, a.3, a.4, tells_then o p q f i h u v w [] [] first a.5)
+pub told_before : {D : Type 0} (g : disk.Ghosts D) (naming : Naming) (o p q : Sink) (r : Reading) (old new : Parts D) (what : Said) (answer : Result Bool ReadStop) → Tells o p []
+    → PartAnswers g naming r (record { before = p; after = q }) old what new answer
+    → PartAnswers g naming r (record { before = o; after = q }) old what new answer
+told_before g naming o p q r old new what (Ok true) first a = (a.0, a.1, a.2, (a.3.0, a.3.1, tells_then first a.3.2))
+told_before g naming o p q r old new what (Ok false) first a = (a.0, a.1, a.2, a.3, a.4, a.5, tells_then first a.6)
+told_before g naming o p q r old new what (Err stop) first a = (a.0, a.1, a.2, a.3, a.4, tells_then first a.5)
 
 -- why a script was not read on, told of the script
 pub halts_as : (before mid after : ℕ) (buffer : ScriptBuffer) (stop : ReadStop) → mid ≡ before → Stops {T = Bool} mid after buffer (Err stop) → Halts {T = Bool} before after buffer (Err (Read stop))

@@ -1,12 +1,11 @@
 -- Room is made for a stream that begins then, and for no other.
 use Rattle.std.proofs.Common.{◌≡◌, ◌⊎◌, inl, inr, ⊎_elim, ℕ, Bool, true, false, ◌||◌, List, [], Option, Some, None, Result, Ok, Err, is_ok, refl, sym, ap, ◌∙◌, replicate, arith, subst, map, length}
-use Rattle.std.proofs.lemmas.Bool.{true≢false, false≢true}
+use Rattle.std.proofs.lemmas.Bool.{true≢false}
 use Rattle.std.specs.List.{list_any}
 use Rattle.std.specs.Prelude.{codes, option_map, IfOk}
 use Rattle.disk_model.specs.declared.disk.Disk as disk
 use Rattle.archive_replies.specs.Texts.{begin_reply}
 use Rattle.intake.specs.Calls.{BeginCall}
-use Rattle.intake.specs.Opened.{IsOpened}
 use Rattle.intake.specs.Parts.{Parts, state_of, stream_facts}
 use Rattle.intake.specs.Slots.{stream_at}
 use Rattle.intake.specs.State.{ArchiveState, StreamFacts}
@@ -15,10 +14,9 @@ use Rattle.intake.specs.declared.faults.ArchiveFault.{ArchiveFault}
 use Rattle.intake.specs.declared.faults.ArchiveFault.TheVariants as fault
 use Rattle.retention.specs.declared.Decision.{Decision}
 use Rattle.retention.specs.declared.Policy.{Policy}
-use Rattle.script_lines.specs.Said.{said}
 use Rattle.script_streams.specs.Replies.{no_reply}
 use Rattle.inspector_cli.specs.Reply.{Begins}
-use Rattle.inspector_cli.specs.Storing.{CannotBegin, IsChosen, MakesRoom, MakesRoomFor, MakesRoomNamed, MayBeginNow, RoomIsForAStream, RoomIsLeftOutForARefusal, Stores, first_stream, policy_before}
+use Rattle.inspector_cli.specs.Storing.{CannotBegin, IsChosen, MakesRoom, MakesRoomFor, MakesRoomNamed, MayBeginNow, NoRoomIsMadeUnasked, RoomIsForAStream, RoomIsLeftOutForARefusal}
 
 -- a retirement that is done leaves the streams
 retired_streams : (old new : ArchiveState) (policy : Policy) (r : Result Decision ArchiveFault) → RetireStep old policy r new → true ≡ is_ok r → new.streams ≡ old.streams
@@ -118,8 +116,8 @@ module _ {D : Type 0} (g : disk.Ghosts D) where
       inr (begins_then room mid found first accepted (made_streams old room m.policy told made m.makes_room done ∙ none) (m.needed policy is done) begins)
 
   pub room_is_for_a_stream : RoomIsForAStream g
-  room_is_for_a_stream naming file file' fails fails' old before line replies end outcome limit opened s done =
-      room_begun old s.room s.stores.mid (policy_before before) (first_stream naming (said line)) s.told s.stores.first outcome.made_room s.stores.accepted s.makes_room s.makes_room.policy refl
+  room_is_for_a_stream file file' fails fails' old asked found label replies end outcome limit opened s done =
+      room_begun old s.room s.stores.mid asked found s.told s.stores.first outcome.made_room s.stores.accepted s.makes_room s.makes_room.policy refl
       (ap (λ xs. map (option_map stream_facts) xs) opened.streams) done s.stores.begins
 
   left_out : (old room mid : Parts D) (asked : Option Policy) (policy : Policy) (found : Result StreamFacts (List ℕ)) (told first : List ℕ) (made accepted : Bool) (m : MakesRoomFor g old asked found told room made) (chosen : Option Policy) → m.policy ≡ chosen
@@ -135,5 +133,15 @@ module _ {D : Type 0} (g : disk.Ghosts D) where
       inl (sym (subst (IsChosen (state_of old) asked found) is m.chosen) ∙ wanted)
 
   pub room_is_left_out : RoomIsLeftOutForARefusal g
-  room_is_left_out naming file file' fails fails' old before line replies end outcome policy wanted s =
-      left_out old s.room s.stores.mid (policy_before before) policy (first_stream naming (said line)) s.told s.stores.first outcome.made_room s.stores.accepted s.makes_room s.makes_room.policy refl wanted s.stores.begins
+  room_is_left_out file file' fails fails' old asked found label replies end outcome policy wanted s =
+      left_out old s.room s.stores.mid asked policy found s.told s.stores.first outcome.made_room s.stores.accepted s.makes_room s.makes_room.policy refl wanted s.stores.begins
+
+  -- where no room is asked for, none is made
+  not_chosen : (s : ArchiveState) (found : Result StreamFacts (List ℕ)) (policy : Option Policy) → IsChosen s None found policy → policy ≡ None
+  not_chosen s found None chosen = refl
+  not_chosen s found (Some policy) chosen = absurd (cc)
+
+  pub no_room_unasked : NoRoomIsMadeUnasked g
+  no_room_unasked file file' fails fails' old found label replies end outcome s =
+      let none = not_chosen (state_of old) found s.makes_room.policy s.makes_room.chosen in
+      subst (λ (p : Option Policy). MakesRoom g old p s.told s.room outcome.made_room) none s.makes_room.makes_room

@@ -5,10 +5,9 @@ use Rattle.std.specs.List.{flat_map, AllByRecursion}
 use Rattle.disk_model.specs.declared.disk.Disk as disk
 use Rattle.intake.specs.Parts.{Parts}
 use Rattle.script_streams.specs.Reading.{Gives}
-use Rattle.script_streams.specs.Telling.{Tells}
+use Rattle.script_streams.specs.Telling.{Sink}
 use Rattle.script_streams.specs.declared.reader.ScriptBuffer.{ScriptBuffer}
 use Rattle.script_streams.specs.declared.reader.ReadStop.{ReadStop}
-use Rattle.script_streams.specs.declared.reply.Reply.{Reply}
 use Rattle.intake.specs.StayLaws.{stays_as}
 use Rattle.inspector_cli.specs.declared.script.ScriptStop.{ScriptStop}
 use Rattle.inspector_cli.specs.declared.script.ScriptStop.TheVariants.{Read, Unheard}
@@ -16,7 +15,7 @@ use Rattle.stream_names.specs.declared.naming.Naming.{Naming}
 use Rattle.script_lines.specs.Said.{said, silence}
 use Rattle.inspector_cli.specs.Stages.{Stage}
 use Rattle.inspector_cli.specs.Session.{Item, IsItem, spelled, AnswersItems, last_stage, ending_text}
-use Rattle.script_streams.specs.Replies.{Telling}
+use Rattle.script_streams.specs.Replies.{Telling, TellsText}
 use Rattle.inspector_cli.specs.Answering.{Reading, CommandEnds, ScriptEnds}
 use Rattle.inspector_cli.proofs.GiveLemmas.{gives_nothing, gives_then, gives_as}
 use Rattle.inspector_cli.proofs.StageLemmas.{Laws, stage_of, line_moves, end_moves, still, broken_stays, run_then, last_then}
@@ -34,27 +33,27 @@ text_then (j ∷ js) i = append_assoc (spelled j) (flat_map spelled js) (spelled
 abbrev pub Along : {D : Type 0} → disk.Ghosts D → Naming → Reading → Telling → Stage D → Parts D → Bool → Type 0
 Along {D} g naming r t old new true =
     (items : List Item) × (out : List ℕ) × (stages : List (Stage D)) × AllByRecursion IsItem items × Gives r.before r.after r.buffer r.buffer' (flat_map spelled items)
-    × AnswersItems g naming old items out stages × ((last_stage old stages).archive ≡ new) × Tells t.taken t.taken' t.failures t.failures' t.reply t.reply' out
+    × AnswersItems g naming old items out stages × ((last_stage old stages).archive ≡ new) × TellsText t out
 Along g naming r t old new false = ScriptEnds g naming r t old new (Ok tt)
 
 module _ {D : Type 0} (g : disk.Ghosts D) where
-  pub begun : (naming : Naming) (a : Option (List ℕ)) (b : ScriptBuffer) (o : Option (List ℕ)) (f : ℕ) (reply : Reply) (s : Stage D)
-      → Along g naming (record { before = a; after = a; buffer = b; buffer' = b }) (record { taken = o; taken' = o; failures = f; failures' = f; reply = reply; reply' = reply }) s s.archive true
-  begun naming a b o f reply s = ([], [], [], tt, gives_nothing a b, refl, refl, tells_nothing o f reply)
+  pub begun : (naming : Naming) (a : Option (List ℕ)) (b : ScriptBuffer) (o : Sink) (s : Stage D)
+      → Along g naming (record { before = a; after = a; buffer = b; buffer' = b }) (record { before = o; after = o }) s s.archive true
+  begun naming a b o s = ([], [], [], tt, gives_nothing a b, refl, refl, tells_nothing)
 
-  module _ (laws : Laws g) (naming : Naming) (a b c : Option (List ℕ)) (x y z : ScriptBuffer) (o p q : Option (List ℕ)) (f i h : ℕ) (u v w : Reply) (old : Stage D) (mid new : Parts D)
-      (so_far : Along g naming (record { before = a; after = b; buffer = x; buffer' = y }) (record { taken = o; taken' = p; failures = f; failures' = i; reply = u; reply' = v }) old mid true) where
+  module _ (laws : Laws g) (naming : Naming) (a b c : Option (List ℕ)) (x y z : ScriptBuffer) (o p q : Sink) (old : Stage D) (mid new : Parts D)
+      (so_far : Along g naming (record { before = a; after = b; buffer = x; buffer' = y }) (record { before = o; after = p }) old mid true) where
     abbrev next_reading : Reading
     next_reading = record { before = b; after = c; buffer = y; buffer' = z }
 
     abbrev next_telling : Telling
-    next_telling = record { taken = p; taken' = q; failures = i; failures' = h; reply = v; reply' = w }
+    next_telling = record { before = p; after = q }
 
     abbrev all_reading : Reading
     all_reading = record { before = a; after = c; buffer = x; buffer' = z }
 
     abbrev all_telling : Telling
-    all_telling = record { taken = o; taken' = q; failures = f; failures' = h; reply = u; reply' = w }
+    all_telling = record { before = o; after = q }
 
     -- where the commands so far have led
     abbrev here : Stage D
@@ -75,7 +74,7 @@ module _ {D : Type 0} (g : disk.Ghosts D) where
               (gives_then a b c x y z (flat_map spelled so_far.0) (spelled e.0) so_far.4 e.2),
           run_then g naming old so_far.0 so_far.1 so_far.2 e.0 e.3.0 s so_far.5 e.3.1 m.1,
           ap (λ (t : Stage D). t.archive) (last_then g old s so_far.2),
-          tells_then o p q f i h u v w so_far.1 e.3.0 so_far.7 e.3.2,
+          tells_then so_far.7 e.3.2,
         )
 
     script_answered : CommandEnds g naming next_reading next_telling here.archive new (Ok false) → Along g naming all_reading all_telling old new false
@@ -101,7 +100,7 @@ module _ {D : Type 0} (g : disk.Ghosts D) where
             text = refl;
           },
           refl,
-          tells_then o p q f i h u v w so_far.1 e.4 so_far.7 e.6,
+          tells_then so_far.7 e.6,
         )
 
     pub goes_along : (more : Bool) → CommandEnds g naming next_reading next_telling mid new (Ok more) → Along g naming all_reading all_telling old new more
@@ -127,7 +126,7 @@ module _ {D : Type 0} (g : disk.Ghosts D) where
             moves = m.1;
           },
           refl,
-          tells_then o p q f i h u v w so_far.1 [] so_far.7 e.4,
+          tells_then so_far.7 e.4,
         )
 
     unheard_here : CommandEnds g naming next_reading next_telling here.archive new (Err Unheard) → ScriptEnds g naming all_reading all_telling old new (Err Unheard)
@@ -151,7 +150,7 @@ module _ {D : Type 0} (g : disk.Ghosts D) where
           refl,
           refl,
           e.3,
-          tells_then o p q f i h u v w so_far.1 [] so_far.7 e.4,
+          tells_then so_far.7 e.4,
         )
 
     pub stops_along : (stop : ScriptStop) → CommandEnds g naming next_reading next_telling mid new (Err stop) → ScriptEnds g naming all_reading all_telling old new (Err stop)

@@ -8,10 +8,9 @@ use Rattle.intake.specs.Marks.{FoundAfterAStop}
 use Rattle.intake.specs.Parts.{Parts}
 use Rattle.failure_count.specs.Counts.{HasRisen}
 use Rattle.script_streams.specs.Reading.{Gives, held_bytes, reads_made}
-use Rattle.script_streams.specs.Telling.{Told, IsDelivered, has_failed}
+use Rattle.script_streams.specs.Telling.{Sink, Told, IsDelivered}
 use Rattle.script_streams.specs.declared.reader.ScriptBuffer.{ScriptBuffer}
 use Rattle.script_streams.specs.declared.reader.ReadStop.TheVariants as stop
-use Rattle.script_streams.specs.declared.reply.Reply.{Reply}
 use Rattle.script_streams.specs.declared.streams.StreamFault.{StreamFault}
 use Rattle.inspector_cli.specs.declared.script.ScriptStop.{ScriptStop}
 use Rattle.inspector_cli.specs.declared.script.ScriptStop.TheVariants.{Read, Unheard}
@@ -35,20 +34,20 @@ counted : (a b : Option (List ℕ)) (old new : ScriptBuffer) (given : List ℕ) 
 counted a b old new given empty up none most gives =
     let e = ap length (same_bytes a b old new given empty up gives) in let n = gives.counted in omega (arith, e, n, none, most)
 
-module _ {D : Type 0} (g : disk.Ghosts D) (laws : Laws g) (law : FoundAfterAStop g) (naming : Naming) (a b : Option (List ℕ)) (x y : ScriptBuffer) (fails fails' : ℕ) (o p q : Option (List ℕ)) (f i h : ℕ) (u v : Reply)
-    (old : Stage D) (mid new : Parts D) (empty : held_bytes x ≡ []) (unread : reads_made x ≡ 0) (begun : Told o f o f u []) (closes : DropsStreams g mid new) where
+module _ {D : Type 0} (g : disk.Ghosts D) (laws : Laws g) (law : FoundAfterAStop g) (naming : Naming) (a b : Option (List ℕ)) (x y : ScriptBuffer) (fails fails' : ℕ) (start : Option (List ℕ)) (count name : ℕ) (o p : Sink) (q : Option (List ℕ)) (h : ℕ)
+    (old : Stage D) (mid new : Parts D) (empty : held_bytes x ≡ []) (unread : reads_made x ≡ 0) (begun : Told start count name o []) (closes : DropsStreams g mid new) where
   abbrev pub reading : Reading
   reading = record { before = a; after = b; buffer = x; buffer' = y }
 
   abbrev pub telling : Telling
-  telling = record { taken = o; taken' = p; failures = f; failures' = i; reply = u; reply' = v }
+  telling = record { before = o; after = p }
 
   abbrev pub streams : Streams
-  streams = record { input = a; input' = b; fails = fails; fails' = fails'; taken = o; taken' = q; lost = f; lost' = h }
+  streams = record { input = a; input' = b; fails = fails; fails' = fails'; taken = start; taken' = q; lost = count; lost' = h }
 
   -- what the output was told, it took, or a front of it
   abbrev pub Delivers : Result (Unit {0}) StreamFault → Type 0
-  Delivers r = (start : Option (List ℕ)) (count : ℕ) (told : List ℕ) → Told start count p i v told → IsDelivered start count q h told r
+  Delivers r = (told : List ℕ) → Told start count name p told → IsDelivered start count q h told r
 
   closes_from : (end : Stage D) → end.archive ≡ mid → DropsStreams g end.archive new
   closes_from end is = subst (λ (m : Parts D). DropsStreams g m new) (sym is) closes
@@ -69,7 +68,7 @@ module _ {D : Type 0} (g : disk.Ghosts D) (laws : Laws g) (law : FoundAfterAStop
     e.3,
     consumed a b x y e.0 empty e.5.1 e.4,
     e.5.0,
-    d o f e.1 (e.8 o f [] begun),
+    d e.1 (e.8 start count name [] begun),
     e.6,
     closes_from e.3 e.7,
     all_found e.0 e.1 e.2 e.3 e.7 e.6,
@@ -82,7 +81,7 @@ module _ {D : Type 0} (g : disk.Ghosts D) (laws : Laws g) (law : FoundAfterAStop
     e.2,
     e.3,
     consumed a b x y e.0 empty e.5 e.4,
-    d o f e.1 (e.8 o f [] begun),
+    d e.1 (e.8 start count name [] begun),
     e.6,
     closes_from e.3 e.7,
     whole_found e.0 e.1 e.2 e.3 e.7 e.6,
@@ -97,7 +96,7 @@ module _ {D : Type 0} (g : disk.Ghosts D) (laws : Laws g) (law : FoundAfterAStop
     e.2,
     e.3,
     consumed a b x y e.0 empty e.5 e.4,
-    d o f e.1 (e.8 o f [] begun),
+    d e.1 (e.8 start count name [] begun),
     e.6,
     closes_from e.3 e.7,
     whole_found e.0 e.1 e.2 e.3 e.7 e.6,
@@ -111,7 +110,7 @@ module _ {D : Type 0} (g : disk.Ghosts D) (laws : Laws g) (law : FoundAfterAStop
 
   pub write_failed : (fault : StreamFault) (r : Result (Unit {0}) ScriptStop) → ScriptEnds g naming reading telling old mid r → Delivers (Err fault) → SessionEnds g naming streams old new (Err WriteFailed)
   write_failed fault (Ok s) e d =
-      let t = d o f e.1 (e.8 o f [] begun) in (
+      let t = d e.1 (e.8 start count name [] begun) in (
         e.0,
         [],
         t.0,
@@ -126,7 +125,7 @@ module _ {D : Type 0} (g : disk.Ghosts D) (laws : Laws g) (law : FoundAfterAStop
         t.4,
       )
   write_failed fault (Err (Read s)) e d =
-      let t = d o f e.1 (e.8 o f [] begun) in (
+      let t = d e.1 (e.8 start count name [] begun) in (
         e.0,
         [],
         t.0,
@@ -141,7 +140,7 @@ module _ {D : Type 0} (g : disk.Ghosts D) (laws : Laws g) (law : FoundAfterAStop
         t.4,
       )
   write_failed fault (Err Unheard) e d =
-      let t = d o f e.2 (e.10 o f [] begun) in (
+      let t = d e.2 (e.10 start count name [] begun) in (
         e.0,
         e.1 ++ held_bytes y,
         t.0,
@@ -161,7 +160,7 @@ module _ {D : Type 0} (g : disk.Ghosts D) (laws : Laws g) (law : FoundAfterAStop
       front_as read out text stages end is w none =
           subst (λ (z : List ℕ). (v : AnswersWhole g naming read z old stages end) × ((e.1 ++ held_bytes y ≡ []) ⊎ (v.rest ≡ []))) is (w, inr none)
 
-  pub read_stopped : (s : Unit {0}) (why : ScriptStop) → has_failed v ≡ false → ScriptEnds g naming reading telling old mid (Err why) → Delivers (Ok s) → Halts {T = Unit {0}} fails fails' y (Err why)
+  pub read_stopped : (s : Unit {0}) (why : ScriptStop) → p.unwritten.failed ≡ false → ScriptEnds g naming reading telling old mid (Err why) → Delivers (Ok s) → Halts {T = Unit {0}} fails fails' y (Err why)
       → SessionEnds g naming streams old new (Err (session_fault why))
   read_stopped s (Read stop.ReadFailed) running e d stops = read_failed s e d stops
   read_stopped s (Read stop.TooManyReads) running e d stops = too_many s e d stops.1

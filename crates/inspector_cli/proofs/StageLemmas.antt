@@ -1,5 +1,5 @@
 -- A line leads from stage to stage.
-use Rattle.std.proofs.Common.{◌≡◌, ◌⊎◌, inl, inr, ⊎_elim, ℕ, zero, suc, Bool, List, [], ◌∷◌, ◌++◌, Result, Ok, Err, refl, sym, ap, ◌∙◌, append_assoc}
+use Rattle.std.proofs.Common.{◌≡◌, ◌⊎◌, inl, inr, ⊎_elim, ℕ, zero, suc, Bool, List, [], ◌∷◌, ◌++◌, Option, Result, Ok, Err, refl, sym, ap, ◌∙◌, append_assoc}
 use Rattle.std.proofs.lemmas.List.{append-nil}
 use Rattle.std.specs.List.{AllByRecursion}
 use Rattle.std.specs.Prelude.{codes}
@@ -13,10 +13,11 @@ use Rattle.intake.specs.Marks.{Passes, IsRunOfMarks, LeadsToMark, doubted, mark_
 use Rattle.intake.specs.Parts.{Parts, state_of}
 use Rattle.intake.specs.State.{StreamFacts}
 use Rattle.retention.specs.declared.Decision.{Decision}
+use Rattle.retention.specs.declared.Policy.{Policy}
 use Rattle.stream_names.specs.declared.naming.Naming.{Naming}
 use Rattle.script_lines.specs.Said.{Said, silence, bad_line, long_line, begin_exec, begin_core, part_of, end_of, drop_of, delete_of, pin_of, label_of, retire_by, list_all_cases, count_free, upgrade_archive, inspect_of, said, raw_length}
 use Rattle.script_streams.specs.Replies.{no_reply}
-use Rattle.inspector_cli.specs.Reply.{Begins, Replies}
+use Rattle.inspector_cli.specs.Reply.{Begins, Ends, Labels, Retires, Replies}
 use Rattle.archive_replies.specs.Texts.{end_reply, plain_reply, retire_reply}
 use Rattle.stream_names.specs.Streams.{exec_stream, core_stream}
 use Rattle.archive_replies.specs.Reasons.{reason_of}
@@ -101,6 +102,18 @@ module _ {D : Type 0} (g : disk.Ghosts D) (laws : Laws g) (old : Stage D) (new :
         },
       )
 
+  pub ends_moves : (slot : ℕ) (reply : List ℕ) (stored : Option ℕ) → Ends g old.archive slot reply new stored → Reaches (end_of slot) reply
+  ends_moves slot reply stored r =
+      changed ℕ (end_of slot) reply r.0 _ (λ x may. may) (λ is. r.2 ∙ end_disk r.0 is) (laws.finish old.archive new slot r.0 r.1)
+
+  pub labels_moves : (seq : ℕ) (label reply : List ℕ) → Labels g old.archive seq label reply new → Reaches (label_of seq label) reply
+  labels_moves seq label reply r =
+      changed (Unit {0}) (label_of seq label) reply r.0 _ (λ x may. may) (λ is. r.2 ∙ plain_disk r.0 is) (laws.label old.archive new seq label r.0 r.1)
+
+  pub retires_moves : (policy : Policy) (reply : List ℕ) → Retires g old.archive policy reply new → Reaches (retire_by policy) reply
+  retires_moves policy reply r =
+      changed Decision (retire_by policy) reply r.0 _ (λ x may. may) (λ is. r.2 ∙ retire_disk r.0 is) (laws.retire old.archive new policy r.0 r.1)
+
   pub line_moves : (naming : Naming) (what : Said) (raw reply : List ℕ) → Replies g naming old.archive what raw reply new → Reaches what reply
   line_moves naming silence raw reply r = still silence reply (stays_as g old.archive new r.1)
   line_moves naming bad_line raw reply r = still bad_line reply (stays_as g old.archive new r.1)
@@ -108,19 +121,16 @@ module _ {D : Type 0} (g : disk.Ghosts D) (laws : Laws g) (old : Stage D) (new :
   line_moves naming (begin_exec slot name) raw reply r = still (begin_exec slot name) reply (begins_stays g old.archive new slot (exec_stream name) reply r.0 r.1)
   line_moves naming (begin_core slot process) raw reply r = still (begin_core slot process) reply (begins_stays g old.archive new slot (core_stream naming process) reply r.0 r.1)
   line_moves naming (part_of slot n) raw reply r = still (part_of slot n) reply r.1.stays
-  line_moves naming (end_of slot) raw reply r =
-      changed ℕ (end_of slot) reply r.1.0 _ (λ x may. may) (λ is. r.1.2 ∙ end_disk r.1.0 is) (laws.finish old.archive new slot r.1.0 r.1.1)
+  line_moves naming (end_of slot) raw reply r = ends_moves slot reply r.0 r.1
   line_moves naming (drop_of slot) raw reply r = still (drop_of slot) reply r.1.stays
   line_moves naming (delete_of seq) raw reply r =
       changed (Unit {0}) (delete_of seq) reply r.0 _ (λ x may. may) (λ is. r.2 ∙ plain_disk r.0 is) (laws.delete old.archive new seq r.0 r.1)
   line_moves naming (pin_of seq flag) raw reply r =
       changed (Unit {0}) (pin_of seq flag) reply r.0 _ (λ x may. may) (λ is. r.2 ∙ plain_disk r.0 is) (laws.pin old.archive new seq flag r.0 r.1)
-  line_moves naming (label_of seq label) raw reply r =
-      changed (Unit {0}) (label_of seq label) reply r.0 _ (λ x may. may) (λ is. r.2 ∙ plain_disk r.0 is) (laws.label old.archive new seq label r.0 r.1)
+  line_moves naming (label_of seq label) raw reply r = labels_moves seq label reply r
   line_moves naming upgrade_archive raw reply r =
       changed (Unit {0}) upgrade_archive reply r.0 _ (λ x may. may) (λ is. r.2 ∙ plain_disk r.0 is) (laws.upgrade old.archive new r.0 r.1)
-  line_moves naming (retire_by policy) raw reply r =
-      changed Decision (retire_by policy) reply r.0 _ (λ x may. may) (λ is. r.2 ∙ retire_disk r.0 is) (laws.retire old.archive new policy r.0 r.1)
+  line_moves naming (retire_by policy) raw reply r = retires_moves policy reply r
   line_moves naming list_all_cases raw reply r = still list_all_cases reply (stays_as g old.archive new r.1)
   line_moves naming count_free raw reply r = still count_free reply (stays_as g old.archive new r.3)
   line_moves naming (inspect_of seq query) raw reply r = still (inspect_of seq query) reply (asks_leaves g old.archive new seq query (kind_asked (state_of old.archive) seq query) reply r).stays

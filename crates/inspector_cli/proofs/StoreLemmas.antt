@@ -1,10 +1,10 @@
--- One stream that is stored from its own input, with room made for it before.
-use Rattle.std.proofs.Common.{◌≡◌, ◌⊎◌, inl, ⊎_elim, ℕ, zero, suc, ◌+◌, ◌<◌, ◌≤◌, Bool, true, false, List, [], ◌∷◌, ◌++◌, length, Option, Some, None, Result, Ok, Err, is_ok, refl, sym, ap, subst, ◌∙◌, arith, length-append}
+-- One stream that is stored from its own input, with room made for it first, and the label of its case.
+use Rattle.std.proofs.Common.{◌≡◌, inl, ℕ, zero, suc, ◌+◌, ◌<◌, ◌≤◌, Bool, true, false, List, [], ◌∷◌, ◌++◌, length, Option, Some, None, Result, Ok, Err, is_ok, refl, sym, ap, subst, ◌∙◌, arith, length-append}
 use Rattle.std.proofs.lemmas.List.{append-nil, length-map}
 use Rattle.std.proofs.KnownBytes.{Consumes-trans}
 use Rattle.std.specs.Io.KnownBytes.{Consumes}
-use Rattle.std.proofs.lemmas.Bool.{cases_Bool, true≢false, false≢true}
-use Rattle.std.specs.Prelude.{slice_set, option_map, codes, ◌==◌, if◌then◌else◌}
+use Rattle.std.proofs.lemmas.Bool.{true≢false, false≢true}
+use Rattle.std.specs.Prelude.{slice_set, option_map}
 use Rattle.intake.specs.declared.faults.ArchiveFault.{ArchiveFault}
 use Rattle.intake.specs.Slots.{stream_at}
 use Rattle.intake.specs.State.{ArchiveState, StreamFacts}
@@ -16,71 +16,31 @@ use Rattle.intake.specs.Marks.{FoundAfterAStop}
 use Rattle.intake.specs.Parts.{Parts, state_of, stream_facts, contents_of, taken_in}
 use Rattle.intake.specs.Step.{BeginStep, with_stream, longer}
 use Rattle.failure_count.specs.Counts.{HasRisen}
-use Rattle.script_streams.specs.Telling.{Told, IsDelivered}
-use Rattle.script_streams.specs.declared.reply.Reply.{Reply}
+use Rattle.script_streams.specs.Telling.{Sink, Told, IsDelivered}
 use Rattle.script_streams.specs.declared.streams.StreamFault.{StreamFault}
-use Rattle.stream_names.specs.declared.naming.Naming.{Naming}
-use Rattle.script_lines.specs.Said.{Said, ProcessSaid, silence, bad_line, long_line, begin_exec, begin_core, part_of, end_of, drop_of, delete_of, pin_of, label_of, retire_by, list_all_cases, count_free, upgrade_archive, inspect_of, said}
+use Rattle.script_lines.specs.Said.{silence, end_of}
 use Rattle.inspector_cli.specs.Reply.{Begins, TakeStep, TakeBytes, Takes}
 use Rattle.std.specs.Borrow.{Bor}
 use Rattle.stream_names.specs.Commands.{stream_found}
 use Rattle.stream_names.specs.declared.names.NewStream.{NewStream}
-use Rattle.stream_names.specs.Streams.{exec_unless, exec_stream, core_unless, core_stream, name_fault, core_name}
 use Rattle.inspector_cli.specs.declared.session.SessionFault.TheVariants.{WriteFailed}
 use Rattle.inspector_cli.specs.declared.session.StoreOutcome.{StoreOutcome}
 use Rattle.retention.specs.declared.Policy.{Policy}
-use Rattle.std.specs.List.{AllByRecursion}
 use Rattle.inspector_cli.specs.declared.store.TakeStop.{TakeStop}
 use Rattle.inspector_cli.specs.declared.store.TakeStop.TheVariants.{File, Refused}
-use Rattle.script_streams.specs.Replies.{Telling, TellsReply, no_reply}
-use Rattle.inspector_cli.specs.Stages.{Stage, Moves, MayLeave, mark_at, marks_of, IsFoundAfterAStop}
+use Rattle.script_streams.specs.Replies.{Telling, TellsReply}
+use Rattle.inspector_cli.specs.Stages.{Stage, mark_at, marks_of}
 use Rattle.inspector_cli.specs.Session.{Streams}
-use Rattle.inspector_cli.specs.Storing.{first_stream, TakesFile, TakesMore, FileReplies, RestReplies, StoresStream, policy_before, MakesRoom, IsChosen, MakesRoomFor, Stores, said_before, StoreStages, StoreEnds, StoresAlone}
+use Rattle.inspector_cli.specs.Storing.{TakesFile, TakesMore, FileReplies, RestReplies, StoresStream, MakesRoom, MakesRoomFor, LabelsCase, Stores, said_room, said_label, StoreStages, StoreEnds}
 use Rattle.intake.specs.StayLaws.{stays_none, stays_as, stays_then}
-use Rattle.inspector_cli.proofs.StageLemmas.{Laws, Reaches, stage_of, line_moves, still, begins_stays}
+use Rattle.inspector_cli.proofs.StageLemmas.{Laws, Reaches, stage_of, ends_moves, labels_moves, retires_moves, still, begins_stays}
 use Rattle.script_streams.specs.TellLaws.{tells_then}
 use Rattle.inspector_cli.proofs.SlotLemmas.{set_again}
-use Rattle.name_template.specs.declared.template.NameFault.{NameFault}
 
 -- the stream, if there is one, has no bytes yet
 abbrev pub IsFresh : Result StreamFacts (List ℕ) → Type 0
 IsFresh (Ok s) = s.len ≡ 0
 IsFresh (Err reason) = Unit {0}
-
-exec_is_fresh : (name : List ℕ) (o : Option (List ℕ)) → IsFresh (exec_unless name o)
-exec_is_fresh name None = refl
-exec_is_fresh name (Some reason) = tt
-
-pub exec_fresh : (name : List ℕ) → IsFresh (exec_stream name)
-exec_fresh name = exec_is_fresh name (name_fault name)
-
-core_is_fresh : (process : ProcessSaid) (r : Result (List ℕ) NameFault) → IsFresh (core_unless process r)
-core_is_fresh process (Ok name) = refl
-core_is_fresh process (Err fault) = tt
-
-pub core_fresh : (naming : Naming) (process : ProcessSaid) → IsFresh (core_stream naming process)
-core_fresh naming process = core_is_fresh process (core_name naming process)
-
-unless_zero : (slot : ℕ) (r : Result StreamFacts (List ℕ)) (reason : List ℕ) → IsFresh r → IsFresh (if slot == 0 then r else Err reason)
-unless_zero slot r reason fresh = ⊎_elim (λ first. rw first fresh) (λ other. rw other tt) (cases_Bool (slot == 0))
-
-pub first_fresh : (naming : Naming) (what : Said) → IsFresh (first_stream naming what)
-first_fresh naming silence = tt
-first_fresh naming bad_line = tt
-first_fresh naming long_line = tt
-first_fresh naming (begin_exec slot name) = unless_zero slot (exec_stream name) (codes "BadLine") (exec_fresh name)
-first_fresh naming (begin_core slot process) = unless_zero slot (core_stream naming process) (codes "BadLine") (core_fresh naming process)
-first_fresh naming (part_of slot count) = tt
-first_fresh naming (end_of slot) = tt
-first_fresh naming (drop_of slot) = tt
-first_fresh naming (delete_of seq) = tt
-first_fresh naming (pin_of seq flag) = tt
-first_fresh naming (label_of seq label) = tt
-first_fresh naming (retire_by policy) = tt
-first_fresh naming list_all_cases = tt
-first_fresh naming count_free = tt
-first_fresh naming upgrade_archive = tt
-first_fresh naming (inspect_of seq query) = tt
 
 pub found_fresh : (r : Result NewStream (Bor (List ℕ))) → IsFresh (stream_found r)
 found_fresh (Ok stream) = refl
@@ -171,15 +131,15 @@ module _ {D : Type 0} (g : disk.Ghosts D) (file mid file' : Option (List ℕ)) (
       (so_far.0 ++ more.0, Consumes-trans file mid file' so_far.0 more.0 so_far.1 more.1, more.3)
 
 module _ {D : Type 0} (g : disk.Ghosts D) where
-  -- a first line and what stands behind it
-  pub stores : (found : Result StreamFacts (List ℕ)) (file file' : Option (List ℕ)) (fails fails' : ℕ) (o p q : Option (List ℕ)) (f i h : ℕ) (u v w : Reply) (old mid new : Parts D) (stored : Option ℕ)
-      → TellsReply (record { taken = o; taken' = p; failures = f; failures' = i; reply = u; reply' = v }) (λ text. Begins g old 0 found text mid true)
-      → TellsReply (record { taken = p; taken' = q; failures = i; failures' = h; reply = v; reply' = w }) (λ text. (filled : Parts D) × RestReplies g file file' fails fails' mid true filled text new stored)
-      → TellsReply (record { taken = o; taken' = q; failures = f; failures' = h; reply = u; reply' = w }) (λ text. StoresStream g file file' fails fails' old found text new stored)
-  stores found file file' fails fails' o p q f i h u v w old mid new stored first rest = (
+  -- a stream that is begun, and its file
+  pub stores : (found : Result StreamFacts (List ℕ)) (file file' : Option (List ℕ)) (fails fails' : ℕ) (o p q : Sink) (old mid new : Parts D) (stored : Option ℕ)
+      → TellsReply (record { before = o; after = p }) (λ text. Begins g old 0 found text mid true)
+      → TellsReply (record { before = p; after = q }) (λ text. (filled : Parts D) × RestReplies g file file' fails fails' mid true filled text new stored)
+      → TellsReply (record { before = o; after = q }) (λ text. StoresStream g file file' fails fails' old found text new stored)
+  stores found file file' fails fails' o p q old mid new stored first rest = (
     first.0 ++ rest.0,
     record { first = first.0; mid = mid; accepted = true; begins = first.1; filled = rest.1.0; rest = rest.0; goes_on = rest.1.1; text = refl },
-    tells_then o p q f i h u v w first.0 rest.0 first.2 rest.2,
+    tells_then first.2 rest.2,
   )
 
   pub stores_none : (found : Result StreamFacts (List ℕ)) (file : Option (List ℕ)) (fails : ℕ) (t : Telling) (old new : Parts D)
@@ -205,122 +165,106 @@ module _ {D : Type 0} (g : disk.Ghosts D) where
   file_stays file file' fails fails' old new (Err File) takes = takes.3.stays
   file_stays file file' fails fails' old new (Err (Refused fault)) takes = takes.2.stays
 
-  module _ (laws : Laws g) (naming : Naming) (old : Stage D) (new : Parts D) where
+  module _ (laws : Laws g) (old : Stage D) (new : Parts D) where
     -- the end of a stream, or why it has none
     end_reaches : (r : Result (Unit {0}) TakeStop) (reply : List ℕ) (stored : Option ℕ) → FileReplies g old.archive r reply new stored → Reaches g laws old new (end_of 0) reply
-    end_reaches (Ok u) reply stored ends = line_moves g laws old new naming (end_of 0) [] reply (stored, ends)
+    end_reaches (Ok u) reply stored ends = ends_moves g laws old new 0 reply stored ends
     end_reaches (Err File) reply stored ends = still g laws old new (end_of 0) reply (stays_as g old.archive new ends.1)
     end_reaches (Err (Refused fault)) reply stored ends = still g laws old new (end_of 0) reply (stays_as g old.archive new ends.1)
 
-  rest_moves : (laws : Laws g) (naming : Naming) (file file' : Option (List ℕ)) (fails fails' : ℕ) (old : Stage D) (mid filled new : Parts D) (accepted : Bool) (rest : List ℕ) (stored : Option ℕ) → ChangesNoCase g old.archive mid
+    -- room that is made, or none
+    pub room_moves : (policy : Option Policy) (told : List ℕ) (made : Bool) → MakesRoom g old.archive policy told new made → Reaches g laws old new (said_room policy) told
+    room_moves None told made makes = still g laws old new silence told (stays_as g old.archive new makes.1)
+    room_moves (Some policy) told made makes = retires_moves g laws old new policy told makes.0
+
+    -- the label of the case, or none
+    pub label_moves : (stored : Option ℕ) (label : Option (List ℕ)) (last : List ℕ) (done : Bool) → LabelsCase g old.archive stored label last new done → Reaches g laws old new (said_label stored label) last
+    label_moves (Some seq) (Some label) last done labels = labels_moves g laws old new seq label last labels.0
+    label_moves (Some seq) None last done labels = still g laws old new silence last (stays_as g old.archive new labels.1)
+    label_moves None label last done labels = still g laws old new silence last (stays_as g old.archive new labels.1)
+
+  rest_moves : (laws : Laws g) (file file' : Option (List ℕ)) (fails fails' : ℕ) (old : Stage D) (mid filled new : Parts D) (accepted : Bool) (rest : List ℕ) (stored : Option ℕ) → ChangesNoCase g old.archive mid
       → RestReplies g file file' fails fails' mid accepted filled rest new stored → ChangesNoCase g old.archive filled × Reaches g laws (stage_of filled old.in_doubt) new (end_of 0) rest
-  rest_moves laws naming file file' fails fails' old mid filled new true rest stored begun goes = (
+  rest_moves laws file file' fails fails' old mid filled new true rest stored begun goes = (
     stays_then g old.archive mid filled begun (file_stays file file' fails fails' mid filled goes.0 goes.1),
-    end_reaches laws naming (stage_of filled old.in_doubt) new goes.0 rest stored goes.2,
+    end_reaches laws (stage_of filled old.in_doubt) new goes.0 rest stored goes.2,
   )
-  rest_moves laws naming file file' fails fails' old mid filled new false rest stored begun goes = (
+  rest_moves laws file file' fails fails' old mid filled new false rest stored begun goes = (
     stays_then g old.archive mid filled begun (stays_as g mid filled goes.2),
     still g laws (stage_of filled old.in_doubt) new (end_of 0) rest (stays_as g filled new (goes.4 ∙ sym goes.2)),
   )
 
-  room_moves : (laws : Laws g) (naming : Naming) (old : Stage D) (room : Parts D) (policy : Option Policy) (told : List ℕ) (made : Bool) → MakesRoom g old.archive policy told room made
-      → Reaches g laws old room (said_before policy) told
-  room_moves laws naming old room None told made makes = still g laws old room silence told (stays_as g old.archive room makes.1)
-  room_moves laws naming old room (Some policy) told made makes = line_moves g laws old room naming (retire_by policy) [] told makes.0
-
-  pub stages_of : (laws : Laws g) → FoundAfterAStop g → (naming : Naming) (file file' : Option (List ℕ)) (fails fails' : ℕ) (old : Stage D) (before line replies : List ℕ) (end : Parts D) (outcome : StoreOutcome) (new : Parts D)
-      → (s : Stores g naming file file' fails fails' old.archive before line replies end outcome) → ChangesNoCase g end new
-      → (in_doubt : List Durable) × StoreStages g old s.makes_room.policy s.told s.room s.stores.filled s.stores.rest (stage_of end in_doubt) new
-  stages_of laws found naming file file' fails fails' old before line replies end outcome new s closes =
-      let r = room_moves laws naming old s.room s.makes_room.policy s.told outcome.made_room s.makes_room.makes_room in
+  pub stages_of : (laws : Laws g) → FoundAfterAStop g → (file file' : Option (List ℕ)) (fails fails' : ℕ) (old : Stage D) (asked : Option Policy) (found : Result StreamFacts (List ℕ)) (label : Option (List ℕ))
+      (replies : List ℕ) (end : Parts D) (outcome : StoreOutcome) (new : Parts D)
+      → (s : Stores g file file' fails fails' old.archive asked found label replies end outcome) → ChangesNoCase g end new
+      → (in_doubt : List Durable) × StoreStages g old s.makes_room.policy s.told s.room s.stores.filled s.stores.rest s.ended (said_label outcome.stored label) s.last (stage_of end in_doubt) new
+  stages_of laws law file file' fails fails' old asked found label replies end outcome new s closes =
+      let r = room_moves laws old s.room s.makes_room.policy s.told outcome.made_room s.makes_room.makes_room in
       let t = s.stores in
       let doubts : List Durable = r.0 ++ old.in_doubt in
       let m =
-      rest_moves laws naming file file' fails fails' (stage_of s.room doubts) t.mid t.filled end t.accepted t.rest outcome.stored
-      (begins_stays g s.room t.mid 0 (first_stream naming (said line)) t.first t.accepted t.begins) t.goes_on in (
-        m.1.0 ++ doubts,
+      rest_moves laws file file' fails fails' (stage_of s.room doubts) t.mid t.filled s.ended t.accepted t.rest outcome.stored
+      (begins_stays g s.room t.mid 0 found t.first t.accepted t.begins) t.goes_on in
+      let later : List Durable = m.1.0 ++ doubts in
+      let l = label_moves laws (stage_of s.ended later) end outcome.stored label s.last outcome.labelled s.labels in (
+        l.0 ++ later,
         record {
           in_doubt = doubts;
           makes_room = r.1;
           takes = m.0;
+          later_doubt = later;
           moves = m.1.1;
+          labelled = l.1;
           found = λ honest settled.
-              found (mark_at g.seen old) (marks_of g.seen (stage_of s.room doubts ∷ stage_of t.filled doubts ∷ []) (stage_of end (m.1.0 ++ doubts)) new) honest settled
-              (r.1.passes, (laws.stays s.room t.filled doubts m.0, (m.1.1.passes, (laws.stays end new (m.1.0 ++ doubts) closes, tt))));
+              law (mark_at g.seen old) (marks_of g.seen (stage_of s.room doubts ∷ stage_of t.filled doubts ∷ stage_of s.ended later ∷ []) (stage_of end (l.0 ++ later)) new) honest settled
+              (r.1.passes, (laws.stays s.room t.filled doubts m.0, (m.1.1.passes, (l.1.passes, (laws.stays end new (l.0 ++ later) closes, tt)))));
         },
       )
 
-  -- a line that makes room, and the stream behind it
-  pub stores_both : (naming : Naming) (file file' : Option (List ℕ)) (fails fails' : ℕ) (o p q : Option (List ℕ)) (f i h : ℕ) (u v w : Reply) (old room new : Parts D) (before line : List ℕ) (made : Bool) (stored : Option ℕ)
-      → TellsReply (record { taken = o; taken' = p; failures = f; failures' = i; reply = u; reply' = v }) (λ text. MakesRoomFor g old (policy_before before) (first_stream naming (said line)) text room made)
-      → TellsReply (record { taken = p; taken' = q; failures = i; failures' = h; reply = v; reply' = w }) (λ text. StoresStream g file file' fails fails' room (first_stream naming (said line)) text new stored)
-      → TellsReply (record { taken = o; taken' = q; failures = f; failures' = h; reply = u; reply' = w })
-      (λ text. Stores g naming file file' fails fails' old before line text new (record { made_room = made; stored = stored }))
-  stores_both naming file file' fails fails' o p q f i h u v w old room new before line made stored first rest = (
-    first.0 ++ rest.0,
-    record { told = first.0; room = room; makes_room = first.1; more = rest.0; stores = rest.1; all = refl },
-    tells_then o p q f i h u v w first.0 rest.0 first.2 rest.2,
+  -- room, the stream and its label
+  pub stores_all : (file file' : Option (List ℕ)) (fails fails' : ℕ) (o p q r : Sink) (old room ended new : Parts D) (asked : Option Policy) (found : Result StreamFacts (List ℕ)) (label : Option (List ℕ))
+      (made : Bool) (stored : Option ℕ) (labelled : Bool)
+      → TellsReply (record { before = o; after = p }) (λ text. MakesRoomFor g old asked found text room made)
+      → TellsReply (record { before = p; after = q }) (λ text. StoresStream g file file' fails fails' room found text ended stored)
+      → TellsReply (record { before = q; after = r }) (λ text. LabelsCase g ended stored label text new labelled)
+      → TellsReply (record { before = o; after = r })
+      (λ text. Stores g file file' fails fails' old asked found label text new (record { made_room = made; stored = stored; labelled = labelled }))
+  stores_all file file' fails fails' o p q r old room ended new asked found label made stored labelled first rest last = (
+    first.0 ++ (rest.0 ++ last.0),
+    record {
+      told = first.0;
+      room = room;
+      makes_room = first.1;
+      more = rest.0;
+      ended = ended;
+      stores = rest.1;
+      last = last.0;
+      labels = last.1;
+      all = refl;
+    },
+    tells_then first.2 (tells_then rest.2 last.2),
   )
 
--- a line that says nothing leaves nothing in doubt
-none_doubted : {D : Type 0} (g : disk.Ghosts D) (old : Parts D) (reply : List ℕ) (doubts : List Durable)
-    → (doubts ≡ []) ⊎ ((reply ≡ no_reply (codes "Disk")) × AllByRecursion (MayLeave g old silence) doubts) → doubts ≡ []
-none_doubted g old reply [] doubted = refl
-none_doubted g old reply (x ∷ xs) doubted = ⊎_elim (λ none. none) (λ some. absurd some.1.0) doubted
-
--- where no room is asked for, none is made
-not_chosen : (s : ArchiveState) (asked : Option Policy) (found : Result StreamFacts (List ℕ)) (policy : Option Policy) → asked ≡ None → IsChosen s asked found policy → policy ≡ None
-not_chosen s asked found None none chosen = refl
-not_chosen s asked found (Some policy) none chosen = absurd (let e : None ≡ Some policy = sym none ∙ chosen in cc)
-
--- with no line before, it is the stream alone
-pub stores_alone : {D : Type 0} (g : disk.Ghosts D) → StoresAlone g
-stores_alone {D} g naming file file' fails fails' old before line replies end new outcome none s stages =
-    let no_policy : s.makes_room.policy ≡ None = not_chosen (state_of old.archive) (policy_before before) (first_stream naming (said line)) s.makes_room.policy none s.makes_room.chosen in
-    let room = subst (λ (p : Option Policy). MakesRoom g old.archive p s.told s.room outcome.made_room) no_policy s.makes_room.makes_room in
-    let still = subst (λ (p : Option Policy). Moves g old (said_before p) s.told (stage_of s.room stages.in_doubt)) no_policy stages.makes_room in
-    let same : stages.in_doubt ≡ old.in_doubt = still.in_doubt ∙ ap (λ (xs : List Durable). xs ++ old.in_doubt) (none_doubted g old.archive s.told still.doubts still.doubted) in
-    let t = s.stores in
-    let found =
-    subst (λ (xs : List Durable). IsFoundAfterAStop g old (stage_of old.archive xs ∷ stage_of t.filled xs ∷ []) end new) same
-    (subst (λ (a : Parts D). IsFoundAfterAStop g old (stage_of a stages.in_doubt ∷ stage_of t.filled stages.in_doubt ∷ []) end new) room.1 stages.found) in
-    record {
-      stores = record {
-        first = t.first;
-        mid = t.mid;
-        accepted = t.accepted;
-        begins = subst (λ (a : Parts D). Begins g a 0 (first_stream naming (said line)) t.first t.mid t.accepted) room.1 t.begins;
-        filled = t.filled;
-        rest = t.rest;
-        goes_on = t.goes_on;
-        text = s.all ∙ ap (λ (x : List ℕ). x ++ s.more) room.0 ∙ t.text;
-      };
-      made = room.2;
-      takes = subst (λ (a : Parts D). ChangesNoCase g a t.filled) room.1 stages.takes;
-      moves = subst (λ (xs : List Durable). Moves g (stage_of t.filled xs) (end_of 0) t.rest end) same stages.moves;
-      found = λ honest settled. (found honest settled).1;
-    }
-
 -- what was told is written, or a front of it
-module _ {D : Type 0} (g : disk.Ghosts D) (laws : Laws g) (law : FoundAfterAStop g) (naming : Naming) (file file' : Option (List ℕ)) (fails fails' : ℕ) (o p q : Option (List ℕ)) (f i h : ℕ) (u v : Reply)
-    (old : Stage D) (end new : Parts D) (before line : List ℕ) (outcome : StoreOutcome)
-    (dropped : Result (Unit {0}) ArchiveFault) (begun : Told o f o f u [])
-    (told : TellsReply (record { taken = o; taken' = p; failures = f; failures' = i; reply = u; reply' = v }) (λ text. Stores g naming file file' fails fails' old.archive before line text end outcome))
+module _ {D : Type 0} (g : disk.Ghosts D) (laws : Laws g) (law : FoundAfterAStop g) (file file' : Option (List ℕ)) (fails fails' : ℕ) (start : Option (List ℕ)) (count name : ℕ) (o p : Sink) (q : Option (List ℕ)) (h : ℕ)
+    (old : Stage D) (end new : Parts D) (asked : Option Policy) (found : Result StreamFacts (List ℕ)) (label : Option (List ℕ)) (outcome : StoreOutcome)
+    (dropped : Result (Unit {0}) ArchiveFault) (begun : Told start count name o [])
+    (told : TellsReply (record { before = o; after = p }) (λ text. Stores g file file' fails fails' old.archive asked found label text end outcome))
     (drops : AbandonCall g end 0 dropped new) where
   abbrev pub streams : Streams
-  streams = record { input = file; input' = file'; fails = fails; fails' = fails'; taken = o; taken' = q; lost = f; lost' = h }
+  streams = record { input = file; input' = file'; fails = fails; fails' = fails'; taken = start; taken' = q; lost = count; lost' = h }
 
   abbrev pub WritesOut : Result (Unit {0}) StreamFault → Type 0
-  WritesOut r = (start : Option (List ℕ)) (count : ℕ) (text : List ℕ) → Told start count p i v text → IsDelivered start count q h text r
+  WritesOut r = (text : List ℕ) → Told start count name p text → IsDelivered start count q h text r
 
-  pub store_written : (s : Unit {0}) → WritesOut (Ok s) → StoreEnds g naming streams old before line new (Ok outcome)
+  pub store_written : (s : Unit {0}) → WritesOut (Ok s) → StoreEnds g streams old asked found label new (Ok outcome)
   store_written s d =
-      let stages = stages_of g laws law naming file file' fails fails' old before line told.0 end outcome new told.1 drops.stays in
-      (told.0, stage_of end stages.0, dropped, told.1, drops, d o f told.0 (told.2 o f [] begun), stages.1)
+      let stages = stages_of g laws law file file' fails fails' old asked found label told.0 end outcome new told.1 drops.stays in
+      (told.0, stage_of end stages.0, dropped, told.1, drops, d told.0 (told.2 start count name [] begun), stages.1)
 
-  pub store_failed : (fault : StreamFault) → WritesOut (Err fault) → StoreEnds g naming streams old before line new (Err WriteFailed)
+  pub store_failed : (fault : StreamFault) → WritesOut (Err fault) → StoreEnds g streams old asked found label new (Err WriteFailed)
   store_failed fault d =
-      let t = d o f told.0 (told.2 o f [] begun) in
-      let same = subst (λ (text : List ℕ). Stores g naming file file' fails fails' old.archive before line text end outcome) (sym t.2) told.1 in
-      let stages = stages_of g laws law naming file file' fails fails' old before line (t.0 ++ t.1) end outcome new same drops.stays in
+      let t = d told.0 (told.2 start count name [] begun) in
+      let same = subst (λ (text : List ℕ). Stores g file file' fails fails' old.archive asked found label text end outcome) (sym t.2) told.1 in
+      let stages = stages_of g laws law file file' fails fails' old asked found label (t.0 ++ t.1) end outcome new same drops.stays in
       (t.0, t.1, stage_of end stages.0, outcome, dropped, same, drops, t.3, t.4, stages.1)

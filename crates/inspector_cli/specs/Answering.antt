@@ -4,7 +4,6 @@ use Rattle.intake.specs.declared.faults.ArchiveFault.{ArchiveFault}
 use Rattle.disk_model.specs.declared.disk.Disk as disk
 use Rattle.intake.specs.Parts.{Parts}
 use Rattle.script_streams.specs.Reading.{Gives, IsUsedUp, Stops, held_bytes}
-use Rattle.script_streams.specs.Telling.{has_failed}
 use Rattle.script_streams.specs.Replies.{Telling, TellsText}
 use Rattle.script_streams.specs.declared.reader.ScriptBuffer.{ScriptBuffer}
 use Rattle.script_streams.specs.declared.reader.ReadStop.{ReadStop}
@@ -81,7 +80,7 @@ CommandEnds g naming r t old new (Ok false) =
 CommandEnds g naming r t old new (Err (Read stop)) =
     (rest : List ℕ) × GivesBytes r rest × (held_bytes r.buffer' ≡ []) × BreaksOff g old rest new × TellsText t []
 CommandEnds g naming r t old new (Err Unheard) =
-    (rest : List ℕ) × GivesBytes r rest × (new ≡ old) × (has_failed t.reply' ≡ true) × TellsText t []
+    (rest : List ℕ) × GivesBytes r rest × (new ≡ old) × (t.after.unwritten.failed ≡ true) × TellsText t []
 
 -- all commands of a script, and how the archive stands behind each
 abbrev pub ScriptEnds : {D : Type 0} → disk.Ghosts D → Naming → Reading → Telling → Stage D → Parts D → Result (Unit {0}) ScriptStop → Type 0
@@ -90,7 +89,7 @@ ScriptEnds {D} g naming r t old new (Ok u) =
     × (end.archive ≡ new) × TellsText t out
 ScriptEnds {D} g naming r t old new (Err Unheard) =
     (read : List ℕ) × (more : List ℕ) × (out : List ℕ) × (stages : List (Stage D)) × (end : Stage D) × GivesBytes r (read ++ more) × (w : AnswersWhole g naming read out old stages end) × (w.rest ≡ [])
-    × (end.archive ≡ new) × (has_failed t.reply' ≡ true) × TellsText t out
+    × (end.archive ≡ new) × (t.after.unwritten.failed ≡ true) × TellsText t out
 ScriptEnds {D} g naming r t old new (Err (Read stop)) =
     (read : List ℕ) × (out : List ℕ) × (stages : List (Stage D)) × (end : Stage D) × GivesBytes r read × (held_bytes r.buffer' ≡ []) × AnswersWhole g naming read out old stages end
     × (end.archive ≡ new) × TellsText t out

@@ -12,7 +12,6 @@ use Rattle.intake.specs.State.{CaseFacts}
 use Rattle.intake.specs.Step.{HasCase}
 use Rattle.intake.specs.declared.faults.ArchiveFault.{ArchiveFault}
 use Rattle.intake.specs.declared.ranges.ByteRange.{ByteRange}
-use Rattle.script_streams.specs.Telling.{has_failed}
 use Rattle.script_streams.specs.Replies.{Telling, TellsText}
 use Rattle.inspector_cli.specs.declared.copying.CopyFault.{CopyFault}
 use Rattle.inspector_cli.specs.declared.copying.CopyFault.TheVariants as fault
@@ -34,7 +33,7 @@ pub record Copies {D : Type 0} (g : disk.Ghosts D) (old new : D) (t : Telling) (
   pub quiet : OnlyReads g old new
   pub later : g.failures old ≤ g.failures new
   pub cause : r ≡ Err Disk → HasRisen (g.failures old) (g.failures new)
-  pub blamed : r ≡ Err Output → has_failed t.reply' ≡ true
+  pub blamed : r ≡ Err Output → t.after.unwritten.failed ≡ true
 
 -- The same, and the output has taken it.
 pub record WritesOut {D : Type 0} (g : disk.Ghosts D) (old new : D) (start taken : Option (List ℕ)) (count failures : ℕ) (whole : List ℕ → List ℕ) (r : Result (Unit {0}) Halt) : Type 0 where

@@ -11,3 +11,5 @@ pub mod Stored
 pub mod Memory
 pub mod Extracting
 pub mod Copying
+pub mod Headline
+pub mod StoreHeadline

@@ -1,5 +1,5 @@
 -- A session from the opening of its archive on.
-use Rattle.std.specs.Prelude.{◌≡◌, ◌⊎◌, ℕ, List, [], Result, Ok, Err, IsTrue}
+use Rattle.std.specs.Prelude.{◌≡◌, ◌⊎◌, ℕ, List, [], Option, Result, Ok, Err, IsTrue}
 use Rattle.disk_model.specs.declared.disk.Disk as disk
 use Rattle.journal_layout.specs.declared.faults.OpenFault.{OpenFault}
 use Rattle.journal_layout.specs.declared.faults.OpenFault.TheVariants as fault
@@ -7,6 +7,8 @@ use Rattle.intake.specs.Calls.{OpenCall}
 use Rattle.intake.specs.Durable.{Durable, StandsFor}
 use Rattle.intake.specs.Marks.{IsMarkSettled, mark_of}
 use Rattle.intake.specs.Parts.{Parts}
+use Rattle.intake.specs.State.{StreamFacts}
+use Rattle.retention.specs.declared.Policy.{Policy}
 use Rattle.stream_names.specs.declared.naming.Naming.{Naming}
 use Rattle.inspector_cli.specs.declared.session.SessionFault.{SessionFault}
 use Rattle.inspector_cli.specs.declared.session.StoreOutcome.{StoreOutcome}
@@ -50,7 +52,7 @@ abbrev pub RunsOver : {D : Type 0} → disk.Ghosts D → Naming → Streams → 
 RunsOver g naming t r opened closed =
     SessionEnds g naming t (record { archive = opened; in_doubt = [] }) closed r
 
--- the same of one stream that is stored from its own input, with room made for it before
-abbrev pub StoresOver : {D : Type 0} → disk.Ghosts D → Naming → List ℕ → List ℕ → Streams → Result StoreOutcome SessionFault → Parts D → Parts D → Type 0
-StoresOver g naming before line t r opened closed =
-    StoreEnds g naming t (record { archive = opened; in_doubt = [] }) before line closed r
+-- the same of one stream that is stored from its own input, with room made for it first, and the label of its case
+abbrev pub StoresOver : {D : Type 0} → disk.Ghosts D → Option Policy → Result StreamFacts (List ℕ) → Option (List ℕ) → Streams → Result StoreOutcome SessionFault → Parts D → Parts D → Type 0
+StoresOver g asked found label t r opened closed =
+    StoreEnds g t (record { archive = opened; in_doubt = [] }) asked found label closed r

@@ -1,5 +1,7 @@
--- One stream that is stored from its own input, with room made for it before.
-use Rattle.std.specs.Prelude.{◌≡◌, ◌⊎◌, ℕ, ◌^◌, ◌<◌, ◌≤◌, ◌==◌, Bool, true, false, List, [], ◌∷◌, ◌++◌, length, Option, None, Some, Result, Ok, Err, is_ok, codes, if◌then◌else◌}
+-- One stream that is stored from its own input, with room made for it first, and the label of its case.
+use Rattle.std.specs.Prelude.{◌≡◌, ◌⊎◌, ℕ, ◌^◌, ◌<◌, ◌≤◌, ◌==◌, Bool, true, false, List, [], ◌∷◌, ◌++◌, length, Option, None, Some, Result, Ok, Err, is_ok, option_map, codes, if◌then◌else◌}
+use Rattle.arrayvec.specs.ArrayVec.{ArrayVec}
+use Rattle.script_lines.specs.Commands.{label_bytes}
 use Rattle.std.specs.Io.KnownBytes.{Consumes, Appends, IsAtEnd}
 use Rattle.intake.specs.declared.faults.ArchiveFault.{ArchiveFault}
 use Rattle.disk_model.specs.declared.disk.Disk as disk
@@ -19,20 +21,20 @@ use Rattle.inspector_cli.specs.declared.session.SessionFault.TheVariants.{ReadFa
 use Rattle.inspector_cli.specs.declared.store.TakeStop.{TakeStop}
 use Rattle.inspector_cli.specs.declared.store.TakeStop.TheVariants.{File, Refused}
 use Rattle.retention.specs.declared.Policy.{Policy}
-use Rattle.script_lines.specs.Said.{Said, silence, begin_exec, begin_core, end_of, retire_by, long_line, said}
+use Rattle.script_lines.specs.Said.{Said, silence, begin_exec, begin_core, end_of, label_of, retire_by, long_line}
 use Rattle.inspector_cli.specs.Session.{Streams}
 use Rattle.inspector_cli.specs.Stages.{Stage, Moves, IsFoundAfterAStop}
 use Rattle.script_streams.specs.Replies.{no_reply}
-use Rattle.inspector_cli.specs.Reply.{Begins, Ends, Takes, Retires}
+use Rattle.inspector_cli.specs.Reply.{Begins, Ends, Takes, Retires, Labels}
 use Rattle.stream_names.specs.Streams.{exec_stream, core_stream}
 use Rattle.archive_replies.specs.Reasons.{reason_of}
 
--- What the first line begins, or why it begins nothing: it begins a stream in slot 0. Any other line is none that is known.
-abbrev pub first_stream : Naming → Said → Result StreamFacts (List ℕ)
-first_stream naming (begin_exec slot name) = if slot == 0 then exec_stream name else Err (codes "BadLine")
-first_stream naming (begin_core slot process) = if slot == 0 then core_stream naming process else Err (codes "BadLine")
-first_stream naming long_line = Err (codes "LineTooLong")
-first_stream naming _ = Err (codes "BadLine")
+-- The stream that a line begins in slot 0, or why it begins none there. Any other line is none that is known.
+abbrev pub line_stream : Naming → Said → Result StreamFacts (List ℕ)
+line_stream naming (begin_exec slot name) = if slot == 0 then exec_stream name else Err (codes "BadLine")
+line_stream naming (begin_core slot process) = if slot == 0 then core_stream naming process else Err (codes "BadLine")
+line_stream naming long_line = Err (codes "LineTooLong")
+line_stream naming _ = Err (codes "BadLine")
 
 -- the bytes of a file are taken to its end; or to the first that are refused; or it could not be read on, or 2^40 reads
 -- were made and each gave a byte, and those that were read are taken
@@ -69,7 +71,7 @@ RestReplies g file file' fails fails' old true filled reply new stored =
 RestReplies g file file' fails fails' old false filled reply new stored =
     (file' ≡ file) × (fails' ≡ fails) × (filled ≡ old) × (reply ≡ []) × (new ≡ old) × (stored ≡ None)
 
--- what a line begins, or why it begins nothing, and its file: the replies, and the case's number where it is stored
+-- a stream that is begun, or why there is none, and its file: the replies, and the case's number where it is stored
 pub record StoresStream {D : Type 0} (g : disk.Ghosts D) (file file' : Option (List ℕ)) (fails fails' : ℕ) (old : Parts D) (found : Result StreamFacts (List ℕ))
     (replies : List ℕ) (new : Parts D) (stored : Option ℕ) : Type 0 where
   pub first : List ℕ
@@ -82,22 +84,13 @@ pub record StoresStream {D : Type 0} (g : disk.Ghosts D) (file file' : Option (L
   pub goes_on : RestReplies g file file' fails fails' mid accepted filled rest new stored
   pub text : replies ≡ first ++ rest
 
--- the policy by which a line retires, if it does
-abbrev pub retired_by : Said → Option Policy
-retired_by (retire_by policy) = Some policy
-retired_by _ = None
-
--- the policy that the line before says
-abbrev pub policy_before : List ℕ → Option Policy
-policy_before line = retired_by (said line)
-
 -- Room is made by a policy: what `retire` does in a session, and whether it was answered other than `no REASON`. Where there is no
 -- policy nothing is done and nothing is said.
 abbrev pub MakesRoom : {D : Type 0} → disk.Ghosts D → Parts D → Option Policy → List ℕ → Parts D → Bool → Type 0
 MakesRoom g old None reply new made = (reply ≡ []) × (new ≡ old) × (made ≡ true)
 MakesRoom g old (Some policy) reply new made = (answered : Retires g old policy reply new) × (made ≡ is_ok answered.0)
 
--- No room is made for it: the line begins no stream, or the name is that of a case that would stay.
+-- No room is made for it: there is no stream, or the name is that of a case that would stay.
 abbrev pub CannotBegin : ArchiveState → Policy → Result StreamFacts (List ℕ) → Type 0
 CannotBegin s policy (Err reason) = Unit {0}
 CannotBegin s policy (Ok stream) = KeepsTheName s policy stream.name true × (is_named stream.name s.cases ≡ true)
@@ -126,83 +119,103 @@ MakesRoomNamed g old policy name told new made =
     ((told ≡ []) × (new ≡ old) × (made ≡ true) × KeepsTheName (state_of old) policy name true × (is_named name (state_of old).cases ≡ true))
     ⊎ ((answered : Retires g old policy told new) × (made ≡ is_ok answered.0) × (made ≡ true → ((state_of new).stopped ≡ false) × (is_named name (state_of new).cases ≡ false)))
 
--- a line before that makes room for the stream that a line begins, and then that line and its file
-pub record Stores {D : Type 0} (g : disk.Ghosts D) (naming : Naming) (file file' : Option (List ℕ)) (fails fails' : ℕ) (old : Parts D) (before line : List ℕ)
+-- The label of the case that was stored: what `label` does in a session, and whether it was answered other than `no REASON`. Where
+-- no label is asked for, and where no case is stored, nothing is done and nothing is said.
+abbrev pub LabelsCase : {D : Type 0} → disk.Ghosts D → Parts D → Option ℕ → Option (List ℕ) → List ℕ → Parts D → Bool → Type 0
+LabelsCase g old (Some seq) (Some label) reply new done = (answered : Labels g old seq label reply new) × (done ≡ is_ok answered.0)
+LabelsCase g old (Some seq) None reply new done = (reply ≡ []) × (new ≡ old) × (done ≡ true)
+LabelsCase g old None label reply new done = (reply ≡ []) × (new ≡ old) × (done ≡ true)
+
+-- the bytes of a label, where there is one
+abbrev pub label_asked : Option (ArrayVec ℕ) → Option (List ℕ)
+label_asked label = option_map label_bytes label
+
+-- room for a stream by a policy, the stream with its file, and then the label of its case
+pub record Stores {D : Type 0} (g : disk.Ghosts D) (file file' : Option (List ℕ)) (fails fails' : ℕ) (old : Parts D) (asked : Option Policy) (found : Result StreamFacts (List ℕ)) (label : Option (List ℕ))
     (replies : List ℕ) (new : Parts D) (outcome : StoreOutcome) : Type 0 where
   pub told : List ℕ
   -- when room is made
   pub room : Parts D
-  pub makes_room : MakesRoomFor g old (policy_before before) (first_stream naming (said line)) told room outcome.made_room
+  pub makes_room : MakesRoomFor g old asked found told room outcome.made_room
   pub more : List ℕ
-  pub stores : StoresStream g file file' fails fails' room (first_stream naming (said line)) more new outcome.stored
-  pub all : replies ≡ told ++ more
+  -- when the case is stored, or the stream is refused
+  pub ended : Parts D
+  pub stores : StoresStream g file file' fails fails' room found more ended outcome.stored
+  pub last : List ℕ
+  pub labels : LabelsCase g ended outcome.stored label last new outcome.labelled
+  pub all : replies ≡ told ++ (more ++ last)
 
 -- no stream is open in slot 0
 abbrev pub IsSlotQuiet : ArchiveState → Type 0
 IsSlotQuiet s = stream_at s.streams 0 ≡ None
 
--- what the line before says: `retire` by its policy, or nothing
-abbrev pub said_before : Option Policy → Said
-said_before None = silence
-said_before (Some policy) = retire_by policy
+-- the line of a session that makes room by this policy, or no line
+abbrev pub said_room : Option Policy → Said
+said_room None = silence
+said_room (Some policy) = retire_by policy
 
--- What a stop leaves of it: room is made as by a line of a session, and only then a case is stored; its line and the file's bytes
--- change no case, and so only the end of the stream does.
-pub record StoreStages {D : Type 0} (g : disk.Ghosts D) (old : Stage D) (policy : Option Policy) (told : List ℕ) (room filled : Parts D) (reply : List ℕ) (end : Stage D) (new : Parts D) : Type 0 where
+-- the line of a session that gives the case its label, or no line
+abbrev pub said_label : Option ℕ → Option (List ℕ) → Said
+said_label (Some seq) (Some label) = label_of seq label
+said_label (Some seq) None = silence
+said_label None label = silence
+
+-- What a stop leaves of it, told as of lines of a session: room is made, then a case is stored, and only then it gets its label. The
+-- stream's beginning and the file's bytes change no case, so only the end of the stream does.
+pub record StoreStages {D : Type 0} (g : disk.Ghosts D) (old : Stage D) (policy : Option Policy) (told : List ℕ) (room filled : Parts D) (reply : List ℕ) (ended : Parts D)
+    (labels : Said) (last : List ℕ) (end : Stage D) (new : Parts D) : Type 0 where
   -- what is in doubt when room is made
   pub in_doubt : List Durable
-  pub makes_room : Moves g old (said_before policy) told (record { archive = room; in_doubt = in_doubt })
+  pub makes_room : Moves g old (said_room policy) told (record { archive = room; in_doubt = in_doubt })
   pub takes : ChangesNoCase g room filled
-  pub moves : Moves g (record { archive = filled; in_doubt = in_doubt }) (end_of 0) reply end
-  pub found : IsFoundAfterAStop g old (record { archive = room; in_doubt = in_doubt } ∷ record { archive = filled; in_doubt = in_doubt } ∷ []) end new
+  -- and when the stream has ended
+  pub later_doubt : List Durable
+  pub moves : Moves g (record { archive = filled; in_doubt = in_doubt }) (end_of 0) reply (record { archive = ended; in_doubt = later_doubt })
+  pub labelled : Moves g (record { archive = ended; in_doubt = later_doubt }) labels last end
+  pub found : IsFoundAfterAStop g old
+      (record { archive = room; in_doubt = in_doubt } ∷ record { archive = filled; in_doubt = in_doubt } ∷ record { archive = ended; in_doubt = later_doubt } ∷ []) end new
 
--- Whether room was made and the case is stored, and the replies were written; or the output failed, and has a front of them. A
--- stream that is left in slot 0 is dropped. In each case what is found after a stop is told by the stages.
-abbrev pub StoreEnds : {D : Type 0} → disk.Ghosts D → Naming → Streams → Stage D → List ℕ → List ℕ → Parts D → Result StoreOutcome SessionFault → Type 0
-StoreEnds {D} g naming t old before line new (Ok outcome) =
+-- What a stop leaves of a store.
+abbrev pub StopsStore : {D : Type 0} → (g : disk.Ghosts D) → (t : Streams) → (old : Stage D) → (asked : Option Policy) → (found : Result StreamFacts (List ℕ)) → (label : Option (List ℕ))
+    → (replies : List ℕ) → (end : Stage D) → (outcome : StoreOutcome) → Stores g t.input t.input' t.fails t.fails' old.archive asked found label replies end.archive outcome → Parts D → Type 0
+StopsStore g t old asked found label replies end outcome s new =
+    StoreStages g old s.makes_room.policy s.told s.room s.stores.filled s.stores.rest s.ended (said_label outcome.stored label) s.last end new
+
+-- What came of the store, where the replies were written; or the output failed, and has a front of them. A stream that is left in
+-- slot 0 is dropped. In each case what is found after a stop is told by the stages.
+abbrev pub StoreEnds : {D : Type 0} → disk.Ghosts D → Streams → Stage D → Option Policy → Result StreamFacts (List ℕ) → Option (List ℕ) → Parts D → Result StoreOutcome SessionFault → Type 0
+StoreEnds {D} g t old asked found label new (Ok outcome) =
     (replies : List ℕ) × (end : Stage D) × (dropped : Result (Unit {0}) ArchiveFault)
-    × (s : Stores g naming t.input t.input' t.fails t.fails' old.archive before line replies end.archive outcome) × AbandonCall g end.archive 0 dropped new × Appends t.taken t.taken' replies
-    × StoreStages g old s.makes_room.policy s.told s.room s.stores.filled s.stores.rest end new
-StoreEnds {D} g naming t old before line new (Err WriteFailed) =
+    × (s : Stores g t.input t.input' t.fails t.fails' old.archive asked found label replies end.archive outcome) × AbandonCall g end.archive 0 dropped new × Appends t.taken t.taken' replies
+    × StopsStore g t old asked found label replies end outcome s new
+StoreEnds {D} g t old asked found label new (Err WriteFailed) =
     (out : List ℕ) × (rest : List ℕ) × (end : Stage D) × (outcome : StoreOutcome) × (dropped : Result (Unit {0}) ArchiveFault)
-    × (s : Stores g naming t.input t.input' t.fails t.fails' old.archive before line (out ++ rest) end.archive outcome) × AbandonCall g end.archive 0 dropped new × Appends t.taken t.taken' out × HasRisen t.lost t.lost'
-    × StoreStages g old s.makes_room.policy s.told s.room s.stores.filled s.stores.rest end new
-StoreEnds g naming t old before line new (Err ReadFailed) = ⊥
-StoreEnds g naming t old before line new (Err TooManyReads) = ⊥
-
--- With no line before that makes room it is the stream alone: what is told and done is that of the stream over the archive as it
--- stood, and nothing comes in doubt before its end.
-pub record IsAlone {D : Type 0} (g : disk.Ghosts D) (naming : Naming) (file file' : Option (List ℕ)) (fails fails' : ℕ) (old : Stage D) (line : List ℕ)
-    (replies : List ℕ) (end : Stage D) (new : Parts D) (outcome : StoreOutcome) : Type 0 where
-  pub stores : StoresStream g file file' fails fails' old.archive (first_stream naming (said line)) replies end.archive outcome.stored
-  pub made : outcome.made_room ≡ true
-  pub takes : ChangesNoCase g old.archive stores.filled
-  pub moves : Moves g (record { archive = stores.filled; in_doubt = old.in_doubt }) (end_of 0) stores.rest end
-  pub found : IsFoundAfterAStop g old (record { archive = stores.filled; in_doubt = old.in_doubt } ∷ []) end new
-
-abbrev pub StoresAlone : {D : Type 0} → disk.Ghosts D → Type 0
-StoresAlone {D} g = (naming : Naming) (file file' : Option (List ℕ)) (fails fails' : ℕ) (old : Stage D) (before line replies : List ℕ) (end : Stage D) (new : Parts D) (outcome : StoreOutcome)
-    → policy_before before ≡ None
-    → (s : Stores g naming file file' fails fails' old.archive before line replies end.archive outcome)
-    → StoreStages g old s.makes_room.policy s.told s.room s.stores.filled s.stores.rest end new
-    → IsAlone g naming file file' fails fails' old line replies end new outcome
+    × (s : Stores g t.input t.input' t.fails t.fails' old.archive asked found label (out ++ rest) end.archive outcome) × AbandonCall g end.archive 0 dropped new × Appends t.taken t.taken' out × HasRisen t.lost t.lost'
+    × StopsStore g t old asked found label (out ++ rest) end outcome s new
+StoreEnds g t old asked found label new (Err ReadFailed) = ⊥
+StoreEnds g t old asked found label new (Err TooManyReads) = ⊥
 
 -- Nothing is retired but for a stream that is begun then. Over an archive without streams, as an opening answers it, room that
 -- was made is followed by the stream that it is for; only want of memory keeps it from beginning.
 abbrev pub RoomIsForAStream : {D : Type 0} → disk.Ghosts D → Type 0
-RoomIsForAStream {D} g = (naming : Naming) (file file' : Option (List ℕ)) (fails fails' : ℕ) (old : Parts D) (before line replies : List ℕ) (end : Parts D) (outcome : StoreOutcome) (limit : ℕ)
+RoomIsForAStream {D} g = (file file' : Option (List ℕ)) (fails fails' : ℕ) (old : Parts D) (asked : Option Policy) (found : Result StreamFacts (List ℕ)) (label : Option (List ℕ))
+    (replies : List ℕ) (end : Parts D) (outcome : StoreOutcome) (limit : ℕ)
     → IsOpened limit old
-    → (s : Stores g naming file file' fails fails' old before line replies end outcome)
+    → (s : Stores g file file' fails fails' old asked found label replies end outcome)
     → outcome.made_room ≡ true
     → (s.room ≡ old) ⊎ (s.stores.accepted ≡ true) ⊎ (s.stores.first ≡ no_reply (codes "OutOfMemory"))
 
 -- Room that was asked for is left out only where the stream is refused.
 abbrev pub RoomIsLeftOutForARefusal : {D : Type 0} → disk.Ghosts D → Type 0
-RoomIsLeftOutForARefusal {D} g = (naming : Naming) (file file' : Option (List ℕ)) (fails fails' : ℕ) (old : Parts D) (before line replies : List ℕ) (end : Parts D) (outcome : StoreOutcome) (policy : Policy)
-    → policy_before before ≡ Some policy
-    → (s : Stores g naming file file' fails fails' old before line replies end outcome)
+RoomIsLeftOutForARefusal {D} g = (file file' : Option (List ℕ)) (fails fails' : ℕ) (old : Parts D) (asked : Option Policy) (found : Result StreamFacts (List ℕ)) (label : Option (List ℕ))
+    (replies : List ℕ) (end : Parts D) (outcome : StoreOutcome) (policy : Policy)
+    → asked ≡ Some policy
+    → (s : Stores g file file' fails fails' old asked found label replies end outcome)
     → (s.makes_room.policy ≡ Some policy) ⊎ (s.stores.accepted ≡ false)
 
--- a line of no bytes makes no room
-abbrev pub NoLineIsSilent : Type 0
-NoLineIsSilent = policy_before [] ≡ None
+-- Where no room is asked for, nothing is retired and nothing is told of it.
+abbrev pub NoRoomIsMadeUnasked : {D : Type 0} → disk.Ghosts D → Type 0
+NoRoomIsMadeUnasked {D} g = (file file' : Option (List ℕ)) (fails fails' : ℕ) (old : Parts D) (found : Result StreamFacts (List ℕ)) (label : Option (List ℕ))
+    (replies : List ℕ) (end : Parts D) (outcome : StoreOutcome)
+    → (s : Stores g file file' fails fails' old None found label replies end outcome)
+    → (s.told ≡ []) × (s.room ≡ old) × (outcome.made_room ≡ true)

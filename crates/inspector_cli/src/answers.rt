@@ -20,149 +20,138 @@ use stream_names::{Naming, core_stream, exec_stream};
 // Answers a line.
 pub(crate) fn answer_plain<O: Output, D: Disk>(
     request: Request<'_>,
-    reply: &mut Reply,
-    output: &mut O,
+    reply: &mut Reply<'_, O>,
     archive: &mut Archive<D>,
     naming: &Naming,
 )
-    ensures { AnswersTo D.Disk naming.now (telling O.Output output.old output.new reply.old reply.new) archive.old (asked_by request.entry) [] archive.new }
+    ensures { AnswersTo D.Disk naming.now (telling O.Output reply.old reply.new) archive.old (asked_by request.entry) [] archive.new }
 {
     match request {
         Request::Silence => {}
-        Request::BadLine => tell_no(reply, output, b"BadLine"),
-        Request::LineTooLong => tell_no(reply, output, b"LineTooLong"),
+        Request::BadLine => tell_no(reply, b"BadLine"),
+        Request::LineTooLong => tell_no(reply, b"LineTooLong"),
         Request::BeginExec { slot, name } => {
-            let _ = answer_begin(slot, exec_stream(&name), reply, output, archive);
+            let _ = answer_begin(slot, exec_stream(&name), reply, archive);
         }
         Request::BeginCore { slot, process } => {
             let found = core_stream(&process, naming);
-            let _ = answer_begin(slot, found, reply, output, archive);
+            let _ = answer_begin(slot, found, reply, archive);
         }
         Request::End { slot } => {
-            let _ = answer_end(slot, reply, output, archive);
+            let _ = answer_end(slot, reply, archive);
         }
-        Request::Drop { slot } => answer_drop(slot, reply, output, archive),
-        Request::Delete { seq } => answer_delete(seq, reply, output, archive),
-        Request::Pin { seq, flag } => answer_pin(seq, flag, reply, output, archive),
-        Request::Label { seq, label } => answer_label(seq, &label, reply, output, archive),
+        Request::Drop { slot } => answer_drop(slot, reply, archive),
+        Request::Delete { seq } => answer_delete(seq, reply, archive),
+        Request::Pin { seq, flag } => answer_pin(seq, flag, reply, archive),
+        Request::Label { seq, label } => {
+            let _ = answer_label(seq, &label, reply, archive);
+        }
         Request::Retire { policy } => {
-            let _ = answer_retire(policy, reply, output, archive);
+            let _ = answer_retire(policy, reply, archive);
         }
-        Request::ListCases => answer_list(reply, output, archive),
-        Request::CountFree => answer_free(reply, output, archive),
-        Request::Upgrade => answer_upgrade(reply, output, archive),
+        Request::ListCases => answer_list(reply, archive),
+        Request::CountFree => answer_free(reply, archive),
+        Request::Upgrade => answer_upgrade(reply, archive),
     }
 }
 
 // Answers `end`. Says the number of the case, where it is stored.
 pub(crate) fn answer_end<O: Output, D: Disk>(
     slot: u8,
-    reply: &mut Reply,
-    output: &mut O,
+    reply: &mut Reply<'_, O>,
     archive: &mut Archive<D>,
 ) -> Option<u32>
-    ensures { TellsReply (telling O.Output output.old output.new reply.old reply.new) (λ text. Ends D.Disk archive.old slot text archive.new result) }
+    ensures { TellsReply (telling O.Output reply.old reply.new) (λ text. Ends D.Disk archive.old slot text archive.new result) }
 {
     let outcome = archive.finish(slot);
     let stored = outcome.ok();
-    tell_stored(reply, output, outcome);
+    tell_stored(reply, outcome);
     stored
 }
 
 // Answers `drop`.
-fn answer_drop<O: Output, D: Disk>(
-    slot: u8,
-    reply: &mut Reply,
-    output: &mut O,
-    archive: &mut Archive<D>,
-)
-    ensures { TellsReply (telling O.Output output.old output.new reply.old reply.new) (λ text. Drops D.Disk archive.old slot text archive.new) }
+fn answer_drop<O: Output, D: Disk>(slot: u8, reply: &mut Reply<'_, O>, archive: &mut Archive<D>)
+    ensures { TellsReply (telling O.Output reply.old reply.new) (λ text. Drops D.Disk archive.old slot text archive.new) }
 {
     let outcome = archive.abandon(slot);
-    tell_outcome(reply, output, outcome);
+    tell_outcome(reply, outcome);
 }
 
 // Answers `delete`.
-fn answer_delete<O: Output, D: Disk>(
-    seq: u32,
-    reply: &mut Reply,
-    output: &mut O,
-    archive: &mut Archive<D>,
-)
-    ensures { TellsReply (telling O.Output output.old output.new reply.old reply.new) (λ text. Deletes D.Disk archive.old seq text archive.new) }
+fn answer_delete<O: Output, D: Disk>(seq: u32, reply: &mut Reply<'_, O>, archive: &mut Archive<D>)
+    ensures { TellsReply (telling O.Output reply.old reply.new) (λ text. Deletes D.Disk archive.old seq text archive.new) }
 {
     let outcome = archive.delete(seq);
-    tell_outcome(reply, output, outcome);
+    tell_outcome(reply, outcome);
 }
 
 // Answers `pin` and `unpin`.
 fn answer_pin<O: Output, D: Disk>(
     seq: u32,
     flag: bool,
-    reply: &mut Reply,
-    output: &mut O,
+    reply: &mut Reply<'_, O>,
     archive: &mut Archive<D>,
 )
-    ensures { TellsReply (telling O.Output output.old output.new reply.old reply.new) (λ text. Pins D.Disk archive.old seq flag text archive.new) }
+    ensures { TellsReply (telling O.Output reply.old reply.new) (λ text. Pins D.Disk archive.old seq flag text archive.new) }
 {
     let outcome = archive.pin(seq, flag);
-    tell_outcome(reply, output, outcome);
+    tell_outcome(reply, outcome);
 }
 
-// Answers `label`.
-fn answer_label<O: Output, D: Disk>(
+// Answers `label`. Says whether it was answered other than `no REASON`.
+pub(crate) fn answer_label<O: Output, D: Disk>(
     seq: u32,
     label: &ArrayVec<u8, 64>,
-    reply: &mut Reply,
-    output: &mut O,
+    reply: &mut Reply<'_, O>,
     archive: &mut Archive<D>,
-)
-    ensures { TellsReply (telling O.Output output.old output.new reply.old reply.new) (λ text. Labels D.Disk archive.old seq label.now.items text archive.new) }
+) -> bool
+    ensures { TellsReply (telling O.Output reply.old reply.new) (λ text. (answered : Labels D.Disk archive.old seq label.now.items text archive.new) × (result ≡ is_ok answered.0)) }
 {
     let outcome = archive.label(seq, label.as_slice());
-    tell_outcome(reply, output, outcome);
+    let is_carried_out = outcome.is_ok();
+    tell_outcome(reply, outcome);
+    is_carried_out
 }
 
 // Answers `upgrade`.
-fn answer_upgrade<O: Output, D: Disk>(reply: &mut Reply, output: &mut O, archive: &mut Archive<D>)
-    ensures { TellsReply (telling O.Output output.old output.new reply.old reply.new) (λ text. Upgrades D.Disk archive.old text archive.new) }
+fn answer_upgrade<O: Output, D: Disk>(reply: &mut Reply<'_, O>, archive: &mut Archive<D>)
+    ensures { TellsReply (telling O.Output reply.old reply.new) (λ text. Upgrades D.Disk archive.old text archive.new) }
 {
     let outcome = archive.upgrade();
-    tell_outcome(reply, output, outcome);
+    tell_outcome(reply, outcome);
 }
 
 // Answers `retire`. Says whether it was answered other than `no REASON`.
 fn answer_retire<O: Output, D: Disk>(
     policy: Policy,
-    reply: &mut Reply,
-    output: &mut O,
+    reply: &mut Reply<'_, O>,
     archive: &mut Archive<D>,
 ) -> bool
-    ensures { TellsReply (telling O.Output output.old output.new reply.old reply.new) (λ text. (answered : Retires D.Disk archive.old policy text archive.new) × (result ≡ is_ok answered.0)) }
+    ensures { TellsReply (telling O.Output reply.old reply.new) (λ text. (answered : Retires D.Disk archive.old policy text archive.new) × (result ≡ is_ok answered.0)) }
 {
     let outcome = archive.retire(&policy);
     let is_carried_out = outcome.is_ok();
-    tell_retired(reply, output, outcome);
+    tell_retired(reply, outcome);
     is_carried_out
 }
 
 // Answers `list`.
-fn answer_list<O: Output, D: Disk>(reply: &mut Reply, output: &mut O, archive: &Archive<D>)
-    ensures { TellsText (telling O.Output output.old output.new reply.old reply.new) (list_reply (state_of archive.now).stopped (state_of archive.now).version (state_of archive.now).cases) }
+fn answer_list<O: Output, D: Disk>(reply: &mut Reply<'_, O>, archive: &Archive<D>)
+    ensures { TellsText (telling O.Output reply.old reply.new) (list_reply (state_of archive.now).stopped (state_of archive.now).version (state_of archive.now).cases) }
 {
     let Ok(version) = archive.version() else {
-        tell_no(reply, output, b"Stopped");
+        tell_no(reply, b"Stopped");
         return;
     };
     match archive.cases() {
-        Ok(cases) => tell_cases(reply, output, version, cases),
-        Err(_) => tell_no(reply, output, b"Stopped"),
+        Ok(cases) => tell_cases(reply, version, cases),
+        Err(_) => tell_no(reply, b"Stopped"),
     }
 }
 
 // Answers `free`.
-fn answer_free<O: Output, D: Disk>(reply: &mut Reply, output: &mut O, archive: &Archive<D>)
-    ensures { TellsReply (telling O.Output output.old output.new reply.old reply.new) (λ text. Frees archive.now text archive.now) }
+fn answer_free<O: Output, D: Disk>(reply: &mut Reply<'_, O>, archive: &Archive<D>)
+    ensures { TellsReply (telling O.Output reply.old reply.new) (λ text. Frees archive.now text archive.now) }
 {
-    tell_free(reply, output, archive.free_blocks());
+    tell_free(reply, archive.free_blocks());
 }

@@ -112,9 +112,9 @@ fn write_out<D: Disk, O: Output>(
     ensures { WritesOut D.Disk disk.old disk.new (O.taken output.old) (O.taken output.new) (O.failures output.old) (O.failures output.new)
         (λ (b : List ℕ). bytes_in b ranges.now) result }
 {
-    let mut reply = Reply::new();
-    let copied = copy_ranges(disk, ranges, buffer, &mut reply, output);
-    let written = reply.finish(output);
+    let mut reply = Reply::new(output);
+    let copied = copy_ranges(disk, ranges, buffer, &mut reply);
+    let written = reply.finish();
     match copied {
         Ok(()) => match written {
             Ok(()) => Ok(()),
@@ -129,16 +129,15 @@ fn copy_ranges<D: Disk, O: Output>(
     disk: &mut D,
     ranges: &[ByteRange],
     buffer: &mut [u8],
-    reply: &mut Reply,
-    output: &mut O,
+    reply: &mut Reply<'_, O>,
 ) -> Result<(), Halt>
     requires within { AreWithin (D.size disk.old) ranges.now }
     requires room { 0 < length buffer.old }
-    ensures { Copies D.Disk disk.old disk.new (telling O.Output output.old output.new reply.old reply.new)
+    ensures { Copies D.Disk disk.old disk.new (telling O.Output reply.old reply.new)
         (λ (b : List ℕ). bytes_in b ranges.now) result }
 {
     for range in ranges {
-        copy_range(disk, *range, buffer, reply, output)?;
+        copy_range(disk, *range, buffer, reply)?;
     }
     Ok(())
 }
@@ -148,12 +147,11 @@ fn copy_range<D: Disk, O: Output>(
     disk: &mut D,
     range: ByteRange,
     buffer: &mut [u8],
-    reply: &mut Reply,
-    output: &mut O,
+    reply: &mut Reply<'_, O>,
 ) -> Result<(), Halt>
     requires within { range.start + range.length ≤ D.size disk.old }
     requires room { 0 < length buffer.old }
-    ensures { Copies D.Disk disk.old disk.new (telling O.Output output.old output.new reply.old reply.new)
+    ensures { Copies D.Disk disk.old disk.new (telling O.Output reply.old reply.new)
         (λ (b : List ℕ). part b range.start range.length) result }
 {
     let mut done = 0;
@@ -164,7 +162,6 @@ fn copy_range<D: Disk, O: Output>(
             range.start + done,
             &mut buffer[..count as usize],
             reply,
-            output,
         )?;
         done += count;
     }
@@ -176,16 +173,15 @@ fn copy_piece<D: Disk, O: Output>(
     disk: &mut D,
     start: u64,
     piece: &mut [u8],
-    reply: &mut Reply,
-    output: &mut O,
+    reply: &mut Reply<'_, O>,
 ) -> Result<(), Halt>
     requires { start + length piece.old ≤ D.size disk.old }
-    ensures { Copies D.Disk disk.old disk.new (telling O.Output output.old output.new reply.old reply.new)
+    ensures { Copies D.Disk disk.old disk.new (telling O.Output reply.old reply.new)
         (λ (b : List ℕ). part b start (length piece.old)) result }
 {
     match disk.read_at(start, piece) {
         Ok(()) => {
-            reply.tell(output, piece);
+            reply.tell(piece);
             if reply.has_failed() {
                 Err(Halt::Output)
             } else {

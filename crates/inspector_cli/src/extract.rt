@@ -58,7 +58,7 @@ pub fn write_image<O: Output>(output: &mut O, image: &[u8]) -> Result<(), Stream
     ensures delivered { IsDelivered (O.taken output.old) (O.failures output.old) (O.taken output.new) (O.failures output.new)
         image.now result }
 {
-    let mut reply = Reply::new();
-    reply.tell(output, image);
-    reply.finish(output)
+    let mut reply = Reply::new(output);
+    reply.tell(image);
+    reply.finish()
 }

@@ -1,10 +1,14 @@
 //! What holds over every script and every session. These functions do nothing.
 ghost use Rattle.inspector_cli.specs.Cuts.{HasOneCut, HasACut, HasOneFront};
-ghost use Rattle.inspector_cli.specs.Storing.{StoresAlone, NoLineIsSilent, RoomIsForAStream, RoomIsLeftOutForARefusal};
+ghost use Rattle.inspector_cli.specs.Headline.{SessionsAreCrashSafe};
+ghost use Rattle.inspector_cli.specs.StoreHeadline.{StoresAreCrashSafe};
+ghost use Rattle.inspector_cli.specs.Storing.{RoomIsForAStream, RoomIsLeftOutForARefusal, NoRoomIsMadeUnasked};
 ghost use Rattle.inspector_cli.specs.Runs.{WholeIsARun, FrontIsARun, StagesAreClear, SessionsAreLived};
 
 use disk_model::Disk;
-use intake::calls_lead_from_mark_to_mark;
+use intake::{
+    calls_lead_from_mark_to_mark, found_after_a_stop, nothing_else_is_left, what_calls_leave,
+};
 use script_streams::lines_are_cut_one_way;
 
 /// A script has one cut into lines, each with the bytes that it says stand behind it, and an ending; and every text has one.
@@ -29,17 +33,33 @@ pub fn sessions_are_runs<D: Disk>()
     calls_lead_from_mark_to_mark::<D>();
 }
 
-/// With no line before, or one that does not say `retire`, `store_stream` stores the stream alone: it tells what it tells of the
-/// stream, over the archive as it stood; nothing is in doubt before the stream's end, and `made_room` is true.
-pub fn a_silent_line_makes_no_room<D: Disk>()
-    ensures alone { StoresAlone D.Disk }
-    ensures silent { NoLineIsSilent }
-{}
+/// The headline, of each session from an opening on. Whenever the machine stops after a line has been answered, between two disk
+/// writes or within one, what is left opens as what the archive held then, or behind a later line, or as what a line that was
+/// answered `no Disk` would have left. Each line does what it says, or is refused and changes nothing.
+pub fn a_session_is_crash_safe<D: Disk>()
+    ensures { SessionsAreCrashSafe D.Disk }
+{
+    what_calls_leave::<D>();
+    nothing_else_is_left::<D>();
+    sessions_are_runs::<D>();
+}
+
+/// The headline of each store from an opening on: what the archive holds when room is made, when the case is stored, and when it has
+/// its label. The case is the stream that was begun, with all bytes of FILE as its image.
+pub fn a_store_is_crash_safe<D: Disk>()
+    ensures { StoresAreCrashSafe D.Disk }
+{
+    calls_lead_from_mark_to_mark::<D>();
+    found_after_a_stop::<D>();
+    nothing_else_is_left::<D>();
+    what_calls_leave::<D>();
+}
 
 /// `store_stream` retires no case in vain: over an archive as an opening answers it, room that was made is followed by the stream
 /// that it is for, and only want of memory keeps that from beginning; room that was asked for is left out only where the stream
-/// is refused.
+/// is refused. Where no room is asked for, nothing is retired.
 pub fn room_is_made_for_a_stream<D: Disk>()
     ensures begun { RoomIsForAStream D.Disk }
     ensures left_out { RoomIsLeftOutForARefusal D.Disk }
+    ensures unasked { NoRoomIsMadeUnasked D.Disk }
 {}

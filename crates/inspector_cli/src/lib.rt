@@ -18,18 +18,20 @@ mod store_life;
 mod stored;
 
 pub use archive_replies::reason;
+pub use begin::line_stream;
 pub use copying::{CopyFault, copy_image};
 pub use extract::{ImageFault, read_image, write_image};
 pub use laws::{
-    a_script_has_one_cut, a_silent_line_makes_no_room, room_is_made_for_a_stream, sessions_are_runs,
+    a_script_has_one_cut, a_session_is_crash_safe, a_store_is_crash_safe,
+    room_is_made_for_a_stream, sessions_are_runs,
 };
 pub use life::open_and_run;
 pub use memory_life::memory_session;
 pub use run::run_session;
-pub use script_lines::{is_question, makes_room, only_looks};
+pub use script_lines::{is_question, only_looks};
 pub use script_streams::{Input, Output, ReadInput, StreamFault, WriteOutput};
 pub use session::{LifeFault, MemoryFault, SessionFault, StoreOutcome};
 pub use store::store_stream;
 pub use store_life::open_and_store;
 pub use stored::a_stored_case_is_found;
-pub use stream_names::Naming;
+pub use stream_names::{Naming, NewStream};

@@ -1,7 +1,9 @@
 // From the opening of an archive on.
 ghost use Rattle.inspector_cli.specs.Session.{streams_of};
+ghost use Rattle.inspector_cli.specs.Headline.{Headline};
 ghost use Rattle.inspector_cli.specs.Life.{LifeEnds, RunsOver};
 
+use crate::laws::a_session_is_crash_safe;
 use crate::run::run_session;
 use crate::session::LifeFault;
 use disk_model::Disk;
@@ -23,6 +25,22 @@ use stream_names::Naming;
 /// `Open` where the archive could not be opened: nothing is written then, and no stream is touched. `Session` as
 /// `run_session` ends.
 pub fn open_and_run<I: Input, O: Output, D: Disk>(
+    alloc: Global,
+    disk: D,
+    settings: Settings,
+    naming: &Naming,
+    input: &mut I,
+    output: &mut O,
+) -> (Result<(), LifeFault>, D)
+    ensures crash_safe { let streams = streams_of I.Input O.Output input.old input.new output.old output.new in LifeEnds D.Disk settings.limit streams disk result.0 result.1 (RunsOver D.Disk naming.now streams) }
+    ensures headline { Headline (Unit {0}) D.Disk (streams_of I.Input O.Output input.old input.new output.old output.new) disk result.0 result.1 }
+{
+    a_session_is_crash_safe::<D>();
+    open_then_run(alloc, disk, settings, naming, input, output)
+}
+
+// Opens the archive on a disk, runs a session over it, and hands the disk back.
+fn open_then_run<I: Input, O: Output, D: Disk>(
     alloc: Global,
     disk: D,
     settings: Settings,

@@ -19,23 +19,22 @@ pub(crate) fn answer_part<I: Input, O: Output, D: Disk>(
     count: u32,
     buffer: &mut ScriptBuffer,
     input: &mut I,
-    reply: &mut Reply,
-    output: &mut O,
+    reply: &mut Reply<'_, O>,
     archive: &mut Archive<D>,
 ) -> Result<bool, ReadStop>
     ensures answers { (naming : Naming) → PartAnswers D.Disk naming
         (reading I.Input input.old input.new buffer.old buffer.new)
-        (telling O.Output output.old output.new reply.old reply.new)
+        (telling O.Output reply.old reply.new)
         archive.old (part_of slot count) archive.new result }
     ensures stops { Stops (I.failures input.old) (I.failures input.new) buffer.new result }
 {
-    let (missing, verdict) = take_part(slot, count, buffer, input, reply, output, archive)?;
+    let (missing, verdict) = take_part(slot, count, buffer, input, reply, archive)?;
     if missing == 0 {
-        tell_outcome(reply, output, verdict);
+        tell_outcome(reply, verdict);
         return Ok(true);
     }
     let _ = archive.abandon(slot);
-    tell_no(reply, output, b"Truncated");
+    tell_no(reply, b"Truncated");
     Ok(false)
 }
 
@@ -45,22 +44,19 @@ fn take_part<I: Input, O: Output, D: Disk>(
     count: u32,
     buffer: &mut ScriptBuffer,
     input: &mut I,
-    reply: &mut Reply,
-    output: &mut O,
+    reply: &mut Reply<'_, O>,
     archive: &mut Archive<D>,
 ) -> Result<(u32, Result<(), ArchiveFault>), ReadStop>
     ensures takes { PartEnds D.Disk
         (reading I.Input input.old input.new buffer.old buffer.new) archive.old slot count
         archive.new result }
     ensures stops { Stops (I.failures input.old) (I.failures input.new) buffer.new result }
-    ensures tells { TellsText (telling O.Output output.old output.new reply.old reply.new) [] }
+    ensures tells { TellsText (telling O.Output reply.old reply.new) [] }
 {
     let mut verdict = archive.advance(slot, 0);
     let mut missing = count;
     while missing > 0 {
-        let (taken, answer) = take_piece(
-            slot, missing, verdict, buffer, input, reply, output, archive,
-        )?;
+        let (taken, answer) = take_piece(slot, missing, verdict, buffer, input, reply, archive)?;
         verdict = answer;
         if taken == 0 {
             return Ok((missing, verdict));
@@ -77,8 +73,7 @@ fn take_piece<I: Input, O: Output, D: Disk>(
     verdict: Result<(), ArchiveFault>,
     buffer: &mut ScriptBuffer,
     input: &mut I,
-    reply: &mut Reply,
-    output: &mut O,
+    reply: &mut Reply<'_, O>,
     archive: &mut Archive<D>,
 ) -> Result<(u32, Result<(), ArchiveFault>), ReadStop>
     requires { 0 < most }
@@ -86,12 +81,12 @@ fn take_piece<I: Input, O: Output, D: Disk>(
         → Takes D.Disk begun slot so_far verdict archive.old
         → PieceEnds D.Disk (reading I.Input input.old input.new buffer.old buffer.new) begun slot so_far most verdict archive.new result }
     ensures stops { Stops (I.failures input.old) (I.failures input.new) buffer.new result }
-    ensures tells { TellsText (telling O.Output output.old output.new reply.old reply.new) [] }
+    ensures tells { TellsText (telling O.Output reply.old reply.new) [] }
 {
     match verdict {
-        Ok(()) => fill_piece(slot, most, buffer, input, reply, output, archive),
+        Ok(()) => fill_piece(slot, most, buffer, input, reply, archive),
         Err(fault) => {
-            let skipped = skip_piece(most, buffer, input, reply, output)?;
+            let skipped = skip_piece(most, buffer, input, reply)?;
             Ok((skipped, Err(fault)))
         }
     }
@@ -103,8 +98,7 @@ fn fill_piece<I: Input, O: Output, D: Disk>(
     most: u32,
     buffer: &mut ScriptBuffer,
     input: &mut I,
-    reply: &mut Reply,
-    output: &mut O,
+    reply: &mut Reply<'_, O>,
     archive: &mut Archive<D>,
 ) -> Result<(u32, Result<(), ArchiveFault>), ReadStop>
     requires { 0 < most }
@@ -112,14 +106,14 @@ fn fill_piece<I: Input, O: Output, D: Disk>(
         → Takes D.Disk begun slot so_far (Ok tt) archive.old
         → PieceEnds D.Disk (reading I.Input input.old input.new buffer.old buffer.new) begun slot so_far most (Ok tt) archive.new result }
     ensures stops { Stops (I.failures input.old) (I.failures input.new) buffer.new result }
-    ensures tells { TellsText (telling O.Output output.old output.new reply.old reply.new) [] }
+    ensures tells { TellsText (telling O.Output reply.old reply.new) [] }
 {
     let (lent, room) = archive.room(slot);
     if let Err(fault) = lent {
         return Ok((0, Err(fault)));
     }
     let size = room.len().min(most as usize);
-    let taken = buffer.next_raw(input, &mut room[..size], reply, output)?;
+    let taken = buffer.next_raw(input, &mut room[..size], reply)?;
     let answer = archive.advance(slot, taken);
     Ok((taken as u32, answer))
 }
@@ -129,17 +123,16 @@ fn skip_piece<I: Input, O: Output>(
     most: u32,
     buffer: &mut ScriptBuffer,
     input: &mut I,
-    reply: &mut Reply,
-    output: &mut O,
+    reply: &mut Reply<'_, O>,
 ) -> Result<u32, ReadStop>
     requires { 0 < most }
     ensures skips { SkipEnds
         (reading I.Input input.old input.new buffer.old buffer.new) most result }
     ensures stops { Stops (I.failures input.old) (I.failures input.new) buffer.new result }
-    ensures tells { TellsText (telling O.Output output.old output.new reply.old reply.new) [] }
+    ensures tells { TellsText (telling O.Output reply.old reply.new) [] }
 {
     let mut scratch = [0u8; 4096];
     let size = scratch.len().min(most as usize);
-    let taken = buffer.next_raw(input, &mut scratch[..size], reply, output)?;
+    let taken = buffer.next_raw(input, &mut scratch[..size], reply)?;
     Ok(taken as u32)
 }

@@ -33,18 +33,10 @@ pub fn run_session<I: Input, O: Output, D: Disk>(
     calls_lead_from_mark_to_mark::<D>();
     found_after_a_stop::<D>();
     let mut buffer = ScriptBuffer::new();
-    let mut reply = Reply::new();
-    let answered = answer_script(
-        alloc,
-        &mut buffer,
-        input,
-        &mut reply,
-        output,
-        archive,
-        naming,
-    );
+    let mut reply = Reply::new(output);
+    let answered = answer_script(alloc, &mut buffer, input, &mut reply, archive, naming);
     close_streams(archive);
-    let Ok(()) = reply.finish(output) else {
+    let Ok(()) = reply.finish() else {
         return Err(SessionFault::WriteFailed);
     };
     match answered {

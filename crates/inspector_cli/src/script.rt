@@ -1,5 +1,5 @@
 // The commands of a script, one after the other.
-ghost use Rattle.std.specs.Prelude.{◌≡◌, true, ℕ, ◌<◌, List, length};
+ghost use Rattle.std.specs.Prelude.{◌≡◌, true, false, ℕ, ◌<◌, List, length};
 ghost use Rattle.script_streams.specs.Lines.{IsLine, KeepsLine};
 ghost use Rattle.script_streams.specs.Reading.{Stops};
 ghost use Rattle.script_streams.specs.Telling.{has_failed};
@@ -46,14 +46,13 @@ pub(crate) fn answer_script<I: Input, O: Output, D: Disk>(
     alloc: Global,
     buffer: &mut ScriptBuffer,
     input: &mut I,
-    reply: &mut Reply,
-    output: &mut O,
+    reply: &mut Reply<'_, O>,
     archive: &mut Archive<D>,
     naming: &Naming,
 ) -> Result<(), ScriptStop>
     ensures answers { (before : List Durable) → ScriptEnds D.Disk naming.now
         (reading I.Input input.old input.new buffer.old buffer.new)
-        (telling O.Output output.old output.new reply.old reply.new)
+        (telling O.Output reply.old reply.new)
         (record { archive = archive.old; in_doubt = before }) archive.new result }
     ensures stops { Halts (I.failures input.old) (I.failures input.new) buffer.new result }
 {
@@ -68,7 +67,6 @@ pub(crate) fn answer_script<I: Input, O: Output, D: Disk>(
             buffer,
             input,
             reply,
-            output,
             archive,
             naming,
         )?;
@@ -82,8 +80,7 @@ fn answer_command<I: Input, O: Output, D: Disk>(
     images: &mut Images,
     buffer: &mut ScriptBuffer,
     input: &mut I,
-    reply: &mut Reply,
-    output: &mut O,
+    reply: &mut Reply<'_, O>,
     archive: &mut Archive<D>,
     naming: &Naming,
 ) -> Result<bool, ScriptStop>
@@ -91,24 +88,24 @@ fn answer_command<I: Input, O: Output, D: Disk>(
     requires beside { AreKept D.Disk archive.old images.old.kept }
     ensures answers { CommandEnds D.Disk naming.now
         (reading I.Input input.old input.new buffer.old buffer.new)
-        (telling O.Output output.old output.new reply.old reply.new)
+        (telling O.Output reply.old reply.new)
         archive.old archive.new result }
     ensures unheard { has_failed reply.old ≡ true → archive.new ≡ archive.old }
     ensures kept { IsKept D.Disk archive.new images.new.kept }
     ensures beside { AreKept D.Disk archive.new images.new.kept }
     ensures stops { Halts (I.failures input.old) (I.failures input.new) buffer.new result }
 {
-    let ending = buffer.next_line(input, line, reply, output)?;
+    let ending = buffer.next_line(input, line, reply)?;
     if reply.has_failed() {
         return Err(ScriptStop::Unheard);
     }
     match ending {
         LineEnding::Newline => {
-            let goes_on = answer_line(line, images, buffer, input, reply, output, archive, naming)?;
+            let goes_on = answer_line(line, images, buffer, input, reply, archive, naming)?;
             Ok(goes_on)
         }
         LineEnding::EndOfInput => {
-            answer_last(line, images, reply, output, archive, naming);
+            answer_last(line, images, reply, archive, naming);
             Ok(false)
         }
         LineEnding::NothingLeft => Ok(false),
@@ -121,17 +118,17 @@ fn answer_line<I: Input, O: Output, D: Disk>(
     images: &mut Images,
     buffer: &mut ScriptBuffer,
     input: &mut I,
-    reply: &mut Reply,
-    output: &mut O,
+    reply: &mut Reply<'_, O>,
     archive: &mut Archive<D>,
     naming: &Naming,
 ) -> Result<bool, ReadStop>
+    requires heard { has_failed reply.old ≡ false }
     requires line { (text : List ℕ) × KeepsLine text line.now }
     requires kept { IsKept D.Disk archive.old images.old.kept }
     requires beside { AreKept D.Disk archive.old images.old.kept }
     ensures answers { (text : List ℕ) → KeepsLine text line.now
         → PartAnswers D.Disk naming.now (reading I.Input input.old input.new buffer.old buffer.new)
-        (telling O.Output output.old output.new reply.old reply.new)
+        (telling O.Output reply.old reply.new)
         archive.old (said text) archive.new result }
     ensures stops { Stops (I.failures input.old) (I.failures input.new) buffer.new result }
     ensures kept { IsKept D.Disk archive.new images.new.kept }
@@ -140,15 +137,15 @@ fn answer_line<I: Input, O: Output, D: Disk>(
     match parse_line(line) {
         Command::Part { slot, count } => {
             images.kept = None;
-            answer_part(slot, count, buffer, input, reply, output, archive)
+            answer_part(slot, count, buffer, input, reply, archive)
         }
         Command::Inspect { seq, query } => {
-            answer_query(seq, &query, images, reply, output, archive);
+            answer_query(seq, &query, images, reply, archive);
             Ok(true)
         }
         Command::Plain(request) => {
             images.kept = None;
-            answer_plain(request, reply, output, archive, naming);
+            answer_plain(request, reply, archive, naming);
             Ok(true)
         }
     }
@@ -158,30 +155,28 @@ fn answer_line<I: Input, O: Output, D: Disk>(
 fn answer_last<O: Output, D: Disk>(
     line: &KeptLine,
     images: &mut Images,
-    reply: &mut Reply,
-    output: &mut O,
+    reply: &mut Reply<'_, O>,
     archive: &mut Archive<D>,
     naming: &Naming,
 )
+    requires heard { has_failed reply.old ≡ false }
     requires line { (text : List ℕ) × KeepsLine text line.now }
     requires kept { IsKept D.Disk archive.old images.old.kept }
     requires beside { AreKept D.Disk archive.old images.old.kept }
     ensures answers { (text : List ℕ) → KeepsLine text line.now
-        → LastAnswers D.Disk naming.now (telling O.Output output.old output.new reply.old reply.new) archive.old (said text) archive.new }
+        → LastAnswers D.Disk naming.now (telling O.Output reply.old reply.new) archive.old (said text) archive.new }
     ensures kept { IsKept D.Disk archive.new images.new.kept }
     ensures beside { AreKept D.Disk archive.new images.new.kept }
 {
     match parse_line(line) {
         Command::Part { slot, count } => {
             images.kept = None;
-            answer_cut(slot, count, reply, output, archive)
+            answer_cut(slot, count, reply, archive)
         }
-        Command::Inspect { seq, query } => {
-            answer_query(seq, &query, images, reply, output, archive)
-        }
+        Command::Inspect { seq, query } => { answer_query(seq, &query, images, reply, archive) }
         Command::Plain(request) => {
             images.kept = None;
-            answer_plain(request, reply, output, archive, naming)
+            answer_plain(request, reply, archive, naming)
         }
     }
 }
@@ -190,17 +185,16 @@ fn answer_last<O: Output, D: Disk>(
 fn answer_cut<O: Output, D: Disk>(
     slot: u8,
     count: u32,
-    reply: &mut Reply,
-    output: &mut O,
+    reply: &mut Reply<'_, O>,
     archive: &mut Archive<D>,
 )
-    ensures { (naming : Naming) → LastAnswers D.Disk naming (telling O.Output output.old output.new reply.old reply.new) archive.old (part_of slot count) archive.new }
+    ensures { (naming : Naming) → LastAnswers D.Disk naming (telling O.Output reply.old reply.new) archive.old (part_of slot count) archive.new }
 {
     let verdict = archive.advance(slot, 0);
     if count == 0 {
-        tell_outcome(reply, output, verdict);
+        tell_outcome(reply, verdict);
         return;
     }
     let _ = archive.abandon(slot);
-    tell_no(reply, output, b"Truncated");
+    tell_no(reply, b"Truncated");
 }

@@ -2,13 +2,15 @@
 use journal_layout::OpenFault;
 use thiserror::Error;
 
-/// What came of a stream that was to be stored, and of the line before it that makes room.
+/// What came of a stream that was to be stored, of the room for it, and of the label of its case.
 #[derive(Clone, Copy, PartialEq, Eq, Debug)]
 pub struct StoreOutcome {
-    /// Room was made, or none was asked for: false only where the line `retire ..` was answered `no REASON`.
+    /// False only where room was to be made, and that was answered `no REASON`.
     pub made_room: bool,
     /// The number of the case, where it is stored.
     pub stored: Option<u32>,
+    /// False only where the case was to have a label, and that was answered `no REASON`.
+    pub labelled: bool,
 }
 
 /// Why a session ended before its script.

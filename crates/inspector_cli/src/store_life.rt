@@ -1,19 +1,25 @@
 // One stream, stored from the opening of its archive on.
+ghost use Rattle.stream_names.specs.Commands.{stream_found};
 ghost use Rattle.inspector_cli.specs.Session.{streams_of};
+ghost use Rattle.inspector_cli.specs.StoreHeadline.{StoreHeadline};
 ghost use Rattle.inspector_cli.specs.Life.{LifeEnds, StoresOver};
+ghost use Rattle.inspector_cli.specs.Storing.{label_asked};
 
+use crate::laws::a_store_is_crash_safe;
 use crate::session::{LifeFault, StoreOutcome};
 use crate::store::store_stream;
+use arrayvec::ArrayVec;
 use disk_model::Disk;
 use intake::{Archive, Settings};
+use retention::Policy;
 use script_streams::{Input, Output};
 use std::alloc::Global;
-use stream_names::Naming;
+use stream_names::NewStream;
 
-/// Opens the archive on a disk, makes room in it and stores one stream as `store_stream` does, and hands the disk back. Says
-/// whether room was made and whether the case is stored. Crash safety is that of `open_and_run`, the lines being `before` where it
-/// says `retire ..`, the one that begins the stream, its bytes, and the line `end 0`: so a machine that stops once room is made
-/// may have lost what was retired, and not have the new case.
+/// Opens the archive on a disk, stores one stream as `store_stream` does, and hands the disk back. Crash safety is that of
+/// `open_and_run` over the lines `retire`, `begin`, `end 0` and `label`, of which each is there that was carried out. So a machine
+/// that stops once room is made may have lost what was retired, and not have the new case; and one that stops once the case
+/// is stored may not have its label.
 ///
 /// # Errors
 ///
@@ -23,18 +29,36 @@ pub fn open_and_store<I: Input, O: Output, D: Disk>(
     alloc: Global,
     disk: D,
     settings: Settings,
-    naming: &Naming,
-    before: &[u8],
-    line: &[u8],
+    policy: Option<Policy>,
+    found: Result<NewStream, &'static [u8]>,
+    label: &Option<ArrayVec<u8, 64>>,
     file: &mut I,
     output: &mut O,
 ) -> (Result<StoreOutcome, LifeFault>, D)
-    ensures crash_safe { let streams = streams_of I.Input O.Output file.old file.new output.old output.new in LifeEnds D.Disk settings.limit streams disk result.0 result.1 (StoresOver D.Disk naming.now before.now line.now streams) }
+    ensures crash_safe { let streams = streams_of I.Input O.Output file.old file.new output.old output.new in LifeEnds D.Disk settings.limit streams disk result.0 result.1 (StoresOver D.Disk policy (stream_found found.entry) (label_asked label.now) streams) }
+    ensures headline { StoreHeadline D.Disk (streams_of I.Input O.Output file.old file.new output.old output.new) policy (stream_found found.entry) (label_asked label.now) disk result.0 result.1 }
+{
+    a_store_is_crash_safe::<D>();
+    open_then_store(alloc, disk, settings, policy, found, label, file, output)
+}
+
+// Opens the archive on a disk, stores one stream, and hands the disk back.
+fn open_then_store<I: Input, O: Output, D: Disk>(
+    alloc: Global,
+    disk: D,
+    settings: Settings,
+    policy: Option<Policy>,
+    found: Result<NewStream, &'static [u8]>,
+    label: &Option<ArrayVec<u8, 64>>,
+    file: &mut I,
+    output: &mut O,
+) -> (Result<StoreOutcome, LifeFault>, D)
+    ensures crash_safe { let streams = streams_of I.Input O.Output file.old file.new output.old output.new in LifeEnds D.Disk settings.limit streams disk result.0 result.1 (StoresOver D.Disk policy (stream_found found.entry) (label_asked label.now) streams) }
 {
     match Archive::open(alloc, disk, settings) {
         Ok(archive) => {
             let mut archive = archive;
-            let ended = store_stream(before, line, file, output, &mut archive, naming);
+            let ended = store_stream(policy, found, label, file, output, &mut archive);
             let disk = archive.close();
             match ended {
                 Ok(outcome) => (Ok(outcome), disk),

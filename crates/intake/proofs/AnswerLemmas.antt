@@ -203,7 +203,7 @@ module _ {D : Type 0} (g : disk.Ghosts D) (counts : (d : D) (t : ℕ) (c : List 
   just_stored : (last stored : Parts D) (slot seq : ℕ) (c : FoundCase) → IsTrue (g.is_honest last.disk) → FinishCall g last slot (Ok seq) stored → c.seq ≡ seq → (durable_of g.seen stored).cases ≡ (durable_of g.seen last).cases ++ c ∷ []
       → IsOrIsGone seq c.image (durable_of g.seen stored)
   just_stored last stored slot seq c honest finish number cases =
-      let real = finish.changes.honesty ∙ honest in
+      let real = finish.changes.disk.honesty ∙ honest in
       let runs : stored.stopped ≡ false = ap (λ (b : ArchiveState). b.stopped) finish.step.7 ∙ finish.step.2.0 in
       let stands = finish.changes.stands runs real (g.seen stored.disk) (stays_seen stored.disk real) in
       let numbers = numbers_above (g.seen stored.disk) (durable_of g.seen stored) stands (live (g.seen stored.disk) stands.standing stands.stands) in
@@ -222,6 +222,6 @@ module _ {D : Type 0} (g : disk.Ghosts D) (counts : (d : D) (t : ℕ) (c : List 
       let there = all_honest begun made (begin.stays.honesty ∙ honest) all in
       let taken = image_taken g old begun slot s u made stored seq honest begin all stays finish in
       let first = just_stored (archive_after begun made) stored slot seq taken.0 there finish taken.1.number taken.2 in
-      let goes = goes_all g counts only seq taken.0.image stored later (finish.changes.honesty ∙ there) then first in
+      let goes = goes_all g counts only seq taken.0.image stored later (finish.changes.disk.honesty ∙ there) then first in
       let is = answer.bytes goes.1 in
       one_or_none (found_image seq (durable_of g.seen (archive_after stored later)).cases) taken.0.image image.items goes.0.1 (sym (image_of_case g.seen (archive_after stored later) seq) ∙ is.0) ∙ taken.1.image

@@ -44,10 +44,7 @@ module _ {D : Type 0} (g : disk.Ghosts D) where
   pub changes_none : (T : Type 0) (d : D) (j : Journaled) (most : ℕ) (flags : List Bool) (streams : List (Option StreamParts)) (stopped : Bool) (a : Parts D) (r : Result T ArchiveFault) (doubt : Durable → Type 0)
       → IsArchiveSound g d j most flags streams stopped → record { disk = d; journal = j; limit = most; streams = streams; stopped = stopped } ≡ a → (IsDiskFault r → ⊥) → Changes T g a r a doubt
   changes_none T d j most flags streams stopped a r doubt sound is none = record {
-    honesty = refl;
-    later = omega arith;
-    size = refl;
-    cause = λ fault. absurd (none fault);
+    disk = record { cause = λ fault. absurd (none fault); later = omega arith; honesty = refl; size = refl };
     crash = λ honest. adds_nothing g a.disk (Leaves (durable_of g.seen a) r (durable_of g.seen a) doubt);
     stands = subst (λ (x : Parts D). x.stopped ≡ false → IsTrue (g.is_honest x.disk) → (c : List ℕ) → g.may_leave x.disk c → StandsFor c (durable_of g.seen x)) is
         (sound_stands d j most flags streams stopped sound);

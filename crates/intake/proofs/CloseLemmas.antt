@@ -1,5 +1,5 @@
 -- The bytes of a stream that is closed.
-use Rattle.std.proofs.Common.{◌≡◌, ◌≢◌, ℕ, suc, ◌+◌, ◌-◌, ◌*◌, ◌/◌, ◌%◌, ◌<◌, Bool, List, [], ◌∷◌, ◌++◌, length, take, replicate, refl, sym, ap, ◌∙◌, arith}
+use Rattle.std.proofs.Common.{◌≡◌, ◌≢◌, inl, inr, subst, Result, Ok, Err, ℕ, suc, ◌+◌, ◌-◌, ◌*◌, ◌/◌, ◌%◌, ◌<◌, Bool, List, [], ◌∷◌, ◌++◌, length, take, replicate, refl, sym, ap, ◌∙◌, arith}
 use Rattle.std.proofs.Common.{append_assoc}
 use Rattle.std.proofs.lemmas.List.{take_at, take_all, length-take-le, length-append, append-nil}
 use Rattle.std.proofs.lemmas.List.Concat.{flat_map-append}
@@ -7,14 +7,16 @@ use Rattle.disk_model.specs.PartLaws.{part_length}
 use Rattle.extents.specs.FreeSet.{uses, one_if}
 use Rattle.extents.specs.FreeLaws.{uses_cons}
 use Rattle.std.proofs.lemmas.Bool.{eq-eqb}
-use Rattle.std.specs.Prelude.{◌==◌}
+use Rattle.std.specs.Prelude.{◌==◌, OnOk}
 use Rattle.journal_layout.specs.declared.shape.Shape.{Shape}
 use Rattle.journal_layout.specs.Layout.{disk_length}
 use Rattle.intake.specs.Balance.{AreHeld}
 use Rattle.intake.specs.Blocks.{block_bytes, block_start, joined, padded}
 use Rattle.intake.specs.State.{blocks_for}
-use Rattle.intake.specs.Closing.{ClosesBytes, ClosesPadded}
-use Rattle.intake.specs.Growth.{Adds}
+use Rattle.intake.specs.Closing.{ClosesStream, ClosesBytes, ClosesPadded, with_blocks}
+use Rattle.intake.specs.Growth.{Adds, DiskReply}
+use Rattle.intake.specs.StreamView.{case_from_parts}
+use Rattle.intake.specs.declared.faults.ArchiveFault.{ArchiveFault}
 use Rattle.intake.specs.Parts.{StreamParts}
 use Rattle.intake.proofs.BlockLemmas.{joined_other}
 use Rattle.intake.proofs.CountLemmas.{not_held, in_range}
@@ -101,3 +103,19 @@ closed_part shape flags a b bytes s blocks map long are filled size adds padded 
     ∙ take_past x bytes u
     ∙ ap (λ (y : List ℕ). x ++ take u y) padded
     ∙ ap (λ (y : List ℕ). x ++ y) (take_at (take u s.block) (replicate (length s.block - u) 0) u (length-take-le u s.block (omega (arith, size))))
+
+-- a fact, whatever is answered
+pub always : {T E : Type 0} → (r : Result T E) (P : Type 0) → P → OnOk r P
+always (Ok x) P holds = holds
+always (Err e) P holds = tt
+
+-- a stream of whole blocks is closed by a sync
+pub sealed_whole : (free : ℕ) (s : StreamParts) (r : Result (Unit {0}) ArchiveFault) → s.len % 4096 ≡ 0 → DiskReply r → ClosesStream free s r s
+sealed_whole free s (Ok u) none reply = inl (none, refl)
+sealed_whole free s (Err f) none reply = subst (λ (x : ArchiveFault). ClosesStream free s (Err x) s) (sym reply) (λ over. absurd (over none))
+
+-- one whose last block was written
+pub sealed_part : (free : ℕ) (s s' : StreamParts) (r : Result (Unit {0}) ArchiveFault) → s.len % 4096 ≢ 0 → 0 < free → length s'.blocks ≡ length s.blocks + 1
+    → case_from_parts s' ≡ case_from_parts (with_blocks s s'.blocks) → DiskReply r → ClosesStream free s r s'
+sealed_part free s s' (Ok u) over some more same reply = inr (over, some, more, same)
+sealed_part free s s' (Err f) over some more same reply = subst (λ (x : ArchiveFault). ClosesStream free s (Err x) s') (sym reply) (λ _. some)

@@ -112,7 +112,7 @@ module _ {D : Type 0} (T : Type 0) (g : disk.Ghosts D) (counts : (d : D) (t : �
       → (new.stopped ≡ true → IsTrue (g.is_honest old.disk) → durable_of g.seen new ≡ durable_of g.seen old)
       → Passes g (mark_of g.seen old before) (mark_of g.seen new (doubted {T = T} r more ++ before))
   change_passes before more changes among above number same = record {
-    honesty = changes.honesty;
+    honesty = changes.disk.honesty;
     crash = moments;
     settled = λ honest settled. here honest settled new.stopped refl;
     number = λ honest. number;
@@ -126,7 +126,7 @@ module _ {D : Type 0} (T : Type 0) (g : disk.Ghosts D) (counts : (d : D) (t : �
           (λ c h. ⊎_elim (λ stands'. inl (durable_of g.seen old, stands', inl refl)) (λ more'. left_found T g.seen old new r doubt before more c among more') h) (changes.crash honest)
 
       here : IsTrue (g.is_honest old.disk) → IsMarkSettled g (mark_of g.seen old before) → (b : Bool) → new.stopped ≡ b → IsMarkSettled g (mark_of g.seen new (doubted {T = T} r more ++ before))
-      here honest settled false is c may = (durable_of g.seen new, changes.stands is (changes.honesty ∙ honest) c may, inl refl)
+      here honest settled false is c may = (durable_of g.seen new, changes.stands is (changes.disk.honesty ∙ honest) c may, inl refl)
       here honest settled true is c may = still_settled g counts only old new before (doubted {T = T} r more) (moments honest) (same is honest) settled c may
 
   -- a call whose answer leaves nothing in doubt

@@ -2,6 +2,7 @@
 use Rattle.std.specs.Prelude.{◌≡◌, ℕ, ◌+◌, ◌<◌, ◌≤◌, Bool, true, false, List, [], ◌∷◌, length, Option, None, Some, Result, Err, IfOk, IsTrue, Vec, vec_len}
 use Rattle.std.specs.Global.{Global}
 use Rattle.disk_model.specs.Disk.{HasRisen}
+use Rattle.disk_model.specs.Keeping.{KeepsDisk}
 use Rattle.disk_model.specs.Moments.{AddsOnly, LeavesOnly}
 use Rattle.disk_model.specs.declared.disk.Disk as disk
 use Rattle.journal_layout.specs.declared.faults.OpenFault.{OpenFault}
@@ -63,10 +64,7 @@ HasDiskCause g old r new = IsDiskFault r → HasRisen (g.failures old.disk) (g.f
 -- A call that changes the cases, or would have: a crash at any moment of it leaves what one before could have left, or what
 -- it leaves by its answer. Unless the archive is stopped, a crash from then on leaves what it shows.
 pub record Changes {D : Type 0} (T : Type 0) (g : disk.Ghosts D) (old : Parts D) (r : Result T ArchiveFault) (new : Parts D) (doubt : Durable → Type 0) : Type 0 where
-  pub honesty : g.is_honest new.disk ≡ g.is_honest old.disk
-  pub later : g.failures old.disk ≤ g.failures new.disk
-  pub size : g.size new.disk ≡ g.size old.disk
-  pub cause : HasDiskCause g old r new
+  pub disk : KeepsDisk g old.disk new.disk (IsDiskFault r)
   pub crash : IsTrue (g.is_honest old.disk) → AddsOnly g old.disk new.disk (Leaves (durable_of g.seen old) r (durable_of g.seen new) doubt)
   pub stands : new.stopped ≡ false → IsTrue (g.is_honest new.disk) → (c : List ℕ) → g.may_leave new.disk c → StandsFor c (durable_of g.seen new)
 

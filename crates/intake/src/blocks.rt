@@ -1,11 +1,11 @@
 // Blocks of an image, as they are written.
 ghost use Rattle.std.specs.Prelude.{◌≡◌, ◌+◌, ◌*◌, ◌%◌, ◌/◌, ◌<◌, ◌≤◌, ◌++◌, ◌∷◌, ◌^◌, [], length, IsTrue, OnOk, OnErr, ℕ};
 ghost use Rattle.disk_model.specs.Places.{overwritten, SameOutside};
-ghost use Rattle.disk_model.specs.Disk.{HasRisen};
 ghost use Rattle.extents.specs.FreeSet.{free_count};
 ghost use Rattle.journal_layout.specs.Layout.{IsWithinLimits, disk_length, half_length};
 ghost use Rattle.case_journal.specs.Journaled.{Journaled};
 ghost use Rattle.disk_model.specs.Moments.{LeavesOnly, IsSettled};
+ghost use Rattle.disk_model.specs.Keeping.{KeepsDisk};
 ghost use Rattle.intake.specs.Durable.{durable_in};
 ghost use Rattle.intake.specs.Guarding.{Guards, LeavesCases, UsesNoFreeBlock, LeavesStored};
 ghost use Rattle.intake.specs.Live.{case_uses};
@@ -60,10 +60,7 @@ fn write_data<D: Disk>(
         → SameOutside (block_start shape block) 4096 (D.seen disk.old) (D.seen disk.new) }
     ensures rests { (j : Journaled) → j.standing.shape ≡ shape → case_uses j.standing.cases block ≡ 0
         → Guards D.Disk disk.old j → LeavesCases D.Disk disk.old disk.new j }
-    ensures cause { IsDiskFault result → HasRisen (D.failures disk.old) (D.failures disk.new) }
-    ensures later { D.failures disk.old ≤ D.failures disk.new }
-    ensures honesty { D.is_honest disk.new ≡ D.is_honest disk.old }
-    ensures size { D.size disk.new ≡ D.size disk.old }
+    ensures disk { KeepsDisk D.Disk disk.old disk.new (IsDiskFault result) }
 {
     data_blocks_keep();
     disk.write_at(block_start(shape, block), bytes)?;
@@ -93,10 +90,7 @@ pub(crate) fn add_block<D: Disk>(
         → ChangesFree shape free.old (D.seen disk.old) (D.seen disk.new) }
     ensures rests { (j : Journaled) → j.standing.shape ≡ shape → UsesNoFreeBlock free.old j
         → Guards D.Disk disk.old j → LeavesCases D.Disk disk.old disk.new j }
-    ensures cause { IsDiskFault result → HasRisen (D.failures disk.old) (D.failures disk.new) }
-    ensures later { D.failures disk.old ≤ D.failures disk.new }
-    ensures honesty { D.is_honest disk.new ≡ D.is_honest disk.old }
-    ensures size { D.size disk.new ≡ D.size disk.old }
+    ensures disk { KeepsDisk D.Disk disk.old disk.new (IsDiskFault result) }
 {
     let Some(run) = free.take(1) else {
         return Err(ArchiveFault::SpaceFull);
@@ -145,10 +139,7 @@ pub(crate) fn grow<D: Disk>(
         → ChangesFree shape free.old (D.seen disk.old) (D.seen disk.new) }
     ensures rests { (j : Journaled) → j.standing.shape ≡ shape → UsesNoFreeBlock free.old j
         → Guards D.Disk disk.old j → LeavesCases D.Disk disk.old disk.new j }
-    ensures cause { IsDiskFault result → HasRisen (D.failures disk.old) (D.failures disk.new) }
-    ensures later { D.failures disk.old ≤ D.failures disk.new }
-    ensures honesty { D.is_honest disk.new ≡ D.is_honest disk.old }
-    ensures size { D.size disk.new ≡ D.size disk.old }
+    ensures disk { KeepsDisk D.Disk disk.old disk.new (IsDiskFault result) }
 {
     if n as u64 > limit - stream.length {
         return Err(ArchiveFault::TooLong);
@@ -160,47 +151,6 @@ pub(crate) fn grow<D: Disk>(
     add_block(disk, shape, free, &mut stream.runs, block.bytes())?;
     block.clear_from(0);
     stream.length += n as u64;
-    Ok(())
-}
-
-// Writes the last block of a stream where it is part-filled, with zeros behind its bytes.
-fn last_block<D: Disk>(
-    disk: &mut D,
-    shape: Shape,
-    free: &mut FreeMap,
-    stream: &mut Stream,
-    block: &mut Buffer,
-) -> Result<(), ArchiveFault>
-    requires limits { IsWithinLimits shape }
-    requires disk { D.size disk.old ≡ disk_length shape }
-    requires map { length free.old ≡ shape.data_blocks }
-    requires block { length block.old ≡ 4096 }
-    requires filled { length stream.old.runs ≡ stream.old.length / 4096 }
-    requires held { AreHeld free.old stream.old.runs }
-    ensures step { ClosesStream (free_count free.old) (parts_of block.old stream.old) result
-        (parts_of block.new stream.new) }
-    ensures name { stream.new.name ≡ stream.old.name }
-    ensures balance { Balances free.old stream.old.runs free.new stream.new.runs }
-    ensures bytes { IsTrue (D.is_honest disk.old) → OnOk result (ClosesBytes shape (parts_of block.old stream.old)
-        stream.new.runs (D.seen disk.old) (D.seen disk.new)) }
-    ensures padded { IsTrue (D.is_honest disk.old) → OnOk result (ClosesPadded shape (parts_of block.old stream.old)
-        stream.new.runs (D.seen disk.old) (D.seen disk.new)) }
-    ensures untouched { RefusalSpares result disk.old disk.new }
-    ensures others { IsTrue (D.is_honest disk.old)
-        → ChangesFree shape free.old (D.seen disk.old) (D.seen disk.new) }
-    ensures rests { (j : Journaled) → j.standing.shape ≡ shape → UsesNoFreeBlock free.old j
-        → Guards D.Disk disk.old j → LeavesCases D.Disk disk.old disk.new j }
-    ensures cause { IsDiskFault result → HasRisen (D.failures disk.old) (D.failures disk.new) }
-    ensures later { D.failures disk.old ≤ D.failures disk.new }
-    ensures honesty { D.is_honest disk.new ≡ D.is_honest disk.old }
-    ensures size { D.size disk.new ≡ D.size disk.old }
-{
-    let used = (stream.length % 4096) as usize;
-    if used == 0 {
-        return Ok(());
-    }
-    block.clear_from(used);
-    add_block(disk, shape, free, &mut stream.runs, block.bytes())?;
     Ok(())
 }
 
@@ -233,12 +183,14 @@ pub(crate) fn seal<D: Disk>(
     ensures rests { (j : Journaled) → j.standing.shape ≡ shape → UsesNoFreeBlock free.old j
         → Guards D.Disk disk.old j → LeavesCases D.Disk disk.old disk.new j }
     ensures settled { IsTrue (D.is_honest disk.old) → OnOk result (IsSettled D.Disk disk.new) }
-    ensures cause { IsDiskFault result → HasRisen (D.failures disk.old) (D.failures disk.new) }
-    ensures later { D.failures disk.old ≤ D.failures disk.new }
-    ensures honesty { D.is_honest disk.new ≡ D.is_honest disk.old }
-    ensures size { D.size disk.new ≡ D.size disk.old }
+    ensures disk { KeepsDisk D.Disk disk.old disk.new (IsDiskFault result) }
 {
-    last_block(disk, shape, free, stream, block)?;
+    let used = (stream.length % 4096) as usize;
+    if used == 0 {
+        return make_stable(disk);
+    }
+    block.clear_from(used);
+    add_block(disk, shape, free, &mut stream.runs, block.bytes())?;
     make_stable(disk)
 }
 
@@ -249,10 +201,7 @@ fn make_stable<D: Disk>(disk: &mut D) -> Result<(), ArchiveFault>
     ensures rests { (j : Journaled) → Guards D.Disk disk.old j → LeavesCases D.Disk disk.old disk.new j }
     // What reads give is what a crash leaves from then on.
     ensures settled { IsTrue (D.is_honest disk.old) → OnOk result (IsSettled D.Disk disk.new) }
-    ensures cause { IsDiskFault result → HasRisen (D.failures disk.old) (D.failures disk.new) }
-    ensures later { D.failures disk.old ≤ D.failures disk.new }
-    ensures honesty { D.is_honest disk.new ≡ D.is_honest disk.old }
-    ensures size { D.size disk.new ≡ D.size disk.old }
+    ensures disk { KeepsDisk D.Disk disk.old disk.new (IsDiskFault result) }
 {
     disk.sync()?;
     Ok(())
@@ -278,12 +227,9 @@ pub(crate) fn append_case<D: Disk>(
     // What a crash at any moment leaves stands for the cases before or after, if the disk was met.
     ensures any_moment { IsTrue (D.is_honest disk.old) → LeavesOnly D.Disk disk.old disk.new
         (LeavesStored result (durable_in (D.seen disk.old) journal.old.standing) (durable_in (D.seen disk.old) (appended journal.old.standing (store_of journal.old.standing (case_of entry))))) }
-    ensures cause { IsDiskFault result → HasRisen (D.failures disk.old) (D.failures disk.new) }
-    ensures later { D.failures disk.old ≤ D.failures disk.new }
     ensures outside { IsTrue (D.is_honest disk.old)
         → SameOutside 4096 (2 * half_length journal.old.standing.shape) (D.seen disk.old) (D.seen disk.new) }
-    ensures honesty { D.is_honest disk.new ≡ D.is_honest disk.old }
-    ensures size { D.size disk.new ≡ D.size disk.old }
+    ensures disk { KeepsDisk D.Disk disk.old disk.new (IsDiskFault result) }
 {
     match journal.append_store(disk, entry) {
         Ok(seq) => Ok(seq),

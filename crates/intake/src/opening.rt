@@ -1,8 +1,8 @@
 // What an archive is opened with: its journal with the names of its cases and the blocks that they leave free, and the
 // slots.
 ghost use Rattle.std.specs.Prelude.{◌≡◌, ◌≤◌, ℕ, None, Err, IfOk, IsTrue, replicate, false};
-ghost use Rattle.disk_model.specs.Disk.{HasRisen};
 ghost use Rattle.disk_model.specs.Moments.{LeavesOnly};
+ghost use Rattle.disk_model.specs.Keeping.{KeepsDisk};
 ghost use Rattle.journal_layout.specs.Standing.{Standing};
 ghost use Rattle.journal_layout.specs.Stands.{Stands};
 ghost use Rattle.case_journal.specs.Viewing.{ShowsOpening, FindsStanding};
@@ -26,11 +26,7 @@ pub(crate) fn open_parts<D: Disk>(alloc: Global, disk: &mut D) -> Result<(Opened
     ensures any_moment { IsTrue (D.is_honest disk.old)
         → LeavesOnly D.Disk disk.old disk.new (D.may_leave disk.old) }
     ensures seen { IsTrue (D.is_honest disk.old) → D.seen disk.new ≡ D.seen disk.old }
-    ensures cause { result ≡ Err OpenFault.Disk
-        → HasRisen (D.failures disk.old) (D.failures disk.new) }
-    ensures later { D.failures disk.old ≤ D.failures disk.new }
-    ensures honesty { D.is_honest disk.new ≡ D.is_honest disk.old }
-    ensures size { D.size disk.new ≡ D.size disk.old }
+    ensures disk { KeepsDisk D.Disk disk.old disk.new (result ≡ Err OpenFault.Disk) }
 {
     let opened = Journal::open(alloc, disk)?;
     let Ok(slots) = Slots::new(alloc) else {

@@ -1,7 +1,7 @@
 -- What is answered of a thread's frames.
-use Rattle.std.proofs.Common.{◌≡◌, ℕ, cond, List, ◌++◌, Option, None, Some, ap, ◌∙◌}
+use Rattle.std.proofs.Common.{◌≡◌, ℕ, ◌+◌, cond, true, false, List, [], ◌∷◌, ◌++◌, Option, None, Some, refl, ap, ◌∙◌}
 use Rattle.std.specs.Prelude.{codes, is_none, slice_get}
-use Rattle.std.specs.List.{flat_map}
+use Rattle.std.specs.List.{find, flat_map}
 use Rattle.std.specs.Option.{option_map, option_or}
 use Rattle.script_streams.specs.Replies.{no_reply, ok_reply, reply_of}
 use Rattle.elf_view.specs.NoteList.{NoteView}
@@ -12,13 +12,13 @@ use Rattle.elf_view.specs.declared.faults.Want.TheVariants.{Core, Exec}
 use Rattle.core_notes.specs.FileList.{FileView}
 use Rattle.core_notes.specs.Typed.{all_descs}
 use Rattle.thread_regs.specs.Register.{register_in}
-use Rattle.address_space.specs.Source.{Space, ExecutableView}
+use Rattle.address_space.specs.Source.{Space, ExecutableView, entry_at, first_from, is_mapping, spot_in, spot_of}
 use Rattle.symbols.specs.SymbolTable as table
 use Rattle.backtrace.specs.Chain.{chain, stop_of}
 use Rattle.backtrace.specs.declared.frames.Frame.{Frame}
 use Rattle.backtrace.specs.declared.frames.Stop.{Stop}
 use Rattle.image_replies.specs.Reasons.{elf_reason}
-use Rattle.memory_replies.specs.Backtrace.{bt_answer, frame_line, if_known, known_among, stop_line, thread_answer, thread_lines, words_of}
+use Rattle.memory_replies.specs.Backtrace.{bt_answer, frame_line, if_known, known_among, spot_among, stop_line, thread_answer, thread_lines, words_of}
 use Rattle.memory_replies.specs.Memory.{mapped_files, memory_of}
 use Rattle.memory_replies.specs.Symbol.{executable_fault, symbol_reason}
 
@@ -26,12 +26,8 @@ pub elf_fault_is : (b : List ℕ) (f : ElfFault) → Some f ≡ first_fault Exec
 unfolding executable_fault
 elf_fault_is b f is = ap (λ (o : Option ElfFault). option_or (option_map elf_reason o) (option_map symbol_reason (table.first_fault b))) is
 
-abbrev pub executable : List ℕ → List ℕ → ExecutableView
-executable path image = record { path = path; image = image }
-
-pub is_known : (path image b : List ℕ) → b ≡ image → None ≡ executable_fault image → Some (executable path b) ≡ if_known (executable path image)
-is_known path image b same sound =
-    ap (λ t. Some (executable path t)) same ∙ ap (λ (o : Option (List ℕ)). cond (is_none o) (Some (executable path image)) None) sound
+pub is_known : (x : ExecutableView) → None ≡ executable_fault x.image → Some x ≡ if_known x
+is_known x sound = ap (λ (o : Option (List ℕ)). cond (is_none o) (Some x) None) sound
 
 pub is_unknown : (x : ExecutableView) (reason : List ℕ) → Some reason ≡ executable_fault x.image → None ≡ if_known x
 is_unknown x reason fault = ap (λ (o : Option (List ℕ)). cond (is_none o) (Some x) None) fault
@@ -48,6 +44,16 @@ thread_is space files known desc ra pc fp frames stop ra_is pc_is fp_is frames_a
     ∙ ap (λ n. flat_map (frame_line files known (register_in desc 1)) (chain (words_of space) n fp) ++ stop_line (stop_of (words_of space) n fp)) pc_is
     ∙ ap (λ n. flat_map (frame_line files known (register_in desc 1)) (chain (words_of space) (register_in desc 32) n) ++ stop_line (stop_of (words_of space) (register_in desc 32) n)) fp_is
 
+-- the first that passes, found with its number or without
+spot_from : (a i : ℕ) (files : List FileView) → spot_of a (first_from (is_mapping a) i files) ≡ spot_among files a
+spot_from a i [] = refl
+spot_from a i (f ∷ fs) = elim (is_mapping a f) as (λ t. spot_of a (cond t (Some (i, f)) (first_from (is_mapping a) (i + 1) fs)) ≡ option_map (spot_in a) (cond t (Some f) (find (is_mapping a) fs))) [ true ↦ refl | false ↦ spot_from a (i + 1) fs ]
+
+-- the place of an address in a file is that in the first entry that maps it
+pub spot_is : (space : Space) (a : ℕ) → spot_of a (entry_at space a) ≡ spot_among space.files a
+unfolding entry_at
+spot_is space a = spot_from a 0 space.files
+
 -- the descriptor of the thread, if there is one
 desc_is : (b : List ℕ) (t : ℕ) (o : Option (List ℕ)) (descs : List (List ℕ)) (notes : List NoteView) → o ≡ slice_get descs t → descs ≡ all_descs 1 notes → notes ≡ notes_of Core b
     → o ≡ slice_get (all_descs 1 (notes_of Core b)) t
@@ -58,13 +64,16 @@ pub thread_missing : (b : List ℕ) (xs : List ExecutableView) (t : ℕ) (descs 
 unfolding bt_answer
 thread_missing b xs t descs notes is descs_are own = ap (λ o. reply_of (thread_answer b xs o)) (desc_is b t None descs notes is descs_are own)
 
-pub thread_shown : (b : List ℕ) (xs : List ExecutableView) (t : ℕ) (desc : List ℕ) (descs : List (List ℕ)) (notes : List NoteView) (space : Space) (files : List FileView) (known : List ExecutableView)
+-- the lines over a memory whose mapped files are those of the core
+lines_of : Space → List ExecutableView → List ℕ → List ℕ
+lines_of space known desc = thread_lines space space.files known desc
+
+pub thread_shown : (b : List ℕ) (xs : List ExecutableView) (t : ℕ) (desc : List ℕ) (descs : List (List ℕ)) (notes : List NoteView) (space : Space) (known : List ExecutableView)
     → Some desc ≡ slice_get descs t → descs ≡ all_descs 1 notes → notes ≡ notes_of Core b
-    → space ≡ memory_of b xs → files ≡ mapped_files b → known ≡ known_among xs
-    → thread_lines space files known desc ++ ok_reply ≡ reply_of (bt_answer b xs t)
-unfolding bt_answer
-thread_shown b xs t desc descs notes space files known is descs_are own space_is files_are known_are =
-    ap (λ s. thread_lines s files known desc ++ ok_reply) space_is
-    ∙ ap (λ fs. thread_lines (memory_of b xs) fs known desc ++ ok_reply) files_are
+    → space ≡ memory_of b xs → known ≡ known_among xs
+    → thread_lines space space.files known desc ++ ok_reply ≡ reply_of (bt_answer b xs t)
+unfolding bt_answer memory_of lines_of
+thread_shown b xs t desc descs notes space known is descs_are own space_is known_are =
+    ap (λ s. lines_of s known desc ++ ok_reply) space_is
     ∙ ap (λ k. thread_lines (memory_of b xs) (mapped_files b) k desc ++ ok_reply) known_are
     ∙ ap (λ o. reply_of (thread_answer b xs o)) (desc_is b t (Some desc) descs notes is descs_are own)

@@ -3,6 +3,7 @@ pub mod SpaceLemmas
 pub mod AnswerLemmas
 pub mod SymbolLemmas
 pub mod FrameLemmas
+pub mod FileNameLemmas
 pub mod TextLemmas
 pub mod PieceLemmas
 pub mod ValueLemmas

@@ -3,7 +3,7 @@ use Rattle.std.proofs.Common.{◌≡◌, ℕ, ◌+◌, ◌<◌, Bool, true, fals
 use Rattle.std.proofs.lemmas.List.{append-nil, take_more, map-append}
 use Rattle.std.proofs.lemmas.List.Elements.{filter-append}
 use Rattle.std.specs.List.{filter}
-use Rattle.std.specs.Option.{option_map}
+use Rattle.std.specs.Option.{is_none, option_map}
 use Rattle.elf_view.specs.Header.{SegmentView, segments_of}
 use Rattle.elf_view.specs.NoteList.{NoteView}
 use Rattle.elf_view.specs.ViewWords.{image_of, notes_of}
@@ -16,8 +16,10 @@ use Rattle.core_notes.specs.declared.file_list.Files.{Files}
 use Rattle.address_space.specs.Source.{Space, ExecutableView}
 use Rattle.address_space.specs.SpaceWords.{files_in, space_view}
 use Rattle.memory_replies.specs.Attaching.{with_attached}
+use Rattle.memory_replies.specs.Backtrace.{has_symbols, known_among}
+use Rattle.memory_replies.specs.Symbol.{executable_fault}
 use Rattle.memory_replies.specs.Memory.{attached_view, files_by, is_attached, mapped_files, memory_of}
-use Rattle.memory_replies.specs.declared.attached.Attached.{Attached}
+use Rattle.address_space.specs.declared.attached.Attached.{Attached}
 
 -- the mapped files are those of the note
 pub files_are : (files : Option Files) (desc : Option (List ℕ)) → option_map files_bytes files ≡ desc → files_in files ≡ files_by desc
@@ -51,9 +53,25 @@ one_attached b xs x =
     kept (segments_of b) (mapped_files b) (filter is_attached xs) x (is_attached x)
     ∙ ap (space_with (segments_of b) (mapped_files b)) (sym (filter-append is_attached xs (x ∷ [])))
 
+-- those that went by, and the next
+gone_by : (xs : List Attached) (i : ℕ) (d : Attached) (v : ExecutableView) → i < length xs → v ≡ attached_view (get_or xs i d)
+    → map attached_view (take (i + 1) xs) ≡ map attached_view (take i xs) ++ v ∷ []
+gone_by xs i d v within is =
+    ap (map attached_view) (take_more xs i d within) ∙ map-append attached_view (take i xs) (get_or xs i d ∷ []) ∙ ap (λ (y : ExecutableView). map attached_view (take i xs) ++ y ∷ []) (sym is)
+
 pub one_more : (b : List ℕ) (xs : List Attached) (i : ℕ) (d : Attached) (v : ExecutableView) (old new : Space) → i < length xs → v ≡ attached_view (get_or xs i d)
     → old ≡ memory_of b (map attached_view (take i xs)) → new ≡ with_attached old v
     → new ≡ memory_of b (map attached_view (take (i + 1) xs))
 one_more b xs i d v old new within is before after =
-    after ∙ ap (λ s. with_attached s v) before ∙ one_attached b (map attached_view (take i xs)) v
-    ∙ ap (memory_of b) (sym (ap (map attached_view) (take_more xs i d within) ∙ map-append attached_view (take i xs) (get_or xs i d ∷ []) ∙ ap (λ (y : ExecutableView). map attached_view (take i xs) ++ y ∷ []) (sym is)))
+    after ∙ ap (λ s. with_attached s v) before ∙ one_attached b (map attached_view (take i xs)) v ∙ ap (memory_of b) (sym (gone_by xs i d v within is))
+
+pub one_named : (xs : List Attached) (i : ℕ) (d : Attached) (v : ExecutableView) (old new : List ExecutableView) → i < length xs → v ≡ attached_view (get_or xs i d)
+    → old ≡ known_among (map attached_view (take i xs)) → new ≡ old ++ known_among (v ∷ [])
+    → new ≡ known_among (map attached_view (take (i + 1) xs))
+one_named xs i d v old new within is before after =
+    after ∙ ap (λ (ys : List ExecutableView). ys ++ known_among (v ∷ [])) before ∙ sym (filter-append has_symbols (map attached_view (take i xs)) (v ∷ []))
+    ∙ ap known_among (sym (gone_by xs i d v within is))
+
+-- one with a fault names nothing
+pub none_named : (x : ExecutableView) (reason : List ℕ) (old : List ExecutableView) → Some reason ≡ executable_fault x.image → old ≡ old ++ known_among (x ∷ [])
+none_named x reason old fault = sym (append-nil old) ∙ ap (λ (o : Option (List ℕ)). old ++ cond (is_none o) (x ∷ []) []) fault

@@ -9,3 +9,4 @@ pub mod Texts
 pub mod Symbol
 pub mod Backtrace
 pub mod NamedWords
+pub mod FileNameWords

@@ -9,11 +9,7 @@ use Rattle.elf_view.specs.declared.faults.Want.TheVariants.{Core, Exec}
 use Rattle.core_notes.specs.FileList.{FileView, files_of}
 use Rattle.core_notes.specs.Typed.{first_desc}
 use Rattle.address_space.specs.Source.{Space, ExecutableView}
-use Rattle.memory_replies.specs.declared.attached.Attached.{Attached}
-
--- an executable, as it is handed over
-abbrev pub attached_view : Attached → ExecutableView
-attached_view x = record { path = x.path.now; image = x.image.now }
+pub use Rattle.address_space.specs.SpaceWords.{attached_view}
 
 -- the mapped files that an NT_FILE names; without one there are none
 abbrev pub files_by : Option (List ℕ) → List FileView

@@ -1,50 +1,17 @@
 // A core's memory, with the executables that stand for its mapped files.
-ghost use Rattle.std.specs.Prelude.{◌≡◌, [], IfOk, OnOk, map};
-ghost use Rattle.std.specs.Option.{option_map};
+ghost use Rattle.std.specs.Prelude.{◌≡◌, ◌++◌, ◌∷◌, [], IfOk, OnOk, map};
 ghost use Rattle.address_space.specs.SpaceWords.{space_of};
 ghost use Rattle.image_replies.specs.CoreWords.{core_bytes};
-ghost use Rattle.std.specs.List.{list_any};
-ghost use Rattle.core_notes.specs.FileList.{files_of};
-ghost use Rattle.core_notes.specs.FileWords.{files_bytes};
 ghost use Rattle.memory_replies.specs.Attaching.{with_attached};
+ghost use Rattle.memory_replies.specs.Backtrace.{known_among};
 ghost use Rattle.memory_replies.specs.Memory as spec;
+ghost use Rattle.memory_replies.specs.NamedWords.{named_view};
 
-use address_space::AddressSpace;
-use core_notes::Files;
+use crate::named_images::NamedImages;
+use address_space::{AddressSpace, Attached};
 use elf_view::{Elf, Want};
 use image_replies::CoreImage;
 use std::alloc::{AllocError, Global};
-
-/// An executable that was gathered for a core: it stands for the core's mapped file of that path.
-#[derive(Clone, Copy, Debug)]
-pub struct Attached<'a> {
-    /// The path.
-    pub path: &'a [u8],
-    /// The executable's bytes.
-    pub image: &'a [u8],
-}
-
-/// Whether one of the mapped files has that name.
-fn has_named(files: &Files<'_>, name: &[u8]) -> bool
-    ensures { result ≡ list_any (spec.has_name name.now) (files_of (files_bytes files.now)) }
-{
-    for map in files.maps() {
-        if map.name == name {
-            return true;
-        }
-    }
-    false
-}
-
-/// Whether the core's NT_FILE names a file so.
-pub fn names_file(core: &CoreImage<'_>, name: &[u8]) -> bool
-    ensures { result ≡ spec.is_mapped (core_bytes core.now) name.now }
-{
-    match core.notes().files() {
-        Some(files) => has_named(&files, name),
-        None => false,
-    }
-}
 
 /// Attaches an executable where it passes the checks of its headers. The error is that there is no memory.
 fn attach<'a>(space: &mut AddressSpace<'a>, executable: Attached<'a>) -> Result<(), AllocError>
@@ -88,4 +55,45 @@ pub(crate) fn space_with<'a>(
         attach(&mut space, *executable)?;
     }
     Ok(space)
+}
+
+/// Attaches an executable where it passes the checks of its headers, and adds it to those that name frames where its symbols
+/// have no fault. The error is that there is no memory.
+fn attach_named<'a>(
+    alloc: Global,
+    space: &mut AddressSpace<'a>,
+    images: &mut NamedImages<'a>,
+    executable: Attached<'a>,
+) -> Result<(), AllocError>
+    ensures space { OnOk result (space_of space.new
+        ≡ with_attached (space_of space.old) (spec.attached_view executable.entry)) }
+    ensures images { OnOk result (map named_view images.new.list.items
+        ≡ map named_view images.old.list.items ++ known_among (spec.attached_view executable.entry ∷ [])) }
+{
+    match Elf::read(executable.image, Want::Exec) {
+        Ok(elf) => {
+            space.attach(executable.path, elf)?;
+            images.add(alloc, executable, elf)
+        }
+        Err(_) => Ok(()),
+    }
+}
+
+/// The same memory as `space_with`, and the executables by whose symbols frames are named. Headers are checked once. The
+/// error is that there is no memory.
+pub(crate) fn space_and_images<'a>(
+    alloc: Global,
+    core: &CoreImage<'a>,
+    attached: &[Attached<'a>],
+) -> Result<(AddressSpace<'a>, NamedImages<'a>), AllocError>
+    ensures space { IfOk result (λ m. space_of m.0
+        ≡ spec.memory_of (core_bytes core.now) (map spec.attached_view attached.now)) }
+    ensures images { IfOk result (λ m. map named_view m.1.list.items ≡ known_among (map spec.attached_view attached.now)) }
+{
+    let mut space = indexed_space(alloc, core)?;
+    let mut images = NamedImages::new(alloc);
+    for executable in attached {
+        attach_named(alloc, &mut space, &mut images, *executable)?;
+    }
+    Ok((space, images))
 }

@@ -14,9 +14,9 @@ ghost use Rattle.memory_replies.specs.Memory.{attached_view};
 ghost use Rattle.memory_replies.specs.Words.{hex_word};
 ghost use Rattle.memory_replies.specs.Dump as spec;
 
-use crate::attached::{Attached, space_with};
+use crate::attached::space_with;
 use crate::words::{tell_hex_word, tell_spot};
-use address_space::{AddressSpace, FileSpot, Piece, PieceKind};
+use address_space::{AddressSpace, Attached, FileSpot, Piece, PieceKind};
 use elf_view::part;
 use image_replies::CoreImage;
 use script_streams::{Output, Reply, tell_no, tell_ok};
@@ -30,105 +30,96 @@ const ROW: u64 = 16;
 
 /// Tells the address of row `i` of bytes that stand from an address on, and a space.
 #[tactic(auto, unfolding(crate::specs::Words::hex_word))]
-fn tell_row_address<O: Output>(reply: &mut Reply, output: &mut O, first: u64, i: u64)
-    ensures { TellsText (telling O.Output output.old output.new reply.old reply.new) (hex_word (first + 16 * i)) }
+fn tell_row_address<O: Output>(reply: &mut Reply<'_, O>, first: u64, i: u64)
+    ensures { TellsText (telling O.Output reply.old reply.new) (hex_word (first + 16 * i)) }
 {
-    reply.tell_hexadecimal(output, u128::from(first) + 16 * u128::from(i));
-    reply.tell(output, b" ");
+    reply.tell_hexadecimal(u128::from(first) + 16 * u128::from(i));
+    reply.tell(b" ");
 }
 
 /// Tells row `i` of bytes that stand from an address on.
-fn tell_row<O: Output>(
-    reply: &mut Reply,
-    output: &mut O,
-    word: &[u8],
-    first: u64,
-    bytes: &[u8],
-    i: u64,
-)
+fn tell_row<O: Output>(reply: &mut Reply<'_, O>, word: &[u8], first: u64, bytes: &[u8], i: u64)
     requires { 16 * i < 2 ^ 64 }
-    ensures { TellsText (telling O.Output output.old output.new reply.old reply.new)
+    ensures { TellsText (telling O.Output reply.old reply.new)
         (spec.row_line word.now first bytes.now i) }
 {
-    tell_row_address(reply, output, first, i);
-    reply.tell(output, word);
-    reply.tell_hex(output, part(bytes, ROW * i, ROW));
-    reply.tell(output, b"\n");
+    tell_row_address(reply, first, i);
+    reply.tell(word);
+    reply.tell_hex(part(bytes, ROW * i, ROW));
+    reply.tell(b"\n");
 }
 
 /// Tells bytes that stand from an address on, 16 a row, with a word in each.
 #[tactic(auto, unfolding(crate::specs::Dump::row_lines))]
-fn tell_rows<O: Output>(reply: &mut Reply, output: &mut O, word: &[u8], first: u64, bytes: &[u8])
-    ensures { TellsText (telling O.Output output.old output.new reply.old reply.new)
+fn tell_rows<O: Output>(reply: &mut Reply<'_, O>, word: &[u8], first: u64, bytes: &[u8])
+    ensures { TellsText (telling O.Output reply.old reply.new)
         (spec.row_lines word.now first bytes.now) }
 {
     let count = (bytes.len() as u64 + ROW - 1) / ROW;
     for i in 0..count {
-        tell_row(reply, output, word, first, bytes, i);
+        tell_row(reply, word, first, bytes, i);
     }
 }
 
 /// Tells addresses that the core has no bytes for, and where the first lies in a mapped file.
 fn tell_not_dumped<O: Output>(
-    reply: &mut Reply,
-    output: &mut O,
+    reply: &mut Reply<'_, O>,
     first: u64,
     length: u64,
     spot: Option<FileSpot<'_>>,
 )
-    ensures { TellsText (telling O.Output output.old output.new reply.old reply.new)
+    ensures { TellsText (telling O.Output reply.old reply.new)
         (spec.content_lines first length (not_dumped (option_map spot_view spot.entry))) }
 {
-    tell_hex_word(reply, output, first);
-    reply.tell(output, b"notdumped ");
-    tell_hex_word(reply, output, length);
-    tell_spot(reply, output, spot);
-    reply.tell(output, b"\n");
+    tell_hex_word(reply, first);
+    reply.tell(b"notdumped ");
+    tell_hex_word(reply, length);
+    tell_spot(reply, spot);
+    reply.tell(b"\n");
 }
 
 /// Tells addresses without bytes, by a word that says why.
-fn tell_absent<O: Output>(reply: &mut Reply, output: &mut O, first: u64, word: &[u8], length: u64)
-    ensures { TellsText (telling O.Output output.old output.new reply.old reply.new)
+fn tell_absent<O: Output>(reply: &mut Reply<'_, O>, first: u64, word: &[u8], length: u64)
+    ensures { TellsText (telling O.Output reply.old reply.new)
         (hex_word first ++ (word.now ++ (hexadecimal length ++ 10 ∷ []))) }
 {
-    tell_hex_word(reply, output, first);
-    reply.tell(output, word);
-    reply.tell_hexadecimal(output, u128::from(length));
-    reply.tell(output, b"\n");
+    tell_hex_word(reply, first);
+    reply.tell(word);
+    reply.tell_hexadecimal(u128::from(length));
+    reply.tell(b"\n");
 }
 
 /// Tells the lines of a piece.
 #[tactic(auto, unfolding(crate::specs::Dump::piece_lines))]
-fn tell_piece<O: Output>(reply: &mut Reply, output: &mut O, piece: Piece<'_>)
-    ensures { TellsText (telling O.Output output.old output.new reply.old reply.new)
+fn tell_piece<O: Output>(reply: &mut Reply<'_, O>, piece: Piece<'_>)
+    ensures { TellsText (telling O.Output reply.old reply.new)
         (spec.piece_lines (piece_view piece.entry)) }
 {
     match piece.kind {
-        PieceKind::Bytes(bytes) => tell_rows(reply, output, b"", piece.first, bytes),
-        PieceKind::FromFile(bytes) => tell_rows(reply, output, b"file ", piece.first, bytes),
+        PieceKind::Bytes(bytes) => tell_rows(reply, b"", piece.first, bytes),
+        PieceKind::FromFile(bytes) => tell_rows(reply, b"file ", piece.first, bytes),
         PieceKind::NotDumped(spot) => {
-            tell_not_dumped(reply, output, piece.first, piece.length, spot);
+            tell_not_dumped(reply, piece.first, piece.length, spot);
         }
-        PieceKind::Cut => tell_absent(reply, output, piece.first, b"cut ", piece.length),
-        PieceKind::Unmapped => tell_absent(reply, output, piece.first, b"unmapped ", piece.length),
+        PieceKind::Cut => tell_absent(reply, piece.first, b"cut ", piece.length),
+        PieceKind::Unmapped => tell_absent(reply, piece.first, b"unmapped ", piece.length),
     }
 }
 
 /// Tells the lines of each piece of `length` addresses.
 #[tactic(auto, using(crate::proofs::TellLemmas::up_to_start))]
 fn tell_pieces<O: Output>(
-    reply: &mut Reply,
-    output: &mut O,
+    reply: &mut Reply<'_, O>,
     space: &AddressSpace<'_>,
     first: u64,
     length: u64,
 )
     requires { first + length ≤ 2 ^ 64 }
-    ensures { TellsText (telling O.Output output.old output.new reply.old reply.new)
+    ensures { TellsText (telling O.Output reply.old reply.new)
         (flat_map spec.piece_lines (pieces_of (space_of space.now) first length)) }
 {
     for piece in space.pieces(first, length) {
-        tell_piece(reply, output, piece);
+        tell_piece(reply, piece);
     }
 }
 
@@ -145,25 +136,24 @@ fn is_out_of_range(first: u64, length: u64) -> bool
 /// Says whether there was memory for it; where there was none, the reply is `no OutOfMemory`.
 pub fn tell_dump<O: Output>(
     alloc: Global,
-    reply: &mut Reply,
-    output: &mut O,
+    reply: &mut Reply<'_, O>,
     core: &CoreImage<'_>,
     attached: &[Attached<'_>],
     first: u64,
     length: u64,
 ) -> bool
-    ensures { TellsReply (telling O.Output output.old output.new reply.old reply.new)
+    ensures { TellsReply (telling O.Output reply.old reply.new)
         (AnswersWith result (spec.dump_answer (core_bytes core.now) (map attached_view attached.now) first length)) }
 {
     let Ok(space) = space_with(alloc, core, attached) else {
-        tell_no(reply, output, b"OutOfMemory");
+        tell_no(reply, b"OutOfMemory");
         return false;
     };
     if is_out_of_range(first, length) {
-        tell_no(reply, output, b"Range");
+        tell_no(reply, b"Range");
         return true;
     }
-    tell_pieces(reply, output, &space, first, length);
-    tell_ok(reply, output);
+    tell_pieces(reply, &space, first, length);
+    tell_ok(reply);
     true
 }

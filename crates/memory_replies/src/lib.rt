@@ -1,23 +1,25 @@
 //! The answers to the lines of a script that ask for a process's memory: slices in, text out.
 //!
 //! A core is a [`image_replies::CoreImage`]. The executables that stand for its mapped files are handed over as
-//! [`Attached`] images, in one order; those that pass the checks of their headers are attached.
+//! [`address_space::Attached`] images, in one order; those that pass the checks of their headers are attached.
 #![tactic(auto)]
 
 mod attached;
 mod dump;
+mod file_names;
 mod frames;
 mod laws;
 mod maps;
 mod named;
 mod named_image;
+mod named_images;
 mod search;
 mod symbol;
 mod texts;
 mod words;
 
-pub use attached::{Attached, names_file};
 pub use dump::tell_dump;
+pub use file_names::FileNames;
 pub use frames::tell_bt;
 pub use laws::a_sound_front_shows_the_mappings;
 pub use maps::tell_maps;

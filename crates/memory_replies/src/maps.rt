@@ -26,56 +26,56 @@ fn flag_letter(flags: u32, flag: u32, letter: &'static [u8]) -> &'static [u8]
 
 /// Tells what a mapping's flags allow.
 #[tactic(auto, unfolding(crate::specs::Maps::rights))]
-fn tell_rights<O: Output>(reply: &mut Reply, output: &mut O, flags: u32)
-    ensures { TellsText (telling O.Output output.old output.new reply.old reply.new) (spec.rights flags) }
+fn tell_rights<O: Output>(reply: &mut Reply<'_, O>, flags: u32)
+    ensures { TellsText (telling O.Output reply.old reply.new) (spec.rights flags) }
 {
-    reply.tell(output, flag_letter(flags, 4, b"r"));
-    reply.tell(output, flag_letter(flags, 2, b"w"));
-    reply.tell(output, flag_letter(flags, 1, b"x"));
+    reply.tell(flag_letter(flags, 4, b"r"));
+    reply.tell(flag_letter(flags, 2, b"w"));
+    reply.tell(flag_letter(flags, 1, b"x"));
 }
 
 /// Tells the address behind the last of `count` addresses from one on, which may be 2^64, and a space.
 #[tactic(auto, unfolding(crate::specs::Words::hex_word))]
-fn tell_past<O: Output>(reply: &mut Reply, output: &mut O, start: u64, count: u64)
-    ensures { TellsText (telling O.Output output.old output.new reply.old reply.new) (hex_word (start + count)) }
+fn tell_past<O: Output>(reply: &mut Reply<'_, O>, start: u64, count: u64)
+    ensures { TellsText (telling O.Output reply.old reply.new) (hex_word (start + count)) }
 {
-    reply.tell_hexadecimal(output, u128::from(start) + u128::from(count));
-    reply.tell(output, b" ");
+    reply.tell_hexadecimal(u128::from(start) + u128::from(count));
+    reply.tell(b" ");
 }
 
 /// Tells the line of a mapping.
-fn tell_mapping<O: Output>(reply: &mut Reply, output: &mut O, mapping: Mapping<'_>)
-    ensures { TellsText (telling O.Output output.old output.new reply.old reply.new)
+fn tell_mapping<O: Output>(reply: &mut Reply<'_, O>, mapping: Mapping<'_>)
+    ensures { TellsText (telling O.Output reply.old reply.new)
         (spec.mapping_line (mapping_view mapping.entry)) }
 {
-    tell_hex_word(reply, output, mapping.start);
-    tell_past(reply, output, mapping.start, mapping.memsz);
-    tell_rights(reply, output, mapping.flags);
-    reply.tell(output, b" ");
-    tell_hex_word(reply, output, mapping.filesz);
-    tell_spot(reply, output, mapping.spot);
-    reply.tell(output, b"\n");
+    tell_hex_word(reply, mapping.start);
+    tell_past(reply, mapping.start, mapping.memsz);
+    tell_rights(reply, mapping.flags);
+    reply.tell(b" ");
+    tell_hex_word(reply, mapping.filesz);
+    tell_spot(reply, mapping.spot);
+    reply.tell(b"\n");
 }
 
 /// Tells a line for each mapping.
 #[tactic(auto, using(crate::proofs::TellLemmas::up_to_start))]
-fn tell_mappings<O: Output>(reply: &mut Reply, output: &mut O, space: &AddressSpace<'_>)
-    ensures { TellsText (telling O.Output output.old output.new reply.old reply.new)
+fn tell_mappings<O: Output>(reply: &mut Reply<'_, O>, space: &AddressSpace<'_>)
+    ensures { TellsText (telling O.Output reply.old reply.new)
         (flat_map spec.mapping_line (mappings_of (space_of space.now))) }
 {
     for mapping in space.mappings() {
-        tell_mapping(reply, output, mapping);
+        tell_mapping(reply, mapping);
     }
 }
 
 /// Tells the mappings of a core: `START PAST RWX FILESZ OFFSET NAME` for each PT_LOAD, in table order. It is slower
 /// where there is no memory for tables of the segments and mapped files, and no reply tells that.
 #[tactic(auto, unfolding(crate::specs::Maps::maps_answer))]
-pub fn tell_maps<O: Output>(alloc: Global, reply: &mut Reply, output: &mut O, core: &CoreImage<'_>)
-    ensures { TellsText (telling O.Output output.old output.new reply.old reply.new)
+pub fn tell_maps<O: Output>(alloc: Global, reply: &mut Reply<'_, O>, core: &CoreImage<'_>)
+    ensures { TellsText (telling O.Output reply.old reply.new)
         (reply_of (spec.maps_answer (core_bytes core.now))) }
 {
     let space = plain_space(alloc, core);
-    tell_mappings(reply, output, &space);
-    tell_ok(reply, output);
+    tell_mappings(reply, &space);
+    tell_ok(reply);
 }

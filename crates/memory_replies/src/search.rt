@@ -9,34 +9,29 @@ ghost use Rattle.memory_replies.specs.Answers.{AnswersWith};
 ghost use Rattle.memory_replies.specs.Memory.{attached_view};
 ghost use Rattle.memory_replies.specs.Find as spec;
 
-use crate::attached::{Attached, space_with};
-use address_space::AddressSpace;
+use crate::attached::space_with;
+use address_space::{AddressSpace, Attached};
 use image_replies::CoreImage;
 use script_streams::{Output, Reply, tell_no, tell_ok};
 use std::alloc::Global;
 
 /// Tells the line of an address.
-fn tell_address<O: Output>(reply: &mut Reply, output: &mut O, address: u64)
-    ensures { TellsText (telling O.Output output.old output.new reply.old reply.new) (spec.address_line address) }
+fn tell_address<O: Output>(reply: &mut Reply<'_, O>, address: u64)
+    ensures { TellsText (telling O.Output reply.old reply.new) (spec.address_line address) }
 {
-    reply.tell_hexadecimal(output, u128::from(address));
-    reply.tell(output, b"\n");
+    reply.tell_hexadecimal(u128::from(address));
+    reply.tell(b"\n");
 }
 
 /// Tells a line for each address at which the bytes occur.
 #[tactic(auto, using(crate::proofs::TellLemmas::up_to_start))]
-fn tell_matches<O: Output>(
-    reply: &mut Reply,
-    output: &mut O,
-    space: &AddressSpace<'_>,
-    needle: &[u8],
-)
+fn tell_matches<O: Output>(reply: &mut Reply<'_, O>, space: &AddressSpace<'_>, needle: &[u8])
     requires { 0 < length needle.now }
-    ensures { TellsText (telling O.Output output.old output.new reply.old reply.new)
+    ensures { TellsText (telling O.Output reply.old reply.new)
         (flat_map spec.address_line (occurrences (space_of space.now) needle.now)) }
 {
     for address in space.find(needle) {
-        tell_address(reply, output, address);
+        tell_address(reply, address);
     }
 }
 
@@ -44,21 +39,20 @@ fn tell_matches<O: Output>(
 /// by itself. Says whether there was memory for it; where there was none, the reply is `no OutOfMemory`.
 pub fn tell_find<O: Output>(
     alloc: Global,
-    reply: &mut Reply,
-    output: &mut O,
+    reply: &mut Reply<'_, O>,
     core: &CoreImage<'_>,
     attached: &[Attached<'_>],
     needle: &[u8],
 ) -> bool
     requires { 0 < length needle.now }
-    ensures { TellsReply (telling O.Output output.old output.new reply.old reply.new)
+    ensures { TellsReply (telling O.Output reply.old reply.new)
         (AnswersWith result (spec.find_answer (core_bytes core.now) (map attached_view attached.now) needle.now)) }
 {
     let Ok(space) = space_with(alloc, core, attached) else {
-        tell_no(reply, output, b"OutOfMemory");
+        tell_no(reply, b"OutOfMemory");
         return false;
     };
-    tell_matches(reply, output, &space, needle);
-    tell_ok(reply, output);
+    tell_matches(reply, &space, needle);
+    tell_ok(reply);
     true
 }

@@ -15,51 +15,51 @@ use std::alloc::Global;
 use symbols::{Symbol, SymbolError, SymbolFault, Symbols};
 
 /// Tells `no`, the name of a field and a number.
-fn tell_indexed<O: Output>(reply: &mut Reply, output: &mut O, name: &[u8], index: u64)
-    ensures { TellsText (telling O.Output output.old output.new reply.old reply.new) (no_reply (indexed name.now index)) }
+fn tell_indexed<O: Output>(reply: &mut Reply<'_, O>, name: &[u8], index: u64)
+    ensures { TellsText (telling O.Output reply.old reply.new) (no_reply (indexed name.now index)) }
 {
-    reply.tell(output, b"no ");
-    reply.tell(output, name);
-    reply.tell(output, b" ");
-    reply.tell_decimal(output, u128::from(index));
-    reply.tell(output, b"\n");
+    reply.tell(b"no ");
+    reply.tell(name);
+    reply.tell(b" ");
+    reply.tell_decimal(u128::from(index));
+    reply.tell(b"\n");
 }
 
 /// Tells the fault of a symbol table: `no FIELD` for a field of the file header, else `no FIELD INDEX`.
-fn tell_symbol_fault<O: Output>(reply: &mut Reply, output: &mut O, fault: SymbolFault)
-    ensures { TellsText (telling O.Output output.old output.new reply.old reply.new) (no_reply (spec.symbol_reason fault)) }
+fn tell_symbol_fault<O: Output>(reply: &mut Reply<'_, O>, fault: SymbolFault)
+    ensures { TellsText (telling O.Output reply.old reply.new) (no_reply (spec.symbol_reason fault)) }
 {
     let name = fault.field.name().as_bytes();
     if fault.field.has_index() {
-        tell_indexed(reply, output, name, fault.index);
+        tell_indexed(reply, name, fault.index);
     } else {
-        tell_no(reply, output, name);
+        tell_no(reply, name);
     }
 }
 
 /// Tells the line of a function.
-fn tell_function<O: Output>(reply: &mut Reply, output: &mut O, symbol: Symbol<'_>)
-    ensures { TellsText (telling O.Output output.old output.new reply.old reply.new)
+fn tell_function<O: Output>(reply: &mut Reply<'_, O>, symbol: Symbol<'_>)
+    ensures { TellsText (telling O.Output reply.old reply.new)
         (spec.symbol_line (symbol_view symbol.entry)) }
 {
-    reply.tell_text(output, symbol.name);
-    reply.tell(output, b" ");
-    tell_hex_word(reply, output, symbol.value);
-    reply.tell_hexadecimal(output, u128::from(symbol.size));
-    reply.tell(output, b"\n");
+    reply.tell_text(symbol.name);
+    reply.tell(b" ");
+    tell_hex_word(reply, symbol.value);
+    reply.tell_hexadecimal(u128::from(symbol.size));
+    reply.tell(b"\n");
 }
 
 /// Tells the function that was found, if there is one.
-fn tell_found<O: Output>(reply: &mut Reply, output: &mut O, found: Option<Symbol<'_>>)
-    ensures { TellsText (telling O.Output output.old output.new reply.old reply.new)
+fn tell_found<O: Output>(reply: &mut Reply<'_, O>, found: Option<Symbol<'_>>)
+    ensures { TellsText (telling O.Output reply.old reply.new)
         (reply_of (spec.found_answer (option_map symbol_view found.entry))) }
 {
     match found {
         Some(symbol) => {
-            tell_function(reply, output, symbol);
-            tell_ok(reply, output);
+            tell_function(reply, symbol);
+            tell_ok(reply);
         }
-        None => tell_no(reply, output, b"NoSymbol"),
+        None => tell_no(reply, b"NoSymbol"),
     }
 }
 
@@ -69,33 +69,32 @@ fn tell_found<O: Output>(reply: &mut Reply, output: &mut O, found: Option<Symbol
 #[tactic(auto, unfolding(crate::specs::Symbol::symbol_answer, crate::specs::Symbol::executable_fault))]
 pub fn tell_symbol<O: Output>(
     alloc: Global,
-    reply: &mut Reply,
-    output: &mut O,
+    reply: &mut Reply<'_, O>,
     image: &[u8],
     address: u64,
 ) -> bool
-    ensures { TellsReply (telling O.Output output.old output.new reply.old reply.new)
+    ensures { TellsReply (telling O.Output reply.old reply.new)
         (λ text. ((result ≡ true) × (text ≡ reply_of (spec.symbol_answer image.now address)))
         ⊎ ((result ≡ false) × (text ≡ memory_reply) × (spec.executable_fault image.now ≡ None))) }
 {
     let elf = match Elf::read(image, Want::Exec) {
         Ok(elf) => elf,
         Err(fault) => {
-            tell_elf_fault(reply, output, fault);
+            tell_elf_fault(reply, fault);
             return true;
         }
     };
     match Symbols::read(alloc, &elf) {
         Ok(symbols) => {
-            tell_found(reply, output, symbols.lookup(address));
+            tell_found(reply, symbols.lookup(address));
             true
         }
         Err(SymbolError::Fault(fault)) => {
-            tell_symbol_fault(reply, output, fault);
+            tell_symbol_fault(reply, fault);
             true
         }
         Err(SymbolError::OutOfMemory) => {
-            tell_no(reply, output, b"OutOfMemory");
+            tell_no(reply, b"OutOfMemory");
             false
         }
     }

@@ -12,9 +12,9 @@ ghost use Rattle.memory_replies.specs.Answers.{AnswersWith};
 ghost use Rattle.memory_replies.specs.Memory.{attached_view};
 ghost use Rattle.memory_replies.specs.Texts as spec;
 
-use crate::attached::{Attached, space_with};
+use crate::attached::space_with;
 use crate::words::tell_hex_word;
-use address_space::{AddressSpace, PieceKind, Source};
+use address_space::{AddressSpace, Attached, PieceKind, Source};
 use image_replies::CoreImage;
 use script_streams::{Output, Reply, tell_no, tell_ok};
 use std::alloc::Global;
@@ -33,23 +33,23 @@ fn value(source: Source<'_>) -> Option<u8>
 }
 
 /// Tells how a value prints as a text.
-fn tell_alone<O: Output>(reply: &mut Reply, output: &mut O, value: Option<u8>)
-    ensures { TellsText (telling O.Output output.old output.new reply.old reply.new) (shown (spec.value_list value)) }
+fn tell_alone<O: Output>(reply: &mut Reply<'_, O>, value: Option<u8>)
+    ensures { TellsText (telling O.Output reply.old reply.new) (shown (spec.value_list value)) }
 {
     match value {
-        Some(byte) => reply.tell_text(output, &[byte]),
-        None => reply.tell_text(output, &[]),
+        Some(byte) => reply.tell_text(&[byte]),
+        None => reply.tell_text(&[]),
     }
 }
 
 /// Tells how the bytes of a piece print, one behind the other.
-fn tell_piece<O: Output>(reply: &mut Reply, output: &mut O, kind: PieceKind<'_>)
-    ensures { TellsText (telling O.Output output.old output.new reply.old reply.new)
+fn tell_piece<O: Output>(reply: &mut Reply<'_, O>, kind: PieceKind<'_>)
+    ensures { TellsText (telling O.Output reply.old reply.new)
         (flat_map shown_byte (spec.content_bytes (kind_view kind.entry))) }
 {
     match kind {
-        PieceKind::Bytes(bytes) => reply.tell_bytes(output, bytes),
-        PieceKind::FromFile(bytes) => reply.tell_bytes(output, bytes),
+        PieceKind::Bytes(bytes) => reply.tell_bytes(bytes),
+        PieceKind::FromFile(bytes) => reply.tell_bytes(bytes),
         PieceKind::NotDumped(_) => {}
         PieceKind::Cut => {}
         PieceKind::Unmapped => {}
@@ -59,85 +59,76 @@ fn tell_piece<O: Output>(reply: &mut Reply, output: &mut O, kind: PieceKind<'_>)
 /// Tells how the values of addresses print, one behind the other, where their number is one of 64 bits.
 #[tactic(auto, using(crate::proofs::TellLemmas::up_to_start))]
 fn tell_pieces<O: Output>(
-    reply: &mut Reply,
-    output: &mut O,
+    reply: &mut Reply<'_, O>,
     space: &AddressSpace<'_>,
     start: u64,
     count: u64,
 )
     requires { start + count ≤ 2 ^ 64 }
-    ensures { TellsText (telling O.Output output.old output.new reply.old reply.new)
+    ensures { TellsText (telling O.Output reply.old reply.new)
         (flat_map shown_byte (spec.values_between (space_of space.now) start count)) }
 {
     for piece in space.pieces(start, count) {
-        tell_piece(reply, output, piece.kind);
+        tell_piece(reply, piece.kind);
     }
 }
 
 /// The same of any number: all addresses are 2^64, so they are told in two halves.
 fn tell_values<O: Output>(
-    reply: &mut Reply,
-    output: &mut O,
+    reply: &mut Reply<'_, O>,
     space: &AddressSpace<'_>,
     start: u64,
     count: u128,
 )
     requires { start + count ≤ 2 ^ 64 }
-    ensures { TellsText (telling O.Output output.old output.new reply.old reply.new)
+    ensures { TellsText (telling O.Output reply.old reply.new)
         (flat_map shown_byte (spec.values_between (space_of space.now) start count)) }
 {
     let half = (count / 2) as u64;
     let others = (count - count / 2) as u64;
-    tell_pieces(reply, output, space, start, half);
-    tell_pieces(reply, output, space, start + half, others);
+    tell_pieces(reply, space, start, half);
+    tell_pieces(reply, space, start + half, others);
 }
 
 /// Tells how the values of addresses, each of which has one, print as a text.
 fn tell_shown<O: Output>(
-    reply: &mut Reply,
-    output: &mut O,
+    reply: &mut Reply<'_, O>,
     space: &AddressSpace<'_>,
     start: u64,
     count: u128,
 )
     requires within { start + count ≤ 2 ^ 64 }
     requires whole { length (spec.values_between (space_of space.now) start count) ≡ count }
-    ensures { TellsText (telling O.Output output.old output.new reply.old reply.new)
+    ensures { TellsText (telling O.Output reply.old reply.new)
         (shown (spec.values_between (space_of space.now) start count)) }
 {
     match count {
-        0 => reply.tell_text(output, &[]),
-        1 => tell_alone(reply, output, value(space.at(start))),
-        _ => tell_values(reply, output, space, start, count),
+        0 => reply.tell_text(&[]),
+        1 => tell_alone(reply, value(space.at(start))),
+        _ => tell_values(reply, space, start, count),
     }
 }
 
 /// Tells the line of a text.
-fn tell_line<O: Output>(
-    reply: &mut Reply,
-    output: &mut O,
-    space: &AddressSpace<'_>,
-    start: u64,
-    count: u128,
-)
+fn tell_line<O: Output>(reply: &mut Reply<'_, O>, space: &AddressSpace<'_>, start: u64, count: u128)
     requires { count ≡ text_len (space_of space.now) start (2 ^ 64 - start) }
-    ensures { TellsText (telling O.Output output.old output.new reply.old reply.new)
+    ensures { TellsText (telling O.Output reply.old reply.new)
         (spec.text_line (space_of space.now) (start, count)) }
 {
-    tell_hex_word(reply, output, start);
-    reply.tell_decimal(output, count);
-    reply.tell(output, b" ");
-    tell_shown(reply, output, space, start, count);
-    reply.tell(output, b"\n");
+    tell_hex_word(reply, start);
+    reply.tell_decimal(count);
+    reply.tell(b" ");
+    tell_shown(reply, space, start, count);
+    reply.tell(b"\n");
 }
 
 /// Tells a line for each text of at least `least` bytes.
-fn tell_texts<O: Output>(reply: &mut Reply, output: &mut O, space: &AddressSpace<'_>, least: u64)
-    ensures { TellsText (telling O.Output output.old output.new reply.old reply.new)
+fn tell_texts<O: Output>(reply: &mut Reply<'_, O>, space: &AddressSpace<'_>, least: u64)
+    ensures { TellsText (telling O.Output reply.old reply.new)
         (flat_map (spec.text_line (space_of space.now)) (strings_of (space_of space.now) least)) }
 {
     for text in space.strings(least) {
-        tell_line(reply, output, space, text.0, text.1);
+        tell_line(reply, space, text.0, text.1);
     }
 }
 
@@ -146,20 +137,19 @@ fn tell_texts<O: Output>(reply: &mut Reply, output: &mut O, space: &AddressSpace
 /// tab. Says whether there was memory for it; where there was none, the reply is `no OutOfMemory`.
 pub fn tell_strings<O: Output>(
     alloc: Global,
-    reply: &mut Reply,
-    output: &mut O,
+    reply: &mut Reply<'_, O>,
     core: &CoreImage<'_>,
     attached: &[Attached<'_>],
     least: u64,
 ) -> bool
-    ensures { TellsReply (telling O.Output output.old output.new reply.old reply.new)
+    ensures { TellsReply (telling O.Output reply.old reply.new)
         (AnswersWith result (spec.strings_answer (core_bytes core.now) (map attached_view attached.now) least)) }
 {
     let Ok(space) = space_with(alloc, core, attached) else {
-        tell_no(reply, output, b"OutOfMemory");
+        tell_no(reply, b"OutOfMemory");
         return false;
     };
-    tell_texts(reply, output, &space, least);
-    tell_ok(reply, output);
+    tell_texts(reply, &space, least);
+    tell_ok(reply);
     true
 }

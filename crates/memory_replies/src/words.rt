@@ -10,24 +10,24 @@ use script_streams::{Output, Reply};
 
 /// Tells a number in hexadecimal and a space.
 #[tactic(auto, unfolding(crate::specs::Words::hex_word))]
-pub(crate) fn tell_hex_word<O: Output>(reply: &mut Reply, output: &mut O, number: u64)
-    ensures { TellsText (telling O.Output output.old output.new reply.old reply.new) (spec.hex_word number) }
+pub(crate) fn tell_hex_word<O: Output>(reply: &mut Reply<'_, O>, number: u64)
+    ensures { TellsText (telling O.Output reply.old reply.new) (spec.hex_word number) }
 {
-    reply.tell_hexadecimal(output, u128::from(number));
-    reply.tell(output, b" ");
+    reply.tell_hexadecimal(u128::from(number));
+    reply.tell(b" ");
 }
 
 /// Tells a place in a mapped file, or that there is none.
 #[tactic(auto, unfolding(crate::specs::Words::spot_words))]
-pub(crate) fn tell_spot<O: Output>(reply: &mut Reply, output: &mut O, spot: Option<FileSpot<'_>>)
-    ensures { TellsText (telling O.Output output.old output.new reply.old reply.new)
+pub(crate) fn tell_spot<O: Output>(reply: &mut Reply<'_, O>, spot: Option<FileSpot<'_>>)
+    ensures { TellsText (telling O.Output reply.old reply.new)
         (spec.spot_words (option_map spot_view spot.entry)) }
 {
     match spot {
         Some(spot) => {
-            tell_hex_word(reply, output, spot.offset);
-            reply.tell_text(output, spot.name);
+            tell_hex_word(reply, spot.offset);
+            reply.tell_text(spot.name);
         }
-        None => reply.tell(output, b"- -"),
+        None => reply.tell(b"- -"),
     }
 }

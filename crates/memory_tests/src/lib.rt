@@ -15,6 +15,8 @@ mod memory;
 #[cfg(test)]
 mod named;
 #[cfg(test)]
+mod paths;
+#[cfg(test)]
 mod real_frames;
 #[cfg(test)]
 mod real_symbols;

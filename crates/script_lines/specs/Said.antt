@@ -289,11 +289,6 @@ is_question upgrade_archive = true
 is_question (inspect_of seq query) = true
 is_question _ = false
 
--- The line retires cases, and so makes room for others.
-abbrev pub makes_room : Said → Bool
-makes_room (retire_by policy) = true
-makes_room _ = false
-
 -- The line shows what is in an archive, and changes nothing in it.
 abbrev pub only_looks : Said → Bool
 only_looks list_all_cases = true

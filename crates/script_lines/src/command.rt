@@ -3,7 +3,7 @@ ghost use Rattle.std.specs.Prelude.{◌≡◌, ◌<◌, ◌≤◌, ℕ, List, le
 ghost use Rattle.script_words.specs.Words.{words_of};
 ghost use Rattle.script_words.specs.WordsLeft.{words_left};
 ghost use Rattle.script_words.specs.Text.{text_of};
-ghost use Rattle.script_lines.specs.Said.{said, is_question, makes_room, only_looks, begin_said, exec_said, core_said, part_said, slot_alone, case_alone, pins, label_text, short_label, label_said, retire_said, list_said, free_said, upgrade_said, inspect_said, case_words_said, words_said, short_line_said};
+ghost use Rattle.script_lines.specs.Said.{said, is_question, only_looks, begin_said, exec_said, core_said, part_said, slot_alone, case_alone, pins, label_text, short_label, label_said, retire_said, list_said, free_said, upgrade_said, inspect_said, case_words_said, words_said, short_line_said};
 ghost use Rattle.script_lines.specs.Commands.{said_by, asked_by, name_text, label_bytes};
 ghost use Rattle.script_lines.specs.LineWords.{AreWords};
 ghost use Rattle.script_streams.specs.Lines.{KeepsLine};
@@ -419,54 +419,16 @@ pub fn is_question(line: &[u8]) -> bool
 fn is_asked(request: &Request<'_>) -> bool
     ensures { result ≡ is_question (asked_by request.now) }
 {
-    match request {
-        Request::Delete { .. } => true,
-        Request::Pin { .. } => true,
-        Request::Label { .. } => true,
-        Request::Retire { .. } => true,
-        Request::ListCases => true,
-        Request::CountFree => true,
-        Request::Upgrade => true,
-        Request::Silence => false,
-        Request::BadLine => false,
-        Request::LineTooLong => false,
-        Request::BeginExec { .. } => false,
-        Request::BeginCore { .. } => false,
-        Request::End { .. } => false,
-        Request::Drop { .. } => false,
-    }
-}
-
-/// Whether a line says `retire` with its limits, and nothing else: the line that makes room before a stream is stored.
-pub fn makes_room(line: &[u8]) -> bool
-    ensures { result ≡ makes_room (said line.now) }
-{
-    match parse_text(line) {
-        Command::Part { .. } => false,
-        Command::Inspect { .. } => false,
-        Command::Plain(request) => is_retire(&request),
-    }
-}
-
-fn is_retire(request: &Request<'_>) -> bool
-    ensures { result ≡ makes_room (asked_by request.now) }
-{
-    match request {
-        Request::Retire { .. } => true,
-        Request::Delete { .. } => false,
-        Request::Pin { .. } => false,
-        Request::Label { .. } => false,
-        Request::ListCases => false,
-        Request::CountFree => false,
-        Request::Upgrade => false,
-        Request::Silence => false,
-        Request::BadLine => false,
-        Request::LineTooLong => false,
-        Request::BeginExec { .. } => false,
-        Request::BeginCore { .. } => false,
-        Request::End { .. } => false,
-        Request::Drop { .. } => false,
-    }
+    matches!(
+        request,
+        Request::Delete { .. }
+            | Request::Pin { .. }
+            | Request::Label { .. }
+            | Request::Retire { .. }
+            | Request::ListCases
+            | Request::CountFree
+            | Request::Upgrade
+    )
 }
 
 /// Whether a line only looks at an archive: `list`, `free` and the lines that inspect do, whatever they are answered. Any other
@@ -484,20 +446,5 @@ pub fn only_looks(line: &[u8]) -> bool
 fn looks_alone(request: &Request<'_>) -> bool
     ensures { result ≡ only_looks (asked_by request.now) }
 {
-    match request {
-        Request::ListCases => true,
-        Request::CountFree => true,
-        Request::Delete { .. } => false,
-        Request::Pin { .. } => false,
-        Request::Label { .. } => false,
-        Request::Retire { .. } => false,
-        Request::Upgrade => false,
-        Request::Silence => false,
-        Request::BadLine => false,
-        Request::LineTooLong => false,
-        Request::BeginExec { .. } => false,
-        Request::BeginCore { .. } => false,
-        Request::End { .. } => false,
-        Request::Drop { .. } => false,
-    }
+    matches!(request, Request::ListCases | Request::CountFree)
 }

@@ -8,7 +8,7 @@ mod names;
 mod process;
 mod query;
 
-pub use command::{Command, Request, is_question, makes_room, only_looks, parse_line, parse_text};
+pub use command::{Command, Request, is_question, only_looks, parse_line, parse_text};
 pub use laws::every_query_can_be_said;
 pub use names::{NameWord, Needle};
 pub use process::{Process, ProcessWords};

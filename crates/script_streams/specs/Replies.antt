@@ -1,31 +1,19 @@
 -- The texts of replies: lines and `ok`, or the reason why there are none.
-use Rattle.std.specs.Prelude.{ℕ, List, [], ◌∷◌, ◌++◌, Option, Result, Ok, Err, codes}
-use Rattle.script_streams.specs.Telling.{Tells}
+use Rattle.std.specs.Prelude.{ℕ, List, [], ◌∷◌, ◌++◌, Result, Ok, Err, codes}
+use Rattle.script_streams.specs.Telling.{Sink, sink, Tells}
 use Rattle.script_streams.specs.declared.reply.Reply.{Reply}
 use Rattle.script_streams.specs.declared.streams.Output as output
 
--- an output before and after, with the text on its way to it
+-- a reply and its output before and after
 pub record Telling : Type 0 where
-  pub taken : Option (List ℕ)
-  pub taken' : Option (List ℕ)
-  pub failures : ℕ
-  pub failures' : ℕ
-  pub reply : Reply
-  pub reply' : Reply
+  pub before : Sink
+  pub after : Sink
 
--- the same, told by the output's members and ends
-abbrev pub telling : {O : Type 0} → output.Ghosts O → O → O → Reply → Reply → Telling
-telling o output output' reply reply' = record {
-  taken = o.taken output;
-  taken' = o.taken output';
-  failures = o.failures output;
-  failures' = o.failures output';
-  reply = reply;
-  reply' = reply';
-}
+abbrev pub telling : {O : Type 0} → output.Ghosts O → Reply O → Reply O → Telling
+telling o reply reply' = record { before = sink o reply; after = sink o reply' }
 
 abbrev pub TellsText : Telling → List ℕ → Type 0
-TellsText t text = Tells t.taken t.taken' t.failures t.failures' t.reply t.reply' text
+TellsText t text = Tells t.before t.after text
 
 -- a text is told that is so
 abbrev pub TellsReply : Telling → (List ℕ → Type 0) → Type 0

@@ -3,33 +3,51 @@ use Rattle.std.specs.Prelude.{◌≡◌, ℕ, ◌≤◌, Bool, true, false, List
 use Rattle.std.specs.Io.KnownBytes.{Appends}
 use Rattle.failure_count.specs.Counts.{HasRisen}
 use Rattle.script_streams.specs.declared.reply.Reply.{Reply}
+use Rattle.script_streams.specs.declared.reply.Unwritten.{Unwritten}
 use Rattle.script_streams.specs.declared.streams.StreamFault.{StreamFault}
+use Rattle.script_streams.specs.declared.streams.Output as output
 
 -- a write failed, and no text is written since
-abbrev pub has_failed : Reply → Bool
-has_failed reply = reply.failed
+abbrev pub has_failed : {O : Type 0} → Reply O → Bool
+has_failed reply = reply.unwritten.failed
 
 -- the text that the output was told and has not taken yet
-abbrev pub held_text : Reply → List ℕ
-held_text reply = reply.held.items
+abbrev pub held_text : {O : Type 0} → Reply O → List ℕ
+held_text reply = reply.unwritten.held.items
 
--- Since a moment at which the output had taken `start` and had counted `count` failures, it was told this text.
+-- A reply and its output at one moment: what the output has taken, how many of its calls have failed, what it has not taken
+-- yet, and which output it is, by the name of the reference to it.
+pub record Sink : Type 0 where
+  pub taken : Option (List ℕ)
+  pub failures : ℕ
+  pub unwritten : Unwritten
+  pub name : ℕ
+
+abbrev pub sink : {O : Type 0} → output.Ghosts O → Reply O → Sink
+sink o reply = record {
+  taken = o.taken reply.output.now;
+  failures = o.failures reply.output.now;
+  unwritten = reply.unwritten;
+  name = reply.output.ghost_name;
+}
+
+-- Since a moment at which the output of this name had taken `start` and had counted `count` failures, it was told this text.
 -- What it took is a front of it, and all of it but what is held, unless a write failed; and then the count has risen.
-pub record Told (start : Option (List ℕ)) (count : ℕ) (taken : Option (List ℕ)) (failures : ℕ)
-    (reply : Reply) (told : List ℕ) : Type 0 where
+pub record Told (start : Option (List ℕ)) (count name : ℕ) (now : Sink) (told : List ℕ) : Type 0 where
   pub out : List ℕ
   pub rest : List ℕ
-  pub appended : Appends start taken out
+  pub appended : Appends start now.taken out
   pub split : out ++ rest ≡ told
-  pub held : has_failed reply ≡ false → rest ≡ held_text reply
-  pub counted : count ≤ failures
-  pub blamed : has_failed reply ≡ true → HasRisen count failures
+  pub held : now.unwritten.failed ≡ false → rest ≡ now.unwritten.held.items
+  pub counted : count ≤ now.failures
+  pub blamed : now.unwritten.failed ≡ true → HasRisen count now.failures
+  pub same : now.name ≡ name
 
 -- whatever was told before, this text was told behind it
-abbrev pub Tells : Option (List ℕ) → Option (List ℕ) → ℕ → ℕ → Reply → Reply → List ℕ → Type 0
-Tells before after failures failures' old new text =
-    (start : Option (List ℕ)) (count : ℕ) (told : List ℕ)
-    → Told start count before failures old told → Told start count after failures' new (told ++ text)
+abbrev pub Tells : Sink → Sink → List ℕ → Type 0
+Tells old new text =
+    (start : Option (List ℕ)) (count name : ℕ) (told : List ℕ)
+    → Told start count name old told → Told start count name new (told ++ text)
 
 -- all that was told was taken, or a front of it until a write failed
 abbrev pub IsDelivered : Option (List ℕ) → ℕ → Option (List ℕ) → ℕ → List ℕ → Result (Unit {0}) StreamFault → Type 0

@@ -3,9 +3,8 @@ ghost use Rattle.std.specs.Prelude.{◌≡◌, ℕ, List, [], ◌∷◌, ◌++�
 ghost use Rattle.std.specs.Io.KnownBytes.{Appends};
 ghost use Rattle.script_streams.specs.Lines.{IsLine};
 ghost use Rattle.script_streams.specs.Reading.{Gives, IsUsedUp, held_bytes};
-ghost use Rattle.script_streams.specs.Telling.{Told, Tells};
+ghost use Rattle.script_streams.specs.Telling.{Sink, Tells};
 ghost use Rattle.script_streams.specs.declared.reader.ScriptBuffer.{ScriptBuffer};
-ghost use Rattle.script_streams.specs.declared.reply.Reply.{Reply};
 
 /// What stands before the first newline of a text is one line and no other, and a line has no newline in it.
 pub fn lines_are_cut_one_way()
@@ -25,7 +24,6 @@ pub fn reading_adds_up()
 
 /// What was told adds up.
 pub fn telling_adds_up()
-    ensures nothing { (a : Option (List ℕ)) (n : ℕ) (reply : Reply) → Tells a a n n reply reply [] }
-    ensures then { (a b c : Option (List ℕ)) (f g h : ℕ) (old mid new : Reply) (x y : List ℕ)
-        → Tells a b f g old mid x → Tells b c g h mid new y → Tells a c f h old new (x ++ y) }
+    ensures nothing { (a : Sink) → Tells a a [] }
+    ensures then { (a b c : Sink) (x y : List ℕ) → Tells a b x → Tells b c y → Tells a c (x ++ y) }
 {}

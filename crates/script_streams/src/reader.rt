@@ -50,7 +50,7 @@ impl ScriptBuffer {
     ghost use Rattle.std.specs.Io.KnownBytes.{IsAtEnd};
     ghost use Rattle.script_streams.specs.Reading.{held_bytes, reads_made, steps_left, Gives, GivesLine, GivesRaw, Stops};
     ghost use Rattle.script_streams.specs.GoingOn.{TakesLine, GoesOn};
-    ghost use Rattle.script_streams.specs.Telling.{Tells, has_failed, held_text};
+    ghost use Rattle.script_streams.specs.Telling.{Tells, sink, has_failed, held_text};
 
     /// A buffer that holds nothing, before the first read.
     pub fn new() -> Self
@@ -107,20 +107,18 @@ impl ScriptBuffer {
         &mut self,
         input: &mut I,
         line: &mut KeptLine,
-        reply: &mut Reply,
-        output: &mut O,
+        reply: &mut Reply<'_, O>,
     ) -> Result<LineEnding, ReadStop>
         ensures gives { GivesLine (I.remaining input.old) (I.remaining input.new) self.old self.new line.new result }
         ensures stops { Stops (I.failures input.old) (I.failures input.new) self.new result }
-        ensures tells { Tells (O.taken output.old) (O.taken output.new) (O.failures output.old) (O.failures output.new)
-            reply.old reply.new [] }
+        ensures tells { Tells (sink O.Output reply.old) (sink O.Output reply.new) [] }
         ensures failed { has_failed reply.old ≡ true → has_failed reply.new ≡ true }
     {
         line.clear();
         if self.take_line(line) {
             return Ok(LineEnding::Newline);
         }
-        reply.flush(output);
+        reply.flush();
         self.finish_line(input, line, reply)
     }
 
@@ -134,25 +132,23 @@ impl ScriptBuffer {
         &mut self,
         input: &mut I,
         into: &mut [u8],
-        reply: &mut Reply,
-        output: &mut O,
+        reply: &mut Reply<'_, O>,
     ) -> Result<usize, ReadStop>
         requires { 0 < length into.old }
         ensures gives { GivesRaw (I.remaining input.old) (I.remaining input.new) self.old self.new into.new result }
         ensures stops { Stops (I.failures input.old) (I.failures input.new) self.new result }
-        ensures tells { Tells (O.taken output.old) (O.taken output.new) (O.failures output.old) (O.failures output.new)
-            reply.old reply.new [] }
+        ensures tells { Tells (sink O.Output reply.old) (sink O.Output reply.new) [] }
     {
-        self.hold_some(input, reply, output)?;
+        self.hold_some(input, reply)?;
         Ok(self.copy_held(into))
     }
 
     // Goes on with a line to its end.
-    fn finish_line<I: Input>(
+    fn finish_line<I: Input, O: Output>(
         &mut self,
         input: &mut I,
         line: &mut KeptLine,
-        reply: &Reply,
+        reply: &Reply<'_, O>,
     ) -> Result<LineEnding, ReadStop>
         requires { held_text reply.now ≡ [] }
         ensures gives { (start : ScriptBuffer) (a : Option (List ℕ)) (front : List ℕ) → IsLine front → KeepsLine front line.old
@@ -168,11 +164,11 @@ impl ScriptBuffer {
     }
 
     // Goes on with a line: to its end, or to the next read.
-    fn go_on<I: Input>(
+    fn go_on<I: Input, O: Output>(
         &mut self,
         input: &mut I,
         line: &mut KeptLine,
-        reply: &Reply,
+        reply: &Reply<'_, O>,
     ) -> Result<Option<LineEnding>, ReadStop>
         requires { held_text reply.now ≡ [] }
         ensures gives { (front : List ℕ) → KeepsLine front line.old
@@ -234,18 +230,16 @@ impl ScriptBuffer {
     fn hold_some<I: Input, O: Output>(
         &mut self,
         input: &mut I,
-        reply: &mut Reply,
-        output: &mut O,
+        reply: &mut Reply<'_, O>,
     ) -> Result<(), ReadStop>
         ensures gives { Gives (I.remaining input.old) (I.remaining input.new) self.old self.new [] }
         ensures end { OnOk result (held_bytes self.new ≡ [] → IsAtEnd (I.remaining input.new)) }
         ensures err { OnErr result (held_bytes self.new ≡ []) }
         ensures stops { Stops (I.failures input.old) (I.failures input.new) self.new result }
-        ensures tells { Tells (O.taken output.old) (O.taken output.new) (O.failures output.old) (O.failures output.new)
-            reply.old reply.new [] }
+        ensures tells { Tells (sink O.Output reply.old) (sink O.Output reply.new) [] }
     {
         if self.held().is_empty() {
-            reply.flush(output);
+            reply.flush();
             return self.refill(input, reply);
         }
         Ok(())
@@ -253,7 +247,11 @@ impl ScriptBuffer {
 
     // Asks the input for more, where nothing of it is held, and nothing of the replies is held back: so whoever gives the input
     // sees each reply before the next line is waited for.
-    fn refill<I: Input>(&mut self, input: &mut I, reply: &Reply) -> Result<(), ReadStop>
+    fn refill<I: Input, O: Output>(
+        &mut self,
+        input: &mut I,
+        reply: &Reply<'_, O>,
+    ) -> Result<(), ReadStop>
         requires empty { held_bytes self.old ≡ [] }
         requires heard { held_text reply.now ≡ [] }
         ensures gives { Gives (I.remaining input.old) (I.remaining input.new) self.old self.new [] }

@@ -1,17 +1,20 @@
-// Room that is made before a case is stored.
+// Room that is made before a case is stored, and the label that it gets then.
 use crate::archives::{fresh, fresh_disk, named, opened, tells, told};
+use arrayvec::ArrayVec;
 use disk_model::{Disk, MemDisk, OneFault, Pick};
 use inspector_cli::{
-    Input, LifeFault, Naming, Output, ReadInput, StoreOutcome, WriteOutput, open_and_store,
+    Input, LifeFault, Naming, Output, ReadInput, StoreOutcome, WriteOutput, line_stream,
+    open_and_store,
 };
 use intake::Settings;
+use retention::Policy;
 use std::alloc::Global;
 use std::process::Abort;
 use std::test::Fail;
 
-// The line that makes room, the one that begins the stream, how many bytes the image has, the replies, and what comes of it.
+// By which room is made, the line that begins the stream, how many bytes the image has, the replies, and what comes of it.
 struct Row {
-    before: &'static [u8],
+    policy: Option<Policy>,
     line: &'static [u8],
     size: usize,
     replies: &'static str,
@@ -19,18 +22,44 @@ struct Row {
     stored: Option<u32>,
 }
 
+const NO_CASE_STAYS: Policy = Policy {
+    keep: Some(0),
+    bytes: None,
+    before: None,
+};
+
+const ONE_CASE_STAYS: Policy = Policy {
+    keep: Some(1),
+    bytes: None,
+    before: None,
+};
+
+const TWO_CASES_STAY: Policy = Policy {
+    keep: Some(2),
+    bytes: None,
+    before: None,
+};
+
+const NO_BYTES_STAY: Policy = Policy {
+    keep: None,
+    bytes: Some(0),
+    before: Some(1),
+};
+
 // How a store ends: nothing else is said of it here, so that no proof has to carry it.
 fn store<I: Input, O: Output, D: Disk>(
     alloc: Global,
     disk: D,
     naming: &Naming,
     row: &Row,
+    label: &Option<ArrayVec<u8, 64>>,
     file: &mut I,
     output: &mut O,
 ) -> (Result<StoreOutcome, LifeFault>, D) {
     let settings = Settings { limit: 1 << 30 };
+    let found = line_stream(row.line, naming);
     open_and_store(
-        alloc, disk, settings, naming, row.before, row.line, file, output,
+        alloc, disk, settings, row.policy, found, label, file, output,
     )
 }
 
@@ -39,23 +68,25 @@ fn stored<D: Disk + Drop>(
     alloc: Global,
     disk: D,
     row: &Row,
+    label: &Option<ArrayVec<u8, 64>>,
 ) -> Result<(String, StoreOutcome, D), Fail> {
     let naming = named(b"core.%e.%p")?;
     let mut text = Vec::new(alloc);
     let image = vec![in alloc; b'z'; row.size]?;
     let mut file = ReadInput::new(image.as_slice());
     let mut output = WriteOutput::new(&mut text);
-    let (ended, disk) = store(alloc, disk, &naming, row, &mut file, &mut output);
+    let (ended, disk) = store(alloc, disk, &naming, row, label, &mut file, &mut output);
     let outcome = ended?;
     Ok((String::from_utf8(text)?, outcome, disk))
 }
 
 // A store over the archive on a disk does what the row says. Answers its disk.
 fn stores<D: Disk + Drop>(rt: &(impl AllocGlobal + Abort), disk: D, row: &Row) -> Result<D, Fail> {
-    let (text, outcome, disk) = stored(rt.alloc(), disk, row)?;
+    let (text, outcome, disk) = stored(rt.alloc(), disk, row, &None)?;
     assert_eq!(rt; text.as_str(), row.replies);
     assert_eq!(rt; outcome.made_room, row.made_room);
     assert_eq!(rt; outcome.stored, row.stored);
+    assert!(rt; outcome.labelled);
     Ok(disk)
 }
 
@@ -79,7 +110,7 @@ fn stores_each(
 // beside it.
 static FULL: [Row; 4] = [
     Row {
-        before: b"",
+        policy: None,
         line: b"begin exec 0 a",
         size: 8192,
         replies: "name a\nok\nstored 1\nok\n",
@@ -87,7 +118,7 @@ static FULL: [Row; 4] = [
         stored: Some(1),
     },
     Row {
-        before: b"retire keep=1",
+        policy: Some(ONE_CASE_STAYS),
         line: b"begin exec 0 b",
         size: 8192,
         replies: "ok\nname b\nok\nstored 2\nok\n",
@@ -95,7 +126,7 @@ static FULL: [Row; 4] = [
         stored: Some(2),
     },
     Row {
-        before: b"retire keep=2",
+        policy: Some(TWO_CASES_STAY),
         line: b"begin exec 0 c",
         size: 8192,
         replies: "ok\nname c\nok\nno SpaceFull\n",
@@ -103,7 +134,7 @@ static FULL: [Row; 4] = [
         stored: None,
     },
     Row {
-        before: b"retire keep=1",
+        policy: Some(ONE_CASE_STAYS),
         line: b"begin exec 0 c",
         size: 8192,
         replies: "dropped 1\nok\nname c\nok\nstored 3\nok\n",
@@ -133,11 +164,11 @@ fn after(alloc: Global, script: &[u8]) -> Result<MemDisk, Fail> {
 // Two cases of which the first is pinned.
 static PINNED: &[u8] = b"begin exec 0 a\nend 0\nbegin core 0 comm=b time=9\nend 0\npin 1\n";
 
-// What is pinned stays, and is counted; what is too old goes; and a limit that does not hold even so refuses nothing. A line that
-// is no `retire` makes no room, and none is made for a line that begins no stream, or whose name a case has that stays.
+// What is pinned stays, and is counted; what is too old goes; and a limit that does not hold even so refuses nothing. No room is
+// made where none is asked for, for a line that begins no stream, nor where a case that stays has its name.
 static KEPT: [Row; 6] = [
     Row {
-        before: b"list",
+        policy: None,
         line: b"begin exec 0 c",
         size: 0,
         replies: "name c\nok\nstored 3\nok\n",
@@ -145,7 +176,7 @@ static KEPT: [Row; 6] = [
         stored: Some(3),
     },
     Row {
-        before: b"retire keep=2",
+        policy: Some(TWO_CASES_STAY),
         line: b"begin exec 0 d",
         size: 2,
         replies: "dropped 2\nok\nname d\nok\nstored 4\nok\n",
@@ -153,7 +184,7 @@ static KEPT: [Row; 6] = [
         stored: Some(4),
     },
     Row {
-        before: b"retire before=1 bytes=0",
+        policy: Some(NO_BYTES_STAY),
         line: b"begin core 0 comm=e time=9",
         size: 1,
         replies: "dropped 3\ndropped 4\nok\nname core.e.0\nok\nstored 5\nok\n",
@@ -161,7 +192,7 @@ static KEPT: [Row; 6] = [
         stored: Some(5),
     },
     Row {
-        before: b"retire keep=0",
+        policy: Some(NO_CASE_STAYS),
         line: b"begin exec 0 f",
         size: 1,
         replies: "dropped 5\nunmet\nok\nname f\nok\nstored 6\nok\n",
@@ -169,7 +200,7 @@ static KEPT: [Row; 6] = [
         stored: Some(6),
     },
     Row {
-        before: b"retire keep=0",
+        policy: Some(NO_CASE_STAYS),
         line: b"begin exec 1 g",
         size: 1,
         replies: "no BadLine\n",
@@ -177,7 +208,7 @@ static KEPT: [Row; 6] = [
         stored: None,
     },
     Row {
-        before: b"retire keep=0",
+        policy: Some(NO_CASE_STAYS),
         line: b"begin exec 0 a",
         size: 1,
         replies: "no NameTaken\n",
@@ -217,7 +248,7 @@ fn nearly_full(alloc: Global) -> Result<MemDisk, Fail> {
 }
 
 static NO_ROOM_FOR_THE_RECORD: Row = Row {
-    before: b"retire keep=0",
+    policy: Some(NO_CASE_STAYS),
     line: b"begin exec 0 a",
     size: 5,
     replies: "no JournalFull\nname a\nok\nstored 63\nok\n",
@@ -231,9 +262,9 @@ fn a_case_is_stored_where_no_room_is_made(rt: HostRuntime) -> Result<(), Fail> {
     Ok(())
 }
 
-// A line that retires, where the disk fails at its last call, so that the archive is stopped.
+// Room by a policy, where the disk fails at its last call, so that the archive is stopped.
 static STOPPED: Row = Row {
-    before: b"retire keep=0",
+    policy: Some(NO_CASE_STAYS),
     line: b"begin exec 0 b",
     size: 1,
     replies: "no Disk\nno Stopped\n",
@@ -250,4 +281,66 @@ fn a_disk_that_fails_where_room_is_made(rt: HostRuntime) -> Result<(), Fail> {
     let calls = archive.close().calls();
     let _ = stores(&rt, OneFault::new(disk, calls), &STOPPED)?;
     Ok(())
+}
+
+static LABELLED: Row = Row {
+    policy: None,
+    line: b"begin exec 0 a",
+    size: 5,
+    replies: "name a\nok\nstored 1\nok\nok\n",
+    made_room: true,
+    stored: Some(1),
+};
+
+static NOT_LABELLED: Row = Row {
+    policy: None,
+    line: b"begin exec 0 a",
+    size: 5,
+    replies: "name a\nok\nstored 1\nok\nno OldVersion\n",
+    made_room: true,
+    stored: Some(1),
+};
+
+static REFUSED: Row = Row {
+    policy: None,
+    line: b"begin exec 0 a",
+    size: 5,
+    replies: "no NameTaken\n",
+    made_room: true,
+    stored: None,
+};
+
+// The same of a store with a label. Answers the disk.
+fn stores_labelled<D: Disk + Drop>(
+    rt: &(impl AllocGlobal + Abort),
+    disk: D,
+    row: &Row,
+    is_labelled: bool,
+) -> Result<D, Fail> {
+    let label = ArrayVec::try_from(b"red".as_slice()).ok();
+    let (text, outcome, disk) = stored(rt.alloc(), disk, row, &label)?;
+    assert_eq!(rt; text.as_str(), row.replies);
+    assert_eq!(rt; outcome.stored, row.stored);
+    assert_eq!(rt; outcome.labelled, is_labelled);
+    Ok(disk)
+}
+
+// A session over the archive on a disk writes this list.
+fn lists(rt: &(impl AllocGlobal + Abort), disk: MemDisk, wanted: &str) -> Result<(), Fail> {
+    let mut archive = opened(rt.alloc(), disk, 1 << 30)?;
+    tells(rt, &mut archive, b"list\n", wanted)
+}
+
+#[test]
+fn a_case_is_stored_with_its_label(rt: HostRuntime) -> Result<(), Fail> {
+    let disk = after(rt.alloc(), b"upgrade\n")?;
+    let disk = stores_labelled(&rt, disk, &LABELLED, true)?;
+    let disk = stores_labelled(&rt, disk, &REFUSED, true)?;
+    lists(&rt, disk, "1 exec 5 0 0 0 - a red\nok\n")
+}
+
+#[test]
+fn a_case_whose_label_is_refused_stays(rt: HostRuntime) -> Result<(), Fail> {
+    let disk = stores_labelled(&rt, fresh_disk(rt.alloc())?, &NOT_LABELLED, false)?;
+    lists(&rt, disk, "1 exec 5 0 0 0 - a\nok\n")
 }

@@ -69,26 +69,20 @@ struct Script<'a> {
     input: Pieces<'a>,
     buffer: ScriptBuffer,
     line: KeptLine,
-    reply: Reply,
     output: Narrow,
 }
 
 // The next line, which is kept.
 fn next_line(script: &mut Script<'_>) -> Result<LineEnding, ReadStop> {
-    let (line, reply) = (&mut script.line, &mut script.reply);
-    script
-        .buffer
-        .next_line(&mut script.input, line, reply, &mut script.output)
+    tell_and_read(script, b"")
 }
 
 // The next bytes of a part, and how many there are.
 fn next_bytes(script: &mut Script<'_>, into: &mut [u8]) -> Result<usize, ReadStop>
     requires { 0 < length into.old }
 {
-    let reply = &mut script.reply;
-    script
-        .buffer
-        .next_raw(&mut script.input, into, reply, &mut script.output)
+    let mut reply = Reply::new(&mut script.output);
+    script.buffer.next_raw(&mut script.input, into, &mut reply)
 }
 
 // The next line ends so, and has this text.
@@ -125,7 +119,6 @@ fn script_of(rest: &[u8], size: usize, fails: bool) -> Script<'_> {
         },
         buffer: ScriptBuffer::new(),
         line: KeptLine::new(),
-        reply: Reply::new(),
         output: takes_at_most(0),
     }
 }
@@ -214,30 +207,37 @@ fn output_that_fails(rt: HostRuntime) -> Result<(), Fail> {
         last: 0,
         failures: 0,
     };
-    let mut reply = Reply::new();
-    reply.tell(&mut output, b"ok\n");
-    assert_eq!(rt; reply.finish(&mut output), Ok(()));
-    assert_eq!(rt; output.last, b'\n');
-    reply.tell(&mut output, b"no");
-    assert_eq!(rt; reply.finish(&mut output), Err(StreamFault));
-    reply.tell(&mut output, b"more");
-    assert_eq!(rt; reply.finish(&mut output), Err(StreamFault));
-    assert_eq!(rt; output.failures, 1);
+    let mut reply = Reply::new(&mut output);
+    reply.tell(b"ok\n");
+    assert_eq!(rt; reply.finish(), Ok(()));
+    reply.tell(b"no");
+    assert_eq!(rt; reply.finish(), Err(StreamFault));
+    reply.tell(b"more");
+    assert_eq!(rt; reply.finish(), Err(StreamFault));
+    assert_eq!(rt; (output.last, output.failures), (b'\n', 1));
     Ok(())
 }
 
 // What numbers and bytes are told as.
-fn tell_values<O: Output>(reply: &mut Reply, output: &mut O) {
-    reply.tell_hexadecimal(output, 16);
-    reply.tell_decimal(output, 4);
-    reply.tell_signed(output, -1);
-    reply.tell_hex(output, b"\x0a\xbb");
+fn tell_values<O: Output>(reply: &mut Reply<'_, O>) {
+    reply.tell_hexadecimal(16);
+    reply.tell_decimal(4);
+    reply.tell_signed(-1);
+    reply.tell_hex(b"\x0a\xbb");
 }
 
-// Tells the script's output a text.
+// Tells the script's output a text, and lets the reply go.
 fn tell(script: &mut Script<'_>, text: &[u8]) {
-    let reply = &mut script.reply;
-    reply.tell(&mut script.output, text);
+    let mut reply = Reply::new(&mut script.output);
+    reply.tell(text);
+}
+
+// Tells the script's output a text, and reads the next line.
+fn tell_and_read(script: &mut Script<'_>, text: &[u8]) -> Result<LineEnding, ReadStop> {
+    let mut reply = Reply::new(&mut script.output);
+    reply.tell(text);
+    let line = &mut script.line;
+    script.buffer.next_line(&mut script.input, line, &mut reply)
 }
 
 #[test]
@@ -247,7 +247,7 @@ fn replies_come_before_more_is_read(rt: HostRuntime) -> Result<(), Fail> {
     next_line(&mut script)?;
     tell(&mut script, b"ok\n");
     let before = script.output.left;
-    next_line(&mut script)?;
+    tell_and_read(&mut script, b"ok\n")?;
     assert_eq!(rt;
         (before, script.output.left, script.output.last),
         (3, 0, b'\n')
@@ -260,9 +260,9 @@ fn a_slice_is_an_input(rt: HostRuntime) -> Result<(), Fail> {
     let mut input = ReadInput::new(b"free".as_slice());
     let mut buffer = ScriptBuffer::new();
     let mut line = KeptLine::new();
-    let mut reply = Reply::new();
     let mut output = takes_at_most(0);
-    let ending = buffer.next_line(&mut input, &mut line, &mut reply, &mut output)?;
+    let mut reply = Reply::new(&mut output);
+    let ending = buffer.next_line(&mut input, &mut line, &mut reply)?;
     assert_eq!(rt; ending, LineEnding::EndOfInput);
     assert_eq!(rt; line.text(), b"free".as_slice());
     Ok(())
@@ -271,13 +271,13 @@ fn a_slice_is_an_input(rt: HostRuntime) -> Result<(), Fail> {
 #[test]
 fn a_vector_is_an_output(rt: HostRuntime) {
     let mut output = WriteOutput::new(Vec::new(rt.alloc()));
-    let mut reply = Reply::new();
-    reply.tell(&mut output, b"free");
+    let mut reply = Reply::new(&mut output);
+    reply.tell(b"free");
     for text in [b"".as_slice(), b"-", b"a b"] {
-        reply.tell_text(&mut output, text);
+        reply.tell_text(text);
     }
-    tell_values(&mut reply, &mut output);
-    assert_eq!(rt; reply.finish(&mut output), Ok(()));
+    tell_values(&mut reply);
+    assert_eq!(rt; reply.finish(), Ok(()));
     let written = output.into_inner();
     assert_eq!(rt;
         written.as_slice(),

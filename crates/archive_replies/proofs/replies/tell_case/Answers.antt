@@ -6,14 +6,14 @@ use Rattle.archive_replies.proofs.replies.tell_case.Goals as goal
 
 pub returns : goal.returns
 returns g c =
-    tells_then _ _ _ _ _ _ _ _ _ _ _ c.tell_number.ensures
-    (tells_then _ _ _ _ _ _ _ _ _ _ _ (tells_as _ _ _ _ _ _ _ _ c.kind_word.ensures c.tell.ensures)
-    (tells_then _ _ _ _ _ _ _ _ _ _ _ c.tell-2.ensures
-    (tells_then _ _ _ _ _ _ _ _ _ _ _ c.tell_number-2.ensures
-    (tells_then _ _ _ _ _ _ _ _ _ _ _ c.tell_number-3.ensures
-    (tells_then _ _ _ _ _ _ _ _ _ _ _ c.tell_number-4.ensures
-    (tells_then _ _ _ _ _ _ _ _ _ _ _ c.tell_number-5.ensures
-    (tells_then _ _ _ _ _ _ _ _ _ _ _ (tells_as _ _ _ _ _ _ _ _ c.pin_word.ensures c.tell-3.ensures)
-    (tells_then _ _ _ _ _ _ _ _ _ _ _ c.tell-4.ensures
-    (tells_then _ _ _ _ _ _ _ _ _ _ _ (tells_as _ _ _ _ _ _ _ _ (ap shown c.as_slice.ensures.value) c.tell_text.ensures)
-    (tells_then _ _ _ _ _ _ _ _ _ _ _ (tells_as _ _ _ _ _ _ _ _ (ap (label_word c.args.version) c.as_slice-2.ensures.value) c.tell_label.ensures) c.tell-5.ensures))))))))))
+    tells_then c.tell_number.ensures
+    (tells_then (tells_as c.kind_word.ensures c.tell.ensures)
+    (tells_then c.tell-2.ensures
+    (tells_then c.tell_number-2.ensures
+    (tells_then c.tell_number-3.ensures
+    (tells_then c.tell_number-4.ensures
+    (tells_then c.tell_number-5.ensures
+    (tells_then (tells_as c.pin_word.ensures c.tell-3.ensures)
+    (tells_then c.tell-4.ensures
+    (tells_then (tells_as (ap shown c.as_slice.ensures.value) c.tell_text.ensures)
+    (tells_then (tells_as (ap (label_word c.args.version) c.as_slice-2.ensures.value) c.tell_label.ensures) c.tell-5.ensures))))))))))

@@ -5,5 +5,5 @@ use Rattle.archive_replies.proofs.replies.tell_cases.Goals as goal
 
 pub loop-entry-preserved : goal.loop-entry-preserved
 loop-entry-preserved g c =
-    tells_as _ _ _ _ _ _ _ _ (one_line_more c.args.version c.args.cases.now c.loop-entry.entry-index c.entry-item.result (omega arith) c.entry-item.is)
-    (tells_then _ _ _ _ _ _ _ _ _ _ _ c.loop-entry.invariant c.tell_case.ensures)
+    tells_as (one_line_more c.args.version c.args.cases.now c.loop-entry.entry-index c.entry-item.result (omega arith) c.entry-item.is)
+    (tells_then c.loop-entry.invariant c.tell_case.ensures)

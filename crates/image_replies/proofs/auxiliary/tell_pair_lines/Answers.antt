@@ -5,10 +5,10 @@ use Rattle.image_replies.proofs.TextLemmas.{front_begins, front_grows, front_end
 use Rattle.image_replies.proofs.auxiliary.tell_pair_lines.Goals as goal
 
 pub loop-pair-init : goal.loop-pair-init
-loop-pair-init g c = front_begins _ _ _ _
+loop-pair-init g c = front_begins
 
 pub loop-pair-preserved : goal.loop-pair-preserved
-loop-pair-preserved g c = front_grows _ _ _ _ _ _ _ _ _ _ _ _ _ c.loop-pair.invariant (ap (flat_map pair_line) c.in-Some.ensures.steps) c.tell_pair_line.ensures
+loop-pair-preserved g c = front_grows c.loop-pair.invariant (ap (flat_map pair_line) c.in-Some.ensures.steps) c.tell_pair_line.ensures
 
 pub returns : goal.returns
-returns g c = front_ends _ _ _ _ _ _ _ _ c.loop-pair.invariant (ap (flat_map pair_line) c.in_default.ensures.steps.0)
+returns g c = front_ends c.loop-pair.invariant (ap (flat_map pair_line) c.in_default.ensures.steps.0)

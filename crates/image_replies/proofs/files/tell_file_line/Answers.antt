@@ -3,7 +3,7 @@ use Rattle.image_replies.proofs.files.tell_file_line.Goals as goal
 
 pub returns : goal.returns
 returns g c =
-    tells_then _ _ _ _ _ _ _ _ _ _ _ c.tell_address.ensures
-    (tells_then _ _ _ _ _ _ _ _ _ _ _ c.tell_address-2.ensures
-    (tells_then _ _ _ _ _ _ _ _ _ _ _ c.tell_address-3.ensures
-    (tells_then _ _ _ _ _ _ _ _ _ _ _ c.tell_text.ensures c.tell.ensures)))
+    tells_then c.tell_address.ensures
+    (tells_then c.tell_address-2.ensures
+    (tells_then c.tell_address-3.ensures
+    (tells_then c.tell_text.ensures c.tell.ensures)))

@@ -5,10 +5,10 @@ use Rattle.image_replies.proofs.TextLemmas.{front_begins, front_grows, front_end
 use Rattle.image_replies.proofs.files.tell_file_lines.Goals as goal
 
 pub loop-map-init : goal.loop-map-init
-loop-map-init g c = front_begins _ _ _ _
+loop-map-init g c = front_begins
 
 pub loop-map-preserved : goal.loop-map-preserved
-loop-map-preserved g c = front_grows _ _ _ _ _ _ _ _ _ _ _ _ _ c.loop-map.invariant (ap (flat_map file_line) c.in-Some.ensures.steps) c.tell_file_line.ensures
+loop-map-preserved g c = front_grows c.loop-map.invariant (ap (flat_map file_line) c.in-Some.ensures.steps) c.tell_file_line.ensures
 
 pub returns : goal.returns
-returns g c = front_ends _ _ _ _ _ _ _ _ c.loop-map.invariant (ap (flat_map file_line) c.in_default.ensures.steps.0)
+returns g c = front_ends c.loop-map.invariant (ap (flat_map file_line) c.in_default.ensures.steps.0)

@@ -1,4 +1,5 @@
 use Rattle.std.specs.List.{flat_map}
+use Rattle.script_streams.specs.Telling.{sink}
 use Rattle.core_notes.specs.FileWords.{files_left}
 use Rattle.image_replies.specs.Files.{file_line}
 use Rattle.image_replies.proofs.TextLemmas.{TellsFront}
@@ -6,4 +7,4 @@ use Rattle.image_replies.proofs.files.tell_file_lines.Given as goal
 
 -- the lines of what is left are still to be told
 abbrev pub invariant-loop-map : goal.invariant-loop-map
-invariant-loop-map g l = TellsFront (g.O.Output.taken l.initial.output) (g.O.Output.taken l.output) (g.O.Output.failures l.initial.output) (g.O.Output.failures l.output) l.initial.reply l.reply (flat_map file_line (files_left l.fn.maps)) (flat_map file_line (files_left l.rest))
+invariant-loop-map g l = TellsFront (sink g.O.Output l.initial.reply) (sink g.O.Output l.reply) (flat_map file_line (files_left l.fn.maps)) (flat_map file_line (files_left l.rest))

@@ -5,16 +5,16 @@ use Rattle.image_replies.proofs.TextLemmas.{front_begins, front_grows, front_end
 use Rattle.image_replies.proofs.note_lines.tell_note_lines.Goals as goal
 
 pub loop-note-init : goal.loop-note-init
-loop-note-init g c = record { told = front_begins _ _ _ _; few = omega arith }
+loop-note-init g c = record { told = front_begins; few = omega arith }
 
 pub overflow_add-index : goal.overflow_add-index
 overflow_add-index g c = omega (arith, c.loop-note.invariant.few, ap length c.in-Some.ensures.steps)
 
 pub loop-note-preserved : goal.loop-note-preserved
 loop-note-preserved g c = record {
-  told = front_grows _ _ _ _ _ _ _ _ _ _ _ _ _ c.loop-note.invariant.told (ap (numbered_lines note_line c.loop-note.index) c.in-Some.ensures.steps) c.tell_note_line.ensures;
+  told = front_grows c.loop-note.invariant.told (ap (numbered_lines note_line c.loop-note.index) c.in-Some.ensures.steps) c.tell_note_line.ensures;
   few = omega (arith, c.loop-note.invariant.few, ap length c.in-Some.ensures.steps);
 }
 
 pub returns : goal.returns
-returns g c = front_ends _ _ _ _ _ _ _ _ c.loop-note.invariant.told (ap (numbered_lines note_line c.loop-note.index) c.in_default.ensures.steps.0)
+returns g c = front_ends c.loop-note.invariant.told (ap (numbered_lines note_line c.loop-note.index) c.in_default.ensures.steps.0)

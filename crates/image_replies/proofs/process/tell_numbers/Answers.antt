@@ -8,7 +8,7 @@ use Rattle.image_replies.proofs.process.tell_numbers.Goals as goal
 
 pub returns : goal.returns
 returns g c =
-    tells_then _ _ _ _ _ _ _ _ _ _ _ (tells_as _ _ _ _ _ _ _ _ (ap (λ z. codes "pid " ++ signed_decimal z) (signed_as w32 _ _ c.pr_pid.ensures (search rules))) c.tell_labelled.ensures)
-    (tells_then _ _ _ _ _ _ _ _ _ _ _ (tells_as _ _ _ _ _ _ _ _ (ap (λ z. codes " ppid " ++ signed_decimal z) (signed_as w32 _ _ c.pr_ppid.ensures (search rules))) c.tell_labelled-2.ensures)
-    (tells_then _ _ _ _ _ _ _ _ _ _ _ (tells_as _ _ _ _ _ _ _ _ (ap (λ z. codes " pgrp " ++ signed_decimal z) (signed_as w32 _ _ c.pr_pgrp.ensures (search rules))) c.tell_labelled-3.ensures)
-    (tells_then _ _ _ _ _ _ _ _ _ _ _ (tells_as _ _ _ _ _ _ _ _ (ap (λ z. codes " sid " ++ signed_decimal z) (signed_as w32 _ _ c.pr_sid.ensures (search rules))) c.tell_labelled-4.ensures) c.tell.ensures)))
+    tells_then (tells_as (ap (λ z. codes "pid " ++ signed_decimal z) (signed_as w32 _ _ c.pr_pid.ensures (search rules))) c.tell_labelled.ensures)
+    (tells_then (tells_as (ap (λ z. codes " ppid " ++ signed_decimal z) (signed_as w32 _ _ c.pr_ppid.ensures (search rules))) c.tell_labelled-2.ensures)
+    (tells_then (tells_as (ap (λ z. codes " pgrp " ++ signed_decimal z) (signed_as w32 _ _ c.pr_pgrp.ensures (search rules))) c.tell_labelled-3.ensures)
+    (tells_then (tells_as (ap (λ z. codes " sid " ++ signed_decimal z) (signed_as w32 _ _ c.pr_sid.ensures (search rules))) c.tell_labelled-4.ensures) c.tell.ensures)))

@@ -10,8 +10,8 @@ use Rattle.image_replies.proofs.signal.tell_cause.Goals as goal
 
 pub returns : goal.returns
 returns g c =
-    tells_then _ _ _ _ _ _ _ _ _ _ _ (tells_as _ _ _ _ _ _ _ _ (ap (λ z. codes "signo " ++ signed_decimal z) (signed_as w32 _ _ c.si_signo.ensures (search rules))) c.tell_labelled.ensures)
-    (tells_then _ _ _ _ _ _ _ _ _ _ _ c.tell.ensures
-    (tells_then _ _ _ _ _ _ _ _ _ _ _ (tells_as _ _ _ _ _ _ _ _ (ap (λ z. name_or_dash (name_of_signal z)) (signed_as w32 _ _ c.si_signo-2.ensures (search rules))) c.tell_signal_name.ensures)
-    (tells_then _ _ _ _ _ _ _ _ _ _ _ (tells_as _ _ _ _ _ _ _ _ (ap (λ z. codes " errno " ++ signed_decimal z) (signed_as w32 _ _ c.si_errno.ensures (search rules))) c.tell_labelled-2.ensures)
-    (tells_then _ _ _ _ _ _ _ _ _ _ _ (tells_as _ _ _ _ _ _ _ _ (ap (λ z. codes " code " ++ signed_decimal z) (signed_as w32 _ _ c.si_code.ensures (search rules))) c.tell_labelled-3.ensures) c.tell-2.ensures))))
+    tells_then (tells_as (ap (λ z. codes "signo " ++ signed_decimal z) (signed_as w32 _ _ c.si_signo.ensures (search rules))) c.tell_labelled.ensures)
+    (tells_then c.tell.ensures
+    (tells_then (tells_as (ap (λ z. name_or_dash (name_of_signal z)) (signed_as w32 _ _ c.si_signo-2.ensures (search rules))) c.tell_signal_name.ensures)
+    (tells_then (tells_as (ap (λ z. codes " errno " ++ signed_decimal z) (signed_as w32 _ _ c.si_errno.ensures (search rules))) c.tell_labelled-2.ensures)
+    (tells_then (tells_as (ap (λ z. codes " code " ++ signed_decimal z) (signed_as w32 _ _ c.si_code.ensures (search rules))) c.tell_labelled-3.ensures) c.tell-2.ensures))))

@@ -15,7 +15,7 @@ returns g c =
     let d = siginfo_bytes c.args.signal.now in
     let by_process = ap (λ p. sender_line p (Some user)) (sym c.in-Some-Some.is-0 ∙ c.si_pid.ensures) in
     let by_user = ap (λ u. sender_line (si_pid d) u) (sym c.in-Some-Some.is-1 ∙ c.si_uid.ensures) in
-    tells_as _ _ _ _ _ _ _ _ (by_process ∙ by_user)
-    (tells_then _ _ _ _ _ _ _ _ _ _ _ (tells_as _ _ _ _ _ _ _ _ (ap (λ z. codes "pid " ++ signed_decimal z) (signed_as w32 process process refl (search rules))) c.tell_labelled.ensures)
-    (tells_then _ _ _ _ _ _ _ _ _ _ _ c.tell.ensures
-    (tells_then _ _ _ _ _ _ _ _ _ _ _ (tells_as _ _ _ _ _ _ _ _ (ap decimal c.from.ensures) c.tell_decimal.ensures) c.tell-2.ensures)))
+    tells_as (by_process ∙ by_user)
+    (tells_then (tells_as (ap (λ z. codes "pid " ++ signed_decimal z) (signed_as w32 process process refl (search rules))) c.tell_labelled.ensures)
+    (tells_then c.tell.ensures
+    (tells_then (tells_as (ap decimal c.from.ensures) c.tell_decimal.ensures) c.tell-2.ensures)))

@@ -3,5 +3,5 @@ use Rattle.image_replies.proofs.signal.tell_signal_lines.Goals as goal
 
 pub returns : goal.returns
 returns g c =
-    tells_then _ _ _ _ _ _ _ _ _ _ _ c.tell_cause.ensures
-    (tells_then _ _ _ _ _ _ _ _ _ _ _ c.tell_sender.ensures c.tell_met_address.ensures)
+    tells_then c.tell_cause.ensures
+    (tells_then c.tell_sender.ensures c.tell_met_address.ensures)

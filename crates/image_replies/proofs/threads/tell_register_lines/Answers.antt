@@ -4,10 +4,10 @@ use Rattle.image_replies.proofs.TextLemmas.{front_begins, front_grows, front_end
 use Rattle.image_replies.proofs.threads.tell_register_lines.Goals as goal
 
 pub loop-word-init : goal.loop-word-init
-loop-word-init g c = front_begins _ _ _ _
+loop-word-init g c = front_begins
 
 pub loop-word-preserved : goal.loop-word-preserved
-loop-word-preserved g c = front_grows _ _ _ _ _ _ _ _ _ _ _ _ _ c.loop-word.invariant (first_register _ c.loop-word.word c.loop-word-test.true) c.tell_register_line.ensures
+loop-word-preserved g c = front_grows c.loop-word.invariant (first_register _ c.loop-word.word c.loop-word-test.true) c.tell_register_line.ensures
 
 pub returns : goal.returns
-returns g c = front_ends _ _ _ _ _ _ _ _ c.loop-word.invariant (no_registers _ c.loop-word.word (omega arith))
+returns g c = front_ends c.loop-word.invariant (no_registers _ c.loop-word.word (omega arith))

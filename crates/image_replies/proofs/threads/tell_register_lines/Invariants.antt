@@ -1,4 +1,5 @@
 use Rattle.std.proofs.Common.{◌-◌}
+use Rattle.script_streams.specs.Telling.{sink}
 use Rattle.thread_regs.specs.ThreadWords.{thread_bytes}
 use Rattle.image_replies.specs.Threads.{register_lines, register_lines_from}
 use Rattle.image_replies.proofs.TextLemmas.{TellsFront}
@@ -6,4 +7,4 @@ use Rattle.image_replies.proofs.threads.tell_register_lines.Given as goal
 
 -- the lines of the words that are left are still to be told
 abbrev pub invariant-loop-word : goal.invariant-loop-word
-invariant-loop-word g l = TellsFront (g.O.Output.taken l.initial.output) (g.O.Output.taken l.output) (g.O.Output.failures l.initial.output) (g.O.Output.failures l.output) l.initial.reply l.reply (register_lines (thread_bytes l.thread)) (register_lines_from (thread_bytes l.thread) l.word (32 - l.word))
+invariant-loop-word g l = TellsFront (sink g.O.Output l.initial.reply) (sink g.O.Output l.reply) (register_lines (thread_bytes l.thread)) (register_lines_from (thread_bytes l.thread) l.word (32 - l.word))

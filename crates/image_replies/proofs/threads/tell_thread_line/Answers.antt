@@ -8,9 +8,9 @@ use Rattle.image_replies.proofs.threads.tell_thread_line.Goals as goal
 
 pub returns : goal.returns
 returns g c =
-    tells_then _ _ _ _ _ _ _ _ _ _ _ c.tell_number.ensures
-    (tells_then _ _ _ _ _ _ _ _ _ _ _ (tells_as _ _ _ _ _ _ _ _ (ap signed_decimal (signed_as w64 _ _ (c.from.ensures ∙ signed_as w32 _ _ c.tid.ensures (search rules)) (search rules))) c.tell_signed.ensures)
-    (tells_then _ _ _ _ _ _ _ _ _ _ _ c.tell.ensures
-    (tells_then _ _ _ _ _ _ _ _ _ _ _ (tells_as _ _ _ _ _ _ _ _ (ap signed_decimal (signed_as w64 _ _ (c.from-2.ensures ∙ signed_as w16 _ _ c.signal.ensures (search rules)) (search rules))) c.tell_signed-2.ensures)
-    (tells_then _ _ _ _ _ _ _ _ _ _ _ c.tell-2.ensures
-    (tells_then _ _ _ _ _ _ _ _ _ _ _ (tells_as _ _ _ _ _ _ _ _ (ap hexadecimal (c.from-3.ensures ∙ c.word_of.ensures)) c.tell_hexadecimal.ensures) c.tell-3.ensures)))))
+    tells_then c.tell_number.ensures
+    (tells_then (tells_as (ap signed_decimal (signed_as w64 _ _ (c.from.ensures ∙ signed_as w32 _ _ c.tid.ensures (search rules)) (search rules))) c.tell_signed.ensures)
+    (tells_then c.tell.ensures
+    (tells_then (tells_as (ap signed_decimal (signed_as w64 _ _ (c.from-2.ensures ∙ signed_as w16 _ _ c.signal.ensures (search rules)) (search rules))) c.tell_signed-2.ensures)
+    (tells_then c.tell-2.ensures
+    (tells_then (tells_as (ap hexadecimal (c.from-3.ensures ∙ c.word_of.ensures)) c.tell_hexadecimal.ensures) c.tell-3.ensures)))))

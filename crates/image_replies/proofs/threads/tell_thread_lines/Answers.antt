@@ -5,16 +5,16 @@ use Rattle.image_replies.proofs.TextLemmas.{front_begins, front_grows, front_end
 use Rattle.image_replies.proofs.threads.tell_thread_lines.Goals as goal
 
 pub loop-thread-init : goal.loop-thread-init
-loop-thread-init g c = record { told = front_begins _ _ _ _; few = omega arith }
+loop-thread-init g c = record { told = front_begins; few = omega arith }
 
 pub overflow_add-index : goal.overflow_add-index
 overflow_add-index g c = omega (arith, c.loop-thread.invariant.few, ap length c.in-Some.ensures.steps)
 
 pub loop-thread-preserved : goal.loop-thread-preserved
 loop-thread-preserved g c = record {
-  told = front_grows _ _ _ _ _ _ _ _ _ _ _ _ _ c.loop-thread.invariant.told (ap (numbered_lines thread_line c.loop-thread.index) c.in-Some.ensures.steps) c.tell_thread_line.ensures;
+  told = front_grows c.loop-thread.invariant.told (ap (numbered_lines thread_line c.loop-thread.index) c.in-Some.ensures.steps) c.tell_thread_line.ensures;
   few = omega (arith, c.loop-thread.invariant.few, ap length c.in-Some.ensures.steps);
 }
 
 pub returns : goal.returns
-returns g c = front_ends _ _ _ _ _ _ _ _ c.loop-thread.invariant.told (ap (numbered_lines thread_line c.loop-thread.index) c.in_default.ensures.steps.0)
+returns g c = front_ends c.loop-thread.invariant.told (ap (numbered_lines thread_line c.loop-thread.index) c.in_default.ensures.steps.0)

@@ -1,4 +1,5 @@
 use Rattle.std.proofs.Common.{◌<◌, ◌+◌, ◌^◌, length}
+use Rattle.script_streams.specs.Telling.{sink}
 use Rattle.thread_regs.specs.ThreadWords.{threads_left}
 use Rattle.image_replies.specs.Lines.{numbered_lines}
 use Rattle.image_replies.specs.Threads.{thread_line}
@@ -8,6 +9,6 @@ use Rattle.image_replies.proofs.threads.tell_thread_lines.Given as goal
 -- the lines of what is left are still to be told
 abbrev pub invariant-loop-thread : goal.invariant-loop-thread
 invariant-loop-thread g l = record {
-  told : TellsFront (g.O.Output.taken l.initial.output) (g.O.Output.taken l.output) (g.O.Output.failures l.initial.output) (g.O.Output.failures l.output) l.initial.reply l.reply (numbered_lines thread_line 0 (threads_left l.fn.threads)) (numbered_lines thread_line l.index (threads_left l.rest));
+  told : TellsFront (sink g.O.Output l.initial.reply) (sink g.O.Output l.reply) (numbered_lines thread_line 0 (threads_left l.fn.threads)) (numbered_lines thread_line l.index (threads_left l.rest));
   few : l.index + length (threads_left l.rest) < 2 ^ 128;
 }

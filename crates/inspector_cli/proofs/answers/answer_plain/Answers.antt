@@ -7,7 +7,7 @@ use Rattle.script_streams.specs.TellLaws.{tells_nothing}
 use Rattle.inspector_cli.proofs.answers.answer_plain.Goals as goal
 
 pub returns-in-Silence : goal.returns-in-Silence
-returns-in-Silence g c = rw c.in-Silence.is ([], (refl, refl), tells_nothing _ _ _)
+returns-in-Silence g c = rw c.in-Silence.is ([], (refl, refl), tells_nothing)
 
 pub returns-in-BadLine : goal.returns-in-BadLine
 returns-in-BadLine g c = rw c.in-BadLine.is (no_reply (codes "BadLine"), (refl, refl), c.tell_no.ensures)

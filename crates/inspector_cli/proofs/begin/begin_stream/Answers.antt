@@ -21,5 +21,5 @@ returns g c = (
     refl,
     c.is_ok-is_begun.ensures.value,
   ),
-  tells_as _ _ _ _ _ _ _ _ (ap (λ t. begin_reply t c.begin-outcome.result) (c.as_slice-2.ensures.value ∙ (c.copied-shown.ensures.same ∙ c.as_slice.ensures.value))) c.tell_begun.ensures,
+  tells_as (ap (λ t. begin_reply t c.begin-outcome.result) (c.as_slice-2.ensures.value ∙ (c.copied-shown.ensures.same ∙ c.as_slice.ensures.value))) c.tell_begun.ensures,
 )

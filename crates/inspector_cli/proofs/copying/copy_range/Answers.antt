@@ -7,7 +7,7 @@ use Rattle.inspector_cli.proofs.copying.copy_range.Goals as goal
 
 pub loop-done-init : goal.loop-done-init
 loop-done-init g c = record {
-  copies = copies_none g.D.Disk c.args.disk.now _ _ c.args.reply.now (g.met.D.Disk.only_now c.args.disk.now) (λ (b : List ℕ). part b c.args.range.start 0) (λ (b : List ℕ). part_none b c.args.range.start);
+  copies = copies_none g.D.Disk c.args.disk.now _ (g.met.D.Disk.only_now c.args.disk.now) (λ (b : List ℕ). part b c.args.range.start 0) (λ (b : List ℕ). part_none b c.args.range.start);
   within = omega arith;
 }
 
@@ -29,7 +29,7 @@ returns-in_err-copy_piece g c =
     (λ (b : List ℕ). part b (c.args.range.start + (c.loop-done.done + m)) (c.args.range.length - (c.loop-done.done + m)))
     (λ (b : List ℕ). part b c.args.range.start c.args.range.length) _
     (λ (b : List ℕ). part_whole b c.args.range.start c.loop-done.done m c.args.range.length (omega (arith, long, c.min-count.ensures, c.loop-done-test.true)))
-    (copies_then g.D.Disk c.args.disk.now c.loop-done.disk c.copy_piece.new.disk _ _ _ _ _ _ _ _ _
+    (copies_then g.D.Disk c.args.disk.now c.loop-done.disk c.copy_piece.new.disk _ _ _
     (λ (b : List ℕ). part b c.args.range.start c.loop-done.done) (λ (b : List ℕ). part b (c.args.range.start + c.loop-done.done) m) _
     c.loop-done.invariant.copies c.in_err-copy_piece.ensures))
 
@@ -41,7 +41,7 @@ loop-done-preserved g c =
           copies_as g.D.Disk c.args.disk.now c.copy_piece.new.disk _
           (λ (b : List ℕ). part b c.args.range.start c.loop-done.done ++ part b (c.args.range.start + c.loop-done.done) m) _ (Ok tt)
           (λ (b : List ℕ). part_more b c.args.range.start c.loop-done.done m _ (omega (arith, long)))
-          (copies_then g.D.Disk c.args.disk.now c.loop-done.disk c.copy_piece.new.disk _ _ _ _ _ _ _ _ _
+          (copies_then g.D.Disk c.args.disk.now c.loop-done.disk c.copy_piece.new.disk _ _ _
           (λ (b : List ℕ). part b c.args.range.start c.loop-done.done) (λ (b : List ℕ). part b (c.args.range.start + c.loop-done.done) m) (Ok tt)
           c.loop-done.invariant.copies c.in_ok-copy_piece.ensures);
       within = omega (arith, c.min-count.ensures, c.loop-done-test.true);

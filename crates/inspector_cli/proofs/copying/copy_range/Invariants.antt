@@ -6,7 +6,7 @@ use Rattle.inspector_cli.proofs.copying.copy_range.Given as goal
 
 abbrev pub invariant-loop-done : goal.invariant-loop-done
 invariant-loop-done g l = record {
-  copies : Copies g.D.Disk l.initial.disk l.disk (telling g.O.Output l.initial.output l.output l.initial.reply l.reply) (λ (b : List ℕ). part b l.range.start l.done) (Ok tt);
+  copies : Copies g.D.Disk l.initial.disk l.disk (telling g.O.Output l.initial.reply l.reply) (λ (b : List ℕ). part b l.range.start l.done) (Ok tt);
   within : l.done ≤ l.range.length;
 }
 

@@ -7,7 +7,7 @@ use Rattle.inspector_cli.proofs.CopyLemmas.{copies_none, copies_then, copies_as,
 use Rattle.inspector_cli.proofs.copying.copy_ranges.Goals as goal
 
 pub loop-range-init : goal.loop-range-init
-loop-range-init g c = copies_none g.D.Disk c.args.disk.now _ _ c.args.reply.now (g.met.D.Disk.only_now c.args.disk.now) (λ (b : List ℕ). bytes_in b (take 0 c.args.ranges.now)) (λ (b : List ℕ). refl)
+loop-range-init g c = copies_none g.D.Disk c.args.disk.now _ (g.met.D.Disk.only_now c.args.disk.now) (λ (b : List ℕ). bytes_in b (take 0 c.args.ranges.now)) (λ (b : List ℕ). refl)
 
 pub copy_range-requires-clause-within : goal.copy_range-requires-clause-within
 copy_range-requires-clause-within g c =
@@ -25,7 +25,7 @@ returns-in_err-copy_range g c =
     (λ (b : List ℕ). bytes_in b (drop (c.loop-range.range-index + 1) c.args.ranges.now))
     (λ (b : List ℕ). bytes_in b c.args.ranges.now) _
     (λ (b : List ℕ). ranges_whole b c.args.ranges.now c.loop-range.range-index no_range c.loop-range-test.true)
-    (copies_then g.D.Disk c.args.disk.now c.loop-range.disk c.copy_range.new.disk _ _ _ _ _ _ _ _ _
+    (copies_then g.D.Disk c.args.disk.now c.loop-range.disk c.copy_range.new.disk _ _ _
     (λ (b : List ℕ). bytes_in b (take c.loop-range.range-index c.args.ranges.now)) (λ (b : List ℕ). part b here.start here.length) _
     c.loop-range.invariant c.in_err-copy_range.ensures))
 
@@ -36,7 +36,7 @@ loop-range-preserved g c =
     (λ (b : List ℕ). bytes_in b (take c.loop-range.range-index c.args.ranges.now) ++ part b here.start here.length)
     (λ (b : List ℕ). bytes_in b (take (c.loop-range.range-index + 1) c.args.ranges.now)) (Ok tt)
     (λ (b : List ℕ). ranges_more b c.args.ranges.now c.loop-range.range-index no_range c.loop-range-test.true)
-    (copies_then g.D.Disk c.args.disk.now c.loop-range.disk c.copy_range.new.disk _ _ _ _ _ _ _ _ _
+    (copies_then g.D.Disk c.args.disk.now c.loop-range.disk c.copy_range.new.disk _ _ _
     (λ (b : List ℕ). bytes_in b (take c.loop-range.range-index c.args.ranges.now)) (λ (b : List ℕ). part b here.start here.length) (Ok tt)
     c.loop-range.invariant c.in_ok-copy_range.ensures)
 

@@ -6,4 +6,4 @@ use Rattle.inspector_cli.proofs.copying.copy_ranges.Given as goal
 
 abbrev pub invariant-loop-range : goal.invariant-loop-range
 invariant-loop-range g l =
-    Copies g.D.Disk l.initial.disk l.disk (telling g.O.Output l.initial.output l.output l.initial.reply l.reply) (λ (b : List ℕ). bytes_in b (take l.range-index l.ranges)) (Ok tt)
+    Copies g.D.Disk l.initial.disk l.disk (telling g.O.Output l.initial.reply l.reply) (λ (b : List ℕ). bytes_in b (take l.range-index l.ranges)) (Ok tt)

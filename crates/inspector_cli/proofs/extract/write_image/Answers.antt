@@ -1,5 +1,8 @@
-use Rattle.std.proofs.Common.{[]}
+use Rattle.std.proofs.Common.{[], rules}
 use Rattle.inspector_cli.proofs.extract.write_image.Goals as goal
 
 pub returns : goal.returns
-returns g c = record { delivered = c.finish.ensures.delivered _ _ c.args.image.now (c.tell.ensures _ _ [] (c.new-reply.ensures _ _)) }
+returns g c =
+    let told = c.tell.ensures _ _ _ [] c.new-reply.ensures.told in
+    let taken = c.finish.ensures.delivered _ _ _ c.args.image.now told in
+    record { delivered = search (told.same, c.finish.ensures.same, taken, rules) }

@@ -1,4 +1,4 @@
-use Rattle.std.proofs.Common.{◌≡◌, [], length, arith, refl}
+use Rattle.std.proofs.Common.{◌≡◌, length, arith, refl}
 use Rattle.std.proofs.lemmas.Result.{err_from_is_err_and}
 use Rattle.std.specs.Prelude.{codes}
 use Rattle.script_streams.specs.Replies.{no_reply}
@@ -19,7 +19,7 @@ returns-then-missing-eq0-clause-answers g c = λ naming.
       ends.0,
       size,
       ends.2,
-      (plain_reply c.in_ok-missing.verdict, (c.in_ok-missing.verdict, ends.4, refl), tells_then _ _ _ _ _ _ _ c.take_part.new.reply _ [] _ c.in_ok-missing.ensures.tells c.tell_outcome.ensures),
+      (plain_reply c.in_ok-missing.verdict, (c.in_ok-missing.verdict, ends.4, refl), tells_then c.in_ok-missing.ensures.tells c.tell_outcome.ensures),
     )
 
 pub returns-clause-answers : goal.returns-clause-answers
@@ -39,5 +39,5 @@ returns-clause-answers g c = λ naming.
         c.abandon.ensures,
         refl,
       ),
-      tells_then _ _ _ _ _ _ _ c.take_part.new.reply _ [] _ c.in_ok-missing.ensures.tells c.tell_no.ensures,
+      tells_then c.in_ok-missing.ensures.tells c.tell_no.ensures,
     )

@@ -12,7 +12,7 @@ loop-missing-init g c = record {
   gives = gives_nothing _ _;
   takes =
       fed_none g.D.Disk c.args.archive.now c.advance-verdict.new.self c.args.slot c.advance-verdict.result c.advance-verdict.ensures;
-  told = tells_nothing _ _ _;
+  told = tells_nothing;
   failures = refl;
 }
 
@@ -45,12 +45,12 @@ loop-missing-preserved g c =
       counted = omega (arith, size, few, so_far.counted);
       gives = gives_then _ _ _ _ _ _ so_far.raw piece.0 so_far.gives piece.3;
       takes = piece.5;
-      told = tells_then _ _ _ _ _ _ _ c.loop-missing.reply _ [] [] so_far.told c.in_ok-taken.ensures.tells;
+      told = tells_then so_far.told c.in_ok-taken.ensures.tells;
       failures = c.in_ok-taken.ensures.stops ∙ so_far.failures;
     }
 
 pub returns-in_err-taken-clause-tells : goal.returns-in_err-taken-clause-tells
-returns-in_err-taken-clause-tells g c = tells_then _ _ _ _ _ _ _ c.loop-missing.reply _ [] [] c.loop-missing.invariant.told c.in_err-taken.ensures.tells
+returns-in_err-taken-clause-tells g c = tells_then c.loop-missing.invariant.told c.in_err-taken.ensures.tells
 
 pub returns-then-taken-eq0-clause-tells : goal.returns-then-taken-eq0-clause-tells
-returns-then-taken-eq0-clause-tells g c = tells_then _ _ _ _ _ _ _ c.loop-missing.reply _ [] [] c.loop-missing.invariant.told c.in_ok-taken.ensures.tells
+returns-then-taken-eq0-clause-tells g c = tells_then c.loop-missing.invariant.told c.in_ok-taken.ensures.tells

@@ -8,7 +8,7 @@ use Rattle.inspector_cli.proofs.room.make_room_for.Goals as goal
 pub returns-in_default : goal.returns-in_default
 returns-in_default g c =
     let none = c.in_default.ensures in
-    ([], inl (refl, none.0, refl, none.1, none.2), tells_nothing _ _ _)
+    ([], inl (refl, none.0, refl, none.1, none.2), tells_nothing)
 
 pub returns : goal.returns
 returns g c =

@@ -1,3 +1,4 @@
+use Rattle.script_streams.specs.Replies.{telling}
 use Rattle.std.proofs.Common.{subst}
 use Rattle.script_lines.specs.Said.{Said, said}
 use Rattle.inspector_cli.specs.Answering.{LastAnswers}
@@ -9,14 +10,7 @@ returns-in-Part-clause-answers g c = λ text keeps.
     subst
     (λ (w : Said).
     LastAnswers g.D.Disk c.args.naming.now
-    (record {
-      taken = g.O.Output.taken c.args.output.now;
-      taken' = g.O.Output.taken c.answer_cut.new.output;
-      failures = g.O.Output.failures c.args.output.now;
-      failures' = g.O.Output.failures c.answer_cut.new.output;
-      reply = c.args.reply.now;
-      reply' = c.answer_cut.new.reply;
-    })
+    (telling g.O.Output c.args.reply.now c.answer_cut.new.reply)
     c.args.archive.now w c.answer_cut.new.archive)
     (c.in-Part.ensures text keeps) (c.answer_cut.ensures c.args.naming.now)
 

@@ -1,3 +1,4 @@
+use Rattle.script_streams.specs.Replies.{telling}
 use Rattle.std.proofs.Common.{subst}
 use Rattle.script_lines.specs.Said.{Said, said}
 use Rattle.inspector_cli.specs.Answering.{PartAnswers}
@@ -16,14 +17,7 @@ returns-in-Part-clause-answers g c = λ text keeps.
       buffer = c.args.buffer.now;
       buffer' = c.answer_part.new.buffer;
     })
-    (record {
-      taken = g.O.Output.taken c.args.output.now;
-      taken' = g.O.Output.taken c.answer_part.new.output;
-      failures = g.O.Output.failures c.args.output.now;
-      failures' = g.O.Output.failures c.answer_part.new.output;
-      reply = c.args.reply.now;
-      reply' = c.answer_part.new.reply;
-    })
+    (telling g.O.Output c.args.reply.now c.answer_part.new.reply)
     c.args.archive.now w c.answer_part.new.archive c.answer_part.result)
     (c.in-Part.ensures text keeps) (c.answer_part.ensures.answers c.args.naming.now)
 

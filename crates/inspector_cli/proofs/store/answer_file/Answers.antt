@@ -17,7 +17,7 @@ pub returns-in-Err-Refused : goal.returns-in-Err-Refused
 returns-in-Err-Refused g c = (
   no_reply (reason_of c.in-Err-Refused.fault),
   (c.take_file.new.archive, (Err (Refused c.in-Err-Refused.fault), rw c.in-Err-Refused.field-0-is at c.in-Err-Refused.ensures, (refl, refl, refl))),
-  tells_as _ _ _ _ _ _ _ _ (ap no_reply c.reason.ensures) c.tell_no-in-Err-Refused.ensures,
+  tells_as (ap no_reply c.reason.ensures) c.tell_no-in-Err-Refused.ensures,
 )
 
 pub returns-in-Ok : goal.returns-in-Ok

@@ -1,3 +1,5 @@
+use Rattle.script_streams.specs.Replies.{telling}
+use Rattle.script_streams.specs.Telling.{sink}
 use Rattle.std.proofs.Common.{Bool, subst}
 use Rattle.stream_names.specs.Commands.{stream_found}
 use Rattle.inspector_cli.specs.Reply.{Begins}
@@ -7,14 +9,7 @@ use Rattle.inspector_cli.proofs.store.answer_store.Goals as goal
 pub returns-then-not-is_begun : goal.returns-then-not-is_begun
 returns-then-not-is_begun g c =
     stores_none g.D.Disk (stream_found c.args.found) (g.I.Input.remaining c.args.file.now) (g.I.Input.failures c.args.file.now)
-    (record {
-      taken = g.O.Output.taken c.args.output.now;
-      taken' = g.O.Output.taken c.answer_first-is_begun.new.output;
-      failures = g.O.Output.failures c.args.output.now;
-      failures' = g.O.Output.failures c.answer_first-is_begun.new.output;
-      reply = c.args.reply.now;
-      reply' = c.answer_first-is_begun.new.reply;
-    })
+    (telling g.O.Output c.args.reply.now c.answer_first-is_begun.new.reply)
     c.args.archive.now c.answer_first-is_begun.new.archive
     (let first = c.answer_first-is_begun.ensures.first in (
       first.0,
@@ -27,9 +22,7 @@ pub returns : goal.returns
 returns g c =
     stores g.D.Disk (stream_found c.args.found) (g.I.Input.remaining c.args.file.now) (g.I.Input.remaining c.answer_file.new.file)
     (g.I.Input.failures c.args.file.now) (g.I.Input.failures c.answer_file.new.file)
-    (g.O.Output.taken c.args.output.now) (g.O.Output.taken c.answer_first-is_begun.new.output) (g.O.Output.taken c.answer_file.new.output)
-    (g.O.Output.failures c.args.output.now) (g.O.Output.failures c.answer_first-is_begun.new.output) (g.O.Output.failures c.answer_file.new.output)
-    c.args.reply.now c.answer_first-is_begun.new.reply c.answer_file.new.reply
+    (sink g.O.Output c.args.reply.now) (sink g.O.Output c.answer_first-is_begun.new.reply) (sink g.O.Output c.answer_file.new.reply)
     c.args.archive.now c.answer_first-is_begun.new.archive c.answer_file.new.archive c.answer_file.result
     (let first = c.answer_first-is_begun.ensures.first in (
       first.0,

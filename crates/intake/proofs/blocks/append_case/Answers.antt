@@ -17,7 +17,7 @@ returns-in-Ok-clause-guards g c =
     let j = c.args.journal.now in
     let r = store_of j.standing (case_of c.args.entry) in
     subst (Guards g.D.Disk c.append_store.new.disk) (sym c.in-Ok.ensures.step.4)
-    (guards_appended g.D.Disk c.args.disk.now c.append_store.new.disk j r c.append_store.ensures.honesty (g.met.D.Disk.counts_now c.append_store.new.disk)
+    (guards_appended g.D.Disk c.args.disk.now c.append_store.new.disk j r c.append_store.ensures.disk.honesty (g.met.D.Disk.counts_now c.append_store.new.disk)
     (subst (Keeps g.D.Disk c.append_store.new.disk) c.in-Ok.ensures.step.4 c.append_store.ensures.keeps)
     (λ honest b may. ap (λ (x : List ℕ). durable_in x (appended j.standing r)) (c.requires.settled honest b may))
     c.append_store.ensures.outside c.append_store.ensures.others)

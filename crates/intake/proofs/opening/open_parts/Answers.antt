@@ -12,7 +12,7 @@ returns-clause-sound g c most =
           c.in_ok-opened.ensures.gives
           (record {
             keeps = c.in_ok-opened.ensures.keeps;
-            whole = λ runs real b may. ap (λ (x : List ℕ). durable_in x j.standing) (c.in_ok-opened.ensures.settled (sym c.open.ensures.honesty ∙ real) b may);
+            whole = λ runs real b may. ap (λ (x : List ℕ). durable_in x j.standing) (c.in_ok-opened.ensures.settled (sym c.open.ensures.disk.honesty ∙ real) b may);
           })
           c.in_ok-opened.ensures.live c.in_ok-opened.ensures.runs
           refl refl c.in_ok-opened.ensures.free c.in-Ok.ensures;

@@ -1,4 +1,4 @@
-use Rattle.std.proofs.Common.{take, arith, Ok}
+use Rattle.std.proofs.Common.{◌∙◌, refl, take, arith, Ok}
 use Rattle.journal_snapshot.specs.Writing.{written_entry, written_entries}
 use Rattle.journal_snapshot.specs.WriteLaws.{writes_nothing, writes_then, writes_as, failed_within}
 use Rattle.journal_snapshot.proofs.EntryLemmas.{written_more, written_within, written_low}
@@ -8,7 +8,7 @@ pub loop-entry-init : goal.loop-entry-init
 loop-entry-init g c = record {
   writes = writes_nothing g.D.Disk c.args.disk.now c.args.start (g.met.D.Disk.only_now c.args.disk.now);
   kept = omega arith;
-  later = omega arith;
+  uncounted = refl;
 }
 
 pub write_entry-requires-clause-room : goal.write_entry-requires-clause-room
@@ -41,5 +41,5 @@ loop-entry-preserved g c =
           (writes_then g.D.Disk c.args.disk.now c.loop-entry.disk c.write_entry.new.disk c.args.start c.loop-entry.at (written_entries ch (take i es)) (written_entry ch c.entry-item.result) (Ok c.in_ok-at.at)
           c.loop-entry.invariant.writes (rw c.in_ok-at.was at c.write_entry.ensures.writes));
       kept = omega (arith, c.write_entry.ensures.kept, c.loop-entry.invariant.kept);
-      later = omega (arith, c.loop-entry.invariant.later, c.write_entry.ensures.cause.later);
+      uncounted = c.in_ok-at.ensures.cause.ok ∙ c.loop-entry.invariant.uncounted;
     }

@@ -11,4 +11,4 @@ returns-then-is_out_of_range g c = (_, (range_refused _ _ _ _ (sym c.if-is_out_o
 
 pub returns : goal.returns
 returns g c =
-    (_, (range_shown _ _ _ _ _ (sym c.if-is_out_of_range.ensures) c.in-Ok.ensures), tells_then _ _ _ _ _ _ _ _ _ _ _ c.tell_pieces.ensures c.tell_ok.ensures)
+    (_, (range_shown _ _ _ _ _ (sym c.if-is_out_of_range.ensures) c.in-Ok.ensures), tells_then c.tell_pieces.ensures c.tell_ok.ensures)

@@ -8,5 +8,5 @@ pub loop-piece-preserved : goal.loop-piece-preserved
 loop-piece-preserved g c = record {
   can_next = tt;
   is_finite = tt;
-  told = up_to_then _ _ _ _ _ _ _ _ _ _ _ _ _ (ap (flat_map piece_lines) c.in-Some.ensures.steps) c.loop-piece.invariant.told c.tell_piece.ensures;
+  told = up_to_then (ap (flat_map piece_lines) c.in-Some.ensures.steps) c.loop-piece.invariant.told c.tell_piece.ensures;
 }

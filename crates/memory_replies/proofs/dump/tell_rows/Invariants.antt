@@ -1,4 +1,5 @@
 use Rattle.std.proofs.Common.{◌-◌}
+use Rattle.script_streams.specs.Telling.{sink}
 use Rattle.std.specs.List.{flat_map, range_with_len}
 use Rattle.memory_replies.specs.Dump.{row_line}
 use Rattle.memory_replies.proofs.TellLemmas.{TellsUpTo}
@@ -7,5 +8,5 @@ use Rattle.memory_replies.proofs.dump.tell_rows.Given as goal
 -- the rows that went by are told
 abbrev pub invariant-loop-i : goal.invariant-loop-i
 invariant-loop-i g l =
-    TellsUpTo (g.O.Output.taken l.initial.output) (g.O.Output.taken l.output) (g.O.Output.failures l.initial.output) (g.O.Output.failures l.output) l.initial.reply l.reply
+    TellsUpTo (sink g.O.Output l.initial.reply) (sink g.O.Output l.reply)
     (flat_map (row_line l.word l.first l.bytes) (range_with_len 0 l.count)) (flat_map (row_line l.word l.first l.bytes) (range_with_len l.i (l.count - l.i)))

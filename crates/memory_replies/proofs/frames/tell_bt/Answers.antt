@@ -1,15 +1,10 @@
-use Rattle.std.proofs.Common.{ap, map, refl, ◌∙◌}
-use Rattle.memory_replies.specs.NamedWords.{named_view}
+use Rattle.std.proofs.Common.{refl}
 use Rattle.memory_replies.proofs.FrameLemmas.{thread_missing, thread_shown}
-use Rattle.memory_replies.proofs.SpaceLemmas.{mapped_are}
 use Rattle.script_streams.specs.TellLaws.{tells_then}
 use Rattle.memory_replies.proofs.frames.tell_bt.Goals as goal
 
 pub returns-in_default : goal.returns-in_default
 returns-in_default g c = (_, refl, c.tell_no.ensures)
-
-pub returns-in_default-named_images : goal.returns-in_default-named_images
-returns-in_default-named_images g c = (_, refl, c.tell_no-in_default-named_images.ensures)
 
 pub returns-in_default-thread : goal.returns-in_default-thread
 returns-in_default-thread g c =
@@ -18,8 +13,6 @@ returns-in_default-thread g c =
 pub returns : goal.returns
 returns g c = (
   _,
-  (thread_shown _ _ _ _ _ _ _ _ _ c.in-Some.ensures c.threads.ensures c.notes.ensures c.in-Ok.ensures
-      (mapped_are c.files.result _ _ c.files.ensures c.notes-2.ensures)
-      (ap (map named_view) c.deref.ensures.value ∙ c.in-Ok-named_images.ensures)),
-  tells_then _ _ _ _ _ _ _ _ _ _ _ c.tell_thread.ensures c.tell_ok.ensures,
+  (thread_shown _ _ _ _ _ _ _ _ c.in-Some.ensures c.threads.ensures c.notes.ensures c.in-Ok.ensures.space c.in-Ok.ensures.images),
+  tells_then c.tell_thread.ensures c.tell_ok.ensures,
 )

@@ -8,10 +8,10 @@ use Rattle.memory_replies.proofs.frames.tell_frame.Goals as goal
 pub returns : goal.returns
 unfolding frame_line
 returns g c =
-    tells_then _ _ _ _ _ _ _ _ _ _ _ (tells_as _ _ _ _ _ _ _ _ (ap decimal c.from.ensures) c.tell_decimal.ensures)
-    (tells_then _ _ _ _ _ _ _ _ _ _ _ c.tell.ensures
-    (tells_then _ _ _ _ _ _ _ _ _ _ _ c.tell_hex_word.ensures
-    (tells_then _ _ _ _ _ _ _ _ _ _ _ (tells_as _ _ _ _ _ _ _ _ (ap place_words c.place_of.ensures) c.tell_place.ensures)
-    (tells_then _ _ _ _ _ _ _ _ _ _ _ c.tell-2.ensures
-    (tells_then _ _ _ _ _ _ _ _ _ _ _ (tells_as _ _ _ _ _ _ _ _ (ap hexadecimal c.from-2.ensures) c.tell_hexadecimal.ensures)
-    (tells_then _ _ _ _ _ _ _ _ _ _ _ c.tell_return.ensures c.tell-3.ensures))))))
+    tells_then (tells_as (ap decimal c.from.ensures) c.tell_decimal.ensures)
+    (tells_then c.tell.ensures
+    (tells_then c.tell_hex_word.ensures
+    (tells_then (tells_as (ap place_words c.place_of.ensures) c.tell_place.ensures)
+    (tells_then c.tell-2.ensures
+    (tells_then (tells_as (ap hexadecimal c.from-2.ensures) c.tell_hexadecimal.ensures)
+    (tells_then c.tell_return.ensures c.tell-3.ensures))))))

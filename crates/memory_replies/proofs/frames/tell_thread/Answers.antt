@@ -7,7 +7,7 @@ use Rattle.memory_replies.proofs.frames.tell_thread.Goals as goal
 
 pub returns : goal.returns
 returns g c =
-    tells_as _ _ _ _ _ _ _ _
+    tells_as
     (thread_is _ _ _ _ _ _ _ _ _
     (c.register-ra.ensures ∙ ap (register_in (thread_bytes c.args.thread)) c.of_word.ensures)
     (c.register-pc.ensures ∙ ap (register_in (thread_bytes c.args.thread)) c.of_word-2.ensures)

@@ -3,9 +3,9 @@ use Rattle.memory_replies.proofs.maps.tell_mapping.Goals as goal
 
 pub returns : goal.returns
 returns g c =
-    tells_then _ _ _ _ _ _ _ _ _ _ _ c.tell_hex_word.ensures
-    (tells_then _ _ _ _ _ _ _ _ _ _ _ c.tell_past.ensures
-    (tells_then _ _ _ _ _ _ _ _ _ _ _ c.tell_rights.ensures
-    (tells_then _ _ _ _ _ _ _ _ _ _ _ c.tell.ensures
-    (tells_then _ _ _ _ _ _ _ _ _ _ _ c.tell_hex_word-2.ensures
-    (tells_then _ _ _ _ _ _ _ _ _ _ _ c.tell_spot.ensures c.tell-2.ensures)))))
+    tells_then c.tell_hex_word.ensures
+    (tells_then c.tell_past.ensures
+    (tells_then c.tell_rights.ensures
+    (tells_then c.tell.ensures
+    (tells_then c.tell_hex_word-2.ensures
+    (tells_then c.tell_spot.ensures c.tell-2.ensures)))))

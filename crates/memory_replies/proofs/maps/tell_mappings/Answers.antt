@@ -8,5 +8,5 @@ pub loop-mapping-preserved : goal.loop-mapping-preserved
 loop-mapping-preserved g c = record {
   can_next = tt;
   is_finite = tt;
-  told = up_to_then _ _ _ _ _ _ _ _ _ _ _ _ _ (ap (flat_map mapping_line) c.in-Some.ensures.steps) c.loop-mapping.invariant.told c.tell_mapping.ensures;
+  told = up_to_then (ap (flat_map mapping_line) c.in-Some.ensures.steps) c.loop-mapping.invariant.told c.tell_mapping.ensures;
 }

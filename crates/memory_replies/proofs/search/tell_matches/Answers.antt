@@ -8,5 +8,5 @@ pub loop-address-preserved : goal.loop-address-preserved
 loop-address-preserved g c = record {
   can_next = tt;
   is_finite = tt;
-  told = up_to_then _ _ _ _ _ _ _ _ _ _ _ _ _ (ap (flat_map address_line) c.in-Some.ensures.steps) c.loop-address.invariant.told c.tell_address.ensures;
+  told = up_to_then (ap (flat_map address_line) c.in-Some.ensures.steps) c.loop-address.invariant.told c.tell_address.ensures;
 }

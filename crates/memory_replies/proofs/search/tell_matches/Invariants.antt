@@ -1,4 +1,5 @@
 use Rattle.std.specs.List.{flat_map}
+use Rattle.script_streams.specs.Telling.{sink}
 use Rattle.address_space.specs.FindWords.{matches_left}
 use Rattle.address_space.specs.Occurrence.{occurrences}
 use Rattle.address_space.specs.SpaceWords.{space_of}
@@ -10,6 +11,6 @@ abbrev pub invariant-loop-address : goal.invariant-loop-address
 invariant-loop-address g l = record {
   can_next : (goal.iterator-loop-address g).can_next l.address-iterator;
   is_finite : (goal.iterator-loop-address g).is_finite l.address-iterator;
-  told : TellsUpTo (g.O.Output.taken l.initial.output) (g.O.Output.taken l.output) (g.O.Output.failures l.initial.output) (g.O.Output.failures l.output) l.initial.reply l.reply
+  told : TellsUpTo (sink g.O.Output l.initial.reply) (sink g.O.Output l.reply)
       (flat_map address_line (occurrences (space_of l.space) l.needle)) (flat_map address_line (matches_left l.address-iterator));
 }

@@ -5,7 +5,7 @@ use Rattle.memory_replies.proofs.symbol.tell_function.Goals as goal
 
 pub returns : goal.returns
 returns g c =
-    tells_then _ _ _ _ _ _ _ _ _ _ _ c.tell_text.ensures
-    (tells_then _ _ _ _ _ _ _ _ _ _ _ c.tell.ensures
-    (tells_then _ _ _ _ _ _ _ _ _ _ _ c.tell_hex_word.ensures
-    (tells_then _ _ _ _ _ _ _ _ _ _ _ (tells_as _ _ _ _ _ _ _ _ (ap hexadecimal c.from.ensures) c.tell_hexadecimal.ensures) c.tell-2.ensures)))
+    tells_then c.tell_text.ensures
+    (tells_then c.tell.ensures
+    (tells_then c.tell_hex_word.ensures
+    (tells_then (tells_as (ap hexadecimal c.from.ensures) c.tell_hexadecimal.ensures) c.tell-2.ensures)))

@@ -15,7 +15,7 @@ tell_shown-requires g c = record {
 
 pub returns : goal.returns
 returns g c =
-    tells_then _ _ _ _ _ _ _ _ _ _ _ c.tell_hex_word.ensures
-    (tells_then _ _ _ _ _ _ _ _ _ _ _ c.tell_decimal.ensures
-    (tells_then _ _ _ _ _ _ _ _ _ _ _ c.tell.ensures
-    (tells_then _ _ _ _ _ _ _ _ _ _ _ c.tell_shown.ensures c.tell-2.ensures)))
+    tells_then c.tell_hex_word.ensures
+    (tells_then c.tell_decimal.ensures
+    (tells_then c.tell.ensures
+    (tells_then c.tell_shown.ensures c.tell-2.ensures)))

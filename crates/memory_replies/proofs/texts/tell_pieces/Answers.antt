@@ -9,9 +9,9 @@ pub loop-piece-preserved : goal.loop-piece-preserved
 loop-piece-preserved g c = record {
   can_next = tt;
   is_finite = tt;
-  told = up_to_then _ _ _ _ _ _ _ _ _ _ _ _ _ (ap (flat_map piece_text) c.in-Some.ensures.steps) c.loop-piece.invariant.told c.tell_piece.ensures;
+  told = up_to_then (ap (flat_map piece_text) c.in-Some.ensures.steps) c.loop-piece.invariant.told c.tell_piece.ensures;
 }
 
 pub returns : goal.returns
 returns g c =
-    tells_as _ _ _ _ _ _ _ _ (shown_pieces _ _ _) (up_to_end _ _ _ _ _ _ _ _ (ap (flat_map piece_text) c.in-None.ensures.steps.0) c.loop-piece.invariant.told)
+    tells_as (shown_pieces _ _ _) (up_to_end (ap (flat_map piece_text) c.in-None.ensures.steps.0) c.loop-piece.invariant.told)

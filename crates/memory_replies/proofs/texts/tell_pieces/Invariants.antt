@@ -1,4 +1,5 @@
 use Rattle.std.specs.List.{flat_map}
+use Rattle.script_streams.specs.Telling.{sink}
 use Rattle.address_space.specs.PieceWords.{pieces_left}
 use Rattle.address_space.specs.Pieces.{pieces_of}
 use Rattle.address_space.specs.SpaceWords.{space_of}
@@ -10,6 +11,6 @@ abbrev pub invariant-loop-piece : goal.invariant-loop-piece
 invariant-loop-piece g l = record {
   can_next : (goal.iterator-loop-piece g).can_next l.piece-iterator;
   is_finite : (goal.iterator-loop-piece g).is_finite l.piece-iterator;
-  told : TellsUpTo (g.O.Output.taken l.initial.output) (g.O.Output.taken l.output) (g.O.Output.failures l.initial.output) (g.O.Output.failures l.output) l.initial.reply l.reply
+  told : TellsUpTo (sink g.O.Output l.initial.reply) (sink g.O.Output l.reply)
       (flat_map piece_text (pieces_of (space_of l.space) l.start l.count)) (flat_map piece_text (pieces_left l.piece-iterator));
 }

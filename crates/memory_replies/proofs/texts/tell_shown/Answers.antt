@@ -7,4 +7,4 @@ use Rattle.memory_replies.proofs.texts.tell_shown.Goals as goal
 pub returns-in-1 : goal.returns-in-1
 returns-in-1 g c =
     let one : c.args.count ≡ 1 = omega arith in
-    tells_as _ _ _ _ _ _ _ _ (shown_one _ c.args.start _ _ one (c.value.ensures ∙ ap value_of c.at.ensures)) c.tell_alone.ensures
+    tells_as (shown_one _ c.args.start _ _ one (c.value.ensures ∙ ap value_of c.at.ensures)) c.tell_alone.ensures

@@ -12,7 +12,7 @@ loop-text-init g c = record {
   can_next = tt;
   is_finite = tt;
   texts = subst (AreTexts (space_of c.args.space.now)) (sym (ap strings_left c.into_iter-text-iterator.ensures.into_iter_gives ∙ c.strings-text-items.ensures)) (strings_are (space_of c.args.space.now) c.args.least);
-  told = up_to_start_as _ _ _ _ _ (ap (flat_map (text_line (space_of c.args.space.now))) (sym (ap strings_left c.into_iter-text-iterator.ensures.into_iter_gives ∙ c.strings-text-items.ensures)));
+  told = up_to_start_as (ap (flat_map (text_line (space_of c.args.space.now))) (sym (ap strings_left c.into_iter-text-iterator.ensures.into_iter_gives ∙ c.strings-text-items.ensures)));
 }
 
 pub tell_line-requires : goal.tell_line-requires
@@ -23,5 +23,5 @@ loop-text-preserved g c = record {
   can_next = tt;
   is_finite = tt;
   texts = (subst (AreTexts (space_of c.args.space.now)) c.in-Some.ensures.steps c.loop-text.invariant.texts).1;
-  told = up_to_then _ _ _ _ _ _ _ _ _ _ _ _ _ (ap (flat_map (text_line (space_of c.args.space.now))) c.in-Some.ensures.steps) c.loop-text.invariant.told c.tell_line.ensures;
+  told = up_to_then (ap (flat_map (text_line (space_of c.args.space.now))) c.in-Some.ensures.steps) c.loop-text.invariant.told c.tell_line.ensures;
 }

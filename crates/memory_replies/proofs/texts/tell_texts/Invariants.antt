@@ -1,4 +1,5 @@
 use Rattle.std.specs.List.{flat_map}
+use Rattle.script_streams.specs.Telling.{sink}
 use Rattle.address_space.specs.Occurrence.{strings_of}
 use Rattle.address_space.specs.SpaceWords.{space_of}
 use Rattle.address_space.specs.StringWords.{strings_left}
@@ -12,6 +13,6 @@ invariant-loop-text g l = record {
   can_next : (goal.iterator-loop-text g).can_next l.text-iterator;
   is_finite : (goal.iterator-loop-text g).is_finite l.text-iterator;
   texts : AreTexts (space_of l.space) (strings_left l.text-iterator);
-  told : TellsUpTo (g.O.Output.taken l.initial.output) (g.O.Output.taken l.output) (g.O.Output.failures l.initial.output) (g.O.Output.failures l.output) l.initial.reply l.reply
+  told : TellsUpTo (sink g.O.Output l.initial.reply) (sink g.O.Output l.reply)
       (flat_map (text_line (space_of l.space)) (strings_of (space_of l.space) l.least)) (flat_map (text_line (space_of l.space)) (strings_left l.text-iterator));
 }

@@ -5,4 +5,4 @@ use Rattle.memory_replies.proofs.texts.tell_values.Goals as goal
 
 pub returns : goal.returns
 returns g c =
-    tells_as _ _ _ _ _ _ _ _ (shown_halves _ _ _ _ _ (omega arith)) (tells_then _ _ _ _ _ _ _ _ _ _ _ c.tell_pieces.ensures c.tell_pieces-2.ensures)
+    tells_as (shown_halves _ _ _ _ _ (omega arith)) (tells_then c.tell_pieces.ensures c.tell_pieces-2.ensures)

@@ -1,7 +1,3 @@
-use Rattle.std.proofs.Common.{map, length, ap, sym, ◌∙◌}
-use Rattle.std.proofs.lemmas.List.{nil_from_length}
-use Rattle.std.proofs.lemmas.Bool.{eqb-true}
-use Rattle.address_space.specs.SpaceWords.{executable_view}
 use Rattle.address_space.specs.SourceWords.{kind_view}
 use Rattle.address_space.specs.SpaceWords.{space_of}
 use Rattle.address_space.proofs.Values.{run_of}
@@ -13,5 +9,4 @@ returns-clause-run c =
 
 pub run_in_core-requires-clause-alone : goal.run_in_core-requires-clause-alone
 unfolding space_of
-run_in_core-requires-clause-alone c =
-    ap (map executable_view) (sym c.as_slice.ensures.value ∙ nil_from_length c.as_slice.result.now (eqb-true (length c.as_slice.result.now) 0 (sym c.is_empty.ensures ∙ c.if-is_empty.true)))
+run_in_core-requires-clause-alone c = c.is_empty.ensures c.if-is_empty.true

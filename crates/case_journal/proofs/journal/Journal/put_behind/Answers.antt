@@ -1,4 +1,5 @@
 use Rattle.std.proofs.Common.{◌∙◌, ◌+◌, ℕ, ap, sym, length, IsTrue}
+use Rattle.disk_model.specs.CauseLaws.{never_falls}
 use Rattle.journal_layout.specs.Layout.{half_start}
 use Rattle.journal_snapshot.specs.FillLaws.{fills_of}
 use Rattle.case_journal.specs.Journaled.{Journaled}
@@ -16,7 +17,7 @@ returns-in_err-publish-clause-run g c r put =
           (c.publish.ensures.any_moment s r (publishes s r gate c.args.behind.now place c.requires.room put) honest (c.requires.keeps.holds c.requires.runs honest).stands);
       fills = behind_fills g.D.Disk c.args.disk.now c.publish.new.disk s gate n place c.requires.room
           (fills_of g.D.Disk gate (1 + n) c.args.disk.now c.publish.new.disk (g.met.D.Disk.counts_now c.publish.new.disk) c.publish.ensures.outside c.publish.ensures.others c.publish.ensures.honesty c.publish.ensures.size);
-      later = c.publish.ensures.cause.later;
+      later = never_falls _ _ c.publish.result c.publish.ensures.cause;
     }
 
 pub returns-clause-run : goal.returns-clause-run
@@ -30,7 +31,7 @@ returns-clause-run g c r put =
           (c.publish.ensures.any_moment s r (publishes s r gate c.args.behind.now place c.requires.room put) honest (c.requires.keeps.holds c.requires.runs honest).stands);
       fills = behind_fills g.D.Disk c.args.disk.now c.publish.new.disk s gate n place c.requires.room
           (fills_of g.D.Disk gate (1 + n) c.args.disk.now c.publish.new.disk (g.met.D.Disk.counts_now c.publish.new.disk) c.publish.ensures.outside c.publish.ensures.others c.publish.ensures.honesty c.publish.ensures.size);
-      later = c.publish.ensures.cause.later;
+      later = never_falls _ _ c.publish.result c.publish.ensures.cause;
     }
 
 pub returns-clause-kept : goal.returns-clause-kept

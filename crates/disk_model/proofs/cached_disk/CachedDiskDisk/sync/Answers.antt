@@ -1,4 +1,3 @@
-use Rattle.std.proofs.Common.{rules}
 use Rattle.disk_model.proofs.cached_disk.CachedDiskDisk.sync.Goals as goal
 
 pub returns-clause-time : goal.returns-clause-time

@@ -58,7 +58,7 @@ invariant_of-self g c =
           let on = rw (← c.self.view_is) at c.requires.runs in
           let may = rw (← c.self.view_is) at c.requires.may in
           drop_sound_after g.D.Disk c.self.inside.disk c.append_drop.new.disk c.self.inside.journal c.append_drop.new.self c.self.inside.settings.limit c.self.inside.free c.self.inside.slots c.self.inside.slots c.self.inside.stopped c.self.inside.stopped c.args.seqs.now c.self.invariant.sound on c.release_listed.new.free c.in_default.field-0 may c.in_default.ensures.step
-          (done_guards g.D.Disk c.self.inside.disk c.append_drop.new.disk c.self.inside.journal c.append_drop.new.self (Drop c.args.seqs.now) c.in_default.ensures.step.2 c.append_drop.ensures.honesty (g.met.D.Disk.counts_now c.append_drop.new.disk) c.append_drop.ensures.keeps
+          (done_guards g.D.Disk c.self.inside.disk c.append_drop.new.disk c.self.inside.journal c.append_drop.new.self (Drop c.args.seqs.now) c.in_default.ensures.step.2 c.append_drop.ensures.disk.honesty (g.met.D.Disk.counts_now c.append_drop.new.disk) c.append_drop.ensures.keeps
           (λ honest. whole_dropped g.D.Disk c.self.inside.disk c.self.inside.journal c.args.seqs.now (λ b may. (c.self.invariant.sound.runs on).keeps.whole (c.self.invariant.sound.runs on).journal honest b may))
           c.append_drop.ensures.outside c.append_drop.ensures.others)
           c.release_listed.ensures;
@@ -115,10 +115,7 @@ returns-clause-bytes g c honest =
 pub returns-in_default-clause-changes : goal.returns-in_default-clause-changes
 returns-in_default-clause-changes g c =
     record {
-      honesty = search rules;
-      later = search rules;
-      size = search rules;
-      cause = search rules;
+      disk = record { cause = search rules; later = search rules; honesty = search rules; size = search rules };
       crash = λ honest.
           let on = rw (← c.self.view_is) at c.requires.runs in
           let real = rw (← c.self.view_is) at honest in
@@ -134,10 +131,7 @@ returns-in_default-clause-changes g c =
 pub returns-clause-changes : goal.returns-clause-changes
 returns-clause-changes g c =
     record {
-      honesty = search rules;
-      later = search rules;
-      size = search rules;
-      cause = search rules;
+      disk = record { cause = search rules; later = search rules; honesty = search rules; size = search rules };
       crash = λ honest.
           let on = rw (← c.self.view_is) at c.requires.runs in
           let real = rw (← c.self.view_is) at honest in

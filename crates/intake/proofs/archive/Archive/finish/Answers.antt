@@ -122,7 +122,7 @@ returns-in_default g c = record {
       }))
       (c.in_default.ensures.slots ∙ none_set c.self.inside.slots c.args.slot (sym c.in_default.ensures.stream)));
   runs = 0;
-  changes = record { honesty = search rules; later = search rules; size = search rules; cause = search rules; crash = search rules; stands = search rules };
+  changes = record { disk = record { cause = search rules; later = search rules; honesty = search rules; size = search rules }; crash = search rules; stands = search rules };
   padded = λ honest. tt;
   untouched = search rules;
 }
@@ -150,10 +150,7 @@ returns-in-Err g c = record {
       (c.self.invariant.sound.runs c.if-self.false) c.if-self.false (sym c.in-Some.ensures.stream) (parts_of c.seal-sealed.new.block c.seal-sealed.new.stream) c.in-Err.fault c.in-Err.ensures.step));
   runs = 0;
   changes = record {
-    honesty = search rules;
-    later = search rules;
-    size = search rules;
-    cause = search rules;
+    disk = record { cause = search rules; later = search rules; honesty = search rules; size = search rules };
     crash = λ honest.
         let real = rw (← c.self.view_is) at honest in
         rw (← c.self.view_is)
@@ -176,20 +173,17 @@ returns g c = record {
       c.in-Some.ensures.slots c.end_streams-self-inside-in-Err-append_case.ensures c.in_default-sealed.ensures.step c.into_entry-entry.ensures c.in-Err-append_case.ensures.step);
   bytes = λ honest.
       let real = rw (← c.self.view_is) at honest in
-      let still = c.in_default-sealed.ensures.honesty ∙ real in
+      let still = c.in_default-sealed.ensures.disk.honesty ∙ real in
       rw (← c.self.view_is)
       (unstored_bytes g.D.Disk c.self.inside.disk c.seal-sealed.new.disk c.append_case.new.disk c.self.inside.journal c.append_case.new.journal c.self.inside.settings.limit c.self.inside.free c.self.inside.slots c.args.slot c.self.inside.stopped c.end_streams-self-inside-in-Err-append_case.result
       (c.self.invariant.sound.runs c.if-self.false) (subst (λ (x : Shape). ChangesFree x c.self.inside.free (g.D.Disk.seen c.self.inside.disk) (g.D.Disk.seen c.seal-sealed.new.disk)) c.shape-shape.ensures (c.in_default-sealed.ensures.others real)) (c.in-Err-append_case.ensures.outside still)
       c.in-Err-append_case.fault (case_of c.into_entry-entry.result) c.take.new.self c.end_streams-self-inside-in-Err-append_case.new.slots c.in-Some.ensures.slots c.end_streams-self-inside-in-Err-append_case.ensures c.in-Err-append_case.ensures.step);
   runs = length (runs_of c.seal-sealed.new.stream.runs);
   changes = record {
-    honesty = search rules;
-    later = search rules;
-    size = search rules;
-    cause = search rules;
+    disk = record { cause = search rules; later = search rules; honesty = search rules; size = search rules };
     crash = λ honest.
         let real = rw (← c.self.view_is) at honest in
-        let still = c.in_default-sealed.ensures.honesty ∙ real in
+        let still = c.in_default-sealed.ensures.disk.honesty ∙ real in
         let j = c.self.inside.journal in
         let running = c.self.invariant.sound.runs c.if-self.false in
         let s = parts_of c.in-Some.block c.in-Some.stream in
@@ -224,7 +218,7 @@ returns-in-Ok g c = record {
       c.in-Some.ensures.slots c.in_default-sealed.ensures.step c.into_entry-entry.ensures c.in-Ok.ensures.step);
   bytes = λ honest.
       let real = rw (← c.self.view_is) at honest in
-      let still = c.in_default-sealed.ensures.honesty ∙ real in
+      let still = c.in_default-sealed.ensures.disk.honesty ∙ real in
       let is_case = c.into_entry-entry.ensures in
       rw (← c.self.view_is)
       (stored_bytes g.D.Disk c.self.inside.disk c.seal-sealed.new.disk c.append_case.new.disk c.self.inside.journal c.append_case.new.journal c.self.inside.settings.limit c.self.inside.free c.self.inside.slots c.args.slot c.self.inside.stopped c.self.inside.stopped
@@ -235,13 +229,10 @@ returns-in-Ok g c = record {
       (subst (λ (x : List ℕ). ClosesBytes c.shape-shape.result (parts_of c.in-Some.block c.in-Some.stream) x (g.D.Disk.seen c.self.inside.disk) (g.D.Disk.seen c.seal-sealed.new.disk)) (sym (ap (λ (x : Case). x.blocks) is_case)) (c.in_default-sealed.ensures.bytes real))));
   runs = length (runs_of c.seal-sealed.new.stream.runs);
   changes = record {
-    honesty = search rules;
-    later = search rules;
-    size = search rules;
-    cause = search rules;
+    disk = record { cause = search rules; later = search rules; honesty = search rules; size = search rules };
     crash = λ honest.
         let real = rw (← c.self.view_is) at honest in
-        let still = c.in_default-sealed.ensures.honesty ∙ real in
+        let still = c.in_default-sealed.ensures.disk.honesty ∙ real in
         let j = c.self.inside.journal in
         let r = store_of j.standing (case_of c.into_entry-entry.result) in
         rw (← c.self.view_is)
@@ -255,7 +246,7 @@ returns-in-Ok g c = record {
   };
   padded = λ honest.
       let real = rw (← c.self.view_is) at honest in
-      let still = c.in_default-sealed.ensures.honesty ∙ real in
+      let still = c.in_default-sealed.ensures.disk.honesty ∙ real in
       rw (← c.self.view_is)
       (stored_padded g.D.Disk c.self.inside.disk c.seal-sealed.new.disk c.append_case.new.disk c.self.inside.journal c.append_case.new.journal c.self.inside.settings.limit c.self.inside.free c.self.inside.slots c.args.slot c.self.inside.stopped c.self.inside.stopped
       (c.self.invariant.sound.runs c.if-self.false) (subst (λ (x : Shape). ChangesFree x c.self.inside.free (g.D.Disk.seen c.self.inside.disk) (g.D.Disk.seen c.seal-sealed.new.disk)) c.shape-shape.ensures (c.in_default-sealed.ensures.others real)) (c.in-Ok.ensures.outside still)

@@ -35,7 +35,7 @@ invariant_of-self g c =
       sound =
           label_sound_after g.D.Disk c.self.inside.disk c.append_label.new.disk c.self.inside.journal c.append_label.new.self c.self.inside.settings.limit c.self.inside.free c.self.inside.slots c.self.inside.slots c.self.inside.stopped c.self.inside.stopped
           c.args.seq c.args.text.now (case_of c.in-Some.entry.now) c.self.invariant.sound c.if-self.false c.in-Some.ensures c.in_default-append_label.field-0 (record { short = c.requires.short; bytes = λ k. omega (arith, c.type_inv.text k) }) (two_is _ _ c.version.ensures.value c.version.ensures.known (λ e. (let not_one = c.if-version-eq1.false in absurd (omega (arith, e, not_one))))) (label_append c.self.inside.journal c.append_label.new.self c.args.seq c.args.text.now (Ok c.in_default-append_label.field-0) (two_is _ _ c.version.ensures.value c.version.ensures.known (λ e. (let not_one = c.if-version-eq1.false in absurd (omega (arith, e, not_one))))) c.in_default-append_label.ensures.step)
-          (done_guards g.D.Disk c.self.inside.disk c.append_label.new.disk c.self.inside.journal c.append_label.new.self (Label c.args.seq c.args.text.now) (label_append c.self.inside.journal c.append_label.new.self c.args.seq c.args.text.now (Ok c.in_default-append_label.field-0) (two_is _ _ c.version.ensures.value c.version.ensures.known (λ e. (let not_one = c.if-version-eq1.false in absurd (omega (arith, e, not_one))))) c.in_default-append_label.ensures.step).2 c.append_label.ensures.honesty (g.met.D.Disk.counts_now c.append_label.new.disk) c.append_label.ensures.keeps
+          (done_guards g.D.Disk c.self.inside.disk c.append_label.new.disk c.self.inside.journal c.append_label.new.self (Label c.args.seq c.args.text.now) (label_append c.self.inside.journal c.append_label.new.self c.args.seq c.args.text.now (Ok c.in_default-append_label.field-0) (two_is _ _ c.version.ensures.value c.version.ensures.known (λ e. (let not_one = c.if-version-eq1.false in absurd (omega (arith, e, not_one))))) c.in_default-append_label.ensures.step).2 c.append_label.ensures.disk.honesty (g.met.D.Disk.counts_now c.append_label.new.disk) c.append_label.ensures.keeps
           (λ honest. whole_labelled g.D.Disk c.self.inside.disk c.self.inside.journal c.args.seq c.args.text.now (λ b may. (c.self.invariant.sound.runs c.if-self.false).keeps.whole (c.self.invariant.sound.runs c.if-self.false).journal honest b may))
           c.append_label.ensures.outside c.append_label.ensures.others);
       taken = λ on. subst (λ (k : Journaled). AreTaken k.standing.cases c.self.inside.slots c.self.inside.names) (sym (label_append c.self.inside.journal c.append_label.new.self c.args.seq c.args.text.now (Ok c.in_default-append_label.field-0) (two_is _ _ c.version.ensures.value c.version.ensures.known (λ e. (let not_one = c.if-version-eq1.false in absurd (omega (arith, e, not_one))))) c.in_default-append_label.ensures.step).2) (names_labelled c.args.seq c.args.text.now c.self.inside.journal.standing.cases c.self.inside.slots c.self.inside.names (c.self.invariant.taken on));
@@ -101,10 +101,7 @@ returns-in_default-append_label g c = record {
       (label_bytes g.D.Disk c.self.inside.disk c.append_label.new.disk c.self.inside.journal c.append_label.new.self c.self.inside.settings.limit c.self.inside.free c.self.inside.slots c.self.inside.slots c.self.inside.stopped c.self.inside.stopped
       c.args.seq c.args.text.now (case_of c.in-Some.entry.now) c.self.invariant.sound c.if-self.false c.in-Some.ensures tt (label_append c.self.inside.journal c.append_label.new.self c.args.seq c.args.text.now (Ok c.in_default-append_label.field-0) (two_is _ _ c.version.ensures.value c.version.ensures.known (λ e. (let not_one = c.if-version-eq1.false in absurd (omega (arith, e, not_one))))) c.in_default-append_label.ensures.step) (c.append_label.ensures.others real));
   changes = record {
-    honesty = search rules;
-    later = search rules;
-    size = search rules;
-    cause = search rules;
+    disk = record { cause = search rules; later = search rules; honesty = search rules; size = search rules };
     crash = λ honest.
         let real = rw (← c.self.view_is) at honest in
         let running = c.self.invariant.sound.runs c.if-self.false in
@@ -134,10 +131,7 @@ returns g c = record {
       (Label c.args.seq c.args.text.now) c.append_label.new.self c.in-Err.fault c.end_streams-self-inside.result c.end_streams-self-inside.new.slots (c.self.invariant.sound.runs c.if-self.false).journal (label_append c.self.inside.journal c.append_label.new.self c.args.seq c.args.text.now (Err c.in-Err.fault) (two_is _ _ c.version.ensures.value c.version.ensures.known (λ e. (let not_one = c.if-version-eq1.false in absurd (omega (arith, e, not_one))))) c.in-Err.ensures.step)
       (subst (λ (f : ArchiveFault). EndsStreams f c.self.inside.slots c.end_streams-self-inside.result c.end_streams-self-inside.new.slots) c.from-fault.ensures c.end_streams-self-inside.ensures)));
   changes = record {
-    honesty = search rules;
-    later = search rules;
-    size = search rules;
-    cause = search rules;
+    disk = record { cause = search rules; later = search rules; honesty = search rules; size = search rules };
     crash = λ honest.
         let real = rw (← c.self.view_is) at honest in
         let running = c.self.invariant.sound.runs c.if-self.false in

@@ -13,7 +13,7 @@ returns-in-Ok g c = record {
   state = search rules;
   settled = λ honest b may.
       let running = (c.in-Ok.ensures.sound c.args.settings.limit).sound.runs refl in
-      stands_now g.D.Disk c.open_parts.new.disk c.in-Ok.opened.journal running.keeps running.journal (c.open_parts.ensures.honesty ∙ honest) b may;
+      stands_now g.D.Disk c.open_parts.new.disk c.in-Ok.opened.journal running.keeps running.journal (c.open_parts.ensures.disk.honesty ∙ honest) b may;
   any_moment = search rules;
   seen = search rules;
   cause = search rules;

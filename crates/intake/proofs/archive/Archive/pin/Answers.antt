@@ -31,7 +31,7 @@ invariant_of-self g c =
       sound =
           pin_sound_after g.D.Disk c.self.inside.disk c.append_pin.new.disk c.self.inside.journal c.append_pin.new.self c.self.inside.settings.limit c.self.inside.free c.self.inside.slots c.self.inside.slots c.self.inside.stopped c.self.inside.stopped
           c.args.seq c.args.flag (case_of c.in-Some.entry.now) c.self.invariant.sound c.if-self.false c.in-Some.ensures c.in_default-append_pin.field-0 c.in_default-append_pin.ensures.step
-          (done_guards g.D.Disk c.self.inside.disk c.append_pin.new.disk c.self.inside.journal c.append_pin.new.self (Pin c.args.seq c.args.flag) c.in_default-append_pin.ensures.step.2 c.append_pin.ensures.honesty (g.met.D.Disk.counts_now c.append_pin.new.disk) c.append_pin.ensures.keeps
+          (done_guards g.D.Disk c.self.inside.disk c.append_pin.new.disk c.self.inside.journal c.append_pin.new.self (Pin c.args.seq c.args.flag) c.in_default-append_pin.ensures.step.2 c.append_pin.ensures.disk.honesty (g.met.D.Disk.counts_now c.append_pin.new.disk) c.append_pin.ensures.keeps
           (λ honest. whole_pinned g.D.Disk c.self.inside.disk c.self.inside.journal c.args.seq c.args.flag (λ b may. (c.self.invariant.sound.runs c.if-self.false).keeps.whole (c.self.invariant.sound.runs c.if-self.false).journal honest b may))
           c.append_pin.ensures.outside c.append_pin.ensures.others);
       taken = λ on. subst (λ (k : Journaled). AreTaken k.standing.cases c.self.inside.slots c.self.inside.names) (sym c.in_default-append_pin.ensures.step.2) (names_pinned c.args.seq c.args.flag c.self.inside.journal.standing.cases c.self.inside.slots c.self.inside.names (c.self.invariant.taken on));
@@ -90,10 +90,7 @@ returns-in_default-append_pin g c = record {
       (pin_bytes g.D.Disk c.self.inside.disk c.append_pin.new.disk c.self.inside.journal c.append_pin.new.self c.self.inside.settings.limit c.self.inside.free c.self.inside.slots c.self.inside.slots c.self.inside.stopped c.self.inside.stopped
       c.args.seq c.args.flag (case_of c.in-Some.entry.now) c.self.invariant.sound c.if-self.false c.in-Some.ensures tt c.in_default-append_pin.ensures.step (c.append_pin.ensures.others real));
   changes = record {
-    honesty = search rules;
-    later = search rules;
-    size = search rules;
-    cause = search rules;
+    disk = record { cause = search rules; later = search rules; honesty = search rules; size = search rules };
     crash = λ honest.
         let real = rw (← c.self.view_is) at honest in
         let running = c.self.invariant.sound.runs c.if-self.false in
@@ -124,10 +121,7 @@ returns g c = record {
       (Pin c.args.seq c.args.flag) c.append_pin.new.self c.in-Err.fault c.end_streams-self-inside.result c.end_streams-self-inside.new.slots (c.self.invariant.sound.runs c.if-self.false).journal c.in-Err.ensures.step
       (subst (λ (f : ArchiveFault). EndsStreams f c.self.inside.slots c.end_streams-self-inside.result c.end_streams-self-inside.new.slots) c.from-fault.ensures c.end_streams-self-inside.ensures)));
   changes = record {
-    honesty = search rules;
-    later = search rules;
-    size = search rules;
-    cause = search rules;
+    disk = record { cause = search rules; later = search rules; honesty = search rules; size = search rules };
     crash = λ honest.
         let real = rw (← c.self.view_is) at honest in
         let running = c.self.invariant.sound.runs c.if-self.false in

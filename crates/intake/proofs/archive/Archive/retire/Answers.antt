@@ -89,10 +89,7 @@ returns-in_err-drop_cases g c =
           (subst (λ (xs : List ℕ). DropStep (state_of c.args.self.now) xs (Err c.in_err-drop_cases.field-0.0) (state_of c.drop_cases.new.self)) c.as_slice-seqs.ensures.value c.in_err-drop_cases.ensures.step);
       bytes = search rules;
       changes = record {
-        honesty = c.in_err-drop_cases.ensures.changes.honesty;
-        later = c.in_err-drop_cases.ensures.changes.later;
-        size = c.in_err-drop_cases.ensures.changes.size;
-        cause = c.in_err-drop_cases.ensures.changes.cause;
+        disk = record { cause = c.in_err-drop_cases.ensures.changes.disk.cause; later = c.in_err-drop_cases.ensures.changes.disk.later; honesty = c.in_err-drop_cases.ensures.changes.disk.honesty; size = c.in_err-drop_cases.ensures.changes.disk.size };
         crash = λ honest.
             let some : c.in_ok-decision.decision.dropped.items ≢ [] = search rules in
             let retires : RetiresSome (state_of c.args.self.now) c.args.policy.now c.in_ok-decision.decision.dropped.items c.in_ok-decision.decision.unmet =
@@ -121,10 +118,7 @@ returns g c = record {
       );
   bytes = search rules;
   changes = record {
-    honesty = search rules;
-    later = search rules;
-    size = search rules;
-    cause = λ fault. absurd fault;
+    disk = record { cause = λ fault. absurd fault; later = search rules; honesty = search rules; size = search rules };
     crash = search rules;
     stands = c.in_ok-drop_cases.ensures.changes.stands;
   };

@@ -18,7 +18,7 @@ invariant_of-self g c =
     record {
       sound =
           upgrade_sound g.D.Disk c.self.inside.disk c.upgrade.new.disk c.self.inside.journal c.upgrade.new.self c.self.inside.settings.limit c.self.inside.free c.self.inside.slots c.self.inside.slots c.self.inside.stopped c.self.inside.stopped c.self.invariant.sound c.if-self.false c.in_default.field-0 c.in_default.ensures.step
-          (upgrade_guards g.D.Disk c.self.inside.disk c.upgrade.new.disk c.self.inside.journal c.upgrade.new.self c.self.inside.settings.limit c.self.inside.free c.self.inside.slots c.self.inside.slots c.self.inside.stopped c.self.inside.stopped c.self.invariant.sound c.if-self.false c.in_default.field-0 c.in_default.ensures.step c.upgrade.ensures.nothing c.upgrade.ensures.honesty (g.met.D.Disk.counts_now c.upgrade.new.disk) c.upgrade.ensures.keeps
+          (upgrade_guards g.D.Disk c.self.inside.disk c.upgrade.new.disk c.self.inside.journal c.upgrade.new.self c.self.inside.settings.limit c.self.inside.free c.self.inside.slots c.self.inside.slots c.self.inside.stopped c.self.inside.stopped c.self.invariant.sound c.if-self.false c.in_default.field-0 c.in_default.ensures.step c.upgrade.ensures.nothing c.upgrade.ensures.disk.honesty (g.met.D.Disk.counts_now c.upgrade.new.disk) c.upgrade.ensures.keeps
           c.upgrade.ensures.outside c.upgrade.ensures.others);
       taken = λ on. subst (λ (cs : List Case). AreTaken cs c.self.inside.slots c.self.inside.names)
           (sym (upgrade_cases g.D.Disk c.self.inside.disk c.upgrade.new.disk c.self.inside.journal c.upgrade.new.self c.self.inside.settings.limit c.self.inside.free c.self.inside.slots c.self.inside.slots c.self.inside.stopped c.self.inside.stopped c.self.invariant.sound c.if-self.false c.in_default.field-0 c.in_default.ensures.step))
@@ -52,10 +52,7 @@ returns-in_default g c = record {
       let real = rw (← c.self.view_is) at honest in
       rw (← c.self.view_is) (upgrade_bytes g.D.Disk c.self.inside.disk c.upgrade.new.disk c.self.inside.journal c.upgrade.new.self c.self.inside.settings.limit c.self.inside.free c.self.inside.slots c.self.inside.slots c.self.inside.stopped c.self.inside.stopped c.self.invariant.sound c.if-self.false c.in_default.field-0 c.in_default.ensures.step (c.upgrade.ensures.others real));
   changes = record {
-    honesty = search rules;
-    later = search rules;
-    size = search rules;
-    cause = search rules;
+    disk = record { cause = search rules; later = search rules; honesty = search rules; size = search rules };
     crash = λ honest.
         let real = rw (← c.self.view_is) at honest in
         let running = c.self.invariant.sound.runs c.if-self.false in
@@ -79,10 +76,7 @@ returns g c = record {
       (refused_bytes g.D.Disk c.self.inside.disk c.upgrade.new.disk c.self.inside.journal c.upgrade.new.self c.self.inside.settings.limit c.self.inside.free c.self.inside.slots c.end_streams-self-inside.new.slots c.self.inside.stopped c.end_streams-self-inside.result c.self.invariant.sound c.if-self.false c.in-Err.fault c.in-Err.ensures.step (c.upgrade.ensures.others real)
       (subst (λ (f : ArchiveFault). EndsStreams f c.self.inside.slots c.end_streams-self-inside.result c.end_streams-self-inside.new.slots) c.from-fault.ensures c.end_streams-self-inside.ensures)));
   changes = record {
-    honesty = search rules;
-    later = search rules;
-    size = search rules;
-    cause = search rules;
+    disk = record { cause = search rules; later = search rules; honesty = search rules; size = search rules };
     crash = λ honest.
         let real = rw (← c.self.view_is) at honest in
         let running = c.self.invariant.sound.runs c.if-self.false in

@@ -5,7 +5,7 @@ use Rattle.script_streams.specs.TellLaws.{tells_then, tells_nothing, tells_as}
 use Rattle.script_streams.proofs.reply.Reply.tell_bytes.Goals as goal
 
 pub loop-rest-init : goal.loop-rest-init
-loop-rest-init g c = record { front = []; split = refl; told = tells_nothing _ _ c.args.self.now }
+loop-rest-init g c = record { front = []; split = refl; told = tells_nothing }
 
 pub loop-rest-preserved : goal.loop-rest-preserved
 loop-rest-preserved g c =
@@ -18,6 +18,6 @@ loop-rest-preserved g c =
           ∙ ap (λ back. so_far.front ++ (piece ++ back)) c.split_at.ensures.back
           ∙ ap (λ all. so_far.front ++ all) (take-append-drop c.tell_front-count.result rest)
           ∙ so_far.split;
-      told = tells_as _ _ _ _ c.args.self.now c.tell_front-count.new.self _ _ (sym (flat_map-append shown_byte so_far.front piece))
-          (tells_then _ _ _ _ _ _ c.args.self.now c.loop-rest.self c.tell_front-count.new.self _ _ so_far.told c.tell_front-count.ensures.tells);
+      told = tells_as (sym (flat_map-append shown_byte so_far.front piece))
+          (tells_then so_far.told c.tell_front-count.ensures.tells);
     }

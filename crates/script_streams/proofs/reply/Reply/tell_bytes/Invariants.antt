@@ -1,14 +1,14 @@
 use Rattle.std.proofs.Common.{◌≡◌, ◌++◌, List, ℕ, length}
 use Rattle.std.specs.List.{flat_map}
 use Rattle.script_words.specs.Printing.{shown_byte}
-use Rattle.script_streams.specs.Telling.{Tells}
+use Rattle.script_streams.specs.Telling.{Tells, sink}
 use Rattle.script_streams.proofs.reply.Reply.tell_bytes.Given as goal
 
 abbrev pub invariant-loop-rest : goal.invariant-loop-rest
 invariant-loop-rest g l = record {
   front : List ℕ;
   split : front ++ l.rest ≡ l.text;
-  told : Tells (g.O.Output.taken l.initial.output) (g.O.Output.taken l.output) (g.O.Output.failures l.initial.output) (g.O.Output.failures l.output) l.initial.self l.self (flat_map shown_byte front);
+  told : Tells (sink g.O.Output l.initial.self) (sink g.O.Output l.self) (flat_map shown_byte front);
 }
 
 abbrev pub decreases-loop-rest : goal.decreases-loop-rest

@@ -6,7 +6,7 @@ use Rattle.script_streams.specs.TellLaws.{tells_then, tells_nothing, tells_as}
 use Rattle.script_streams.proofs.reply.Reply.tell_hex.Goals as goal
 
 pub loop-rest-init : goal.loop-rest-init
-loop-rest-init g c = record { front = []; split = refl; told = tells_nothing _ _ c.args.self.now }
+loop-rest-init g c = record { front = []; split = refl; told = tells_nothing }
 
 pub loop-rest-preserved : goal.loop-rest-preserved
 loop-rest-preserved g c =
@@ -19,6 +19,6 @@ loop-rest-preserved g c =
           ∙ ap (λ back. so_far.front ++ (piece ++ back)) c.split_at.ensures.back
           ∙ ap (λ all. so_far.front ++ all) (take-append-drop c.min.result rest)
           ∙ so_far.split;
-      told = tells_as _ _ _ _ c.args.self.now c.tell.new.self _ _ (ap (λ (digits : List ℕ). flat_map hex_pair so_far.front ++ digits) (c.as_slice.ensures.value ∙ c.print_hex_row.ensures ∙ ap hex_of c.split_at.ensures.front) ∙ sym (flat_map-append hex_pair so_far.front piece))
-          (tells_then _ _ _ _ _ _ c.args.self.now c.loop-rest.self c.tell.new.self _ _ so_far.told c.tell.ensures);
+      told = tells_as (ap (λ (digits : List ℕ). flat_map hex_pair so_far.front ++ digits) (c.as_slice.ensures.value ∙ c.print_hex_row.ensures ∙ ap hex_of c.split_at.ensures.front) ∙ sym (flat_map-append hex_pair so_far.front piece))
+          (tells_then so_far.told c.tell.ensures);
     }

@@ -1,0 +1,7 @@
+-- What the code's executables stand for.
+use Rattle.address_space.specs.Source.{ExecutableView}
+use Rattle.address_space.specs.declared.attached.Attached.{Attached}
+
+-- an executable, as it is handed over
+abbrev pub attached_view : Attached → ExecutableView
+attached_view x = record { path = x.path.now; image = x.image.now }

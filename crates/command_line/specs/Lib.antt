@@ -1,0 +1,3 @@
+pub mod Told
+pub mod OverDisks
+pub mod Making

@@ -1,0 +1,328 @@
+-- A store, step by step, and what a stop of the machine leaves of it.
+use Rattle.std.proofs.Common.{◌≡◌, ◌⊎◌, inl, inr, ⊎_elim, ℕ, zero, suc, ◌+◌, Bool, true, false, List, [], ◌∷◌, ◌++◌, length, Option, Some, None, Result, Ok, Err, refl, sym, ap, subst, ◌∙◌, arith}
+use Rattle.std.proofs.lemmas.Bool.{true≢false}
+use Rattle.std.proofs.lemmas.List.{append-nil}
+use Rattle.std.specs.Prelude.{codes, slice_set, IsTrue}
+use Rattle.std.specs.List.{AllByRecursion}
+use Rattle.std.specs.Result.{result_ok}
+use Rattle.std.specs.Io.KnownBytes.{Appends}
+use Rattle.disk_model.specs.declared.disk.Disk as disk
+use Rattle.intake.specs.declared.faults.ArchiveFault.{ArchiveFault}
+use Rattle.intake.specs.StayLaws.{stays_as, stays_then}
+use Rattle.intake.specs.Calls.{ChangesNoCase, OpenCall, BeginCall, AbandonCall, FinishCall}
+use Rattle.intake.specs.Contents.{Contents, Taken, empty_taken}
+use Rattle.intake.specs.Durable.{Durable, durable_of, with_case}
+use Rattle.intake.specs.Guarding.{MayBeStored}
+use Rattle.intake.specs.Marks.{FoundAfterAStop, NothingElseIsLeft, IsRunOfMarks, IsMarkSettled}
+use Rattle.intake.specs.Parts.{Parts, state_of, contents_of}
+use Rattle.intake.specs.Slots.{stream_at}
+use Rattle.intake.specs.State.{ArchiveState, StreamFacts}
+use Rattle.intake.specs.Step.{longer}
+use Rattle.retention.specs.declared.Policy.{Policy}
+use Rattle.std.specs.Borrow.{Bor}
+use Rattle.stream_names.specs.Commands.{stream_found}
+use Rattle.stream_names.specs.declared.names.NewStream.{NewStream}
+use Rattle.script_lines.specs.Said.{end_of}
+use Rattle.archive_replies.specs.Reasons.{reason_of}
+use Rattle.script_streams.specs.Replies.{no_reply, ok_reply}
+use Rattle.inspector_cli.specs.declared.session.SessionFault.{SessionFault}
+use Rattle.inspector_cli.specs.declared.session.SessionFault.TheVariants.{ReadFailed, WriteFailed, TooManyReads}
+use Rattle.inspector_cli.specs.declared.session.LifeFault.{LifeFault}
+use Rattle.inspector_cli.specs.declared.session.LifeFault.TheVariants as life
+use Rattle.inspector_cli.specs.declared.session.StoreOutcome.{StoreOutcome}
+use Rattle.inspector_cli.specs.declared.store.TakeStop.{TakeStop}
+use Rattle.inspector_cli.specs.declared.store.TakeStop.TheVariants.{File, Refused}
+use Rattle.inspector_cli.specs.Headline.{AreSafe, FindsSince, Leads, WouldLeave}
+use Rattle.inspector_cli.specs.Reply.{Begins, Takes}
+use Rattle.inspector_cli.specs.Session.{Streams}
+use Rattle.inspector_cli.specs.Stages.{Stage, Moves, MayLeave, mark_at, marks_of}
+use Rattle.inspector_cli.specs.StoreHeadline.{AddsCase, StoresOrNot, StoreCourse, IsStoreCourse, IsTold, IsStoreSafe, StoresAreCrashSafe, BeginsEmpty}
+use Rattle.inspector_cli.specs.Storing.{TakesFile, FileReplies, RestReplies, MakesRoom, IsChosen, LabelsCase, Stores, StoreEnds, said_room, said_label}
+use Rattle.inspector_cli.proofs.KeptLemmas.{LastingLaws}
+use Rattle.inspector_cli.proofs.SafeLemmas.{are_safe, leads_on, moment, since_opening}
+use Rattle.inspector_cli.proofs.StageLemmas.{Laws, Reaches, stage_of, begins_stays, ends_moves}
+use Rattle.inspector_cli.proofs.StoreLemmas.{room_moves, label_moves}
+
+some_same : {X : Type 0} (x y : X) → Some x ≡ Some y → x ≡ y
+some_same {X = X} x y is = ap (λ o. get o) is
+  where
+    get : Option X → X
+    get None = x
+    get (Some z) = z
+
+-- what stands in a slot that was set is what was put there
+set_is : {X : Type 0} (xs : List (Option X)) (slot : ℕ) (a x : X) → stream_at (slice_set xs slot (Some a)) slot ≡ Some x → x ≡ a
+set_is [] slot a x is = cc
+set_is (y ∷ ys) zero a x is = sym (some_same a x is)
+set_is (y ∷ ys) (suc slot) a x is = set_is ys slot a x is
+
+module _ {D : Type 0} (g : disk.Ghosts D) (lasts : LastingLaws g) where
+  -- the stream that has taken these bytes, where it had none when it began
+  module _ (room mid filled : Parts D) (stream : StreamFacts) (raw : List ℕ) (none : stream.len ≡ 0) (begun : BeginCall g room 0 stream (Ok tt) mid) (takes : Takes g mid 0 raw (Ok tt) filled) where
+    facts_are : (s : StreamFacts) → stream_at (state_of filled).streams 0 ≡ Some s → s ≡ record stream { len = length raw }
+    facts_are s at =
+        let before : stream_at (slice_set (state_of room).streams 0 (Some stream)) 0 ≡ Some takes.step.0 =
+        subst (λ (b : ArchiveState). stream_at b.streams 0 ≡ Some takes.step.0) begun.step.1 takes.step.1.1
+        in
+        let first : takes.step.0 ≡ stream = set_is (state_of room).streams 0 stream takes.step.0 before in
+        let after : stream_at (slice_set (state_of mid).streams 0 (Some (longer takes.step.0 (length raw)))) 0 ≡ Some s =
+        subst (λ (b : ArchiveState). stream_at b.streams 0 ≡ Some s) takes.step.3 at
+        in
+        set_is (state_of mid).streams 0 (longer takes.step.0 (length raw)) s after
+        ∙ ap (λ (x : StreamFacts). longer x (length raw)) first
+        ∙ ap (λ (k : ℕ). record stream { len = k }) (omega (arith, none))
+
+    bytes_are : IsTrue (g.is_honest mid.disk) → (t : Taken) → stream_at (contents_of g.seen filled).taken 0 ≡ Some t → t.bytes ≡ raw
+    bytes_are honest t at =
+        let b = takes.bytes honest in
+        let before : stream_at (slice_set (contents_of g.seen room).taken 0 (Some empty_taken)) 0 ≡ Some b.0 =
+        subst (λ (c : Contents). stream_at c.taken 0 ≡ Some b.0) begun.bytes b.2
+        in
+        let first : b.0 ≡ empty_taken = set_is (contents_of g.seen room).taken 0 empty_taken b.0 before in
+        let after : stream_at (slice_set (contents_of g.seen mid).taken 0 (Some (record { bytes = b.0.bytes ++ raw; free = b.1 }))) 0 ≡ Some t =
+        subst (λ (c : Contents). stream_at c.taken 0 ≡ Some t) b.3 at
+        in
+        ap (λ (x : Taken). x.bytes) (set_is (contents_of g.seen mid).taken 0 (record { bytes = b.0.bytes ++ raw; free = b.1 }) t after)
+        ∙ ap (λ (x : Taken). x.bytes ++ raw) first
+
+  -- the case that the stream becomes
+  adds_case : (found : Result StreamFacts (List ℕ)) (file file' : Option (List ℕ)) (fails fails' : ℕ) (room mid filled : Parts D) (first : List ℕ) (x y : Durable) (n : ℕ) → BeginsEmpty found → Begins g room 0 found first mid true
+      → TakesFile g file file' fails fails' mid filled (Ok tt) → IsTrue (g.is_honest mid.disk) → x ≡ durable_of g.seen filled → n ≡ x.next
+      → MayBeStored (state_of filled) (contents_of g.seen filled) (durable_of g.seen filled) 0 y → AddsCase found file file' x n y
+  adds_case (Ok stream) file file' fails fails' room mid filled first x y n none (Ok u, call, told, accepts) takes honest same number may = record {
+    stream = stream;
+    begun = refl;
+    image = takes.0;
+    read = takes.1;
+    whole = takes.2;
+    runs = may.0;
+    number = number;
+    adds =
+        may.1.5
+        ∙ ap (λ (d : Durable). with_case d may.1.0 may.0 may.1.1.bytes) (sym same)
+        ∙ ap (λ (s : StreamFacts). with_case x s may.0 may.1.1.bytes) (facts_are room mid filled stream takes.0 none call takes.3 may.1.0 may.1.2)
+        ∙ ap (λ (b : List ℕ). with_case x (record stream { len = length takes.0 }) may.0 b) (bytes_are room mid filled stream takes.0 none call takes.3 honest may.1.1 may.1.3);
+  }
+  adds_case (Ok stream) file file' fails fails' room mid filled first x y n none (Err f, call, told, accepts) takes honest same number may = absurd (true≢false accepts)
+  adds_case (Err reason) file file' fails fails' room mid filled first x y n none begins takes honest same number may = absurd (true≢false begins.2)
+
+  module _ (laws : Laws g) (found : Result StreamFacts (List ℕ)) (none : BeginsEmpty found) (file file' : Option (List ℕ)) (fails fails' : ℕ) (room : Stage D) (honest : IsTrue (g.is_honest room.archive.disk)) where
+    -- whether the case is stored, and what is in doubt
+    record Stored (filled ended : Parts D) (rest : List ℕ) (stored : Option ℕ) : Type 0 where
+      takes : ChangesNoCase g room.archive filled
+      more : List Durable
+      moves : Moves g (stage_of filled room.in_doubt) (end_of 0) rest (stage_of ended (more ++ room.in_doubt))
+      stores : StoresOrNot found file file' (durable_of g.seen room.archive) stored (durable_of g.seen ended)
+      doubted :
+          (moves.doubts ≡ [])
+          ⊎ ((rest ≡ no_reply (codes "Disk")) × AllByRecursion (λ (z : Durable). (n : ℕ) × AddsCase found file file' (durable_of g.seen room.archive) n z) moves.doubts)
+
+    -- no case is stored, and the archive stays as it was
+    none_stored : (filled ended : Parts D) (rest : List ℕ) (stored : Option ℕ) → ChangesNoCase g room.archive filled → ended ≡ filled → stored ≡ None → Stored filled ended rest stored
+    none_stored filled ended rest stored takes same nothing = record {
+      takes = takes;
+      more = [];
+      moves = record { doubts = []; in_doubt = refl; doubted = inl refl; passes = laws.stays filled ended room.in_doubt (stays_as g filled ended same) };
+      stores =
+          subst (λ (o : Option ℕ). StoresOrNot found file file' (durable_of g.seen room.archive) o (durable_of g.seen ended)) (sym nothing) (ap (durable_of g.seen) same ∙ takes.durable honest);
+      doubted = inl refl;
+    }
+
+    all_add : (mid filled : Parts D) (first : List ℕ) → Begins g room.archive 0 found first mid true → TakesFile g file file' fails fails' mid filled (Ok tt) → IsTrue (g.is_honest mid.disk)
+        → durable_of g.seen room.archive ≡ durable_of g.seen filled → (xs : List Durable) → AllByRecursion (MayLeave g filled (end_of 0)) xs
+        → AllByRecursion (λ (z : Durable). (n : ℕ) × AddsCase found file file' (durable_of g.seen room.archive) n z) xs
+    all_add mid filled first begins takes there same [] all = tt
+    all_add mid filled first begins takes there same (z ∷ zs) all = (
+      ((durable_of g.seen room.archive).next, adds_case found file file' fails fails' room.archive mid filled first (durable_of g.seen room.archive) z _ none begins takes there same refl all.0),
+      all_add mid filled first begins takes there same zs all.1,
+    )
+
+    is_stored : (mid filled ended : Parts D) (first : List ℕ) (accepted : Bool) (rest : List ℕ) (stored : Option ℕ) → Begins g room.archive 0 found first mid accepted → ChangesNoCase g room.archive mid
+        → RestReplies g file file' fails fails' mid accepted filled rest ended stored → Stored filled ended rest stored
+    is_stored mid filled ended first false rest stored begins begun goes =
+        none_stored filled ended rest stored (stays_then g room.archive mid filled begun (stays_as g mid filled goes.2)) (goes.4 ∙ sym goes.2) goes.5
+    is_stored mid filled ended first true rest stored begins begun (Err stop, takes, replies) =
+        none_refused stop takes replies
+      where
+        none_refused : (stop : TakeStop) → TakesFile g file file' fails fails' mid filled (Err stop) → FileReplies g filled (Err stop) rest ended stored → Stored filled ended rest stored
+        none_refused File takes replies = none_stored filled ended rest stored (stays_then g room.archive mid filled begun takes.3.stays) replies.1 replies.2
+        none_refused (Refused f) takes replies = none_stored filled ended rest stored (stays_then g room.archive mid filled begun takes.2.stays) replies.1 replies.2
+    is_stored mid filled ended first true rest stored begins begun (Ok u, takes, (r, call, told, is)) =
+        let there : IsTrue (g.is_honest mid.disk) = begun.honesty ∙ honest in
+        let here : IsTrue (g.is_honest filled.disk) = takes.3.stays.honesty ∙ there in
+        let same : durable_of g.seen room.archive ≡ durable_of g.seen filled = sym (takes.3.stays.durable there ∙ begun.durable honest) in
+        let moves = ends_moves g laws (stage_of filled room.in_doubt) ended 0 rest stored (r, call, told, is) in
+        record {
+          takes = stays_then g room.archive mid filled begun takes.3.stays;
+          more = moves.0;
+          moves = moves.1;
+          stores = ends r call is there here same;
+          doubted = ⊎_elim (λ nothing. inl nothing) (λ may. inr (may.0, all_add mid filled first begins takes there same moves.1.doubts may.1)) moves.1.doubted;
+        }
+      where
+        ends : (r : Result ℕ ArchiveFault) → FinishCall g filled 0 r ended → stored ≡ result_ok r → IsTrue (g.is_honest mid.disk) → IsTrue (g.is_honest filled.disk) → durable_of g.seen room.archive ≡ durable_of g.seen filled
+            → StoresOrNot found file file' (durable_of g.seen room.archive) stored (durable_of g.seen ended)
+        ends (Ok seq) call is there here same =
+            let number : seq ≡ (durable_of g.seen room.archive).next = call.step.6 ∙ ap (λ (d : Durable). d.next) (sym same) in
+            subst (λ (o : Option ℕ). StoresOrNot found file file' (durable_of g.seen room.archive) o (durable_of g.seen ended)) (sym is)
+            (adds_case found file file' fails fails' room.archive mid filled first (durable_of g.seen room.archive) (durable_of g.seen ended) seq none begins takes there same number (lasts.finish filled ended 0 seq here call))
+        ends (Err f) call is there here same =
+            subst (λ (o : Option ℕ). StoresOrNot found file file' (durable_of g.seen room.archive) o (durable_of g.seen ended)) (sym is)
+            (lasts.refusals filled ended f here (inl (0, call)) ∙ sym same)
+
+  -- a line is carried out, or refused
+  room_leads : (old new : Parts D) (policy : Option Policy) (told : List ℕ) (made : Bool) → IsTrue (g.is_honest old.disk) → MakesRoom g old policy told new made → Leads [] (said_room policy) told (durable_of g.seen old) (durable_of g.seen new)
+  room_leads old new None told made honest makes = inl (ap (durable_of g.seen) makes.1)
+  room_leads old new (Some policy) told made honest ((Ok d, call, is), done) = inl (d.dropped.items, d.unmet, is, lasts.retire old new policy d honest call)
+  room_leads old new (Some policy) told made honest ((Err f, call, is), done) = inr (reason_of f, is, lasts.refusals old new f honest (inr (inr (inr (inl (policy, call))))))
+
+  room_would : (old : Parts D) (policy : Option Policy) (x : Durable) → MayLeave g old (said_room policy) x → WouldLeave [] (said_room policy) (durable_of g.seen old) x
+  room_would old None x may = absurd may
+  room_would old (Some policy) x may = (_, (may.0, may.1, refl, may.3))
+
+  label_leads : (old new : Parts D) (stored : Option ℕ) (label : Option (List ℕ)) (told : List ℕ) (done : Bool) → IsTrue (g.is_honest old.disk) → LabelsCase g old stored label told new done
+      → Leads [] (said_label stored label) told (durable_of g.seen old) (durable_of g.seen new)
+  label_leads old new (Some seq) (Some label) told done honest ((Ok u, call, is), did) = inl (is, ⊎_elim (λ same. inr same.1) (λ set. inl set.1) (lasts.label old new seq label u honest call).2)
+  label_leads old new (Some seq) (Some label) told done honest ((Err f, call, is), did) = inr (reason_of f, is, lasts.refusals old new f honest (inr (inr (inr (inr (inl (seq, label, call)))))))
+  label_leads old new (Some seq) None told done honest labels = inl (ap (durable_of g.seen) labels.1)
+  label_leads old new None label told done honest labels = inl (ap (durable_of g.seen) labels.1)
+
+  label_would : (old : Parts D) (stored : Option ℕ) (label : Option (List ℕ)) (x : Durable) → MayLeave g old (said_label stored label) x → WouldLeave [] (said_label stored label) (durable_of g.seen old) x
+  label_would old (Some seq) (Some label) x may = (ok_reply, (refl, inl may))
+  label_would old (Some seq) None x may = absurd may
+  label_would old None label x may = absurd may
+
+-- a stream that a line or the words of a command begin has no bytes yet
+pub found_empty : (r : Result NewStream (Bor (List ℕ))) → BeginsEmpty (stream_found r)
+found_empty (Ok stream) = refl
+found_empty (Err reason) = tt
+
+is_chosen : (s : ArchiveState) (asked : Option Policy) (found : Result StreamFacts (List ℕ)) (policy : Option Policy) → IsChosen s asked found policy → (policy ≡ asked) ⊎ (policy ≡ None)
+is_chosen s asked found None chosen = inr refl
+is_chosen s asked found (Some policy) chosen = inl (sym chosen)
+
+module _ {D : Type 0} (g : disk.Ghosts D) (lasts : LastingLaws g) (laws : Laws g) (law : FoundAfterAStop g) (nothing_else : NothingElseIsLeft g) (stays : (d : D) → IsTrue (g.is_honest d) → g.may_leave d (g.seen d))
+    (limit : ℕ) (t : Streams) (asked : Option Policy) (found : Result StreamFacts (List ℕ)) (label : Option (List ℕ)) (none : BeginsEmpty found) (before after : D) (opened closed : Parts D) (opening : OpenCall g limit before (Ok opened)) (disk : after ≡ closed.disk) (honest : IsTrue (g.is_honest before)) where
+  abbrev first : Stage D
+  first = record { archive = opened; in_doubt = [] }
+
+  module _ (r : Result StoreOutcome LifeFault) (written unwritten : List ℕ) (end : Parts D) (outcome : StoreOutcome) (s : Stores g t.input t.input' t.fails t.fails' opened asked found label (written ++ unwritten) end outcome) (dropped : Result (Unit {0}) ArchiveFault)
+      (drops : AbandonCall g end 0 dropped closed) (appended : Appends t.taken t.taken' written) (told : IsTold r outcome.stored unwritten) where
+    there : IsTrue (g.is_honest opened.disk)
+    there = opening.honesty ∙ honest
+
+    room_made : Reaches g laws first s.room (said_room s.makes_room.policy) s.told
+    room_made = room_moves g laws first s.room s.makes_room.policy s.told outcome.made_room s.makes_room.makes_room
+
+    abbrev room : Stage D
+    room = stage_of s.room (room_made.0 ++ [])
+
+    room_honest : IsTrue (g.is_honest s.room.disk)
+    room_honest = room_made.1.passes.honesty ∙ there
+
+    begun : ChangesNoCase g s.room s.stores.mid
+    begun = begins_stays g s.room s.stores.mid 0 found s.stores.first s.stores.accepted s.stores.begins
+
+    stored : Stored g lasts laws found none t.input t.input' t.fails t.fails' room room_honest s.stores.filled s.ended s.stores.rest outcome.stored
+    stored = is_stored g lasts laws found none t.input t.input' t.fails t.fails' room room_honest s.stores.mid s.stores.filled s.ended s.stores.first s.stores.accepted s.stores.rest outcome.stored s.stores.begins begun s.stores.goes_on
+
+    abbrev filled : Stage D
+    filled = stage_of s.stores.filled room.in_doubt
+
+    abbrev ended : Stage D
+    ended = stage_of s.ended (stored.more ++ room.in_doubt)
+
+    labelled : Reaches g laws ended end (said_label outcome.stored label) s.last
+    labelled = label_moves g laws ended end outcome.stored label s.last outcome.labelled s.labels
+
+    abbrev last : Stage D
+    last = stage_of end (labelled.0 ++ ended.in_doubt)
+
+    ended_honest : IsTrue (g.is_honest s.ended.disk)
+    ended_honest = stored.moves.passes.honesty ∙ (stored.takes.honesty ∙ room_honest)
+
+    end_honest : IsTrue (g.is_honest end.disk)
+    end_honest = labelled.1.passes.honesty ∙ ended_honest
+
+    run : IsRunOfMarks g (mark_at g.seen first) (marks_of g.seen (room ∷ filled ∷ ended ∷ []) last closed)
+    run = (
+      room_made.1.passes,
+      (laws.stays s.room s.stores.filled room.in_doubt stored.takes, (stored.moves.passes, (labelled.1.passes, (laws.stays end closed last.in_doubt drops.stays, tt)))),
+    )
+
+    settled : IsMarkSettled g (mark_at g.seen first)
+    settled c may = (durable_of g.seen opened, opening.settled honest c may, inl refl)
+
+    abbrev course : StoreCourse D
+    course = record {
+      begin = moment g first;
+      policy = s.makes_room.policy;
+      told = s.told;
+      room = moment g room;
+      filled = moment g filled;
+      replies = s.more;
+      reply = s.stores.rest;
+      stored = outcome.stored;
+      ended = moment g ended;
+      labels = s.last;
+      end = moment g last;
+    }
+
+    is_course : IsStoreCourse asked found label t.input t.input' course
+    is_course = record {
+      clear = refl;
+      chosen = is_chosen (state_of opened) asked found s.makes_room.policy s.makes_room.chosen;
+      makes_room =
+          leads_on g [] first room (said_room s.makes_room.policy) s.told (room_leads g lasts opened s.room s.makes_room.policy s.told outcome.made_room there s.makes_room.makes_room)
+          (λ x disk may. room_would g lasts opened s.makes_room.policy x may) room_made.1;
+      same = stored.takes.durable room_honest;
+      same_doubt = refl;
+      stores = stored.stores;
+      doubts = stored.moves.doubts;
+      in_doubt = stored.moves.in_doubt;
+      doubted = stored.doubted;
+      gives_label =
+          leads_on g [] ended last (said_label outcome.stored label) s.last (label_leads g lasts s.ended end outcome.stored label s.last outcome.labelled ended_honest s.labels)
+          (λ x disk may. label_would g lasts s.ended outcome.stored label x may) labelled.1;
+    }
+
+    pub store_safe : IsStoreSafe g t asked found label before after r
+    store_safe = record {
+      course = course;
+      found_again = λ x stands. opening.found_again x honest stands;
+      is = is_course;
+      written = written;
+      unwritten = unwritten;
+      appended = appended;
+      text = s.all;
+      answered = told;
+      opening =
+          subst
+          (λ (d : D). (left : List ℕ) → g.left_since d (g.clock before) left → g.may_leave before left ⊎ FindsSince left (moment g first) (moment g room ∷ moment g filled ∷ moment g ended ∷ moment g last ∷ [])) (sym disk)
+          (since_opening g stays last closed end_honest drops.stays nothing_else first (room ∷ filled ∷ ended ∷ []) there run before (opening.any_moment honest));
+      safe =
+          subst (λ (d : D). AreSafe g d (moment g first) (moment g room ∷ moment g filled ∷ moment g ended ∷ moment g last ∷ [])) (sym disk)
+          (are_safe g stays last closed end_honest drops.stays first (room ∷ filled ∷ ended ∷ []) there settled run (law (mark_at g.seen first) (marks_of g.seen (room ∷ filled ∷ ended ∷ []) last closed) there settled run));
+    }
+
+  -- the same answer of a life
+  abbrev pub life_of : Result StoreOutcome SessionFault → Result StoreOutcome LifeFault
+  life_of (Ok outcome) = Ok outcome
+  life_of (Err f) = Err (life.Session f)
+
+  pub ended_safe : (r : Result StoreOutcome SessionFault) → StoreEnds g t first asked found label closed r → IsStoreSafe g t asked found label before after (life_of r)
+  ended_safe (Ok outcome) e =
+      store_safe (Ok outcome) e.0 [] e.1.archive outcome
+      (subst (λ (x : List ℕ). Stores g t.input t.input' t.fails t.fails' opened asked found label x e.1.archive outcome) (sym (append-nil e.0)) e.3) e.2 e.4 e.5 (refl, refl)
+  ended_safe (Err WriteFailed) e = store_safe (Err (life.Session WriteFailed)) e.0 e.1 e.2.archive e.3 e.5 e.4 e.6 e.7 tt
+  ended_safe (Err ReadFailed) e = absurd e
+  ended_safe (Err TooManyReads) e = absurd e
+
+module _ {D : Type 0} (g : disk.Ghosts D) (lasts : LastingLaws g) (laws : Laws g) (law : FoundAfterAStop g) (nothing_else : NothingElseIsLeft g) (stays : (d : D) → IsTrue (g.is_honest d) → g.may_leave d (g.seen d)) where
+  pub stores_safe : StoresAreCrashSafe g
+  stores_safe limit t asked found label before after (Ok outcome) none lived = λ honest.
+      ended_safe g lasts laws law nothing_else stays limit t asked found label none before after lived.opened lived.closed lived.opening lived.disk honest (Ok outcome) lived.goes
+  stores_safe limit t asked found label before after (Err (life.Session f)) none lived = λ honest.
+      ended_safe g lasts laws law nothing_else stays limit t asked found label none before after lived.opened lived.closed lived.opening lived.disk honest (Err f) lived.goes
+  stores_safe limit t asked found label before after (Err (life.Open f)) none lived = λ honest.
+      (lived.0.opening.seen honest, λ left was. (lived.0.opening.any_moment honest).each left was)

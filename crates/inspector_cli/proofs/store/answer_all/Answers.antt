@@ -1,0 +1,15 @@
+use Rattle.script_streams.specs.Telling.{sink}
+use Rattle.stream_names.specs.Commands.{stream_found}
+use Rattle.inspector_cli.specs.Storing.{label_asked}
+use Rattle.inspector_cli.proofs.StoreLemmas.{stores_all}
+use Rattle.inspector_cli.proofs.store.answer_all.Goals as goal
+
+pub returns : goal.returns
+returns g c =
+    stores_all g.D.Disk (g.I.Input.remaining c.args.file.now) (g.I.Input.remaining c.answer_store-stored.new.file)
+    (g.I.Input.failures c.args.file.now) (g.I.Input.failures c.answer_store-stored.new.file)
+    (sink g.O.Output c.args.reply.now) (sink g.O.Output c.make_room-made_room.new.reply) (sink g.O.Output c.answer_store-stored.new.reply) (sink g.O.Output c.label_case-labelled.new.reply)
+    c.args.archive.now c.make_room-made_room.new.archive c.answer_store-stored.new.archive c.label_case-labelled.new.archive
+    c.args.policy (stream_found c.args.found) (label_asked c.args.label.now)
+    c.make_room-made_room.result c.answer_store-stored.result c.label_case-labelled.result
+    c.make_room-made_room.ensures c.answer_store-stored.ensures c.label_case-labelled.ensures

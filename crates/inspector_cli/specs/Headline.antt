@@ -1,0 +1,160 @@
+-- The headline: what a session does, told by its lines, and what a stop of the machine leaves of it. Beside what stands here a
+-- reader needs what bytes stand for (`StandsFor`), what an archive holds (`Durable`), and what a line says (`Said`).
+use Rattle.std.specs.Prelude.{◌≡◌, ◌⊎◌, ℕ, Bool, List, [], ◌∷◌, ◌++◌, map, Option, Some, Result, Ok, Err, IsTrue, codes}
+use Rattle.std.specs.List.{flat_map, AllByRecursion}
+use Rattle.std.specs.Io.KnownBytes.{Consumes, Appends, IsAtEnd}
+use Rattle.disk_model.specs.declared.disk.Disk as disk
+use Rattle.intake.specs.Durable.{Durable, StandsFor, without, flagged, labelled, upgraded, with_case}
+use Rattle.intake.specs.Marks.{IsOneOf}
+use Rattle.intake.specs.State.{StreamFacts}
+use Rattle.stream_names.specs.declared.naming.Naming.{Naming}
+use Rattle.script_lines.specs.Said.{Said, end_of, delete_of, pin_of, label_of, retire_by, upgrade_archive}
+use Rattle.script_streams.specs.Replies.{no_reply, ok_reply}
+use Rattle.archive_replies.specs.Texts.{end_reply, dropped_line, unmet_line}
+use Rattle.inspector_cli.specs.declared.session.LifeFault.{LifeFault}
+use Rattle.inspector_cli.specs.declared.session.LifeFault.TheVariants as life
+use Rattle.inspector_cli.specs.Life.{LifeEnds, RunsOver}
+use Rattle.inspector_cli.specs.Session.{Item, IsItem, Streams, spelled}
+use Rattle.inspector_cli.specs.Told.{Answer, what_of, parts_in}
+
+-- What a line that is carried out does to what the archive holds, x before it and y after it. `earlier` are the lines before it:
+-- the image of a case is the bytes of its parts.
+abbrev pub Does : List Answer → Said → List ℕ → Durable → Durable → Type 0
+Does earlier (end_of slot) reply x y =
+    (image : List ℕ) × (stream : StreamFacts) × (runs : ℕ) × (parts_in slot earlier ≡ Some image) × (reply ≡ end_reply (Ok x.next)) × (y ≡ with_case x stream runs image)
+Does earlier (delete_of seq) reply x y = (reply ≡ ok_reply) × (y ≡ without x (seq ∷ []))
+Does earlier (pin_of seq flag) reply x y = (reply ≡ ok_reply) × ((y ≡ flagged x seq flag) ⊎ (y ≡ x))
+Does earlier (label_of seq text) reply x y = (reply ≡ ok_reply) × ((y ≡ labelled x seq text) ⊎ (y ≡ x))
+Does earlier upgrade_archive reply x y = (reply ≡ ok_reply) × (y ≡ upgraded x)
+Does earlier (retire_by policy) reply x y =
+    (dropped : List ℕ) × (unmet : Bool) × (reply ≡ flat_map dropped_line dropped ++ (unmet_line unmet ++ ok_reply)) × (y ≡ without x dropped)
+Does earlier _ reply x y = y ≡ x
+
+-- A line is carried out, or it is refused and changes nothing.
+abbrev pub Leads : List Answer → Said → List ℕ → Durable → Durable → Type 0
+Leads earlier what reply x y = Does earlier what reply x y ⊎ ((reason : List ℕ) × (reply ≡ no_reply reason) × (y ≡ x))
+
+-- what a line would have left, had the disk not failed
+abbrev pub WouldLeave : List Answer → Said → Durable → Durable → Type 0
+WouldLeave earlier what x y = (reply : List ℕ) × Does earlier what reply x y
+
+-- How things stand at a moment between two lines.
+pub record Moment (D : Type 0) : Type 0 where
+  pub disk : D
+  -- what the archive holds
+  pub holds : Durable
+  -- what lines that were answered `no Disk` would have left
+  pub in_doubt : List Durable
+
+-- A line that was answered, and how things stand then.
+pub record Line (D : Type 0) : Type 0 where
+  pub answer : Answer
+  pub then : Moment D
+
+-- A session: how it begins, its lines, how its script ends, and how things stand then.
+pub record Course (D : Type 0) : Type 0 where
+  pub begin : Moment D
+  pub lines : List (Line D)
+  -- what stands behind the last newline, and the reply to it
+  pub last : Said
+  pub reply : List ℕ
+  pub end : Moment D
+
+-- A line leads from moment to moment. Only where it is answered `no Disk` is anything in doubt anew.
+pub record LeadsOn {D : Type 0} (earlier : List Answer) (old : Moment D) (what : Said) (reply : List ℕ) (new : Moment D) : Type 0 where
+  pub leads : Leads earlier what reply old.holds new.holds
+  pub doubts : List Durable
+  pub in_doubt : new.in_doubt ≡ doubts ++ old.in_doubt
+  pub doubted : (doubts ≡ []) ⊎ ((reply ≡ no_reply (codes "Disk")) × AllByRecursion (WouldLeave earlier what old.holds) doubts)
+
+abbrev pub answer_of : {D : Type 0} → Line D → Answer
+answer_of l = l.answer
+
+abbrev pub moment_of : {D : Type 0} → Line D → Moment D
+moment_of l = l.then
+
+abbrev pub AllLead : {D : Type 0} → List Answer → Moment D → List (Line D) → Type 0
+AllLead earlier old [] = Unit {0}
+AllLead earlier old (l ∷ ls) = LeadsOn earlier old (what_of l.answer) l.answer.reply l.then × AllLead (earlier ++ l.answer ∷ []) l.then ls
+
+-- behind the last line
+abbrev pub last_moment : {D : Type 0} → Moment D → List (Line D) → Moment D
+last_moment m [] = m
+last_moment m (l ∷ ls) = last_moment l.then ls
+
+-- each line does what it says, from what the archive held before it
+pub record IsCourse {D : Type 0} (c : Course D) : Type 0 where
+  pub clear : c.begin.in_doubt ≡ []
+  pub lines : AllLead [] c.begin c.lines
+  pub last : LeadsOn (map answer_of c.lines) (last_moment c.begin c.lines) c.last c.reply c.end
+
+-- An opening of these bytes finds what the archive held at this moment, or what was in doubt then.
+abbrev pub FindsMoment : {D : Type 0} → List ℕ → Moment D → Type 0
+FindsMoment left m = (x : Durable) × StandsFor left x × ((x ≡ m.holds) ⊎ IsOneOf m.in_doubt x)
+
+-- the same of this moment or a later one
+abbrev pub FindsSince : {D : Type 0} → List ℕ → Moment D → List (Moment D) → Type 0
+FindsSince left m [] = FindsMoment left m
+FindsSince left m (n ∷ ns) = FindsMoment left m ⊎ FindsSince left n ns
+
+-- What reads of the disk give at a moment opens as that moment. And whenever the machine stops from then on, between two disk
+-- writes or within one, what is left opens as what the archive held then, or after a later line.
+pub record IsSafe {D : Type 0} (g : disk.Ghosts D) (end : D) (m : Moment D) (later : List (Moment D)) : Type 0 where
+  pub reads : FindsMoment (g.seen m.disk) m
+  pub stops : (left : List ℕ) → g.left_since end (g.clock m.disk) left → FindsSince left m later
+
+-- the same of each moment
+abbrev pub AreSafe : {D : Type 0} → disk.Ghosts D → D → Moment D → List (Moment D) → Type 0
+AreSafe g end m [] = IsSafe g end m []
+AreSafe g end m (n ∷ ns) = IsSafe g end m (n ∷ ns) × AreSafe g end n ns
+
+abbrev pub answers_of : {D : Type 0} → Course D → List Answer
+answers_of c = map answer_of c.lines
+
+-- each with the bytes behind its newline
+abbrev pub commands : {D : Type 0} → Course D → List Item
+commands c = map (λ (a : Answer). a.item) (answers_of c)
+
+-- The script that was read, and the text of the replies: all that was written is a front of it.
+pub record IsText {D : Type 0} (t : Streams) (c : Course D) : Type 0 where
+  pub read : List ℕ
+  pub rest : List ℕ
+  -- what was read and not carried out
+  pub more : List ℕ
+  pub consumed : Consumes t.input t.input' (read ++ more)
+  pub script : read ≡ flat_map spelled (commands c) ++ rest
+  pub items : AllByRecursion IsItem (commands c)
+  pub written : List ℕ
+  pub unwritten : List ℕ
+  pub appended : Appends t.taken t.taken' written
+  pub replies : written ++ unwritten ≡ flat_map (λ (a : Answer). a.reply) (answers_of c) ++ c.reply
+
+-- on `Ok` all of the script was read and carried out, and all replies are written
+abbrev pub IsAll : {T E : Type 0} → Result T E → List ℕ → Option (List ℕ) → List ℕ → Type 0
+IsAll (Ok x) more input' unwritten = (more ≡ []) × IsAtEnd input' × (unwritten ≡ [])
+IsAll (Err f) more input' unwritten = Unit {0}
+
+-- The headline of a session over a disk, `before` it and `after` it.
+pub record IsCrashSafe {D : Type 0} (T E : Type 0) (g : disk.Ghosts D) (t : Streams) (before after : D) (r : Result T E) : Type 0 where
+  pub course : Course D
+  -- it begins with exactly what the disk stands for
+  pub found : (x : Durable) → StandsFor (g.seen before) x → course.begin.holds ≡ x
+  pub is : IsCourse course
+  pub text : IsText t course
+  pub all : IsAll r text.more t.input' text.unwritten
+  -- a stop within the opening leaves what one before it could have left
+  pub opening : (left : List ℕ) → g.left_since after (g.clock before) left → g.may_leave before left ⊎ FindsSince left course.begin (map moment_of course.lines ++ course.end ∷ [])
+  pub safe : AreSafe g after course.begin (map moment_of course.lines ++ course.end ∷ [])
+
+-- What a life of an archive promises of stops: over an honest disk a session is crash-safe, and an opening that is refused
+-- leaves what reads give, and what a stop may leave, as they were.
+abbrev pub Headline : {D : Type 0} (T : Type 0) → disk.Ghosts D → Streams → D → Result T LifeFault → D → Type 0
+Headline T g t before (Ok x) after = IsTrue (g.is_honest before) → IsCrashSafe T LifeFault g t before after (Ok x)
+Headline T g t before (Err (life.Session f)) after = IsTrue (g.is_honest before) → IsCrashSafe T LifeFault g t before after (Err (life.Session f))
+Headline T g t before (Err (life.Open f)) after =
+    IsTrue (g.is_honest before) → (g.seen after ≡ g.seen before) × ((left : List ℕ) → g.left_since after (g.clock before) left → g.may_leave before left)
+
+-- So it is of each session from an opening on.
+abbrev pub SessionsAreCrashSafe : {D : Type 0} → disk.Ghosts D → Type 0
+SessionsAreCrashSafe {D} g = (limit : ℕ) (naming : Naming) (t : Streams) (before after : D) (r : Result (Unit {0}) LifeFault)
+    → LifeEnds g limit t before r after (RunsOver g naming t) → Headline (Unit {0}) g t before r after

@@ -1,0 +1,103 @@
+-- The headline of a store: what the archive holds when it begins, when room is made, when FILE is taken, when the case is stored,
+-- and when it has its label; and what a stop of the machine leaves of it.
+use Rattle.std.specs.Prelude.{◌≡◌, ◌⊎◌, ℕ, List, [], ◌∷◌, ◌++◌, length, Option, None, Some, Result, Ok, Err, IsTrue, codes}
+use Rattle.std.specs.List.{AllByRecursion}
+use Rattle.std.specs.Io.KnownBytes.{Consumes, Appends, IsAtEnd}
+use Rattle.disk_model.specs.declared.disk.Disk as disk
+use Rattle.intake.specs.Durable.{Durable, StandsFor, with_case}
+use Rattle.intake.specs.State.{StreamFacts}
+use Rattle.retention.specs.declared.Policy.{Policy}
+use Rattle.script_streams.specs.Replies.{no_reply}
+use Rattle.inspector_cli.specs.declared.session.LifeFault.{LifeFault}
+use Rattle.inspector_cli.specs.declared.session.LifeFault.TheVariants as life
+use Rattle.inspector_cli.specs.declared.session.StoreOutcome.{StoreOutcome}
+use Rattle.inspector_cli.specs.Headline.{Moment, LeadsOn, AreSafe, FindsSince}
+use Rattle.inspector_cli.specs.Life.{LifeEnds, StoresOver}
+use Rattle.inspector_cli.specs.Session.{Streams}
+use Rattle.inspector_cli.specs.Storing.{said_room, said_label}
+
+-- A case is added behind x: the one that the stream was begun as, with all bytes of FILE as its image.
+pub record AddsCase (found : Result StreamFacts (List ℕ)) (file file' : Option (List ℕ)) (x : Durable) (n : ℕ) (y : Durable) : Type 0 where
+  pub stream : StreamFacts
+  pub begun : found ≡ Ok stream
+  pub image : List ℕ
+  pub read : Consumes file file' image
+  pub whole : IsAtEnd file'
+  pub runs : ℕ
+  pub number : n ≡ x.next
+  pub adds : y ≡ with_case x (record stream { len = length image }) runs image
+
+-- the case of the number that is told, or none
+abbrev pub StoresOrNot : Result StreamFacts (List ℕ) → Option (List ℕ) → Option (List ℕ) → Durable → Option ℕ → Durable → Type 0
+StoresOrNot found file file' x (Some n) y = AddsCase found file file' x n y
+StoresOrNot found file file' x None y = y ≡ x
+
+pub record StoreCourse (D : Type 0) : Type 0 where
+  pub begin : Moment D
+  -- by which room is made, if it is, and what is told of it
+  pub policy : Option Policy
+  pub told : List ℕ
+  pub room : Moment D
+  -- when the bytes of FILE are taken
+  pub filled : Moment D
+  -- the replies to the stream, and the last of them, to its end
+  pub replies : List ℕ
+  pub reply : List ℕ
+  pub stored : Option ℕ
+  pub ended : Moment D
+  pub labels : List ℕ
+  pub end : Moment D
+
+-- Each step does what it says, from what the archive held before it, or is refused and changes nothing.
+pub record IsStoreCourse {D : Type 0} (asked : Option Policy) (found : Result StreamFacts (List ℕ)) (label : Option (List ℕ)) (file file' : Option (List ℕ)) (c : StoreCourse D) : Type 0 where
+  pub clear : c.begin.in_doubt ≡ []
+  pub chosen : (c.policy ≡ asked) ⊎ (c.policy ≡ None)
+  pub makes_room : LeadsOn [] c.begin (said_room c.policy) c.told c.room
+  -- taking bytes changes no case
+  pub same : c.filled.holds ≡ c.room.holds
+  pub same_doubt : c.filled.in_doubt ≡ c.room.in_doubt
+  pub stores : StoresOrNot found file file' c.room.holds c.stored c.ended.holds
+  -- only where the end is answered `no Disk` is a case in doubt
+  pub doubts : List Durable
+  pub in_doubt : c.ended.in_doubt ≡ doubts ++ c.room.in_doubt
+  pub doubted : (doubts ≡ []) ⊎ ((c.reply ≡ no_reply (codes "Disk")) × AllByRecursion (λ (z : Durable). (n : ℕ) × AddsCase found file file' c.room.holds n z) doubts)
+  pub gives_label : LeadsOn [] c.ended (said_label c.stored label) c.labels c.end
+
+-- on `Ok` all replies are written, and it is told whether the case is stored
+abbrev pub IsTold : {E : Type 0} → Result StoreOutcome E → Option ℕ → List ℕ → Type 0
+IsTold (Ok outcome) stored unwritten = (outcome.stored ≡ stored) × (unwritten ≡ [])
+IsTold (Err f) stored unwritten = Unit {0}
+
+-- The headline of a store over a disk, `before` it and `after` it.
+pub record IsStoreSafe {D : Type 0} (g : disk.Ghosts D) (t : Streams) (asked : Option Policy) (found : Result StreamFacts (List ℕ)) (label : Option (List ℕ)) (before after : D) (r : Result StoreOutcome LifeFault) : Type 0 where
+  pub course : StoreCourse D
+  -- it begins with exactly what the disk stands for
+  pub found_again : (x : Durable) → StandsFor (g.seen before) x → course.begin.holds ≡ x
+  pub is : IsStoreCourse asked found label t.input t.input' course
+  pub written : List ℕ
+  pub unwritten : List ℕ
+  pub appended : Appends t.taken t.taken' written
+  pub text : written ++ unwritten ≡ course.told ++ (course.replies ++ course.labels)
+  pub answered : IsTold r course.stored unwritten
+  -- a stop within the opening leaves what one before it could have left
+  pub opening : (left : List ℕ) → g.left_since after (g.clock before) left
+      → g.may_leave before left ⊎ FindsSince left course.begin (course.room ∷ course.filled ∷ course.ended ∷ course.end ∷ [])
+  pub safe : AreSafe g after course.begin (course.room ∷ course.filled ∷ course.ended ∷ course.end ∷ [])
+
+-- What a store promises of stops, over an honest disk. An opening that is refused leaves what reads give, and what a stop may
+-- leave, as they were.
+abbrev pub StoreHeadline : {D : Type 0} → disk.Ghosts D → Streams → Option Policy → Result StreamFacts (List ℕ) → Option (List ℕ) → D → Result StoreOutcome LifeFault → D → Type 0
+StoreHeadline g t asked found label before (Ok x) after = IsTrue (g.is_honest before) → IsStoreSafe g t asked found label before after (Ok x)
+StoreHeadline g t asked found label before (Err (life.Session f)) after = IsTrue (g.is_honest before) → IsStoreSafe g t asked found label before after (Err (life.Session f))
+StoreHeadline g t asked found label before (Err (life.Open f)) after =
+    IsTrue (g.is_honest before) → (g.seen after ≡ g.seen before) × ((left : List ℕ) → g.left_since after (g.clock before) left → g.may_leave before left)
+
+-- a stream that is begun has no bytes yet
+abbrev pub BeginsEmpty : Result StreamFacts (List ℕ) → Type 0
+BeginsEmpty (Ok stream) = stream.len ≡ 0
+BeginsEmpty (Err reason) = Unit {0}
+
+-- So it is of each store from an opening on.
+abbrev pub StoresAreCrashSafe : {D : Type 0} → disk.Ghosts D → Type 0
+StoresAreCrashSafe {D} g = (limit : ℕ) (t : Streams) (asked : Option Policy) (found : Result StreamFacts (List ℕ)) (label : Option (List ℕ)) (before after : D) (r : Result StoreOutcome LifeFault)
+    → BeginsEmpty found → LifeEnds g limit t before r after (StoresOver g asked found label t) → StoreHeadline g t asked found label before r after
