@@ -27,6 +27,13 @@ image_cases old new seq OutOfMemory step = ap (λ (b : ArchiveState). b.cases) s
 image_cases old new seq Disk step = ap (λ (b : ArchiveState). b.cases) step.2
 image_cases old new seq _ step = absurd step
 
+image_streams : (old new : ArchiveState) (seq : ℕ) (f : ArchiveFault) → ImageStep {T = Vec ℕ Global} old seq (Err f) new → (new.streams ≡ old.streams) ⊎ (new.stopped ≡ true)
+image_streams old new seq Stopped step = inl (ap (λ (b : ArchiveState). b.streams) step.1)
+image_streams old new seq NoCase step = inl (ap (λ (b : ArchiveState). b.streams) step.2)
+image_streams old new seq OutOfMemory step = inl (ap (λ (b : ArchiveState). b.streams) step.2)
+image_streams old new seq Disk step = inr (ap (λ (b : ArchiveState). b.stopped) step.2)
+image_streams old new seq _ step = absurd step
+
 image_halts : (old new : ArchiveState) (seq : ℕ) (f : ArchiveFault) → ImageStep {T = Vec ℕ Global} old seq (Err f) new → old.stopped ≡ true → new.stopped ≡ true
 image_halts old new seq Stopped step stopped = ap (λ (b : ArchiveState). b.stopped) step.1 ∙ stopped
 image_halts old new seq NoCase step stopped = ap (λ (b : ArchiveState). b.stopped) step.2 ∙ stopped
@@ -50,6 +57,7 @@ pub record Leaves {D : Type 0} (g : disk.Ghosts D) (old new : Parts D) : Type 0 
   pub stays : ChangesNoCase g old new
   pub halts : old.stopped ≡ true → new.stopped ≡ true
   pub cases : (state_of new).cases ≡ (state_of old).cases
+  pub streams : ((state_of new).streams ≡ (state_of old).streams) ⊎ ((state_of new).stopped ≡ true)
   pub images : IsTrue (g.is_honest old.disk) → (contents_of g.seen new).images ≡ (contents_of g.seen old).images
   pub taken : IsTrue (g.is_honest old.disk) → ((contents_of g.seen new).taken ≡ (contents_of g.seen old).taken) ⊎ (new.stopped ≡ true)
 
@@ -59,6 +67,7 @@ module _ {D : Type 0} (g : disk.Ghosts D) where
     stays = stays_as g old new is;
     halts = λ stopped. ap (λ (a : Parts D). a.stopped) is ∙ stopped;
     cases = ap (λ (a : Parts D). (state_of a).cases) is;
+    streams = inl (ap (λ (a : Parts D). (state_of a).streams) is);
     images = λ honest. ap (λ (a : Parts D). (contents_of g.seen a).images) is;
     taken = λ honest. inl (ap (λ (a : Parts D). (contents_of g.seen a).taken) is);
   }
@@ -68,6 +77,11 @@ module _ {D : Type 0} (g : disk.Ghosts D) where
     stays = stays_then g a b c first.stays second.stays;
     halts = λ stopped. second.halts (first.halts stopped);
     cases = second.cases ∙ first.cases;
+    streams =
+        ⊎_elim
+        (λ same. ⊎_elim (λ before. inl (same ∙ before)) (λ stopped. inr (second.halts stopped)) first.streams)
+        (λ stopped. inr stopped)
+        second.streams;
     images = λ honest. second.images (first.stays.honesty ∙ honest) ∙ first.images honest;
     taken = λ honest.
         ⊎_elim
@@ -81,6 +95,7 @@ module _ {D : Type 0} (g : disk.Ghosts D) where
     stays = looks.stays;
     halts = λ stopped. ap (λ (b : ArchiveState). b.stopped) looks.state ∙ stopped;
     cases = ap (λ (b : ArchiveState). b.cases) looks.state;
+    streams = inl (ap (λ (b : ArchiveState). b.streams) looks.state);
     images = λ honest. ap (λ (c : Contents). c.images) (looks.contents honest);
     taken = λ honest. inl (ap (λ (c : Contents). c.taken) (looks.contents honest));
   }
@@ -88,6 +103,7 @@ module _ {D : Type 0} (g : disk.Ghosts D) where
     stays = looks.stays;
     halts = image_halts (state_of old) (state_of new) seq f looks.step;
     cases = image_cases (state_of old) (state_of new) seq f looks.step;
+    streams = image_streams (state_of old) (state_of new) seq f looks.step;
     images = λ honest. unmoved_images (contents_of g.seen old) (contents_of g.seen new) f (looks.bytes honest);
     taken = λ honest.
         ⊎_elim (λ same. inl same) (λ is. inr (image_stops (state_of old) (state_of new) seq f looks.step is))

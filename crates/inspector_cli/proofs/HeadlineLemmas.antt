@@ -1,5 +1,5 @@
 -- A session is a course of lines, and each stop of the machine leaves what stands behind one of them.
-use Rattle.std.proofs.Common.{◌≡◌, ◌⊎◌, inl, inr, ⊎_elim, ℕ, zero, suc, true, false, List, [], ◌∷◌, ◌++◌, map, Option, Some, None, Result, Ok, Err, refl, sym, ap, subst, ◌∙◌}
+use Rattle.std.proofs.Common.{◌≡◌, ◌⊎◌, inl, inr, ⊎_elim, ℕ, zero, suc, true, false, List, [], ◌∷◌, ◌++◌, map, Option, Some, None, Result, Ok, Err, refl, sym, ap, subst, ◌∙◌, append_assoc}
 use Rattle.std.proofs.lemmas.Bool.{false≢true}
 use Rattle.std.proofs.lemmas.List.{append-nil}
 use Rattle.std.specs.Prelude.{codes, option_map, IsTrue}
@@ -13,6 +13,8 @@ use Rattle.intake.specs.Durable.{Durable, durable_of}
 use Rattle.intake.specs.Marks.{NothingElseIsLeft, IsRunOfMarks, IsMarkSettled, IsFoundSince}
 use Rattle.intake.specs.Parts.{Parts, state_of}
 use Rattle.intake.specs.Growth.{IsDiskFault}
+use Rattle.intake.specs.Slots.{stream_at}
+use Rattle.intake.specs.State.{StreamFacts}
 use Rattle.intake.specs.Step.{FinishStep}
 use Rattle.intake.specs.declared.faults.ArchiveFault.{ArchiveFault}
 use Rattle.stream_names.specs.declared.naming.Naming.{Naming}
@@ -32,13 +34,14 @@ use Rattle.inspector_cli.specs.Runs.{WholeIsARun, FrontIsARun}
 use Rattle.inspector_cli.specs.Session.{AnswersAll, AnswersWhole, IsItem, SessionEnds, Streams, spelled, Ending, complete, last_line, cut_part, said_last, last_stage, LastReplies, EndReplies, Truncates, DropsStreams}
 use Rattle.inspector_cli.specs.Stages.{Stage, Moves, MayLeave, IsFoundAfterAStop, mark_at, marks_of}
 use Rattle.inspector_cli.specs.Told.{Answer, Answers, Finishes, what_of, is_no, held_then, held_behind, parts_in}
-use Rattle.inspector_cli.specs.Headline.{IsAll, IsCrashSafe, SessionsAreCrashSafe, Leads, WouldLeave, Moment, Line, Course, LeadsOn, AllLead, IsCourse, FindsSince, AreSafe, last_moment, answer_of, moment_of}
-use Rattle.inspector_cli.proofs.ClearLemmas.{end_told}
+use Rattle.inspector_cli.specs.Headline.{begins_as, begun_then, begun_behind, begun_in, empty_stream, IsAll, IsCrashSafe, SessionsAreCrashSafe, Leads, WouldLeave, Moment, Line, Course, LeadsOn, AllLead, IsCourse, FindsSince, AreSafe, last_moment, answer_of, moment_of}
+use Rattle.inspector_cli.proofs.BegunLemmas.{IsBegun, then_begun}
+use Rattle.inspector_cli.proofs.ClearLemmas.{end_told, line_halts}
 use Rattle.inspector_cli.proofs.HeldLemmas.{IsHeld, taken_at, none_taken, opening_quiet}
 use Rattle.inspector_cli.proofs.SafeLemmas.{are_safe, leads_on, since_opening}
 use Rattle.inspector_cli.proofs.ToldLemmas.{session_told}
 use Rattle.inspector_cli.proofs.KeptLemmas.{LastingLaws}
-use Rattle.inspector_cli.proofs.FoundLemmas.{Stands, answer_stands, answers_stand}
+use Rattle.inspector_cli.proofs.FoundLemmas.{Stands, answer_stands}
 use Rattle.inspector_cli.proofs.StageLemmas.{begins_stays, truncates_stays, broken_stays}
 
 module _ {D : Type 0} (g : disk.Ghosts D) (naming : Naming) (lasts : LastingLaws g) (stays : (d : D) → IsTrue (g.is_honest d) → g.may_leave d (g.seen d)) where
@@ -46,7 +49,7 @@ module _ {D : Type 0} (g : disk.Ghosts D) (naming : Naming) (lasts : LastingLaws
   held a = durable_of g.seen a
 
   -- a refused line
-  refused : (earlier : List Answer) (what : Said) (reply reason : List ℕ) (x y : Durable) → reply ≡ no_reply reason → y ≡ x → Leads earlier what reply x y
+  refused : (earlier : List Answer) (what : Said) (reply reason : List ℕ) (x y : Durable) → reply ≡ no_reply reason → y ≡ x → Leads (begins_as naming) earlier what reply x y
   refused earlier what reply reason x y told same = inr (reason, told, same)
 
   same_archive : (old new : Parts D) → new ≡ old → held new ≡ held old
@@ -56,8 +59,14 @@ module _ {D : Type 0} (g : disk.Ghosts D) (naming : Naming) (lasts : LastingLaws
   parts_taken : (earlier : List Answer) (old : Parts D) (slot : ℕ) (taken : Taken) → IsHeld g slot old (parts_in slot earlier) → old.stopped ≡ false → taken_at g slot old ≡ Some taken.bytes → parts_in slot earlier ≡ Some taken.bytes
   parts_taken earlier old slot taken has runs is = ⊎_elim (λ stopped. absurd (false≢true (sym runs ∙ stopped))) (λ holds. sym holds ∙ is) has
 
-  pub line_leads : (earlier : List Answer) (old new : Parts D) (what : Said) (raw reply : List ℕ) → IsTrue (g.is_honest old.disk) → ((slot : ℕ) → what ≡ end_of slot → IsHeld g slot old (parts_in slot earlier))
-      → Replies g naming old what raw reply new → Leads earlier what reply (held old) (held new)
+  -- and so is how it began
+  begun_there : (earlier : List Answer) (old : Parts D) (slot : ℕ) (s : StreamFacts) → IsBegun slot (state_of old) (begun_in (begins_as naming) slot earlier) → old.stopped ≡ false → stream_at (state_of old).streams slot ≡ Some s
+      → begun_in (begins_as naming) slot earlier ≡ Some (empty_stream s)
+  begun_there earlier old slot s begun runs at =
+      ⊎_elim (λ stopped. absurd (false≢true (sym runs ∙ stopped))) (λ holds. sym holds ∙ ap (option_map empty_stream) at) begun
+
+  pub line_leads : (earlier : List Answer) (old new : Parts D) (what : Said) (raw reply : List ℕ) → IsTrue (g.is_honest old.disk) → ((slot : ℕ) → what ≡ end_of slot → IsHeld g slot old (parts_in slot earlier) × IsBegun slot (state_of old) (begun_in (begins_as naming) slot earlier))
+      → Replies g naming old what raw reply new → Leads (begins_as naming) earlier what reply (held old) (held new)
   line_leads earlier old new silence raw reply honest has r = inl (same_archive old new r.1)
   line_leads earlier old new bad_line raw reply honest has r = inl (same_archive old new r.1)
   line_leads earlier old new long_line raw reply honest has r = inl (same_archive old new r.1)
@@ -67,7 +76,7 @@ module _ {D : Type 0} (g : disk.Ghosts D) (naming : Naming) (lasts : LastingLaws
   line_leads earlier old new (end_of slot) raw reply honest has (stored, (Ok seq, call, told, is)) =
       let m = lasts.finish old new slot seq honest call in
       let taken : taken_at g slot old ≡ Some m.1.1.bytes = ap (option_map (λ (t : Taken). t.bytes)) m.1.3 in
-      inl (m.1.1.bytes, m.1.0, m.0, parts_taken earlier old slot m.1.1 (has slot refl) call.step.2.0 taken, told ∙ ap (λ (n : ℕ). end_reply (Ok n)) call.step.6, m.1.5)
+      inl (empty_stream m.1.0, m.1.0.len, m.0, m.1.1.bytes, begun_there earlier old slot m.1.0 (has slot refl).1 call.step.2.0 m.1.2, parts_taken earlier old slot m.1.1 (has slot refl).0 call.step.2.0 taken, told ∙ ap (λ (n : ℕ). end_reply (Ok n)) call.step.6, m.1.5)
   line_leads earlier old new (end_of slot) raw reply honest has (stored, (Err f, call, told, is)) =
       refused earlier (end_of slot) reply (reason_of f) (held old) (held new) told (lasts.refusals old new f honest (inl (slot, call)))
   line_leads earlier old new (drop_of slot) raw reply honest has r = inl (r.1.stays.durable honest)
@@ -101,11 +110,22 @@ module _ {D : Type 0} (g : disk.Ghosts D) (naming : Naming) (lasts : LastingLaws
       fault_runs (Ok seq) fault step = absurd fault
       fault_runs (Err f) fault step = (subst (λ (e : ArchiveFault). FinishStep (state_of old) slot (Err e) (state_of new)) fault step).1.0
 
-  pub line_would : (earlier : List Answer) (old new : Parts D) (what : Said) (raw reply : List ℕ) (x : Durable) → ((slot : ℕ) → what ≡ end_of slot → IsHeld g slot old (parts_in slot earlier))
-      → Replies g naming old what raw reply new → reply ≡ no_reply (codes "Disk") → MayLeave g old what x → WouldLeave earlier what (held old) x
+  pub line_would : (earlier : List Answer) (old new : Parts D) (what : Said) (raw reply : List ℕ) (x : Durable) → ((slot : ℕ) → what ≡ end_of slot → IsHeld g slot old (parts_in slot earlier) × IsBegun slot (state_of old) (begun_in (begins_as naming) slot earlier))
+      → Replies g naming old what raw reply new → reply ≡ no_reply (codes "Disk") → MayLeave g old what x → WouldLeave (begins_as naming) earlier what (held old) x
   line_would earlier old new (end_of slot) raw reply x has r told may =
-      let taken : taken_at g slot old ≡ Some may.1.1.bytes = ap (option_map (λ (t : Taken). t.bytes)) may.1.3 in
-      (end_reply (Ok (held old).next), (may.1.1.bytes, may.1.0, may.0, parts_taken earlier old slot may.1.1 (has slot refl) (ends_runs old new slot reply r.0 r.1 told) taken, refl, may.1.5))
+      let taken : taken_at g slot old ≡ Some may.1.1.bytes = ap (option_map (λ (t : Taken). t.bytes)) may.1.3 in (
+        end_reply (Ok (held old).next),
+        (
+          empty_stream may.1.0,
+          may.1.0.len,
+          may.0,
+          may.1.1.bytes,
+          begun_there earlier old slot may.1.0 (has slot refl).1 (ends_runs old new slot reply r.0 r.1 told) may.1.2,
+          parts_taken earlier old slot may.1.1 (has slot refl).0 (ends_runs old new slot reply r.0 r.1 told) taken,
+          refl,
+          may.1.5,
+        ),
+      )
   line_would earlier old new (delete_of seq) raw reply x has r told may = (ok_reply, (refl, may))
   line_would earlier old new (pin_of seq flag) raw reply x has r told may = (ok_reply, (refl, inl may))
   line_would earlier old new (label_of seq label) raw reply x has r told may = (ok_reply, (refl, inl may))
@@ -114,41 +134,41 @@ module _ {D : Type 0} (g : disk.Ghosts D) (naming : Naming) (lasts : LastingLaws
   line_would earlier old new _ raw reply x has r told may = absurd may
 
   -- where not all bytes of a part are there
-  cut_leads : (earlier : List Answer) (old new : Parts D) (what : Said) (raw reply : List ℕ) → IsTrue (g.is_honest old.disk) → Truncates g old what raw reply new → Leads earlier what reply (held old) (held new)
+  cut_leads : (earlier : List Answer) (old new : Parts D) (what : Said) (raw reply : List ℕ) → IsTrue (g.is_honest old.disk) → Truncates g old what raw reply new → Leads (begins_as naming) earlier what reply (held old) (held new)
   cut_leads earlier old new (part_of slot n) raw reply honest cut = inr (codes "Truncated", cut.5, (truncates_stays g old new (part_of slot n) raw reply cut).durable honest)
   cut_leads earlier old new _ raw reply honest cut = absurd cut
 
-  cut_would : (earlier : List Answer) (old new : Parts D) (what : Said) (raw reply : List ℕ) (x : Durable) → Truncates g old what raw reply new → MayLeave g old what x → WouldLeave earlier what (held old) x
+  cut_would : (earlier : List Answer) (old new : Parts D) (what : Said) (raw reply : List ℕ) (x : Durable) → Truncates g old what raw reply new → MayLeave g old what x → WouldLeave (begins_as naming) earlier what (held old) x
   cut_would earlier old new (part_of slot n) raw reply x cut may = absurd may
   cut_would earlier old new _ raw reply x cut may = absurd cut
 
-  module _ (earlier : List Answer) (old new : Parts D) (reply : List ℕ) (honest : IsTrue (g.is_honest old.disk)) (has : (slot : ℕ) → IsHeld g slot old (parts_in slot earlier)) where
-    last_leads : (what : Said) (n : ℕ) → LastReplies g naming n old what reply new → Leads earlier what reply (held old) (held new)
+  module _ (earlier : List Answer) (old new : Parts D) (reply : List ℕ) (honest : IsTrue (g.is_honest old.disk)) (has : (slot : ℕ) → IsHeld g slot old (parts_in slot earlier) × IsBegun slot (state_of old) (begun_in (begins_as naming) slot earlier)) where
+    last_leads : (what : Said) (n : ℕ) → LastReplies g naming n old what reply new → Leads (begins_as naming) earlier what reply (held old) (held new)
     last_leads what zero r = line_leads earlier old new what [] reply honest (λ slot is. has slot) r
     last_leads what (suc n) cut = cut_leads earlier old new what [] reply honest cut
 
-    last_would : (what : Said) (n : ℕ) (x : Durable) → LastReplies g naming n old what reply new → reply ≡ no_reply (codes "Disk") → MayLeave g old what x → WouldLeave earlier what (held old) x
+    last_would : (what : Said) (n : ℕ) (x : Durable) → LastReplies g naming n old what reply new → reply ≡ no_reply (codes "Disk") → MayLeave g old what x → WouldLeave (begins_as naming) earlier what (held old) x
     last_would what zero x r told may = line_would earlier old new what [] reply x (λ slot is. has slot) r told may
     last_would what (suc n) x cut told may = cut_would earlier old new what [] reply x cut may
 
-    end_leads : (e : Ending) → EndReplies g naming old e reply new → Leads earlier (said_last e) reply (held old) (held new)
+    end_leads : (e : Ending) → EndReplies g naming old e reply new → Leads (begins_as naming) earlier (said_last e) reply (held old) (held new)
     end_leads complete r = inl (same_archive old new r.1)
     end_leads (last_line line) r = last_leads (said line) (raw_length (said line)) r
     end_leads (cut_part line raw) cut = cut_leads earlier old new (said line) raw reply honest cut
 
-    end_would : (e : Ending) (x : Durable) → EndReplies g naming old e reply new → reply ≡ no_reply (codes "Disk") → MayLeave g old (said_last e) x → WouldLeave earlier (said_last e) (held old) x
+    end_would : (e : Ending) (x : Durable) → EndReplies g naming old e reply new → reply ≡ no_reply (codes "Disk") → MayLeave g old (said_last e) x → WouldLeave (begins_as naming) earlier (said_last e) (held old) x
     end_would complete x r told may = absurd may
     end_would (last_line line) x r told may = last_would (said line) (raw_length (said line)) x r told may
     end_would (cut_part line raw) x cut told may = cut_would earlier old new (said line) raw reply x cut may
 
-    finish_leads : (last : Said) → Finishes g naming old last reply new → Leads earlier last reply (held old) (held new)
+    finish_leads : (last : Said) → Finishes g naming old last reply new → Leads (begins_as naming) earlier last reply (held old) (held new)
     finish_leads last finishes =
-        ⊎_elim (λ e. subst (λ (w : Said). Leads earlier w reply (held old) (held new)) (sym e.1) (end_leads e.0 e.2))
-        (λ b. subst (λ (w : Said). Leads earlier w reply (held old) (held new)) (sym b.1) (inl ((broken_stays g old new b.0 b.3).durable honest))) finishes
+        ⊎_elim (λ e. subst (λ (w : Said). Leads (begins_as naming) earlier w reply (held old) (held new)) (sym e.1) (end_leads e.0 e.2))
+        (λ b. subst (λ (w : Said). Leads (begins_as naming) earlier w reply (held old) (held new)) (sym b.1) (inl ((broken_stays g old new b.0 b.3).durable honest))) finishes
 
-    finish_would : (last : Said) (x : Durable) → Finishes g naming old last reply new → reply ≡ no_reply (codes "Disk") → MayLeave g old last x → WouldLeave earlier last (held old) x
+    finish_would : (last : Said) (x : Durable) → Finishes g naming old last reply new → reply ≡ no_reply (codes "Disk") → MayLeave g old last x → WouldLeave (begins_as naming) earlier last (held old) x
     finish_would last x finishes told may =
-        ⊎_elim (λ e. subst (λ (w : Said). WouldLeave earlier w (held old) x) (sym e.1) (end_would e.0 x e.2 told (subst (λ (w : Said). MayLeave g old w x) e.1 may)))
+        ⊎_elim (λ e. subst (λ (w : Said). WouldLeave (begins_as naming) earlier w (held old) x) (sym e.1) (end_would e.0 x e.2 told (subst (λ (w : Said). MayLeave g old w x) e.1 may)))
         (λ b. absurd (subst (λ (w : Said). MayLeave g old w x) b.1 may)) finishes
 
   -- how things stand at a stage
@@ -157,20 +177,27 @@ module _ {D : Type 0} (g : disk.Ghosts D) (naming : Naming) (lasts : LastingLaws
 
   -- what each slot holds is told by the lines before
   abbrev AllStand : List Answer → Stage D → Type 0
-  AllStand earlier s = (slot : ℕ) → Stands g naming slot s (parts_in slot earlier)
+  AllStand earlier s = (slot : ℕ) → Stands g naming slot s (parts_in slot earlier) × IsBegun slot (state_of s.archive) (begun_in (begins_as naming) slot earlier)
 
   behind_then : (slot : ℕ) (o : Option (List ℕ)) (list : List Answer) (a : Answer) → held_behind slot o (list ++ a ∷ []) ≡ held_then slot (what_of a) a.item.raw (is_no a.reply) (held_behind slot o list)
   behind_then slot o [] a = refl
   behind_then slot o (b ∷ list) a = behind_then slot (held_then slot (what_of b) b.item.raw (is_no b.reply) o) list a
 
+  begun_on : (slot : ℕ) (o : Option StreamFacts) (list : List Answer) (a : Answer) → begun_behind (begins_as naming) slot o (list ++ a ∷ []) ≡ begun_then (begins_as naming) slot (what_of a) (is_no a.reply) (begun_behind (begins_as naming) slot o list)
+  begun_on slot o [] a = refl
+  begun_on slot o (b ∷ list) a = begun_on slot (begun_then (begins_as naming) slot (what_of b) (is_no b.reply) o) list a
+
   stands_then : (earlier : List Answer) (old new : Stage D) (a : Answer) → AllStand earlier old → Replies g naming old.archive (what_of a) a.item.raw a.reply new.archive → Moves g old (what_of a) a.reply new → AllStand (earlier ++ a ∷ []) new
-  stands_then earlier old new a stands r moves slot =
-      subst (λ (o : Option (List ℕ)). Stands g naming slot new o) (sym (behind_then slot None earlier a)) (answer_stands g naming slot old new a (parts_in slot earlier) (stands slot) r moves)
+  stands_then earlier old new a stands r moves slot = (
+    subst (λ (o : Option (List ℕ)). Stands g naming slot new o) (sym (behind_then slot None earlier a)) (answer_stands g naming slot old new a (parts_in slot earlier) (stands slot).0 r moves),
+    subst (λ (o : Option StreamFacts). IsBegun slot (state_of new.archive) o) (sym (begun_on slot None earlier a))
+        (then_begun g slot naming old.archive new.archive (what_of a) a.item.raw a.reply (begun_in (begins_as naming) slot earlier) (line_halts g naming old.archive new.archive (what_of a) a.item.raw a.reply r).0 r (stands slot).1),
+  )
 
   abbrev pub lines_of : List Answer → List (Stage D) → List (Line D)
   lines_of [] ss = []
   lines_of (a ∷ list) [] = []
-  lines_of (a ∷ list) (s ∷ ss) = record { answer = a; then = moment_at s } ∷ lines_of list ss
+  lines_of (a ∷ list) (s ∷ ss) = record { answer = a; after = moment_at s } ∷ lines_of list ss
 
   answers_are : (old : Stage D) (list : List Answer) (ss : List (Stage D)) → Answers g naming old list ss → map answer_of (lines_of list ss) ≡ list
   answers_are old [] [] run = refl
@@ -190,19 +217,23 @@ module _ {D : Type 0} (g : disk.Ghosts D) (naming : Naming) (lasts : LastingLaws
   last_is old (a ∷ list) [] run = absurd run
   last_is old (a ∷ list) (s ∷ ss) run = last_is s list ss run.2
 
-  all_lead : (earlier : List Answer) (old : Stage D) (list : List Answer) (ss : List (Stage D)) → AllStand earlier old → Answers g naming old list ss → AllLead earlier (moment_at old) (lines_of list ss)
+  all_lead : (earlier : List Answer) (old : Stage D) (list : List Answer) (ss : List (Stage D)) → AllStand earlier old → Answers g naming old list ss → AllLead (begins_as naming) earlier (moment_at old) (lines_of list ss)
   all_lead earlier old [] [] stands run = tt
   all_lead earlier old [] (s ∷ ss) stands run = absurd run
   all_lead earlier old (a ∷ list) [] stands run = absurd run
   all_lead earlier old (a ∷ list) (s ∷ ss) stands run = (
-    leads_on g earlier old s (what_of a) a.reply
-        (line_leads earlier old.archive s.archive (what_of a) a.item.raw a.reply (stands 0).honest (λ slot is. (stands slot).has) run.0)
-        (λ x told may. line_would earlier old.archive s.archive (what_of a) a.item.raw a.reply x (λ slot is. (stands slot).has) run.0 told may) run.1,
+    leads_on g (begins_as naming) earlier old s (what_of a) a.reply
+        (line_leads earlier old.archive s.archive (what_of a) a.item.raw a.reply (stands 0).0.honest (λ slot is. ((stands slot).0.has, (stands slot).1)) run.0)
+        (λ x told may. line_would earlier old.archive s.archive (what_of a) a.item.raw a.reply x (λ slot is. ((stands slot).0.has, (stands slot).1)) run.0 told may) run.1,
     all_lead (earlier ++ a ∷ []) s list ss (stands_then earlier old s a stands run.0 run.1) run.2,
   )
 
-  all_stand : (old : Stage D) (list : List Answer) (ss : List (Stage D)) → AllStand [] old → Answers g naming old list ss → AllStand list (last_stage old ss)
-  all_stand old list ss stands run slot = answers_stand g naming slot old list ss None (stands slot) run
+  all_stand : (earlier : List Answer) (old : Stage D) (list : List Answer) (ss : List (Stage D)) → AllStand earlier old → Answers g naming old list ss → AllStand (earlier ++ list) (last_stage old ss)
+  all_stand earlier old [] [] stands run = subst (λ (x : List Answer). AllStand x old) (sym (append-nil earlier)) stands
+  all_stand earlier old [] (s ∷ ss) stands run = absurd run
+  all_stand earlier old (a ∷ list) [] stands run = absurd run
+  all_stand earlier old (a ∷ list) (s ∷ ss) stands run =
+      subst (λ (x : List Answer). AllStand x (last_stage s ss)) (append_assoc earlier (a ∷ []) list) (all_stand (earlier ++ a ∷ []) s list ss (stands_then earlier old s a stands run.0 run.1) run.2)
 
   -- a session from its first stage on
   module _ (old end : Stage D) (closed : Parts D) (list : List Answer) (ss : List (Stage D)) (last : Said) (reply : List ℕ) (answered : Answers g naming old list ss) (finishes : Finishes g naming (last_stage old ss).archive last reply end.archive)
@@ -210,24 +241,24 @@ module _ {D : Type 0} (g : disk.Ghosts D) (naming : Naming) (lasts : LastingLaws
     abbrev pub course : Course D
     course = record { begin = moment_at old; lines = lines_of list ss; last = last; reply = reply; end = moment_at end }
 
-    pub is_course : old.in_doubt ≡ [] → IsCourse course
+    pub is_course : old.in_doubt ≡ [] → IsCourse (begins_as naming) course
     is_course clear =
-        let here = all_stand old list ss stands answered in
+        let here = all_stand [] old list ss stands answered in
         let ends =
-        leads_on g list (last_stage old ss) end last reply
-        (finish_leads list (last_stage old ss).archive end.archive reply (here 0).honest (λ slot. (here slot).has) last finishes)
-        (λ x told may. finish_would list (last_stage old ss).archive end.archive reply (here 0).honest (λ slot. (here slot).has) last x finishes told may) moves
+        leads_on g (begins_as naming) list (last_stage old ss) end last reply
+        (finish_leads list (last_stage old ss).archive end.archive reply (here 0).0.honest (λ slot. ((here slot).0.has, (here slot).1)) last finishes)
+        (λ x told may. finish_would list (last_stage old ss).archive end.archive reply (here 0).0.honest (λ slot. ((here slot).0.has, (here slot).1)) last x finishes told may) moves
         in
         record {
           clear = clear;
           lines = all_lead [] old list ss stands answered;
           last =
-              subst (λ (x : List Answer). LeadsOn x (last_moment (moment_at old) (lines_of list ss)) last reply (moment_at end)) (sym (answers_are old list ss answered))
-              (subst (λ (m : Moment D). LeadsOn list m last reply (moment_at end)) (sym (last_is old list ss answered)) ends);
+              subst (λ (x : List Answer). LeadsOn (begins_as naming) x (last_moment (moment_at old) (lines_of list ss)) last reply (moment_at end)) (sym (answers_are old list ss answered))
+              (subst (λ (m : Moment D). LeadsOn (begins_as naming) list m last reply (moment_at end)) (sym (last_is old list ss answered)) ends);
         }
 
     honest_end : IsTrue (g.is_honest end.archive.disk)
-    honest_end = moves.passes.honesty ∙ (all_stand old list ss stands answered 0).honest
+    honest_end = moves.passes.honesty ∙ (all_stand [] old list ss stands answered 0).0.honest
 
     abbrev pub later : List (Moment D)
     later = map moment_of (lines_of list ss) ++ moment_at end ∷ []
@@ -237,12 +268,12 @@ module _ {D : Type 0} (g : disk.Ghosts D) (naming : Naming) (lasts : LastingLaws
 
     pub session_safe : IsMarkSettled g (mark_at g.seen old) → IsRunOfMarks g (mark_at g.seen old) (marks_of g.seen ss end closed) → IsFoundSince g (mark_at g.seen old) (marks_of g.seen ss end closed)
         → AreSafe g closed.disk (moment_at old) later
-    session_safe settled run found = subst (AreSafe g closed.disk (moment_at old)) later_is (are_safe g stays end closed honest_end closes old ss (stands 0).honest settled run found)
+    session_safe settled run found = subst (AreSafe g closed.disk (moment_at old)) later_is (are_safe g stays end closed honest_end closes old ss (stands 0).0.honest settled run found)
 
     pub opening_safe : NothingElseIsLeft g → IsRunOfMarks g (mark_at g.seen old) (marks_of g.seen ss end closed) → (before : D) → LeavesOnly g before old.archive.disk (g.may_leave before)
         → (left : List ℕ) → g.left_since closed.disk (g.clock before) left → g.may_leave before left ⊎ FindsSince left (moment_at old) later
     opening_safe law run before leaves left was =
-        ⊎_elim inl (λ found. inr (subst (FindsSince left (moment_at old)) later_is found)) (since_opening g stays end closed honest_end closes law old ss (stands 0).honest run before leaves left was)
+        ⊎_elim inl (λ found. inr (subst (FindsSince left (moment_at old)) later_is found)) (since_opening g stays end closed honest_end closes law old ss (stands 0).0.honest run before leaves left was)
 
 -- the three ways in which a session that was opened ends: its text
 module _ {D : Type 0} (g : disk.Ghosts D) (lasts : LastingLaws g) (stays : (d : D) → IsTrue (g.is_honest d) → g.may_leave d (g.seen d)) (nothing_else : NothingElseIsLeft g) (whole_run : WholeIsARun g) (front_run : FrontIsARun g) (limit : ℕ) (naming : Naming) (t : Streams) (before after : D) (opened closed : Parts D)
@@ -250,12 +281,15 @@ module _ {D : Type 0} (g : disk.Ghosts D) (lasts : LastingLaws g) (stays : (d : 
   abbrev first : Stage D
   first = record { archive = opened; in_doubt = [] }
 
-  begins : (slot : ℕ) → Stands g naming slot first (parts_in slot [])
-  begins slot = record {
-    honest = opening.honesty ∙ honest;
-    clear = λ runs. refl;
-    has = inr (ap (option_map (λ (k : Taken). k.bytes)) (none_taken g slot opened slot (opening_quiet limit opened opening.state slot)));
-  }
+  begins : (slot : ℕ) → Stands g naming slot first (parts_in slot []) × IsBegun slot (state_of opened) (begun_in (begins_as naming) slot [])
+  begins slot = (
+    record {
+      honest = opening.honesty ∙ honest;
+      clear = λ runs. refl;
+      has = inr (ap (option_map (λ (k : Taken). k.bytes)) (none_taken g slot opened slot (opening_quiet limit opened opening.state slot)));
+    },
+    inr (ap (option_map empty_stream) (opening_quiet limit opened opening.state slot)),
+  )
 
   module _ (r : Result (Unit {0}) LifeFault) (read more written unwritten : List ℕ) (stages : List (Stage D)) (end : Stage D) (consumed : Consumes t.input t.input' (read ++ more)) (appended : Appends t.taken t.taken' written)
       (answers : AnswersAll g naming read (written ++ unwritten) first stages end ⊎ AnswersWhole g naming read (written ++ unwritten) first stages end) (drops : DropsStreams g end.archive closed) (found : IsFoundAfterAStop g first stages end closed)
@@ -263,7 +297,7 @@ module _ {D : Type 0} (g : disk.Ghosts D) (lasts : LastingLaws g) (stays : (d : 
     run : IsRunOfMarks g (mark_at g.seen first) (marks_of g.seen stages end closed)
     run = ⊎_elim (λ a. whole_run naming read (written ++ unwritten) first stages end closed a drops) (λ a. front_run naming read (written ++ unwritten) first stages end closed a drops) answers
 
-    pub crash_safe : IsCrashSafe (Unit {0}) LifeFault g t before after r
+    pub crash_safe : IsCrashSafe (Unit {0}) LifeFault g naming t before after r
     crash_safe =
         let told = session_told g naming read (written ++ unwritten) first stages end closed answers drops in
         let is = told.3 in
@@ -305,7 +339,7 @@ module _ {D : Type 0} (g : disk.Ghosts D) (lasts : LastingLaws g) (stays : (d : 
   life_of (Ok u) = Ok u
   life_of (Err f) = Err (life.Session f)
 
-  pub ended_safe : (r : Result (Unit {0}) SessionFault) → SessionEnds g naming t first closed r → IsCrashSafe (Unit {0}) LifeFault g t before after (life_of r)
+  pub ended_safe : (r : Result (Unit {0}) SessionFault) → SessionEnds g naming t first closed r → IsCrashSafe (Unit {0}) LifeFault g naming t before after (life_of r)
   ended_safe (Ok u) e =
       crash_safe (Ok u) e.0 [] e.1 [] e.2 e.3 (nothing_more t.input t.input' e.0 e.4) e.6
       (inl (whole_text e.1 (λ (x : List ℕ). AnswersAll g naming e.0 x first e.2 e.3) e.7)) e.8 e.9 (refl, e.5, refl)

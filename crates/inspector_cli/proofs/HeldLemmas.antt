@@ -23,13 +23,13 @@ use Rattle.inspector_cli.proofs.ClearLemmas.{finish_stops, delete_stops, pin_sto
 use Rattle.inspector_cli.proofs.SlotLemmas.{at_set, at_mapped}
 
 -- a slot that is set, and another one
-same_set : {X : Type 0} (xs : List (Option X)) (s slot : ℕ) (o : Option X) → s ≡ slot → s < length xs → stream_at (slice_set xs s o) slot ≡ o
+pub same_set : {X : Type 0} (xs : List (Option X)) (s slot : ℕ) (o : Option X) → s ≡ slot → s < length xs → stream_at (slice_set xs s o) slot ≡ o
 same_set xs s slot o is below = subst (λ (j : ℕ). stream_at (slice_set xs s o) j ≡ o) is (get_or-set_same xs s o None below)
 
-other_set : {X : Type 0} (xs : List (Option X)) (s slot : ℕ) (o : Option X) → s ≢ slot → stream_at (slice_set xs s o) slot ≡ stream_at xs slot
+pub other_set : {X : Type 0} (xs : List (Option X)) (s slot : ℕ) (o : Option X) → s ≢ slot → stream_at (slice_set xs s o) slot ≡ stream_at xs slot
 other_set xs s slot o apart = get_or-set_other xs s slot o None (λ is. apart (sym is))
 
-cleared : {X : Type 0} (xs : List (Option X)) (s : ℕ) → stream_at (slice_set xs s None) s ≡ None
+pub cleared : {X : Type 0} (xs : List (Option X)) (s : ℕ) → stream_at (slice_set xs s None) s ≡ None
 cleared [] s = refl
 cleared (x ∷ xs) zero = refl
 cleared (x ∷ xs) (suc s) = cleared xs s
@@ -39,7 +39,7 @@ none_of f None is = refl
 none_of f (Some x) is = cc
 
 -- one of two by whether the slots are the same
-chosen : (s slot : ℕ) (P : Option (List ℕ) → Type 0) (a b : Option (List ℕ)) → (s ≡ slot → P a) → (s ≢ slot → P b) → P (cond (s == slot) a b)
+pub chosen : {Y : Type 0} (s slot : ℕ) (P : Y → Type 0) (a b : Y) → (s ≡ slot → P a) → (s ≢ slot → P b) → P (cond (s == slot) a b)
 chosen s slot P a b same other =
     ⊎_elim (λ h. subst (λ (t : Bool). P (cond t a b)) (sym h.0) (same h.1)) (λ h. subst (λ (t : Bool). P (cond t a b)) (sym h.0) (other h.1)) (eqb_tells s slot)
 

@@ -22,3 +22,4 @@ pub mod RoomMadeLemmas
 pub mod HeadlineLemmas
 pub mod SafeLemmas
 pub mod StoreHeadLemmas
+pub mod BegunLemmas

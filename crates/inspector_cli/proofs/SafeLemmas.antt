@@ -1,5 +1,5 @@
 -- Each stop of the machine leaves what stood behind a stage, or a later one.
-use Rattle.std.proofs.Common.{◌≡◌, ◌⊎◌, inl, inr, ⊎_elim, ℕ, List, [], ◌∷◌, ◌++◌, map, refl, sym, subst, ◌∙◌}
+use Rattle.std.proofs.Common.{◌≡◌, ◌⊎◌, inl, inr, ⊎_elim, ℕ, List, [], ◌∷◌, ◌++◌, map, Option, refl, sym, subst, ◌∙◌}
 use Rattle.std.specs.Prelude.{codes, IsTrue}
 use Rattle.std.specs.List.{AllByRecursion}
 use Rattle.disk_model.specs.Moments.{LeavesOnly}
@@ -8,6 +8,7 @@ use Rattle.intake.specs.Calls.{ChangesNoCase}
 use Rattle.intake.specs.Durable.{Durable, durable_of}
 use Rattle.intake.specs.Marks.{Mark, NothingElseIsLeft, IsRunOfMarks, IsMarkSettled, IsFoundFrom, IsFoundSince, FindsMark, FindsOne, mark_of, last_of}
 use Rattle.intake.specs.Parts.{Parts}
+use Rattle.intake.specs.State.{StreamFacts}
 use Rattle.script_lines.specs.Said.{Said}
 use Rattle.script_streams.specs.Replies.{no_reply}
 use Rattle.inspector_cli.specs.declared.session.LifeFault.TheVariants as life
@@ -19,15 +20,15 @@ use Rattle.inspector_cli.specs.Headline.{Leads, WouldLeave, Moment, LeadsOn, Fin
 abbrev pub moment : {D : Type 0} → disk.Ghosts D → Stage D → Moment D
 moment g s = record { disk = s.archive.disk; holds = durable_of g.seen s.archive; in_doubt = s.in_doubt }
 
-module _ {D : Type 0} (g : disk.Ghosts D) (earlier : List Answer) (old new : Stage D) (what : Said) (reply : List ℕ) where
-  all_would : ((x : Durable) → reply ≡ no_reply (codes "Disk") → MayLeave g old.archive what x → WouldLeave earlier what (durable_of g.seen old.archive) x)
-      → (xs : List Durable) → reply ≡ no_reply (codes "Disk") → AllByRecursion (MayLeave g old.archive what) xs → AllByRecursion (WouldLeave earlier what (durable_of g.seen old.archive)) xs
+module _ {D : Type 0} (g : disk.Ghosts D) (begins : Said → Option StreamFacts) (earlier : List Answer) (old new : Stage D) (what : Said) (reply : List ℕ) where
+  all_would : ((x : Durable) → reply ≡ no_reply (codes "Disk") → MayLeave g old.archive what x → WouldLeave begins earlier what (durable_of g.seen old.archive) x)
+      → (xs : List Durable) → reply ≡ no_reply (codes "Disk") → AllByRecursion (MayLeave g old.archive what) xs → AllByRecursion (WouldLeave begins earlier what (durable_of g.seen old.archive)) xs
   all_would would [] told all = tt
   all_would would (x ∷ xs) told all = (would x told all.0, all_would would xs told all.1)
 
   -- a line leads from moment to moment
-  pub leads_on : Leads earlier what reply (durable_of g.seen old.archive) (durable_of g.seen new.archive)
-      → ((x : Durable) → reply ≡ no_reply (codes "Disk") → MayLeave g old.archive what x → WouldLeave earlier what (durable_of g.seen old.archive) x) → Moves g old what reply new → LeadsOn earlier (moment g old) what reply (moment g new)
+  pub leads_on : Leads begins earlier what reply (durable_of g.seen old.archive) (durable_of g.seen new.archive)
+      → ((x : Durable) → reply ≡ no_reply (codes "Disk") → MayLeave g old.archive what x → WouldLeave begins earlier what (durable_of g.seen old.archive) x) → Moves g old what reply new → LeadsOn begins earlier (moment g old) what reply (moment g new)
   leads_on leads would moves = record {
     leads = leads;
     doubts = moves.doubts;

@@ -36,7 +36,7 @@ use Rattle.inspector_cli.specs.Headline.{AreSafe, FindsSince, Leads, WouldLeave}
 use Rattle.inspector_cli.specs.Reply.{Begins, Takes}
 use Rattle.inspector_cli.specs.Session.{Streams}
 use Rattle.inspector_cli.specs.Stages.{Stage, Moves, MayLeave, mark_at, marks_of}
-use Rattle.inspector_cli.specs.StoreHeadline.{AddsCase, StoresOrNot, StoreCourse, IsStoreCourse, IsTold, IsStoreSafe, StoresAreCrashSafe, BeginsEmpty}
+use Rattle.inspector_cli.specs.StoreHeadline.{AddsCase, StoresOrNot, StoreCourse, IsStoreCourse, IsTold, IsStoreSafe, StoresAreCrashSafe, BeginsEmpty, no_stream}
 use Rattle.inspector_cli.specs.Storing.{TakesFile, FileReplies, RestReplies, MakesRoom, IsChosen, LabelsCase, Stores, StoreEnds, said_room, said_label}
 use Rattle.inspector_cli.proofs.KeptLemmas.{LastingLaws}
 use Rattle.inspector_cli.proofs.SafeLemmas.{are_safe, leads_on, moment, since_opening}
@@ -171,23 +171,23 @@ module _ {D : Type 0} (g : disk.Ghosts D) (lasts : LastingLaws g) where
             (lasts.refusals filled ended f here (inl (0, call)) ∙ sym same)
 
   -- a line is carried out, or refused
-  room_leads : (old new : Parts D) (policy : Option Policy) (told : List ℕ) (made : Bool) → IsTrue (g.is_honest old.disk) → MakesRoom g old policy told new made → Leads [] (said_room policy) told (durable_of g.seen old) (durable_of g.seen new)
+  room_leads : (old new : Parts D) (policy : Option Policy) (told : List ℕ) (made : Bool) → IsTrue (g.is_honest old.disk) → MakesRoom g old policy told new made → Leads no_stream [] (said_room policy) told (durable_of g.seen old) (durable_of g.seen new)
   room_leads old new None told made honest makes = inl (ap (durable_of g.seen) makes.1)
   room_leads old new (Some policy) told made honest ((Ok d, call, is), done) = inl (d.dropped.items, d.unmet, is, lasts.retire old new policy d honest call)
   room_leads old new (Some policy) told made honest ((Err f, call, is), done) = inr (reason_of f, is, lasts.refusals old new f honest (inr (inr (inr (inl (policy, call))))))
 
-  room_would : (old : Parts D) (policy : Option Policy) (x : Durable) → MayLeave g old (said_room policy) x → WouldLeave [] (said_room policy) (durable_of g.seen old) x
+  room_would : (old : Parts D) (policy : Option Policy) (x : Durable) → MayLeave g old (said_room policy) x → WouldLeave no_stream [] (said_room policy) (durable_of g.seen old) x
   room_would old None x may = absurd may
   room_would old (Some policy) x may = (_, (may.0, may.1, refl, may.3))
 
   label_leads : (old new : Parts D) (stored : Option ℕ) (label : Option (List ℕ)) (told : List ℕ) (done : Bool) → IsTrue (g.is_honest old.disk) → LabelsCase g old stored label told new done
-      → Leads [] (said_label stored label) told (durable_of g.seen old) (durable_of g.seen new)
+      → Leads no_stream [] (said_label stored label) told (durable_of g.seen old) (durable_of g.seen new)
   label_leads old new (Some seq) (Some label) told done honest ((Ok u, call, is), did) = inl (is, ⊎_elim (λ same. inr same.1) (λ set. inl set.1) (lasts.label old new seq label u honest call).2)
   label_leads old new (Some seq) (Some label) told done honest ((Err f, call, is), did) = inr (reason_of f, is, lasts.refusals old new f honest (inr (inr (inr (inr (inl (seq, label, call)))))))
   label_leads old new (Some seq) None told done honest labels = inl (ap (durable_of g.seen) labels.1)
   label_leads old new None label told done honest labels = inl (ap (durable_of g.seen) labels.1)
 
-  label_would : (old : Parts D) (stored : Option ℕ) (label : Option (List ℕ)) (x : Durable) → MayLeave g old (said_label stored label) x → WouldLeave [] (said_label stored label) (durable_of g.seen old) x
+  label_would : (old : Parts D) (stored : Option ℕ) (label : Option (List ℕ)) (x : Durable) → MayLeave g old (said_label stored label) x → WouldLeave no_stream [] (said_label stored label) (durable_of g.seen old) x
   label_would old (Some seq) (Some label) x may = (ok_reply, (refl, inl may))
   label_would old (Some seq) None x may = absurd may
   label_would old None label x may = absurd may
@@ -273,7 +273,7 @@ module _ {D : Type 0} (g : disk.Ghosts D) (lasts : LastingLaws g) (laws : Laws g
       clear = refl;
       chosen = is_chosen (state_of opened) asked found s.makes_room.policy s.makes_room.chosen;
       makes_room =
-          leads_on g [] first room (said_room s.makes_room.policy) s.told (room_leads g lasts opened s.room s.makes_room.policy s.told outcome.made_room there s.makes_room.makes_room)
+          leads_on g no_stream [] first room (said_room s.makes_room.policy) s.told (room_leads g lasts opened s.room s.makes_room.policy s.told outcome.made_room there s.makes_room.makes_room)
           (λ x disk may. room_would g lasts opened s.makes_room.policy x may) room_made.1;
       same = stored.takes.durable room_honest;
       same_doubt = refl;
@@ -282,7 +282,7 @@ module _ {D : Type 0} (g : disk.Ghosts D) (lasts : LastingLaws g) (laws : Laws g
       in_doubt = stored.moves.in_doubt;
       doubted = stored.doubted;
       gives_label =
-          leads_on g [] ended last (said_label outcome.stored label) s.last (label_leads g lasts s.ended end outcome.stored label s.last outcome.labelled ended_honest s.labels)
+          leads_on g no_stream [] ended last (said_label outcome.stored label) s.last (label_leads g lasts s.ended end outcome.stored label s.last outcome.labelled ended_honest s.labels)
           (λ x disk may. label_would g lasts s.ended outcome.stored label x may) labelled.1;
     }
 

@@ -1,42 +1,72 @@
 -- The headline: what a session does, told by its lines, and what a stop of the machine leaves of it. Beside what stands here a
 -- reader needs what bytes stand for (`StandsFor`), what an archive holds (`Durable`), and what a line says (`Said`).
-use Rattle.std.specs.Prelude.{◌≡◌, ◌⊎◌, ℕ, Bool, List, [], ◌∷◌, ◌++◌, map, Option, Some, Result, Ok, Err, IsTrue, codes}
+use Rattle.std.specs.Prelude.{◌≡◌, ◌⊎◌, ℕ, ◌==◌, Bool, List, [], ◌∷◌, ◌++◌, map, Option, None, Some, option_map, Result, Ok, Err, IsTrue, codes, if◌then◌else◌}
+use Rattle.std.specs.Result.{result_ok}
 use Rattle.std.specs.List.{flat_map, AllByRecursion}
 use Rattle.std.specs.Io.KnownBytes.{Consumes, Appends, IsAtEnd}
 use Rattle.disk_model.specs.declared.disk.Disk as disk
 use Rattle.intake.specs.Durable.{Durable, StandsFor, without, flagged, labelled, upgraded, with_case}
 use Rattle.intake.specs.Marks.{IsOneOf}
 use Rattle.intake.specs.State.{StreamFacts}
+use Rattle.stream_names.specs.Streams.{exec_stream, core_stream}
 use Rattle.stream_names.specs.declared.naming.Naming.{Naming}
-use Rattle.script_lines.specs.Said.{Said, end_of, delete_of, pin_of, label_of, retire_by, upgrade_archive}
+use Rattle.script_lines.specs.Said.{Said, begin_exec, begin_core, part_of, drop_of, end_of, delete_of, pin_of, label_of, retire_by, upgrade_archive}
 use Rattle.script_streams.specs.Replies.{no_reply, ok_reply}
 use Rattle.archive_replies.specs.Texts.{end_reply, dropped_line, unmet_line}
 use Rattle.inspector_cli.specs.declared.session.LifeFault.{LifeFault}
 use Rattle.inspector_cli.specs.declared.session.LifeFault.TheVariants as life
 use Rattle.inspector_cli.specs.Life.{LifeEnds, RunsOver}
 use Rattle.inspector_cli.specs.Session.{Item, IsItem, Streams, spelled}
-use Rattle.inspector_cli.specs.Told.{Answer, what_of, parts_in}
+use Rattle.inspector_cli.specs.Told.{Answer, what_of, is_no, parts_in}
+
+-- a stream as it began, with no bytes
+abbrev pub empty_stream : StreamFacts → StreamFacts
+empty_stream s = record s { len = 0 }
+
+-- the stream that a line begins, with no bytes yet
+abbrev pub begins_as : Naming → Said → Option StreamFacts
+begins_as naming (begin_exec slot name) = option_map empty_stream (result_ok (exec_stream name))
+begins_as naming (begin_core slot process) = option_map empty_stream (result_ok (core_stream naming process))
+begins_as naming _ = None
+
+-- what stands in a slot after a command, by the reply to it: the stream as it began
+abbrev pub begun_then : (Said → Option StreamFacts) → ℕ → Said → Bool → Option StreamFacts → Option StreamFacts
+begun_then begins slot (begin_exec s name) refused o = if s == slot then (if refused then o else begins (begin_exec s name)) else o
+begun_then begins slot (begin_core s process) refused o = if s == slot then (if refused then o else begins (begin_core s process)) else o
+begun_then begins slot (part_of s n) refused o = if s == slot then (if refused then None else o) else o
+begun_then begins slot (end_of s) refused o = if s == slot then None else o
+begun_then begins slot (drop_of s) refused o = if s == slot then None else o
+begun_then begins slot _ refused o = o
+
+abbrev pub begun_behind : (Said → Option StreamFacts) → ℕ → Option StreamFacts → List Answer → Option StreamFacts
+begun_behind begins slot o [] = o
+begun_behind begins slot o (a ∷ list) = begun_behind begins slot (begun_then begins slot (what_of a) (is_no a.reply) o) list
+
+-- the stream that stands in a slot after these commands, as it began, where none did before them
+abbrev pub begun_in : (Said → Option StreamFacts) → ℕ → List Answer → Option StreamFacts
+begun_in begins slot list = begun_behind begins slot None list
 
 -- What a line that is carried out does to what the archive holds, x before it and y after it. `earlier` are the lines before it:
--- the image of a case is the bytes of its parts.
-abbrev pub Does : List Answer → Said → List ℕ → Durable → Durable → Type 0
-Does earlier (end_of slot) reply x y =
-    (image : List ℕ) × (stream : StreamFacts) × (runs : ℕ) × (parts_in slot earlier ≡ Some image) × (reply ≡ end_reply (Ok x.next)) × (y ≡ with_case x stream runs image)
-Does earlier (delete_of seq) reply x y = (reply ≡ ok_reply) × (y ≡ without x (seq ∷ []))
-Does earlier (pin_of seq flag) reply x y = (reply ≡ ok_reply) × ((y ≡ flagged x seq flag) ⊎ (y ≡ x))
-Does earlier (label_of seq text) reply x y = (reply ≡ ok_reply) × ((y ≡ labelled x seq text) ⊎ (y ≡ x))
-Does earlier upgrade_archive reply x y = (reply ≡ ok_reply) × (y ≡ upgraded x)
-Does earlier (retire_by policy) reply x y =
+-- a case is the stream that its line began, and its image is the bytes of its parts.
+abbrev pub Does : (Said → Option StreamFacts) → List Answer → Said → List ℕ → Durable → Durable → Type 0
+Does begins earlier (end_of slot) reply x y =
+    (begun : StreamFacts) × (len : ℕ) × (runs : ℕ) × (image : List ℕ) × (begun_in begins slot earlier ≡ Some begun) × (parts_in slot earlier ≡ Some image)
+    × (reply ≡ end_reply (Ok x.next)) × (y ≡ with_case x (record begun { len = len }) runs image)
+Does begins earlier (delete_of seq) reply x y = (reply ≡ ok_reply) × (y ≡ without x (seq ∷ []))
+Does begins earlier (pin_of seq flag) reply x y = (reply ≡ ok_reply) × ((y ≡ flagged x seq flag) ⊎ (y ≡ x))
+Does begins earlier (label_of seq text) reply x y = (reply ≡ ok_reply) × ((y ≡ labelled x seq text) ⊎ (y ≡ x))
+Does begins earlier upgrade_archive reply x y = (reply ≡ ok_reply) × (y ≡ upgraded x)
+Does begins earlier (retire_by policy) reply x y =
     (dropped : List ℕ) × (unmet : Bool) × (reply ≡ flat_map dropped_line dropped ++ (unmet_line unmet ++ ok_reply)) × (y ≡ without x dropped)
-Does earlier _ reply x y = y ≡ x
+Does begins earlier _ reply x y = y ≡ x
 
 -- A line is carried out, or it is refused and changes nothing.
-abbrev pub Leads : List Answer → Said → List ℕ → Durable → Durable → Type 0
-Leads earlier what reply x y = Does earlier what reply x y ⊎ ((reason : List ℕ) × (reply ≡ no_reply reason) × (y ≡ x))
+abbrev pub Leads : (Said → Option StreamFacts) → List Answer → Said → List ℕ → Durable → Durable → Type 0
+Leads begins earlier what reply x y = Does begins earlier what reply x y ⊎ ((reason : List ℕ) × (reply ≡ no_reply reason) × (y ≡ x))
 
 -- what a line would have left, had the disk not failed
-abbrev pub WouldLeave : List Answer → Said → Durable → Durable → Type 0
-WouldLeave earlier what x y = (reply : List ℕ) × Does earlier what reply x y
+abbrev pub WouldLeave : (Said → Option StreamFacts) → List Answer → Said → Durable → Durable → Type 0
+WouldLeave begins earlier what x y = (reply : List ℕ) × Does begins earlier what reply x y
 
 -- How things stand at a moment between two lines.
 pub record Moment (D : Type 0) : Type 0 where
@@ -49,7 +79,7 @@ pub record Moment (D : Type 0) : Type 0 where
 -- A line that was answered, and how things stand then.
 pub record Line (D : Type 0) : Type 0 where
   pub answer : Answer
-  pub then : Moment D
+  pub after : Moment D
 
 -- A session: how it begins, its lines, how its script ends, and how things stand then.
 pub record Course (D : Type 0) : Type 0 where
@@ -61,32 +91,32 @@ pub record Course (D : Type 0) : Type 0 where
   pub end : Moment D
 
 -- A line leads from moment to moment. Only where it is answered `no Disk` is anything in doubt anew.
-pub record LeadsOn {D : Type 0} (earlier : List Answer) (old : Moment D) (what : Said) (reply : List ℕ) (new : Moment D) : Type 0 where
-  pub leads : Leads earlier what reply old.holds new.holds
+pub record LeadsOn {D : Type 0} (begins : Said → Option StreamFacts) (earlier : List Answer) (old : Moment D) (what : Said) (reply : List ℕ) (new : Moment D) : Type 0 where
+  pub leads : Leads begins earlier what reply old.holds new.holds
   pub doubts : List Durable
   pub in_doubt : new.in_doubt ≡ doubts ++ old.in_doubt
-  pub doubted : (doubts ≡ []) ⊎ ((reply ≡ no_reply (codes "Disk")) × AllByRecursion (WouldLeave earlier what old.holds) doubts)
+  pub doubted : (doubts ≡ []) ⊎ ((reply ≡ no_reply (codes "Disk")) × AllByRecursion (WouldLeave begins earlier what old.holds) doubts)
 
 abbrev pub answer_of : {D : Type 0} → Line D → Answer
 answer_of l = l.answer
 
 abbrev pub moment_of : {D : Type 0} → Line D → Moment D
-moment_of l = l.then
+moment_of l = l.after
 
-abbrev pub AllLead : {D : Type 0} → List Answer → Moment D → List (Line D) → Type 0
-AllLead earlier old [] = Unit {0}
-AllLead earlier old (l ∷ ls) = LeadsOn earlier old (what_of l.answer) l.answer.reply l.then × AllLead (earlier ++ l.answer ∷ []) l.then ls
+abbrev pub AllLead : {D : Type 0} → (Said → Option StreamFacts) → List Answer → Moment D → List (Line D) → Type 0
+AllLead begins earlier old [] = Unit {0}
+AllLead begins earlier old (l ∷ ls) = LeadsOn begins earlier old (what_of l.answer) l.answer.reply l.after × AllLead begins (earlier ++ l.answer ∷ []) l.after ls
 
 -- behind the last line
 abbrev pub last_moment : {D : Type 0} → Moment D → List (Line D) → Moment D
 last_moment m [] = m
-last_moment m (l ∷ ls) = last_moment l.then ls
+last_moment m (l ∷ ls) = last_moment l.after ls
 
 -- each line does what it says, from what the archive held before it
-pub record IsCourse {D : Type 0} (c : Course D) : Type 0 where
+pub record IsCourse {D : Type 0} (begins : Said → Option StreamFacts) (c : Course D) : Type 0 where
   pub clear : c.begin.in_doubt ≡ []
-  pub lines : AllLead [] c.begin c.lines
-  pub last : LeadsOn (map answer_of c.lines) (last_moment c.begin c.lines) c.last c.reply c.end
+  pub lines : AllLead begins [] c.begin c.lines
+  pub last : LeadsOn begins (map answer_of c.lines) (last_moment c.begin c.lines) c.last c.reply c.end
 
 -- An opening of these bytes finds what the archive held at this moment, or what was in doubt then.
 abbrev pub FindsMoment : {D : Type 0} → List ℕ → Moment D → Type 0
@@ -135,11 +165,11 @@ IsAll (Ok x) more input' unwritten = (more ≡ []) × IsAtEnd input' × (unwritt
 IsAll (Err f) more input' unwritten = Unit {0}
 
 -- The headline of a session over a disk, `before` it and `after` it.
-pub record IsCrashSafe {D : Type 0} (T E : Type 0) (g : disk.Ghosts D) (t : Streams) (before after : D) (r : Result T E) : Type 0 where
+pub record IsCrashSafe {D : Type 0} (T E : Type 0) (g : disk.Ghosts D) (naming : Naming) (t : Streams) (before after : D) (r : Result T E) : Type 0 where
   pub course : Course D
   -- it begins with exactly what the disk stands for
   pub found : (x : Durable) → StandsFor (g.seen before) x → course.begin.holds ≡ x
-  pub is : IsCourse course
+  pub is : IsCourse (begins_as naming) course
   pub text : IsText t course
   pub all : IsAll r text.more t.input' text.unwritten
   -- a stop within the opening leaves what one before it could have left
@@ -148,13 +178,13 @@ pub record IsCrashSafe {D : Type 0} (T E : Type 0) (g : disk.Ghosts D) (t : Stre
 
 -- What a life of an archive promises of stops: over an honest disk a session is crash-safe, and an opening that is refused
 -- leaves what reads give, and what a stop may leave, as they were.
-abbrev pub Headline : {D : Type 0} (T : Type 0) → disk.Ghosts D → Streams → D → Result T LifeFault → D → Type 0
-Headline T g t before (Ok x) after = IsTrue (g.is_honest before) → IsCrashSafe T LifeFault g t before after (Ok x)
-Headline T g t before (Err (life.Session f)) after = IsTrue (g.is_honest before) → IsCrashSafe T LifeFault g t before after (Err (life.Session f))
-Headline T g t before (Err (life.Open f)) after =
+abbrev pub Headline : {D : Type 0} (T : Type 0) → disk.Ghosts D → Naming → Streams → D → Result T LifeFault → D → Type 0
+Headline T g naming t before (Ok x) after = IsTrue (g.is_honest before) → IsCrashSafe T LifeFault g naming t before after (Ok x)
+Headline T g naming t before (Err (life.Session f)) after = IsTrue (g.is_honest before) → IsCrashSafe T LifeFault g naming t before after (Err (life.Session f))
+Headline T g naming t before (Err (life.Open f)) after =
     IsTrue (g.is_honest before) → (g.seen after ≡ g.seen before) × ((left : List ℕ) → g.left_since after (g.clock before) left → g.may_leave before left)
 
 -- So it is of each session from an opening on.
 abbrev pub SessionsAreCrashSafe : {D : Type 0} → disk.Ghosts D → Type 0
 SessionsAreCrashSafe {D} g = (limit : ℕ) (naming : Naming) (t : Streams) (before after : D) (r : Result (Unit {0}) LifeFault)
-    → LifeEnds g limit t before r after (RunsOver g naming t) → Headline (Unit {0}) g t before r after
+    → LifeEnds g limit t before r after (RunsOver g naming t) → Headline (Unit {0}) g naming t before r after

@@ -7,6 +7,7 @@ use Rattle.disk_model.specs.declared.disk.Disk as disk
 use Rattle.intake.specs.Durable.{Durable, StandsFor, with_case}
 use Rattle.intake.specs.State.{StreamFacts}
 use Rattle.retention.specs.declared.Policy.{Policy}
+use Rattle.script_lines.specs.Said.{Said}
 use Rattle.script_streams.specs.Replies.{no_reply}
 use Rattle.inspector_cli.specs.declared.session.LifeFault.{LifeFault}
 use Rattle.inspector_cli.specs.declared.session.LifeFault.TheVariants as life
@@ -32,6 +33,10 @@ abbrev pub StoresOrNot : Result StreamFacts (List ℕ) → Option (List ℕ) →
 StoresOrNot found file file' x (Some n) y = AddsCase found file file' x n y
 StoresOrNot found file file' x None y = y ≡ x
 
+-- the lines that make room and give a label begin no stream
+abbrev pub no_stream : Said → Option StreamFacts
+no_stream what = None
+
 pub record StoreCourse (D : Type 0) : Type 0 where
   pub begin : Moment D
   -- by which room is made, if it is, and what is told of it
@@ -52,7 +57,7 @@ pub record StoreCourse (D : Type 0) : Type 0 where
 pub record IsStoreCourse {D : Type 0} (asked : Option Policy) (found : Result StreamFacts (List ℕ)) (label : Option (List ℕ)) (file file' : Option (List ℕ)) (c : StoreCourse D) : Type 0 where
   pub clear : c.begin.in_doubt ≡ []
   pub chosen : (c.policy ≡ asked) ⊎ (c.policy ≡ None)
-  pub makes_room : LeadsOn [] c.begin (said_room c.policy) c.told c.room
+  pub makes_room : LeadsOn no_stream [] c.begin (said_room c.policy) c.told c.room
   -- taking bytes changes no case
   pub same : c.filled.holds ≡ c.room.holds
   pub same_doubt : c.filled.in_doubt ≡ c.room.in_doubt
@@ -61,7 +66,7 @@ pub record IsStoreCourse {D : Type 0} (asked : Option Policy) (found : Result St
   pub doubts : List Durable
   pub in_doubt : c.ended.in_doubt ≡ doubts ++ c.room.in_doubt
   pub doubted : (doubts ≡ []) ⊎ ((c.reply ≡ no_reply (codes "Disk")) × AllByRecursion (λ (z : Durable). (n : ℕ) × AddsCase found file file' c.room.holds n z) doubts)
-  pub gives_label : LeadsOn [] c.ended (said_label c.stored label) c.labels c.end
+  pub gives_label : LeadsOn no_stream [] c.ended (said_label c.stored label) c.labels c.end
 
 -- on `Ok` all replies are written, and it is told whether the case is stored
 abbrev pub IsTold : {E : Type 0} → Result StoreOutcome E → Option ℕ → List ℕ → Type 0

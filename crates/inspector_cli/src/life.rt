@@ -33,7 +33,7 @@ pub fn open_and_run<I: Input, O: Output, D: Disk>(
     output: &mut O,
 ) -> (Result<(), LifeFault>, D)
     ensures crash_safe { let streams = streams_of I.Input O.Output input.old input.new output.old output.new in LifeEnds D.Disk settings.limit streams disk result.0 result.1 (RunsOver D.Disk naming.now streams) }
-    ensures headline { Headline (Unit {0}) D.Disk (streams_of I.Input O.Output input.old input.new output.old output.new) disk result.0 result.1 }
+    ensures headline { Headline (Unit {0}) D.Disk naming.now (streams_of I.Input O.Output input.old input.new output.old output.new) disk result.0 result.1 }
 {
     a_session_is_crash_safe::<D>();
     open_then_run(alloc, disk, settings, naming, input, output)
