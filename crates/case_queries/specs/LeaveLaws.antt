@@ -2,12 +2,14 @@
 use Rattle.std.proofs.Common.{◌≡◌, ◌⊎◌, inl, inr, ⊎_elim, ℕ, Bool, true, false, List, [], ◌∷◌, Option, None, Some, Result, Ok, Err, Vec, Global, refl, ap, sym, subst, ◌∙◌}
 use Rattle.std.specs.Prelude.{IsTrue}
 use Rattle.address_space.specs.Source.{ExecutableView}
+use Rattle.case_journal.specs.Viewing.{OnlyReads}
 use Rattle.disk_model.specs.declared.disk.Disk as disk
 use Rattle.image_replies.specs.Core.{core_fault_of}
 use Rattle.image_replies.specs.declared.core_image.CoreFault.{CoreFault}
 use Rattle.intake.specs.Calls.{ChangesNoCase}
 use Rattle.intake.specs.Contents.{Contents, UnmovedBytes, image_at}
 use Rattle.intake.specs.Parts.{Parts, state_of, contents_of}
+use Rattle.intake.specs.QuietLaws.{quiet_none, quiet_then}
 use Rattle.intake.specs.State.{ArchiveState, CaseFacts}
 use Rattle.intake.specs.StayLaws.{stays_as, stays_then}
 use Rattle.intake.specs.Step.{ImageStep, case_at}
@@ -145,3 +147,43 @@ module _ {D : Type 0} (g : disk.Ghosts D) where
         ∙ ap (image_at seq (state_of old).cases) (leaves.images was) ∙ own.bytes was;
     long = λ c at. own.long c (ap (case_at seq) (sym leaves.cases) ∙ at);
   }
+
+-- A line that asks an image writes no byte of the disk.
+module _ {D : Type 0} (g : disk.Ghosts D) (only : (d : D) (c : List ℕ) → g.left_since d (g.clock d) c → g.may_leave d c) where
+  abbrev Quiet : Parts D → Parts D → Type 0
+  Quiet old new = OnlyReads g old.disk new.disk
+
+  pub quiet_as : (old new : Parts D) → new ≡ old → Quiet old new
+  quiet_as old new is = subst (λ (a : Parts D). Quiet old a) (sym is) (quiet_none g old.disk (only old.disk))
+
+  looks_quiet : (old new : Parts D) (seq : ℕ) (r : Result (List ℕ) ArchiveFault) → LooksAt g old seq r new → Quiet old new
+  looks_quiet old new seq (Ok image) looks = looks.quiet
+  looks_quiet old new seq (Err f) looks = looks.quiet
+
+  gathers_quiet : (old new : Parts D) (xs : List Wanted) (r : Result (List ExecutableView) ArchiveFault) → Gathers g old xs r new → Quiet old new
+  gathers_quiet old new [] r gathers = quiet_as old new gathers.1
+  gathers_quiet old new (x ∷ xs) r (Ok image, mid, looks, more) =
+      quiet_then g old.disk mid.disk new.disk (looks_quiet old mid x.0 (Ok image) looks)
+      (⊎_elim (λ short. quiet_as mid new short.1) (λ rest. gathers_quiet mid new xs rest.0 rest.1) more)
+  gathers_quiet old new (x ∷ xs) r (Err f, mid, looks, more) =
+      quiet_then g old.disk mid.disk new.disk (looks_quiet old mid x.0 (Err f) looks) (quiet_as mid new more.1)
+
+  all_quiet : (old new : Parts D) (xs : List Wanted) (r : Result (List ExecutableView) ArchiveFault) → GathersAll g old xs r new → Quiet old new
+  all_quiet old new xs r all = ⊎_elim (λ short. quiet_as old new short.1) (λ gathers. gathers_quiet old new xs r gathers) all
+
+  beside_quiet : (old new : Parts D) (kind : Kind) (q : QuerySaid) (b : List ℕ) (fault : Option CoreFault) (reply : List ℕ) → ShowsBeside g old kind q b fault reply new → Quiet old new
+  beside_quiet old new kind q b (Some fault) reply shows = quiet_as old new shows.1
+  beside_quiet old new kind q b None reply shows = all_quiet old new _ shows.0 shows.1
+
+  shows_quiet : (old new : Parts D) (kind : Kind) (q : QuerySaid) (b : List ℕ) (t : Bool) (reply : List ℕ) → ShowsBy g old kind q b t reply new → Quiet old new
+  shows_quiet old new kind q b true reply shows = beside_quiet old new kind q b (core_fault_of b) reply shows
+  shows_quiet old new kind q b false reply shows = quiet_as old new shows.1
+
+  seen_quiet : (old new : Parts D) (kind : Kind) (q : QuerySaid) (r : Result (List ℕ) ArchiveFault) (reply : List ℕ) → ShowsSeen g old kind q r reply new → Quiet old new
+  seen_quiet old new kind q (Ok image) reply shows = shows_quiet old new kind q image (reads_executables q) reply shows
+  seen_quiet old new kind q (Err f) reply shows = quiet_as old new shows.1
+
+  pub asks_quiet : (old new : Parts D) (seq : ℕ) (q : QuerySaid) (k : Result Kind (List ℕ)) (reply : List ℕ) → Asks g old seq q k reply new → Quiet old new
+  asks_quiet old new seq q (Ok kind) reply asks =
+      quiet_then g old.disk asks.1.disk new.disk (looks_quiet old asks.1 seq asks.0 asks.2) (seen_quiet asks.1 new kind q asks.0 reply asks.3)
+  asks_quiet old new seq q (Err reason) reply asks = quiet_as old new asks.1

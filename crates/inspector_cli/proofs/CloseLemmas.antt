@@ -60,5 +60,5 @@ closes_none s = (λ k lt. absurd (omega arith), refl)
 all_quiet : (s : ArchiveState) → IsQuietBelow 8 s → length s.streams ≤ 8 → HasNoStream s
 all_quiet s quiet few = λ k. ⊎_elim (λ a. quiet k a) (λ b. beyond s.streams k (omega arith)) (cases_lt k 8)
 
-pub closed_all : {D : Type 0} (g : disk.Ghosts D) (old new : Parts D) → ClosesBelow 8 (state_of old) (state_of new) → length (state_of new).streams ≤ 8 → ChangesNoCase g old new → DropsStreams g old new
-closed_all g old new closes few stays = record { quiet = all_quiet (state_of new) closes.0 few; kept = closes.1; stays = stays }
+pub closed_all : {D : Type 0} (g : disk.Ghosts D) (old new : Parts D) → ClosesBelow 8 (state_of old) (state_of new) → length (state_of new).streams ≤ 8 → new.disk ≡ old.disk → ChangesNoCase g old new → DropsStreams g old new
+closed_all g old new closes few same stays = record { quiet = all_quiet (state_of new) closes.0 few; kept = closes.1; disk = same; stays = stays }

@@ -1,10 +1,11 @@
 -- A session is a course of lines, and each stop of the machine leaves what stands behind one of them.
-use Rattle.std.proofs.Common.{◌≡◌, ◌⊎◌, inl, inr, ⊎_elim, ℕ, zero, suc, true, false, List, [], ◌∷◌, ◌++◌, map, Option, Some, None, Result, Ok, Err, refl, sym, ap, subst, ◌∙◌, append_assoc}
+use Rattle.std.proofs.Common.{◌≡◌, ◌⊎◌, ◌≤◌, inl, inr, ⊎_elim, ℕ, zero, suc, true, false, List, [], ◌∷◌, ◌++◌, map, Option, Some, None, Result, Ok, Err, refl, sym, ap, subst, ◌∙◌, append_assoc}
 use Rattle.std.proofs.lemmas.Bool.{false≢true}
 use Rattle.std.proofs.lemmas.List.{append-nil}
 use Rattle.std.specs.Prelude.{codes, option_map, IsTrue}
 use Rattle.std.specs.List.{flat_map, AllByRecursion}
 use Rattle.std.specs.Io.KnownBytes.{Consumes, Appends}
+use Rattle.case_journal.specs.Viewing.{OnlyReads}
 use Rattle.disk_model.specs.Moments.{LeavesOnly}
 use Rattle.disk_model.specs.declared.disk.Disk as disk
 use Rattle.intake.specs.Calls.{ChangesNoCase, OpenCall}
@@ -13,6 +14,7 @@ use Rattle.intake.specs.Durable.{Durable, durable_of}
 use Rattle.intake.specs.Marks.{NothingElseIsLeft, IsRunOfMarks, IsMarkSettled, IsFoundSince}
 use Rattle.intake.specs.Parts.{Parts, state_of}
 use Rattle.intake.specs.Growth.{IsDiskFault}
+use Rattle.intake.specs.QuietLaws.{quiet_then}
 use Rattle.intake.specs.Slots.{stream_at}
 use Rattle.intake.specs.State.{StreamFacts}
 use Rattle.intake.specs.Step.{FinishStep}
@@ -33,13 +35,15 @@ use Rattle.inspector_cli.specs.declared.session.LifeFault.TheVariants as life
 use Rattle.inspector_cli.specs.Runs.{WholeIsARun, FrontIsARun}
 use Rattle.inspector_cli.specs.Session.{AnswersAll, AnswersWhole, IsItem, SessionEnds, Streams, spelled, Ending, complete, last_line, cut_part, said_last, last_stage, LastReplies, EndReplies, Truncates, DropsStreams}
 use Rattle.inspector_cli.specs.Stages.{Stage, Moves, MayLeave, IsFoundAfterAStop, mark_at, marks_of}
+use Rattle.inspector_cli.specs.Stored.{IsToldAs}
 use Rattle.inspector_cli.specs.Told.{Answer, Answers, Finishes, what_of, is_no, held_then, held_behind, parts_in}
-use Rattle.inspector_cli.specs.Headline.{begins_as, begun_then, begun_behind, begun_in, empty_stream, IsAll, IsCrashSafe, SessionsAreCrashSafe, Leads, WouldLeave, Moment, Line, Course, LeadsOn, AllLead, IsCourse, FindsSince, AreSafe, last_moment, answer_of, moment_of}
+use Rattle.inspector_cli.specs.Headline.{is_idle, IsIdle, begins_as, begun_then, begun_behind, begun_in, empty_stream, IsAll, IsCrashSafe, SessionsAreCrashSafe, Leads, WouldLeave, Moment, Line, Course, LeadsOn, AllLead, IsCourse, FindsSince, AreSafe, last_moment, answer_of, moment_of}
 use Rattle.inspector_cli.proofs.BegunLemmas.{IsBegun, then_begun}
 use Rattle.inspector_cli.proofs.ClearLemmas.{end_told, line_halts}
 use Rattle.inspector_cli.proofs.HeldLemmas.{IsHeld, taken_at, none_taken, opening_quiet}
+use Rattle.inspector_cli.proofs.IdleLemmas.{end_idle, lines_idle, opening_idle}
 use Rattle.inspector_cli.proofs.SafeLemmas.{are_safe, leads_on, since_opening}
-use Rattle.inspector_cli.proofs.ToldLemmas.{session_told}
+use Rattle.inspector_cli.proofs.ToldLemmas.{EndsAs, all_told, session_of, whole_told}
 use Rattle.inspector_cli.proofs.KeptLemmas.{LastingLaws}
 use Rattle.inspector_cli.proofs.FoundLemmas.{Stands, answer_stands}
 use Rattle.inspector_cli.proofs.StageLemmas.{begins_stays, truncates_stays, broken_stays}
@@ -276,7 +280,7 @@ module _ {D : Type 0} (g : disk.Ghosts D) (naming : Naming) (lasts : LastingLaws
         ⊎_elim inl (λ found. inr (subst (FindsSince left (moment_at old)) later_is found)) (since_opening g stays end closed honest_end closes law old ss (stands 0).0.honest run before leaves left was)
 
 -- the three ways in which a session that was opened ends: its text
-module _ {D : Type 0} (g : disk.Ghosts D) (lasts : LastingLaws g) (stays : (d : D) → IsTrue (g.is_honest d) → g.may_leave d (g.seen d)) (nothing_else : NothingElseIsLeft g) (whole_run : WholeIsARun g) (front_run : FrontIsARun g) (limit : ℕ) (naming : Naming) (t : Streams) (before after : D) (opened closed : Parts D)
+module _ {D : Type 0} (g : disk.Ghosts D) (lasts : LastingLaws g) (stays : (d : D) → IsTrue (g.is_honest d) → g.may_leave d (g.seen d)) (only : (d : D) (c : List ℕ) → g.left_since d (g.clock d) c → g.may_leave d c) (counts : (d : D) (t : ℕ) (c : List ℕ) → t ≤ g.clock d → g.may_leave d c → g.left_since d t c) (nothing_else : NothingElseIsLeft g) (whole_run : WholeIsARun g) (front_run : FrontIsARun g) (limit : ℕ) (naming : Naming) (t : Streams) (before after : D) (opened closed : Parts D)
     (opening : OpenCall g limit before (Ok opened)) (disk : after ≡ closed.disk) (honest : IsTrue (g.is_honest before)) where
   abbrev first : Stage D
   first = record { archive = opened; in_doubt = [] }
@@ -292,21 +296,17 @@ module _ {D : Type 0} (g : disk.Ghosts D) (lasts : LastingLaws g) (stays : (d : 
   )
 
   module _ (r : Result (Unit {0}) LifeFault) (read more written unwritten : List ℕ) (stages : List (Stage D)) (end : Stage D) (consumed : Consumes t.input t.input' (read ++ more)) (appended : Appends t.taken t.taken' written)
-      (answers : AnswersAll g naming read (written ++ unwritten) first stages end ⊎ AnswersWhole g naming read (written ++ unwritten) first stages end) (drops : DropsStreams g end.archive closed) (found : IsFoundAfterAStop g first stages end closed)
-      (all : IsAll r more t.input' unwritten) where
-    run : IsRunOfMarks g (mark_at g.seen first) (marks_of g.seen stages end closed)
-    run = ⊎_elim (λ a. whole_run naming read (written ++ unwritten) first stages end closed a drops) (λ a. front_run naming read (written ++ unwritten) first stages end closed a drops) answers
-
+      (drops : DropsStreams g end.archive closed) (found : IsFoundAfterAStop g first stages end closed) (all : IsAll r more t.input' unwritten) (run : IsRunOfMarks g (mark_at g.seen first) (marks_of g.seen stages end closed))
+      (answers : List Answer) (last : Said) (reply : List ℕ) (is : IsToldAs g read (written ++ unwritten) (session_of g naming first stages end closed answers last reply))
+      (idle : IsIdle g r (record { begin = moment_at g naming lasts stays first; lines = lines_of g naming lasts stays answers stages; last = last; reply = reply; end = moment_at g naming lasts stays end }) before after) where
     pub crash_safe : IsCrashSafe (Unit {0}) LifeFault g naming t before after r
     crash_safe =
-        let told = session_told g naming read (written ++ unwritten) first stages end closed answers drops in
-        let is = told.3 in
-        let same = answers_are g naming lasts stays first told.0 stages is.had.answered in
+        let same = answers_are g naming lasts stays first answers stages is.had.answered in
         let settled : IsMarkSettled g (mark_at g.seen first) = λ c may. (durable_of g.seen opened, opening.settled honest c may, inl refl) in
         record {
-          course = course g naming lasts stays first end closed told.0 stages told.1 told.2 is.had.answered is.had.finishes is.had.moves drops.stays begins;
+          course = course g naming lasts stays first end closed answers stages last reply is.had.answered is.had.finishes is.had.moves drops.stays begins;
           found = λ x stands. opening.found_again x honest stands;
-          is = is_course g naming lasts stays first end closed told.0 stages told.1 told.2 is.had.answered is.had.finishes is.had.moves drops.stays begins refl;
+          is = is_course g naming lasts stays first end closed answers stages last reply is.had.answered is.had.finishes is.had.moves drops.stays begins refl;
           text = record {
             read = read;
             rest = is.rest;
@@ -317,15 +317,18 @@ module _ {D : Type 0} (g : disk.Ghosts D) (lasts : LastingLaws g) (stays : (d : 
             written = written;
             unwritten = unwritten;
             appended = appended;
-            replies = subst (λ (list : List Answer). written ++ unwritten ≡ flat_map (λ (a : Answer). a.reply) list ++ told.2) (sym same) is.text;
+            replies = subst (λ (list : List Answer). written ++ unwritten ≡ flat_map (λ (a : Answer). a.reply) list ++ reply) (sym same) is.text;
           };
           all = all;
+          idle = idle;
           opening =
-              subst (λ (d : D). (left : List ℕ) → g.left_since d (g.clock before) left → g.may_leave before left ⊎ FindsSince left (moment_at g naming lasts stays first) (later g naming lasts stays first end closed told.0 stages told.1 told.2 is.had.answered is.had.finishes is.had.moves drops.stays begins)) (sym disk)
-              (opening_safe g naming lasts stays first end closed told.0 stages told.1 told.2 is.had.answered is.had.finishes is.had.moves drops.stays begins nothing_else run before (opening.any_moment honest));
+              subst
+              (λ (d : D). (left : List ℕ) → g.left_since d (g.clock before) left → g.may_leave before left ⊎ FindsSince left (moment_at g naming lasts stays first)
+              (later g naming lasts stays first end closed answers stages last reply is.had.answered is.had.finishes is.had.moves drops.stays begins)) (sym disk)
+              (opening_safe g naming lasts stays first end closed answers stages last reply is.had.answered is.had.finishes is.had.moves drops.stays begins nothing_else run before (opening.any_moment honest));
           safe =
-              subst (λ (d : D). AreSafe g d (moment_at g naming lasts stays first) (later g naming lasts stays first end closed told.0 stages told.1 told.2 is.had.answered is.had.finishes is.had.moves drops.stays begins)) (sym disk)
-              (session_safe g naming lasts stays first end closed told.0 stages told.1 told.2 is.had.answered is.had.finishes is.had.moves drops.stays begins settled run (found (opening.honesty ∙ honest) settled));
+              subst (λ (d : D). AreSafe g d (moment_at g naming lasts stays first) (later g naming lasts stays first end closed answers stages last reply is.had.answered is.had.finishes is.had.moves drops.stays begins)) (sym disk)
+              (session_safe g naming lasts stays first end closed answers stages last reply is.had.answered is.had.finishes is.had.moves drops.stays begins settled run (found (opening.honesty ∙ honest) settled));
         }
 
   nothing_more : (a b : Option (List ℕ)) (x : List ℕ) → Consumes a b x → Consumes a b (x ++ [])
@@ -339,25 +342,56 @@ module _ {D : Type 0} (g : disk.Ghosts D) (lasts : LastingLaws g) (stays : (d : 
   life_of (Ok u) = Ok u
   life_of (Err f) = Err (life.Session f)
 
+  -- a whole script of lines that only look
+  idle_lines : (answers : List Answer) (last : Said) (reply : List ℕ) (stages : List (Stage D)) (end : Stage D) → DropsStreams g end.archive closed → Answers g naming first answers stages
+      → EndsAs g naming (last_stage first stages).archive last reply end.archive
+      → AllByRecursion (λ (a : Answer). is_idle (what_of a) ≡ true) (map answer_of (lines_of g naming lasts stays answers stages)) × (is_idle last ≡ true) → OnlyReads g before after
+  idle_lines answers last reply stages end drops run ending idle =
+      let lines = subst (AllByRecursion (λ (a : Answer). is_idle (what_of a) ≡ true)) (answers_are g naming lasts stays first answers stages run) idle.0 in
+      let ended = end_idle g only naming (last_stage first stages).archive end.archive reply ending.0 (ap is_idle (sym ending.1) ∙ idle.1) ending.2 in
+      subst (λ (d : D). OnlyReads g before d) (sym (disk ∙ drops.disk))
+      (quiet_then g before opened.disk end.archive.disk (opening_idle g counts limit before opened opening)
+      (quiet_then g opened.disk (last_stage first stages).archive.disk end.archive.disk (lines_idle g only naming first answers stages run lines) ended))
+
+  idle_of : (r : Result (Unit {0}) LifeFault) (answers : List Answer) (last : Said) (reply : List ℕ) (stages : List (Stage D)) (end : Stage D) → DropsStreams g end.archive closed → Answers g naming first answers stages
+      → EndsAs g naming (last_stage first stages).archive last reply end.archive
+      → IsIdle g r (record { begin = moment_at g naming lasts stays first; lines = lines_of g naming lasts stays answers stages; last = last; reply = reply; end = moment_at g naming lasts stays end }) before after
+  idle_of (Ok u) answers last reply stages end drops run ending = λ idle. idle_lines answers last reply stages end drops run ending idle
+  idle_of (Err f) answers last reply stages end drops run ending = tt
+
+  module _ (read more written unwritten : List ℕ) (stages : List (Stage D)) (end : Stage D) (consumed : Consumes t.input t.input' (read ++ more)) (appended : Appends t.taken t.taken' written) (drops : DropsStreams g end.archive closed) (found : IsFoundAfterAStop g first stages end closed) where
+    -- a script that was answered to its end
+    whole_safe : (r : Result (Unit {0}) LifeFault) → IsAll r more t.input' unwritten → AnswersAll g naming read (written ++ unwritten) first stages end → IsCrashSafe (Unit {0}) LifeFault g naming t before after r
+    whole_safe r all answers =
+        let told = all_told g naming read (written ++ unwritten) first stages end closed answers drops in
+        crash_safe r read more written unwritten stages end consumed appended drops found all (whole_run naming read (written ++ unwritten) first stages end closed answers drops) told.0 told.1 told.2 told.3
+        (idle_of r told.0 told.1 told.2 stages end drops told.3.had.answered told.4)
+
+    -- one that could not be read on
+    front_safe : (f : LifeFault) → AnswersWhole g naming read (written ++ unwritten) first stages end → IsCrashSafe (Unit {0}) LifeFault g naming t before after (Err f)
+    front_safe f answers =
+        let told = whole_told g naming read (written ++ unwritten) first stages end closed answers drops in
+        crash_safe (Err f) read more written unwritten stages end consumed appended drops found tt (front_run naming read (written ++ unwritten) first stages end closed answers drops) told.0 told.1 told.2 told.3 tt
+
   pub ended_safe : (r : Result (Unit {0}) SessionFault) → SessionEnds g naming t first closed r → IsCrashSafe (Unit {0}) LifeFault g naming t before after (life_of r)
   ended_safe (Ok u) e =
-      crash_safe (Ok u) e.0 [] e.1 [] e.2 e.3 (nothing_more t.input t.input' e.0 e.4) e.6
-      (inl (whole_text e.1 (λ (x : List ℕ). AnswersAll g naming e.0 x first e.2 e.3) e.7)) e.8 e.9 (refl, e.5, refl)
+      whole_safe e.0 [] e.1 [] e.2 e.3 (nothing_more t.input t.input' e.0 e.4) e.6 e.8 e.9 (Ok u) (refl, e.5, refl)
+      (whole_text e.1 (λ (x : List ℕ). AnswersAll g naming e.0 x first e.2 e.3) e.7)
   ended_safe (Err ReadFailed) e =
-      crash_safe (Err (life.Session ReadFailed)) e.0 [] e.1 [] e.2 e.3 (nothing_more t.input t.input' e.0 e.4) e.5
-      (inr (whole_text e.1 (λ (x : List ℕ). AnswersWhole g naming e.0 x first e.2 e.3) e.6)) e.7 e.8 tt
+      front_safe e.0 [] e.1 [] e.2 e.3 (nothing_more t.input t.input' e.0 e.4) e.5 e.7 e.8 (life.Session ReadFailed)
+      (whole_text e.1 (λ (x : List ℕ). AnswersWhole g naming e.0 x first e.2 e.3) e.6)
   ended_safe (Err TooManyReads) e =
-      crash_safe (Err (life.Session TooManyReads)) e.0 [] e.1 [] e.2 e.3 (nothing_more t.input t.input' e.0 e.4) e.5
-      (inr (whole_text e.1 (λ (x : List ℕ). AnswersWhole g naming e.0 x first e.2 e.3) e.6)) e.7 e.8 tt
+      front_safe e.0 [] e.1 [] e.2 e.3 (nothing_more t.input t.input' e.0 e.4) e.5 e.7 e.8 (life.Session TooManyReads)
+      (whole_text e.1 (λ (x : List ℕ). AnswersWhole g naming e.0 x first e.2 e.3) e.6)
   ended_safe (Err WriteFailed) e =
-      crash_safe (Err (life.Session WriteFailed)) e.0 e.1 e.2 e.3 e.4 e.5 e.6 e.7
-      (⊎_elim (λ all. inl all.0) (λ whole. inr whole.0) e.8) e.9 e.10 tt
+      ⊎_elim (λ all. whole_safe e.0 e.1 e.2 e.3 e.4 e.5 e.6 e.7 e.9 e.10 (Err (life.Session WriteFailed)) tt all.0)
+      (λ whole. front_safe e.0 e.1 e.2 e.3 e.4 e.5 e.6 e.7 e.9 e.10 (life.Session WriteFailed) whole.0) e.8
 
-module _ {D : Type 0} (g : disk.Ghosts D) (lasts : LastingLaws g) (stays : (d : D) → IsTrue (g.is_honest d) → g.may_leave d (g.seen d)) (nothing_else : NothingElseIsLeft g) (whole_run : WholeIsARun g) (front_run : FrontIsARun g) where
+module _ {D : Type 0} (g : disk.Ghosts D) (lasts : LastingLaws g) (stays : (d : D) → IsTrue (g.is_honest d) → g.may_leave d (g.seen d)) (only : (d : D) (c : List ℕ) → g.left_since d (g.clock d) c → g.may_leave d c) (counts : (d : D) (t : ℕ) (c : List ℕ) → t ≤ g.clock d → g.may_leave d c → g.left_since d t c) (nothing_else : NothingElseIsLeft g) (whole_run : WholeIsARun g) (front_run : FrontIsARun g) where
   pub sessions_safe : SessionsAreCrashSafe g
   sessions_safe limit naming t before after (Ok u) lived = λ honest.
-      ended_safe g lasts stays nothing_else whole_run front_run limit naming t before after lived.opened lived.closed lived.opening lived.disk honest (Ok u) lived.goes
+      ended_safe g lasts stays only counts nothing_else whole_run front_run limit naming t before after lived.opened lived.closed lived.opening lived.disk honest (Ok u) lived.goes
   sessions_safe limit naming t before after (Err (life.Session f)) lived = λ honest.
-      ended_safe g lasts stays nothing_else whole_run front_run limit naming t before after lived.opened lived.closed lived.opening lived.disk honest (Err f) lived.goes
+      ended_safe g lasts stays only counts nothing_else whole_run front_run limit naming t before after lived.opened lived.closed lived.opening lived.disk honest (Err f) lived.goes
   sessions_safe limit naming t before after (Err (life.Open f)) lived = λ honest.
       (lived.0.opening.seen honest, λ left was. (lived.0.opening.any_moment honest).each left was)

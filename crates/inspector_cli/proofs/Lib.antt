@@ -23,3 +23,4 @@ pub mod HeadlineLemmas
 pub mod SafeLemmas
 pub mod StoreHeadLemmas
 pub mod BegunLemmas
+pub mod IdleLemmas

@@ -7,7 +7,7 @@ use Rattle.intake.specs.Parts.{Parts}
 use Rattle.stream_names.specs.declared.naming.Naming.{Naming}
 use Rattle.script_lines.specs.Said.{Said, silence}
 use Rattle.inspector_cli.specs.Stages.{Stage}
-use Rattle.inspector_cli.specs.Session.{Item, IsItem, spelled, AnswersItems, said_last, ending_text, AnswersAll, AnswersWhole, DropsStreams}
+use Rattle.inspector_cli.specs.Session.{Item, IsItem, spelled, AnswersItems, Ending, EndReplies, last_stage, said_last, ending_text, AnswersAll, AnswersWhole, DropsStreams}
 use Rattle.inspector_cli.specs.Stored.{IsToldAs}
 use Rattle.inspector_cli.specs.Told.{Answer, Answers, Session}
 
@@ -28,15 +28,21 @@ module _ {D : Type 0} (g : disk.Ghosts D) (naming : Naming) where
         (run.2, run.3, more.3),
       )
 
-  abbrev session_of : Stage D → List (Stage D) → Stage D → Parts D → List Answer → Said → List ℕ → Session D
+  abbrev pub session_of : Stage D → List (Stage D) → Stage D → Parts D → List Answer → Said → List ℕ → Session D
   session_of old stages end new answers last reply =
       record { naming = naming; first = old; answers = answers; stages = stages; last = last; reply = reply; end = end; closed = new }
 
-  abbrev IsSome : List ℕ → List ℕ → Stage D → List (Stage D) → Stage D → Parts D → Type 0
+  abbrev pub IsSome : List ℕ → List ℕ → Stage D → List (Stage D) → Stage D → Parts D → Type 0
   IsSome read out old stages end new =
       (answers : List Answer) × (last : Said) × (reply : List ℕ) × IsToldAs g read out (session_of old stages end new answers last reply)
 
-  all_told : (read out : List ℕ) (old : Stage D) (stages : List (Stage D)) (end : Stage D) (new : Parts D) → AnswersAll g naming read out old stages end → DropsStreams g end.archive new → IsSome read out old stages end new
+  -- how a script that was answered to its end ends
+  abbrev pub EndsAs : Parts D → Said → List ℕ → Parts D → Type 0
+  EndsAs old last reply new = (ending : Ending) × (last ≡ said_last ending) × EndReplies g naming old ending reply new
+
+  pub all_told : (read out : List ℕ) (old : Stage D) (stages : List (Stage D)) (end : Stage D) (new : Parts D) → AnswersAll g naming read out old stages end → DropsStreams g end.archive new
+      → (answers : List Answer) × (last : Said) × (reply : List ℕ) × IsToldAs g read out (session_of old stages end new answers last reply)
+      × EndsAs (last_stage old stages).archive last reply end.archive
   all_told read out old stages end new all closes =
       let t = told old all.items all.replies stages all.run in (
         t.0,
@@ -49,9 +55,10 @@ module _ {D : Type 0} (g : disk.Ghosts D) (naming : Naming) where
           cut = all.cut ∙ ap (λ (is : List Item). flat_map spelled is ++ ending_text all.ending) (sym t.1);
           text = all.text ∙ ap (λ (x : List ℕ). x ++ all.last) (sym t.2);
         },
+        (all.ending, refl, all.final),
       )
 
-  whole_told : (read out : List ℕ) (old : Stage D) (stages : List (Stage D)) (end : Stage D) (new : Parts D) → AnswersWhole g naming read out old stages end → DropsStreams g end.archive new → IsSome read out old stages end new
+  pub whole_told : (read out : List ℕ) (old : Stage D) (stages : List (Stage D)) (end : Stage D) (new : Parts D) → AnswersWhole g naming read out old stages end → DropsStreams g end.archive new → IsSome read out old stages end new
   whole_told read out old stages end new whole closes =
       let t = told old whole.items out stages whole.run in (
         t.0,
@@ -69,4 +76,4 @@ module _ {D : Type 0} (g : disk.Ghosts D) (naming : Naming) where
   pub session_told : (read out : List ℕ) (old : Stage D) (stages : List (Stage D)) (end : Stage D) (new : Parts D)
       → AnswersAll g naming read out old stages end ⊎ AnswersWhole g naming read out old stages end → DropsStreams g end.archive new → IsSome read out old stages end new
   session_told read out old stages end new answers closes =
-      ⊎_elim (λ all. all_told read out old stages end new all closes) (λ whole. whole_told read out old stages end new whole closes) answers
+      ⊎_elim (λ all. (let t = all_told read out old stages end new all closes in (t.0, t.1, t.2, t.3))) (λ whole. whole_told read out old stages end new whole closes) answers

@@ -1,16 +1,17 @@
 -- The headline: what a session does, told by its lines, and what a stop of the machine leaves of it. Beside what stands here a
 -- reader needs what bytes stand for (`StandsFor`), what an archive holds (`Durable`), and what a line says (`Said`).
-use Rattle.std.specs.Prelude.{◌≡◌, ◌⊎◌, ℕ, ◌==◌, Bool, List, [], ◌∷◌, ◌++◌, map, Option, None, Some, option_map, Result, Ok, Err, IsTrue, codes, if◌then◌else◌}
+use Rattle.std.specs.Prelude.{◌≡◌, ◌⊎◌, ℕ, ◌==◌, Bool, true, false, List, [], ◌∷◌, ◌++◌, map, Option, None, Some, option_map, Result, Ok, Err, IsTrue, codes, if◌then◌else◌}
 use Rattle.std.specs.Result.{result_ok}
 use Rattle.std.specs.List.{flat_map, AllByRecursion}
 use Rattle.std.specs.Io.KnownBytes.{Consumes, Appends, IsAtEnd}
+use Rattle.case_journal.specs.Viewing.{OnlyReads}
 use Rattle.disk_model.specs.declared.disk.Disk as disk
 use Rattle.intake.specs.Durable.{Durable, StandsFor, without, flagged, labelled, upgraded, with_case}
 use Rattle.intake.specs.Marks.{IsOneOf}
 use Rattle.intake.specs.State.{StreamFacts}
 use Rattle.stream_names.specs.Streams.{exec_stream, core_stream}
 use Rattle.stream_names.specs.declared.naming.Naming.{Naming}
-use Rattle.script_lines.specs.Said.{Said, begin_exec, begin_core, part_of, drop_of, end_of, delete_of, pin_of, label_of, retire_by, upgrade_archive}
+use Rattle.script_lines.specs.Said.{Said, silence, bad_line, long_line, list_all_cases, count_free, inspect_of, begin_exec, begin_core, part_of, drop_of, end_of, delete_of, pin_of, label_of, retire_by, upgrade_archive}
 use Rattle.script_streams.specs.Replies.{no_reply, ok_reply}
 use Rattle.archive_replies.specs.Texts.{end_reply, dropped_line, unmet_line}
 use Rattle.inspector_cli.specs.declared.session.LifeFault.{LifeFault}
@@ -159,6 +160,24 @@ pub record IsText {D : Type 0} (t : Streams) (c : Course D) : Type 0 where
   pub appended : Appends t.taken t.taken' written
   pub replies : written ++ unwritten ≡ flat_map (λ (a : Answer). a.reply) (answers_of c) ++ c.reply
 
+-- the line shows what is in an archive, or says nothing that is known
+abbrev pub is_idle : Said → Bool
+is_idle silence = true
+is_idle bad_line = true
+is_idle long_line = true
+is_idle list_all_cases = true
+is_idle count_free = true
+is_idle (inspect_of seq query) = true
+is_idle _ = false
+
+abbrev pub AllIdle : {D : Type 0} → Course D → Type 0
+AllIdle c = AllByRecursion (λ (a : Answer). is_idle (what_of a) ≡ true) (answers_of c) × (is_idle c.last ≡ true)
+
+-- A script of such lines, carried out to its end, writes no byte of the disk.
+abbrev pub IsIdle : {D : Type 0} {T E : Type 0} → disk.Ghosts D → Result T E → Course D → D → D → Type 0
+IsIdle g (Ok x) c before after = AllIdle c → OnlyReads g before after
+IsIdle g (Err f) c before after = Unit {0}
+
 -- on `Ok` all of the script was read and carried out, and all replies are written
 abbrev pub IsAll : {T E : Type 0} → Result T E → List ℕ → Option (List ℕ) → List ℕ → Type 0
 IsAll (Ok x) more input' unwritten = (more ≡ []) × IsAtEnd input' × (unwritten ≡ [])
@@ -172,6 +191,7 @@ pub record IsCrashSafe {D : Type 0} (T E : Type 0) (g : disk.Ghosts D) (naming :
   pub is : IsCourse (begins_as naming) course
   pub text : IsText t course
   pub all : IsAll r text.more t.input' text.unwritten
+  pub idle : IsIdle g r course before after
   -- a stop within the opening leaves what one before it could have left
   pub opening : (left : List ℕ) → g.left_since after (g.clock before) left → g.may_leave before left ⊎ FindsSince left course.begin (map moment_of course.lines ++ course.end ∷ [])
   pub safe : AreSafe g after course.begin (map moment_of course.lines ++ course.end ∷ [])

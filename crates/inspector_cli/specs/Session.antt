@@ -132,6 +132,7 @@ HasNoStream s = (slot : ℕ) → stream_at s.streams slot ≡ None
 pub record DropsStreams {D : Type 0} (g : disk.Ghosts D) (old new : Parts D) : Type 0 where
   pub quiet : HasNoStream (state_of new)
   pub kept : state_of new ≡ record (state_of old) { streams = (state_of new).streams }
+  pub disk : new.disk ≡ old.disk
   pub stays : ChangesNoCase g old new
 
 -- what the streams of a session are before and after it
