@@ -64,7 +64,7 @@ pub end_told : (r : Result ℕ ArchiveFault) → end_reply r ≡ no_reply (codes
 end_told (Ok seq) is = absurd (first_apart (end_reply (Ok seq)) refl is)
 end_told (Err f) is = told_as_disk f is
 
-plain_told : (r : Result (Unit {0}) ArchiveFault) → plain_reply r ≡ no_reply (codes "Disk") → IsDiskFault r
+pub plain_told : (r : Result (Unit {0}) ArchiveFault) → plain_reply r ≡ no_reply (codes "Disk") → IsDiskFault r
 plain_told (Ok u) is = absurd (first_apart (plain_reply (Ok u)) refl is)
 plain_told (Err f) is = told_as_disk f is
 

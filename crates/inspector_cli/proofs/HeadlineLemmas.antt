@@ -1,6 +1,6 @@
 -- A session is a course of lines, and each stop of the machine leaves what stands behind one of them.
-use Rattle.std.proofs.Common.{◌≡◌, ◌⊎◌, ◌≤◌, inl, inr, ⊎_elim, ℕ, zero, suc, true, false, List, [], ◌∷◌, ◌++◌, map, Option, Some, None, Result, Ok, Err, refl, sym, ap, subst, ◌∙◌, append_assoc}
-use Rattle.std.proofs.lemmas.Bool.{false≢true}
+use Rattle.std.proofs.Common.{◌≡◌, ◌⊎◌, ◌≤◌, inl, inr, ⊎_elim, ℕ, zero, suc, Bool, true, false, List, [], ◌∷◌, ◌++◌, map, Option, Some, None, Result, Ok, Err, refl, sym, ap, subst, ◌∙◌, append_assoc}
+use Rattle.std.proofs.lemmas.Bool.{cases_Bool, false≢true}
 use Rattle.std.proofs.lemmas.List.{append-nil}
 use Rattle.std.specs.Prelude.{codes, option_map, IsTrue}
 use Rattle.std.specs.List.{flat_map, AllByRecursion}
@@ -16,8 +16,12 @@ use Rattle.intake.specs.Parts.{Parts, state_of}
 use Rattle.intake.specs.Growth.{IsDiskFault}
 use Rattle.intake.specs.QuietLaws.{quiet_then}
 use Rattle.intake.specs.Slots.{stream_at}
-use Rattle.intake.specs.State.{StreamFacts}
-use Rattle.intake.specs.Step.{FinishStep}
+use Rattle.intake.specs.State.{CaseFacts, StreamFacts}
+use Rattle.intake.specs.Step.{DeleteStep, FinishStep, case_at}
+use Rattle.intake.specs.Step as step
+use Rattle.retention.specs.Rule.{IsDecision}
+use Rattle.retention.specs.declared.Brief.{Brief}
+use Rattle.retention.specs.declared.Policy.{Policy}
 use Rattle.intake.specs.declared.faults.ArchiveFault.{ArchiveFault}
 use Rattle.stream_names.specs.declared.naming.Naming.{Naming}
 use Rattle.stream_names.specs.Streams.{exec_stream, core_stream}
@@ -27,19 +31,20 @@ use Rattle.archive_replies.specs.Reasons.{reason_of}
 use Rattle.archive_replies.specs.Texts.{end_reply}
 use Rattle.case_queries.specs.Inspecting.{kind_asked}
 use Rattle.case_queries.specs.LeaveLaws.{asks_leaves}
-use Rattle.inspector_cli.specs.Reply.{Replies, Ends}
+use Rattle.inspector_cli.specs.Reply.{Replies, Deletes, Ends}
 use Rattle.inspector_cli.specs.declared.session.SessionFault.{SessionFault}
 use Rattle.inspector_cli.specs.declared.session.SessionFault.TheVariants.{ReadFailed, WriteFailed, TooManyReads}
 use Rattle.inspector_cli.specs.declared.session.LifeFault.{LifeFault}
 use Rattle.inspector_cli.specs.declared.session.LifeFault.TheVariants as life
-use Rattle.inspector_cli.specs.Runs.{WholeIsARun, FrontIsARun}
+use Rattle.inspector_cli.specs.Runs.{IsClear, WholeIsARun, FrontIsARun}
 use Rattle.inspector_cli.specs.Session.{AnswersAll, AnswersWhole, IsItem, SessionEnds, Streams, spelled, Ending, complete, last_line, cut_part, said_last, last_stage, LastReplies, EndReplies, Truncates, DropsStreams}
 use Rattle.inspector_cli.specs.Stages.{Stage, Moves, MayLeave, IsFoundAfterAStop, mark_at, marks_of}
 use Rattle.inspector_cli.specs.Stored.{IsToldAs}
 use Rattle.inspector_cli.specs.Told.{Answer, Answers, Finishes, what_of, is_no, held_then, held_behind, parts_in}
-use Rattle.inspector_cli.specs.Headline.{is_idle, IsIdle, begins_as, begun_then, begun_behind, begun_in, empty_stream, IsAll, IsCrashSafe, SessionsAreCrashSafe, Leads, WouldLeave, Moment, Line, Course, LeadsOn, AllLead, IsCourse, FindsSince, AreSafe, last_moment, answer_of, moment_of}
+use Rattle.inspector_cli.specs.Headline.{EndsWhole, HasFlag, HasLabel, IsEnded, IsFrozen, brief_of, is_idle, IsIdle, begins_as, begun_then, begun_behind, begun_in, empty_stream, IsAll, IsCrashSafe, SessionsAreCrashSafe, Leads, WouldLeave, Moment, Line, Course, LeadsOn, AllLead, IsCourse, FindsSince, AreSafe, last_moment, answer_of, moment_of}
 use Rattle.inspector_cli.proofs.BegunLemmas.{IsBegun, then_begun}
-use Rattle.inspector_cli.proofs.ClearLemmas.{end_told, line_halts}
+use Rattle.inspector_cli.proofs.ClearLemmas.{end_told, line_halts, plain_told}
+use Rattle.inspector_cli.proofs.CaseLemmas.{is_found, briefs_are}
 use Rattle.inspector_cli.proofs.HeldLemmas.{IsHeld, taken_at, none_taken, opening_quiet}
 use Rattle.inspector_cli.proofs.IdleLemmas.{end_idle, lines_idle, opening_idle}
 use Rattle.inspector_cli.proofs.SafeLemmas.{are_safe, leads_on, since_opening}
@@ -51,10 +56,6 @@ use Rattle.inspector_cli.proofs.StageLemmas.{begins_stays, truncates_stays, brok
 module _ {D : Type 0} (g : disk.Ghosts D) (naming : Naming) (lasts : LastingLaws g) (stays : (d : D) → IsTrue (g.is_honest d) → g.may_leave d (g.seen d)) where
   abbrev pub held : Parts D → Durable
   held a = durable_of g.seen a
-
-  -- a refused line
-  refused : (earlier : List Answer) (what : Said) (reply reason : List ℕ) (x y : Durable) → reply ≡ no_reply reason → y ≡ x → Leads (begins_as naming) earlier what reply x y
-  refused earlier what reply reason x y told same = inr (reason, told, same)
 
   same_archive : (old new : Parts D) → new ≡ old → held new ≡ held old
   same_archive old new is = ap held is
@@ -69,11 +70,21 @@ module _ {D : Type 0} (g : disk.Ghosts D) (naming : Naming) (lasts : LastingLaws
   begun_there earlier old slot s begun runs at =
       ⊎_elim (λ stopped. absurd (false≢true (sym runs ∙ stopped))) (λ holds. sym holds ∙ ap (option_map empty_stream) at) begun
 
+  flag_there : (old : Parts D) (seq : ℕ) (c : CaseFacts) → case_at seq (state_of old).cases ≡ Some c → (flag : Bool) → c.pinned ≡ flag → HasFlag (held old) seq flag
+  flag_there old seq c at flag is = let f = is_found old.journal.standing.shape (g.seen old.disk) old.journal.standing.cases seq c at in (f.case, f.among, f.number, f.pinned ∙ is)
+
+  label_there : (old : Parts D) (seq : ℕ) (c : CaseFacts) → case_at seq (state_of old).cases ≡ Some c → (text : List ℕ) → c.label ≡ text → HasLabel (held old) seq text
+  label_there old seq c at text is = let f = is_found old.journal.standing.shape (g.seen old.disk) old.journal.standing.cases seq c at in (f.case, f.among, f.number, f.label ∙ is)
+
+  decided : (old : Parts D) (policy : Policy) (dropped : List ℕ) (unmet : Bool) → IsDecision policy (map step.brief_of (state_of old).cases) dropped unmet → IsDecision policy (map brief_of (held old).cases) dropped unmet
+  decided old policy dropped unmet decision =
+      subst (λ (bs : List Brief). IsDecision policy bs dropped unmet) (briefs_are old.journal.standing.shape (g.seen old.disk) old.journal.standing.cases) decision
+
   pub line_leads : (earlier : List Answer) (old new : Parts D) (what : Said) (raw reply : List ℕ) → IsTrue (g.is_honest old.disk) → ((slot : ℕ) → what ≡ end_of slot → IsHeld g slot old (parts_in slot earlier) × IsBegun slot (state_of old) (begun_in (begins_as naming) slot earlier))
       → Replies g naming old what raw reply new → Leads (begins_as naming) earlier what reply (held old) (held new)
-  line_leads earlier old new silence raw reply honest has r = inl (same_archive old new r.1)
-  line_leads earlier old new bad_line raw reply honest has r = inl (same_archive old new r.1)
-  line_leads earlier old new long_line raw reply honest has r = inl (same_archive old new r.1)
+  line_leads earlier old new silence raw reply honest has r = (r.0, same_archive old new r.1)
+  line_leads earlier old new bad_line raw reply honest has r = (r.0, same_archive old new r.1)
+  line_leads earlier old new long_line raw reply honest has r = (r.0, same_archive old new r.1)
   line_leads earlier old new (begin_exec slot name) raw reply honest has r = inl ((begins_stays g old new slot (exec_stream name) reply r.0 r.1).durable honest)
   line_leads earlier old new (begin_core slot process) raw reply honest has r = inl ((begins_stays g old new slot (core_stream naming process) reply r.0 r.1).durable honest)
   line_leads earlier old new (part_of slot k) raw reply honest has r = inl (r.1.stays.durable honest)
@@ -81,30 +92,56 @@ module _ {D : Type 0} (g : disk.Ghosts D) (naming : Naming) (lasts : LastingLaws
       let m = lasts.finish old new slot seq honest call in
       let taken : taken_at g slot old ≡ Some m.1.1.bytes = ap (option_map (λ (t : Taken). t.bytes)) m.1.3 in
       inl (empty_stream m.1.0, m.1.0.len, m.0, m.1.1.bytes, begun_there earlier old slot m.1.0 (has slot refl).1 call.step.2.0 m.1.2, parts_taken earlier old slot m.1.1 (has slot refl).0 call.step.2.0 taken, told ∙ ap (λ (n : ℕ). end_reply (Ok n)) call.step.6, m.1.5)
-  line_leads earlier old new (end_of slot) raw reply honest has (stored, (Err f, call, told, is)) =
-      refused earlier (end_of slot) reply (reason_of f) (held old) (held new) told (lasts.refusals old new f honest (inl (slot, call)))
+  line_leads earlier old new (end_of slot) raw reply honest has (stored, (Err f, call, told, is)) = inr (reason_of f, told, lasts.refusals old new f honest (inl (slot, call)))
   line_leads earlier old new (drop_of slot) raw reply honest has r = inl (r.1.stays.durable honest)
-  line_leads earlier old new (delete_of seq) raw reply honest has (Ok u, call, told) = inl (told, lasts.delete old new seq u honest call)
-  line_leads earlier old new (delete_of seq) raw reply honest has (Err f, call, told) =
-      refused earlier (delete_of seq) reply (reason_of f) (held old) (held new) told (lasts.refusals old new f honest (inr (inl (seq, call))))
+  line_leads earlier old new (delete_of seq) raw reply honest has (Ok u, call, told) = inl (flag_there old seq call.step.0 call.step.1.1 false call.step.2, told, lasts.delete old new seq u honest call)
+  line_leads earlier old new (delete_of seq) raw reply honest has (Err f, call, told) = inr (reason_of f, told, lasts.refusals old new f honest (inr (inl (seq, call))))
   line_leads earlier old new (pin_of seq flag) raw reply honest has (Ok u, call, told) =
-      inl (told, ⊎_elim (λ same. inr same.1) (λ set. inl set.1) (lasts.pin old new seq flag u honest call).2)
-  line_leads earlier old new (pin_of seq flag) raw reply honest has (Err f, call, told) =
-      refused earlier (pin_of seq flag) reply (reason_of f) (held old) (held new) told (lasts.refusals old new f honest (inr (inr (inl (seq, flag, call)))))
+      let p = lasts.pin old new seq flag u honest call in
+      inl (told, ⊎_elim (λ same. inr (flag_there old seq p.0 p.1.1 flag same.0, same.1)) (λ set. inl set.1) p.2)
+  line_leads earlier old new (pin_of seq flag) raw reply honest has (Err f, call, told) = inr (reason_of f, told, lasts.refusals old new f honest (inr (inr (inl (seq, flag, call)))))
   line_leads earlier old new (label_of seq label) raw reply honest has (Ok u, call, told) =
-      inl (told, ⊎_elim (λ same. inr same.1) (λ set. inl set.1) (lasts.label old new seq label u honest call).2)
-  line_leads earlier old new (label_of seq label) raw reply honest has (Err f, call, told) =
-      refused earlier (label_of seq label) reply (reason_of f) (held old) (held new) told (lasts.refusals old new f honest (inr (inr (inr (inr (inl (seq, label, call)))))))
+      let p = lasts.label old new seq label u honest call in
+      inl (told, ⊎_elim (λ same. inr (label_there old seq p.0 p.1.1 label same.0, same.1)) (λ set. inl set.1) p.2)
+  line_leads earlier old new (label_of seq label) raw reply honest has (Err f, call, told) = inr (reason_of f, told, lasts.refusals old new f honest (inr (inr (inr (inr (inl (seq, label, call)))))))
   line_leads earlier old new upgrade_archive raw reply honest has (Ok u, call, told) = inl (told, lasts.upgrade old new u honest call)
-  line_leads earlier old new upgrade_archive raw reply honest has (Err f, call, told) =
-      refused earlier upgrade_archive reply (reason_of f) (held old) (held new) told (lasts.refusals old new f honest (inr (inr (inr (inr (inr call))))))
-  line_leads earlier old new (retire_by policy) raw reply honest has (Ok d, call, told) = inl (d.dropped.items, d.unmet, told, lasts.retire old new policy d honest call)
-  line_leads earlier old new (retire_by policy) raw reply honest has (Err f, call, told) =
-      refused earlier (retire_by policy) reply (reason_of f) (held old) (held new) told (lasts.refusals old new f honest (inr (inr (inr (inl (policy, call))))))
+  line_leads earlier old new upgrade_archive raw reply honest has (Err f, call, told) = inr (reason_of f, told, lasts.refusals old new f honest (inr (inr (inr (inr (inr call))))))
+  line_leads earlier old new (retire_by policy) raw reply honest has (Ok d, call, told) =
+      inl (d.dropped.items, d.unmet, decided old policy d.dropped.items d.unmet call.step.1, told, lasts.retire old new policy d honest call)
+  line_leads earlier old new (retire_by policy) raw reply honest has (Err f, call, told) = inr (reason_of f, told, lasts.refusals old new f honest (inr (inr (inr (inl (policy, call))))))
   line_leads earlier old new list_all_cases raw reply honest has r = inl (same_archive old new r.1)
   line_leads earlier old new count_free raw reply honest has r = inl (same_archive old new r.3)
   line_leads earlier old new (inspect_of seq query) raw reply honest has r =
       inl ((asks_leaves g old new seq query (kind_asked (state_of old) seq query) reply r).stays.durable honest)
+
+  -- an archive that a disk fault has stopped is changed no more
+  line_frozen : (old new : Parts D) (what : Said) (raw reply : List ℕ) → IsTrue (g.is_honest old.disk) → old.stopped ≡ true → Replies g naming old what raw reply new → held new ≡ held old
+  line_frozen old new silence raw reply honest stopped r = same_archive old new r.1
+  line_frozen old new bad_line raw reply honest stopped r = same_archive old new r.1
+  line_frozen old new long_line raw reply honest stopped r = same_archive old new r.1
+  line_frozen old new (begin_exec slot name) raw reply honest stopped r = (begins_stays g old new slot (exec_stream name) reply r.0 r.1).durable honest
+  line_frozen old new (begin_core slot process) raw reply honest stopped r = (begins_stays g old new slot (core_stream naming process) reply r.0 r.1).durable honest
+  line_frozen old new (part_of slot k) raw reply honest stopped r = r.1.stays.durable honest
+  line_frozen old new (end_of slot) raw reply honest stopped (stored, (Ok seq, call, told, is)) = absurd (false≢true (sym call.step.2.0 ∙ stopped))
+  line_frozen old new (end_of slot) raw reply honest stopped (stored, (Err f, call, told, is)) = lasts.refusals old new f honest (inl (slot, call))
+  line_frozen old new (drop_of slot) raw reply honest stopped r = r.1.stays.durable honest
+  line_frozen old new (delete_of seq) raw reply honest stopped (Ok u, call, told) = absurd (false≢true (sym call.step.1.0 ∙ stopped))
+  line_frozen old new (delete_of seq) raw reply honest stopped (Err f, call, told) = lasts.refusals old new f honest (inr (inl (seq, call)))
+  line_frozen old new (pin_of seq flag) raw reply honest stopped (Ok u, call, told) = absurd (false≢true (sym call.step.1.0 ∙ stopped))
+  line_frozen old new (pin_of seq flag) raw reply honest stopped (Err f, call, told) = lasts.refusals old new f honest (inr (inr (inl (seq, flag, call))))
+  line_frozen old new (label_of seq label) raw reply honest stopped (Ok u, call, told) = absurd (false≢true (sym call.step.1.0.0 ∙ stopped))
+  line_frozen old new (label_of seq label) raw reply honest stopped (Err f, call, told) = lasts.refusals old new f honest (inr (inr (inr (inr (inl (seq, label, call))))))
+  line_frozen old new upgrade_archive raw reply honest stopped (Ok u, call, told) = absurd (false≢true (sym call.step.0 ∙ stopped))
+  line_frozen old new upgrade_archive raw reply honest stopped (Err f, call, told) = lasts.refusals old new f honest (inr (inr (inr (inr (inr call)))))
+  line_frozen old new (retire_by policy) raw reply honest stopped (Ok d, call, told) = absurd (false≢true (sym call.step.0 ∙ stopped))
+  line_frozen old new (retire_by policy) raw reply honest stopped (Err f, call, told) = lasts.refusals old new f honest (inr (inr (inr (inl (policy, call)))))
+  line_frozen old new list_all_cases raw reply honest stopped r = same_archive old new r.1
+  line_frozen old new count_free raw reply honest stopped r = same_archive old new r.3
+  line_frozen old new (inspect_of seq query) raw reply honest stopped r = (asks_leaves g old new seq query (kind_asked (state_of old) seq query) reply r).stays.durable honest
+
+  -- where something is in doubt, the archive is stopped
+  is_frozen : (old new : Stage D) → IsClear old → (old.archive.stopped ≡ true → held new.archive ≡ held old.archive) → (old.in_doubt ≡ [] → ⊥) → held new.archive ≡ held old.archive
+  is_frozen old new clear stops doubted = ⊎_elim (λ stopped. stops stopped) (λ runs. absurd (doubted (clear runs))) (cases_Bool old.archive.stopped)
 
   -- a line that a disk fault kept from its end had an archive that was not stopped before
   ends_runs : (old new : Parts D) (slot : ℕ) (reply : List ℕ) (stored : Option ℕ) → Ends g old slot reply new stored → reply ≡ no_reply (codes "Disk") → old.stopped ≡ false
@@ -114,10 +151,21 @@ module _ {D : Type 0} (g : disk.Ghosts D) (naming : Naming) (lasts : LastingLaws
       fault_runs (Ok seq) fault step = absurd fault
       fault_runs (Err f) fault step = (subst (λ (e : ArchiveFault). FinishStep (state_of old) slot (Err e) (state_of new)) fault step).1.0
 
+  -- and a case that was to be deleted was there, and not pinned
+  deletes_one : (old new : Parts D) (seq : ℕ) (reply : List ℕ) → Deletes g old seq reply new → reply ≡ no_reply (codes "Disk") → HasFlag (held old) seq false
+  deletes_one old new seq reply (r, call, answered) told = fault_has r (plain_told r (sym answered ∙ told)) call.step
+    where
+      fault_has : (r : Result (Unit {0}) ArchiveFault) → IsDiskFault r → DeleteStep (state_of old) seq r (state_of new) → HasFlag (held old) seq false
+      fault_has (Ok u) fault step = absurd fault
+      fault_has (Err f) fault step =
+          let d = subst (λ (e : ArchiveFault). DeleteStep (state_of old) seq (Err e) (state_of new)) fault step in
+          flag_there old seq d.0 d.1.1 false d.2
+
   pub line_would : (earlier : List Answer) (old new : Parts D) (what : Said) (raw reply : List ℕ) (x : Durable) → ((slot : ℕ) → what ≡ end_of slot → IsHeld g slot old (parts_in slot earlier) × IsBegun slot (state_of old) (begun_in (begins_as naming) slot earlier))
       → Replies g naming old what raw reply new → reply ≡ no_reply (codes "Disk") → MayLeave g old what x → WouldLeave (begins_as naming) earlier what (held old) x
   line_would earlier old new (end_of slot) raw reply x has r told may =
       let taken : taken_at g slot old ≡ Some may.1.1.bytes = ap (option_map (λ (t : Taken). t.bytes)) may.1.3 in (
+        refl,
         end_reply (Ok (held old).next),
         (
           empty_stream may.1.0,
@@ -130,11 +178,11 @@ module _ {D : Type 0} (g : disk.Ghosts D) (naming : Naming) (lasts : LastingLaws
           may.1.5,
         ),
       )
-  line_would earlier old new (delete_of seq) raw reply x has r told may = (ok_reply, (refl, may))
-  line_would earlier old new (pin_of seq flag) raw reply x has r told may = (ok_reply, (refl, inl may))
-  line_would earlier old new (label_of seq label) raw reply x has r told may = (ok_reply, (refl, inl may))
-  line_would earlier old new upgrade_archive raw reply x has r told may = (ok_reply, (refl, may))
-  line_would earlier old new (retire_by policy) raw reply x has r told may = (_, (may.0, may.1, refl, may.3))
+  line_would earlier old new (delete_of seq) raw reply x has r told may = (refl, ok_reply, (deletes_one old new seq reply r told, refl, may))
+  line_would earlier old new (pin_of seq flag) raw reply x has r told may = (refl, ok_reply, (refl, inl may))
+  line_would earlier old new (label_of seq label) raw reply x has r told may = (refl, ok_reply, (refl, inl may))
+  line_would earlier old new upgrade_archive raw reply x has r told may = (refl, ok_reply, (refl, may))
+  line_would earlier old new (retire_by policy) raw reply x has r told may = (refl, _, (may.0, may.1, decided old policy may.0 may.1 may.2.1, refl, may.3))
   line_would earlier old new _ raw reply x has r told may = absurd may
 
   -- where not all bytes of a part are there
@@ -156,7 +204,7 @@ module _ {D : Type 0} (g : disk.Ghosts D) (naming : Naming) (lasts : LastingLaws
     last_would what (suc n) x cut told may = cut_would earlier old new what [] reply x cut may
 
     end_leads : (e : Ending) → EndReplies g naming old e reply new → Leads (begins_as naming) earlier (said_last e) reply (held old) (held new)
-    end_leads complete r = inl (same_archive old new r.1)
+    end_leads complete r = (r.0, same_archive old new r.1)
     end_leads (last_line line) r = last_leads (said line) (raw_length (said line)) r
     end_leads (cut_part line raw) cut = cut_leads earlier old new (said line) raw reply honest cut
 
@@ -168,7 +216,19 @@ module _ {D : Type 0} (g : disk.Ghosts D) (naming : Naming) (lasts : LastingLaws
     finish_leads : (last : Said) → Finishes g naming old last reply new → Leads (begins_as naming) earlier last reply (held old) (held new)
     finish_leads last finishes =
         ⊎_elim (λ e. subst (λ (w : Said). Leads (begins_as naming) earlier w reply (held old) (held new)) (sym e.1) (end_leads e.0 e.2))
-        (λ b. subst (λ (w : Said). Leads (begins_as naming) earlier w reply (held old) (held new)) (sym b.1) (inl ((broken_stays g old new b.0 b.3).durable honest))) finishes
+        (λ b. subst (λ (w : Said). Leads (begins_as naming) earlier w reply (held old) (held new)) (sym b.1) (b.2, (broken_stays g old new b.0 b.3).durable honest)) finishes
+
+    last_frozen : old.stopped ≡ true → (what : Said) (n : ℕ) → LastReplies g naming n old what reply new → held new ≡ held old
+    last_frozen stopped what zero r = line_frozen old new what [] reply honest stopped r
+    last_frozen stopped what (suc n) cut = (truncates_stays g old new what [] reply cut).durable honest
+
+    end_frozen : old.stopped ≡ true → (e : Ending) → EndReplies g naming old e reply new → held new ≡ held old
+    end_frozen stopped complete r = same_archive old new r.1
+    end_frozen stopped (last_line line) r = last_frozen stopped (said line) (raw_length (said line)) r
+    end_frozen stopped (cut_part line raw) cut = (truncates_stays g old new (said line) raw reply cut).durable honest
+
+    finish_frozen : (last : Said) → Finishes g naming old last reply new → old.stopped ≡ true → held new ≡ held old
+    finish_frozen last finishes stopped = ⊎_elim (λ e. end_frozen stopped e.0 e.2) (λ b. (broken_stays g old new b.0 b.3).durable honest) finishes
 
     finish_would : (last : Said) (x : Durable) → Finishes g naming old last reply new → reply ≡ no_reply (codes "Disk") → MayLeave g old last x → WouldLeave (begins_as naming) earlier last (held old) x
     finish_would last x finishes told may =
@@ -229,6 +289,7 @@ module _ {D : Type 0} (g : disk.Ghosts D) (naming : Naming) (lasts : LastingLaws
     leads_on g (begins_as naming) earlier old s (what_of a) a.reply
         (line_leads earlier old.archive s.archive (what_of a) a.item.raw a.reply (stands 0).0.honest (λ slot is. ((stands slot).0.has, (stands slot).1)) run.0)
         (λ x told may. line_would earlier old.archive s.archive (what_of a) a.item.raw a.reply x (λ slot is. ((stands slot).0.has, (stands slot).1)) run.0 told may) run.1,
+    is_frozen old s (stands 0).0.clear (λ stopped. line_frozen old.archive s.archive (what_of a) a.item.raw a.reply (stands 0).0.honest stopped run.0),
     all_lead (earlier ++ a ∷ []) s list ss (stands_then earlier old s a stands run.0 run.1) run.2,
   )
 
@@ -256,6 +317,9 @@ module _ {D : Type 0} (g : disk.Ghosts D) (naming : Naming) (lasts : LastingLaws
         record {
           clear = clear;
           lines = all_lead [] old list ss stands answered;
+          frozen =
+              subst (λ (m : Moment D). IsFrozen m (moment_at end)) (sym (last_is old list ss answered))
+              (is_frozen (last_stage old ss) end (here 0).0.clear (λ stopped. finish_frozen list (last_stage old ss).archive end.archive reply (here 0).0.honest (λ slot. ((here slot).0.has, (here slot).1)) last finishes stopped));
           last =
               subst (λ (x : List Answer). LeadsOn (begins_as naming) x (last_moment (moment_at old) (lines_of list ss)) last reply (moment_at end)) (sym (answers_are old list ss answered))
               (subst (λ (m : Moment D). LeadsOn (begins_as naming) list m last reply (moment_at end)) (sym (last_is old list ss answered)) ends);
@@ -297,7 +361,7 @@ module _ {D : Type 0} (g : disk.Ghosts D) (lasts : LastingLaws g) (stays : (d : 
 
   module _ (r : Result (Unit {0}) LifeFault) (read more written unwritten : List ℕ) (stages : List (Stage D)) (end : Stage D) (consumed : Consumes t.input t.input' (read ++ more)) (appended : Appends t.taken t.taken' written)
       (drops : DropsStreams g end.archive closed) (found : IsFoundAfterAStop g first stages end closed) (all : IsAll r more t.input' unwritten) (run : IsRunOfMarks g (mark_at g.seen first) (marks_of g.seen stages end closed))
-      (answers : List Answer) (last : Said) (reply : List ℕ) (is : IsToldAs g read (written ++ unwritten) (session_of g naming first stages end closed answers last reply))
+      (answers : List Answer) (last : Said) (reply : List ℕ) (is : IsToldAs g read (written ++ unwritten) (session_of g naming first stages end closed answers last reply)) (ended : IsEnded r is.rest last)
       (idle : IsIdle g r (record { begin = moment_at g naming lasts stays first; lines = lines_of g naming lasts stays answers stages; last = last; reply = reply; end = moment_at g naming lasts stays end }) before after) where
     pub crash_safe : IsCrashSafe (Unit {0}) LifeFault g naming t before after r
     crash_safe =
@@ -310,6 +374,7 @@ module _ {D : Type 0} (g : disk.Ghosts D) (lasts : LastingLaws g) (stays : (d : 
           text = record {
             read = read;
             rest = is.rest;
+            ends = is.ends;
             more = more;
             consumed = consumed;
             script = subst (λ (list : List Answer). read ≡ flat_map spelled (map (λ (a : Answer). a.item) list) ++ is.rest) (sym same) is.cut;
@@ -320,6 +385,8 @@ module _ {D : Type 0} (g : disk.Ghosts D) (lasts : LastingLaws g) (stays : (d : 
             replies = subst (λ (list : List Answer). written ++ unwritten ≡ flat_map (λ (a : Answer). a.reply) list ++ reply) (sym same) is.text;
           };
           all = all;
+          ended = ended;
+          disk = disk ∙ drops.disk;
           idle = idle;
           opening =
               subst
@@ -359,19 +426,23 @@ module _ {D : Type 0} (g : disk.Ghosts D) (lasts : LastingLaws g) (stays : (d : 
   idle_of (Ok u) answers last reply stages end drops run ending = λ idle. idle_lines answers last reply stages end drops run ending idle
   idle_of (Err f) answers last reply stages end drops run ending = tt
 
+  ended_of : (r : Result (Unit {0}) LifeFault) (rest : List ℕ) (last : Said) → EndsWhole rest last → IsEnded r rest last
+  ended_of (Ok u) rest last ends = ends
+  ended_of (Err f) rest last ends = tt
+
   module _ (read more written unwritten : List ℕ) (stages : List (Stage D)) (end : Stage D) (consumed : Consumes t.input t.input' (read ++ more)) (appended : Appends t.taken t.taken' written) (drops : DropsStreams g end.archive closed) (found : IsFoundAfterAStop g first stages end closed) where
     -- a script that was answered to its end
     whole_safe : (r : Result (Unit {0}) LifeFault) → IsAll r more t.input' unwritten → AnswersAll g naming read (written ++ unwritten) first stages end → IsCrashSafe (Unit {0}) LifeFault g naming t before after r
     whole_safe r all answers =
         let told = all_told g naming read (written ++ unwritten) first stages end closed answers drops in
-        crash_safe r read more written unwritten stages end consumed appended drops found all (whole_run naming read (written ++ unwritten) first stages end closed answers drops) told.0 told.1 told.2 told.3
-        (idle_of r told.0 told.1 told.2 stages end drops told.3.had.answered told.4)
+        crash_safe r read more written unwritten stages end consumed appended drops found all (whole_run naming read (written ++ unwritten) first stages end closed answers drops) told.0 told.1 told.2 told.3.0 (ended_of r told.3.0.rest told.1 told.3.1)
+        (idle_of r told.0 told.1 told.2 stages end drops told.3.0.had.answered told.4)
 
     -- one that could not be read on
     front_safe : (f : LifeFault) → AnswersWhole g naming read (written ++ unwritten) first stages end → IsCrashSafe (Unit {0}) LifeFault g naming t before after (Err f)
     front_safe f answers =
         let told = whole_told g naming read (written ++ unwritten) first stages end closed answers drops in
-        crash_safe (Err f) read more written unwritten stages end consumed appended drops found tt (front_run naming read (written ++ unwritten) first stages end closed answers drops) told.0 told.1 told.2 told.3 tt
+        crash_safe (Err f) read more written unwritten stages end consumed appended drops found tt (front_run naming read (written ++ unwritten) first stages end closed answers drops) told.0 told.1 told.2 told.3 tt tt
 
   pub ended_safe : (r : Result (Unit {0}) SessionFault) → SessionEnds g naming t first closed r → IsCrashSafe (Unit {0}) LifeFault g naming t before after (life_of r)
   ended_safe (Ok u) e =

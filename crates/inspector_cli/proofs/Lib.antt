@@ -24,3 +24,4 @@ pub mod SafeLemmas
 pub mod StoreHeadLemmas
 pub mod BegunLemmas
 pub mod IdleLemmas
+pub mod CaseLemmas

@@ -39,3 +39,10 @@ pub at_mapped : {X Y : Type 0} (f : X → Y) (xs : List (Option X)) (slot : ℕ)
 at_mapped f [] slot = refl
 at_mapped f (x ∷ xs) zero = refl
 at_mapped f (x ∷ xs) (suc slot) = at_mapped f xs slot
+
+pub some_same : {X : Type 0} (x y : X) → Some x ≡ Some y → x ≡ y
+some_same {X = X} x y is = ap (λ o. get o) is
+  where
+    get : Option X → X
+    get None = x
+    get (Some z) = z

@@ -1,5 +1,5 @@
 -- A store, step by step, and what a stop of the machine leaves of it.
-use Rattle.std.proofs.Common.{◌≡◌, ◌⊎◌, inl, inr, ⊎_elim, ℕ, zero, suc, ◌+◌, Bool, true, false, List, [], ◌∷◌, ◌++◌, length, Option, Some, None, Result, Ok, Err, refl, sym, ap, subst, ◌∙◌, arith}
+use Rattle.std.proofs.Common.{◌≡◌, ◌≢◌, ◌⊎◌, inl, inr, ⊎_elim, ℕ, zero, suc, ◌+◌, Bool, true, false, List, [], ◌∷◌, ◌++◌, length, map, Option, Some, None, Result, Ok, Err, refl, sym, ap, subst, ◌∙◌, arith}
 use Rattle.std.proofs.lemmas.Bool.{true≢false}
 use Rattle.std.proofs.lemmas.List.{append-nil}
 use Rattle.std.specs.Prelude.{codes, slice_set, IsTrue}
@@ -11,18 +11,21 @@ use Rattle.intake.specs.declared.faults.ArchiveFault.{ArchiveFault}
 use Rattle.intake.specs.StayLaws.{stays_as, stays_then}
 use Rattle.intake.specs.Calls.{ChangesNoCase, OpenCall, BeginCall, AbandonCall, FinishCall}
 use Rattle.intake.specs.Contents.{Contents, Taken, empty_taken}
-use Rattle.intake.specs.Durable.{Durable, durable_of, with_case}
+use Rattle.intake.specs.Durable.{Durable, durable_of, labelled, with_case}
 use Rattle.intake.specs.Guarding.{MayBeStored}
 use Rattle.intake.specs.Marks.{FoundAfterAStop, NothingElseIsLeft, IsRunOfMarks, IsMarkSettled}
 use Rattle.intake.specs.Parts.{Parts, state_of, contents_of}
 use Rattle.intake.specs.Slots.{stream_at}
-use Rattle.intake.specs.State.{ArchiveState, StreamFacts}
-use Rattle.intake.specs.Step.{longer}
+use Rattle.intake.specs.State.{ArchiveState, CaseFacts, StreamFacts}
+use Rattle.intake.specs.Step.{HasCase, longer}
+use Rattle.intake.specs.Step as step
+use Rattle.retention.specs.Rule.{IsDecision}
+use Rattle.retention.specs.declared.Brief.{Brief}
 use Rattle.retention.specs.declared.Policy.{Policy}
 use Rattle.std.specs.Borrow.{Bor}
 use Rattle.stream_names.specs.Commands.{stream_found}
 use Rattle.stream_names.specs.declared.names.NewStream.{NewStream}
-use Rattle.script_lines.specs.Said.{end_of}
+use Rattle.script_lines.specs.Said.{end_of, label_of}
 use Rattle.archive_replies.specs.Reasons.{reason_of}
 use Rattle.script_streams.specs.Replies.{no_reply, ok_reply}
 use Rattle.inspector_cli.specs.declared.session.SessionFault.{SessionFault}
@@ -32,23 +35,19 @@ use Rattle.inspector_cli.specs.declared.session.LifeFault.TheVariants as life
 use Rattle.inspector_cli.specs.declared.session.StoreOutcome.{StoreOutcome}
 use Rattle.inspector_cli.specs.declared.store.TakeStop.{TakeStop}
 use Rattle.inspector_cli.specs.declared.store.TakeStop.TheVariants.{File, Refused}
-use Rattle.inspector_cli.specs.Headline.{AreSafe, FindsSince, Leads, WouldLeave}
+use Rattle.inspector_cli.specs.Headline.{AreSafe, FindsSince, Leads, WouldLeave, brief_of}
+use Rattle.archive_replies.specs.Texts.{end_reply}
 use Rattle.inspector_cli.specs.Reply.{Begins, Takes}
 use Rattle.inspector_cli.specs.Session.{Streams}
 use Rattle.inspector_cli.specs.Stages.{Stage, Moves, MayLeave, mark_at, marks_of}
-use Rattle.inspector_cli.specs.StoreHeadline.{AddsCase, StoresOrNot, StoreCourse, IsStoreCourse, IsTold, IsStoreSafe, StoresAreCrashSafe, BeginsEmpty, no_stream}
+use Rattle.inspector_cli.specs.StoreHeadline.{TellsStored, AddsCase, StoresOrNot, StoreCourse, IsStoreCourse, IsTold, IsStoreSafe, StoresAreCrashSafe, BeginsEmpty, no_stream}
 use Rattle.inspector_cli.specs.Storing.{TakesFile, FileReplies, RestReplies, MakesRoom, IsChosen, LabelsCase, Stores, StoreEnds, said_room, said_label}
+use Rattle.inspector_cli.proofs.CaseLemmas.{is_found, briefs_are}
 use Rattle.inspector_cli.proofs.KeptLemmas.{LastingLaws}
+use Rattle.inspector_cli.proofs.SlotLemmas.{some_same}
 use Rattle.inspector_cli.proofs.SafeLemmas.{are_safe, leads_on, moment, since_opening}
 use Rattle.inspector_cli.proofs.StageLemmas.{Laws, Reaches, stage_of, begins_stays, ends_moves}
 use Rattle.inspector_cli.proofs.StoreLemmas.{room_moves, label_moves}
-
-some_same : {X : Type 0} (x y : X) → Some x ≡ Some y → x ≡ y
-some_same {X = X} x y is = ap (λ o. get o) is
-  where
-    get : Option X → X
-    get None = x
-    get (Some z) = z
 
 -- what stands in a slot that was set is what was put there
 set_is : {X : Type 0} (xs : List (Option X)) (slot : ℕ) (a x : X) → stream_at (slice_set xs slot (Some a)) slot ≡ Some x → x ≡ a
@@ -85,6 +84,12 @@ module _ {D : Type 0} (g : disk.Ghosts D) (lasts : LastingLaws g) where
         ap (λ (x : Taken). x.bytes) (set_is (contents_of g.seen mid).taken 0 (record { bytes = b.0.bytes ++ raw; free = b.1 }) t after)
         ∙ ap (λ (x : Taken). x.bytes ++ raw) first
 
+  -- why a stream was not begun
+  not_begun : (old mid : Parts D) (found : Result StreamFacts (List ℕ)) (first : List ℕ) → Begins g old 0 found first mid false → (reason : List ℕ) × (first ≡ no_reply reason)
+  not_begun old mid (Err reason) first begins = (reason, begins.0)
+  not_begun old mid (Ok stream) first (Ok u, call, told, accepts) = absurd (true≢false (sym accepts))
+  not_begun old mid (Ok stream) first (Err f, call, told, accepts) = (reason_of f, told)
+
   -- the case that the stream becomes
   adds_case : (found : Result StreamFacts (List ℕ)) (file file' : Option (List ℕ)) (fails fails' : ℕ) (room mid filled : Parts D) (first : List ℕ) (x y : Durable) (n : ℕ) → BeginsEmpty found → Begins g room 0 found first mid true
       → TakesFile g file file' fails fails' mid filled (Ok tt) → IsTrue (g.is_honest mid.disk) → x ≡ durable_of g.seen filled → n ≡ x.next
@@ -108,18 +113,20 @@ module _ {D : Type 0} (g : disk.Ghosts D) (lasts : LastingLaws g) where
 
   module _ (laws : Laws g) (found : Result StreamFacts (List ℕ)) (none : BeginsEmpty found) (file file' : Option (List ℕ)) (fails fails' : ℕ) (room : Stage D) (honest : IsTrue (g.is_honest room.archive.disk)) where
     -- whether the case is stored, and what is in doubt
-    record Stored (filled ended : Parts D) (rest : List ℕ) (stored : Option ℕ) : Type 0 where
+    record Stored (filled ended : Parts D) (first rest : List ℕ) (stored : Option ℕ) : Type 0 where
       takes : ChangesNoCase g room.archive filled
       more : List Durable
       moves : Moves g (stage_of filled room.in_doubt) (end_of 0) rest (stage_of ended (more ++ room.in_doubt))
       stores : StoresOrNot found file file' (durable_of g.seen room.archive) stored (durable_of g.seen ended)
+      tells : TellsStored stored first rest
       doubted :
           (moves.doubts ≡ [])
           ⊎ ((rest ≡ no_reply (codes "Disk")) × AllByRecursion (λ (z : Durable). (n : ℕ) × AddsCase found file file' (durable_of g.seen room.archive) n z) moves.doubts)
 
     -- no case is stored, and the archive stays as it was
-    none_stored : (filled ended : Parts D) (rest : List ℕ) (stored : Option ℕ) → ChangesNoCase g room.archive filled → ended ≡ filled → stored ≡ None → Stored filled ended rest stored
-    none_stored filled ended rest stored takes same nothing = record {
+    none_stored : (filled ended : Parts D) (first rest : List ℕ) (stored : Option ℕ) → ChangesNoCase g room.archive filled → ended ≡ filled → stored ≡ None → TellsStored None first rest → Stored filled ended first rest stored
+    none_stored filled ended first rest stored takes same nothing tells = record {
+      tells = subst (λ (o : Option ℕ). TellsStored o first rest) (sym nothing) tells;
       takes = takes;
       more = [];
       moves = record { doubts = []; in_doubt = refl; doubted = inl refl; passes = laws.stays filled ended room.in_doubt (stays_as g filled ended same) };
@@ -138,15 +145,16 @@ module _ {D : Type 0} (g : disk.Ghosts D) (lasts : LastingLaws g) where
     )
 
     is_stored : (mid filled ended : Parts D) (first : List ℕ) (accepted : Bool) (rest : List ℕ) (stored : Option ℕ) → Begins g room.archive 0 found first mid accepted → ChangesNoCase g room.archive mid
-        → RestReplies g file file' fails fails' mid accepted filled rest ended stored → Stored filled ended rest stored
+        → RestReplies g file file' fails fails' mid accepted filled rest ended stored → Stored filled ended first rest stored
     is_stored mid filled ended first false rest stored begins begun goes =
-        none_stored filled ended rest stored (stays_then g room.archive mid filled begun (stays_as g mid filled goes.2)) (goes.4 ∙ sym goes.2) goes.5
+        none_stored filled ended first rest stored (stays_then g room.archive mid filled begun (stays_as g mid filled goes.2)) (goes.4 ∙ sym goes.2) goes.5
+        (inr (goes.3, not_begun room.archive mid found first begins))
     is_stored mid filled ended first true rest stored begins begun (Err stop, takes, replies) =
         none_refused stop takes replies
       where
-        none_refused : (stop : TakeStop) → TakesFile g file file' fails fails' mid filled (Err stop) → FileReplies g filled (Err stop) rest ended stored → Stored filled ended rest stored
-        none_refused File takes replies = none_stored filled ended rest stored (stays_then g room.archive mid filled begun takes.3.stays) replies.1 replies.2
-        none_refused (Refused f) takes replies = none_stored filled ended rest stored (stays_then g room.archive mid filled begun takes.2.stays) replies.1 replies.2
+        none_refused : (stop : TakeStop) → TakesFile g file file' fails fails' mid filled (Err stop) → FileReplies g filled (Err stop) rest ended stored → Stored filled ended first rest stored
+        none_refused File takes replies = none_stored filled ended first rest stored (stays_then g room.archive mid filled begun takes.3.stays) replies.1 replies.2 (inl (codes "File", replies.0))
+        none_refused (Refused f) takes replies = none_stored filled ended first rest stored (stays_then g room.archive mid filled begun takes.2.stays) replies.1 replies.2 (inl (reason_of f, replies.0))
     is_stored mid filled ended first true rest stored begins begun (Ok u, takes, (r, call, told, is)) =
         let there : IsTrue (g.is_honest mid.disk) = begun.honesty ∙ honest in
         let here : IsTrue (g.is_honest filled.disk) = takes.3.stays.honesty ∙ there in
@@ -157,9 +165,14 @@ module _ {D : Type 0} (g : disk.Ghosts D) (lasts : LastingLaws g) where
           more = moves.0;
           moves = moves.1;
           stores = ends r call is there here same;
+          tells = tells r told is;
           doubted = ⊎_elim (λ nothing. inl nothing) (λ may. inr (may.0, all_add mid filled first begins takes there same moves.1.doubts may.1)) moves.1.doubted;
         }
       where
+        tells : (r : Result ℕ ArchiveFault) → rest ≡ end_reply r → stored ≡ result_ok r → TellsStored stored first rest
+        tells (Ok seq) told is = subst (λ (o : Option ℕ). TellsStored o first rest) (sym is) told
+        tells (Err f) told is = subst (λ (o : Option ℕ). TellsStored o first rest) (sym is) (inl (reason_of f, told))
+
         ends : (r : Result ℕ ArchiveFault) → FinishCall g filled 0 r ended → stored ≡ result_ok r → IsTrue (g.is_honest mid.disk) → IsTrue (g.is_honest filled.disk) → durable_of g.seen room.archive ≡ durable_of g.seen filled
             → StoresOrNot found file file' (durable_of g.seen room.archive) stored (durable_of g.seen ended)
         ends (Ok seq) call is there here same =
@@ -170,25 +183,43 @@ module _ {D : Type 0} (g : disk.Ghosts D) (lasts : LastingLaws g) where
             subst (λ (o : Option ℕ). StoresOrNot found file file' (durable_of g.seen room.archive) o (durable_of g.seen ended)) (sym is)
             (lasts.refusals filled ended f here (inl (0, call)) ∙ sym same)
 
+  decided : (old : Parts D) (policy : Policy) (dropped : List ℕ) (unmet : Bool) → IsDecision policy (map step.brief_of (state_of old).cases) dropped unmet → IsDecision policy (map brief_of (durable_of g.seen old).cases) dropped unmet
+  decided old policy dropped unmet decision =
+      subst (λ (bs : List Brief). IsDecision policy bs dropped unmet) (briefs_are old.journal.standing.shape (g.seen old.disk) old.journal.standing.cases) decision
+
+  label_set : (old new : Parts D) (seq : ℕ) (label told : List ℕ) → told ≡ ok_reply
+      → (c : CaseFacts) × HasCase (state_of old) seq c
+      × (((c.label ≡ label) × (durable_of g.seen new ≡ durable_of g.seen old)) ⊎ ((c.label ≢ label) × (durable_of g.seen new ≡ labelled (durable_of g.seen old) seq label)))
+      → Leads no_stream [] (label_of seq label) told (durable_of g.seen old) (durable_of g.seen new)
+  label_set old new seq label told is p =
+      inl (
+        is,
+        ⊎_elim
+            (λ same.
+            (let f = is_found old.journal.standing.shape (g.seen old.disk) old.journal.standing.cases seq p.0 p.1.1 in
+            inr ((f.case, f.among, f.number, f.label ∙ same.0), same.1)))
+            (λ set. inl set.1) p.2,
+      )
+
   -- a line is carried out, or refused
   room_leads : (old new : Parts D) (policy : Option Policy) (told : List ℕ) (made : Bool) → IsTrue (g.is_honest old.disk) → MakesRoom g old policy told new made → Leads no_stream [] (said_room policy) told (durable_of g.seen old) (durable_of g.seen new)
-  room_leads old new None told made honest makes = inl (ap (durable_of g.seen) makes.1)
-  room_leads old new (Some policy) told made honest ((Ok d, call, is), done) = inl (d.dropped.items, d.unmet, is, lasts.retire old new policy d honest call)
+  room_leads old new None told made honest makes = (makes.0, ap (durable_of g.seen) makes.1)
+  room_leads old new (Some policy) told made honest ((Ok d, call, is), done) = inl (d.dropped.items, d.unmet, decided old policy d.dropped.items d.unmet call.step.1, is, lasts.retire old new policy d honest call)
   room_leads old new (Some policy) told made honest ((Err f, call, is), done) = inr (reason_of f, is, lasts.refusals old new f honest (inr (inr (inr (inl (policy, call))))))
 
   room_would : (old : Parts D) (policy : Option Policy) (x : Durable) → MayLeave g old (said_room policy) x → WouldLeave no_stream [] (said_room policy) (durable_of g.seen old) x
   room_would old None x may = absurd may
-  room_would old (Some policy) x may = (_, (may.0, may.1, refl, may.3))
+  room_would old (Some policy) x may = (refl, _, (may.0, may.1, decided old policy may.0 may.1 may.2.1, refl, may.3))
 
   label_leads : (old new : Parts D) (stored : Option ℕ) (label : Option (List ℕ)) (told : List ℕ) (done : Bool) → IsTrue (g.is_honest old.disk) → LabelsCase g old stored label told new done
       → Leads no_stream [] (said_label stored label) told (durable_of g.seen old) (durable_of g.seen new)
-  label_leads old new (Some seq) (Some label) told done honest ((Ok u, call, is), did) = inl (is, ⊎_elim (λ same. inr same.1) (λ set. inl set.1) (lasts.label old new seq label u honest call).2)
+  label_leads old new (Some seq) (Some label) told done honest ((Ok u, call, is), did) = label_set old new seq label told is (lasts.label old new seq label u honest call)
   label_leads old new (Some seq) (Some label) told done honest ((Err f, call, is), did) = inr (reason_of f, is, lasts.refusals old new f honest (inr (inr (inr (inr (inl (seq, label, call)))))))
-  label_leads old new (Some seq) None told done honest labels = inl (ap (durable_of g.seen) labels.1)
-  label_leads old new None label told done honest labels = inl (ap (durable_of g.seen) labels.1)
+  label_leads old new (Some seq) None told done honest labels = (labels.0, ap (durable_of g.seen) labels.1)
+  label_leads old new None label told done honest labels = (labels.0, ap (durable_of g.seen) labels.1)
 
   label_would : (old : Parts D) (stored : Option ℕ) (label : Option (List ℕ)) (x : Durable) → MayLeave g old (said_label stored label) x → WouldLeave no_stream [] (said_label stored label) (durable_of g.seen old) x
-  label_would old (Some seq) (Some label) x may = (ok_reply, (refl, inl may))
+  label_would old (Some seq) (Some label) x may = (refl, ok_reply, (refl, inl may))
   label_would old (Some seq) None x may = absurd may
   label_would old None label x may = absurd may
 
@@ -223,7 +254,7 @@ module _ {D : Type 0} (g : disk.Ghosts D) (lasts : LastingLaws g) (laws : Laws g
     begun : ChangesNoCase g s.room s.stores.mid
     begun = begins_stays g s.room s.stores.mid 0 found s.stores.first s.stores.accepted s.stores.begins
 
-    stored : Stored g lasts laws found none t.input t.input' t.fails t.fails' room room_honest s.stores.filled s.ended s.stores.rest outcome.stored
+    stored : Stored g lasts laws found none t.input t.input' t.fails t.fails' room room_honest s.stores.filled s.ended s.stores.first s.stores.rest outcome.stored
     stored = is_stored g lasts laws found none t.input t.input' t.fails t.fails' room room_honest s.stores.mid s.stores.filled s.ended s.stores.first s.stores.accepted s.stores.rest outcome.stored s.stores.begins begun s.stores.goes_on
 
     abbrev filled : Stage D
@@ -232,22 +263,22 @@ module _ {D : Type 0} (g : disk.Ghosts D) (lasts : LastingLaws g) (laws : Laws g
     abbrev ended : Stage D
     ended = stage_of s.ended (stored.more ++ room.in_doubt)
 
-    labelled : Reaches g laws ended end (said_label outcome.stored label) s.last
-    labelled = label_moves g laws ended end outcome.stored label s.last outcome.labelled s.labels
+    label_given : Reaches g laws ended end (said_label outcome.stored label) s.last
+    label_given = label_moves g laws ended end outcome.stored label s.last outcome.labelled s.labels
 
     abbrev last : Stage D
-    last = stage_of end (labelled.0 ++ ended.in_doubt)
+    last = stage_of end (label_given.0 ++ ended.in_doubt)
 
     ended_honest : IsTrue (g.is_honest s.ended.disk)
     ended_honest = stored.moves.passes.honesty ∙ (stored.takes.honesty ∙ room_honest)
 
     end_honest : IsTrue (g.is_honest end.disk)
-    end_honest = labelled.1.passes.honesty ∙ ended_honest
+    end_honest = label_given.1.passes.honesty ∙ ended_honest
 
     run : IsRunOfMarks g (mark_at g.seen first) (marks_of g.seen (room ∷ filled ∷ ended ∷ []) last closed)
     run = (
       room_made.1.passes,
-      (laws.stays s.room s.stores.filled room.in_doubt stored.takes, (stored.moves.passes, (labelled.1.passes, (laws.stays end closed last.in_doubt drops.stays, tt)))),
+      (laws.stays s.room s.stores.filled room.in_doubt stored.takes, (stored.moves.passes, (label_given.1.passes, (laws.stays end closed last.in_doubt drops.stays, tt)))),
     )
 
     settled : IsMarkSettled g (mark_at g.seen first)
@@ -260,7 +291,7 @@ module _ {D : Type 0} (g : disk.Ghosts D) (lasts : LastingLaws g) (laws : Laws g
       told = s.told;
       room = moment g room;
       filled = moment g filled;
-      replies = s.more;
+      first = s.stores.first;
       reply = s.stores.rest;
       stored = outcome.stored;
       ended = moment g ended;
@@ -278,12 +309,13 @@ module _ {D : Type 0} (g : disk.Ghosts D) (lasts : LastingLaws g) (laws : Laws g
       same = stored.takes.durable room_honest;
       same_doubt = refl;
       stores = stored.stores;
+      tells = stored.tells;
       doubts = stored.moves.doubts;
       in_doubt = stored.moves.in_doubt;
       doubted = stored.doubted;
       gives_label =
           leads_on g no_stream [] ended last (said_label outcome.stored label) s.last (label_leads g lasts s.ended end outcome.stored label s.last outcome.labelled ended_honest s.labels)
-          (λ x disk may. label_would g lasts s.ended outcome.stored label x may) labelled.1;
+          (λ x disk may. label_would g lasts s.ended outcome.stored label x may) label_given.1;
     }
 
     pub store_safe : IsStoreSafe g t asked found label before after r
@@ -294,7 +326,8 @@ module _ {D : Type 0} (g : disk.Ghosts D) (lasts : LastingLaws g) (laws : Laws g
       written = written;
       unwritten = unwritten;
       appended = appended;
-      text = s.all;
+      text = s.all ∙ ap (λ (x : List ℕ). s.told ++ (x ++ s.last)) s.stores.text;
+      disk = disk ∙ drops.disk;
       answered = told;
       opening =
           subst

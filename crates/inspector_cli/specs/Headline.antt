@@ -1,23 +1,27 @@
--- The headline: what a session does, told by its lines, and what a stop of the machine leaves of it. Beside what stands here a
--- reader needs what bytes stand for (`StandsFor`), what an archive holds (`Durable`), and what a line says (`Said`).
-use Rattle.std.specs.Prelude.{◌≡◌, ◌⊎◌, ℕ, ◌==◌, Bool, true, false, List, [], ◌∷◌, ◌++◌, map, Option, None, Some, option_map, Result, Ok, Err, IsTrue, codes, if◌then◌else◌}
+-- The headline: what a session does, told by its lines, and what a stop of the machine leaves of it. It rests on what bytes stand
+-- for (`StandsFor`), what an archive holds (`Durable`), what a line says (`Said`), and the text of replies (`Texts`).
+use Rattle.std.specs.Prelude.{◌≡◌, ◌⊎◌, ℕ, ◌==◌, ◌<◌, Bool, true, false, List, [], ◌∷◌, ◌++◌, length, map, Option, None, Some, option_map, Result, Ok, Err, IsTrue, codes, if◌then◌else◌}
 use Rattle.std.specs.Result.{result_ok}
 use Rattle.std.specs.List.{flat_map, AllByRecursion}
 use Rattle.std.specs.Io.KnownBytes.{Consumes, Appends, IsAtEnd}
 use Rattle.case_journal.specs.Viewing.{OnlyReads}
 use Rattle.disk_model.specs.declared.disk.Disk as disk
-use Rattle.intake.specs.Durable.{Durable, StandsFor, without, flagged, labelled, upgraded, with_case}
+use Rattle.intake.specs.Durable.{Durable, FoundCase, StandsFor, without, flagged, labelled, upgraded, with_case}
+use Rattle.intake.specs.Lives.{IsAmong}
 use Rattle.intake.specs.Marks.{IsOneOf}
 use Rattle.intake.specs.State.{StreamFacts}
+use Rattle.retention.specs.Rule.{IsDecision}
+use Rattle.retention.specs.declared.Brief.{Brief}
+use Rattle.script_streams.specs.Lines.{IsLine}
 use Rattle.stream_names.specs.Streams.{exec_stream, core_stream}
 use Rattle.stream_names.specs.declared.naming.Naming.{Naming}
-use Rattle.script_lines.specs.Said.{Said, silence, bad_line, long_line, list_all_cases, count_free, inspect_of, begin_exec, begin_core, part_of, drop_of, end_of, delete_of, pin_of, label_of, retire_by, upgrade_archive}
+use Rattle.script_lines.specs.Said.{Said, said, raw_length, silence, bad_line, long_line, list_all_cases, count_free, inspect_of, begin_exec, begin_core, part_of, drop_of, end_of, delete_of, pin_of, label_of, retire_by, upgrade_archive}
 use Rattle.script_streams.specs.Replies.{no_reply, ok_reply}
 use Rattle.archive_replies.specs.Texts.{end_reply, dropped_line, unmet_line}
 use Rattle.inspector_cli.specs.declared.session.LifeFault.{LifeFault}
 use Rattle.inspector_cli.specs.declared.session.LifeFault.TheVariants as life
 use Rattle.inspector_cli.specs.Life.{LifeEnds, RunsOver}
-use Rattle.inspector_cli.specs.Session.{Item, IsItem, Streams, spelled}
+use Rattle.inspector_cli.specs.Session.{Ending, IsEnding, Item, IsItem, Streams, ending_text, said_last, spelled}
 use Rattle.inspector_cli.specs.Told.{Answer, what_of, is_no, parts_in}
 
 -- a stream as it began, with no bytes
@@ -47,27 +51,54 @@ begun_behind begins slot o (a ∷ list) = begun_behind begins slot (begun_then b
 abbrev pub begun_in : (Said → Option StreamFacts) → ℕ → List Answer → Option StreamFacts
 begun_in begins slot list = begun_behind begins slot None list
 
+-- the case of this number has this flag, or this label
+abbrev pub HasFlag : Durable → ℕ → Bool → Type 0
+HasFlag x seq flag = (c : FoundCase) × IsAmong x.cases c × (c.seq ≡ seq) × (c.pinned ≡ flag)
+
+abbrev pub HasLabel : Durable → ℕ → List ℕ → Type 0
+HasLabel x seq text = (c : FoundCase) × IsAmong x.cases c × (c.seq ≡ seq) × (c.label ≡ text)
+
+-- what the rule of a retirement looks at of a case
+abbrev pub brief_of : FoundCase → Brief
+brief_of c = record { seq = c.seq; time = c.time; length = c.len; pinned = c.pinned }
+
 -- What a line that is carried out does to what the archive holds, x before it and y after it. `earlier` are the lines before it:
--- a case is the stream that its line began, and its image is the bytes of its parts.
+-- a case is the stream that its line began, and its image is the bytes of its parts. A pin or a label that stands already changes
+-- nothing. Any other line changes no case.
 abbrev pub Does : (Said → Option StreamFacts) → List Answer → Said → List ℕ → Durable → Durable → Type 0
 Does begins earlier (end_of slot) reply x y =
     (begun : StreamFacts) × (len : ℕ) × (runs : ℕ) × (image : List ℕ) × (begun_in begins slot earlier ≡ Some begun) × (parts_in slot earlier ≡ Some image)
     × (reply ≡ end_reply (Ok x.next)) × (y ≡ with_case x (record begun { len = len }) runs image)
-Does begins earlier (delete_of seq) reply x y = (reply ≡ ok_reply) × (y ≡ without x (seq ∷ []))
-Does begins earlier (pin_of seq flag) reply x y = (reply ≡ ok_reply) × ((y ≡ flagged x seq flag) ⊎ (y ≡ x))
-Does begins earlier (label_of seq text) reply x y = (reply ≡ ok_reply) × ((y ≡ labelled x seq text) ⊎ (y ≡ x))
+Does begins earlier (delete_of seq) reply x y = HasFlag x seq false × (reply ≡ ok_reply) × (y ≡ without x (seq ∷ []))
+Does begins earlier (pin_of seq flag) reply x y = (reply ≡ ok_reply) × ((y ≡ flagged x seq flag) ⊎ (HasFlag x seq flag × (y ≡ x)))
+Does begins earlier (label_of seq text) reply x y = (reply ≡ ok_reply) × ((y ≡ labelled x seq text) ⊎ (HasLabel x seq text × (y ≡ x)))
 Does begins earlier upgrade_archive reply x y = (reply ≡ ok_reply) × (y ≡ upgraded x)
 Does begins earlier (retire_by policy) reply x y =
-    (dropped : List ℕ) × (unmet : Bool) × (reply ≡ flat_map dropped_line dropped ++ (unmet_line unmet ++ ok_reply)) × (y ≡ without x dropped)
+    (dropped : List ℕ) × (unmet : Bool) × IsDecision policy (map brief_of x.cases) dropped unmet
+    × (reply ≡ flat_map dropped_line dropped ++ (unmet_line unmet ++ ok_reply)) × (y ≡ without x dropped)
 Does begins earlier _ reply x y = y ≡ x
 
--- A line is carried out, or it is refused and changes nothing.
+-- A line is carried out, or it is refused and changes nothing. A blank line is told nothing of, and one that is not in the grammar
+-- is refused. (What the replies of lines are that change no case is told by `Replies`.)
 abbrev pub Leads : (Said → Option StreamFacts) → List Answer → Said → List ℕ → Durable → Durable → Type 0
+Leads begins earlier silence reply x y = (reply ≡ []) × (y ≡ x)
+Leads begins earlier bad_line reply x y = (reply ≡ no_reply (codes "BadLine")) × (y ≡ x)
+Leads begins earlier long_line reply x y = (reply ≡ no_reply (codes "LineTooLong")) × (y ≡ x)
 Leads begins earlier what reply x y = Does begins earlier what reply x y ⊎ ((reason : List ℕ) × (reply ≡ no_reply reason) × (y ≡ x))
 
--- what a line would have left, had the disk not failed
+-- the line is one of those that change cases
+abbrev pub changes : Said → Bool
+changes (end_of slot) = true
+changes (delete_of seq) = true
+changes (pin_of seq flag) = true
+changes (label_of seq text) = true
+changes upgrade_archive = true
+changes (retire_by policy) = true
+changes _ = false
+
+-- what such a line would have left, had the disk not failed
 abbrev pub WouldLeave : (Said → Option StreamFacts) → List Answer → Said → Durable → Durable → Type 0
-WouldLeave begins earlier what x y = (reply : List ℕ) × Does begins earlier what reply x y
+WouldLeave begins earlier what x y = (changes what ≡ true) × (reply : List ℕ) × Does begins earlier what reply x y
 
 -- How things stand at a moment between two lines.
 pub record Moment (D : Type 0) : Type 0 where
@@ -86,7 +117,7 @@ pub record Line (D : Type 0) : Type 0 where
 pub record Course (D : Type 0) : Type 0 where
   pub begin : Moment D
   pub lines : List (Line D)
-  -- what stands behind the last newline, and the reply to it
+  -- what is said behind the whole commands, and the reply to it
   pub last : Said
   pub reply : List ℕ
   pub end : Moment D
@@ -104,9 +135,13 @@ answer_of l = l.answer
 abbrev pub moment_of : {D : Type 0} → Line D → Moment D
 moment_of l = l.after
 
+-- Once something is in doubt, nothing is changed any more.
+abbrev pub IsFrozen : {D : Type 0} → Moment D → Moment D → Type 0
+IsFrozen old new = (old.in_doubt ≡ [] → ⊥) → new.holds ≡ old.holds
+
 abbrev pub AllLead : {D : Type 0} → (Said → Option StreamFacts) → List Answer → Moment D → List (Line D) → Type 0
 AllLead begins earlier old [] = Unit {0}
-AllLead begins earlier old (l ∷ ls) = LeadsOn begins earlier old (what_of l.answer) l.answer.reply l.after × AllLead begins (earlier ++ l.answer ∷ []) l.after ls
+AllLead begins earlier old (l ∷ ls) = LeadsOn begins earlier old (what_of l.answer) l.answer.reply l.after × IsFrozen old l.after × AllLead begins (earlier ++ l.answer ∷ []) l.after ls
 
 -- behind the last line
 abbrev pub last_moment : {D : Type 0} → Moment D → List (Line D) → Moment D
@@ -117,6 +152,7 @@ last_moment m (l ∷ ls) = last_moment l.after ls
 pub record IsCourse {D : Type 0} (begins : Said → Option StreamFacts) (c : Course D) : Type 0 where
   pub clear : c.begin.in_doubt ≡ []
   pub lines : AllLead begins [] c.begin c.lines
+  pub frozen : IsFrozen (last_moment c.begin c.lines) c.end
   pub last : LeadsOn begins (map answer_of c.lines) (last_moment c.begin c.lines) c.last c.reply c.end
 
 -- An opening of these bytes finds what the archive held at this moment, or what was in doubt then.
@@ -146,11 +182,25 @@ answers_of c = map answer_of c.lines
 abbrev pub commands : {D : Type 0} → Course D → List Item
 commands c = map (λ (a : Answer). a.item) (answers_of c)
 
+-- Behind the whole commands a script that was answered to its end has nothing, a last line that no newline ends, or a line whose
+-- bytes are not all there.
+abbrev pub EndsWhole : List ℕ → Said → Type 0
+EndsWhole rest last = (ending : Ending) × IsEnding ending × (rest ≡ ending_text ending) × (last ≡ said_last ending)
+
+-- one that could not be read on has no whole command there
+abbrev pub BreaksThere : List ℕ → Type 0
+BreaksThere rest = IsLine rest ⊎ ((line : List ℕ) × (raw : List ℕ) × (rest ≡ line ++ 10 ∷ raw) × IsLine line × (length raw < raw_length (said line)))
+
+abbrev pub EndsSo : List ℕ → Said → Type 0
+EndsSo rest last = EndsWhole rest last ⊎ ((last ≡ silence) × BreaksThere rest)
+
 -- The script that was read, and the text of the replies: all that was written is a front of it.
 pub record IsText {D : Type 0} (t : Streams) (c : Course D) : Type 0 where
   pub read : List ℕ
+  -- behind the whole commands
   pub rest : List ℕ
-  -- what was read and not carried out
+  pub ends : EndsSo rest c.last
+  -- what was read and not looked at, since the output had failed
   pub more : List ℕ
   pub consumed : Consumes t.input t.input' (read ++ more)
   pub script : read ≡ flat_map spelled (commands c) ++ rest
@@ -160,7 +210,7 @@ pub record IsText {D : Type 0} (t : Streams) (c : Course D) : Type 0 where
   pub appended : Appends t.taken t.taken' written
   pub replies : written ++ unwritten ≡ flat_map (λ (a : Answer). a.reply) (answers_of c) ++ c.reply
 
--- the line shows what is in an archive, or says nothing that is known
+-- the line shows what is in an archive, is blank, or is not in the grammar
 abbrev pub is_idle : Said → Bool
 is_idle silence = true
 is_idle bad_line = true
@@ -173,12 +223,18 @@ is_idle _ = false
 abbrev pub AllIdle : {D : Type 0} → Course D → Type 0
 AllIdle c = AllByRecursion (λ (a : Answer). is_idle (what_of a) ≡ true) (answers_of c) × (is_idle c.last ≡ true)
 
--- A script of such lines, carried out to its end, writes no byte of the disk.
+-- A script of such lines, carried out to its end, only reads: reads give what they gave, and a stop leaves what one before could
+-- have left.
 abbrev pub IsIdle : {D : Type 0} {T E : Type 0} → disk.Ghosts D → Result T E → Course D → D → D → Type 0
 IsIdle g (Ok x) c before after = AllIdle c → OnlyReads g before after
 IsIdle g (Err f) c before after = Unit {0}
 
--- on `Ok` all of the script was read and carried out, and all replies are written
+-- on `Ok` the script ended there
+abbrev pub IsEnded : {T E : Type 0} → Result T E → List ℕ → Said → Type 0
+IsEnded (Ok x) rest last = EndsWhole rest last
+IsEnded (Err f) rest last = Unit {0}
+
+-- on `Ok` all of the script was read, and all replies are written
 abbrev pub IsAll : {T E : Type 0} → Result T E → List ℕ → Option (List ℕ) → List ℕ → Type 0
 IsAll (Ok x) more input' unwritten = (more ≡ []) × IsAtEnd input' × (unwritten ≡ [])
 IsAll (Err f) more input' unwritten = Unit {0}
@@ -191,8 +247,10 @@ pub record IsCrashSafe {D : Type 0} (T E : Type 0) (g : disk.Ghosts D) (naming :
   pub is : IsCourse (begins_as naming) course
   pub text : IsText t course
   pub all : IsAll r text.more t.input' text.unwritten
+  pub ended : IsEnded r text.rest course.last
+  pub disk : after ≡ course.end.disk
   pub idle : IsIdle g r course before after
-  -- a stop within the opening leaves what one before it could have left
+  -- a stop at any moment since the opening began leaves what one before it could have left, or what stands at a moment
   pub opening : (left : List ℕ) → g.left_since after (g.clock before) left → g.may_leave before left ⊎ FindsSince left course.begin (map moment_of course.lines ++ course.end ∷ [])
   pub safe : AreSafe g after course.begin (map moment_of course.lines ++ course.end ∷ [])
 

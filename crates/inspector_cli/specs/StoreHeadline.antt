@@ -7,6 +7,7 @@ use Rattle.disk_model.specs.declared.disk.Disk as disk
 use Rattle.intake.specs.Durable.{Durable, StandsFor, with_case}
 use Rattle.intake.specs.State.{StreamFacts}
 use Rattle.retention.specs.declared.Policy.{Policy}
+use Rattle.archive_replies.specs.Texts.{end_reply}
 use Rattle.script_lines.specs.Said.{Said}
 use Rattle.script_streams.specs.Replies.{no_reply}
 use Rattle.inspector_cli.specs.declared.session.LifeFault.{LifeFault}
@@ -37,6 +38,11 @@ StoresOrNot found file file' x None y = y ≡ x
 abbrev pub no_stream : Said → Option StreamFacts
 no_stream what = None
 
+-- Where a case is stored, its number is the reply to the stream's end; where none is, the stream is refused when it begins, or later.
+abbrev pub TellsStored : Option ℕ → List ℕ → List ℕ → Type 0
+TellsStored (Some n) first reply = reply ≡ end_reply (Ok n)
+TellsStored None first reply = ((reason : List ℕ) × (reply ≡ no_reply reason)) ⊎ ((reply ≡ []) × ((reason : List ℕ) × (first ≡ no_reply reason)))
+
 pub record StoreCourse (D : Type 0) : Type 0 where
   pub begin : Moment D
   -- by which room is made, if it is, and what is told of it
@@ -45,8 +51,8 @@ pub record StoreCourse (D : Type 0) : Type 0 where
   pub room : Moment D
   -- when the bytes of FILE are taken
   pub filled : Moment D
-  -- the replies to the stream, and the last of them, to its end
-  pub replies : List ℕ
+  -- the reply to the stream's beginning, and to its end
+  pub first : List ℕ
   pub reply : List ℕ
   pub stored : Option ℕ
   pub ended : Moment D
@@ -62,13 +68,14 @@ pub record IsStoreCourse {D : Type 0} (asked : Option Policy) (found : Result St
   pub same : c.filled.holds ≡ c.room.holds
   pub same_doubt : c.filled.in_doubt ≡ c.room.in_doubt
   pub stores : StoresOrNot found file file' c.room.holds c.stored c.ended.holds
+  pub tells : TellsStored c.stored c.first c.reply
   -- only where the end is answered `no Disk` is a case in doubt
   pub doubts : List Durable
   pub in_doubt : c.ended.in_doubt ≡ doubts ++ c.room.in_doubt
   pub doubted : (doubts ≡ []) ⊎ ((c.reply ≡ no_reply (codes "Disk")) × AllByRecursion (λ (z : Durable). (n : ℕ) × AddsCase found file file' c.room.holds n z) doubts)
   pub gives_label : LeadsOn no_stream [] c.ended (said_label c.stored label) c.labels c.end
 
--- on `Ok` all replies are written, and it is told whether the case is stored
+-- on `Ok` all replies are written, and the outcome says whether the case is stored
 abbrev pub IsTold : {E : Type 0} → Result StoreOutcome E → Option ℕ → List ℕ → Type 0
 IsTold (Ok outcome) stored unwritten = (outcome.stored ≡ stored) × (unwritten ≡ [])
 IsTold (Err f) stored unwritten = Unit {0}
@@ -82,9 +89,10 @@ pub record IsStoreSafe {D : Type 0} (g : disk.Ghosts D) (t : Streams) (asked : O
   pub written : List ℕ
   pub unwritten : List ℕ
   pub appended : Appends t.taken t.taken' written
-  pub text : written ++ unwritten ≡ course.told ++ (course.replies ++ course.labels)
+  pub text : written ++ unwritten ≡ course.told ++ ((course.first ++ course.reply) ++ course.labels)
+  pub disk : after ≡ course.end.disk
   pub answered : IsTold r course.stored unwritten
-  -- a stop within the opening leaves what one before it could have left
+  -- a stop at any moment since the opening began leaves what one before it could have left, or what stands at a moment
   pub opening : (left : List ℕ) → g.left_since after (g.clock before) left
       → g.may_leave before left ⊎ FindsSince left course.begin (course.room ∷ course.filled ∷ course.ended ∷ course.end ∷ [])
   pub safe : AreSafe g after course.begin (course.room ∷ course.filled ∷ course.ended ∷ course.end ∷ [])

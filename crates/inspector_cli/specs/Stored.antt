@@ -10,6 +10,7 @@ use Rattle.intake.specs.Parts.{Parts, state_of}
 use Rattle.stream_names.specs.declared.naming.Naming.{Naming}
 use Rattle.script_lines.specs.Said.{Said, end_of}
 use Rattle.archive_replies.specs.Texts.{end_reply}
+use Rattle.inspector_cli.specs.Headline.{EndsSo}
 use Rattle.inspector_cli.specs.Runs.{IsLifeOf}
 use Rattle.inspector_cli.specs.Stages.{Stage}
 use Rattle.inspector_cli.specs.Session.{IsItem, spelled, AnswersAll, AnswersWhole, DropsStreams, HasNoStream}
@@ -21,6 +22,7 @@ pub record IsToldAs {D : Type 0} (g : disk.Ghosts D) (read out : List ℕ) (s : 
   pub had : IsHad g s
   pub each : AllByRecursion IsItem (commands_of s)
   pub rest : List ℕ
+  pub ends : EndsSo rest s.last
   pub cut : read ≡ flat_map spelled (commands_of s) ++ rest
   pub text : out ≡ text_of s
 
