@@ -34,7 +34,7 @@ module _ {D : Type 0} (g : disk.Ghosts D) (shape : Shape) (before after : D) (op
   pub made_in_two : IsFresh g shape true after
   made_in_two =
       let runs : new.stopped ≡ false = ap (λ (s : ArchiveState). s.stopped) anew ∙ call.step.0 in
-      let keeps : IsTrue (g.is_honest after) = ap g.is_honest closing.disk ∙ (call.changes.honesty ∙ (opening.honesty ∙ honest)) in (
+      let keeps : IsTrue (g.is_honest after) = ap g.is_honest closing.disk ∙ (call.changes.disk.honesty ∙ (opening.honesty ∙ honest)) in (
         subst (λ (x : Durable). StandsFor (g.seen after) x) empty (closing.stands runs keeps),
         λ c may. subst (λ (x : Durable). StandsFor c x) empty (closing.left runs keeps c may),
       )
