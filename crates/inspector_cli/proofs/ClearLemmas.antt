@@ -37,7 +37,7 @@ fourth_of (a ∷ b ∷ c ∷ d ∷ rest) = d
 fourth_of _ = 0
 
 -- a reply with another first byte is not that of a disk fault, nor is a refusal with another reason
-first_apart : (reply : List ℕ) → eqb (first_of reply) (first_of (no_reply (codes "Disk"))) ≡ false → reply ≡ no_reply (codes "Disk") → ⊥
+pub first_apart : (reply : List ℕ) → eqb (first_of reply) (first_of (no_reply (codes "Disk"))) ≡ false → reply ≡ no_reply (codes "Disk") → ⊥
 first_apart reply apart is = eqb-false (first_of reply) (first_of (no_reply (codes "Disk"))) apart (ap first_of is)
 
 reason_apart : (f : ArchiveFault) → eqb (fourth_of (no_reply (reason_of f))) (fourth_of (no_reply (codes "Disk"))) ≡ false → no_reply (reason_of f) ≡ no_reply (codes "Disk") → f ≡ Disk

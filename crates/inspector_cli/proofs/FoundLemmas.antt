@@ -27,7 +27,7 @@ use Rattle.inspector_cli.proofs.HeldLemmas.{IsHeld, taken_at, none_taken, then_h
 use Rattle.inspector_cli.proofs.KeptLemmas.{LastingLaws, rest_keeps, among_last}
 
 -- the number that a reply tells is one
-told_once : (seq n : ℕ) → seq < 2 ^ 64 → n < 2 ^ 64 → end_reply (Ok seq) ≡ end_reply (Ok n) → seq ≡ n
+pub told_once : (seq n : ℕ) → seq < 2 ^ 64 → n < 2 ^ 64 → end_reply (Ok seq) ≡ end_reply (Ok n) → seq ≡ n
 told_once seq n first second is =
     decimal_injective seq n first second
     (append_cancel_left (codes "stored ") (decimal seq) (decimal n)

@@ -40,7 +40,7 @@ pub record LastingLaws {D : Type 0} (g : disk.Ghosts D) : Type 0 where
 pub lasts_of : {D : Type 0} (g : disk.Ghosts D) → FinishLasts g → DeleteLasts g → PinLasts g → LabelLasts g → UpgradeLasts g → RetireLasts g → RefusalsLast g → LastingLaws g
 lasts_of g finish delete pin label upgrade retire refusals = record { finish = finish; delete = delete; pin = pin; label = label; upgrade = upgrade; retire = retire; refusals = refusals }
 
-among_more : (xs ys : List FoundCase) (c : FoundCase) → IsAmong xs c → IsAmong (xs ++ ys) c
+pub among_more : (xs ys : List FoundCase) (c : FoundCase) → IsAmong xs c → IsAmong (xs ++ ys) c
 among_more [] ys c among = absurd among
 among_more (x ∷ xs) ys c among = ⊎_elim (λ is. inl is) (λ there. inr (among_more xs ys c there)) among
 
@@ -48,7 +48,7 @@ pub among_last : (xs : List FoundCase) (c : FoundCase) → IsAmong (xs ++ c ∷ 
 among_last [] c = inl refl
 among_last (x ∷ xs) c = inr (among_last xs c)
 
-among_filtered : (f : FoundCase → Bool) (xs : List FoundCase) (c : FoundCase) → IsAmong xs c → f c ≡ true → IsAmong (filter f xs) c
+pub among_filtered : (f : FoundCase → Bool) (xs : List FoundCase) (c : FoundCase) → IsAmong xs c → f c ≡ true → IsAmong (filter f xs) c
 among_filtered f [] c among passes = absurd among
 among_filtered f (x ∷ xs) c among passes =
     ⊎_elim
@@ -59,24 +59,24 @@ among_filtered f (x ∷ xs) c among passes =
     ])
     among
 
-among_mapped : (f : FoundCase → FoundCase) (xs : List FoundCase) (c : FoundCase) → IsAmong xs c → IsAmong (map f xs) (f c)
+pub among_mapped : (f : FoundCase → FoundCase) (xs : List FoundCase) (c : FoundCase) → IsAmong xs c → IsAmong (map f xs) (f c)
 among_mapped f [] c among = absurd among
 among_mapped f (x ∷ xs) c among = ⊎_elim (λ is. inl (ap f is)) (λ there. inr (among_mapped f xs c there)) among
 
-all_append : (P : Durable → Type 0) (xs ys : List Durable) → AllByRecursion P xs → AllByRecursion P ys → AllByRecursion P (xs ++ ys)
+pub all_append : (P : Durable → Type 0) (xs ys : List Durable) → AllByRecursion P xs → AllByRecursion P ys → AllByRecursion P (xs ++ ys)
 all_append P [] ys all more = more
 all_append P (x ∷ xs) ys all more = (all.0, all_append P xs ys all.1 more)
 
-all_mapped : {P Q : Durable → Type 0} (xs : List Durable) → ((x : Durable) → P x → Q x) → AllByRecursion P xs → AllByRecursion Q xs
+pub all_mapped : {P Q : Durable → Type 0} (xs : List Durable) → ((x : Durable) → P x → Q x) → AllByRecursion P xs → AllByRecursion Q xs
 all_mapped [] f all = tt
 all_mapped (x ∷ xs) f all = (f x all.0, all_mapped xs f all.1)
 
 -- another number than the one is not among it
-one_apart : (seq n : ℕ) → (seq ≡ n → ⊥) → is_among (seq ∷ []) n ≡ false
+pub one_apart : (seq n : ℕ) → (seq ≡ n → ⊥) → is_among (seq ∷ []) n ≡ false
 one_apart seq n apart = ⊎_elim (λ h. absurd (apart (sym h.1))) (λ h. ap (λ (t : Bool). t || false) h.0) (eqb_tells n seq)
 
 -- a number that is dropped has its line
-has_line : (n : ℕ) (seqs rest : List ℕ) → is_among seqs n ≡ true → HasLine (dropped_line n) (flat_map dropped_line seqs ++ rest)
+pub has_line : (n : ℕ) (seqs rest : List ℕ) → is_among seqs n ≡ true → HasLine (dropped_line n) (flat_map dropped_line seqs ++ rest)
 has_line n [] rest among = absurd (false≢true among)
 has_line n (seq ∷ seqs) rest among =
     ⊎_elim

@@ -25,3 +25,4 @@ pub mod StoreHeadLemmas
 pub mod BegunLemmas
 pub mod IdleLemmas
 pub mod CaseLemmas
+pub mod KeepingLemmas

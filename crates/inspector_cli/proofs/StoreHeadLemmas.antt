@@ -1,6 +1,6 @@
 -- A store, step by step, and what a stop of the machine leaves of it.
 use Rattle.std.proofs.Common.{◌≡◌, ◌≢◌, ◌⊎◌, inl, inr, ⊎_elim, ℕ, zero, suc, ◌+◌, Bool, true, false, List, [], ◌∷◌, ◌++◌, length, map, Option, Some, None, Result, Ok, Err, refl, sym, ap, subst, ◌∙◌, arith}
-use Rattle.std.proofs.lemmas.Bool.{true≢false}
+use Rattle.std.proofs.lemmas.Bool.{false≢true, true≢false}
 use Rattle.std.proofs.lemmas.List.{append-nil}
 use Rattle.std.specs.Prelude.{codes, slice_set, IsTrue}
 use Rattle.std.specs.List.{AllByRecursion}
@@ -43,6 +43,7 @@ use Rattle.inspector_cli.specs.Stages.{Stage, Moves, MayLeave, mark_at, marks_of
 use Rattle.inspector_cli.specs.StoreHeadline.{TellsStored, AddsCase, StoresOrNot, StoreCourse, IsStoreCourse, IsTold, IsStoreSafe, StoresAreCrashSafe, BeginsEmpty, no_stream}
 use Rattle.inspector_cli.specs.Storing.{TakesFile, FileReplies, RestReplies, MakesRoom, IsChosen, LabelsCase, Stores, StoreEnds, said_room, said_label}
 use Rattle.inspector_cli.proofs.CaseLemmas.{is_found, briefs_are}
+use Rattle.inspector_cli.proofs.ClearLemmas.{first_apart, retire_told, retire_stops}
 use Rattle.inspector_cli.proofs.KeptLemmas.{LastingLaws}
 use Rattle.inspector_cli.proofs.SlotLemmas.{some_same}
 use Rattle.inspector_cli.proofs.SafeLemmas.{are_safe, leads_on, moment, since_opening}
@@ -54,6 +55,13 @@ set_is : {X : Type 0} (xs : List (Option X)) (slot : ℕ) (a x : X) → stream_a
 set_is [] slot a x is = cc
 set_is (y ∷ ys) zero a x is = sym (some_same a x is)
 set_is (y ∷ ys) (suc slot) a x is = set_is ys slot a x is
+
+abbrev IsNone : Option ℕ → Type 0
+IsNone None = Unit {0}
+IsNone (Some n) = ⊥
+
+none_apart : (n : ℕ) → None ≡ Some n → ⊥
+none_apart n is = subst IsNone is tt
 
 module _ {D : Type 0} (g : disk.Ghosts D) (lasts : LastingLaws g) where
   -- the stream that has taken these bytes, where it had none when it began
@@ -90,6 +98,17 @@ module _ {D : Type 0} (g : disk.Ghosts D) (lasts : LastingLaws g) where
   not_begun old mid (Ok stream) first (Ok u, call, told, accepts) = absurd (true≢false (sym accepts))
   not_begun old mid (Ok stream) first (Err f, call, told, accepts) = (reason_of f, told)
 
+  -- a stream begins only in an archive that is not stopped
+  awake_then : (old mid : Parts D) (found : Result StreamFacts (List ℕ)) (first : List ℕ) → Begins g old 0 found first mid true → (state_of old).stopped ≡ false
+  awake_then old mid (Err reason) first begins = absurd (true≢false begins.2)
+  awake_then old mid (Ok stream) first (Ok u, call, told, accepts) = call.step.0.0
+  awake_then old mid (Ok stream) first (Err f, call, told, accepts) = absurd (true≢false accepts)
+
+  -- where room was answered `no Disk` the archive is stopped
+  room_stops : (old new : Parts D) (policy : Option Policy) (told : List ℕ) (made : Bool) → MakesRoom g old policy told new made → told ≡ no_reply (codes "Disk") → (state_of new).stopped ≡ true
+  room_stops old new None told made makes is = absurd (first_apart [] refl (sym makes.0 ∙ is))
+  room_stops old new (Some policy) told made ((r, call, answered), done) is = retire_stops (state_of old) (state_of new) policy r call.step (retire_told r (sym answered ∙ is))
+
   -- the case that the stream becomes
   adds_case : (found : Result StreamFacts (List ℕ)) (file file' : Option (List ℕ)) (fails fails' : ℕ) (room mid filled : Parts D) (first : List ℕ) (x y : Durable) (n : ℕ) → BeginsEmpty found → Begins g room 0 found first mid true
       → TakesFile g file file' fails fails' mid filled (Ok tt) → IsTrue (g.is_honest mid.disk) → x ≡ durable_of g.seen filled → n ≡ x.next
@@ -119,6 +138,7 @@ module _ {D : Type 0} (g : disk.Ghosts D) (lasts : LastingLaws g) where
       moves : Moves g (stage_of filled room.in_doubt) (end_of 0) rest (stage_of ended (more ++ room.in_doubt))
       stores : StoresOrNot found file file' (durable_of g.seen room.archive) stored (durable_of g.seen ended)
       tells : TellsStored stored first rest
+      awake : (n : ℕ) → stored ≡ Some n → (state_of room.archive).stopped ≡ false
       doubted :
           (moves.doubts ≡ [])
           ⊎ ((rest ≡ no_reply (codes "Disk")) × AllByRecursion (λ (z : Durable). (n : ℕ) × AddsCase found file file' (durable_of g.seen room.archive) n z) moves.doubts)
@@ -126,6 +146,7 @@ module _ {D : Type 0} (g : disk.Ghosts D) (lasts : LastingLaws g) where
     -- no case is stored, and the archive stays as it was
     none_stored : (filled ended : Parts D) (first rest : List ℕ) (stored : Option ℕ) → ChangesNoCase g room.archive filled → ended ≡ filled → stored ≡ None → TellsStored None first rest → Stored filled ended first rest stored
     none_stored filled ended first rest stored takes same nothing tells = record {
+      awake = λ n is. absurd (none_apart n (sym nothing ∙ is));
       tells = subst (λ (o : Option ℕ). TellsStored o first rest) (sym nothing) tells;
       takes = takes;
       more = [];
@@ -166,6 +187,7 @@ module _ {D : Type 0} (g : disk.Ghosts D) (lasts : LastingLaws g) where
           moves = moves.1;
           stores = ends r call is there here same;
           tells = tells r told is;
+          awake = λ n some. awake_then room.archive mid found first begins;
           doubted = ⊎_elim (λ nothing. inl nothing) (λ may. inr (may.0, all_add mid filled first begins takes there same moves.1.doubts may.1)) moves.1.doubted;
         }
       where
@@ -257,6 +279,15 @@ module _ {D : Type 0} (g : disk.Ghosts D) (lasts : LastingLaws g) (laws : Laws g
     stored : Stored g lasts laws found none t.input t.input' t.fails t.fails' room room_honest s.stores.filled s.ended s.stores.first s.stores.rest outcome.stored
     stored = is_stored g lasts laws found none t.input t.input' t.fails t.fails' room room_honest s.stores.mid s.stores.filled s.ended s.stores.first s.stores.accepted s.stores.rest outcome.stored s.stores.begins begun s.stores.goes_on
 
+    -- nothing is in doubt where the archive is not stopped
+    room_clear : (state_of s.room).stopped ≡ false → room.in_doubt ≡ []
+    room_clear awake =
+        let none : room_made.1.doubts ≡ [] =
+        ⊎_elim (λ is. is)
+        (λ may. absurd (false≢true (sym awake ∙ room_stops g lasts opened s.room s.makes_room.policy s.told outcome.made_room s.makes_room.makes_room may.0))) room_made.1.doubted
+        in
+        room_made.1.in_doubt ∙ ap (λ (ds : List Durable). ds ++ []) none
+
     abbrev filled : Stage D
     filled = stage_of s.stores.filled room.in_doubt
 
@@ -309,6 +340,7 @@ module _ {D : Type 0} (g : disk.Ghosts D) (lasts : LastingLaws g) (laws : Laws g
       same = stored.takes.durable room_honest;
       same_doubt = refl;
       stores = stored.stores;
+      sure = λ n is. room_clear (stored.awake n is);
       tells = stored.tells;
       doubts = stored.moves.doubts;
       in_doubt = stored.moves.in_doubt;

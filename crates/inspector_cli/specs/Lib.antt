@@ -13,3 +13,4 @@ pub mod Extracting
 pub mod Copying
 pub mod Headline
 pub mod StoreHeadline
+pub mod Kept

@@ -68,6 +68,8 @@ pub record IsStoreCourse {D : Type 0} (asked : Option Policy) (found : Result St
   pub same : c.filled.holds ≡ c.room.holds
   pub same_doubt : c.filled.in_doubt ≡ c.room.in_doubt
   pub stores : StoresOrNot found file file' c.room.holds c.stored c.ended.holds
+  -- a case is stored only if nothing is in doubt
+  pub sure : (n : ℕ) → c.stored ≡ Some n → c.room.in_doubt ≡ []
   pub tells : TellsStored c.stored c.first c.reply
   -- only where the end is answered `no Disk` is a case in doubt
   pub doubts : List Durable

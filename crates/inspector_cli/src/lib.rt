@@ -33,5 +33,5 @@ pub use script_streams::{Input, Output, ReadInput, StreamFault, WriteOutput};
 pub use session::{LifeFault, MemoryFault, SessionFault, StoreOutcome};
 pub use store::store_stream;
 pub use store_life::open_and_store;
-pub use stored::a_stored_case_is_found;
+pub use stored::{a_stored_case_is_found, a_stored_case_is_kept};
 pub use stream_names::{Naming, NewStream};
