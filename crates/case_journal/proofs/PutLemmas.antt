@@ -10,7 +10,7 @@ use Rattle.journal_layout.specs.RoomLaws.{drops_have_room}
 use Rattle.journal_layout.specs.Folding.{after}
 use Rattle.journal_layout.specs.Standing.{Standing, folded_of, lengthened}
 use Rattle.journal_layout.specs.Stands.{Stands}
-use Rattle.journal_layout.specs.Rewriting.{snapshot_size, rewritten, fits, appended}
+use Rattle.journal_layout.specs.Rewriting.{snapshot_size, rewritten, fits, appended, other_start}
 use Rattle.journal_layout.specs.AppendLaws.{appended_behind, appended_beside, fits_true}
 use Rattle.journal_snapshot.specs.Filling.{Fills}
 use Rattle.journal_snapshot.specs.FillLaws.{fills_nothing, fills_wider}
@@ -23,7 +23,7 @@ use Rattle.case_journal.specs.Keeping.{Keeps, LeavesEither}
 use Rattle.case_journal.specs.Append.{HasRoom, MayFollow, AppendStep}
 use Rattle.case_journal.specs.Compacting.{BesideStep, RunsBeside, CompactStep, PutLeaves, beside, compacted, moved, noted}
 use Rattle.case_journal.specs.Entering.{place_after, PutStep}
-use Rattle.case_journal.specs.Putting.{BehindStep, IsPut, RunsAppend}
+use Rattle.case_journal.specs.Putting.{BehindStep, IsPut, RunsAppend, written_at, written_long}
 use Rattle.case_journal.specs.Publishing.{Publishes}
 use Rattle.case_journal.proofs.CompactLemmas.{in_halves}
 
@@ -81,9 +81,15 @@ module _ (s : Standing) (r : Record) where
   pub beside_runs : {D : Type 0} (g : disk.Ghosts D) (old new : D) → fits s r ≡ false → RunsBeside g old new s (after r (folded_of s)) → RunsAppend g old new s r
   beside_runs g old new e runs = record {
     moments = λ honest. subst (λ (x : Standing). LeavesOnly g old new (λ c. Stands c s ⊎ Stands c x)) (appended_beside s r e) (runs.moments honest);
+    half = beside_half g old new (fits s r) e runs.half;
     fills = runs.fills;
     later = runs.later;
   }
+    where
+      beside_half : {D : Type 0} (g : disk.Ghosts D) (old new : D) (t : Bool) → t ≡ false → Fills g old new (other_start s) (half_length s.shape)
+          → Fills g old new (cond t (half_start s.shape s.half + s.used) (other_start s)) (cond t (1 + record_size r) (half_length s.shape))
+      beside_half g old new true e fills = absurd (false≢true (sym e))
+      beside_half g old new false e fills = fills
 
   pub beside_kept : {D : Type 0} (g : disk.Ghosts D) (old new : D) (res : Result Place JournalFault) → fits s r ≡ false → g.size new ≡ disk_length s.shape → g.is_honest new ≡ g.is_honest old
       → (IsTrue (g.is_honest old) → OnOk res (Holds g new (rewritten s (after r (folded_of s))))) → OnOk res (Keeps g new (running (appended s r)))
@@ -173,10 +179,20 @@ behind_fills g old new s gate n place room fills =
     let both = in_halves s.shape s.half in
     fills_wider g gate (1 + n) 4096 (2 * half_length s.shape) old new (omega (arith, both.0, place)) (omega (arith, both.1, place, room)) fills
 
+-- they lie in the half that is written
+pub behind_half : {D : Type 0} (g : disk.Ghosts D) (old new : D) (s : Standing) (r : Record) (gate n : ℕ) → fits s r ≡ true → gate ≡ half_start s.shape s.half + s.used → n ≡ record_size r → Fills g old new gate (1 + n)
+    → Fills g old new (written_at s r) (written_long s r)
+behind_half g old new s r gate n e place long fills = of (fits s r) e
+  where
+    of : (t : Bool) → t ≡ true → Fills g old new (cond t (half_start s.shape s.half + s.used) (other_start s)) (cond t (1 + record_size r) (half_length s.shape))
+    of true e = subst (λ (k : ℕ). Fills g old new (half_start s.shape s.half + s.used) (1 + k)) long (subst (λ (k : ℕ). Fills g old new k (1 + n)) place fills)
+    of false e = absurd (false≢true e)
+
 -- nothing was done
 pub nothing_runs : {D : Type 0} (g : disk.Ghosts D) (d : D) (j : Journaled) (r : Record) → ((c : List ℕ) → g.left_since d (g.clock d) c → g.may_leave d c) → Keeps g d j → j.stopped ≡ false → RunsAppend g d d j.standing r
 nothing_runs g d j r only keeps runs = record {
   moments = λ honest. started g d (λ (b : List ℕ). Stands b j.standing ⊎ Stands b (appended j.standing r)) (λ c was. inl ((keeps.holds runs honest).stands c (only c was)));
+  half = fills_nothing g (written_at j.standing r) (written_long j.standing r) d only;
   fills = fills_nothing g 4096 (2 * half_length j.standing.shape) d only;
   later = omega arith;
 }

@@ -5,7 +5,7 @@ use Rattle.journal_layout.specs.declared.shape.Shape.{Shape}
 use Rattle.journal_layout.specs.Layout.{half_length}
 use Rattle.journal_layout.specs.Folding.{Folded}
 use Rattle.journal_layout.specs.Standing.{Standing, folded_of}
-use Rattle.journal_layout.specs.Rewriting.{other_half, snapshot_size, rewritten, in_version_two, upgraded}
+use Rattle.journal_layout.specs.Rewriting.{other_half, other_start, snapshot_size, rewritten, in_version_two, upgraded}
 use Rattle.journal_snapshot.specs.declared.change.Change.{Change}
 use Rattle.journal_snapshot.specs.declared.measure.Measure.{Measure}
 use Rattle.journal_snapshot.specs.Measuring.{IsMeasure, snapshot_bytes}
@@ -104,8 +104,9 @@ noted Disk j = halted j
 noted _ j = j
 
 -- What it does to the disk: a crash at any moment leaves what stood before or what is said then, and nothing is changed but
--- the halves.
+-- the half that is not taken.
 pub record RunsBeside {D : Type 0} (g : disk.Ghosts D) (old new : D) (s : Standing) (f : Folded) : Type 0 where
   pub moments : IsTrue (g.is_honest old) → LeavesOnly g old new (λ c. Stands c s ⊎ Stands c (rewritten s f))
+  pub half : Fills g old new (other_start s) (half_length s.shape)
   pub fills : Fills g old new 4096 (2 * half_length s.shape)
   pub later : g.failures old ≤ g.failures new

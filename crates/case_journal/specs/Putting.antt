@@ -1,7 +1,8 @@
 -- A record as bytes that are to be put behind those of a journal.
-use Rattle.std.specs.Prelude.{◌≡◌, ℕ, ◌+◌, ◌*◌, ◌≤◌, List, [], ◌∷◌, ◌++◌, length, IsTrue, Result, Ok, Err}
+use Rattle.std.specs.Prelude.{◌≡◌, ℕ, ◌+◌, ◌*◌, ◌≤◌, List, [], ◌∷◌, ◌++◌, length, IsTrue, Result, Ok, Err, if◌then◌else◌}
 use Rattle.disk_model.specs.declared.disk.Disk as disk
-use Rattle.journal_layout.specs.Layout.{half_length}
+use Rattle.journal_layout.specs.Layout.{half_start, half_length}
+use Rattle.journal_layout.specs.Rewriting.{fits, other_start}
 use Rattle.journal_layout.specs.Record.{Record, behind_gate, record_size}
 use Rattle.journal_layout.specs.Standing.{Standing}
 use Rattle.journal_snapshot.specs.Filling.{Fills}
@@ -29,9 +30,18 @@ HasRoomFor s r (Ok u) = HasRoom s r
 HasRoomFor s r (Err JournalFull) = LacksRoom s r
 HasRoomFor s r (Err _) = ⊥
 
+-- Where an append writes: after the records of the taken half, its gate, its bytes and the next gate; or the other half, if
+-- the record does not fit there.
+abbrev pub written_at : Standing → Record → ℕ
+written_at s r = if fits s r then half_start s.shape s.half + s.used else other_start s
+
+abbrev pub written_long : Standing → Record → ℕ
+written_long s r = if fits s r then 1 + record_size r else half_length s.shape
+
 -- What an append does to the disk: a crash at any moment leaves what stood before or what stands after, and nothing is
--- changed but the halves.
+-- changed but the halves, of which it writes one alone.
 pub record RunsAppend {D : Type 0} (g : disk.Ghosts D) (old new : D) (s : Standing) (r : Record) : Type 0 where
   pub moments : IsTrue (g.is_honest old) → LeavesEither g old new s r
+  pub half : Fills g old new (written_at s r) (written_long s r)
   pub fills : Fills g old new 4096 (2 * half_length s.shape)
   pub later : g.failures old ≤ g.failures new

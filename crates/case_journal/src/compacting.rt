@@ -121,6 +121,9 @@ impl Journal {
             → LeavesOutside D.Disk disk.old disk.new self.old.standing }
         ensures others { IsTrue (D.is_honest disk.old)
             → SameOutside 4096 (2 * half_length self.old.standing.shape) (D.seen disk.old) (D.seen disk.new) }
+        // It writes the half that is not taken, alone.
+        ensures written { self.old.stopped ≡ false
+            → Fills D.Disk disk.old disk.new (other_start self.old.standing) (half_length self.old.standing.shape) }
         ensures disk { KeepsDisk D.Disk disk.old disk.new (result ≡ Err JournalFault.Disk) }
     {
         if self.stopped {

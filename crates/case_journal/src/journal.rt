@@ -10,11 +10,12 @@ ghost use Rattle.journal_layout.specs.Layout.{IsWithinLimits, disk_length, half_
 ghost use Rattle.journal_layout.specs.Soundness.{case_numbered, Rise};
 ghost use Rattle.journal_layout.specs.Standing.{store_of};
 ghost use Rattle.journal_layout.specs.Rewriting.{fits};
+ghost use Rattle.journal_snapshot.specs.Filling.{Fills};
 ghost use Rattle.case_journal.specs.Journaled.{Journaled, halted, after_append};
 ghost use Rattle.case_journal.specs.Keeping.{Keeps, LeavesEither, LeavesOutside};
 ghost use Rattle.case_journal.specs.Append.{MayStore, MayFollow, StoreStep, AppendStep, IsStoreDiskFault, RefusalLeaves, StoreRefusalLeaves};
 ghost use Rattle.case_journal.specs.Entering.{left, repinned, PutStep};
-ghost use Rattle.case_journal.specs.Putting.{IsPut, BehindStep, HasRoomFor, RunsAppend};
+ghost use Rattle.case_journal.specs.Putting.{IsPut, BehindStep, HasRoomFor, RunsAppend, written_at, written_long};
 ghost use Rattle.case_journal.specs.Compacting.{PutLeaves};
 
 use crate::JournalFault;
@@ -253,6 +254,9 @@ impl Journal {
             → LeavesOutside D.Disk disk.old disk.new self.old.standing }
         ensures others { IsTrue (D.is_honest disk.old)
             → SameOutside 4096 (2 * half_length self.old.standing.shape) (D.seen disk.old) (D.seen disk.new) }
+        // Of the two halves it writes one alone: after the records of the taken one, or in the other.
+        ensures written { self.old.stopped ≡ false
+            → Fills D.Disk disk.old disk.new (written_at self.old.standing (store_of self.old.standing (case_of entry))) (written_long self.old.standing (store_of self.old.standing (case_of entry))) }
         ensures disk { KeepsDisk D.Disk disk.old disk.new (IsStoreDiskFault result) }
     {
         if self.stopped {
@@ -305,6 +309,9 @@ impl Journal {
             → LeavesOutside D.Disk disk.old disk.new self.old.standing }
         ensures others { IsTrue (D.is_honest disk.old)
             → SameOutside 4096 (2 * half_length self.old.standing.shape) (D.seen disk.old) (D.seen disk.new) }
+        // Of the two halves it writes one alone: after the records of the taken one, or in the other.
+        ensures written { self.old.stopped ≡ false
+            → Fills D.Disk disk.old disk.new (written_at self.old.standing (Drop seqs.now)) (written_long self.old.standing (Drop seqs.now)) }
         ensures disk { KeepsDisk D.Disk disk.old disk.new (result ≡ Err JournalFault.Disk) }
     {
         if self.stopped {
@@ -346,6 +353,9 @@ impl Journal {
             → LeavesOutside D.Disk disk.old disk.new self.old.standing }
         ensures others { IsTrue (D.is_honest disk.old)
             → SameOutside 4096 (2 * half_length self.old.standing.shape) (D.seen disk.old) (D.seen disk.new) }
+        // Of the two halves it writes one alone: after the records of the taken one, or in the other.
+        ensures written { self.old.stopped ≡ false
+            → Fills D.Disk disk.old disk.new (written_at self.old.standing (Pin seq flag)) (written_long self.old.standing (Pin seq flag)) }
         ensures disk { KeepsDisk D.Disk disk.old disk.new (result ≡ Err JournalFault.Disk) }
     {
         if self.stopped {

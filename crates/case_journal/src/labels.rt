@@ -9,13 +9,14 @@ ghost use Rattle.journal_layout.specs.Front.{is_known};
 ghost use Rattle.journal_layout.specs.Record.{Label};
 ghost use Rattle.journal_layout.specs.Soundness.{IsLabel};
 ghost use Rattle.journal_layout.specs.Stands.{Stands};
-ghost use Rattle.journal_layout.specs.Rewriting.{fits, upgraded};
+ghost use Rattle.journal_layout.specs.Rewriting.{fits, other_start, upgraded};
 ghost use Rattle.case_journal.specs.Append.{MayFollow, MayLabel, AppendStep, LabelStep, RefusalLeaves};
 ghost use Rattle.case_journal.specs.Compacting.{UpgradeStep, PutLeaves};
 ghost use Rattle.case_journal.specs.Entering.{relabelled, in_two, PutStep};
+ghost use Rattle.journal_snapshot.specs.Filling.{Fills};
 ghost use Rattle.case_journal.specs.Journaled.{after_append};
 ghost use Rattle.case_journal.specs.Keeping.{Keeps, LeavesEither, LeavesOutside};
-ghost use Rattle.case_journal.specs.Putting.{RunsAppend};
+ghost use Rattle.case_journal.specs.Putting.{RunsAppend, written_at, written_long};
 
 use crate::compacting::Place;
 use crate::front::LABELS;
@@ -57,6 +58,9 @@ impl Journal {
             → LeavesOutside D.Disk disk.old disk.new self.old.standing }
         ensures others { IsTrue (D.is_honest disk.old)
             → SameOutside 4096 (2 * half_length self.old.standing.shape) (D.seen disk.old) (D.seen disk.new) }
+        // Of the two halves it writes one alone: after the records of the taken one, or in the other.
+        ensures written { self.old.stopped ≡ false
+            → Fills D.Disk disk.old disk.new (written_at self.old.standing (Label seq label.now)) (written_long self.old.standing (Label seq label.now)) }
         ensures disk { KeepsDisk D.Disk disk.old disk.new (result ≡ Err JournalFault.Disk) }
     {
         if self.stopped {
@@ -87,6 +91,7 @@ impl Journal {
             → LeavesOutside D.Disk disk.old disk.new self.old.standing }
         ensures others { IsTrue (D.is_honest disk.old)
             → SameOutside 4096 (2 * half_length self.old.standing.shape) (D.seen disk.old) (D.seen disk.new) }
+        ensures written { Fills D.Disk disk.old disk.new (written_at self.old.standing (Label seq label.items)) (written_long self.old.standing (Label seq label.items)) }
         ensures disk { KeepsDisk D.Disk disk.old disk.new (result ≡ Err JournalFault.Disk) }
     {
         match self.put_label(disk, seq, &label) {
@@ -176,6 +181,9 @@ impl Journal {
             → LeavesOutside D.Disk disk.old disk.new self.old.standing }
         ensures others { IsTrue (D.is_honest disk.old)
             → SameOutside 4096 (2 * half_length self.old.standing.shape) (D.seen disk.old) (D.seen disk.new) }
+        // It writes the half that is not taken, alone.
+        ensures written { self.old.stopped ≡ false
+            → Fills D.Disk disk.old disk.new (other_start self.old.standing) (half_length self.old.standing.shape) }
         ensures disk { KeepsDisk D.Disk disk.old disk.new (result ≡ Err JournalFault.Disk) }
     {
         if self.stopped {

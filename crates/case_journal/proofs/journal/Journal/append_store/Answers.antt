@@ -25,6 +25,18 @@ pub returns-in_default-reserve-clause-any_moment : goal.returns-in_default-reser
 returns-in_default-reserve-clause-any_moment g c honest runs =
     (nothing_runs g.D.Disk c.args.disk.now c.args.self.now (store_of c.args.self.now.standing (case_of c.args.entry)) (g.met.D.Disk.only_now c.args.disk.now) c.requires.keeps runs).moments honest
 
+pub returns-in-Err-clause-written : goal.returns-in-Err-clause-written
+returns-in-Err-clause-written g c runs =
+    (nothing_runs g.D.Disk c.args.disk.now c.args.self.now (store_of c.args.self.now.standing (case_of c.args.entry)) (g.met.D.Disk.only_now c.args.disk.now) c.requires.keeps runs).half
+
+pub returns-then-self-from-clause-written : goal.returns-then-self-from-clause-written
+returns-then-self-from-clause-written g c runs =
+    (nothing_runs g.D.Disk c.args.disk.now c.args.self.now (store_of c.args.self.now.standing (case_of c.args.entry)) (g.met.D.Disk.only_now c.args.disk.now) c.requires.keeps runs).half
+
+pub returns-in_default-reserve-clause-written : goal.returns-in_default-reserve-clause-written
+returns-in_default-reserve-clause-written g c runs =
+    (nothing_runs g.D.Disk c.args.disk.now c.args.self.now (store_of c.args.self.now.standing (case_of c.args.entry)) (g.met.D.Disk.only_now c.args.disk.now) c.requires.keeps runs).half
+
 pub put_store-requires-clause-size : goal.put_store-requires-clause-size
 put_store-requires-clause-size g c = c.store_size-size.ensures c.self.inside.next
 

@@ -3,7 +3,7 @@ use Rattle.disk_model.specs.CauseLaws.{never_falls}
 use Rattle.journal_layout.specs.Layout.{half_start}
 use Rattle.journal_snapshot.specs.FillLaws.{fills_of}
 use Rattle.case_journal.specs.Journaled.{Journaled}
-use Rattle.case_journal.proofs.PutLemmas.{publishes, put_fits, behind_fills, behind_moments, behind_keeps}
+use Rattle.case_journal.proofs.PutLemmas.{publishes, put_fits, behind_fills, behind_half, behind_moments, behind_keeps}
 use Rattle.case_journal.proofs.journal.Journal.put_behind.Goals as goal
 
 pub returns-in_err-publish-clause-run : goal.returns-in_err-publish-clause-run
@@ -15,6 +15,8 @@ returns-in_err-publish-clause-run g c r put =
     record {
       moments = λ honest. behind_moments s r g.D.Disk c.args.disk.now c.publish.new.disk (put_fits s r c.args.behind.now c.requires.room put)
           (c.publish.ensures.any_moment s r (publishes s r gate c.args.behind.now place c.requires.room put) honest (c.requires.keeps.holds c.requires.runs honest).stands);
+      half = behind_half g.D.Disk c.args.disk.now c.publish.new.disk s r gate n (put_fits s r c.args.behind.now c.requires.room put) place put.long
+          (fills_of g.D.Disk gate (1 + n) c.args.disk.now c.publish.new.disk (g.met.D.Disk.counts_now c.publish.new.disk) c.publish.ensures.outside c.publish.ensures.others c.publish.ensures.honesty c.publish.ensures.size);
       fills = behind_fills g.D.Disk c.args.disk.now c.publish.new.disk s gate n place c.requires.room
           (fills_of g.D.Disk gate (1 + n) c.args.disk.now c.publish.new.disk (g.met.D.Disk.counts_now c.publish.new.disk) c.publish.ensures.outside c.publish.ensures.others c.publish.ensures.honesty c.publish.ensures.size);
       later = never_falls _ _ c.publish.result c.publish.ensures.cause;
@@ -29,6 +31,8 @@ returns-clause-run g c r put =
     record {
       moments = λ honest. behind_moments s r g.D.Disk c.args.disk.now c.publish.new.disk (put_fits s r c.args.behind.now c.requires.room put)
           (c.publish.ensures.any_moment s r (publishes s r gate c.args.behind.now place c.requires.room put) honest (c.requires.keeps.holds c.requires.runs honest).stands);
+      half = behind_half g.D.Disk c.args.disk.now c.publish.new.disk s r gate n (put_fits s r c.args.behind.now c.requires.room put) place put.long
+          (fills_of g.D.Disk gate (1 + n) c.args.disk.now c.publish.new.disk (g.met.D.Disk.counts_now c.publish.new.disk) c.publish.ensures.outside c.publish.ensures.others c.publish.ensures.honesty c.publish.ensures.size);
       fills = behind_fills g.D.Disk c.args.disk.now c.publish.new.disk s gate n place c.requires.room
           (fills_of g.D.Disk gate (1 + n) c.args.disk.now c.publish.new.disk (g.met.D.Disk.counts_now c.publish.new.disk) c.publish.ensures.outside c.publish.ensures.others c.publish.ensures.honesty c.publish.ensures.size);
       later = never_falls _ _ c.publish.result c.publish.ensures.cause;

@@ -7,7 +7,7 @@ use Rattle.journal_layout.specs.Front.{is_known}
 use Rattle.journal_layout.specs.Layout.{half_length}
 use Rattle.journal_layout.specs.Standing.{folded_of}
 use Rattle.journal_layout.specs.Stands.{Stands}
-use Rattle.journal_layout.specs.Rewriting.{other_half, rewritten}
+use Rattle.journal_layout.specs.Rewriting.{other_half, other_start, rewritten}
 use Rattle.journal_snapshot.specs.Changing.{changed}
 use Rattle.journal_snapshot.specs.Filling.{Fills}
 use Rattle.journal_snapshot.specs.FillLaws.{fills_nothing}
@@ -35,6 +35,7 @@ pub returns-in_err-measure-clause-run : goal.returns-in_err-measure-clause-run
 returns-in_err-measure-clause-run g c = record {
   moments = λ honest. started g.D.Disk c.args.disk.now (λ b. Stands b c.args.self.now.standing ⊎ Stands b (rewritten c.args.self.now.standing (changed c.args.change.now (folded_of c.args.self.now.standing))))
       (λ b was. inl ((c.requires.keeps.holds c.requires.runs honest).stands b (g.met.D.Disk.only_now c.args.disk.now b was)));
+  half = fills_nothing g.D.Disk (other_start c.args.self.now.standing) (half_length c.args.self.now.standing.shape) c.args.disk.now (g.met.D.Disk.only_now c.args.disk.now);
   fills = fills_nothing g.D.Disk 4096 _ c.args.disk.now (g.met.D.Disk.only_now c.args.disk.now);
   later = omega arith;
 }
@@ -57,6 +58,9 @@ returns-in_err-write_beside-clause-run g c =
     (t.ensures.next ∙ c.requires.next) found (ap is_known t.ensures.version ∙ c.requires.known) c.requires.live c.requires.labels in
     record {
       moments = λ honest. c.write_beside.ensures.any_moment c.args.self.now.standing (changed c.args.change.now (folded_of c.args.self.now.standing)) is honest (c.requires.keeps.holds c.requires.runs honest);
+      half = subst (λ (k : ℕ). Fills g.D.Disk c.args.disk.now c.write_beside.new.disk k (half_length c.args.self.now.standing.shape)) t.ensures.start
+          (subst (λ (n : ℕ). Fills g.D.Disk c.args.disk.now c.write_beside.new.disk t.result.start n) (c.half_length-half.ensures ∙ ap (λ (j : Journaled). half_length j.standing.shape) c.self.view_is)
+          c.write_beside.ensures.fills);
       fills = half_fills g.D.Disk c.args.disk.now c.write_beside.new.disk c.args.self.now.standing.shape (other_half c.args.self.now.standing.half) t.result.start t.ensures.start
           (subst (λ (n : ℕ). Fills g.D.Disk c.args.disk.now c.write_beside.new.disk t.result.start n) (c.half_length-half.ensures ∙ ap (λ (j : Journaled). half_length j.standing.shape) c.self.view_is)
           c.write_beside.ensures.fills);
@@ -83,6 +87,9 @@ returns-clause-run g c =
     (t.ensures.next ∙ c.requires.next) found (ap is_known t.ensures.version ∙ c.requires.known) c.requires.live c.requires.labels in
     record {
       moments = λ honest. c.write_beside.ensures.any_moment c.args.self.now.standing (changed c.args.change.now (folded_of c.args.self.now.standing)) is honest (c.requires.keeps.holds c.requires.runs honest);
+      half = subst (λ (k : ℕ). Fills g.D.Disk c.args.disk.now c.write_beside.new.disk k (half_length c.args.self.now.standing.shape)) t.ensures.start
+          (subst (λ (n : ℕ). Fills g.D.Disk c.args.disk.now c.write_beside.new.disk t.result.start n) (c.half_length-half.ensures ∙ ap (λ (j : Journaled). half_length j.standing.shape) c.self.view_is)
+          c.write_beside.ensures.fills);
       fills = half_fills g.D.Disk c.args.disk.now c.write_beside.new.disk c.args.self.now.standing.shape (other_half c.args.self.now.standing.half) t.result.start t.ensures.start
           (subst (λ (n : ℕ). Fills g.D.Disk c.args.disk.now c.write_beside.new.disk t.result.start n) (c.half_length-half.ensures ∙ ap (λ (j : Journaled). half_length j.standing.shape) c.self.view_is)
           c.write_beside.ensures.fills);
