@@ -73,7 +73,7 @@ decision_told [] true is = first_apart (unmet_line true ++ ok_reply) refl is
 decision_told [] false is = first_apart (unmet_line false ++ ok_reply) refl is
 decision_told (seq ∷ seqs) unmet is = first_apart (flat_map dropped_line (seq ∷ seqs) ++ (unmet_line unmet ++ ok_reply)) refl is
 
-retire_told : (r : Result Decision ArchiveFault) → retire_reply r ≡ no_reply (codes "Disk") → IsDiskFault r
+pub retire_told : (r : Result Decision ArchiveFault) → retire_reply r ≡ no_reply (codes "Disk") → IsDiskFault r
 retire_told (Ok d) is = decision_told d.dropped.items d.unmet is
 retire_told (Err f) is = told_as_disk f is
 

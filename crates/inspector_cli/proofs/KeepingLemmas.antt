@@ -126,20 +126,24 @@ module _ (k : Kept) where
     would_keep earlier (begin_exec slot name) reply x y told spares holds would = absurd (false≢true would.0)
     would_keep earlier (begin_core slot process) reply x y told spares holds would = absurd (false≢true would.0)
     would_keep earlier (part_of slot n) reply x y told spares holds would = absurd (false≢true would.0)
-    would_keep earlier (end_of slot) reply x y told spares holds (changing, (answer, does)) =
+    would_keep earlier (end_of slot) reply x y told spares holds (changing, answer, does) =
         same (with_case x (record does.0 { len = does.1 }) does.2 does.3) y does.7 (with_case_holds x (record does.0 { len = does.1 }) does.2 does.3 holds)
     would_keep earlier (drop_of slot) reply x y told spares holds would = absurd (false≢true would.0)
-    would_keep earlier (delete_of seq) reply x y told spares holds (changing, (answer, does)) =
+    would_keep earlier (delete_of seq) reply x y told spares holds (changing, answer, does) =
         same (without x (seq ∷ [])) y does.2 (without_holds x (seq ∷ []) (one_apart seq k.seq (λ is. spares.0 (is, inr told))) holds)
-    would_keep earlier (pin_of seq flag) reply x y told spares holds (changing, (answer, does)) =
+    would_keep earlier (pin_of seq flag) reply x y told spares holds (changing, answer, does) =
         ⊎_elim (λ is. same (flagged x seq flag) y is (flagged_holds x seq flag holds)) (λ is. same x y is.1 holds) does.1
-    would_keep earlier (label_of seq text) reply x y told spares holds (changing, (answer, does)) =
+    would_keep earlier (label_of seq text) reply x y told spares holds (changing, answer, does) =
         ⊎_elim (λ is. same (labelled x seq text) y is (labelled_holds x seq text (label_left seq text reply (inr told) spares) holds)) (λ is. same x y is.1 holds) does.1
-    would_keep earlier upgrade_archive reply x y told spares holds (changing, (answer, does)) = subst Holds (sym does.1) holds
+    would_keep earlier upgrade_archive reply x y told spares holds (changing, answer, does) = subst Holds (sym does.1) holds
     would_keep earlier (retire_by policy) reply x y told spares holds would = absurd (spares.0 (inr told))
     would_keep earlier list_all_cases reply x y told spares holds would = absurd (false≢true would.0)
     would_keep earlier count_free reply x y told spares holds would = absurd (false≢true would.0)
     would_keep earlier (inspect_of seq query) reply x y told spares holds would = absurd (false≢true would.0)
+
+  one_holds : (ys : List Durable) (x : Durable) → IsOneOf ys x → AllByRecursion Holds ys → Holds x
+  one_holds [] x one all = absurd one
+  one_holds (y ∷ ys) x one all = ⊎_elim (λ is. subst Holds (sym is) all.0) (λ more. one_holds ys x more all.1) one
 
   module _ {D : Type 0} where
     -- the moment holds the case, and so does all that is in doubt
@@ -166,10 +170,6 @@ module _ (k : Kept) where
         ((here, more.0), more.1)
 
     -- an opening that finds what a moment has finds the case
-    one_holds : (ys : List Durable) (x : Durable) → IsOneOf ys x → AllByRecursion Holds ys → Holds x
-    one_holds [] x one all = absurd one
-    one_holds (y ∷ ys) x one all = ⊎_elim (λ is. subst Holds (sym is) all.0) (λ more. one_holds ys x more all.1) one
-
     found_here : (left : List ℕ) (m : Moment D) → FindsMoment left m → IsHeldAt m → FindsKept k left
     found_here left m finds held = (finds.0, finds.1, ⊎_elim (λ is. subst Holds (sym is) held.0) (λ one. one_holds m.in_doubt finds.0 one held.1) finds.2)
 
@@ -209,7 +209,7 @@ module _ {D : Type 0} (g : disk.Ghosts D) (k : Kept) where
       let leads : AllLead begins (map answer_of front) (last_moment c.begin front) rest = leads_behind begins [] c.begin front rest (subst (AllLead begins [] c.begin) lines is.lines) in
       let run = lines_keep k begins (map answer_of front) (last_moment c.begin front) rest leads spare held in
       let final : IsHeldAt k (last_moment c.begin c.lines) = subst (IsHeldAt k) (sym (ap (last_moment c.begin) lines ∙ last_of_both c.begin front rest)) run.1 in
-      all_moments (IsHeldAt k) (map moment_of rest) c.end run.0 (moment_keeps k begins (map answer_of c.lines) (last_moment c.begin c.lines) c.end c.last c.reply is.last final last)
+      all_moments (IsHeldAt k) (map moment_of rest) c.end run.0 (moment_keeps k begins (map answer_of c.lines) (last_moment c.begin c.lines) c.end c.last c.reply is.last last final)
 
   stays_found : (end : D) (m : Moment D) (later : List (Moment D)) → AreSafe g end m later → IsHeldAt k m → AllByRecursion (IsHeldAt k) later → StaysFound g k end m.disk
   stays_found end m later safe held all left since = found_since k left m later ((safe_here g end m later safe).stops left since) held all
