@@ -1,4 +1,5 @@
 pub mod FinishLemmas
+pub mod FrontLemmas
 pub mod KeepLemmas
 pub mod LiveLemmas
 pub mod LifeLemmas

@@ -22,6 +22,7 @@ use Rattle.intake.specs.Slots.{stream_at}
 use Rattle.intake.specs.State.{CaseFacts, StreamFacts}
 use Rattle.intake.specs.Growth.{IsDiskFault}
 use Rattle.intake.specs.Step.{BeginStep, AdvanceStep, FinishStep, AbandonStep, PinStep, LabelStep, UpgradeStep, DeleteStep, RetireStep, ImageStep, IsLastGeneration, case_at, is_named, pin_size}
+use Rattle.intake.specs.Front.{KeepsFront, KeepsSuperblock, RefusalKeepsFront}
 use Rattle.intake.specs.Untouched.{RefusalSpares, AdvanceSpares, FinishSpares, PinSpares, LabelSpares, UpgradeSpares, RetireSpares}
 use Rattle.intake.specs.declared.faults.ArchiveFault.{ArchiveFault}
 use Rattle.intake.specs.declared.faults.ArchiveFault.TheVariants.{JournalFull, OutOfMemory}
@@ -82,6 +83,8 @@ pub record AdvanceCall {D : Type 0} (g : disk.Ghosts D) (old : Parts D) (slot n 
   pub cause : HasDiskCause g old r new
   pub stays : ChangesNoCase g old new
   pub untouched : AdvanceSpares (state_of old) slot n r old.disk new.disk
+  -- it writes data blocks alone
+  pub front : KeepsFront g (state_of old).shape old.disk new.disk
 
 pub record AbandonCall {D : Type 0} (g : disk.Ghosts D) (old : Parts D) (slot : ℕ) (r : Result (Unit {0}) ArchiveFault) (new : Parts D) : Type 0 where
   pub step : AbandonStep (state_of old) slot r (state_of new)
@@ -101,6 +104,9 @@ pub record FinishCall {D : Type 0} (g : disk.Ghosts D) (old : Parts D) (slot : �
   -- nothing of what stood in the stream's block behind its bytes is on the disk
   pub padded : IsTrue (g.is_honest old.disk) → FinishPads g.seen old slot r new
   pub untouched : FinishSpares r old.disk new.disk
+  pub superblock : KeepsSuperblock g old.disk new.disk
+  -- so does a refusal
+  pub front : RefusalKeepsFront g (state_of old).shape r old.disk new.disk
 
 pub record DeleteCall {D : Type 0} (g : disk.Ghosts D) (old : Parts D) (seq : ℕ) (r : Result (Unit {0}) ArchiveFault) (new : Parts D) : Type 0 where
   pub step : DeleteStep (state_of old) seq r (state_of new)
@@ -109,6 +115,7 @@ pub record DeleteCall {D : Type 0} (g : disk.Ghosts D) (old : Parts D) (seq : �
   -- what is left can be written anew, unless no generation is left for it
   pub full : IsTrue (g.is_honest old.disk) → r ≡ Err JournalFull → IsLastGeneration (state_of old)
   pub untouched : RefusalSpares {T = Unit {0}} r old.disk new.disk
+  pub superblock : KeepsSuperblock g old.disk new.disk
 
 pub record PinCall {D : Type 0} (g : disk.Ghosts D) (old : Parts D) (seq : ℕ) (flag : Bool) (r : Result (Unit {0}) ArchiveFault) (new : Parts D) : Type 0 where
   pub step : PinStep (state_of old) seq flag r (state_of new)
@@ -117,18 +124,21 @@ pub record PinCall {D : Type 0} (g : disk.Ghosts D) (old : Parts D) (seq : ℕ) 
   -- it takes no memory where its record fits behind the others
   pub never : r ≡ Err OutOfMemory → half_length (state_of old).shape < (state_of old).used + pin_size + 1
   pub untouched : PinSpares (state_of old) seq flag r old.disk new.disk
+  pub superblock : KeepsSuperblock g old.disk new.disk
 
 pub record LabelCall {D : Type 0} (g : disk.Ghosts D) (old : Parts D) (seq : ℕ) (text : List ℕ) (r : Result (Unit {0}) ArchiveFault) (new : Parts D) : Type 0 where
   pub step : LabelStep (state_of old) seq text r (state_of new)
   pub bytes : IsTrue (g.is_honest old.disk) → LabelBytes (contents_of g.seen old) r (contents_of g.seen new)
   pub changes : Changes (Unit {0}) g old r new (λ x. x ≡ labelled (durable_of g.seen old) seq text)
   pub untouched : LabelSpares (state_of old) seq text r old.disk new.disk
+  pub superblock : KeepsSuperblock g old.disk new.disk
 
 pub record UpgradeCall {D : Type 0} (g : disk.Ghosts D) (old : Parts D) (r : Result (Unit {0}) ArchiveFault) (new : Parts D) : Type 0 where
   pub step : UpgradeStep (state_of old) r (state_of new)
   pub bytes : IsTrue (g.is_honest old.disk) → UpgradeBytes (contents_of g.seen old) r (contents_of g.seen new)
   pub changes : Changes (Unit {0}) g old r new (λ x. x ≡ upgraded (durable_of g.seen old))
   pub untouched : UpgradeSpares (state_of old) r old.disk new.disk
+  pub superblock : KeepsSuperblock g old.disk new.disk
 
 pub record RetireCall {D : Type 0} (g : disk.Ghosts D) (old : Parts D) (policy : Policy) (r : Result Decision ArchiveFault) (new : Parts D) : Type 0 where
   pub step : RetireStep (state_of old) policy r (state_of new)
@@ -137,6 +147,7 @@ pub record RetireCall {D : Type 0} (g : disk.Ghosts D) (old : Parts D) (policy :
   -- as of a deletion
   pub full : IsTrue (g.is_honest old.disk) → r ≡ Err JournalFull → IsLastGeneration (state_of old)
   pub untouched : RetireSpares r old.disk new.disk
+  pub superblock : KeepsSuperblock g old.disk new.disk
 
 -- Retire for a stream of this name. Where a case that stays has the name, nothing is done; else it is `retire`, and where that
 -- is done, no case has the name.

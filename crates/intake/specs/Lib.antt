@@ -6,6 +6,7 @@ pub mod Contents
 pub mod Durable
 pub mod Ending
 pub mod Faults
+pub mod Front
 pub mod Growth
 pub mod Guarding
 pub mod Lasting

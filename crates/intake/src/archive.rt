@@ -14,6 +14,7 @@ ghost use Rattle.intake.specs.Growth.{IsDiskFault};
 ghost use Rattle.intake.specs.Ending.{EndsStreams};
 ghost use Rattle.intake.specs.Names.{items_of, names_gone};
 ghost use Rattle.journal_layout.specs.Soundness.{IsName};
+ghost use Rattle.intake.specs.Front.{KeepsSuperblock};
 ghost use Rattle.intake.specs.Untouched.{RefusalSpares};
 
 use crate::ArchiveFault;
@@ -399,6 +400,7 @@ impl<D: Disk> Archive<D> {
         ensures full { IsTrue (D.is_honest self.old.disk) → result ≡ Err ArchiveFault.JournalFull
             → IsLastGeneration (state_of self.old) }
         ensures untouched { RefusalSpares result self.old.disk self.new.disk }
+        ensures superblock { KeepsSuperblock D.Disk self.old.disk self.new.disk }
     {
         release_listed(&mut self.free, &self.journal, seqs);
         let Err(fault) = self.journal.append_drop(&mut self.disk, seqs) else {

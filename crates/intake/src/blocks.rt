@@ -229,6 +229,8 @@ pub(crate) fn append_case<D: Disk>(
         (LeavesStored result (durable_in (D.seen disk.old) journal.old.standing) (durable_in (D.seen disk.old) (appended journal.old.standing (store_of journal.old.standing (case_of entry))))) }
     ensures outside { IsTrue (D.is_honest disk.old)
         → SameOutside 4096 (2 * half_length journal.old.standing.shape) (D.seen disk.old) (D.seen disk.new) }
+    // A refusal leaves the disk as it is, unless the disk failed.
+    ensures spared { RefusalSpares result disk.old disk.new }
     ensures disk { KeepsDisk D.Disk disk.old disk.new (IsDiskFault result) }
 {
     match journal.append_store(disk, entry) {

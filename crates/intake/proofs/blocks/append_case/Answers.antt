@@ -10,6 +10,7 @@ use Rattle.intake.specs.declared.faults.ArchiveFault.{ArchiveFault}
 use Rattle.std.proofs.Common.{Err}
 use Rattle.intake.proofs.LeaveLemmas.{store_moments, guards_appended, refused_moments}
 use Rattle.intake.proofs.RestLemmas.{stands_now}
+use Rattle.intake.proofs.UntouchedLemmas.{journal_spares}
 use Rattle.intake.proofs.blocks.append_case.Goals as goal
 
 pub returns-in-Ok-clause-guards : goal.returns-in-Ok-clause-guards
@@ -38,3 +39,6 @@ returns-in-Err-clause-any_moment g c honest =
     (λ b was. stands_now g.D.Disk d j c.requires.guards c.requires.runs honest b (g.met.D.Disk.only_now d b was))
     (store_moments g.D.Disk d c.append_store.new.disk j (case_of c.args.entry) c.requires.guards c.requires.runs honest (c.requires.settled honest)
     (c.append_store.ensures.any_moment honest c.requires.runs) (c.append_store.ensures.outside honest)))
+
+pub returns-in-Err-clause-spared : goal.returns-in-Err-clause-spared
+returns-in-Err-clause-spared g c = journal_spares ℕ c.in-Err.fault _ _ _ c.from.ensures c.in-Err.ensures.untouched

@@ -4,6 +4,7 @@ use Rattle.intake.specs.Names.{ForgetsName}
 use Rattle.intake.proofs.NameLemmas.{taken_dropped, taken_grown, taken_still}
 use Rattle.std.proofs.Common.{rules, arith, ◌∙◌, ap, sym, subst, Option, Err, List}
 use Rattle.journal_layout.specs.declared.shape.Shape.{Shape}
+use Rattle.journal_layout.specs.Layout.{data_start}
 use Rattle.intake.specs.Growth.{ChangesFree}
 use Rattle.intake.specs.Parts.{Parts, StreamParts, state_of, contents_of}
 use Rattle.intake.specs.Step.{AdvanceStep}
@@ -14,6 +15,7 @@ use Rattle.intake.proofs.AdvanceLemmas.{put_back, none_set, sound_refused, refus
 use Rattle.intake.proofs.CrashLemmas.{grow_rests, grow_moments, grow_durable}
 use Rattle.intake.proofs.UntouchedLemmas.{needs_none}
 use Rattle.std.proofs.lemmas.Grind.{common_steps}
+use Rattle.intake.proofs.FrontLemmas.{free_before, same_front}
 use Rattle.intake.proofs.archive.Archive.advance.Goals as goal
 
 pub release-requires : goal.release-requires
@@ -70,6 +72,7 @@ returns-in_default g c = record {
   cause = search rules;
   stays = record { honesty = search rules; later = search rules; size = search rules; crash = search rules; durable = search rules };
   untouched = search rules;
+  front = same_front g.D.Disk c.args.self.now.journal.standing.shape _ _ (search rules);
 }
 
 pub returns-in-Err : goal.returns-in-Err
@@ -93,6 +96,11 @@ returns-in-Err g c = record {
       (not_missing g.D.Disk c.self.inside.disk c.grow-grown.new.disk c.self.inside.journal c.self.inside.settings.limit c.self.inside.free c.self.inside.slots c.args.slot c.args.n (parts_of c.in-Some.block c.in-Some.stream) c.self.inside.stopped running c.if-self.false (sym c.in-Some.ensures.stream) _ c.in-Err.fault c.in-Err.ensures.step));
   cause = search rules;
   stays = record { honesty = search rules; later = search rules; size = search rules; crash = search rules; durable = search rules };
+  front = λ honest.
+      let real = rw (← c.self.view_is) at honest in
+      rw (← c.self.view_is)
+      (free_before c.self.inside.journal.standing.shape c.self.inside.free (g.D.Disk.seen c.self.inside.disk) (g.D.Disk.seen c.grow-grown.new.disk) (data_start c.self.inside.journal.standing.shape) (omega arith)
+      (subst (λ (x : Shape). ChangesFree x c.self.inside.free (g.D.Disk.seen c.self.inside.disk) (g.D.Disk.seen c.grow-grown.new.disk)) c.shape-shape.ensures (c.in-Err.ensures.others real)));
   untouched = rw (← c.self.view_is) c.in-Err.ensures.untouched;
 }
 
@@ -127,6 +135,11 @@ returns g c = record {
         rw (← c.self.view_is)
         (grow_durable g.D.Disk c.self.inside.disk c.grow-grown.new.disk c.self.inside.journal c.self.inside.settings.limit c.self.inside.free c.self.inside.slots (c.self.invariant.sound.runs c.if-self.false) (c.in_default-grown.ensures.rests c.self.inside.journal (sym c.shape-shape.ensures)) real);
   };
+  front = λ honest.
+      let real = rw (← c.self.view_is) at honest in
+      rw (← c.self.view_is)
+      (free_before c.self.inside.journal.standing.shape c.self.inside.free (g.D.Disk.seen c.self.inside.disk) (g.D.Disk.seen c.grow-grown.new.disk) (data_start c.self.inside.journal.standing.shape) (omega arith)
+      (subst (λ (x : Shape). ChangesFree x c.self.inside.free (g.D.Disk.seen c.self.inside.disk) (g.D.Disk.seen c.grow-grown.new.disk)) c.shape-shape.ensures (c.in_default-grown.ensures.others real)));
   untouched = rw (← c.self.view_is)
       (λ t is none. c.in_default-grown.ensures.idle (needs_none c.self.inside.slots c.args.slot c.args.n (parts_of c.in-Some.block c.in-Some.stream) t (sym c.in-Some.ensures.stream) is none));
 }

@@ -8,6 +8,7 @@ use Rattle.journal_layout.specs.Case.{case_of}
 use Rattle.intake.proofs.AfterLemmas.{case_facts_at}
 use Rattle.intake.proofs.DropLemmas.{delete_may, delete_step}
 use Rattle.intake.proofs.ChangeLemmas.{changes_none}
+use Rattle.intake.proofs.FrontLemmas.{same_superblock}
 use Rattle.intake.proofs.archive.Archive.delete.Goals as goal
 
 pub drop_cases-requires-clause-may : goal.drop_cases-requires-clause-may
@@ -28,6 +29,7 @@ returns-then-self g c = record {
   bytes = search rules;
   changes = changes_none g.D.Disk (Unit {0}) c.self.inside.disk c.self.inside.journal c.self.inside.settings.limit c.self.inside.free c.self.inside.slots c.self.inside.stopped _ _ _ c.self.invariant.sound c.self.view_is (λ fault. cc);
   full = λ honest e. absurd (cc);
+  superblock = same_superblock g.D.Disk _ _ (search rules);
   untouched = search rules;
 }
 
@@ -37,6 +39,7 @@ returns-in_default g c = record {
   bytes = search rules;
   changes = changes_none g.D.Disk (Unit {0}) c.self.inside.disk c.self.inside.journal c.self.inside.settings.limit c.self.inside.free c.self.inside.slots c.self.inside.stopped _ _ _ c.self.invariant.sound c.self.view_is (λ fault. cc);
   full = λ honest e. absurd (cc);
+  superblock = same_superblock g.D.Disk _ _ (search rules);
   untouched = search rules;
 }
 
@@ -47,6 +50,7 @@ returns-then-entry g c = record {
   bytes = search rules;
   changes = changes_none g.D.Disk (Unit {0}) c.self.inside.disk c.self.inside.journal c.self.inside.settings.limit c.self.inside.free c.self.inside.slots c.self.inside.stopped _ _ _ c.self.invariant.sound c.self.view_is (λ fault. cc);
   full = λ honest e. absurd (cc);
+  superblock = same_superblock g.D.Disk _ _ (search rules);
   untouched = search rules;
 }
 
@@ -58,5 +62,6 @@ returns g c = record {
   bytes = search rules;
   changes = c.drop_cases.ensures.changes;
   full = c.drop_cases.ensures.full;
+  superblock = c.drop_cases.ensures.superblock;
   untouched = c.drop_cases.ensures.untouched;
 }

@@ -154,3 +154,9 @@ pub returns-clause-full : goal.returns-clause-full
 returns-clause-full g c honest e =
     let real = rw (← c.self.view_is) at honest in
     rw (← c.self.view_is) (c.in-Err.ensures.generation (journal_answered (Unit {0}) c.in-Err.fault journal_fault.JournalFull _ c.from-fault.ensures e) real)
+
+pub returns-in_default-clause-superblock : goal.returns-in_default-clause-superblock
+returns-in_default-clause-superblock g c = rw (← c.self.view_is) (λ honest. (c.append_drop.ensures.others honest).before)
+
+pub returns-clause-superblock : goal.returns-clause-superblock
+returns-clause-superblock g c = rw (← c.self.view_is) (λ honest. (c.append_drop.ensures.others honest).before)

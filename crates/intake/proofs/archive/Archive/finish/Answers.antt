@@ -13,6 +13,7 @@ use Rattle.intake.specs.Step.{FinishStep}
 use Rattle.journal_layout.specs.Case.{Case, case_of}
 use Rattle.journal_layout.specs.Soundness.{IsStorable}
 use Rattle.journal_layout.specs.declared.shape.Shape.{Shape}
+use Rattle.journal_layout.specs.Layout.{data_start}
 use Rattle.extents.specs.Runs.{runs_of}
 use Rattle.std.proofs.Common.{length}
 use Rattle.intake.proofs.FinishLemmas.{runs_may, seal_err, seal_not_stopped, seal_not_missing, storable, sound_not_stored, refused_step, stored_step, sound_with_case, closed_case}
@@ -30,6 +31,7 @@ use Rattle.intake.proofs.LeaveLemmas.{new_behind}
 use Rattle.intake.proofs.CrashLemmas.{grow_rests, rests_leaves, stored_adds, unstored_adds, stored_doubt, stored_is}
 use Rattle.intake.proofs.ChangeLemmas.{sound_stands, changes_none}
 use Rattle.std.proofs.lemmas.Grind.{common_steps}
+use Rattle.intake.proofs.FrontLemmas.{free_before, front_kept, front_spared, same_front, same_superblock}
 use Rattle.intake.proofs.archive.Archive.finish.Goals as goal
 
 pub release-requires : goal.release-requires
@@ -106,6 +108,8 @@ returns-then-self g c = record {
   changes = changes_none g.D.Disk ℕ c.self.inside.disk c.self.inside.journal c.self.inside.settings.limit c.self.inside.free c.self.inside.slots c.self.inside.stopped _ _ _ c.self.invariant.sound c.self.view_is (λ fault. cc);
   padded = λ honest. tt;
   untouched = search rules;
+  superblock = same_superblock g.D.Disk _ _ (search rules);
+  front = same_front g.D.Disk c.args.self.now.journal.standing.shape _ _ (search rules);
 }
 
 pub returns-in_default : goal.returns-in_default
@@ -125,6 +129,8 @@ returns-in_default g c = record {
   changes = record { disk = record { cause = search rules; later = search rules; honesty = search rules; size = search rules }; crash = search rules; stands = search rules };
   padded = λ honest. tt;
   untouched = search rules;
+  superblock = same_superblock g.D.Disk _ _ (search rules);
+  front = same_front g.D.Disk c.args.self.now.journal.standing.shape _ _ (search rules);
 }
 
 pub returns-in-Err : goal.returns-in-Err
@@ -159,6 +165,17 @@ returns-in-Err g c = record {
     stands = sound_stands g.D.Disk c.seal-sealed.new.disk c.self.inside.journal c.self.inside.settings.limit c.release.new.free c.end_streams-self-inside.new.slots c.end_streams-self-inside.result (invariant_of-self-in-Err g c).sound;
   };
   padded = λ honest. tt;
+  superblock = λ honest.
+      let real = rw (← c.self.view_is) at honest in
+      rw (← c.self.view_is)
+      (free_before c.self.inside.journal.standing.shape c.self.inside.free (g.D.Disk.seen c.self.inside.disk) (g.D.Disk.seen c.seal-sealed.new.disk) 4096 (omega arith)
+      (subst (λ (x : Shape). ChangesFree x c.self.inside.free (g.D.Disk.seen c.self.inside.disk) (g.D.Disk.seen c.seal-sealed.new.disk)) c.shape-shape.ensures (c.in-Err.ensures.others real)));
+  front = front_kept g.D.Disk c.args.self.now.journal.standing.shape c.in-Err.fault c.args.self.now.disk c.seal-sealed.new.disk
+      (λ honest.
+      (let real = rw (← c.self.view_is) at honest in
+      rw (← c.self.view_is)
+      (free_before c.self.inside.journal.standing.shape c.self.inside.free (g.D.Disk.seen c.self.inside.disk) (g.D.Disk.seen c.seal-sealed.new.disk) (data_start c.self.inside.journal.standing.shape) (omega arith)
+      (subst (λ (x : Shape). ChangesFree x c.self.inside.free (g.D.Disk.seen c.self.inside.disk) (g.D.Disk.seen c.seal-sealed.new.disk)) c.shape-shape.ensures (c.in-Err.ensures.others real)))));
   untouched = rw (← c.self.view_is) (seal_spares (free_count c.self.inside.free) (parts_of c.in-Some.block c.in-Some.stream) (parts_of c.seal-sealed.new.block c.seal-sealed.new.stream) c.in-Err.fault _ _ c.in-Err.ensures.step c.in-Err.ensures.untouched);
 }
 
@@ -206,6 +223,20 @@ returns g c = record {
         (subst (λ (x : List ℕ). Balances c.seal-sealed.new.free x c.append_case.new.free []) (ap (λ (x : Case). x.blocks) c.into_entry-entry.ensures) c.in-Err-append_case.ensures.free)));
   };
   padded = λ honest. tt;
+  superblock = λ honest.
+      let real = rw (← c.self.view_is) at honest in
+      let still = c.in_default-sealed.ensures.disk.honesty ∙ real in
+      rw (← c.self.view_is)
+      ((c.in-Err-append_case.ensures.outside still).before
+      ∙ (free_before c.self.inside.journal.standing.shape c.self.inside.free (g.D.Disk.seen c.self.inside.disk) (g.D.Disk.seen c.seal-sealed.new.disk) 4096 (omega arith)
+      (subst (λ (x : Shape). ChangesFree x c.self.inside.free (g.D.Disk.seen c.self.inside.disk) (g.D.Disk.seen c.seal-sealed.new.disk)) c.shape-shape.ensures (c.in_default-sealed.ensures.others real))));
+  front = front_spared g.D.Disk c.args.self.now.journal.standing.shape c.in-Err-append_case.fault c.args.self.now.disk c.seal-sealed.new.disk c.append_case.new.disk
+      (λ honest.
+      (let real = rw (← c.self.view_is) at honest in
+      rw (← c.self.view_is)
+      (free_before c.self.inside.journal.standing.shape c.self.inside.free (g.D.Disk.seen c.self.inside.disk) (g.D.Disk.seen c.seal-sealed.new.disk) (data_start c.self.inside.journal.standing.shape) (omega arith)
+      (subst (λ (x : Shape). ChangesFree x c.self.inside.free (g.D.Disk.seen c.self.inside.disk) (g.D.Disk.seen c.seal-sealed.new.disk)) c.shape-shape.ensures (c.in_default-sealed.ensures.others real)))))
+      c.in-Err-append_case.ensures.spared;
   untouched = append_spares c.in-Err-append_case.ensures.step.0 c.in-Err-append_case.fault _ _ c.in-Err-append_case.ensures.step.1 (never_stopped c.self.inside.journal (case_of c.into_entry-entry.result) c.in-Err-append_case.ensures.step.0 c.append_case.new.journal (c.self.invariant.sound.runs c.if-self.false).journal c.in-Err-append_case.ensures.step.2);
 }
 
@@ -253,5 +284,13 @@ returns-in-Ok g c = record {
       (parts_of c.in-Some.block c.in-Some.stream) (case_of c.into_entry-entry.result) c.in-Ok.seq c.take.new.self (sym c.in-Some.ensures.stream) c.in-Ok.ensures.step.4
       (subst (λ (x : Shape). ClosesPadded x (parts_of c.in-Some.block c.in-Some.stream) (case_of c.into_entry-entry.result).blocks (g.D.Disk.seen c.self.inside.disk) (g.D.Disk.seen c.seal-sealed.new.disk)) c.shape-shape.ensures
       (subst (λ (x : List ℕ). ClosesPadded c.shape-shape.result (parts_of c.in-Some.block c.in-Some.stream) x (g.D.Disk.seen c.self.inside.disk) (g.D.Disk.seen c.seal-sealed.new.disk)) (sym (ap (λ (x : Case). x.blocks) c.into_entry-entry.ensures)) (c.in_default-sealed.ensures.padded real))));
+  superblock = λ honest.
+      let real = rw (← c.self.view_is) at honest in
+      let still = c.in_default-sealed.ensures.disk.honesty ∙ real in
+      rw (← c.self.view_is)
+      ((c.in-Ok.ensures.outside still).before
+      ∙ (free_before c.self.inside.journal.standing.shape c.self.inside.free (g.D.Disk.seen c.self.inside.disk) (g.D.Disk.seen c.seal-sealed.new.disk) 4096 (omega arith)
+      (subst (λ (x : Shape). ChangesFree x c.self.inside.free (g.D.Disk.seen c.self.inside.disk) (g.D.Disk.seen c.seal-sealed.new.disk)) c.shape-shape.ensures (c.in_default-sealed.ensures.others real))));
+  front = tt;
   untouched = tt;
 }

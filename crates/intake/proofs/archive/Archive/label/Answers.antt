@@ -22,6 +22,7 @@ use Rattle.intake.proofs.DurableLemmas.{durable_labelled}
 use Rattle.intake.proofs.LeaveLemmas.{done_guards, refusal_guards, whole_labelled}
 use Rattle.intake.proofs.ChangeLemmas.{sound_stands, changes_none}
 use Rattle.intake.proofs.UntouchedLemmas.{journal_spares}
+use Rattle.intake.proofs.FrontLemmas.{same_superblock}
 use Rattle.intake.proofs.archive.Archive.label.Goals as goal
 
 pub append_label-requires-clause-labelable : goal.append_label-requires-clause-labelable
@@ -59,6 +60,7 @@ returns-then-self g c = record {
   step = search rules;
   bytes = search rules;
   changes = changes_none g.D.Disk (Unit {0}) c.self.inside.disk c.self.inside.journal c.self.inside.settings.limit c.self.inside.free c.self.inside.slots c.self.inside.stopped _ _ _ c.self.invariant.sound c.self.view_is (λ fault. cc);
+  superblock = same_superblock g.D.Disk _ _ (search rules);
   untouched = search rules;
 }
 
@@ -67,6 +69,7 @@ returns-in_default g c = record {
   step = rw (← c.self.view_is) (c.if-self.false, case_facts_at c.args.seq c.self.inside.journal.standing.cases ∙ ap (option_map case_facts) (sym c.in_default.ensures), refl);
   bytes = search rules;
   changes = changes_none g.D.Disk (Unit {0}) c.self.inside.disk c.self.inside.journal c.self.inside.settings.limit c.self.inside.free c.self.inside.slots c.self.inside.stopped _ _ _ c.self.invariant.sound c.self.view_is (λ fault. cc);
+  superblock = same_superblock g.D.Disk _ _ (search rules);
   untouched = search rules;
 }
 
@@ -77,6 +80,7 @@ returns-then-version-eq1 g c = record {
       c.args.seq c.args.text.now (case_of c.in-Some.entry.now) c.self.invariant.sound c.if-self.false c.in-Some.ensures (sym c.version.ensures.value ∙ c.if-version-eq1.true));
   bytes = search rules;
   changes = changes_none g.D.Disk (Unit {0}) c.self.inside.disk c.self.inside.journal c.self.inside.settings.limit c.self.inside.free c.self.inside.slots c.self.inside.stopped _ _ _ c.self.invariant.sound c.self.view_is (λ fault. cc);
+  superblock = same_superblock g.D.Disk _ _ (search rules);
   untouched = search rules;
 }
 
@@ -87,6 +91,7 @@ returns-then-has_label g c = record {
       c.args.seq c.args.text.now (case_of c.in-Some.entry.now) c.self.invariant.sound c.if-self.false c.in-Some.ensures tt (two_is _ _ c.version.ensures.value c.version.ensures.known (λ e. (let not_one = c.if-version-eq1.false in absurd (omega (arith, e, not_one))))) (labels_same _ _ (sym c.has_label.ensures ∙ c.if-has_label.true)));
   bytes = search rules;
   changes = changes_none g.D.Disk (Unit {0}) c.self.inside.disk c.self.inside.journal c.self.inside.settings.limit c.self.inside.free c.self.inside.slots c.self.inside.stopped _ _ _ c.self.invariant.sound c.self.view_is (λ fault. fault);
+  superblock = same_superblock g.D.Disk _ _ (search rules);
   untouched = λ x has is. search rules;
 }
 
@@ -112,6 +117,7 @@ returns-in_default-append_label g c = record {
         (λ z. z ≡ labelled (durable_in (g.D.Disk.seen c.self.inside.disk) c.self.inside.journal.standing) c.args.seq c.args.text.now) tt (c.append_label.ensures.others real) (label_append c.self.inside.journal c.append_label.new.self c.args.seq c.args.text.now (Ok c.in_default-append_label.field-0) (two_is _ _ c.version.ensures.value c.version.ensures.known (λ e. (let not_one = c.if-version-eq1.false in absurd (omega (arith, e, not_one))))) c.in_default-append_label.ensures.step).2);
     stands = sound_stands g.D.Disk c.append_label.new.disk c.append_label.new.self c.self.inside.settings.limit c.self.inside.free c.self.inside.slots c.self.inside.stopped (invariant_of-self g c).sound;
   };
+  superblock = rw (← c.self.view_is) (λ honest. (c.append_label.ensures.others honest).before);
   untouched = rw (← c.self.view_is)
       (λ x has is. absurd (label_differs c.args.seq c.args.text.now c.self.inside.journal.standing.cases (case_of c.in-Some.entry.now) x c.in-Some.ensures (labels_differ _ _ (sym c.has_label.ensures ∙ c.if-has_label.false)) has.1 is));
 }
@@ -142,5 +148,6 @@ returns g c = record {
         (λ z. z ≡ labelled (durable_in (g.D.Disk.seen c.self.inside.disk) c.self.inside.journal.standing) c.args.seq c.args.text.now) c.in-Err.fault _ _ c.from-fault.ensures c.in-Err.ensures.untouched (durable_labelled c.self.inside.journal.standing c.args.seq c.args.text.now (g.D.Disk.seen c.self.inside.disk)) (g.met.D.Disk.only_now c.self.inside.disk));
     stands = sound_stands g.D.Disk c.append_label.new.disk c.append_label.new.self c.self.inside.settings.limit c.self.inside.free c.end_streams-self-inside.new.slots c.end_streams-self-inside.result (invariant_of-self-2 g c).sound;
   };
+  superblock = rw (← c.self.view_is) (λ honest. (c.append_label.ensures.others honest).before);
   untouched = rw (← c.self.view_is) (journal_spares (Unit {0}) c.in-Err.fault _ _ _ c.from-fault.ensures c.in-Err.ensures.untouched);
 }

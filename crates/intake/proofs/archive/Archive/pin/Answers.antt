@@ -23,6 +23,7 @@ use Rattle.intake.proofs.DurableLemmas.{durable_pinned}
 use Rattle.intake.proofs.LeaveLemmas.{done_guards, refusal_guards, whole_pinned}
 use Rattle.intake.proofs.ChangeLemmas.{sound_stands, changes_none}
 use Rattle.intake.proofs.UntouchedLemmas.{flag_differs, journal_answered, journal_spares}
+use Rattle.intake.proofs.FrontLemmas.{same_superblock}
 use Rattle.intake.proofs.archive.Archive.pin.Goals as goal
 
 pub invariant_of-self : goal.invariant_of-self
@@ -56,6 +57,7 @@ returns-then-self g c = record {
   bytes = search rules;
   changes = changes_none g.D.Disk (Unit {0}) c.self.inside.disk c.self.inside.journal c.self.inside.settings.limit c.self.inside.free c.self.inside.slots c.self.inside.stopped _ _ _ c.self.invariant.sound c.self.view_is (λ fault. cc);
   never = λ e. absurd (cc);
+  superblock = same_superblock g.D.Disk _ _ (search rules);
   untouched = search rules;
 }
 
@@ -65,6 +67,7 @@ returns-in_default g c = record {
   bytes = search rules;
   changes = changes_none g.D.Disk (Unit {0}) c.self.inside.disk c.self.inside.journal c.self.inside.settings.limit c.self.inside.free c.self.inside.slots c.self.inside.stopped _ _ _ c.self.invariant.sound c.self.view_is (λ fault. cc);
   never = λ e. absurd (cc);
+  superblock = same_superblock g.D.Disk _ _ (search rules);
   untouched = search rules;
 }
 
@@ -76,6 +79,7 @@ returns-then-entry-flag g c = record {
   bytes = search rules;
   changes = changes_none g.D.Disk (Unit {0}) c.self.inside.disk c.self.inside.journal c.self.inside.settings.limit c.self.inside.free c.self.inside.slots c.self.inside.stopped _ _ _ c.self.invariant.sound c.self.view_is (λ fault. fault);
   never = λ e. absurd (cc);
+  superblock = same_superblock g.D.Disk _ _ (search rules);
   untouched = λ x has is. search rules;
 }
 
@@ -102,6 +106,7 @@ returns-in_default-append_pin g c = record {
     stands = sound_stands g.D.Disk c.append_pin.new.disk c.append_pin.new.self c.self.inside.settings.limit c.self.inside.free c.self.inside.slots c.self.inside.stopped (invariant_of-self g c).sound;
   };
   never = λ e. absurd (cc);
+  superblock = rw (← c.self.view_is) (λ honest. (c.append_pin.ensures.others honest).before);
   untouched = rw (← c.self.view_is)
       (λ x has is. absurd (flag_differs c.args.seq c.args.flag c.self.inside.journal.standing.cases (case_of c.in-Some.entry.now) x c.in-Some.ensures (flags_differ c.in-Some.entry.now.pinned c.args.flag c.if-entry-flag.false) has.1 is));
 }
@@ -136,5 +141,6 @@ returns g c = record {
       (λ e. pin_behind g.D.Disk c.self.inside.disk c.self.inside.disk c.self.inside.journal c.self.inside.journal c.self.inside.settings.limit c.self.inside.free c.self.inside.slots c.self.inside.slots c.self.inside.stopped c.self.inside.stopped
       c.args.seq c.args.flag (case_of c.in-Some.entry.now) c.self.invariant.sound c.if-self.false c.in-Some.ensures
       (c.in-Err.ensures.never (journal_answered (Unit {0}) c.in-Err.fault journal_fault.OutOfMemory _ c.from-fault.ensures e)));
+  superblock = rw (← c.self.view_is) (λ honest. (c.append_pin.ensures.others honest).before);
   untouched = rw (← c.self.view_is) (journal_spares (Unit {0}) c.in-Err.fault _ _ _ c.from-fault.ensures c.in-Err.ensures.untouched);
 }

@@ -21,6 +21,7 @@ use Rattle.intake.specs.declared.faults.ArchiveFault.TheVariants as fault
 use Rattle.intake.proofs.CrashLemmas.{leaves_of}
 use Rattle.intake.proofs.ChangeLemmas.{changes_none}
 use Rattle.intake.proofs.UntouchedLemmas.{fault_answered, other_spares}
+use Rattle.intake.proofs.FrontLemmas.{same_superblock}
 use Rattle.intake.proofs.archive.Archive.retire.Goals as goal
 
 pub decide_for-requires : goal.decide_for-requires
@@ -52,6 +53,7 @@ returns-then-self g c = record {
   bytes = search rules;
   changes = changes_none g.D.Disk Decision c.self.inside.disk c.self.inside.journal c.self.inside.settings.limit c.self.inside.free c.self.inside.slots c.self.inside.stopped _ _ _ c.self.invariant.sound c.self.view_is (λ fault. cc);
   full = λ honest e. absurd (cc);
+  superblock = same_superblock g.D.Disk _ _ (search rules);
   untouched = search rules;
 }
 
@@ -63,6 +65,7 @@ returns-in_err-decision g c =
       bytes = search rules;
       changes = changes_none g.D.Disk Decision c.self.inside.disk c.self.inside.journal c.self.inside.settings.limit c.self.inside.free c.self.inside.slots c.self.inside.stopped _ _ _ c.self.invariant.sound c.self.view_is (λ fault. cc);
       full = λ honest e. absurd (cc);
+      superblock = same_superblock g.D.Disk _ _ (search rules);
       untouched = search rules;
     })
 
@@ -76,6 +79,7 @@ returns-then-is_empty g c = record {
       (sym (all_stay (λ (x : Case). image_in c.args.self.now.journal.standing.shape (g.D.Disk.seen c.args.self.now.disk) x.blocks x.len) c.args.self.now.journal.standing.cases)));
   changes = changes_none g.D.Disk Decision c.self.inside.disk c.self.inside.journal c.self.inside.settings.limit c.self.inside.free c.self.inside.slots c.self.inside.stopped _ _ _ c.self.invariant.sound c.self.view_is (λ fault. fault);
   full = λ honest e. absurd (cc);
+  superblock = same_superblock g.D.Disk _ _ (search rules);
   untouched = λ none. search rules;
 }
 
@@ -105,6 +109,7 @@ returns-in_err-drop_cases g c =
         stands = c.in_err-drop_cases.ensures.changes.stands;
       };
       full = λ honest e. c.in_err-drop_cases.ensures.full honest (ap (λ (f : ArchiveFault). let r : Result (Unit {0}) ArchiveFault = Err f in r) (fault_answered Decision c.in_err-drop_cases.field-0.0 fault.JournalFull e));
+      superblock = c.in_err-drop_cases.ensures.superblock;
       untouched = other_spares (Unit {0}) Decision c.in_err-drop_cases.field-0.0 _ _ c.in_err-drop_cases.ensures.untouched;
     })
 
@@ -123,5 +128,6 @@ returns g c = record {
     stands = c.in_ok-drop_cases.ensures.changes.stands;
   };
   full = λ honest e. absurd (cc);
+  superblock = c.in_ok-drop_cases.ensures.superblock;
   untouched = λ none. (let some : c.in_ok-decision.decision.dropped.items ≢ [] = search rules in absurd (some none));
 }

@@ -29,6 +29,7 @@ returns-in-Err g c =
         bytes = λ honest. refused_bytes s c.args.policy.now c.args.name.now.items c.in-Err.fault (contents_of g.D.Disk.seen c.args.self.now) reply;
         changes = changes_none g.D.Disk Decision c.self.inside.disk c.self.inside.journal c.self.inside.settings.limit c.self.inside.free c.self.inside.slots c.self.inside.stopped _ _ _ c.self.invariant.sound c.self.view_is (no_disk_fault s c.args.policy.now c.args.name.now.items c.in-Err.fault reply);
         full = λ honest e. absurd (not_full s c.args.policy.now c.args.name.now.items c.in-Err.fault reply (fault_answered Decision c.in-Err.fault fault.JournalFull e));
+        superblock = λ honest. refl;
         untouched = refused_spares s c.args.policy.now c.args.name.now.items c.in-Err.fault c.args.self.now.disk reply;
       },
       tt,

@@ -11,6 +11,7 @@ use Rattle.intake.proofs.ChangeLemmas.{sound_stands, changes_none}
 use Rattle.intake.proofs.NameLemmas.{taken_still}
 use Rattle.intake.proofs.UntouchedLemmas.{journal_spares}
 use Rattle.intake.proofs.UpgradeLemmas.{upgrade_ok, upgrade_err, upgrade_guards, upgrade_sound, upgrade_cases, upgrade_bytes, upgrade_crash, refused_guards, refused_sound, refused_cases, refused_bytes, refused_crash}
+use Rattle.intake.proofs.FrontLemmas.{same_superblock}
 use Rattle.intake.proofs.archive.Archive.upgrade.Goals as goal
 
 pub invariant_of-self : goal.invariant_of-self
@@ -42,6 +43,7 @@ returns-then-self g c = record {
   step = search rules;
   bytes = search rules;
   changes = changes_none g.D.Disk (Unit {0}) c.self.inside.disk c.self.inside.journal c.self.inside.settings.limit c.self.inside.free c.self.inside.slots c.self.inside.stopped _ _ _ c.self.invariant.sound c.self.view_is (λ fault. cc);
+  superblock = same_superblock g.D.Disk _ _ (search rules);
   untouched = search rules;
 }
 
@@ -60,6 +62,7 @@ returns-in_default g c = record {
         (upgrade_crash g.D.Disk c.self.inside.disk c.upgrade.new.disk c.self.inside.journal c.upgrade.new.self c.self.inside.settings.limit c.self.inside.free c.self.inside.slots c.self.inside.slots c.self.inside.stopped c.self.inside.stopped c.self.invariant.sound c.if-self.false real (c.upgrade.ensures.any_moment real running.journal) (c.upgrade.ensures.outside real) c.in_default.field-0 c.in_default.ensures.step (c.upgrade.ensures.others real));
     stands = sound_stands g.D.Disk c.upgrade.new.disk c.upgrade.new.self c.self.inside.settings.limit c.self.inside.free c.self.inside.slots c.self.inside.stopped (invariant_of-self g c).sound;
   };
+  superblock = rw (← c.self.view_is) (λ honest. (c.upgrade.ensures.others honest).before);
   untouched = rw (← c.self.view_is) c.upgrade.ensures.nothing;
 }
 
@@ -85,5 +88,6 @@ returns g c = record {
         c.in-Err.fault _ _ c.from-fault.ensures c.in-Err.ensures.untouched (g.met.D.Disk.only_now c.self.inside.disk));
     stands = sound_stands g.D.Disk c.upgrade.new.disk c.upgrade.new.self c.self.inside.settings.limit c.self.inside.free c.end_streams-self-inside.new.slots c.end_streams-self-inside.result (invariant_of-self-2 g c).sound;
   };
+  superblock = rw (← c.self.view_is) (λ honest. (c.upgrade.ensures.others honest).before);
   untouched = rw (← c.self.view_is) (journal_spares (Unit {0}) c.in-Err.fault _ _ _ c.from-fault.ensures c.in-Err.ensures.untouched);
 }
