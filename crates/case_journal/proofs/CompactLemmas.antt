@@ -1,13 +1,17 @@
 -- What is written anew of an open journal.
-use Rattle.std.proofs.Common.{◌≡◌, inl, inr, ◌+◌, ◌<◌, ◌≤◌, ◌^◌, ◌*◌, ◌∙◌, ◌++◌, ℕ, List, Some, true, Ok, Err, ⊎_elim, map, length, get_or, sym, ap, subst, arith}
+use Rattle.std.proofs.Common.{◌≡◌, inl, inr, ◌+◌, ◌<◌, ◌≤◌, ◌^◌, ◌*◌, ◌∙◌, ◌++◌, ℕ, List, Some, true, Ok, Err, ⊎_elim, map, length, get_or, sym, ap, subst, arith, append_assoc}
 use Rattle.std.proofs.Math.ListN.{get_or-map}
-use Rattle.std.proofs.lemmas.List.{length-map}
+use Rattle.std.proofs.Math.Seq.{take-append_seam}
+use Rattle.std.proofs.lemmas.List.{length-map, length-append}
+use Rattle.std.specs.Prelude.{take}
 use Rattle.journal_layout.specs.declared.entry.Entry.{Entry}
+use Rattle.disk_model.specs.Places.{part}
+use Rattle.disk_model.specs.PartLaws.{part_part}
 use Rattle.disk_model.specs.declared.disk.Disk as disk
 use Rattle.journal_layout.specs.declared.shape.Shape.{Shape}
 use Rattle.journal_layout.specs.declared.shape.Half.{Half}
 use Rattle.journal_layout.specs.declared.shape.Half.TheVariants.{A, B}
-use Rattle.journal_layout.specs.Layout.{half_start, half_length}
+use Rattle.journal_layout.specs.Layout.{half_header, half_start, half_length}
 use Rattle.journal_layout.specs.Front.{is_known}
 use Rattle.journal_layout.specs.Case.{Case, case_of}
 use Rattle.journal_layout.specs.Folding.{Folded}
@@ -21,6 +25,7 @@ use Rattle.journal_snapshot.specs.Changing.{changed, staying, added}
 use Rattle.journal_snapshot.specs.ChangeLaws.{changed_cases, snapshot_bytes_are}
 use Rattle.journal_snapshot.specs.Filling.{Fills}
 use Rattle.journal_snapshot.specs.FillLaws.{fills_wider}
+use Rattle.journal_snapshot.specs.HalfLaws.{header_length}
 use Rattle.journal_snapshot.specs.Measuring.{AreShort, IsMeasure, snapshot_bytes}
 use Rattle.journal_snapshot.specs.Halves.{IsWrittenAs}
 use Rattle.case_journal.specs.declared.compacting.Place.{Place}
@@ -112,3 +117,22 @@ pub anew : (raw now : Journaled) (ch : Change) (es : List Entry) (target : Targe
 anew raw now ch es target m is same place version generation next found known live labels =
     let found' : FindsRoom now.standing.shape now.standing.generation ch es (Ok m) = subst (λ (x : Journaled). FindsRoom x.standing.shape x.standing.generation ch es (Ok m)) is found in
     written_as now.standing ch es target m (subst (λ (x : Journaled). x.standing.cases ≡ map case_of es) is same) place version generation next found'.0 found'.1 known live labels
+
+front_is : (h rest all : List ℕ) → length h ≡ 31 → all ≡ h ++ rest → part all 0 31 ≡ h
+unfolding part
+front_is h rest all long is = ap (λ (l : List ℕ). take 31 l) is ∙ ap (λ (n : ℕ). take n (h ++ rest)) (sym long) ∙ take-append_seam h rest
+
+-- the header stands at the front of what is written
+pub header_there : (b : List ℕ) (p version generation : ℕ) (xs ys zs : List ℕ) → part b p (length (((half_header version generation ++ xs) ++ ys) ++ zs)) ≡ ((half_header version generation ++ xs) ++ ys) ++ zs
+    → part b p 31 ≡ half_header version generation
+header_there b p version generation xs ys zs there =
+    let h = half_header version generation in
+    let long : length (((h ++ xs) ++ ys) ++ zs) ≡ 31 + length (xs ++ (ys ++ zs)) =
+    ap length (append_assoc (h ++ xs) ys zs ∙ append_assoc h xs (ys ++ zs)) ∙ length-append h (xs ++ (ys ++ zs)) ∙ ap (λ (n : ℕ). n + length (xs ++ (ys ++ zs))) (header_length version generation) in
+    ap (λ (q : ℕ). part b q 31) (zero_more p)
+    ∙ sym (part_part b p (length (((h ++ xs) ++ ys) ++ zs)) 0 31 (omega (arith, long)))
+    ∙ ap (λ (l : List ℕ). part l 0 31) there
+    ∙ front_is h (xs ++ (ys ++ zs)) (((h ++ xs) ++ ys) ++ zs) (header_length version generation) (append_assoc (h ++ xs) ys zs ∙ append_assoc h xs (ys ++ zs))
+  where
+    zero_more : (n : ℕ) → n ≡ n + 0
+    zero_more n = omega arith

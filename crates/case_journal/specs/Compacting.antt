@@ -2,7 +2,8 @@
 use Rattle.std.specs.Prelude.{◌≡◌, ◌⊎◌, ℕ, ◌+◌, ◌*◌, ◌^◌, ◌<◌, ◌≤◌, true, false, Result, Ok, Err, List, IsTrue, Some}
 use Rattle.journal_layout.specs.declared.entry.Entry.{Entry}
 use Rattle.journal_layout.specs.declared.shape.Shape.{Shape}
-use Rattle.journal_layout.specs.Layout.{half_length}
+use Rattle.disk_model.specs.Places.{part}
+use Rattle.journal_layout.specs.Layout.{half_header, half_length}
 use Rattle.journal_layout.specs.Folding.{Folded}
 use Rattle.journal_layout.specs.Standing.{Standing, folded_of}
 use Rattle.journal_layout.specs.Rewriting.{other_half, other_start, snapshot_size, rewritten, in_version_two, upgraded}
@@ -102,6 +103,10 @@ IsWriteAnswer (Err _) = ⊥
 abbrev pub noted : JournalFault → Journaled → Journaled
 noted Disk j = halted j
 noted _ j = j
+
+-- Behind its gate the other half has a header of this version and the next generation, with zeros where the layout has zeros.
+abbrev pub HasHeader : Standing → ℕ → List ℕ → Type 0
+HasHeader s version bytes = part bytes (other_start s + 1) 31 ≡ half_header version (s.generation + 1)
 
 -- What it does to the disk: a crash at any moment leaves what stood before or what is said then, and nothing is changed but
 -- the half that is not taken.

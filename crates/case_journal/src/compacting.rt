@@ -2,7 +2,7 @@
 ghost use Rattle.std.specs.Prelude.{◌≡◌, ◌⊎◌, ◌+◌, ◌*◌, ◌^◌, ◌<◌, ◌≤◌, true, false, length, IsTrue, OnOk, Err, Some};
 ghost use Rattle.disk_model.specs.Disk.{HasRisen};
 ghost use Rattle.disk_model.specs.Moments.{LeavesOnly};
-ghost use Rattle.disk_model.specs.Places.{SameOutside};
+ghost use Rattle.disk_model.specs.Places.{SameOutside, part};
 ghost use Rattle.disk_model.specs.Keeping.{KeepsDisk};
 ghost use Rattle.journal_layout.specs.Layout.{IsWithinLimits, half_length};
 ghost use Rattle.journal_layout.specs.Folding.{Folded};
@@ -16,9 +16,9 @@ ghost use Rattle.journal_snapshot.specs.Changing.{IsOrdered, changed};
 ghost use Rattle.journal_snapshot.specs.Measuring.{AreShort, IsShort, IsMeasure};
 ghost use Rattle.journal_snapshot.specs.Filling.{Fills};
 ghost use Rattle.journal_snapshot.specs.Holding.{Holds};
-ghost use Rattle.journal_snapshot.specs.Halves.{IsWrittenAs};
+ghost use Rattle.journal_snapshot.specs.Halves.{IsWrittenAs, half_bytes};
 ghost use Rattle.case_journal.specs.Append.{RefusalLeaves};
-ghost use Rattle.case_journal.specs.Compacting.{BesideStep, RunsBeside, CompactStep, FindsRoom, IsWriteAnswer, compacted, noted, moved, PutLeaves};
+ghost use Rattle.case_journal.specs.Compacting.{BesideStep, HasHeader, RunsBeside, CompactStep, FindsRoom, IsWriteAnswer, compacted, noted, moved, PutLeaves};
 ghost use Rattle.case_journal.specs.Keeping.{Keeps, LeavesOutside};
 
 use crate::{Journal, JournalFault};
@@ -90,6 +90,7 @@ pub(crate) fn write_beside<D: Disk>(
         → IsTrue (D.is_honest disk.old) → Holds D.Disk disk.old s
         → OnOk result (Holds D.Disk disk.new (rewritten s f)) }
     ensures fills { Fills D.Disk disk.old disk.new target.start half }
+    ensures written { IsTrue (D.is_honest disk.old) → OnOk result (part (D.seen disk.new) (target.start + 1) (length (half_bytes target change.now entries.now)) ≡ half_bytes target change.now entries.now) }
     ensures only { IsWriteAnswer result }
     ensures untouched { RefusalLeaves result disk.old disk.new }
     ensures cause { result ≡ Err JournalFault.Disk → HasRisen (D.failures disk.old) (D.failures disk.new) }
@@ -121,6 +122,8 @@ impl Journal {
             → LeavesOutside D.Disk disk.old disk.new self.old.standing }
         ensures others { IsTrue (D.is_honest disk.old)
             → SameOutside 4096 (2 * half_length self.old.standing.shape) (D.seen disk.old) (D.seen disk.new) }
+        // Its header is spelled with zeros where the layout has zeros.
+        ensures header { IsTrue (D.is_honest disk.old) → OnOk result (HasHeader self.old.standing self.old.standing.version (D.seen disk.new)) }
         // It writes the half that is not taken, alone.
         ensures written { self.old.stopped ≡ false
             → Fills D.Disk disk.old disk.new (other_start self.old.standing) (half_length self.old.standing.shape) }
@@ -161,6 +164,7 @@ impl Journal {
         requires labels { AreLabelled (changed change.now (folded_of self.now.standing)).version (changed change.now (folded_of self.now.standing)).cases }
         ensures step { BesideStep self.now.standing (changed change.now (folded_of self.now.standing)) result }
         ensures run { RunsBeside D.Disk disk.old disk.new self.now.standing (changed change.now (folded_of self.now.standing)) }
+        ensures header { IsTrue (D.is_honest disk.old) → OnOk result (HasHeader self.now.standing version (D.seen disk.new)) }
         ensures holds { IsTrue (D.is_honest disk.old)
             → OnOk result (Holds D.Disk disk.new (rewritten self.now.standing (changed change.now (folded_of self.now.standing)))) }
         ensures untouched { PutLeaves result disk.old disk.new }

@@ -11,7 +11,7 @@ ghost use Rattle.journal_layout.specs.Soundness.{IsLabel};
 ghost use Rattle.journal_layout.specs.Stands.{Stands};
 ghost use Rattle.journal_layout.specs.Rewriting.{fits, other_start, upgraded};
 ghost use Rattle.case_journal.specs.Append.{MayFollow, MayLabel, AppendStep, LabelStep, RefusalLeaves};
-ghost use Rattle.case_journal.specs.Compacting.{UpgradeStep, PutLeaves};
+ghost use Rattle.case_journal.specs.Compacting.{HasHeader, UpgradeStep, PutLeaves};
 ghost use Rattle.case_journal.specs.Entering.{relabelled, in_two, PutStep};
 ghost use Rattle.journal_snapshot.specs.Filling.{Fills};
 ghost use Rattle.case_journal.specs.Journaled.{after_append};
@@ -181,6 +181,8 @@ impl Journal {
             → LeavesOutside D.Disk disk.old disk.new self.old.standing }
         ensures others { IsTrue (D.is_honest disk.old)
             → SameOutside 4096 (2 * half_length self.old.standing.shape) (D.seen disk.old) (D.seen disk.new) }
+        // Its header is spelled with zeros where the layout has zeros.
+        ensures header { IsTrue (D.is_honest disk.old) → self.old.standing.version ≡ 1 → OnOk result (HasHeader self.old.standing 2 (D.seen disk.new)) }
         // It writes the half that is not taken, alone.
         ensures written { self.old.stopped ≡ false
             → Fills D.Disk disk.old disk.new (other_start self.old.standing) (half_length self.old.standing.shape) }

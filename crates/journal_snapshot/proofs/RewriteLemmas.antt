@@ -1,5 +1,5 @@
 -- The steps of a rewriting, one after another.
-use Rattle.std.proofs.Common.{◌≡◌, ◌⊎◌, inl, ◌+◌, ◌≤◌, ℕ, List, IsTrue, length, arith}
+use Rattle.std.proofs.Common.{◌≡◌, ◌⊎◌, inl, ◌+◌, ◌≤◌, ℕ, List, IsTrue, Result, Ok, Err, OnOk, length, arith}
 use Rattle.disk_model.specs.Places.{part}
 use Rattle.disk_model.specs.Moments.{LeavesOnly, IsSettled}
 use Rattle.disk_model.specs.MomentLaws.{weakened, then_again}
@@ -18,6 +18,11 @@ use Rattle.journal_snapshot.specs.Halves.{half_bytes, IsWrittenAs}
 use Rattle.journal_snapshot.specs.Holding.{StandsBeside, IsReady}
 use Rattle.journal_snapshot.specs.HoldLaws.{filling_stands, filled_beside}
 use Rattle.journal_snapshot.proofs.HalfLemmas.{bytes_within, holds_snapshot}
+
+-- whatever is answered
+pub on_ok : {T E : Type 0} (r : Result T E) (P : Type 0) → P → OnOk r P
+on_ok (Ok x) P is = is
+on_ok (Err e) P is = tt
 
 -- the gate, and then what stands behind it
 pub half_filled : {D : Type 0} (g : disk.Ghosts D) (old mid new : D) (start n : ℕ) → Fills g old mid start 1 → Fills g mid new (start + 1) n → Fills g old new start (1 + n)

@@ -1,10 +1,11 @@
 use Rattle.std.proofs.Common.{◌⊎◌, ◌+◌, ◌∙◌, length, arith}
 use Rattle.disk_model.specs.MomentLaws.{then_again}
+use Rattle.disk_model.specs.PartLaws.{part_after}
 use Rattle.journal_layout.specs.Stands.{Stands}
 use Rattle.journal_layout.specs.Rewriting.{rewritten}
 use Rattle.journal_snapshot.specs.FillLaws.{fills_wider, fills_then}
 use Rattle.journal_snapshot.specs.Halves.{half_bytes}
-use Rattle.journal_snapshot.proofs.RewriteLemmas.{half_filled, half_ready, filled_moments}
+use Rattle.journal_snapshot.proofs.RewriteLemmas.{half_filled, half_ready, filled_moments, on_ok}
 use Rattle.journal_snapshot.proofs.rewriting.rewrite.Goals as goal
 
 pub returns-in_err-close_half-clause-fills : goal.returns-in_err-close_half-clause-fills
@@ -47,3 +48,12 @@ returns-clause-taken g c s f is honest holds =
     c.take_half.ensures.taken s f is.place now
     (half_ready g.D.Disk s f c.args.target c.args.change.now c.args.entries.now is c.close_half.new.disk c.fill_half.new.disk mid beside c.fill_half.ensures.fills (g.met.D.Disk.seen_may_stay c.fill_half.new.disk now)
     (c.in_ok-fill_half.ensures.there mid) (c.in_ok-fill_half.ensures.settled mid))
+
+pub returns-clause-written : goal.returns-clause-written
+returns-clause-written g c honest =
+    let mid = c.close_half.ensures.fills.honesty ∙ honest in
+    let now = c.fill_half.ensures.fills.honesty ∙ mid in
+    let n = length (half_bytes c.args.target c.args.change.now c.args.entries.now) in
+    on_ok c.take_half.result _
+    (part_after c.args.target.start 1 (g.D.Disk.seen c.fill_half.new.disk) (g.D.Disk.seen c.take_half.new.disk) (c.take_half.ensures.fills.others now) (c.args.target.start + 1) n (omega arith)
+    ∙ c.in_ok-fill_half.ensures.there mid)

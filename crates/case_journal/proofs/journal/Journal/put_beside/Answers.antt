@@ -1,10 +1,13 @@
-use Rattle.std.proofs.Common.{◌≡◌, ◌⊎◌, inl, ◌∙◌, ◌+◌, ℕ, List, map, sym, ap, subst, arith, Ok, Err}
+use Rattle.std.proofs.Common.{◌≡◌, ◌⊎◌, inl, ◌∙◌, ◌+◌, ◌++◌, ◌∷◌, [], ℕ, List, map, sym, ap, subst, arith, Ok, Err}
 use Rattle.std.proofs.lemmas.Result.{err_from_is_err_and}
 use Rattle.disk_model.specs.MomentLaws.{started}
 use Rattle.journal_layout.specs.declared.entry.Entry.{Entry}
 use Rattle.journal_layout.specs.Case.{case_of}
 use Rattle.journal_layout.specs.Front.{is_known}
-use Rattle.journal_layout.specs.Layout.{half_length}
+use Rattle.disk_model.specs.Places.{part}
+use Rattle.journal_layout.specs.Layout.{half_header, half_length}
+use Rattle.journal_layout.specs.Record.{Next, spelling}
+use Rattle.journal_snapshot.specs.Writing.{written_added, written_entries}
 use Rattle.journal_layout.specs.Standing.{folded_of}
 use Rattle.journal_layout.specs.Stands.{Stands}
 use Rattle.journal_layout.specs.Rewriting.{other_half, other_start, rewritten}
@@ -16,7 +19,7 @@ use Rattle.journal_snapshot.specs.Halves.{IsWrittenAs}
 use Rattle.journal_layout.specs.declared.shape.Half.{Half}
 use Rattle.case_journal.specs.Journaled.{Journaled}
 use Rattle.case_journal.specs.Compacting.{BesideStep, FindsRoom}
-use Rattle.case_journal.proofs.CompactLemmas.{live_short, room_refused, write_refused, write_done, anew, half_fills}
+use Rattle.case_journal.proofs.CompactLemmas.{live_short, room_refused, write_refused, write_done, anew, half_fills, header_there}
 use Rattle.case_journal.proofs.journal.Journal.put_beside.Goals as goal
 
 pub room_beside-requires-clause-short : goal.room_beside-requires-clause-short
@@ -105,3 +108,13 @@ returns-clause-holds g c honest =
     anew _ c.args.self.now c.args.change.now c.as_slice-2.result.now t.result c.in_ok-measure.measure c.self.view_is (ap (map case_of) (sym c.as_slice-2.ensures)) t.ensures.start (t.ensures.version ∙ c.requires.version) t.ensures.generation
     (t.ensures.next ∙ c.requires.next) found (ap is_known t.ensures.version ∙ c.requires.known) c.requires.live c.requires.labels in
     rw c.in_ok-write_beside.was at (c.write_beside.ensures.taken c.args.self.now.standing (changed c.args.change.now (folded_of c.args.self.now.standing)) is honest (c.requires.keeps.holds c.requires.runs honest))
+
+pub returns-clause-header : goal.returns-clause-header
+returns-clause-header g c honest =
+    let t = c.target-target in
+    let there = rw c.in_ok-write_beside.was at (c.write_beside.ensures.written honest) in
+    let is = header_there (g.D.Disk.seen c.write_beside.new.disk) (t.result.start + 1) t.result.version t.result.generation (written_entries c.args.change.now c.as_slice-2.result.now) (written_added c.args.change.now) (spelling (Next t.result.next) ++ 0 ∷ []) there in
+    ap (λ (p : ℕ). part (g.D.Disk.seen c.write_beside.new.disk) (p + 1) 31) (sym t.ensures.start)
+    ∙ is
+    ∙ ap (λ (v : ℕ). half_header v t.result.generation) t.ensures.version
+    ∙ ap (half_header c.args.version) t.ensures.generation
