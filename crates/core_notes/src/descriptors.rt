@@ -9,12 +9,17 @@ ghost use Rattle.core_notes.specs.FileWords.{files_bytes};
 use crate::faults::NoteField;
 use elf_view::Note;
 
+// The bytes of the descriptors of one size: struct elf_prstatus, struct elf_prpsinfo.
+const PRSTATUS_SIZE: usize = 376;
+
+const PRPSINFO_SIZE: usize = 136;
+
 /// NT_PRSTATUS. `DescSize` where it has not 376 bytes.
 pub fn status<'a>(note: &Note<'a>) -> Result<crate::thread_state::Status<'a>, NoteField>
     ensures fault { result_err result ≡ spec.status_fault note.now.desc.now }
     ensures desc { IfOk result (λ s. bytes.status_bytes s ≡ note.now.desc.now) }
 {
-    if note.desc.len() != 376 {
+    if note.desc.len() != PRSTATUS_SIZE {
         return Err(NoteField::DescSize);
     }
     Ok(crate::thread_state::Status::new(note.desc))
@@ -25,7 +30,7 @@ pub fn psinfo<'a>(note: &Note<'a>) -> Result<crate::process_info::PsInfo<'a>, No
     ensures fault { result_err result ≡ spec.psinfo_fault note.now.desc.now }
     ensures desc { IfOk result (λ p. bytes.psinfo_bytes p ≡ note.now.desc.now) }
 {
-    if note.desc.len() != 136 {
+    if note.desc.len() != PRPSINFO_SIZE {
         return Err(NoteField::DescSize);
     }
     Ok(crate::process_info::PsInfo::new(note.desc))

@@ -3,6 +3,24 @@ ghost use Rattle.std.specs.Prelude.{◌≡◌, ◌+◌, ◌*◌, ◌≤◌, ◌<
 
 use elf_view::{u32_at, u64_at};
 
+// The signals that tell of an address (signal(7), RISC-V).
+const SIGILL: i32 = 4;
+
+const SIGTRAP: i32 = 5;
+
+const SIGBUS: i32 = 7;
+
+const SIGFPE: i32 = 8;
+
+const SIGSEGV: i32 = 11;
+
+// The codes that tell of a sender (sigaction(2)).
+const SI_USER: i32 = 0;
+
+const SI_QUEUE: i32 = -1;
+
+const SI_TKILL: i32 = -6;
+
 /// The signal that a process met (siginfo).
 #[derive(Clone, Copy, Debug)]
 pub struct SigInfo<'a> {
@@ -47,7 +65,7 @@ impl<'a> SigInfo<'a> {
         ensures { result ≡ spec.has_sender (spec.si_code (siginfo_bytes self.now)) }
     {
         let code = self.si_code();
-        code == 0 || code == -1 || code == -6
+        code == SI_USER || code == SI_QUEUE || code == SI_TKILL
     }
 
     /// Whether the signal tells of an address.
@@ -55,7 +73,11 @@ impl<'a> SigInfo<'a> {
         ensures { result ≡ spec.is_address_signal (spec.si_signo (siginfo_bytes self.now)) }
     {
         let signal = self.si_signo();
-        signal == 4 || signal == 5 || signal == 7 || signal == 8 || signal == 11
+        signal == SIGILL
+            || signal == SIGTRAP
+            || signal == SIGBUS
+            || signal == SIGFPE
+            || signal == SIGSEGV
     }
 
     /// The sender's process, where the code is SI_USER, SI_QUEUE or SI_TKILL.

@@ -11,7 +11,31 @@ use crate::note_lists::{behind_first, padded};
 use crate::numbers::{u16_at, u32_at, u64_at};
 use crate::program_headers::{PT_NOTE, Segment, Segments};
 
-/// e_phnum where the number of program headers stands in section header 0.
+// e_ident: where the class, the byte order and the version are, and their values for ELF64 in little-endian.
+const EI_CLASS: usize = 4;
+
+const EI_DATA: usize = 5;
+
+const EI_VERSION: usize = 6;
+
+const ELFCLASS64: u8 = 2;
+
+const ELFDATA2LSB: u8 = 1;
+
+// e_version, and e_ident's.
+const EV_CURRENT: u8 = 1;
+
+// e_type: an executable, one that is loaded anywhere, and a core file.
+const ET_EXEC: u16 = 2;
+
+const ET_DYN: u16 = 3;
+
+const ET_CORE: u16 = 4;
+
+// e_machine: RISC-V.
+const EM_RISCV: u16 = 243;
+
+/// e_phnum if the number of program headers is in section header 0.
 const PN_XNUM: u16 = 0xffff;
 
 /// The bytes of e_ident.
@@ -25,13 +49,13 @@ fn check_ident(image: &[u8]) -> Result<(), ElfField>
     if !image.starts_with(b"\x7fELF") {
         return Err(ElfField::Magic);
     }
-    if image[4] != 2 {
+    if image[EI_CLASS] != ELFCLASS64 {
         return Err(ElfField::EiClass);
     }
-    if image[5] != 1 {
+    if image[EI_DATA] != ELFDATA2LSB {
         return Err(ElfField::EiData);
     }
-    if image[6] != 1 {
+    if image[EI_VERSION] != EV_CURRENT {
         return Err(ElfField::EiVersion);
     }
     Ok(())
@@ -42,8 +66,8 @@ fn is_other_type(want: Want, kind: u16) -> bool
     ensures { result ≡ sound.is_other_type want kind }
 {
     match want {
-        Want::Core => kind != 4,
-        Want::Exec => kind != 2 && kind != 3,
+        Want::Core => kind != ET_CORE,
+        Want::Exec => kind != ET_EXEC && kind != ET_DYN,
     }
 }
 
@@ -55,10 +79,10 @@ fn check_kind(image: &[u8], want: Want) -> Result<(), ElfField>
     if is_other_type(want, u16_at(image, 16)) {
         return Err(ElfField::EType);
     }
-    if u16_at(image, 18) != 243 {
+    if u16_at(image, 18) != EM_RISCV {
         return Err(ElfField::EMachine);
     }
-    if u32_at(image, 20) != 1 {
+    if u32_at(image, 20) != u32::from(EV_CURRENT) {
         return Err(ElfField::EVersion);
     }
     Ok(())

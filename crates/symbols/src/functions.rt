@@ -11,6 +11,13 @@ pub(crate) const ENTRY: usize = 24;
 /// The type of a symbol that is a function.
 const STT_FUNC: u8 = 2;
 
+// The bindings of a symbol.
+const STB_LOCAL: u8 = 0;
+
+const STB_GLOBAL: u8 = 1;
+
+const STB_WEAK: u8 = 2;
+
 /// A function of a symbol table.
 #[derive(Clone, Copy, Debug)]
 pub struct Function {
@@ -58,9 +65,9 @@ fn rank_of(binding: u8) -> u8
     ensures { result ≡ spec.rank_of binding }
 {
     match binding {
-        1 => 0,
-        2 => 1,
-        0 => 2,
+        STB_GLOBAL => 0,
+        STB_WEAK => 1,
+        STB_LOCAL => 2,
         _ => 3,
     }
 }
