@@ -16,5 +16,6 @@ mod publish;
 pub use faults::{FormatFault, JournalFault};
 pub use formatting::format;
 pub use journal::Journal;
+pub use journal_layout::{BadShape, Entry, Kind, Name, OpenFault, Shape};
 pub use laws::data_blocks_keep;
 pub use open::Opened;

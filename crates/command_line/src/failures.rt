@@ -227,10 +227,10 @@ fn tell_in_words<E: Output>(alloc: Global, refusal: Refusal, errors: &mut E) {
             "corekeep: standard output goes to a file that the command names, and would overwrite it\n"
         ),
         Refusal::NotUtf8(Part::Value) => format!(in alloc;
-            "corekeep: the VALUE of a pair, or NAME, is not UTF-8: --escape takes its bytes as they are\n"
+            "corekeep: the VALUE of a pair, or NAME, is not UTF-8, or has a character past U+10FF7F: --escape takes its bytes as they are\n"
         ),
         Refusal::NotUtf8(Part::Other) => format!(in alloc;
-            "corekeep: a word is not UTF-8: name the file otherwise, or write such bytes of a line as \\xHH\n"
+            "corekeep: a word is not UTF-8, or has a character past U+10FF7F: name the file otherwise, or write such bytes of a line as \\xHH\n"
         ),
         _ => return,
     };

@@ -18,6 +18,7 @@ mod space;
 mod stream;
 
 pub use archive::{Archive, Settings};
+pub use case_journal::{FormatFault, format};
 pub use faults::ArchiveFault;
 pub use laws::{
     a_case_is_found, a_reopening_is_a_stop, a_state_tells_what_lasts, an_image_is_what_was_taken,
