@@ -1,9 +1,12 @@
 pub mod Agree
+pub mod Backing
 pub mod CauseLaws
 pub mod Crash
 pub mod CrashLaws
 pub mod Disk
 pub mod Faulty
+pub mod Gathering
+pub mod GatheringLaws
 pub mod Keeping
 pub mod MemDisk
 pub mod MomentLaws
