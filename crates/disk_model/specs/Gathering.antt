@@ -1,5 +1,5 @@
 -- A disk with bytes gathered that it is still to take: what it shows with them, what a crash may leave of it, and its moments.
-use Rattle.std.specs.Prelude.{◌≡◌, ◌⊎◌, ℕ, ◌+◌, ◌*◌, ◌^◌, ◌<◌, ◌≤◌, List, length, Result, IsTrue, OnOk, if◌then◌else◌}
+use Rattle.std.specs.Prelude.{◌≡◌, ◌⊎◌, ℕ, ◌+◌, ◌*◌, ◌^◌, ◌<◌, ◌≤◌, min, List, length, take, Result, IsTrue, OnOk, if◌then◌else◌}
 use Rattle.disk_model.specs.Places.{AreBytes, overwritten, SameOutside}
 use Rattle.disk_model.specs.Disk.{Follows, Elapses}
 use Rattle.disk_model.specs.declared.disk.Disk as disk
@@ -9,6 +9,13 @@ pub record Laden (D : Type 0) : Type 0 where
   pub disk : D
   pub at : ℕ
   pub bytes : List ℕ
+
+abbrev pub laden : {D : Type 0} → D → ℕ → List ℕ → Laden D
+laden disk at bytes = record { disk = disk; at = at; bytes = bytes }
+
+-- these bytes with as many of the others over their front as there is room for
+abbrev pub fronted : List ℕ → List ℕ → List ℕ
+fronted into from = overwritten into 0 (take (min (length into) (length from)) from)
 
 module _ {D : Type 0} (g : disk.Ghosts D) where
   -- reads give what the disk shows, with the gathered bytes over it

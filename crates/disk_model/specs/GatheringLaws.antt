@@ -9,7 +9,7 @@ use Rattle.disk_model.specs.PlaceLaws.{overwritten_bytes, overwritten_length, ov
 use Rattle.disk_model.specs.PartLaws.{part_length, part_bytes, part_place, part_overwritten, place_before, place_after, place_spared, widened, same_twice, same_by_places, same_all}
 use Rattle.disk_model.specs.Disk.{Follows, Only, Elapses, HasCause}
 use Rattle.disk_model.specs.Backing.{IsFetched, IsPut}
-use Rattle.disk_model.specs.Gathering.{Laden, shown, MayStay, moment, WasLeft, stayed_since, Passes, IsQuiet, IsTaken}
+use Rattle.disk_model.specs.Gathering.{Laden, laden, shown, MayStay, moment, WasLeft, stayed_since, Passes, IsQuiet, IsTaken}
 use Rattle.disk_model.specs.declared.disk.Disk as disk
 
 -- lists that are the same outside no place
@@ -253,9 +253,6 @@ module _ {D : Type 0} (g : disk.Ghosts D) where
         size = next.size ∙ quiet.size;
       }
 
-    abbrev laden : D → ℕ → List ℕ → Laden D
-    laden d at bytes = record { disk = d; at = at; bytes = bytes }
-
     no_time : (d : D) → Elapses g.clock g.may_leave g.left_since d d
     no_time d = record { later = omega arith; nothing_else = λ t c le since. inl since; keeps = λ t c le since. since; still = λ same c left. left }
 
@@ -402,6 +399,32 @@ module _ {D : Type 0} (g : disk.Ghosts D) where
           honesty = refl;
           size = refl;
         }
+
+    behind : (d : D) {T E : Type 0} (done : T) (at : ℕ) (a : List ℕ) (place p : ℕ) (from : List ℕ) → place + length a ≡ p → (0 < length a → place ≡ at)
+        → at + length a ≤ g.size d → p + length from ≤ g.size d → length a < 2 ^ 64 → IsTaken g {E = E} (Ok done) p from (laden d at a) (laden d place (a ++ from))
+    behind d {E} done at [] place p from placed stays within fits few =
+        let same : p ≡ place = omega (arith, placed) in
+        subst (λ (q : ℕ). IsTaken g {E = E} (Ok done) p from (laden d at []) (laden d q from)) same (taken_first d done at p from (omega (arith, within)) fits)
+    behind d {E} done at (x ∷ a) place p from placed stays within fits few =
+        let same : place ≡ at = stays (omega arith) in
+        subst (λ (q : ℕ). IsTaken g {E = E} (Ok done) p from (laden d at (x ∷ a)) (laden d q ((x ∷ a) ++ from))) (sym same)
+        (subst (λ (q : ℕ). IsTaken g {E = E} (Ok done) q from (laden d at (x ∷ a)) (laden d at ((x ∷ a) ++ from))) (ap (λ (q : ℕ). q + length (x ∷ a)) (sym same) ∙ placed)
+          (taken_more d done at (x ∷ a) from (omega (arith, fits, placed, same)) few))
+
+    -- Bytes were gathered, behind others or as the first.
+    pub gathered_behind : (d : D) {T E : Type 0} (done : T) (at : ℕ) (a : List ℕ) (place p : ℕ) (from new : List ℕ) → new ≡ a ++ from → place + length a ≡ p → (0 < length a → place ≡ at)
+        → at + length a ≤ g.size d → p + length from ≤ g.size d → length a < 2 ^ 64 → IsTaken g {E = E} (Ok done) p from (laden d at a) (laden d place new)
+    gathered_behind d {E} done at a place p from new is placed stays within fits few =
+        subst (λ (l : List ℕ). IsTaken g {E = E} (Ok done) p from (laden d at a) (laden d place l)) (sym is) (behind d done at a place p from placed stays within fits few)
+
+    -- With nothing gathered the disk was given bytes itself.
+    pub put_past : (d e : D) {T E : Type 0} (result : Result T E) (at : ℕ) (a : List ℕ) (place : ℕ) (new : List ℕ) (p : ℕ) (from : List ℕ) → at + length a ≤ g.size d → a ≡ [] → place ≡ at → new ≡ a
+        → IsPut g result p from d e → IsTaken g result p from (laden d at a) (laden e place new)
+    put_past d e result at a place new p from within none stays same put =
+        subst (λ (l : List ℕ). IsTaken g result p from (laden d at l) (laden e place new)) (sym none)
+        (subst (λ (l : List ℕ). IsTaken g result p from (laden d at []) (laden e place l)) (sym (same ∙ none))
+          (subst (λ (q : ℕ). IsTaken g result p from (laden d at []) (laden e q [])) (sym stays)
+            (put_through d e result at p from (omega (arith, within)) put)))
 
     -- The disk was synced, with nothing gathered.
     module _ (d e : D) (at : ℕ) (within : at ≤ g.size d)

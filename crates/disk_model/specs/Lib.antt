@@ -7,6 +7,8 @@ pub mod Disk
 pub mod Faulty
 pub mod Gathering
 pub mod GatheringLaws
+pub mod Gatherings
+pub mod Gathers
 pub mod Keeping
 pub mod MemDisk
 pub mod MomentLaws

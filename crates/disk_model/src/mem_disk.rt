@@ -8,7 +8,7 @@ ghost use Rattle.disk_model.specs.NoteLaws.{AllFit-prop, held_kept, shown_bytes,
 
 use crate::crash::bytes_after_crash;
 use crate::note::Note;
-use crate::{Disk, DiskFault, Pick};
+use crate::{Backing, Disk, DiskFault, Pick};
 use failure_count::after_failure;
 use std::alloc::{AllocError, Global};
 
@@ -234,5 +234,15 @@ impl Disk for MemDisk {
         self.notes.push_reserved(Note::Synced);
         self.unsynced = false;
         Ok(())
+    }
+}
+
+impl Backing for MemDisk {
+    fn fetch(&mut self, at: u64, into: &mut [u8]) -> Result<(), DiskFault> {
+        self.read_at(at, into)
+    }
+
+    fn put(&mut self, at: u64, from: &[u8]) -> Result<(), DiskFault> {
+        self.write_at(at, from)
     }
 }
