@@ -450,6 +450,12 @@ module _ {D : Type 0} (g : disk.Ghosts D) where
       pub settled : (IsTrue (g.is_honest d) → Only (g.seen d) (g.may_leave e)) → IsTrue (g.is_honest d) → Only (overwritten (g.seen d) at []) (MayStay g (laden e at []))
       settled only honest c stays = only honest c (bare e at c stays) ∙ sym (bare_shown d at within honest)
 
+    -- What was stable stays so where nothing new may be left.
+    pub settled_on : (old new : Laden D) → IsQuiet g old new → (IsTrue (g.is_honest old.disk) → Only (shown g old) (MayStay g old)) → IsTrue (g.is_honest new.disk) → Only (shown g new) (MayStay g new)
+    settled_on old new quiet only honest c stays =
+        let was = sym quiet.honesty ∙ honest in
+        only was c (quiet.crash was c stays) ∙ sym (quiet.shows was)
+
     -- the laws of a disk
 
     pub shows_whole : (l : Laden D) → l.at + length l.bytes ≤ g.size l.disk → IsTrue (g.is_honest l.disk) → length (shown g l) ≡ g.size l.disk

@@ -2,9 +2,9 @@
 use Rattle.std.specs.Prelude.{◌≡◌, []}
 use Rattle.disk_model.specs.Gathers.{bytes_of}
 use Rattle.disk_model.specs.declared.gathering.Gathering.{Gathering}
-use Rattle.disk_model.specs.declared.backing.Backing as backing
+use Rattle.disk_model.specs.declared.disk.Disk as disk
 
-module _ {D : Type 0} {g : backing.Ghosts D} where
+module _ {D : Type 0} {g : disk.Ghosts D} where
   abbrev pub below_of : Gathering D g → D
   below_of gathering = gathering.disk
 
