@@ -15,6 +15,7 @@ pub mod MomentLaws
 pub mod Moments
 pub mod NoteLaws
 pub mod Notes
+pub mod OverLaws
 pub mod PartLaws
 pub mod PlaceLaws
 pub mod Places
