@@ -59,30 +59,30 @@ module _ (l : List ℕ) (at : ℕ) (a b : List ℕ) (within : at + length a + le
   places k =
       elim (cases_lt k at) as (λ _. get_or (overwritten once (at + length a) b) k 0 ≡ get_or (overwritten l at (a ++ b)) k 0) [
         | inl low ↦
-          over_out once (at + length a) b k outer (inl (omega (arith, low)))
-          ∙ over_out l at a k inner (inl low)
-          ∙ sym (over_out l at (a ++ b) k both (inl low))
+            over_out once (at + length a) b k outer (inl (omega (arith, low)))
+            ∙ over_out l at a k inner (inl low)
+            ∙ sym (over_out l at (a ++ b) k both (inl low))
         | inr from ↦
-          elim (cases_lt k (at + length a)) as (λ _. get_or (overwritten once (at + length a) b) k 0 ≡ get_or (overwritten l at (a ++ b)) k 0) [
-            | inl first ↦
-              over_out once (at + length a) b k outer (inl first)
-              ∙ over_in l at a k inner from first
-              ∙ sym (get_or_append_left a b 0 (k - at) (omega (arith, from, first)))
-              ∙ sym (over_in l at (a ++ b) k both from (omega (arith, first, length-append a b)))
-            | inr second ↦
-              elim (cases_lt k (at + length a + length b)) as (λ _. get_or (overwritten once (at + length a) b) k 0 ≡ get_or (overwritten l at (a ++ b)) k 0) [
-                | inl within_b ↦
-                  let e : k - (at + length a) ≡ k - at - length a = omega (arith, from, second) in
-                  over_in once (at + length a) b k outer second within_b
-                  ∙ ap (λ (j : ℕ). get_or b j 0) e
-                  ∙ sym (get_or-append_right a b (length a) (k - at) 0 refl (omega (arith, from, second)))
-                  ∙ sym (over_in l at (a ++ b) k both from (omega (arith, within_b, length-append a b)))
-                | inr past ↦
-                  over_out once (at + length a) b k outer (inr past)
-                  ∙ over_out l at a k inner (inr second)
-                  ∙ sym (over_out l at (a ++ b) k both (inr (omega (arith, past, length-append a b))))
-              ]
-          ]
+            elim (cases_lt k (at + length a)) as (λ _. get_or (overwritten once (at + length a) b) k 0 ≡ get_or (overwritten l at (a ++ b)) k 0) [
+              | inl first ↦
+                  over_out once (at + length a) b k outer (inl first)
+                  ∙ over_in l at a k inner from first
+                  ∙ sym (get_or_append_left a b 0 (k - at) (omega (arith, from, first)))
+                  ∙ sym (over_in l at (a ++ b) k both from (omega (arith, first, length-append a b)))
+              | inr second ↦
+                  elim (cases_lt k (at + length a + length b)) as (λ _. get_or (overwritten once (at + length a) b) k 0 ≡ get_or (overwritten l at (a ++ b)) k 0) [
+                    | inl within_b ↦
+                        let e : k - (at + length a) ≡ k - at - length a = omega (arith, from, second) in
+                        over_in once (at + length a) b k outer second within_b
+                        ∙ ap (λ (j : ℕ). get_or b j 0) e
+                        ∙ sym (get_or-append_right a b (length a) (k - at) 0 refl (omega (arith, from, second)))
+                        ∙ sym (over_in l at (a ++ b) k both from (omega (arith, within_b, length-append a b)))
+                    | inr past ↦
+                        over_out once (at + length a) b k outer (inr past)
+                        ∙ over_out l at a k inner (inr second)
+                        ∙ sym (over_out l at (a ++ b) k both (inr (omega (arith, past, length-append a b))))
+                  ]
+            ]
       ]
 
   -- bytes written behind others, and all of them written at once
@@ -113,20 +113,20 @@ module _ (at m n : ℕ) (b c : List ℕ) (same : SameOutside at (m + n) b c) (wi
   in_front k low high =
       let e : at + (k - at) ≡ k = omega (arith, low) in
       sym (over_in b at front k fits low (omega (arith, high, front_long))
-        ∙ part_place c at m (k - at) 0 (omega (arith, low, high))
-        ∙ ap (λ (j : ℕ). get_or c j 0) e)
+      ∙ part_place c at m (k - at) 0 (omega (arith, low, high))
+      ∙ ap (λ (j : ℕ). get_or c j 0) e)
 
   pub second_half : SameOutside (at + m) n halfway c
   second_half =
       same_by_places (at + m) n halfway c
       (same.same_length ∙ sym first_half.same_length)
       (λ k outside. ⊎_elim
-        (λ below. ⊎_elim
-          (λ low. place_before at (m + n) b c same k 0 low ∙ sym (place_before at m b halfway first_half k 0 low))
-          (λ from. in_front k from below)
-          (cases_lt k at))
-        (λ past. place_after at (m + n) b c same k 0 (omega (arith, past)) ∙ sym (place_after at m b halfway first_half k 0 (omega (arith, past))))
-        outside)
+      (λ below. ⊎_elim
+      (λ low. place_before at (m + n) b c same k 0 low ∙ sym (place_before at m b halfway first_half k 0 low))
+      (λ from. in_front k from below)
+      (cases_lt k at))
+      (λ past. place_after at (m + n) b c same k 0 (omega (arith, past)) ∙ sym (place_after at m b halfway first_half k 0 (omega (arith, past))))
+      outside)
 
 -- what the laws below need of those of a disk
 pub record Laws {D : Type 0} (g : disk.Ghosts D) : Type 0 where
@@ -185,18 +185,18 @@ module _ {D : Type 0} (g : disk.Ghosts D) where
             nothing_else = λ t c le since. ⊎_elim
                 (λ stays. inr stays)
                 (λ was. ⊎_elim
-                  (λ earlier. inl (inr (record { honest = honest; since = was.since; from = was.from; until = was.until; left = earlier })))
-                  (λ left. inr (below_stays new c now left))
-                  (time.nothing_else was.since c (moment_within old was.since t honest few was.from le) was.left))
+                (λ earlier. inl (inr (record { honest = honest; since = was.since; from = was.from; until = was.until; left = earlier })))
+                (λ left. inr (below_stays new c now left))
+                (time.nothing_else was.since c (moment_within old was.since t honest few was.from le) was.left))
                 since;
             keeps = λ t c le since. ⊎_elim
                 (λ stays. ⊎_elim
-                  (λ still_stays. inl still_stays)
-                  (λ left.
-                    let low : t / 2 ^ 64 * 2 ^ 64 ≤ t = omega (arith, div-add-mod' t (2 ^ 64)) in
-                    let high : t < t / 2 ^ 64 * 2 ^ 64 + 2 ^ 64 = omega (arith, div-add-mod' t (2 ^ 64)) in
-                    inr (record { honest = now; since = t / 2 ^ 64; from = low; until = high; left = left (t / 2 ^ 64) (moment_within old (t / 2 ^ 64) t honest few low le) }))
-                  (kept honest c stays))
+                (λ still_stays. inl still_stays)
+                (λ left.
+                let low : t / 2 ^ 64 * 2 ^ 64 ≤ t = omega (arith, div-add-mod' t (2 ^ 64)) in
+                let high : t < t / 2 ^ 64 * 2 ^ 64 + 2 ^ 64 = omega (arith, div-add-mod' t (2 ^ 64)) in
+                inr (record { honest = now; since = t / 2 ^ 64; from = low; until = high; left = left (t / 2 ^ 64) (moment_within old (t / 2 ^ 64) t honest few low le) }))
+                (kept honest c stays))
                 (λ was. inr (record { honest = now; since = was.since; from = was.from; until = was.until; left = time.keeps was.since c (moment_within old was.since t honest few was.from le) was.left }))
                 since;
             still = still honest;
@@ -278,7 +278,7 @@ module _ {D : Type 0} (g : disk.Ghosts D) where
       pub fetched : (at : ℕ) (a : List ℕ) (p n : ℕ) (bytes : List ℕ) → length a < 2 ^ 64 → IsFetched g result p n bytes d e → IsQuiet g (laden d at a) (laden e at a)
       fetched at a p n bytes few read =
           let crash : IsTrue (g.is_honest d) → (c : List ℕ) → MayStay g (laden e at a) c → MayStay g (laden d at a) c =
-              λ honest c stays. record { honest = honest; below = stays.below; left = read.crash honest stays.below stays.left; same = stays.same; are = stays.are } in
+          λ honest c stays. record { honest = honest; below = stays.below; left = read.crash honest stays.below stays.left; same = stays.same; are = stays.are } in
           record {
             shows = λ honest. ap (λ (l : List ℕ). overwritten l at a) (read.seen honest);
             crash = crash;
@@ -293,9 +293,9 @@ module _ {D : Type 0} (g : disk.Ghosts D) where
       pub refused : (at : ℕ) (a : List ℕ) → length a < 2 ^ 64 → IsPut g result at a d e → IsQuiet g (laden d at a) (laden e at a)
       refused at a few put =
           let crash : IsTrue (g.is_honest d) → (c : List ℕ) → MayStay g (laden e at a) c → MayStay g (laden d at a) c =
-              λ honest c stays.
-              let left = put.crash honest stays.below stays.left in
-              record { honest = honest; below = left.0; left = left.1; same = same_twice at (length a) left.0 stays.below c left.2 stays.same; are = stays.are } in
+          λ honest c stays.
+          let left = put.crash honest stays.below stays.left in
+          record { honest = honest; below = left.0; left = left.1; same = same_twice at (length a) left.0 stays.below c left.2 stays.same; are = stays.are } in
           record {
             shows = λ honest. over_same at a (g.seen d) (g.seen e) (put.others honest);
             crash = crash;
@@ -320,8 +320,8 @@ module _ {D : Type 0} (g : disk.Ghosts D) where
             time = passes (laden d at []) (laden e at []) put.honesty put.time (omega arith) (λ _. inr (omega arith))
                 (λ honest c stays. inl (below_stays (laden e at []) c (put.honesty ∙ honest) (put.stays honest c (bare d at c stays))))
                 (λ honest same c stays.
-                  below_stays (laden d at []) c honest
-                  (put.time.still (omega (arith, same, moment_is (laden d at []) honest, moment_is (laden e at []) (put.honesty ∙ honest))) c (bare e at c stays)));
+                below_stays (laden d at []) c honest
+                (put.time.still (omega (arith, same, moment_is (laden d at []) honest, moment_is (laden e at []) (put.honesty ∙ honest))) c (bare e at c stays)));
             honesty = put.honesty;
             size = put.size;
           }
@@ -330,9 +330,9 @@ module _ {D : Type 0} (g : disk.Ghosts D) where
     pub written_out : (d e : D) {T E : Type 0} (done : T) (at : ℕ) (a : List ℕ) → at + length a ≤ g.size d → length a < 2 ^ 64 → IsPut {E = E} g (Ok done) at a d e → IsQuiet g (laden d at a) (laden e at [])
     written_out d e done at a within few put =
         let crash : IsTrue (g.is_honest d) → (c : List ℕ) → MayStay g (laden e at []) c → MayStay g (laden d at a) c =
-            λ honest c stays.
-            let left = put.crash honest c (bare e at c stays) in
-            record { honest = honest; below = left.0; left = left.1; same = left.2; are = stays.are } in
+        λ honest c stays.
+        let left = put.crash honest c (bare e at c stays) in
+        record { honest = honest; below = left.0; left = left.1; same = left.2; are = stays.are } in
         record {
           shows = λ honest. bare_shown e at (omega (arith, within, put.size)) (put.honesty ∙ honest) ∙ put.written honest;
           crash = crash;
@@ -355,9 +355,9 @@ module _ {D : Type 0} (g : disk.Ghosts D) where
           time = passes (laden d at []) (laden d p from) refl (no_time d) (omega arith) (λ _. inr (omega arith))
               (λ honest c stays. inl (below_stays (laden d p from) c honest (bare d at c stays)))
               (λ honest same c stays.
-                let none : length from ≡ 0 = omega (arith, same, moment_is (laden d at []) honest, moment_is (laden d p from) honest) in
-                let e = same_everywhere p stays.below c (subst (λ (k : ℕ). SameOutside p k stays.below c) none stays.same) in
-                below_stays (laden d at []) c honest (subst (g.may_leave d) (sym e) stays.left));
+              let none : length from ≡ 0 = omega (arith, same, moment_is (laden d at []) honest, moment_is (laden d p from) honest) in
+              let e = same_everywhere p stays.below c (subst (λ (k : ℕ). SameOutside p k stays.below c) none stays.same) in
+              below_stays (laden d at []) c honest (subst (g.may_leave d) (sym e) stays.left));
           honesty = refl;
           size = refl;
         }
@@ -377,14 +377,17 @@ module _ {D : Type 0} (g : disk.Ghosts D) where
               let long = laws.sized d stays.below honest stays.left in
               let room : at + length a + length b ≤ length stays.below = omega (arith, fits, long) in
               let same = subst (λ (k : ℕ). SameOutside at k stays.below c) all stays.same in
-              let half = halfway at (length a) (length b) stays.below c same room in
-              (half, record {
-                honest = honest;
-                below = stays.below;
-                left = stays.left;
-                same = first_half at (length a) (length b) stays.below c same room;
-                are = overwritten_bytes stays.below at (part c at (length a)) (laws.left_bytes d stays.below honest stays.left) (part_bytes c at (length a) stays.are);
-              }, second_half at (length a) (length b) stays.below c same room);
+              let half = halfway at (length a) (length b) stays.below c same room in (
+                half,
+                record {
+                  honest = honest;
+                  below = stays.below;
+                  left = stays.left;
+                  same = first_half at (length a) (length b) stays.below c same room;
+                  are = overwritten_bytes stays.below at (part c at (length a)) (laws.left_bytes d stays.below honest stays.left) (part_bytes c at (length a) stays.are);
+                },
+                second_half at (length a) (length b) stays.below c same room,
+              );
           time = passes (laden d at a) (laden d at (a ++ b)) refl (no_time d) few (λ _. inr (omega (arith, all)))
               (λ honest c stays. inl (record {
                 honest = honest;
@@ -394,8 +397,8 @@ module _ {D : Type 0} (g : disk.Ghosts D) where
                 are = stays.are;
               }))
               (λ honest same c stays.
-                let none : length (a ++ b) ≡ length a = omega (arith, same, moment_is (laden d at a) honest, moment_is (laden d at (a ++ b)) honest) in
-                record { honest = honest; below = stays.below; left = stays.left; same = subst (λ (k : ℕ). SameOutside at k stays.below c) none stays.same; are = stays.are });
+              let none : length (a ++ b) ≡ length a = omega (arith, same, moment_is (laden d at a) honest, moment_is (laden d at (a ++ b)) honest) in
+              record { honest = honest; below = stays.below; left = stays.left; same = subst (λ (k : ℕ). SameOutside at k stays.below c) none stays.same; are = stays.are });
           honesty = refl;
           size = refl;
         }
@@ -409,7 +412,7 @@ module _ {D : Type 0} (g : disk.Ghosts D) where
         let same : place ≡ at = stays (omega arith) in
         subst (λ (q : ℕ). IsTaken g {E = E} (Ok done) p from (laden d at (x ∷ a)) (laden d q ((x ∷ a) ++ from))) (sym same)
         (subst (λ (q : ℕ). IsTaken g {E = E} (Ok done) q from (laden d at (x ∷ a)) (laden d at ((x ∷ a) ++ from))) (ap (λ (q : ℕ). q + length (x ∷ a)) (sym same) ∙ placed)
-          (taken_more d done at (x ∷ a) from (omega (arith, fits, placed, same)) few))
+        (taken_more d done at (x ∷ a) from (omega (arith, fits, placed, same)) few))
 
     -- Bytes were gathered, behind others or as the first.
     pub gathered_behind : (d : D) {T E : Type 0} (done : T) (at : ℕ) (a : List ℕ) (place p : ℕ) (from new : List ℕ) → new ≡ a ++ from → place + length a ≡ p → (0 < length a → place ≡ at)
@@ -423,8 +426,8 @@ module _ {D : Type 0} (g : disk.Ghosts D) where
     put_past d e result at a place new p from within none stays same put =
         subst (λ (l : List ℕ). IsTaken g result p from (laden d at l) (laden e place new)) (sym none)
         (subst (λ (l : List ℕ). IsTaken g result p from (laden d at []) (laden e place l)) (sym (same ∙ none))
-          (subst (λ (q : ℕ). IsTaken g result p from (laden d at []) (laden e q [])) (sym stays)
-            (put_through d e result at p from (omega (arith, within)) put)))
+        (subst (λ (q : ℕ). IsTaken g result p from (laden d at []) (laden e q [])) (sym stays)
+        (put_through d e result at p from (omega (arith, within)) put)))
 
     -- The disk was synced, with nothing gathered.
     module _ (d e : D) (at : ℕ) (within : at ≤ g.size d)
@@ -480,7 +483,7 @@ module _ {D : Type 0} (g : disk.Ghosts D) where
     only_this_moment l c few since = ⊎_elim
         (λ stays. stays)
         (λ was.
-          let e = moment_is l was.honest in
-          let now : was.since ≡ g.clock l.disk = omega (arith, few, subst (λ (m : ℕ). was.since * 2 ^ 64 ≤ m) e was.from, subst (λ (m : ℕ). m < was.since * 2 ^ 64 + 2 ^ 64) e was.until) in
-          below_stays l c was.honest (laws.only_now l.disk c (subst (λ (t : ℕ). g.left_since l.disk t c) now was.left)))
+        let e = moment_is l was.honest in
+        let now : was.since ≡ g.clock l.disk = omega (arith, few, subst (λ (m : ℕ). was.since * 2 ^ 64 ≤ m) e was.from, subst (λ (m : ℕ). m < was.since * 2 ^ 64 + 2 ^ 64) e was.until) in
+        below_stays l c was.honest (laws.only_now l.disk c (subst (λ (t : ℕ). g.left_since l.disk t c) now was.left)))
         since

@@ -81,16 +81,16 @@ module _ (l : List ℕ) (place : ℕ) (b : List ℕ) (at n : ℕ) (within : at +
         let e : at + k - place ≡ k - skipped = omega (arith, low, from) in
         ⊎_elim
         (λ gathered.
-          fronted_in rest b (k - skipped) (omega (arith, rest_long, from, below)) gathered
-          ∙ ap (λ (j : ℕ). get_or b j 0) (sym e)
-          ∙ sym (over_in l place b (at + k) fits (omega (arith, low, from)) (omega (arith, low, from, gathered))))
+        fronted_in rest b (k - skipped) (omega (arith, rest_long, from, below)) gathered
+        ∙ ap (λ (j : ℕ). get_or b j 0) (sym e)
+        ∙ sym (over_in l place b (at + k) fits (omega (arith, low, from)) (omega (arith, low, from, gathered))))
         (λ past.
-          let back : skipped + (k - skipped) ≡ k = omega (arith, from) in
-          fronted_out rest b (k - skipped) past
-          ∙ get_or-drop skipped (part l at n) (k - skipped) 0
-          ∙ ap (λ (j : ℕ). get_or (part l at n) j 0) back
-          ∙ read k below
-          ∙ sym (over_out l place b (at + k) fits (inr (omega (arith, low, from, past)))))
+        let back : skipped + (k - skipped) ≡ k = omega (arith, from) in
+        fronted_out rest b (k - skipped) past
+        ∙ get_or-drop skipped (part l at n) (k - skipped) 0
+        ∙ ap (λ (j : ℕ). get_or (part l at n) j 0) back
+        ∙ read k below
+        ∙ sym (over_out l place b (at + k) fits (inr (omega (arith, low, from, past)))))
         (cases_lt (k - skipped) (length b))
 
     pub laid_within : overwritten (part l at n) skipped (fronted rest b) ≡ part over at n
@@ -99,18 +99,18 @@ module _ (l : List ℕ) (place : ℕ) (b : List ℕ) (at n : ℕ) (within : at +
         ext_get_or 0 (overwritten (part l at n) skipped (fronted rest b)) (part over at n)
         (long ∙ part_long ∙ sym over_part_long)
         (λ k within_it.
-          let below : k < n = omega (arith, within_it, long, part_long) in
-          ⊎_elim
-          (λ before.
-            over_out (part l at n) skipped (fronted rest b) k fits_in (inl before)
-            ∙ read k below
-            ∙ sym (over_out l place b (at + k) fits (inl (omega (arith, low, before))))
-            ∙ sym (wanted k below))
-          (λ from.
-            over_in (part l at n) skipped (fronted rest b) k fits_in from (omega (arith, laid_long, from, below))
-            ∙ behind_it k from below
-            ∙ sym (wanted k below))
-          (cases_lt k skipped))
+        let below : k < n = omega (arith, within_it, long, part_long) in
+        ⊎_elim
+        (λ before.
+        over_out (part l at n) skipped (fronted rest b) k fits_in (inl before)
+        ∙ read k below
+        ∙ sym (over_out l place b (at + k) fits (inl (omega (arith, low, before))))
+        ∙ sym (wanted k below))
+        (λ from.
+        over_in (part l at n) skipped (fronted rest b) k fits_in from (omega (arith, laid_long, from, below))
+        ∙ behind_it k from below
+        ∙ sym (wanted k below))
+        (cases_lt k skipped))
 
   -- What was read begins within the gathered bytes.
   module _ (low : place ≤ at) (high : at - place < length b) where
@@ -125,18 +125,18 @@ module _ (l : List ℕ) (place : ℕ) (b : List ℕ) (at n : ℕ) (within : at +
         ext_get_or 0 (fronted (part l at n) tail) (part over at n)
         (fronted_length (part l at n) tail ∙ part_long ∙ sym over_part_long)
         (λ k within_it.
-          let below : k < n = omega (arith, within_it, fronted_length (part l at n) tail, part_long) in
-          let e : at - place + k ≡ at + k - place = omega (arith, low) in
-          ⊎_elim
-          (λ gathered.
-            fronted_in (part l at n) tail k (omega (arith, below, part_long)) gathered
-            ∙ get_or-drop (at - place) b k 0
-            ∙ ap (λ (j : ℕ). get_or b j 0) e
-            ∙ sym (over_in l place b (at + k) fits (omega (arith, low)) (omega (arith, low, gathered, tail_long)))
-            ∙ sym (wanted k below))
-          (λ past.
-            fronted_out (part l at n) tail k past
-            ∙ read k below
-            ∙ sym (over_out l place b (at + k) fits (inr (omega (arith, low, past, tail_long))))
-            ∙ sym (wanted k below))
-          (cases_lt k (length tail)))
+        let below : k < n = omega (arith, within_it, fronted_length (part l at n) tail, part_long) in
+        let e : at - place + k ≡ at + k - place = omega (arith, low) in
+        ⊎_elim
+        (λ gathered.
+        fronted_in (part l at n) tail k (omega (arith, below, part_long)) gathered
+        ∙ get_or-drop (at - place) b k 0
+        ∙ ap (λ (j : ℕ). get_or b j 0) e
+        ∙ sym (over_in l place b (at + k) fits (omega (arith, low)) (omega (arith, low, gathered, tail_long)))
+        ∙ sym (wanted k below))
+        (λ past.
+        fronted_out (part l at n) tail k past
+        ∙ read k below
+        ∙ sym (over_out l place b (at + k) fits (inr (omega (arith, low, past, tail_long))))
+        ∙ sym (wanted k below))
+        (cases_lt k (length tail)))

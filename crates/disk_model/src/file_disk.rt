@@ -1,5 +1,7 @@
 // A disk in a file. Nothing is proved of its bytes: no contract can say what a file holds.
 ghost use Rattle.std.specs.Prelude.{◌≡◌, [], IfOk};
+ghost use Rattle.std.proofs.Common.{inl, ⊎_elim};
+ghost use Rattle.std.proofs.lemmas.Bool.{false≢true};
 ghost use Rattle.disk_model.specs.Gathers.{place_of, bytes_of};
 
 use crate::gathered::Gathered;
@@ -314,21 +316,21 @@ impl Disk for FileDisk {
 
     ghost left_since = { λ d. ⟦<Gathering<RawFile> as Disk>⟧.left_since d.disk };
 
-    ghost addressed = { λ d. ⟦<Gathering<RawFile> as Disk>⟧.addressed d.disk };
+    ghost addressed = { λ d. d.disk.disk.small };
 
-    ghost whole = { λ d. ⟦<Gathering<RawFile> as Disk>⟧.whole d.disk };
+    ghost whole = { λ d honest. absurd (false≢true honest) };
 
-    ghost sized = { λ d. ⟦<Gathering<RawFile> as Disk>⟧.sized d.disk };
+    ghost sized = { λ d c honest left. absurd (false≢true honest) };
 
-    ghost seen_bytes = { λ d. ⟦<Gathering<RawFile> as Disk>⟧.seen_bytes d.disk };
+    ghost seen_bytes = { λ d honest. absurd (false≢true honest) };
 
-    ghost left_bytes = { λ d. ⟦<Gathering<RawFile> as Disk>⟧.left_bytes d.disk };
+    ghost left_bytes = { λ d c honest left. absurd (false≢true honest) };
 
-    ghost seen_may_stay = { λ d. ⟦<Gathering<RawFile> as Disk>⟧.seen_may_stay d.disk };
+    ghost seen_may_stay = { λ d honest. absurd (false≢true honest) };
 
-    ghost counts_now = { λ d. ⟦<Gathering<RawFile> as Disk>⟧.counts_now d.disk };
+    ghost counts_now = { λ d t c le left. inl left };
 
-    ghost only_now = { λ d. ⟦<Gathering<RawFile> as Disk>⟧.only_now d.disk };
+    ghost only_now = { λ d c since. ⊎_elim (λ stays. stays) (λ was. absurd (false≢true was.honest)) since };
 
     fn length(&self) -> u64 {
         self.disk.length()

@@ -207,19 +207,19 @@ impl<D: Backing> Disk for Gathering<D> {
 
     ghost addressed = { λ g. D.addressed g.disk };
 
-    ghost whole = { λ g honest. shows_whole D.Disk (record { whole = D.whole; sized = D.sized; seen_bytes = D.seen_bytes; left_bytes = D.left_bytes; seen_may_stay = D.seen_may_stay; counts_now = D.counts_now; only_now = D.only_now }) (with_gathered g.disk g.gathered) g.within honest };
+    ghost whole = { λ g honest. shows_whole (record { size = D.size; seen = D.seen; is_honest = D.is_honest; failures = D.failures; clock = D.clock; may_leave = D.may_leave; left_since = D.left_since }) (record { whole = D.whole; sized = D.sized; seen_bytes = D.seen_bytes; left_bytes = D.left_bytes; seen_may_stay = D.seen_may_stay; counts_now = D.counts_now; only_now = D.only_now }) (with_gathered g.disk g.gathered) g.within honest };
 
-    ghost sized = { λ g c honest left. stays_sized D.Disk (record { whole = D.whole; sized = D.sized; seen_bytes = D.seen_bytes; left_bytes = D.left_bytes; seen_may_stay = D.seen_may_stay; counts_now = D.counts_now; only_now = D.only_now }) (with_gathered g.disk g.gathered) c left };
+    ghost sized = { λ g c honest left. stays_sized _ (record { whole = D.whole; sized = D.sized; seen_bytes = D.seen_bytes; left_bytes = D.left_bytes; seen_may_stay = D.seen_may_stay; counts_now = D.counts_now; only_now = D.only_now }) (with_gathered g.disk g.gathered) c left };
 
-    ghost seen_bytes = { λ g honest. shows_bytes D.Disk (record { whole = D.whole; sized = D.sized; seen_bytes = D.seen_bytes; left_bytes = D.left_bytes; seen_may_stay = D.seen_may_stay; counts_now = D.counts_now; only_now = D.only_now }) (with_gathered g.disk g.gathered) (are_of g.gathered) honest };
+    ghost seen_bytes = { λ g honest. shows_bytes (record { size = D.size; seen = D.seen; is_honest = D.is_honest; failures = D.failures; clock = D.clock; may_leave = D.may_leave; left_since = D.left_since }) (record { whole = D.whole; sized = D.sized; seen_bytes = D.seen_bytes; left_bytes = D.left_bytes; seen_may_stay = D.seen_may_stay; counts_now = D.counts_now; only_now = D.only_now }) (with_gathered g.disk g.gathered) (are_of g.gathered) honest };
 
     ghost left_bytes = { λ g c honest left. left.are };
 
-    ghost seen_may_stay = { λ g honest. shown_may_stay D.Disk (record { whole = D.whole; sized = D.sized; seen_bytes = D.seen_bytes; left_bytes = D.left_bytes; seen_may_stay = D.seen_may_stay; counts_now = D.counts_now; only_now = D.only_now }) (with_gathered g.disk g.gathered) g.within (are_of g.gathered) honest };
+    ghost seen_may_stay = { λ g honest. shown_may_stay _ (record { whole = D.whole; sized = D.sized; seen_bytes = D.seen_bytes; left_bytes = D.left_bytes; seen_may_stay = D.seen_may_stay; counts_now = D.counts_now; only_now = D.only_now }) (with_gathered g.disk g.gathered) g.within (are_of g.gathered) honest };
 
     ghost counts_now = { λ g t c le left. inl left };
 
-    ghost only_now = { λ g c since. only_this_moment D.Disk (record { whole = D.whole; sized = D.sized; seen_bytes = D.seen_bytes; left_bytes = D.left_bytes; seen_may_stay = D.seen_may_stay; counts_now = D.counts_now; only_now = D.only_now }) (with_gathered g.disk g.gathered) c (few_of g.gathered) since };
+    ghost only_now = { λ g c since. only_this_moment _ (record { whole = D.whole; sized = D.sized; seen_bytes = D.seen_bytes; left_bytes = D.left_bytes; seen_may_stay = D.seen_may_stay; counts_now = D.counts_now; only_now = D.only_now }) (with_gathered g.disk g.gathered) c (few_of g.gathered) since };
 
     fn length(&self) -> u64 {
         self.disk.length()

@@ -181,6 +181,7 @@ impl Disk for MemDisk {
         requires { at + length from.now ≤ ⟦<MemDisk as Disk>⟧.size self.old }
         ensures held { OnOk result (held_by self.new ≡ written (held_by self.old) at from.now) }
         ensures unchanged { OnErr result (held_by self.new ≡ held_by self.old) }
+        ensures moves { OnOk result (⟦<MemDisk as Disk>⟧.clock self.old < ⟦<MemDisk as Disk>⟧.clock self.new) }
         ensures written { OnOk result (IsTrue (⟦<MemDisk as Disk>⟧.is_honest self.old)
             → ⟦<MemDisk as Disk>⟧.seen self.new ≡ overwritten
             (⟦<MemDisk as Disk>⟧.seen self.old) at from.now) }

@@ -16,9 +16,9 @@ returns-then-skipped-into c = record {
       let n = length old in
       let skipped = self.at - c.args.at in
       let copied : new ≡ fronted (drop skipped old) bytes =
-          c.copy_front.ensures.copied
-          ∙ ap (λ (y : List ℕ). fronted y c.deref.result.now) (take_rest old skipped)
-          ∙ ap (λ (b : List ℕ). fronted (drop skipped old) b) c.deref.ensures.value in
+      c.copy_front.ensures.copied
+      ∙ ap (λ (y : List ℕ). fronted y c.deref.result.now) (take_rest old skipped)
+      ∙ ap (λ (b : List ℕ). fronted (drop skipped old) b) c.deref.ensures.value in
       let long : length new ≡ n - skipped = ap length copied ∙ fronted_length (drop skipped old) bytes ∙ length-drop skipped old in
       put_over old new skipped (n - skipped) long
       ∙ ap (λ (f : List ℕ). overwritten old skipped f) copied

@@ -24,8 +24,8 @@ returns-then-takes-2-clause-taken g c =
     let mid = c.write_out.new.self in
     let below = c.write_out.new.disk in
     let quiet : IsQuiet g.D.Disk (laden disk self.at self.bytes.items) (laden below mid.at mid.bytes.items) =
-        subst (λ (b : List ℕ). IsQuiet g.D.Disk (laden disk self.at b) (laden below mid.at mid.bytes.items)) kept.1
-        (subst (λ (q : ℕ). IsQuiet g.D.Disk (laden disk q c.takes.new.self.bytes.items) (laden below mid.at mid.bytes.items)) kept.0 c.write_out.ensures.quiet) in
+    subst (λ (b : List ℕ). IsQuiet g.D.Disk (laden disk self.at b) (laden below mid.at mid.bytes.items)) kept.1
+    (subst (λ (q : ℕ). IsQuiet g.D.Disk (laden disk q c.takes.new.self.bytes.items) (laden below mid.at mid.bytes.items)) kept.0 c.write_out.ensures.quiet) in
     let new = c.takes-2.new.self in
     let takes = c.if-takes-2.ensures in
     taken_on g.D.Disk laws (laden disk self.at self.bytes.items) (laden below mid.at mid.bytes.items) (laden below new.at new.bytes.items) quiet _ c.args.at c.args.from.now
@@ -42,8 +42,8 @@ returns-clause-taken g c =
     let mid = c.write_out.new.self in
     let below = c.write_out.new.disk in
     let quiet : IsQuiet g.D.Disk (laden disk self.at self.bytes.items) (laden below mid.at mid.bytes.items) =
-        subst (λ (b : List ℕ). IsQuiet g.D.Disk (laden disk self.at b) (laden below mid.at mid.bytes.items)) kept.1
-        (subst (λ (q : ℕ). IsQuiet g.D.Disk (laden disk q c.takes.new.self.bytes.items) (laden below mid.at mid.bytes.items)) kept.0 c.write_out.ensures.quiet) in
+    subst (λ (b : List ℕ). IsQuiet g.D.Disk (laden disk self.at b) (laden below mid.at mid.bytes.items)) kept.1
+    (subst (λ (q : ℕ). IsQuiet g.D.Disk (laden disk q c.takes.new.self.bytes.items) (laden below mid.at mid.bytes.items)) kept.0 c.write_out.ensures.quiet) in
     let new = c.takes-2.new.self in
     let again = c.if-takes-2.ensures.refused in
     taken_on g.D.Disk laws (laden disk self.at self.bytes.items) (laden below mid.at mid.bytes.items) (laden c.put.new.self new.at new.bytes.items) quiet c.put.result c.args.at c.args.from.now

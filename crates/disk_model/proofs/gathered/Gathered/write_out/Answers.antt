@@ -25,4 +25,4 @@ returns-clause-quiet g c =
     let new = c.put.new.self in
     subst (λ (b : List ℕ). IsQuiet g.D.Disk (laden old self.at self.bytes.items) (laden new self.at b)) (sym c.clear.ensures.items)
     (written_out g.D.Disk laws old new c.in_ok-put.field-0 self.at self.bytes.items c.requires self.few
-      (subst (λ (b : List ℕ). IsPut g.D.Disk (Ok c.in_ok-put.field-0) self.at b old new) c.deref.ensures.value c.in_ok-put.ensures.put))
+    (subst (λ (b : List ℕ). IsPut g.D.Disk (Ok c.in_ok-put.field-0) self.at b old new) c.deref.ensures.value c.in_ok-put.ensures.put))

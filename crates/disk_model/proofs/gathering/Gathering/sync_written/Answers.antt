@@ -28,7 +28,7 @@ returns-in_err-sync-clause-quiet g c =
     let within : place_of gathered ≤ g.D.Disk.size mid = omega (arith, c.write_out.ensures.within) in
     quiet_on g.D.Disk laws (with_gathered self.disk self.gathered) (with_gathered mid gathered) (with_gathered new gathered) c.write_out.ensures.quiet
     (subst (λ (b : List ℕ). IsQuiet g.D.Disk (laden mid (place_of gathered) b) (laden new (place_of gathered) b)) (sym none)
-      (synced g.D.Disk laws mid new (place_of gathered) within c.sync.ensures.honesty c.sync.ensures.size c.sync.ensures.seen c.sync.ensures.crash c.sync.ensures.time))
+    (synced g.D.Disk laws mid new (place_of gathered) within c.sync.ensures.honesty c.sync.ensures.size c.sync.ensures.seen c.sync.ensures.crash c.sync.ensures.time))
 
 -- it was, and the disk has synced
 pub returns-clause-quiet : goal.returns-clause-quiet
@@ -43,4 +43,4 @@ returns-clause-quiet g c =
     let within : place_of gathered ≤ g.D.Disk.size mid = omega (arith, c.write_out.ensures.within) in
     quiet_on g.D.Disk laws (with_gathered self.disk self.gathered) (with_gathered mid gathered) (with_gathered new gathered) c.write_out.ensures.quiet
     (subst (λ (b : List ℕ). IsQuiet g.D.Disk (laden mid (place_of gathered) b) (laden new (place_of gathered) b)) (sym none)
-      (synced g.D.Disk laws mid new (place_of gathered) within c.sync.ensures.honesty c.sync.ensures.size c.sync.ensures.seen c.sync.ensures.crash c.sync.ensures.time))
+    (synced g.D.Disk laws mid new (place_of gathered) within c.sync.ensures.honesty c.sync.ensures.size c.sync.ensures.seen c.sync.ensures.crash c.sync.ensures.time))
