@@ -69,7 +69,8 @@ impl Gathered {
         ensures cause { HasCause (D.failures disk.old) (D.failures disk.new) result }
         ensures kind { IsOkUnless result DiskFault.Write }
     {
-        disk.put(self.at, &self.bytes)?;
+        let bytes = self.bytes.as_slice();
+        disk.put(self.at, bytes)?;
         self.bytes.clear();
         Ok(())
     }

@@ -116,7 +116,9 @@ impl<D: Backing> Gathering<D> {
             return Err(DiskFault::Sync);
         };
         self.durability = Durability::Unknown;
-        self.disk.sync()?;
+        if let Err(fault) = self.disk.sync() {
+            return Err(fault);
+        }
         self.durability = Durability::Synced;
         Ok(())
     }

@@ -13,7 +13,7 @@ returns-in_err-put-clause-quiet g c =
     let old = c.args.disk.now in
     let new = c.put.new.self in
     refused g.D.Disk laws old new c.put.result self.at self.bytes.items self.few
-    (subst (λ (b : List ℕ). IsPut g.D.Disk c.put.result self.at b old new) c.deref.ensures.value c.put.ensures.put)
+    (subst (λ (b : List ℕ). IsPut g.D.Disk c.put.result self.at b old new) c.as_slice-bytes.ensures.value c.put.ensures.put)
 
 -- the disk has it
 pub returns-clause-quiet : goal.returns-clause-quiet
@@ -25,4 +25,4 @@ returns-clause-quiet g c =
     let new = c.put.new.self in
     subst (λ (b : List ℕ). IsQuiet g.D.Disk (laden old self.at self.bytes.items) (laden new self.at b)) (sym c.clear.ensures.items)
     (written_out g.D.Disk laws old new c.in_ok-put.field-0 self.at self.bytes.items c.requires self.few
-    (subst (λ (b : List ℕ). IsPut g.D.Disk (Ok c.in_ok-put.field-0) self.at b old new) c.deref.ensures.value c.in_ok-put.ensures.put))
+    (subst (λ (b : List ℕ). IsPut g.D.Disk (Ok c.in_ok-put.field-0) self.at b old new) c.as_slice-bytes.ensures.value c.in_ok-put.ensures.put))

@@ -16,8 +16,8 @@ invariant_of-self g c =
     }
 
 -- it was, and the disk did not sync
-pub returns-in_err-sync-clause-quiet : goal.returns-in_err-sync-clause-quiet
-returns-in_err-sync-clause-quiet g c =
+pub returns-in-Err-clause-quiet : goal.returns-in-Err-clause-quiet
+returns-in-Err-clause-quiet g c =
     let m = g.met.D.Disk in
     let laws : Laws g.D.Disk = record { whole = m.whole; sized = m.sized; seen_bytes = m.seen_bytes; left_bytes = m.left_bytes; seen_may_stay = m.seen_may_stay; counts_now = m.counts_now; only_now = m.only_now } in
     let self = c.args.self.now in
