@@ -430,28 +430,33 @@ module _ {D : Type 0} (g : disk.Ghosts D) where
         (put_through d e result at p from (omega (arith, within)) put)))
 
     -- The disk was synced, with nothing gathered.
-    module _ (d e : D) (at : ℕ) (within : at ≤ g.size d)
+    module _ (d e : D) (at : ℕ) (a : List ℕ) (none : a ≡ []) (within : at + length a ≤ g.size d)
         (honesty : g.is_honest e ≡ g.is_honest d) (size : g.size e ≡ g.size d)
         (seen : IsTrue (g.is_honest d) → g.seen e ≡ g.seen d)
         (crash : IsTrue (g.is_honest d) → (c : List ℕ) → g.may_leave e c → g.may_leave d c)
         (time : Elapses g.clock g.may_leave g.left_since d e) where
-      fewer : IsTrue (g.is_honest d) → (c : List ℕ) → MayStay g (laden e at []) c → MayStay g (laden d at []) c
-      fewer honest c stays = below_stays (laden d at []) c honest (crash honest c (bare e at c stays))
+      held : (f : D) (c : List ℕ) → MayStay g (laden f at a) c → g.may_leave f c
+      held f c stays = bare f at c (subst (λ (b : List ℕ). MayStay g (laden f at b) c) none stays)
 
-      pub synced : IsQuiet g (laden d at []) (laden e at [])
+      fewer : IsTrue (g.is_honest d) → (c : List ℕ) → MayStay g (laden e at a) c → MayStay g (laden d at a) c
+      fewer honest c stays = below_stays (laden d at a) c honest (crash honest c (held e c stays))
+
+      pub synced : IsQuiet g (laden d at a) (laden e at a)
       synced = record {
-        shows = λ honest. ap (λ (l : List ℕ). overwritten l at []) (seen honest);
+        shows = λ honest. ap (λ (l : List ℕ). overwritten l at a) (seen honest);
         crash = fewer;
-        time = passes (laden d at []) (laden e at []) honesty time (omega arith) (λ _. inr (omega arith))
-            (λ honest c stays. inr (λ t le. time.keeps t c le (laws.counts_now d t c le (bare d at c stays))))
+        time = passes (laden d at a) (laden e at a) honesty time (omega (arith, ap length none)) (λ _. inr (omega arith))
+            (λ honest c stays. inr (λ t le. time.keeps t c le (laws.counts_now d t c le (held d c stays))))
             (λ honest _. fewer honest);
         honesty = honesty;
         size = size;
       }
 
       -- A crash leaves what it shows.
-      pub settled : (IsTrue (g.is_honest d) → Only (g.seen d) (g.may_leave e)) → IsTrue (g.is_honest d) → Only (overwritten (g.seen d) at []) (MayStay g (laden e at []))
-      settled only honest c stays = only honest c (bare e at c stays) ∙ sym (bare_shown d at within honest)
+      pub settled : (IsTrue (g.is_honest d) → Only (g.seen d) (g.may_leave e)) → IsTrue (g.is_honest d) → Only (overwritten (g.seen d) at a) (MayStay g (laden e at a))
+      settled only honest c stays =
+          only honest c (held e c stays)
+          ∙ sym (ap (λ (b : List ℕ). overwritten (g.seen d) at b) none ∙ bare_shown d at (omega (arith, within)) honest)
 
     -- What was stable stays so where nothing new may be left.
     pub settled_on : (old new : Laden D) → IsQuiet g old new → (IsTrue (g.is_honest old.disk) → Only (shown g old) (MayStay g old)) → IsTrue (g.is_honest new.disk) → Only (shown g new) (MayStay g new)

@@ -112,9 +112,38 @@ impl<D: Backing> Gathering<D> {
         ensures refused { self.new.refused ≡ self.old.refused }
         ensures kind { IsOkUnless result DiskFault.Sync }
     {
+        self.flush()?;
+        self.sync_below()?;
+        Ok(())
+    }
+
+    // Writes what was gathered before a sync.
+    fn flush(&mut self) -> Result<(), DiskFault>
+        ensures quiet { IsQuiet D.Disk (with_gathered self.old.disk self.old.gathered)
+            (with_gathered self.new.disk self.new.gathered) }
+        ensures none { OnOk result (bytes_of self.new.gathered ≡ []) }
+        ensures cause { HasCause (D.failures self.old.disk) (D.failures self.new.disk) result }
+        ensures refused { self.new.refused ≡ self.old.refused }
+        ensures kind { IsOkUnless result DiskFault.Sync }
+    {
         let Ok(()) = write_out(&mut self.disk, &mut self.gathered) else {
             return Err(DiskFault::Sync);
         };
+        Ok(())
+    }
+
+    // Syncs the disk below, once nothing is gathered.
+    fn sync_below(&mut self) -> Result<(), DiskFault>
+        requires none { bytes_of self.old.gathered ≡ [] }
+        ensures quiet { IsQuiet D.Disk (with_gathered self.old.disk self.old.gathered)
+            (with_gathered self.new.disk self.new.gathered) }
+        ensures durable { OnOk result (IsTrue (D.is_honest self.old.disk)
+            → Only (shown D.Disk (with_gathered self.old.disk self.old.gathered))
+            (MayStay D.Disk (with_gathered self.new.disk self.new.gathered))) }
+        ensures cause { HasCause (D.failures self.old.disk) (D.failures self.new.disk) result }
+        ensures refused { self.new.refused ≡ self.old.refused }
+        ensures kind { IsOkUnless result DiskFault.Sync }
+    {
         self.durability = Durability::Unknown;
         if let Err(fault) = self.disk.sync() {
             return Err(fault);
