@@ -1,5 +1,5 @@
 -- Laws of a disk with bytes gathered for it.
-use Rattle.std.proofs.Common.{◌≡◌, ◌⊎◌, inl, inr, ⊎_elim, ℕ, ◌+◌, ◌-◌, ◌*◌, ◌/◌, ◌^◌, ◌<◌, ◌≤◌, min, Bool, false, IsTrue, List, [], ◌∷◌, ◌++◌, Result, Ok, Err, OnOk, length, get_or, take, drop, refl, sym, ◌∙◌, ap, subst, arith, length-append, if◌then◌else◌}
+use Rattle.std.proofs.Common.{◌≡◌, ◌⊎◌, inl, inr, ⊎_elim, ℕ, ◌+◌, ◌-◌, ◌*◌, ◌/◌, ◌^◌, ◌<◌, ◌≤◌, Bool, false, IsTrue, List, [], ◌∷◌, ◌++◌, Result, Ok, length, get_or, take, drop, refl, sym, ◌∙◌, ap, subst, arith, length-append, if◌then◌else◌}
 use Rattle.std.proofs.lemmas.List.{get_or_append_left, get_or-append_right, ext_get_or}
 use Rattle.std.proofs.lemmas.Bool.{cases_lt, cases_Bool, both_ways}
 use Rattle.std.proofs.lemmas.Nat.{div-add-mod'}
@@ -7,9 +7,9 @@ use Rattle.std.proofs.lemmas.Result.{IfOk-weaker}
 use Rattle.disk_model.specs.Places.{AreBytes, part, overwritten, SameOutside}
 use Rattle.disk_model.specs.PlaceLaws.{overwritten_bytes, overwritten_length, overwritten_outside, same_as_it_was}
 use Rattle.disk_model.specs.PartLaws.{part_length, part_bytes, part_place, part_overwritten, place_before, place_after, place_spared, widened, same_twice, same_by_places, same_all}
-use Rattle.disk_model.specs.Disk.{Follows, Only, Elapses, HasCause}
+use Rattle.disk_model.specs.Disk.{Only, Elapses}
 use Rattle.disk_model.specs.Backing.{IsFetched, IsPut}
-use Rattle.disk_model.specs.Gathering.{Laden, laden, shown, MayStay, moment, WasLeft, stayed_since, Passes, IsQuiet, IsTaken}
+use Rattle.disk_model.specs.Gathering.{Laden, laden, shown, MayStay, moment, stayed_since, Passes, IsQuiet, IsTaken}
 use Rattle.disk_model.specs.declared.disk.Disk as disk
 
 -- lists that are the same outside no place

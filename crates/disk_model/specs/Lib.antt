@@ -1,5 +1,7 @@
 pub mod Agree
 pub mod Backing
+pub mod CallLaws
+pub mod Calls
 pub mod CauseLaws
 pub mod Crash
 pub mod CrashLaws

@@ -4,6 +4,7 @@
 mod agree;
 mod backing;
 mod cached_disk;
+mod calls;
 mod crash;
 mod disk;
 mod faulty;
@@ -15,11 +16,13 @@ mod mem_disk;
 mod note;
 mod one_fault;
 mod raw_file;
+mod record;
 mod stable;
 
 pub use agree::agrees_outside_writes;
 pub use backing::Backing;
 pub use cached_disk::CachedDisk;
+pub use calls::honest_calls_tell_of_a_disk;
 pub use crash::Pick;
 pub use disk::{Disk, DiskFault};
 pub use faulty::{Faulty, Plan};

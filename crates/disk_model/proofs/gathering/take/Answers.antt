@@ -1,4 +1,4 @@
-use Rattle.std.proofs.Common.{None, Option, subst, sym, arith}
+use Rattle.std.proofs.Common.{Option, subst, sym, arith}
 use Rattle.disk_model.specs.Gathering.{IsTaken}
 use Rattle.disk_model.specs.GatheringLaws.{Laws, put_through}
 use Rattle.disk_model.specs.Gathers.{with_gathered}

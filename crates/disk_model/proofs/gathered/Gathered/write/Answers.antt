@@ -1,4 +1,4 @@
-use Rattle.std.proofs.Common.{◌≡◌, ℕ, ◌+◌, ◌≤◌, List, length, subst, sym, ◌∙◌, arith}
+use Rattle.std.proofs.Common.{ℕ, List, subst, arith}
 use Rattle.disk_model.specs.Gathering.{laden, IsQuiet}
 use Rattle.disk_model.specs.GatheringLaws.{Laws, taken_on, gathered_behind, put_past}
 use Rattle.disk_model.proofs.gathered.Gathered.write.Goals as goal

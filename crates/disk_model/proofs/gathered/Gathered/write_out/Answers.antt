@@ -1,4 +1,4 @@
-use Rattle.std.proofs.Common.{List, ℕ, [], Ok, subst, sym}
+use Rattle.std.proofs.Common.{List, ℕ, Ok, subst, sym}
 use Rattle.disk_model.specs.Backing.{IsPut}
 use Rattle.disk_model.specs.Gathering.{laden, IsQuiet}
 use Rattle.disk_model.specs.GatheringLaws.{Laws, refused, written_out}

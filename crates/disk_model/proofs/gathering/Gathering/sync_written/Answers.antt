@@ -1,4 +1,4 @@
-use Rattle.std.proofs.Common.{◌∙◌, sym}
+use Rattle.std.proofs.Common.{◌∙◌}
 use Rattle.disk_model.specs.GatheringLaws.{Laws, quiet_on}
 use Rattle.disk_model.specs.Gathers.{with_gathered}
 use Rattle.disk_model.proofs.gathering.Gathering.sync_written.Goals as goal

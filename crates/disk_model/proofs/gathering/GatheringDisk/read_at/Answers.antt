@@ -1,6 +1,5 @@
-use Rattle.std.proofs.Common.{◌≡◌, ◌≤◌, length, sym, ◌∙◌, ap, arith}
+use Rattle.std.proofs.Common.{◌≡◌, length, sym, ◌∙◌, ap, arith}
 use Rattle.disk_model.specs.Places.{part, overwritten}
-use Rattle.disk_model.specs.Gathering.{IsQuiet}
 use Rattle.disk_model.specs.GatheringLaws.{Laws, fetched, settled_on}
 use Rattle.disk_model.specs.Gathers.{place_of, bytes_of, with_gathered, few_of}
 use Rattle.disk_model.proofs.gathering.GatheringDisk.read_at.Goals as goal
