@@ -1,5 +1,5 @@
 -- Laws of a disk with bytes gathered for it.
-use Rattle.std.proofs.Common.{◌≡◌, ◌⊎◌, inl, inr, ⊎_elim, ℕ, ◌+◌, ◌-◌, ◌*◌, ◌/◌, ◌^◌, ◌<◌, ◌≤◌, Bool, false, IsTrue, List, [], ◌∷◌, ◌++◌, Result, Ok, length, get_or, take, drop, refl, sym, ◌∙◌, ap, subst, arith, length-append, if◌then◌else◌}
+use Rattle.std.proofs.Common.{◌≡◌, ◌↔◌, ◌⊎◌, inl, inr, ⊎_elim, ℕ, ◌+◌, ◌-◌, ◌*◌, ◌/◌, ◌^◌, ◌<◌, ◌≤◌, Bool, false, IsTrue, List, [], ◌∷◌, ◌++◌, Result, Ok, length, get_or, take, drop, refl, sym, ◌∙◌, ap, subst, arith, length-append, if◌then◌else◌}
 use Rattle.std.proofs.lemmas.List.{get_or_append_left, get_or-append_right, ext_get_or}
 use Rattle.std.proofs.lemmas.Bool.{cases_lt, cases_Bool, both_ways}
 use Rattle.std.proofs.lemmas.Nat.{div-add-mod'}
@@ -463,6 +463,13 @@ module _ {D : Type 0} (g : disk.Ghosts D) where
     settled_on old new quiet only honest c stays =
         let was = sym quiet.honesty ∙ honest in
         only was c (quiet.crash was c stays) ∙ sym (quiet.shows was)
+
+    -- With nothing gathered a crash leaves what it leaves of the disk.
+    pub bare_stays : (l : Laden D) → l.bytes ≡ [] → IsTrue (g.is_honest l.disk) → (c : List ℕ) → MayStay g l c ↔ g.may_leave l.disk c
+    bare_stays l none honest c = (
+      λ stays. bare l.disk l.at c (subst (λ (b : List ℕ). MayStay g (laden l.disk l.at b) c) none stays),
+      λ left. below_stays l c honest left,
+    )
 
     -- the laws of a disk
 

@@ -54,8 +54,11 @@ impl<D: Backing + Drop> Gathering<D> {
     pub fn new(alloc: Global, disk: D) -> Result<Gathering<D>, AllocError>
         ensures honest { IfOk result (λ g. ⟦<Gathering<D> as Disk>⟧.is_honest g ≡ D.is_honest disk) }
         ensures size { IfOk result (λ g. ⟦<Gathering<D> as Disk>⟧.size g ≡ D.size disk) }
-        ensures below { IfOk result (λ g. below_of g ≡ disk) }
-        ensures bare { IfOk result (λ g. is_bare g) }
+        ensures seen { IfOk result (λ g. IsTrue (D.is_honest disk)
+            → ⟦<Gathering<D> as Disk>⟧.seen g ≡ D.seen disk) }
+        ensures crash { IfOk result (λ g. IsTrue (D.is_honest disk) → (c : List ℕ)
+            → ⟦<Gathering<D> as Disk>⟧.may_leave g c ↔ D.may_leave disk c) }
+        ensures failures { IfOk result (λ g. ⟦<Gathering<D> as Disk>⟧.failures g ≡ joined (D.failures disk) 0) }
     {
         let gathered = Gathered::new(alloc)?;
         Ok(Gathering::written(disk, Some(gathered)))

@@ -1,4 +1,4 @@
--- `new` makes a value of no bytes, at the empty list.
+-- The record is a value of no bytes, so no generated proof can set its list. It begins with no call.
 use mathlib.Core.Path.{refl}
 use mathlib.Core.List.{[], ◌∷◌}
 use seplogic.Ra.Ura.{Ura}
@@ -28,11 +28,11 @@ use Rattle.disk_model.specs.contracts.record.Record.new as it
 use Rattle.disk_model.proofs.record.Record.new.Statement as stated
 use Rattle.disk_model.proofs.record.Record.new.Code as code
 
-abbrev v : Val
-v = vstruct (vcons (vstruct vnil) vnil)
+abbrev no_bytes : Val
+no_bytes = vstruct (vcons (vstruct vnil) vnil)
 
-abbrev r : Record
-r = record { marker = record {}; calls = [] }
+abbrev empty : Record
+empty = record { marker = record {}; calls = [] }
 
 meets : {M : Type 1} {𝓤 : Ura M} (𝓛 : Logic 𝓤) → (at_mem : Memory → SProp 𝓤) (run : Routine → Fun 𝓤) (𝓣 : Tables 𝓤 𝓛.H)
     → Meets 𝓛 it.signature (WpFn 𝓤 𝓛.H 𝓣.C 𝓣.Λ code.function) (it.spec 𝓛 at_mem run)
@@ -43,8 +43,8 @@ meets {𝓤 = 𝓤} 𝓛 at_mem run 𝓣 =
     enter ! 𝓣.C 𝓣.Λ code.function [] _ $ alloc_all ! (λ l. pass_all ! refl tt $
     sets ! (agg ! (no_more !)) refl (tt, tt) $ sets ! (agg ! (and_then ! (get ! refl) (no_more !))) refl (tt, (tt, tt)) $
     returns ! (look_at ! 0 refl) $ free_all ! refl $
-    pure_i ! ((T.the_row).own_val r (v ∷ [])) ((λ vss. (tt, ((λ uss. (tt, tt)), tt))), tt) (((vstruct vnil ∷ [], tt), (refl, ((tt, (refl, tt)), tt))), tt) $
-    suffices ! _ (ends_at 𝓛 it.ended tt (it.clauses 𝓛 at_mem run) ((κs, qs, bounds, a, tt), g) v r tt tt) $ says ! refl $
+    pure_i ! ((T.the_row).own_val empty (no_bytes ∷ [])) ((λ vss. (tt, ((λ uss. (tt, tt)), tt))), tt) (((vstruct vnil ∷ [], tt), (refl, ((tt, (refl, tt)), tt))), tt) $
+    suffices ! _ (ends_at 𝓛 it.ended tt (it.clauses 𝓛 at_mem run) ((κs, qs, bounds, a, tt), g) no_bytes empty tt tt) $ says ! refl $
     nothing ! $ join ! $ nothing ! $ done !)))
 
 pub new_spec : {M : Type 1} → stated.statement M
