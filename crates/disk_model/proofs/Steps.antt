@@ -1,11 +1,13 @@
 -- One note more: what it makes of the bytes, of the outcomes of a crash, and of the moments.
-use Rattle.std.proofs.Common.{◌≡◌, ◌⊎◌, inl, inr, ℕ, ◌+◌, ◌≤◌, List, [], ◌∷◌, ◌++◌, length, take, Vec, sym, ◌∙◌, ap, subst, arith, length-append}
+use Rattle.std.proofs.Common.{◌≡◌, ◌⊎◌, inl, inr, ℕ, ◌+◌, ◌≤◌, List, [], ◌∷◌, ◌++◌, length, take, Vec, Result, Ok, Err, OnOk, OnErr, IsTrue, true, sym, ◌∙◌, ap, subst, arith, length-append}
 use Rattle.std.proofs.lemmas.List.{take_all, take-append-le}
 use Rattle.std.proofs.lemmas.List.Sums.{fold_push}
 use Rattle.std.proofs.lemmas.Bool.{cases_lt}
 use Rattle.std.specs.declared.alloc.Global.{Global}
 use Rattle.disk_model.specs.Places.{AreBytes, overwritten}
-use Rattle.disk_model.specs.Notes.{Held, after, stable, held, MayLeave, LeftSince, Fits, AllFit}
+use Rattle.disk_model.specs.PlaceLaws.{same_as_it_was}
+use Rattle.disk_model.specs.Backing.{Opens}
+use Rattle.disk_model.specs.Notes.{Held, after, stable, held, written, MayLeave, LeftSince, Fits, AllFit}
 use Rattle.disk_model.specs.NoteLaws.{held_kept}
 use Rattle.disk_model.specs.declared.note.Note.{Note}
 use Rattle.disk_model.specs.declared.note.Note.TheVariants.{Wrote, Synced}
@@ -66,3 +68,15 @@ module _ (first : List ℕ) (notes new : List Note) (present : List ℕ) (shown 
   pub wrote_shown : (at : ℕ) (bytes : Vec ℕ Global) → new ≡ notes ++ Wrote at bytes ∷ [] → overwritten present at bytes.items ≡ (held first new).now
   wrote_shown at bytes is =
       ap (λ (l : List ℕ). overwritten l at bytes.items) shown ∙ ap (λ (h : Held). h.now) (sym (held_more first notes new (Wrote at bytes) is))
+
+-- A write, or one that changed nothing, takes no outcome away.
+pub stays_written : {T E : Type 0} (r : Result T E) (old new : Held) (at : ℕ) (bytes : List ℕ) → OnOk r (new ≡ written old at bytes) → OnErr r (new ≡ old) → ((c : List ℕ) → MayLeave old c → AreBytes c)
+    → (c : List ℕ) → MayLeave old c → MayLeave new c
+stays_written (Ok x) old new at bytes is none are c left = subst (λ (h : Held). MayLeave h c) (sym is) (c, left, same_as_it_was at (length bytes) c, are c left)
+stays_written (Err e) old new at bytes is none are c left = subst (λ (h : Held). MayLeave h c) (sym none) left
+
+-- A write leaves any bytes in its range.
+pub opens_written : {T E : Type 0} (r : Result T E) (old new : Held) (at : ℕ) (bytes : List ℕ) → OnOk r (new ≡ written old at bytes)
+    → OnOk r (IsTrue true → Opens at (length bytes) (MayLeave old) (MayLeave new))
+opens_written (Ok x) old new at bytes is = λ _ b c left same are. subst (λ (h : Held). MayLeave h c) (sym is) (b, left, same, are)
+opens_written (Err e) old new at bytes is = tt

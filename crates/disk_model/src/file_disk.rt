@@ -1,11 +1,12 @@
 // A disk in a file. Nothing is proved of its bytes: no contract can say what a file holds.
-ghost use Rattle.std.specs.Prelude.{◌≡◌, ◌^◌, ◌<◌, [], false, IfOk, IsOkUnless};
+ghost use Rattle.std.specs.Prelude.{◌≡◌, [], IfOk};
+ghost use Rattle.std.proofs.Common.{inl, ⊎_elim};
 ghost use Rattle.std.proofs.lemmas.Bool.{false≢true};
-ghost use Rattle.disk_model.specs.Disk.{HasCause};
+ghost use Rattle.disk_model.specs.Gathers.{place_of, bytes_of};
 
 use crate::gathered::Gathered;
-use crate::{Disk, DiskFault};
-use failure_count::after_failure;
+use crate::raw_file::RawFile;
+use crate::{Disk, DiskFault, Gathering};
 use std::alloc::{AllocError, Global};
 use std::fs::{File, Permissions, TryLockError};
 use std::io;
@@ -84,17 +85,6 @@ impl From<io::Error> for FileFault {
     }
 }
 
-// What of a file's bytes its device is known to have.
-#[derive(Clone, Copy, Debug, PartialEq, Eq)]
-enum Durability {
-    // All that reads give.
-    Synced,
-    // All but what was written since the last sync.
-    Written,
-    // A sync failed. Linux then keeps what was written in memory as if it were on the device, and tells of it once.
-    Unknown,
-}
-
 /// A disk in a file, of the length that the file has when it is made or opened. As long as it is there it holds the file's
 /// advisory lock (flock(2)), so that no two disks change one file at a time: a second one, of another process or of the
 /// same, is refused as `Busy`. Disks for reading alone share a lock with one another. A process that ends in any way holds
@@ -113,13 +103,7 @@ enum Durability {
 /// proved over a disk holds of it where the file system keeps to the disk model.
 #[derive(Drop)]
 pub struct FileDisk {
-    file: File,
-    length: u64,
-    failures: u64,
-    // None where the file is only read.
-    gathered: Option<Gathered>,
-    durability: Durability,
-    ghost small: { length < 2 ^ 64 },
+    disk: Gathering<RawFile>,
 }
 
 impl FileDisk {
@@ -137,8 +121,8 @@ impl FileDisk {
         ensures uncounted { IfOk result (λ d. ⟦<FileDisk as Disk>⟧.failures d ≡ 0) }
     {
         let disk = made(rt, path, length)?;
-        write_zeros(&disk.file, length)?;
-        make_durable(rt, path, &disk.file)?;
+        write_zeros(disk.file(), length)?;
+        make_durable(rt, path, disk.file())?;
         Ok(disk)
     }
 
@@ -153,7 +137,7 @@ impl FileDisk {
         ensures uncounted { IfOk result (λ d. ⟦<FileDisk as Disk>⟧.failures d ≡ 0) }
     {
         let disk = made(rt, path, length)?;
-        make_durable(rt, path, &disk.file)?;
+        make_durable(rt, path, disk.file())?;
         Ok(disk)
     }
 
@@ -190,17 +174,23 @@ impl FileDisk {
     /// give of them, also where an earlier process failed to write them. Bytes that the device has already are written over by
     /// themselves.
     pub fn write_again(&mut self, length: u64) -> Result<(), FileFault>
-        ensures uncounted { self.new.failures ≡ self.old.failures }
+        ensures uncounted { ⟦<FileDisk as Disk>⟧.failures self.new ≡ ⟦<FileDisk as Disk>⟧.failures self.old }
     {
-        let front = length.min(self.length);
-        write_front(&self.file, front).map_err(|_| FileFault::Settle)?;
-        self.file.sync_all().map_err(|_| FileFault::Settle)
+        let front = length.min(self.disk.length());
+        write_front(self.file(), front).map_err(|_| FileFault::Settle)?;
+        self.file().sync_all().map_err(|_| FileFault::Settle)
+    }
+
+    // The file.
+    fn file(&self) -> &File {
+        self.disk.below().file()
     }
 
     // A disk in a file. A folder, which may be opened for reading, is refused as `Folder`, and
     // what is no regular file as `Special`.
     fn holding(file: File, gathered: Option<Gathered>) -> Result<FileDisk, FileFault>
-        ensures uncounted { IfOk result (λ d. d.failures ≡ 0) }
+        requires { (place_of gathered ≡ 0) × (bytes_of gathered ≡ []) }
+        ensures uncounted { IfOk result (λ d. ⟦<FileDisk as Disk>⟧.failures d ≡ 0) }
     {
         let metadata = file.metadata().map_err(|_| FileFault::Length)?;
         if metadata.is_dir() {
@@ -210,48 +200,10 @@ impl FileDisk {
             return Err(FileFault::Special);
         }
         settle(&file)?;
+        let raw = RawFile::new(file, metadata.len());
         Ok(FileDisk {
-            file,
-            length: metadata.len(),
-            failures: 0,
-            gathered,
-            durability: Durability::Synced,
+            disk: Gathering::synced(raw, gathered),
         })
-    }
-
-    // Writes what was gathered, and makes the file's bytes durable. Where nothing was written since the last sync there is
-    // nothing to do; where a sync failed, nobody knows what there is to do.
-    fn make_bytes_durable(&mut self) -> io::Result<()>
-        ensures length { self.new.length ≡ self.old.length }
-        ensures failures { self.new.failures ≡ self.old.failures }
-    {
-        match self.durability {
-            Durability::Synced => return Ok(()),
-            Durability::Written => {}
-            Durability::Unknown => return Err(ErrorKind::Other.into()),
-        }
-        if let Some(gathered) = &mut self.gathered {
-            gathered.write_out(&self.file)?;
-        }
-        let synced = self.file.sync_all();
-        self.durability = match synced {
-            Ok(()) => Durability::Synced,
-            Err(_) => Durability::Unknown,
-        };
-        synced
-    }
-
-    // Counts a failure where the call failed, which is answered as this fault.
-    fn counted(&mut self, outcome: io::Result<()>, fault: DiskFault) -> Result<(), DiskFault>
-        ensures cause { HasCause self.old.failures self.new.failures result }
-        ensures kind { IsOkUnless result fault }
-        ensures length { self.new.length ≡ self.old.length }
-    {
-        if outcome.is_ok() {
-            return Ok(());
-        }
-        self.failures = after_failure(self.failures);
-        Err(fault)
     }
 }
 
@@ -261,8 +213,8 @@ fn made<R: AllocGlobal + Files<File = File>>(
     path: &str,
     length: u64,
 ) -> Result<FileDisk, FileFault>
-    ensures length { IfOk result (λ d. d.length ≡ length) }
-    ensures uncounted { IfOk result (λ d. d.failures ≡ 0) }
+    ensures size { IfOk result (λ d. ⟦<FileDisk as Disk>⟧.size d ≡ length) }
+    ensures uncounted { IfOk result (λ d. ⟦<FileDisk as Disk>⟧.failures d ≡ 0) }
 {
     let gathered = Gathered::new(rt.alloc())?;
     let file = File::options()
@@ -277,11 +229,7 @@ fn made<R: AllocGlobal + Files<File = File>>(
         .map_err(|_| FileFault::Length)?;
     file.set_len(length).map_err(|_| FileFault::Length)?;
     Ok(FileDisk {
-        file,
-        length,
-        failures: 0,
-        gathered: Some(gathered),
-        durability: Durability::Written,
+        disk: Gathering::written(RawFile::new(file, length), Some(gathered)),
     })
 }
 
@@ -353,72 +301,50 @@ fn sync_folder<R: Files<File = File>>(rt: &R, path: &str) -> io::Result<()> {
     File::open(rt, folder)?.sync_all()
 }
 
-// Writes these bytes, or gathers them.
-fn write_gathered(
-    file: &File,
-    gathered: &mut Option<Gathered>,
-    at: u64,
-    from: &[u8],
-) -> io::Result<()> {
-    match gathered {
-        Some(gathered) => gathered.write(file, at, from),
-        None => file.write_all_at(from, at),
-    }
-}
-
 impl Disk for FileDisk {
-    ghost size = { λ d. d.length };
+    ghost size = { λ d. ⟦<Gathering<RawFile> as Disk>⟧.size d.disk };
 
-    ghost seen = { λ d. [] };
+    ghost seen = { λ d. ⟦<Gathering<RawFile> as Disk>⟧.seen d.disk };
 
-    ghost is_honest = { λ d. false };
+    ghost is_honest = { λ d. ⟦<Gathering<RawFile> as Disk>⟧.is_honest d.disk };
 
-    ghost failures = { λ d. d.failures };
+    ghost failures = { λ d. ⟦<Gathering<RawFile> as Disk>⟧.failures d.disk };
 
-    ghost clock = { λ d. 0 };
+    ghost clock = { λ d. ⟦<Gathering<RawFile> as Disk>⟧.clock d.disk };
 
-    ghost may_leave = { λ d c. ⊥ };
+    ghost may_leave = { λ d. ⟦<Gathering<RawFile> as Disk>⟧.may_leave d.disk };
 
-    ghost left_since = { λ d t c. ⊥ };
+    ghost left_since = { λ d. ⟦<Gathering<RawFile> as Disk>⟧.left_since d.disk };
 
-    ghost addressed = { λ d. d.small };
+    ghost addressed = { λ d. d.disk.disk.small };
 
     ghost whole = { λ d honest. absurd (false≢true honest) };
 
-    ghost sized = { λ d c honest left. absurd left };
+    ghost sized = { λ d c honest left. absurd (false≢true honest) };
 
     ghost seen_bytes = { λ d honest. absurd (false≢true honest) };
 
-    ghost left_bytes = { λ d c honest left. absurd left };
+    ghost left_bytes = { λ d c honest left. absurd (false≢true honest) };
 
     ghost seen_may_stay = { λ d honest. absurd (false≢true honest) };
 
-    ghost counts_now = { λ d t c le left. left };
+    ghost counts_now = { λ d t c le left. inl left };
 
-    ghost only_now = { λ d c left. left };
+    ghost only_now = { λ d c since. ⊎_elim (λ stays. stays) (λ was. absurd (false≢true was.honest)) since };
 
     fn length(&self) -> u64 {
-        self.length
+        self.disk.length()
     }
 
     fn read_at(&mut self, at: u64, into: &mut [u8]) -> Result<(), DiskFault> {
-        let outcome = self.file.read_exact_at(into, at);
-        if let Some(gathered) = &self.gathered {
-            gathered.lay_over(at, into);
-        }
-        self.counted(outcome, DiskFault::Read)
+        self.disk.read_at(at, into)
     }
 
     fn write_at(&mut self, at: u64, from: &[u8]) -> Result<(), DiskFault> {
-        if self.durability == Durability::Synced {
-            self.durability = Durability::Written;
-        }
-        let outcome = write_gathered(&self.file, &mut self.gathered, at, from);
-        self.counted(outcome, DiskFault::Write)
+        self.disk.write_at(at, from)
     }
 
     fn sync(&mut self) -> Result<(), DiskFault> {
-        let outcome = self.make_bytes_durable();
-        self.counted(outcome, DiskFault::Sync)
+        self.disk.sync()
     }
 }

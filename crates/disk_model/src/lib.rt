@@ -2,25 +2,33 @@
 #![tactic(auto)]
 
 mod agree;
+mod backing;
 mod cached_disk;
+mod calls;
 mod crash;
 mod disk;
 mod faulty;
 mod file_disk;
 mod fuse;
 mod gathered;
+mod gathering;
 mod mem_disk;
 mod note;
 mod one_fault;
+mod raw_file;
+mod record;
 mod stable;
 
 pub use agree::agrees_outside_writes;
+pub use backing::Backing;
 pub use cached_disk::CachedDisk;
+pub use calls::honest_calls_tell_of_a_disk;
 pub use crash::Pick;
 pub use disk::{Disk, DiskFault};
 pub use faulty::{Faulty, Plan};
 pub use file_disk::{FileDisk, FileFault};
 pub use fuse::{Fuse, Limit};
+pub use gathering::Gathering;
 pub use mem_disk::MemDisk;
 pub use one_fault::{OneCall, OneFault};
 pub use stable::write_stable;

@@ -8,7 +8,7 @@ ghost use Rattle.disk_model.specs.NoteLaws.{AllFit-prop, held_kept, shown_bytes,
 
 use crate::crash::bytes_after_crash;
 use crate::note::Note;
-use crate::{Disk, DiskFault, Pick};
+use crate::{Backing, Disk, DiskFault, Pick};
 use failure_count::after_failure;
 use std::alloc::{AllocError, Global};
 
@@ -181,6 +181,7 @@ impl Disk for MemDisk {
         requires { at + length from.now ≤ ⟦<MemDisk as Disk>⟧.size self.old }
         ensures held { OnOk result (held_by self.new ≡ written (held_by self.old) at from.now) }
         ensures unchanged { OnErr result (held_by self.new ≡ held_by self.old) }
+        ensures moves { OnOk result (⟦<MemDisk as Disk>⟧.clock self.old < ⟦<MemDisk as Disk>⟧.clock self.new) }
         ensures written { OnOk result (IsTrue (⟦<MemDisk as Disk>⟧.is_honest self.old)
             → ⟦<MemDisk as Disk>⟧.seen self.new ≡ overwritten
             (⟦<MemDisk as Disk>⟧.seen self.old) at from.now) }
@@ -234,5 +235,15 @@ impl Disk for MemDisk {
         self.notes.push_reserved(Note::Synced);
         self.unsynced = false;
         Ok(())
+    }
+}
+
+impl Backing for MemDisk {
+    fn fetch(&mut self, at: u64, into: &mut [u8]) -> Result<(), DiskFault> {
+        self.read_at(at, into)
+    }
+
+    fn put(&mut self, at: u64, from: &[u8]) -> Result<(), DiskFault> {
+        self.write_at(at, from)
     }
 }

@@ -1,5 +1,5 @@
 //! A disk in memory, what crashes leave of it, and disks that fail.
-use disk_model::{CachedDisk, Disk, DiskFault, Fuse, MemDisk, OneFault, Pick, write_stable};
+use disk_model::{CachedDisk, Disk, DiskFault, Fuse, Gathering, MemDisk, OneFault, Pick, write_stable};
 use std::process::Abort;
 use std::test::Fail;
 
@@ -49,6 +49,24 @@ fn memory_reads_back_what_was_written(rt: HostRuntime) -> Result<(), Fail> {
     read(&mut disk, 2, &mut bytes)??;
     assert_eq!(rt; bytes, [8, 9, 0, 0]);
     assert_eq!(rt; disk.bytes(), [0, 7, 8, 9, 0, 0].as_slice());
+    Ok(())
+}
+
+// Two writes that adjoin, and one within them. Reads give what is gathered, and what was written.
+#[test]
+fn writes_are_gathered_over_memory(rt: HostRuntime) -> Result<(), Fail> {
+    let mut disk = Gathering::new(rt.alloc(), MemDisk::new(rt.alloc(), 8)?)?;
+    put(&mut disk, 1, &[7, 8])??;
+    put(&mut disk, 3, &[9])??;
+    let mut bytes = [0u8; 4];
+    read(&mut disk, 2, &mut bytes)??;
+    assert_eq!(rt; bytes, [8, 9, 0, 0]);
+    put(&mut disk, 2, &[5])??;
+    read(&mut disk, 0, &mut bytes)??;
+    assert_eq!(rt; bytes, [0, 7, 5, 9]);
+    disk.sync()?;
+    read(&mut disk, 1, &mut bytes)??;
+    assert_eq!(rt; bytes, [7, 5, 9, 0]);
     Ok(())
 }
 

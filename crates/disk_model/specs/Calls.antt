@@ -1,0 +1,82 @@
+-- The calls that were made of a file, with what came of each, and the disk that they tell of.
+use Rattle.std.specs.Prelude.{◌≡◌, ◌⊎◌, ℕ, zero, suc, ◌+◌, ◌≤◌, Bool, true, IsTrue, if◌then◌else◌, List, [], ◌∷◌, length, slice_index, ◌==◌}
+use Rattle.failure_count.specs.Counts.{next_count}
+use Rattle.disk_model.specs.Places.{AreBytes, part, overwritten}
+use Rattle.disk_model.specs.Notes.{Held, stable, written, MayLeave}
+use Rattle.disk_model.specs.declared.disk.Disk as disk
+
+-- A call: which one, its place, whether it succeeded, and the bytes that were written or that came.
+abbrev pub Call : Type 0
+Call = ℕ × ℕ × Bool × List ℕ
+
+abbrev pub read : ℕ → Bool → List ℕ → Call
+read at ok bytes = (0, at, ok, bytes)
+
+abbrev pub wrote : ℕ → Bool → List ℕ → Call
+wrote at ok bytes = (1, at, ok, bytes)
+
+abbrev pub synced : Bool → Call
+synced ok = (2, 0, ok, [])
+
+-- the call that these numbers name, of which the third is 1 for success
+abbrev pub call_of : List ℕ → List ℕ → Call
+call_of numbers bytes = (slice_index numbers 0, slice_index numbers 1, slice_index numbers 2 == 1, bytes)
+
+-- What no call tells of a file: its bytes when it was opened, and those that each write which failed left in its range, by the
+-- number of calls before it.
+pub record Story : Type 0 where
+  pub first : List ℕ
+  pub left : ℕ → List ℕ
+
+-- what a write leaves that failed: in its range these bytes, which no sync has made stable
+abbrev pub torn_by : Held → ℕ → List ℕ → List ℕ → Held
+torn_by h at bytes left = record { now = overwritten h.now at left; synced = h.synced; since = record { at = at; bytes = bytes } ∷ h.since }
+
+abbrev pub after_call : ℕ → ℕ → Bool → List ℕ → List ℕ → Held → Held
+after_call zero at ok bytes left h = h
+after_call (suc zero) at ok bytes left h = if ok then written h at bytes else torn_by h at bytes left
+after_call (suc (suc more)) at ok bytes left h = if ok then stable h.now else h
+
+-- the file's bytes after these calls, of which the newest comes first
+abbrev pub replay : Story → List Call → Held
+replay story [] = stable story.first
+replay story (call ∷ calls) = after_call call.0 call.1 call.2 call.3 (story.left (length calls)) (replay story calls)
+
+-- A read that succeeded gave the bytes that the file has by the calls before it. A write lies within the file, and where it failed
+-- its range holds what the story says.
+abbrev pub Agrees : ℕ → ℕ → Bool → List ℕ → List ℕ → List ℕ → List ℕ → Type 0
+Agrees zero at ok bytes left first now = IsTrue ok → bytes ≡ part now at (length bytes)
+Agrees (suc zero) at ok bytes left first now = (at + length bytes ≤ length first) × (AreBytes bytes × ((length left ≡ length bytes) × AreBytes left))
+Agrees (suc (suc more)) at ok bytes left first now = Unit {0}
+
+-- The calls are those of a file that keeps to the disk model, which had these bytes when it was opened.
+abbrev pub IsHonest : Story → List Call → Type 0
+IsHonest story [] = AreBytes story.first
+IsHonest story (call ∷ calls) = Agrees call.0 call.1 call.2 call.3 (story.left (length calls)) story.first (replay story calls).now × IsHonest story calls
+
+-- what a crash may have left after at least t of the calls
+abbrev pub left_since : Story → List Call → ℕ → List ℕ → Type 0
+left_since story [] t c = (t ≤ 0) × MayLeave (stable story.first) c
+left_since story (call ∷ calls) t c = ((t ≤ length calls + 1) × MayLeave (replay story (call ∷ calls)) c) ⊎ left_since story calls t c
+
+-- how many of them failed
+abbrev pub failed : List Call → ℕ
+failed [] = 0
+failed (call ∷ calls) = if call.2 then failed calls else next_count (failed calls)
+
+-- honest calls
+pub record Told (story : Story) : Type 0 where
+  pub calls : List Call
+  pub honest : IsHonest story calls
+
+-- the disk that they tell of
+abbrev pub told : (story : Story) → disk.Ghosts (Told story)
+told story = record {
+  size = λ d. length story.first;
+  seen = λ d. (replay story d.calls).now;
+  is_honest = λ d. true;
+  failures = λ d. failed d.calls;
+  clock = λ d. length d.calls;
+  may_leave = λ d. MayLeave (replay story d.calls);
+  left_since = λ d. left_since story d.calls;
+}
