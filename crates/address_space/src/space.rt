@@ -21,6 +21,7 @@ use crate::pieces::Pieces;
 use crate::row::segment_rows;
 use crate::sheet::Sheet;
 use crate::source::{PieceKind, Source};
+use crate::stretches::Stretches;
 use crate::strings::Strings;
 use crate::table::Table;
 use core_notes::Files;
@@ -64,6 +65,7 @@ impl<'a> AddressSpace<'a> {
     ghost use Rattle.address_space.specs.StringWords.{strings_left};
     ghost use Rattle.address_space.specs.SpaceWords.{space_of, space_view};
     ghost use Rattle.address_space.specs.PieceWords.{pieces_left, mappings_left};
+    ghost use Rattle.address_space.specs.StretchesWords.{AreLeft};
 
     /// The memory that the core's program headers tell of, with the mapped files that its NT_FILE names. No executable
     /// is attached.
@@ -148,6 +150,15 @@ impl<'a> AddressSpace<'a> {
         ensures { pieces_left result ≡ pieces_of (space_of self.now) first length }
     {
         Pieces::new(self, first, length)
+    }
+
+    /// The same without the bytes that the core has: where in its image they stand. The core may be the first bytes alone of an image of
+    /// `size` bytes. What any such image shows of a stretch is the piece of that image.
+    pub fn stretches(&self, size: u64, first: u64, length: u64) -> Stretches<'_, 'a>
+        requires { first + length ≤ 2 ^ 64 }
+        ensures { AreLeft (space_of self.now) (image_of self.now.elf) size first length result }
+    {
+        Stretches::new(self, size, first, length)
     }
 
     /// Every address at which the bytes occur, by the number of the segment that decides it and then by itself.
