@@ -220,3 +220,7 @@ pub narrowed : (size first n other m start past : ℕ) → ((a : ℕ) → other 
 narrowed size first n other m start past fits [] all = tt
 narrowed size first n other m start past fits (s ∷ ss) all =
     (λ a after before. all.0 a (fits a after before).0 (fits a after before).1, narrowed size first n other m start past fits ss all.1)
+
+pub widened : (size first n start past from upto : ℕ) (ss : List SegmentView) → from ≤ start → past ≤ upto → AreHeldWithin size first n start past ss → AreHeldWithin size first n from upto ss
+widened size first n start past from upto [] low high all = tt
+widened size first n start past from upto (s ∷ ss) low high all = (still_within size first n start past from upto s all.0 low high, widened size first n start past from upto ss low high all.1)

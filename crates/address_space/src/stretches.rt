@@ -14,7 +14,7 @@ use elf_view::{Elf, Segment, Segments};
 pub struct ImageRange {
     /// The first place.
     pub start: u64,
-    /// The place after the last. There is none if this is not past the first.
+    /// The place after the last.
     pub past: u64,
 }
 
@@ -27,7 +27,8 @@ const NOWHERE: ImageRange = ImageRange {
 // The places that have the bytes of `length` addresses from `first` on, as far as the segment's file range in an image of `size`
 // bytes has them.
 fn held_by(segment: &Segment<'_>, size: u64, first: u64, length: u64) -> ImageRange
-    ensures { IsHeldWithin size first length result.start result.past (segment_view segment.now) }
+    ensures held { IsHeldWithin size first length result.start result.past (segment_view segment.now) }
+    ensures within { result.past ≤ size }
 {
     if !segment.is_load() {
         return NOWHERE;
@@ -48,7 +49,8 @@ fn held_by(segment: &Segment<'_>, size: u64, first: u64, length: u64) -> ImageRa
 
 // The places that have the bytes of `length` addresses from `first` on, in the file ranges of these segments.
 fn held_by_any(mut segments: Segments<'_>, size: u64, first: u64, length: u64) -> ImageRange
-    ensures { AreHeldWithin size first length result.start result.past (segments_left segments.entry) }
+    ensures held { AreHeldWithin size first length result.start result.past (segments_left segments.entry) }
+    ensures within { result.past ≤ size }
 {
     let mut held = NOWHERE;
     while let Some(segment) = segments.next() {
@@ -64,9 +66,14 @@ fn held_by_any(mut segments: Segments<'_>, size: u64, first: u64, length: u64) -
 /// The places of an image of `size` bytes from the first to the last that has the byte of one of `length` addresses from `first`
 /// on. The core is that image, or its first bytes.
 pub fn image_range(elf: &Elf<'_>, size: u64, first: u64, length: u64) -> ImageRange
-    ensures { AreHeldWithin size first length result.start result.past (segments_of (image_of elf.now)) }
+    ensures held { AreHeldWithin size first length result.start result.past (segments_of (image_of elf.now)) }
+    ensures within { (result.start ≤ result.past) × (result.past ≤ size) }
 {
-    held_by_any(elf.segments(), size, first, length)
+    let held = held_by_any(elf.segments(), size, first, length);
+    ImageRange {
+        start: held.start.min(held.past),
+        past: held.past,
+    }
 }
 
 /// The stretches of a range of addresses, in rising order.
