@@ -1,7 +1,7 @@
 pub mod Scanning
 pub mod Naming
 pub mod Places
-pub mod Stretches
+pub mod Piecing
 pub mod Loads
 pub mod Values
 pub mod Ordering
@@ -16,3 +16,4 @@ pub mod Extents
 pub mod Layering
 pub mod Sheets
 pub mod Leaping
+pub mod Filled

@@ -171,7 +171,7 @@ unfolding segment_from
 segment_held b p = omega (arith, length-take (segment_from b p).filesz (drop (segment_from b p).offset b))
 
 -- what holds of each item that is made holds of the one that is found
-found_among : {A : Type 0} (P : A → Type 0) (f : ℕ → A) → ((k : ℕ) → P (f k)) → (test : A → Bool) (i k n : ℕ) (d : ℕ × A) → first_from test i (map f (range_with_len k n)) ≡ Some d → P d.1
+pub found_among : {A : Type 0} (P : A → Type 0) (f : ℕ → A) → ((k : ℕ) → P (f k)) → (test : A → Bool) (i k n : ℕ) (d : ℕ × A) → first_from test i (map f (range_with_len k n)) ≡ Some d → P d.1
 found_among P f each test i k zero d h = absurd (none-some d h)
 found_among {A = A} P f each test i k (suc n) d h =
     elim (cases_Bool (test (f k))) as (λ _. P d.1) [

@@ -8,6 +8,9 @@ pub mod Layers
 pub mod Orders
 pub mod MappedFiles
 pub mod SourceWords
+pub mod Whole
+pub mod StretchWords
+pub mod StretchesWords
 pub mod AttachedWords
 pub mod PathWords
 pub mod SpaceWords

@@ -1,5 +1,5 @@
 -- What the code's address space stands for.
-use Rattle.std.specs.Prelude.{List, map, Option}
+use Rattle.std.specs.Prelude.{ℕ, List, map, Option}
 use Rattle.elf_view.specs.Header.{segments_of}
 use Rattle.elf_view.specs.ViewWords.{image_of}
 use Rattle.elf_view.specs.declared.view.Elf.{Elf}
@@ -15,3 +15,7 @@ space_view elf files executables = record { segments = segments_of (image_of elf
 
 unfoldable pub space_of : AddressSpace → Space
 space_of s = space_view s.elf s.files (map attached_view s.executables.list.items)
+
+-- the bytes of the core
+abbrev pub core_of : AddressSpace → List ℕ
+core_of s = image_of s.elf

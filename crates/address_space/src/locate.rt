@@ -1,5 +1,5 @@
 // How many addresses from one on are of one place, and what stands there.
-ghost use Rattle.std.specs.Prelude.{◌≡◌, ◌+◌, ◌-◌, ◌^◌, ◌<◌, ◌≤◌, ℕ, List, Some, IfSome, length, map, slice_get};
+ghost use Rattle.std.specs.Prelude.{◌≡◌, ◌+◌, ◌-◌, ◌^◌, ◌<◌, ◌≤◌, ℕ, List, Some, IfSome, length, map, min, slice_get};
 ghost use Rattle.std.specs.List.Sorted.{IsPermutation};
 ghost use Rattle.std.specs.Option.{option_map};
 ghost use Rattle.elf_view.specs.Field.{part};
@@ -15,13 +15,15 @@ ghost use Rattle.address_space.specs.Layers.{IsSheet, holder};
 ghost use Rattle.address_space.specs.Ranges.{IsAlike, IsFull, IsStretch, place_number};
 ghost use Rattle.address_space.specs.ScanWords.{decided_view, row_view};
 ghost use Rattle.address_space.specs.SourceWords.{kind_view, spot_view};
+ghost use Rattle.address_space.specs.Whole.{AreHeldWithin, IsFrontOf, filled, space_in};
+ghost use Rattle.address_space.specs.StretchWords.{IsFrom, IsWithin, shown_in};
 
 use crate::scan::{Decided, first_file, first_segment};
-use crate::source::{FileSpot, PieceKind};
+use crate::source::{FileSpot, PieceKind, StretchKind};
 use crate::space::AddressSpace;
 use crate::table::Table;
 use core_notes::FileMap;
-use elf_view::{Segment, part};
+use elf_view::{Segment, a_sound_front_is_enough, part};
 
 /// Addresses of one place.
 #[derive(Clone, Copy, Debug)]
@@ -32,6 +34,37 @@ pub(crate) struct Located<'a> {
     pub length: u64,
     /// What stands there.
     pub kind: PieceKind<'a>,
+}
+
+/// Addresses of one place, and where in an image their bytes stand.
+#[derive(Clone, Copy, Debug)]
+pub(crate) struct Placed<'a> {
+    /// The number of the segment that decides them.
+    pub number: Option<u64>,
+    /// How many there are.
+    pub length: u64,
+    /// Where their bytes stand.
+    pub kind: StretchKind<'a>,
+}
+
+/// What of the segment's file range lies in an image of `size` bytes.
+fn held(segment: &Segment<'_>, size: u64) -> u64
+    ensures { result ≡ min segment.now.filesz (size - segment.now.offset) }
+{
+    segment.filesz.min(size.saturating_sub(segment.offset))
+}
+
+/// The bytes of addresses of one place, in the image in which they stand.
+fn read_in<'a>(image: &'a [u8], length: u64, kind: StretchKind<'a>) -> PieceKind<'a>
+    ensures { kind_view result ≡ shown_in image.now length kind.entry }
+{
+    match kind {
+        StretchKind::Core { offset } => PieceKind::Bytes(part(image, offset, length)),
+        StretchKind::FromFile(bytes) => PieceKind::FromFile(bytes),
+        StretchKind::NotDumped(spot) => PieceKind::NotDumped(spot),
+        StretchKind::Cut => PieceKind::Cut,
+        StretchKind::Unmapped => PieceKind::Unmapped,
+    }
 }
 
 impl<'a> AddressSpace<'a> {
@@ -49,30 +82,31 @@ impl<'a> AddressSpace<'a> {
 
     /// What stands at addresses that the entry maps and the core has no bytes for, and how many of the `limit` are of
     /// one place.
-    fn locate_in_file(&self, file: FileMap<'a>, at: u64, limit: u64) -> (PieceKind<'a>, u64)
+    fn locate_in_file(&self, file: FileMap<'a>, at: u64, limit: u64) -> (StretchKind<'a>, u64)
         requires some { 0 < limit }
         requires first { file.start ≤ at }
         requires last { at < file.past }
         ensures stretch { (i j : ℕ) → IsStretch (λ b. source.filed b i (j, file_view file.entry)
             (source.executable_named (space_of self.now) file.entry.name.now)) at limit result.1 }
-        ensures content { (i j : ℕ) → source.content_by (λ bytes k. part bytes k result.1) at
+        ensures content { (b : List ℕ) (i j : ℕ) → source.content_by (λ bytes k. part bytes k result.1) at
             (source.filed at i (j, file_view file.entry) (source.executable_named (space_of self.now) file.entry.name.now))
-            ≡ kind_view result.0 }
-        ensures full { IsFull result.1 (kind_view result.0) }
+            ≡ shown_in b result.1 result.0 }
+        ensures elsewhere { (size a : ℕ) (s : SegmentView) → IsFrom size s a result.1 result.0 }
+        ensures full { (b : List ℕ) → IsFull result.1 (shown_in b result.1 result.0) }
     {
         let offset = file.offset + (at - file.start);
         if let Some(image) = self.image_named(file.name) {
             let size = image.len() as u64;
             if offset < size {
                 let length = limit.min(size - offset);
-                return (PieceKind::FromFile(part(image, offset, length)), length);
+                return (StretchKind::FromFile(part(image, offset, length)), length);
             }
         }
         let spot = FileSpot {
             name: file.name,
             offset,
         };
-        (PieceKind::NotDumped(Some(spot)), limit)
+        (StretchKind::NotDumped(Some(spot)), limit)
     }
 
     /// The same as `file_at`, by a scan of the entries.
@@ -193,42 +227,83 @@ impl<'a> AddressSpace<'a> {
     }
 
     /// What stands at addresses of a segment that has no bytes for them, and how many of the `limit` are of one place.
-    fn locate_undumped(&self, at: u64, limit: u64) -> (PieceKind<'a>, u64)
+    fn locate_undumped(&self, at: u64, limit: u64) -> (StretchKind<'a>, u64)
         requires { 0 < limit }
         ensures stretch { (i : ℕ) → IsStretch (λ b. source.undumped (space_of self.now) b i
             (source.entry_at (space_of self.now) b)) at limit result.1 }
-        ensures content { (i : ℕ) → source.content_by (λ bytes k. part bytes k result.1) at
-            (source.undumped (space_of self.now) at i (source.entry_at (space_of self.now) at)) ≡ kind_view result.0 }
-        ensures full { IsFull result.1 (kind_view result.0) }
+        ensures content { (b : List ℕ) (i : ℕ) → source.content_by (λ bytes k. part bytes k result.1) at
+            (source.undumped (space_of self.now) at i (source.entry_at (space_of self.now) at)) ≡ shown_in b result.1 result.0 }
+        ensures elsewhere { (size a : ℕ) (s : SegmentView) → IsFrom size s a result.1 result.0 }
+        ensures full { (b : List ℕ) → IsFull result.1 (shown_in b result.1 result.0) }
     {
         let (file, length) = self.file_at(at, limit);
         match file {
             Some(file) => self.locate_in_file(file, at, length),
-            None => (PieceKind::NotDumped(None), length),
+            None => (StretchKind::NotDumped(None), length),
         }
     }
 
-    /// What stands at addresses that the segment decides, and how many of the `limit` are of one place.
-    fn locate_within(&self, segment: Segment<'a>, at: u64, limit: u64) -> (PieceKind<'a>, u64)
+    /// Where in an image of `size` bytes those of addresses stand that the segment decides, and how many of the `limit` are of one
+    /// place.
+    fn locate_within(
+        &self,
+        size: u64,
+        segment: Segment<'a>,
+        at: u64,
+        limit: u64,
+    ) -> (StretchKind<'a>, u64)
         requires some { 0 < limit }
         requires first { segment.vaddr ≤ at }
-        requires held { length segment.bytes.now ≤ segment.filesz }
-        ensures stretch { (i : ℕ) → IsStretch (λ b. source.placed (space_of self.now) b
-            (Some (i, segment_view segment.entry))) at limit result.1 }
-        ensures content { (i : ℕ) → source.content_by (λ bytes k. part bytes k result.1) at
-            (source.placed (space_of self.now) at (Some (i, segment_view segment.entry))) ≡ kind_view result.0 }
-        ensures full { IsFull result.1 (kind_view result.0) }
+        ensures stretch { (b : List ℕ) (i : ℕ) → length b ≡ size → IsStretch (λ a. source.placed (space_of self.now) a
+            (Some (i, filled b (segment_view segment.entry)))) at limit result.1 }
+        ensures content { (b : List ℕ) (i : ℕ) → length b ≡ size → source.content_by (λ bytes k. part bytes k result.1) at
+            (source.placed (space_of self.now) at (Some (i, filled b (segment_view segment.entry)))) ≡ shown_in b result.1 result.0 }
+        ensures full { (b : List ℕ) → length b ≡ size → IsFull result.1 (shown_in b result.1 result.0) }
+        ensures count { (0 < result.1) × (result.1 ≤ limit) }
+        ensures from { IsFrom size (segment_view segment.entry) at result.1 result.0 }
     {
         let place = at - segment.vaddr;
         if place >= segment.filesz {
             return self.locate_undumped(at, limit);
         }
-        let size = segment.bytes.len() as u64;
-        if place >= size {
-            return (PieceKind::Cut, limit.min(segment.filesz - place));
+        let held = held(&segment, size);
+        if place >= held {
+            return (StretchKind::Cut, limit.min(segment.filesz - place));
         }
-        let length = limit.min(size - place);
-        (PieceKind::Bytes(part(segment.bytes, place, length)), length)
+        let offset = segment.offset + place;
+        (StretchKind::Core { offset }, limit.min(held - place))
+    }
+
+    /// Where in an image of `size` bytes, of which the space has the first, those of addresses from `at` on stand, and how many
+    /// of the `limit` are of one place.
+    pub(crate) fn place(&self, size: u64, at: u64, limit: u64) -> Placed<'a>
+        requires { 0 < limit }
+        ensures stretch { (b : List ℕ) → IsFrontOf (image_of self.now.elf) size b
+            → IsStretch (source.place_at (space_in b (space_of self.now))) at limit result.length }
+        ensures number { (b : List ℕ) → IsFrontOf (image_of self.now.elf) size b
+            → place_number (source.place_at (space_in b (space_of self.now)) at) ≡ result.number }
+        ensures content { (b : List ℕ) → IsFrontOf (image_of self.now.elf) size b
+            → content_from (space_in b (space_of self.now)) at result.length ≡ shown_in b result.length result.kind }
+        ensures full { (b : List ℕ) → length b ≡ size → IsFull result.length (shown_in b result.length result.kind) }
+        ensures count { (0 < result.length) × (result.length ≤ limit) }
+        ensures held { (start past : ℕ) → AreHeldWithin size at limit start past (segments_of (image_of self.now.elf))
+            → IsWithin start past result.length result.kind }
+    {
+        a_sound_front_is_enough();
+        let (decided, length) = self.decide(at, limit);
+        let Some(decided) = decided else {
+            return Placed {
+                number: None,
+                length,
+                kind: StretchKind::Unmapped,
+            };
+        };
+        let (kind, length) = self.locate_within(size, decided.segment, at, length);
+        Placed {
+            number: Some(decided.number),
+            length,
+            kind,
+        }
     }
 
     /// What stands at addresses from `at` on, and how many of the `limit` are of one place.
@@ -239,19 +314,12 @@ impl<'a> AddressSpace<'a> {
         ensures content { content_from (space_of self.now) at result.length ≡ kind_view result.kind }
         ensures full { IsFull result.length (kind_view result.kind) }
     {
-        let (decided, length) = self.decide(at, limit);
-        let Some(decided) = decided else {
-            return Located {
-                number: None,
-                length,
-                kind: PieceKind::Unmapped,
-            };
-        };
-        let (kind, length) = self.locate_within(decided.segment, at, length);
+        let image = self.elf.image();
+        let placed = self.place(image.len() as u64, at, limit);
         Located {
-            number: Some(decided.number),
-            length,
-            kind,
+            number: placed.number,
+            length: placed.length,
+            kind: read_in(image, placed.length, placed.kind),
         }
     }
 

@@ -49,3 +49,32 @@ pub struct Piece<'a> {
     /// What stands there.
     pub kind: PieceKind<'a>,
 }
+
+/// Where the bytes of addresses in a row stand.
+#[derive(Clone, Copy, Debug)]
+pub enum StretchKind<'a> {
+    /// In the core: the first at this place of its image, the others after it.
+    Core {
+        /// The place of the first.
+        offset: u64,
+    },
+    /// The core doesn't have them; these bytes are those of the executable that is attached for the mapped file.
+    FromFile(&'a [u8]),
+    /// The core has no bytes for them; where the first lies in the file that is mapped there.
+    NotDumped(Option<FileSpot<'a>>),
+    /// The core was cut before their bytes.
+    Cut,
+    /// No segment covers them.
+    Unmapped,
+}
+
+/// A piece without the bytes that the core has for it: where in the core's image these stand.
+#[derive(Clone, Copy, Debug)]
+pub struct Stretch<'a> {
+    /// The first address.
+    pub first: u64,
+    /// How many there are.
+    pub length: u64,
+    /// Where their bytes stand.
+    pub kind: StretchKind<'a>,
+}

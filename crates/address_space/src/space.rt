@@ -21,6 +21,7 @@ use crate::pieces::Pieces;
 use crate::row::segment_rows;
 use crate::sheet::Sheet;
 use crate::source::{PieceKind, Source};
+use crate::stretches::Stretches;
 use crate::strings::Strings;
 use crate::table::Table;
 use core_notes::Files;
@@ -62,14 +63,16 @@ impl<'a> AddressSpace<'a> {
     ghost use Rattle.address_space.specs.SourceWords.{source_view};
     ghost use Rattle.address_space.specs.FindWords.{matches_left};
     ghost use Rattle.address_space.specs.StringWords.{strings_left};
-    ghost use Rattle.address_space.specs.SpaceWords.{space_of, space_view};
+    ghost use Rattle.address_space.specs.SpaceWords.{core_of, space_of, space_view};
     ghost use Rattle.address_space.specs.PieceWords.{pieces_left, mappings_left};
+    ghost use Rattle.address_space.specs.StretchesWords.{AreLeft};
 
     /// The memory that the core's program headers tell of, with the mapped files that its NT_FILE names. No executable
     /// is attached.
     #[tactic(auto, unfolding(crate::specs::SpaceWords::space_of))]
     pub fn new(alloc: Global, elf: &Elf<'a>, files: Option<Files<'a>>) -> AddressSpace<'a>
-        ensures { space_of result ≡ space_view elf.now files.entry [] }
+        ensures same { space_of result ≡ space_view elf.now files.entry [] }
+        ensures core { core_of result ≡ image_of elf.now }
     {
         AddressSpace {
             elf: *elf,
@@ -93,6 +96,7 @@ impl<'a> AddressSpace<'a> {
         files: Option<Files<'a>>,
     ) -> Result<AddressSpace<'a>, AllocError>
         ensures same { IfOk result (λ space. space_of space ≡ space_view elf.now files.entry []) }
+        ensures core { IfOk result (λ space. core_of space ≡ image_of elf.now) }
         ensures table { IfOk result (λ space. IsTrue (has_table space) ↔ AreDisjoint (segments_of (image_of elf.now))) }
         ensures files { IfOk result (λ space. IsTrue (has_file_table space) ↔ AreFilesDisjoint (files_in files.entry)) }
     {
@@ -119,6 +123,7 @@ impl<'a> AddressSpace<'a> {
         ensures ok { OnOk result (space_of self.new
             ≡ with_executable (space_of self.old) path.entry.now (image_of elf.entry)) }
         ensures err { OnErr result (space_of self.new ≡ space_of self.old) }
+        ensures core { core_of self.new ≡ core_of self.old }
         ensures table { has_table self.new ≡ has_table self.old }
         ensures files { has_file_table self.new ≡ has_file_table self.old }
     {
@@ -148,6 +153,15 @@ impl<'a> AddressSpace<'a> {
         ensures { pieces_left result ≡ pieces_of (space_of self.now) first length }
     {
         Pieces::new(self, first, length)
+    }
+
+    /// The same without the bytes that the core has: where in its image they stand. The core may be the first bytes alone of an image of
+    /// `size` bytes. What any such image shows of a stretch is the piece of that image.
+    pub fn stretches(&self, size: u64, first: u64, length: u64) -> Stretches<'_, 'a>
+        requires { first + length ≤ 2 ^ 64 }
+        ensures { AreLeft (space_of self.now) (core_of self.now) size first length result }
+    {
+        Stretches::new(self, size, first, length)
     }
 
     /// Every address at which the bytes occur, by the number of the segment that decides it and then by itself.

@@ -27,6 +27,8 @@ mod shown;
 #[cfg(test)]
 mod small;
 #[cfg(test)]
+mod stretches;
+#[cfg(test)]
 mod symbol_faults;
 #[cfg(test)]
 mod symbol_refused;

@@ -3,7 +3,7 @@ use Rattle.address_space.specs.Source.{Content}
 use Rattle.address_space.specs.Pieces.{PieceView, pieces_of}
 use Rattle.address_space.specs.SourceWords.{kind_view}
 use Rattle.address_space.specs.SpaceWords.{space_of}
-use Rattle.address_space.proofs.Stretches.{next_piece, no_pieces, pieces_onward}
+use Rattle.address_space.proofs.Piecing.{next_piece, no_pieces, pieces_onward}
 use Rattle.address_space.proofs.pieces.PiecesIterator.next.Goals as goal
 
 pub returns-then-self-eq0-clause-steps : goal.returns-then-self-eq0-clause-steps

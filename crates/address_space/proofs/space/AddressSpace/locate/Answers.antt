@@ -1,43 +1,26 @@
-use Rattle.std.proofs.Common.{◌≡◌, ℕ, Some, None, Option, ap, ◌∙◌}
-use Rattle.elf_view.specs.Header.{SegmentView}
-use Rattle.elf_view.specs.Field.{part}
+use Rattle.std.proofs.Common.{ap, sym, subst, ◌∙◌}
 use Rattle.elf_view.specs.ViewWords.{image_of}
-use Rattle.address_space.specs.Source.{decider, content_by}
-use Rattle.address_space.specs.Ranges.{place_number}
-use Rattle.address_space.specs.SpaceWords.{space_of}
-use Rattle.address_space.specs.ScanWords.{decided_view}
-use Rattle.address_space.proofs.Places.{some_view, none_view, place_from, located_some, nowhere_all, placed_number, decider_held}
+use Rattle.address_space.specs.Source.{Space, place_at}
+use Rattle.address_space.specs.Pieces.{content_from}
+use Rattle.address_space.specs.Ranges.{IsStretch, place_number}
+use Rattle.address_space.proofs.Filled.{own_front, own_space}
 use Rattle.address_space.proofs.space.AddressSpace.locate.Goals as goal
-use Rattle.address_space.proofs.space.AddressSpace.locate.Goals.{In_default}
-
-none : (c : In_default) → decider (space_of c.args.self.now) c.args.at ≡ None
-none c = none_view decided_view c.decide-length.result.0 (decider (space_of c.args.self.now) c.args.at) c.in_default.is c.decide-length.ensures.first
-
-pub locate_within-length-requires-clause-held : goal.locate_within-length-requires-clause-held
-unfolding space_of decider
-locate_within-length-requires-clause-held c = decider_held (image_of c.args.self.now.elf) c.args.at (decided_view c.in-Some.decided) (some_view decided_view c.decide-length.result.0 c.in-Some.decided (decider (space_of c.args.self.now) c.args.at) c.in-Some.is c.decide-length.ensures.first)
-
-pub returns-in_default-clause-stretch : goal.returns-in_default-clause-stretch
-returns-in_default-clause-stretch c =
-    located_some (space_of c.args.self.now) c.args.at c.args.limit c.decide-length.result.1 c.decide-length.result.1 None (none c) c.decide-length.ensures.alike (nowhere_all (space_of c.args.self.now) c.args.at c.decide-length.result.1 c.decide-length.ensures.alike.some)
-
-pub returns-in_default-clause-number : goal.returns-in_default-clause-number
-returns-in_default-clause-number c = ap place_number (place_from (space_of c.args.self.now) c.args.at None (none c))
-
-pub returns-in_default-clause-content : goal.returns-in_default-clause-content
-returns-in_default-clause-content c =
-    ap (λ p. content_by (λ bytes k. part bytes k c.decide-length.result.1) c.args.at p) (place_from (space_of c.args.self.now) c.args.at None (none c))
 
 pub returns-clause-stretch : goal.returns-clause-stretch
 returns-clause-stretch c =
-    located_some (space_of c.args.self.now) c.args.at c.args.limit c.decide-length.result.1 c.locate_within-length.result.1 (Some (decided_view c.in-Some.decided)) (some_view decided_view c.decide-length.result.0 c.in-Some.decided (decider (space_of c.args.self.now) c.args.at) c.in-Some.is c.decide-length.ensures.first) c.decide-length.ensures.alike (c.locate_within-length.ensures.stretch c.in-Some.decided.number)
+    let image = c.image-image.result.now in
+    subst (λ (s : Space). IsStretch (place_at s) c.args.at c.args.limit c.place-placed.result.length) (own_space c.args.self.now image c.image-image.ensures)
+    (c.place-placed.ensures.stretch image (own_front (image_of c.args.self.now.elf) image c.image-image.ensures))
 
 pub returns-clause-number : goal.returns-clause-number
 returns-clause-number c =
-    let d : Option (ℕ × SegmentView) = Some (decided_view c.in-Some.decided) in
-    ap place_number (place_from (space_of c.args.self.now) c.args.at d (some_view decided_view c.decide-length.result.0 c.in-Some.decided (decider (space_of c.args.self.now) c.args.at) c.in-Some.is c.decide-length.ensures.first)) ∙ placed_number (space_of c.args.self.now) c.args.at d
+    let image = c.image-image.result.now in
+    ap (λ (s : Space). place_number (place_at s c.args.at)) (sym (own_space c.args.self.now image c.image-image.ensures))
+    ∙ c.place-placed.ensures.number image (own_front (image_of c.args.self.now.elf) image c.image-image.ensures)
 
 pub returns-clause-content : goal.returns-clause-content
 returns-clause-content c =
-    let d : Option (ℕ × SegmentView) = Some (decided_view c.in-Some.decided) in
-    ap (λ p. content_by (λ bytes k. part bytes k c.locate_within-length.result.1) c.args.at p) (place_from (space_of c.args.self.now) c.args.at d (some_view decided_view c.decide-length.result.0 c.in-Some.decided (decider (space_of c.args.self.now) c.args.at) c.in-Some.is c.decide-length.ensures.first)) ∙ c.locate_within-length.ensures.content c.in-Some.decided.number
+    let image = c.image-image.result.now in
+    ap (λ (s : Space). content_from s c.args.at c.place-placed.result.length) (sym (own_space c.args.self.now image c.image-image.ensures))
+    ∙ c.place-placed.ensures.content image (own_front (image_of c.args.self.now.elf) image c.image-image.ensures)
+    ∙ sym c.read_in.ensures

@@ -20,9 +20,9 @@ returns-in-Some-clause-stretch c i =
     (λ h. undumped_apart space at (at + c.file_at-length.result.1) i (entry_at space at) (entry_at space (at + c.file_at-length.result.1)) (alike.longest h))
 
 pub returns-in-Some-clause-content : goal.returns-in-Some-clause-content
-returns-in-Some-clause-content c i =
+returns-in-Some-clause-content c b i =
     let space = space_of c.args.self.now in
     let at = c.args.at in
     let file = file_view c.in-Some.file in
     let entry = with_number file_view c.file_at-length.result.0 c.in-Some.file (entry_at space at) c.in-Some.is c.file_at-length.ensures.first in
-    ap (λ e. content_by (λ bytes k. part bytes k c.locate_in_file.result.1) at (undumped space at i e)) entry.1 ∙ c.locate_in_file.ensures.content i entry.0
+    ap (λ e. content_by (λ bytes k. part bytes k c.locate_in_file.result.1) at (undumped space at i e)) entry.1 ∙ c.locate_in_file.ensures.content b i entry.0
