@@ -1,0 +1,4 @@
+pub mod Leb
+pub mod Pointers
+pub mod FieldNames
+pub mod ReadWords
