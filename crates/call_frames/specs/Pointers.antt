@@ -1,6 +1,6 @@
 -- Encoded pointers (LSB Core, "DWARF Exception Header Encoding"). The low four bits of an encoding tell how many bytes a
 -- pointer has and whether they are signed; the bits above tell what it is relative to.
-use Rattle.std.specs.Prelude.{ℕ, ◌+◌, ◌-◌, ◌*◌, ◌/◌, ◌%◌, ◌^◌, ◌==◌, ◌&&◌, ◌||◌, nat_le, if◌then◌else◌, Bool, List, length, drop, Option, None, Some}
+use Rattle.std.specs.Prelude.{ℕ, ◌+◌, ◌-◌, ◌*◌, ◌/◌, ◌%◌, ◌^◌, ◌==◌, ◌||◌, nat_le, if◌then◌else◌, Bool, List, length, drop, Option, None, Some}
 use Rattle.std.specs.Option.{option_and_then}
 use Rattle.elf_view.specs.Field.{field}
 

@@ -1,6 +1,8 @@
 //! Call frame information of an ELF64 image for RISC-V: the entries of `.eh_frame` and `.debug_frame`.
 #![tactic(auto)]
 
+mod augmentation;
+mod common;
 mod faults;
 mod leb;
 mod pointers;
