@@ -3,6 +3,8 @@ pub mod Pointers
 pub mod Chain
 pub mod Augmentation
 pub mod CommonEntry
+pub mod Entry
 pub mod FieldNames
 pub mod ReadWords
 pub mod CommonWords
+pub mod EntryWords

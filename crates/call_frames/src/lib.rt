@@ -3,8 +3,12 @@
 
 mod augmentation;
 mod common;
+mod entries;
 mod faults;
 mod leb;
 mod pointers;
+mod spots;
 
+pub use common::Cie;
+pub use entries::Entry;
 pub use faults::{CfiFault, CfiField};
