@@ -8,3 +8,5 @@ pub mod FieldNames
 pub mod ReadWords
 pub mod CommonWords
 pub mod EntryWords
+pub mod Walk
+pub mod WalkWords

@@ -8,6 +8,7 @@ mod faults;
 mod leb;
 mod pointers;
 mod spots;
+mod walk;
 
 pub use common::Cie;
 pub use entries::Entry;
