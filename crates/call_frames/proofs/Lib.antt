@@ -1,3 +1,4 @@
 pub mod Groups
 pub mod Letters
 pub mod SpotPlaces
+pub mod Search

@@ -10,3 +10,4 @@ pub mod CommonWords
 pub mod EntryWords
 pub mod Walk
 pub mod WalkWords
+pub mod Covering

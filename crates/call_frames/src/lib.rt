@@ -7,6 +7,7 @@ mod entries;
 mod faults;
 mod leb;
 mod pointers;
+mod spans;
 mod spots;
 mod walk;
 
