@@ -2,3 +2,5 @@ pub mod Groups
 pub mod Letters
 pub mod SpotPlaces
 pub mod Search
+pub mod Earliest
+pub mod Order

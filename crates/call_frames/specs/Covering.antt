@@ -1,5 +1,5 @@
 -- Which FDE describes an address: the first in the order of the section that covers it.
-use Rattle.std.specs.Prelude.{◌≡◌, ℕ, ◌+◌, ◌-◌, ◌^◌, ◌&&◌, nat_lt, nat_le, min, max, if◌then◌else◌, Bool, List, [], ◌∷◌, find, map, Option, None, Some}
+use Rattle.std.specs.Prelude.{ℕ, ◌+◌, ◌-◌, ◌^◌, ◌&&◌, nat_lt, nat_le, min, max, if◌then◌else◌, Bool, List, [], ◌∷◌, find, Option, None, Some}
 use Rattle.call_frames.specs.Entry.{TableView, EntryView}
 use Rattle.call_frames.specs.Walk.{entries_of}
 use Rattle.call_frames.specs.declared.spans.Span.{Span}
