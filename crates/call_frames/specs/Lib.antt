@@ -11,3 +11,6 @@ pub mod EntryWords
 pub mod Walk
 pub mod WalkWords
 pub mod Covering
+pub mod Tables
+pub mod Finding
+pub mod FindingWords

@@ -69,3 +69,14 @@ pub struct CfiFault {
     /// The number of the entry in its section, from 0 on.
     pub index: u64,
 }
+
+/// Why no entry is found for an address.
+#[derive(Clone, Copy, Debug, PartialEq, Eq, Error)]
+pub enum NoEntry {
+    /// The address is described by no entry.
+    #[error("NoEntry")]
+    Uncovered,
+    /// The address is described by no entry without a fault. This is the first fault of `.eh_frame`, else of `.debug_frame`.
+    #[error("{0}")]
+    Faulty(CfiFault),
+}

@@ -1,16 +1,23 @@
-//! Call frame information of an ELF64 image for RISC-V: the entries of `.eh_frame` and `.debug_frame`.
+//! Call frame information of an ELF64 image for RISC-V: which instructions describe the frame of the code at an address.
+//!
+//! [`CallFrames::read`] takes the entries of `.eh_frame` and `.debug_frame` of an image. [`CallFrames::find`] gives the one
+//! that describes an address, or the first fault of those that can't be read.
 #![tactic(auto)]
 
 mod augmentation;
+mod call_frames;
 mod common;
 mod entries;
 mod faults;
+mod indexed;
 mod leb;
 mod pointers;
 mod spans;
 mod spots;
+mod tables;
 mod walk;
 
+pub use call_frames::CallFrames;
 pub use common::Cie;
 pub use entries::Entry;
-pub use faults::{CfiFault, CfiField};
+pub use faults::{CfiFault, CfiField, NoEntry};
