@@ -7,6 +7,8 @@ mod attached;
 #[cfg(test)]
 mod chains;
 #[cfg(test)]
+mod entries;
+#[cfg(test)]
 mod lookups;
 #[cfg(test)]
 mod mapped;
@@ -16,6 +18,8 @@ mod memory;
 mod named;
 #[cfg(test)]
 mod paths;
+#[cfg(test)]
+mod real_entries;
 #[cfg(test)]
 mod real_frames;
 #[cfg(test)]
