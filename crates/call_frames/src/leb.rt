@@ -75,7 +75,7 @@ fn signed(text: &[u8]) -> Option<u64>
 
 /// The ULEB128 at the front, and the bytes behind it.
 #[tactic(auto, unfolding(crate::specs::Leb::uleb))]
-pub(crate) fn uleb(bytes: &[u8]) -> Option<(u64, &[u8])>
+pub fn uleb(bytes: &[u8]) -> Option<(u64, &[u8])>
     ensures { option_map (λ r. (r.0, r.1.now)) result ≡ spec.uleb bytes.now }
 {
     let (text, behind) = split_leb(bytes)?;
@@ -85,7 +85,7 @@ pub(crate) fn uleb(bytes: &[u8]) -> Option<(u64, &[u8])>
 
 /// The SLEB128 at the front, modulo 2^64, and the bytes behind it.
 #[tactic(auto, unfolding(crate::specs::Leb::sleb))]
-pub(crate) fn sleb(bytes: &[u8]) -> Option<(u64, &[u8])>
+pub fn sleb(bytes: &[u8]) -> Option<(u64, &[u8])>
     ensures { option_map (λ r. (r.0, r.1.now)) result ≡ spec.sleb bytes.now }
 {
     let (text, behind) = split_leb(bytes)?;
@@ -95,7 +95,7 @@ pub(crate) fn sleb(bytes: &[u8]) -> Option<(u64, &[u8])>
 
 /// As many bytes as the ULEB128 in front of them tells, and those behind them.
 #[tactic(auto, unfolding(crate::specs::Leb::sized))]
-pub(crate) fn sized(bytes: &[u8]) -> Option<(&[u8], &[u8])>
+pub fn sized(bytes: &[u8]) -> Option<(&[u8], &[u8])>
     ensures { option_map (λ r. (r.0.now, r.1.now)) result ≡ spec.sized bytes.now }
 {
     let (size, rest) = uleb(bytes)?;

@@ -21,3 +21,4 @@ pub use call_frames::CallFrames;
 pub use common::Cie;
 pub use entries::Entry;
 pub use faults::{CfiFault, CfiField, NoEntry};
+pub use leb::{sized, sleb, uleb};

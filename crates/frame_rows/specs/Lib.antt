@@ -1,0 +1,5 @@
+pub mod Rows
+pub mod Instructions
+pub mod Execution
+pub mod FieldNames
+pub mod Words
