@@ -24,7 +24,7 @@ static SECTIONS: &[u8] = b"\
     \0\0\0\0\0\0\0\0\0\0\0\0\0\0\0\0\0\0\0\0\0\0\0\0";
 
 /// The executable of the samples with these sections and their bytes behind its own, and some bytes changed.
-fn image(alloc: Global, changes: &[(usize, u8)]) -> Result<Vec<u8>, AllocError> {
+pub(crate) fn image(alloc: Global, changes: &[(usize, u8)]) -> Result<Vec<u8>, AllocError> {
     let mut out = executable(alloc)?;
     let headers = Vec::from_slice(alloc, &out[0x1000..0x10c0])?;
     out.extend_from_slice(NAMES)?;

@@ -27,6 +27,8 @@ mod real_symbols;
 #[cfg(test)]
 mod refused;
 #[cfg(test)]
+mod rows;
+#[cfg(test)]
 mod shown;
 #[cfg(test)]
 mod small;

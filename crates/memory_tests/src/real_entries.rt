@@ -234,15 +234,20 @@ fn check(
     Ok(())
 }
 
-#[test]
-fn eh_frame_is_found_by_its_name(rt: HostRuntime) -> Result<(), Fail> {
+/// The position-independent executable.
+pub(crate) fn executable(alloc: Global) -> Result<Vec<u8>, AllocError> {
     let parts = [
         (0, FRONT),
         (0x790, FRAMES),
         (0x1092, NAMES),
         (0x1130, SECTIONS),
     ];
-    let image = image(rt.alloc(), &parts)?;
+    image(alloc, &parts)
+}
+
+#[test]
+fn eh_frame_is_found_by_its_name(rt: HostRuntime) -> Result<(), Fail> {
+    let image = executable(rt.alloc())?;
     check(&rt, rt.alloc(), &image, ENTRIES)
 }
 
