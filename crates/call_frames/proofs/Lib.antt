@@ -4,3 +4,5 @@ pub mod SpotPlaces
 pub mod Search
 pub mod Earliest
 pub mod Order
+pub mod Walking
+pub mod Numbers

@@ -23,7 +23,7 @@ len_above true n m h = omega arith
 len_above false n m h = h
 
 -- no entry takes no bytes
-entry_len_above : (rest : List ℕ) → 0 < length rest → 0 < entry_len rest
+pub entry_len_above : (rest : List ℕ) → 0 < length rest → 0 < entry_len rest
 unfolding entry_len
 entry_len_above rest h = len_above (is_whole rest) (told_length rest) (length rest) h
 

@@ -14,3 +14,4 @@ pub mod Covering
 pub mod Tables
 pub mod Finding
 pub mod FindingWords
+pub mod Grammar
