@@ -3,3 +3,4 @@ pub mod Instructions
 pub mod Execution
 pub mod FieldNames
 pub mod Words
+pub mod Locations

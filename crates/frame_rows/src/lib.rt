@@ -6,8 +6,10 @@
 mod execution;
 mod faults;
 mod instructions;
+mod laws;
 mod operands;
 mod rows;
 
 pub use faults::RowField;
+pub use laws::a_row_lasts_to_the_next_location;
 pub use rows::{Cfa, Row, Rule};
