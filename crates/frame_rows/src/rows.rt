@@ -48,39 +48,11 @@ fn first_rules() -> [Rule; 32]
 {
     let none = Rule::Undefined;
     let same = Rule::Same;
+    let cfa = Rule::Value(0);
     [
-        none,
-        same,
-        Rule::Value(0),
-        same,
-        same,
-        none,
-        none,
-        none,
-        same,
-        same,
-        none,
-        none,
-        none,
-        none,
-        none,
-        none,
-        none,
-        none,
-        same,
-        same,
-        same,
-        same,
-        same,
-        same,
-        same,
-        same,
-        same,
-        same,
-        none,
-        none,
-        none,
-        none,
+        none, same, cfa, same, same, none, none, none, same, same, none, none, none, none, none,
+        none, none, none, same, same, same, same, same, same, same, same, same, same, none, none,
+        none, none,
     ]
 }
 

@@ -1,7 +1,7 @@
 //! The entries of a small `.eh_frame`, byte by byte.
 use call_frames::{CallFrames, CfiFault, CfiField, NoEntry};
 use elf_view::sample::executable;
-use elf_view::{Elf, Want};
+use elf_view::{Elf, Want, part};
 use std::alloc::{AllocError, Global};
 use std::process::Abort;
 use std::test::Fail;
@@ -23,19 +23,28 @@ static SECTIONS: &[u8] = b"\
     \x0b\0\0\0\x03\0\0\0\0\0\0\0\0\0\0\0\0\0\0\0\0\0\0\0\x12\x11\0\0\0\0\0\0\x15\0\0\0\0\0\0\0\
     \0\0\0\0\0\0\0\0\0\0\0\0\0\0\0\0\0\0\0\0\0\0\0\0";
 
+/// Writes some bytes from a place on, as far as there is room.
+pub(crate) fn put(out: &mut [u8], at: usize, bytes: &[u8]) {
+    for (i, byte) in bytes.iter().enumerate() {
+        if let Some(place) = out.get_mut(at.wrapping_add(i)) {
+            *place = *byte;
+        }
+    }
+}
+
 /// The executable of the samples with these sections and their bytes behind its own, and some bytes changed.
 pub(crate) fn image(alloc: Global, changes: &[(usize, u8)]) -> Result<Vec<u8>, AllocError> {
-    let mut out = executable(alloc)?;
-    let headers = Vec::from_slice(alloc, &out[0x1000..0x10c0])?;
+    let sample = executable(alloc)?;
+    let mut out = Vec::from_slice(alloc, &sample)?;
     out.extend_from_slice(NAMES)?;
     out.resize(0x1180, 0)?;
-    out.extend_from_slice(&headers)?;
+    out.extend_from_slice(part(&sample, 0x1000, 0xc0))?;
     out.extend_from_slice(SECTIONS)?;
-    out[0x800..0x84c].copy_from_slice(FRAMES);
-    out[40..48].copy_from_slice(&[0x80, 0x11, 0, 0, 0, 0, 0, 0]);
-    out[60..64].copy_from_slice(&[5, 0, 4, 0]);
+    put(&mut out, 0x800, FRAMES);
+    put(&mut out, 40, &[0x80, 0x11, 0, 0, 0, 0, 0, 0]);
+    put(&mut out, 60, &[5, 0, 4, 0]);
     for (at, byte) in changes {
-        out[*at] = *byte;
+        put(&mut out, *at, &[*byte]);
     }
     Ok(out)
 }

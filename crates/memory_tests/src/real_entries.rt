@@ -1,5 +1,6 @@
 //! Real executables, made by gcc for riscv64 Linux, without their code and data: their headers and their call frame
 //! information as they stand, zeros in between. What is expected of them is what `readelf --debug-dump=frames` says.
+use crate::entries::put;
 use call_frames::{CallFrames, NoEntry};
 use elf_view::{Elf, Want};
 use std::alloc::{AllocError, Global};
@@ -254,7 +255,7 @@ fn eh_frame_is_found_by_its_name(rt: HostRuntime) -> Result<(), Fail> {
 #[test]
 fn eh_frame_is_found_by_its_segment(rt: HostRuntime) -> Result<(), Fail> {
     let mut image = image(rt.alloc(), &[(0, FRONT), (0x790, FRAMES)])?;
-    image[40..48].fill(0);
+    put(&mut image, 40, &[0; 8]);
     check(&rt, rt.alloc(), &image, ENTRIES)
 }
 
