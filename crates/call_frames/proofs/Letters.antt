@@ -9,7 +9,7 @@ use Rattle.memchr.specs.Find.{IsFirstByte, is_byte}
 use Rattle.elf_view.proofs.NulPlaces.{found_at, found_none}
 use Rattle.call_frames.specs.Augmentation.{is_new_letter, are_letters, letter_size, encoding_with, encoding_among}
 
--- all bytes behind a place
+-- all bytes after a place
 pub all_behind : (xs : List ℕ) (k : ℕ) → take (length xs - k) (drop k xs) ≡ drop k xs
 all_behind xs k = take_all (length xs - k) (drop k xs) (omega (arith, length-drop k xs))
 

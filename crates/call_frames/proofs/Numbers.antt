@@ -46,7 +46,7 @@ leb_at bytes i at h =
           omega arith;
     }
 
--- a number and what is behind it
+-- a number and what is after it
 abbrev before : List ℕ → ℕ → ℕ × List ℕ
 before rest m = (m, rest)
 

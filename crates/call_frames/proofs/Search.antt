@@ -50,7 +50,7 @@ reach_above m (s ∷ ss) zero h = omega arith
 reach_above m (s ∷ ss) (suc i) h =
     let later = reach_above (max (last_of s) m) ss i (omega arith) in omega arith
 
--- where the greatest end up to a span is before the address, none up to it covers the address
+-- if the greatest end up to a span is before the address, none up to it covers the address
 pub unreached : (v m : ℕ) (ss : List Span) (i : ℕ) → v < 2 ^ 64 → i < length ss → get_or (greatest_ends m ss) i 0 < v → All (λ s. is_covering v s ≡ false) (take (suc i) ss)
 unreached v m [] i small h short = absurd (omega arith)
 unreached v m (s ∷ ss) zero small h short =

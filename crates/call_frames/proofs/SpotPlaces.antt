@@ -34,7 +34,7 @@ after (suc n) i p x xs h =
     let same : p + 1 + n ≡ p + suc n = omega arith in
     ap (λ k. spots_past k i (p + 1) xs) less ∙ spots_at n i (p + 1) xs ∙ ap (λ q. spots_past 0 i q (drop n xs)) same
 
--- the first spot, and those behind its entry
+-- the first spot, and those after its entry
 pub spots_step : (i p : ℕ) (rest : List ℕ) → is_end rest ≡ false → spots_past 0 i p rest ≡ (record { index = i; place = p }) ∷ spots_past 0 (i + 1) (p + entry_len rest) (drop (entry_len rest) rest)
 unfolding spots_past is_end
 spots_step i p [] h = absurd (false≢true (sym h))
@@ -59,7 +59,7 @@ spots_next b rest i p n is h size =
     ∙ ap (λ r. first ∷ spots_past 0 (i + 1) (p + entry_len rest) r) (ap (drop (entry_len rest)) is ∙ drop-drop (entry_len rest) p b)
     ∙ ap (λ k. first ∷ spots_past 0 (i + 1) (p + k) (drop (p + k) b)) (sym size)
 
--- something is left where an entry stands
+-- something is left if an entry stands
 pub some_left : (rest : List ℕ) → is_end rest ≡ false → 0 < length rest
 unfolding is_end
 some_left [] h = absurd (false≢true (sym h))

@@ -10,7 +10,7 @@ use Rattle.call_frames.specs.Pointers.{width_of}
 abbrev pub is_letter : ℕ → Bool
 is_letter x = x == 82 || x == 80 || x == 76 || x == 83
 
--- a letter that is none of those behind it
+-- a letter that is none of those after it
 unfoldable pub is_new_letter : ℕ → List ℕ → Bool
 is_new_letter x xs = is_letter x && not (list_any (λ y. y == x) xs)
 
@@ -24,14 +24,14 @@ abbrev pub is_augmentation : List ℕ → Bool
 is_augmentation [] = true
 is_augmentation (x ∷ xs) = x == 122 && are_letters xs
 
--- the bytes before the first NUL, which is to be among the first eight, and those behind it
+-- the bytes before the first NUL, which is to be among the first eight, and those after it
 unfoldable pub split_text : List ℕ → Option (List ℕ × List ℕ)
 split_text bytes = option_map (λ i. (take i bytes, drop (i + 1) bytes)) (position (is_byte 0) (take 8 bytes))
 
 abbrev pub if_augmentation : List ℕ × List ℕ → Option (List ℕ × List ℕ)
 if_augmentation parts = if is_augmentation parts.0 then Some parts else None
 
--- the augmentation string at the front, and the bytes behind it
+-- the augmentation string at the front, and the bytes after it
 unfoldable pub augmentation : List ℕ → Option (List ℕ × List ℕ)
 augmentation bytes = option_and_then if_augmentation (split_text bytes)
 
@@ -54,7 +54,7 @@ letter_size_by x bytes =
     else (if x == 80 then personality_size bytes
     else Some 1)
 
--- how many of the bytes at the front are a letter's data, where they are there and sound
+-- how many of the bytes at the front are a letter's data, if they are there and sound
 unfoldable pub letter_size : ℕ → List ℕ → Option ℕ
 letter_size x bytes =
     if x == 83 then Some 0
@@ -65,8 +65,8 @@ letter_size x bytes =
 abbrev pub encoding_with : ℕ → List ℕ → ℕ → ℕ
 encoding_with x bytes e = if x == 82 then slice_index bytes 0 else e
 
--- The data of the letters stand one behind another; what is left of them is passed over. The encoding of the FDEs'
--- pointers is that of R, where it is one of the letters.
+-- The data of the letters stand one after another; what is left of them is passed over. The encoding of the FDEs'
+-- pointers is that of R, if it is one of the letters.
 unfoldable pub encoding_among : ℕ → List ℕ → List ℕ → Option ℕ
 encoding_among e [] bytes = Some e
 encoding_among e (x ∷ xs) bytes =

@@ -1,4 +1,4 @@
--- A Common Information Entry (DWARF 5, 6.4.1; LSB Core, "The Common Information Entry Format"), from behind its CIE_id on.
+-- A Common Information Entry (DWARF 5, 6.4.1; LSB Core, "The Common Information Entry Format"), from after its CIE_id on.
 use Rattle.std.specs.Prelude.{ℕ, ◌==◌, ◌&&◌, ◌||◌, nat_eq, nat_le, if◌then◌else◌, Bool, true, false, List, [], ◌∷◌, drop, Option, None, Some, Result, Ok, Err}
 use Rattle.std.specs.Option.{option_and_then}
 use Rattle.std.specs.List.{starts_with}
@@ -15,7 +15,7 @@ abbrev pub is_version : Format → ℕ → Bool
 is_version EhFrame v = v == 1 || v == 3
 is_version DebugFrame v = v == 1 || v == 3 || v == 4
 
--- the version, the augmentation string, and the bytes behind them and the two sizes
+-- the version, the augmentation string, and the bytes after them and the two sizes
 pub record HeadView : Type 0 where
   pub version : ℕ
   pub letters : List ℕ
@@ -35,7 +35,7 @@ head_in format [] = Err fields.Version
 head_in format (version ∷ bytes) =
     if is_version format version then checked (augmentation bytes) fields.Augmentation (head_behind version) else Err fields.Version
 
--- the alignment factors, the return address register, and the bytes behind them
+-- the alignment factors, the return address register, and the bytes after them
 pub record FactorsView : Type 0 where
   pub code_align : ℕ
   pub data_align : ℕ
@@ -64,7 +64,7 @@ factors_in version bytes =
     checked (column_in version align.1) fields.ReturnColumn (λ column.
     Ok (record { code_align = code.0; data_align = align.0; column = column.0; rest = column.1 }))))
 
--- the encoding of the FDEs' pointers, 0 where none is told, and the bytes behind the augmentation data
+-- the encoding of the FDEs' pointers, 0 if none is told, and the bytes after the augmentation data
 pub record DataView : Type 0 where
   pub encoding : ℕ
   pub rest : List ℕ
@@ -86,7 +86,7 @@ pub record CieView : Type 0 where
   pub augmented : Bool
   pub program : List ℕ
 
--- there is augmentation data where there is a string
+-- there is augmentation data if there is a string
 abbrev pub is_augmented : List ℕ → Bool
 is_augmented [] = false
 is_augmented (z ∷ letters) = true

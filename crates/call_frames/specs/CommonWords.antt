@@ -1,4 +1,4 @@
--- What the code's parts of a CIE stand for.
+-- What the code's parts of a CIE mean.
 use Rattle.call_frames.specs.CommonEntry.{HeadView, FactorsView, DataView, CieView}
 use Rattle.call_frames.specs.declared.common.Head.{Head}
 use Rattle.call_frames.specs.declared.common.Factors.{Factors}

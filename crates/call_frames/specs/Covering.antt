@@ -34,7 +34,7 @@ abbrev pub earliest : ℕ → List Span → Option Span
 earliest v [] = None
 earliest v (s ∷ ss) = earliest_with v s (earliest v ss)
 
--- the last address that one covers, the greatest of all where it passes that
+-- the last address that one covers, the greatest of all if it passes that
 abbrev pub last_of : Span → ℕ
 last_of s = min (s.begin + (s.range - 1)) (2 ^ 64 - 1)
 

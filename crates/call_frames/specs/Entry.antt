@@ -19,7 +19,7 @@ pub record TableView : Type 0 where
   pub address : ℕ
   pub bytes : List ℕ
 
--- the length of an entry from behind the length on, which is that of 32-bit DWARF: below 0xfffffff0
+-- the length of an entry from after the length on, which is that of 32-bit DWARF: below 0xfffffff0
 abbrev pub told_length : List ℕ → ℕ
 told_length rest = field rest 0 4
 
@@ -51,7 +51,7 @@ abbrev pub cie_place : Format → ℕ → ℕ → Option ℕ
 cie_place EhFrame p id = if nat_le id (p + 4) then Some (p + 4 - id) else None
 cie_place DebugFrame p id = Some id
 
--- the CIE that is an entry's bytes, where it is one without a fault
+-- the CIE that is an entry's bytes, if it is one without a fault
 abbrev pub cie_body : Format → List ℕ → Option CieView
 cie_body format body = if is_cie format body then result_ok (cie_in format (drop 4 body)) else None
 
@@ -76,7 +76,7 @@ pub record EntryView : Type 0 where
 abbrev pub begin_address : TableView → ℕ → ℕ
 begin_address t p = (t.address + (p + 8)) % 2 ^ 64
 
--- the bytes behind the augmentation data, where the CIE tells of some
+-- the bytes after the augmentation data, if the CIE tells of some
 unfoldable pub behind_data : Bool → List ℕ → Option (List ℕ)
 behind_data augmented bytes = if augmented then option_map (λ (parts : List ℕ × List ℕ). parts.1) (sized bytes) else Some bytes
 

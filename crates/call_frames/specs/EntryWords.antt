@@ -1,4 +1,4 @@
--- What the code's tables and entries stand for.
+-- What the code's tables and entries mean.
 use Rattle.call_frames.specs.CommonWords.{cie_view}
 use Rattle.call_frames.specs.Entry.{TableView, EntryView}
 use Rattle.call_frames.specs.declared.entries.Entry.{Entry}

@@ -9,7 +9,7 @@ use Rattle.call_frames.specs.declared.faults.CfiFault.{CfiFault}
 use Rattle.call_frames.specs.declared.faults.NoEntry.{NoEntry}
 use Rattle.call_frames.specs.declared.faults.NoEntry.TheVariants.{Uncovered, Faulty}
 
--- where no FDE is found, a fault may hide one
+-- if no FDE is found, a fault may hide one
 abbrev pub answer : Option EntryView → Option CfiFault → Result EntryView NoEntry
 answer (Some entry) fault = Ok entry
 answer None (Some fault) = Err (Faulty fault)

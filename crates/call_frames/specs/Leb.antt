@@ -7,7 +7,7 @@ use Rattle.std.specs.List.{position}
 abbrev pub is_last : ℕ → Bool
 is_last x = nat_lt x 128
 
--- The bytes of the number at the front, and those behind it. It has at most ten bytes.
+-- The bytes of the number at the front, and those after it. It has at most ten bytes.
 unfoldable pub split_leb : List ℕ → Option (List ℕ × List ℕ)
 split_leb bytes = option_map (λ i. (take (i + 1) bytes, drop (i + 1) bytes)) (position is_last (take 10 bytes))
 
@@ -34,7 +34,7 @@ signed text =
     if is_negative text then (if nat_le (below_zero text) (2 ^ 63) then Some (2 ^ 64 - below_zero text) else None)
     else (if nat_lt (groups text) (2 ^ 63) then Some (groups text) else None)
 
--- the number at the front, and the bytes behind it
+-- the number at the front, and the bytes after it
 abbrev pub with_behind : (List ℕ → Option ℕ) → (List ℕ × List ℕ) → Option (ℕ × List ℕ)
 with_behind number parts = option_map (λ n. (n, parts.1)) (number parts.0)
 
@@ -44,7 +44,7 @@ uleb bytes = option_and_then (with_behind unsigned) (split_leb bytes)
 unfoldable pub sleb : List ℕ → Option (ℕ × List ℕ)
 sleb bytes = option_and_then (with_behind signed) (split_leb bytes)
 
--- as many bytes as a ULEB128 in front of them tells, and those behind them
+-- as many bytes as a ULEB128 in front of them tells, and those after them
 abbrev pub split_sized : ℕ × List ℕ → Option (List ℕ × List ℕ)
 split_sized n = if nat_le n.0 (length n.1) then Some (take n.0 n.1, drop n.0 n.1) else None
 

@@ -35,11 +35,11 @@ number_of encoding w bytes = if is_signed encoding then extended w (field bytes 
 unfoldable pub target : ℕ → ℕ → ℕ → ℕ
 target encoding a v = if is_relative encoding then (v + a) % 2 ^ 64 else v
 
--- the w bytes at the front as a number by f, where they are there, and the bytes behind them
+-- the w bytes at the front as a number by f, if they are there, and the bytes after them
 abbrev pub number_behind : (ℕ → ℕ) → List ℕ → ℕ → Option (ℕ × List ℕ)
 number_behind f bytes w = if nat_le w (length bytes) then Some (f w, drop w bytes) else None
 
--- the pointer at the front, whose first byte has address a, and the bytes behind it
+-- the pointer at the front, whose first byte has address a, and the bytes after it
 unfoldable pub pointer : ℕ → ℕ → List ℕ → Option (ℕ × List ℕ)
 pointer encoding a bytes = option_and_then (number_behind (λ w. target encoding a (number_of encoding w bytes)) bytes) (width_of encoding)
 

@@ -1,4 +1,4 @@
--- What the code's numbers and stretches, with the bytes behind them, stand for.
+-- What the code's numbers and stretches, with the bytes after them, mean.
 use Rattle.std.specs.Prelude.{ℕ}
 use Rattle.call_frames.specs.declared.pointers.Width.{Width}
 use Rattle.call_frames.specs.declared.pointers.Width.TheVariants.{Two, Four, Eight}

@@ -1,4 +1,4 @@
--- The entries of a table, one behind another, and the first fault among them.
+-- The entries of a table, one after another, and the first fault among them.
 use Rattle.std.specs.Prelude.{ℕ, zero, suc, ◌+◌, ◌-◌, ◌==◌, ◌&&◌, ◌||◌, nat_le, if◌then◌else◌, Bool, List, [], ◌∷◌, length, Option, None, Some, Result, Ok, Err}
 use Rattle.std.specs.Option.{option_or}
 use Rattle.call_frames.specs.Entry.{TableView, EntryView, told_length, is_whole, entry_at}
@@ -30,7 +30,7 @@ abbrev pub sound_entry : Result (Option EntryView) CfiField → Option EntryView
 sound_entry (Ok entry) = entry
 sound_entry (Err f) = None
 
--- one entry, where there is one, before others
+-- one entry, if there is one, before others
 abbrev pub with_entry : Option EntryView → List EntryView → List EntryView
 with_entry None entries = entries
 with_entry (Some entry) entries = entry ∷ entries

@@ -18,7 +18,7 @@ fn is_letter(letter: u8) -> bool
     matches!(letter, b'R' | b'P' | b'L' | b'S')
 }
 
-/// Whether a letter is known, and none of those behind it.
+/// Whether a letter is known, and none of those after it.
 #[tactic(auto, unfolding(crate::specs::Augmentation::is_new_letter))]
 fn is_new_letter(letter: u8, others: &[u8]) -> bool
     ensures { result ≡ spec.is_new_letter letter others.now }
@@ -55,7 +55,7 @@ fn nul_place(bytes: &[u8]) -> Option<usize>
     memchr(0, bytes)
 }
 
-/// The bytes before the first NUL, which is to be among the first eight, and those behind it.
+/// The bytes before the first NUL, which is to be among the first eight, and those after it.
 #[tactic(auto, unfolding(crate::specs::Augmentation::split_text))]
 fn split_text(bytes: &[u8]) -> Option<(&[u8], &[u8])>
     ensures { option_map (λ r. (r.0.now, r.1.now)) result ≡ spec.split_text bytes.now }
@@ -65,7 +65,7 @@ fn split_text(bytes: &[u8]) -> Option<(&[u8], &[u8])>
     Some((&bytes[..end], &bytes[end + 1..]))
 }
 
-/// The augmentation string at the front, and the bytes behind it.
+/// The augmentation string at the front, and the bytes after it.
 #[tactic(auto, unfolding(crate::specs::Augmentation::augmentation))]
 pub(crate) fn augmentation(bytes: &[u8]) -> Option<(&[u8], &[u8])>
     ensures { option_map (λ r. (r.0.now, r.1.now)) result ≡ spec.augmentation bytes.now }
@@ -101,7 +101,7 @@ fn personality_size(bytes: &[u8]) -> Option<usize>
     Some(size)
 }
 
-/// How many of the bytes at the front are a letter's data, where they are there and sound.
+/// How many of the bytes at the front are a letter's data, if they are there and sound.
 #[tactic(auto, unfolding(crate::specs::Augmentation::letter_size))]
 fn letter_size(letter: u8, bytes: &[u8]) -> Option<usize>
     ensures size { result ≡ spec.letter_size letter bytes.now }
@@ -133,7 +133,7 @@ fn encoding_with(letter: u8, bytes: &[u8], encoding: u8) -> u8
     }
 }
 
-/// The encoding of the FDEs' pointers, where the data of the letters are sound.
+/// The encoding of the FDEs' pointers, if the data of the letters are sound.
 pub(crate) fn encoding_among(letters: &[u8], bytes: &[u8]) -> Option<u8>
     ensures { result ≡ spec.encoding_among 0 letters.now bytes.now }
 {

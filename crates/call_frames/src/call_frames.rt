@@ -21,10 +21,10 @@ pub struct CallFrames<'a> {
 impl<'a> CallFrames<'a> {
     ghost use Rattle.call_frames.specs.FindingWords.{eh_frame_in, debug_frame_in, found};
 
-    /// Reads the call frame information of an image: that of the section `.eh_frame`, or where there is none of what the
-    /// first PT_GNU_EH_FRAME leads to, and that of the section `.debug_frame`. An image without has no entries. An entry
-    /// with a fault is left out, and the first fault of each section is kept. It takes time n log n in the FDEs, and copies
-    /// only their addresses and places. There may be no memory for these.
+    /// Reads the call frame information of an image: the section `.eh_frame` (if there is none, what the first
+    /// PT_GNU_EH_FRAME leads to) and the section `.debug_frame`. An image without has no entries. An entry with a fault is
+    /// left out, and the first fault of each section is kept. It takes time n log n in the FDEs, and copies only their
+    /// addresses and places. It is refused if there is no memory for these.
     pub fn read(alloc: Global, elf: &Elf<'a>) -> Result<CallFrames<'a>, AllocError>
         ensures eh_frame { IfOk result (λ c. eh_frame_in c ≡ tables.eh_frame_of (image_of elf.now)) }
         ensures debug_frame { IfOk result (λ c. debug_frame_in c ≡ tables.debug_frame_of (image_of elf.now)) }
@@ -38,8 +38,8 @@ impl<'a> CallFrames<'a> {
     }
 
     /// The entry that describes an address of the image: the first of `.eh_frame` that covers it, else the first of
-    /// `.debug_frame`. Where none does, the first fault is answered, of `.eh_frame`, else of `.debug_frame`, or that there is
-    /// none. It takes no memory.
+    /// `.debug_frame`. If none does, the first fault is answered, of `.eh_frame`, else of `.debug_frame`, or that there is
+    /// no fault. It takes no memory.
     pub fn find(&self, address: u64) -> Result<Entry<'a>, NoEntry>
         ensures { found result ≡ spec.entry_for address (eh_frame_in self.now) (debug_frame_in self.now) }
     {

@@ -71,7 +71,7 @@ fn is_version(format: Format, version: u8) -> bool
     }
 }
 
-/// The bytes behind the address_size and the segment_selector_size, which version 4 has.
+/// The bytes after the address_size and the segment_selector_size, which version 4 has.
 fn behind_sizes(version: u8, bytes: &[u8]) -> Option<&[u8]>
     ensures { option_map (λ rest. rest.now) result ≡ spec.behind_sizes version bytes.now }
 {
@@ -113,7 +113,7 @@ impl<'a> Head<'a> {
     }
 }
 
-/// The return address register at the front, and the bytes behind it.
+/// The return address register at the front, and the bytes after it.
 #[tactic(auto, unfolding(crate::specs::CommonEntry::column_in))]
 fn column(version: u8, bytes: &[u8]) -> Option<(u8, &[u8])>
     ensures { option_map (λ r. (r.0, r.1.now)) result ≡ spec.column_in version bytes.now }
@@ -125,7 +125,7 @@ fn column(version: u8, bytes: &[u8]) -> Option<(u8, &[u8])>
     Some((column as u8, rest))
 }
 
-/// A byte in version 1, else a ULEB128, and the bytes behind it.
+/// A byte in version 1, else a ULEB128, and the bytes after it.
 fn number(version: u8, bytes: &[u8]) -> Option<(u64, &[u8])>
     ensures { option_map (λ r. (r.0, r.1.now)) result ≡ spec.number_in version bytes.now }
 {
@@ -165,7 +165,7 @@ impl<'a> Factors<'a> {
 impl<'a> Data<'a> {
     ghost use Rattle.call_frames.specs.CommonWords.{data_view};
 
-    /// The augmentation data at the front, where an augmentation string tells of some.
+    /// The augmentation data at the front, if an augmentation string tells of some.
     #[tactic(auto, unfolding(crate::specs::CommonEntry::data_in))]
     fn read(text: &[u8], bytes: &'a [u8]) -> Result<Data<'a>, CfiField>
         ensures { viewed data_view result ≡ spec.data_in text.now bytes.now }
@@ -196,7 +196,7 @@ fn is_signal(text: &[u8]) -> bool
 impl<'a> Cie<'a> {
     ghost use Rattle.call_frames.specs.CommonWords.{cie_view};
 
-    /// Reads a CIE from behind its CIE_id on.
+    /// Reads a CIE from after its CIE_id on.
     #[tactic(auto, unfolding(crate::specs::CommonEntry::cie_in))]
     pub(crate) fn read(format: Format, bytes: &'a [u8]) -> Result<Cie<'a>, CfiField>
         ensures { viewed cie_view result ≡ spec.cie_in format bytes.now }

@@ -92,7 +92,7 @@ fn cie_place(format: Format, place: usize, id: u32) -> Option<usize>
     }
 }
 
-/// The CIE at a place, where it is one without a fault.
+/// The CIE at a place, if it is one without a fault.
 #[tactic(auto, unfolding(crate::specs::Entry::cie_at))]
 fn cie_at<'a>(table: &Table<'a>, place: usize) -> Option<Cie<'a>>
     ensures { option_map cie_view result ≡ spec.cie_at (table_view table.now) place }
@@ -114,7 +114,7 @@ fn cie_of<'a>(table: &Table<'a>, place: usize, id: u32) -> Option<Cie<'a>>
     cie_at(table, place)
 }
 
-/// The bytes behind the augmentation data, where there are some.
+/// The bytes after the augmentation data, if there are some.
 #[tactic(auto, unfolding(crate::specs::Entry::behind_data))]
 fn behind_data(augmented: bool, bytes: &[u8]) -> Option<&[u8]>
     ensures { option_map (λ rest. rest.now) result ≡ spec.behind_data augmented bytes.now }

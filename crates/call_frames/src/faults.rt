@@ -8,7 +8,7 @@ use thiserror::Error;
 #[derive(Clone, Copy, Debug, PartialEq, Eq)]
 pub enum CfiField {
     /// Fewer than four bytes are left for the length, it is that of 64-bit DWARF or reserved, or the entry does not fit in
-    /// the section. No entry is looked for behind this one.
+    /// the section. No entry is looked for after this one.
     Length,
     /// The entry is too short for its CIE_id or CIE_pointer.
     Id,

@@ -19,7 +19,7 @@ fn last_place(bytes: &[u8]) -> Option<usize>
     None
 }
 
-/// The bytes of the number at the front, and those behind it.
+/// The bytes of the number at the front, and those after it.
 #[tactic(auto, unfolding(crate::specs::Leb::split_leb))]
 fn split_leb(bytes: &[u8]) -> Option<(&[u8], &[u8])>
     ensures parts { option_map (λ r. (r.0.now, r.1.now)) result ≡ spec.split_leb bytes.now }
@@ -46,7 +46,7 @@ fn groups(text: &[u8]) -> u128
     value
 }
 
-/// The number of an ULEB128, where it is below 2^64.
+/// The number of an ULEB128, if it is below 2^64.
 #[tactic(auto, unfolding(crate::specs::Leb::unsigned))]
 fn unsigned(text: &[u8]) -> Option<u64>
     requires { length text.now ≤ 10 }
@@ -55,7 +55,7 @@ fn unsigned(text: &[u8]) -> Option<u64>
     u64::try_from(groups(text)).ok()
 }
 
-/// The number of an SLEB128 modulo 2^64, where it is at least -2^63 and below 2^63.
+/// The number of an SLEB128 modulo 2^64, if it is at least -2^63 and below 2^63.
 #[tactic(auto, unfolding(crate::specs::Leb::signed))]
 fn signed(text: &[u8]) -> Option<u64>
     requires some { 0 < length text.now }
@@ -73,7 +73,7 @@ fn signed(text: &[u8]) -> Option<u64>
     Some((below_zero as u64).wrapping_neg())
 }
 
-/// The ULEB128 at the front, and the bytes behind it.
+/// The ULEB128 at the front, and the bytes after it.
 #[tactic(auto, unfolding(crate::specs::Leb::uleb))]
 pub fn uleb(bytes: &[u8]) -> Option<(u64, &[u8])>
     ensures { option_map (λ r. (r.0, r.1.now)) result ≡ spec.uleb bytes.now }
@@ -83,7 +83,7 @@ pub fn uleb(bytes: &[u8]) -> Option<(u64, &[u8])>
     Some((value, behind))
 }
 
-/// The SLEB128 at the front, modulo 2^64, and the bytes behind it.
+/// The SLEB128 at the front, modulo 2^64, and the bytes after it.
 #[tactic(auto, unfolding(crate::specs::Leb::sleb))]
 pub fn sleb(bytes: &[u8]) -> Option<(u64, &[u8])>
     ensures { option_map (λ r. (r.0, r.1.now)) result ≡ spec.sleb bytes.now }
@@ -93,7 +93,7 @@ pub fn sleb(bytes: &[u8]) -> Option<(u64, &[u8])>
     Some((value, behind))
 }
 
-/// As many bytes as the ULEB128 in front of them tells, and those behind them.
+/// As many bytes as the ULEB128 in front of them tells, and those after them.
 #[tactic(auto, unfolding(crate::specs::Leb::sized))]
 pub fn sized(bytes: &[u8]) -> Option<(&[u8], &[u8])>
     ensures { option_map (λ r. (r.0.now, r.1.now)) result ≡ spec.sized bytes.now }

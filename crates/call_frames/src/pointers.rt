@@ -16,7 +16,7 @@ pub(crate) enum Width {
 }
 
 impl Width {
-    /// The width that an encoding tells by its low four bits, where it tells one.
+    /// The width that an encoding tells by its low four bits, if it tells one.
     #[tactic(auto, unfolding(crate::specs::Pointers::width_of))]
     pub(crate) fn of(encoding: u8) -> Option<Width>
         ensures { option_map bytes_of result ≡ spec.width_of encoding }
@@ -67,7 +67,7 @@ impl Width {
     }
 }
 
-/// The pointer at the front, whose first byte has an address, and the bytes behind it.
+/// The pointer at the front, whose first byte has an address, and the bytes after it.
 #[tactic(auto, unfolding(crate::specs::Pointers::pointer, crate::specs::Pointers::number_of, crate::specs::Pointers::target))]
 pub(crate) fn pointer(encoding: u8, address: u64, bytes: &[u8]) -> Option<(u64, &[u8])>
     ensures { option_map (λ r. (r.0, r.1.now)) result ≡ spec.pointer encoding address bytes.now }
@@ -106,7 +106,7 @@ fn target(encoding: u8, address: u64, value: u64) -> u64
     }
 }
 
-/// The number at the front with the width of a pointer, and the bytes behind it.
+/// The number at the front with the width of a pointer, and the bytes after it.
 #[tactic(auto, unfolding(crate::specs::Pointers::extent))]
 pub(crate) fn extent(encoding: u8, bytes: &[u8]) -> Option<(u64, &[u8])>
     ensures { option_map (λ r. (r.0, r.1.now)) result ≡ spec.extent encoding bytes.now }

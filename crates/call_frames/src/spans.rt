@@ -57,7 +57,7 @@ pub(crate) fn sorted(alloc: Global, table: &Table<'_>) -> Result<Vec<Span>, Allo
     Ok(spans)
 }
 
-/// The last address that a span covers, 2^64 - 1 where it passes that.
+/// The last address that a span covers, 2^64 - 1 if it passes that.
 fn last_of(span: Span) -> u64
     ensures { result ≡ spec.last_of span }
 {

@@ -17,7 +17,7 @@ pub(crate) struct Entries<'a> {
     spots: Spots<'a>,
 }
 
-/// The entry at a spot, where it is an FDE without a fault.
+/// The entry at a spot, if it is an FDE without a fault.
 pub(crate) fn sound_entry<'a>(table: &Table<'a>, spot: Spot) -> Option<Entry<'a>>
     ensures { option_map entry_view result ≡ spec.sound_entry (entry_at (table_view table.now) spot) }
 {

@@ -40,7 +40,7 @@ module _ (code align : ℕ) (initial : Row) (v w : ℕ) (low : v ≤ w) where
   same_executed s (Advance d) = refl
   same_executed s _ = refl
 
-  -- what follows an instruction, where what follows it there is the same
+  -- what follows an instruction, if what follows it there is the same
   same_after : (n : ℕ) (s : State) (step : StepView) (r : Result State RowField) → ((t : State) (bytes : List ℕ) → IfSome (end_location n near t bytes) (λ l. w < l) → run n far t bytes ≡ run n near t bytes) → IfSome (option_and_then (λ next. end_location n near next step.rest) (result_ok r)) (λ l. w < l) → then_do r (λ next. run n far next step.rest) ≡ then_do r (λ next. run n near next step.rest)
   same_after n s step (Ok next) ih h = ih next step.rest h
   same_after n s step (Err f) ih h = refl

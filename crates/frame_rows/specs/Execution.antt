@@ -46,7 +46,7 @@ ends_at aim s _ = false
 abbrev pub at_location : State → ℕ → State
 at_location s location = record { row = s.row; stack = s.stack; location = location }
 
--- an advance, where there is an address
+-- an advance, if there is an address
 abbrev pub advance_to : Option ℕ → State → ℕ → Result State RowField
 advance_to None s location = Err faults.Opcode
 advance_to (Some v) s location = Ok (at_location s location)

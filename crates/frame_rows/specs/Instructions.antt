@@ -30,7 +30,7 @@ shape_below x =
 unfoldable pub shape_of : ℕ → Option Shape
 shape_of x = if nat_lt x 64 then shape_below x else (if x / 64 == 2 then Some shapes.Unsigned else Some shapes.Nothing)
 
--- the numbers among the operands, 0 where there is none, and the bytes behind them
+-- the numbers among the operands, 0 if there is none, and the bytes after them
 pub record OperandsView : Type 0 where
   pub first : ℕ
   pub second : ℕ
@@ -52,7 +52,7 @@ abbrev pub fixed : ℕ → List ℕ → Option OperandsView
 fixed w bytes =
     if nat_le w (length bytes) then Some (record { first = field bytes 0 w; second = 0; rest = drop w bytes }) else None
 
--- what is behind a column: a ULEB128, an SLEB128, or a block
+-- what is after a column: a ULEB128, an SLEB128, or a block
 abbrev pub behind_column : Shape → ℕ × List ℕ → Option OperandsView
 behind_column shapes.TwoUnsigned n = option_map (two_operands n.0) (uleb n.1)
 behind_column shapes.UnsignedSigned n = option_map (two_operands n.0) (sleb n.1)
@@ -108,7 +108,7 @@ instruction_of align x a b =
     else (if x / 64 == 2 then Set (x % 64) (rules.Offset (factored align a))
     else Restore (x % 64)))
 
--- an instruction, and the bytes behind it
+-- an instruction, and the bytes after it
 pub record StepView : Type 0 where
   pub instruction : Instruction
   pub rest : List ℕ

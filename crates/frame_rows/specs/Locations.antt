@@ -14,7 +14,7 @@ abbrev pub location_of : Aim → State → Instruction → ℕ
 location_of aim s (Advance d) = advanced aim s d
 location_of aim s _ = s.location
 
--- the location beyond the address that ends an execution; none where the program ends before, or has a fault
+-- the location beyond the address that ends an execution; none if the program ends before, or has a fault
 unfoldable pub end_location : ℕ → Aim → State → List ℕ → Option ℕ
 end_location count aim s [] = None
 end_location zero aim s (x ∷ xs) = None

@@ -6,11 +6,11 @@ use Rattle.frame_rows.specs.declared.rows.Row.{Row}
 use Rattle.frame_rows.specs.declared.rows.Rule.{Rule}
 use Rattle.frame_rows.specs.declared.rows.Rule.TheVariants as rules
 
--- a rule in place of that of a column, where it is one of those that are kept
+-- a rule in place of that of a column, if it is one of those that are kept
 unfoldable pub set_rule : List Rule → ℕ → Rule → List Rule
 set_rule rs c rule = if nat_lt c 32 then slice_set rs c rule else rs
 
--- the rule of a column, undefined where none is kept
+-- the rule of a column, undefined if none is kept
 unfoldable pub rule_of : List Rule → ℕ → Rule
 rule_of rs c = if nat_lt c 32 then slice_index_or rs c rules.Undefined else rules.Undefined
 

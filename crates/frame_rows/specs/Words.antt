@@ -1,4 +1,4 @@
--- What the code's operands, instructions and states stand for.
+-- What the code's operands, instructions and states mean.
 use Rattle.std.specs.Prelude.{Result, Ok, Err}
 use Rattle.frame_rows.specs.Execution.{Aim, State}
 use Rattle.frame_rows.specs.Instructions.{OperandsView, StepView}

@@ -76,7 +76,7 @@ impl Machine {
         self.location = self.advanced(target, advance).min(u128::from(address)) as u64;
     }
 
-    /// Advances the location, where there is an address.
+    /// Advances the location, if there is an address.
     fn advance(&mut self, target: &Target, advance: u64) -> Result<(), RowField>
         requires { spec.is_beyond target.now.address (spec.advanced (aim_of target.now) (state_of self.old) advance) ≡ false }
         ensures { spec.advance_to target.now.address (state_of self.old)
@@ -179,7 +179,7 @@ impl Machine {
 
 impl Row {
     /// The row of an address that an entry describes: the program of its CIE is executed, then its own, up to the first
-    /// advance beyond the address. The first instruction that can't be executed is at fault; those behind that advance are
+    /// advance beyond the address. The first instruction that can't be executed is at fault; those after that advance are
     /// not looked at. It takes no memory.
     #[tactic(auto, unfolding(crate::specs::Execution::row_of))]
     pub fn of(entry: &Entry<'_>, address: u64) -> Result<Row, RowField>

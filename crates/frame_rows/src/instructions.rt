@@ -31,7 +31,7 @@ pub(crate) enum Instruction {
     CfaExpression,
 }
 
-/// An instruction, and the bytes behind it.
+/// An instruction, and the bytes after it.
 #[derive(Clone, Copy, Debug)]
 pub(crate) struct Step<'a> {
     pub(crate) instruction: Instruction,

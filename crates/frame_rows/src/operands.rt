@@ -33,7 +33,7 @@ pub(crate) enum Shape {
     FourBytes,
 }
 
-/// The numbers among the operands, 0 where there is none, and the bytes behind them. Signed ones are modulo 2^64.
+/// The numbers among the operands, 0 if there is none, and the bytes after them. Signed ones are modulo 2^64.
 #[derive(Clone, Copy, Debug)]
 pub(crate) struct Operands<'a> {
     pub(crate) first: u64,
@@ -61,7 +61,7 @@ fn shape_below(opcode: u8) -> Option<Shape>
 }
 
 impl Shape {
-    /// The operands that an opcode has, where it is known.
+    /// The operands that an opcode has, if it is known.
     #[tactic(auto, unfolding(crate::specs::Instructions::shape_of))]
     pub(crate) fn of(opcode: u8) -> Option<Shape>
         ensures { result ≡ spec.shape_of opcode }
@@ -89,7 +89,7 @@ fn first_byte(bytes: &[u8]) -> u8
 impl<'a> Operands<'a> {
     ghost use Rattle.frame_rows.specs.Words.{operands_view};
 
-    /// A single number, and the bytes behind it.
+    /// A single number, and the bytes after it.
     fn one(number: Option<(u64, &'a [u8])>) -> Option<Operands<'a>>
         ensures { option_map operands_view result
             ≡ option_map spec.one_operand (option_map (λ n. (n.0, n.1.now)) number.entry) }
@@ -102,7 +102,7 @@ impl<'a> Operands<'a> {
         })
     }
 
-    /// Two numbers, and the bytes behind them.
+    /// Two numbers, and the bytes after them.
     fn two(first: u64, number: Option<(u64, &'a [u8])>) -> Option<Operands<'a>>
         ensures { option_map operands_view result
             ≡ option_map (spec.two_operands first) (option_map (λ n. (n.0, n.1.now)) number.entry) }
@@ -115,7 +115,7 @@ impl<'a> Operands<'a> {
         })
     }
 
-    /// A number, and the bytes behind a block.
+    /// A number, and the bytes after a block.
     fn block(first: u64, bytes: &'a [u8]) -> Option<Operands<'a>>
         ensures { option_map operands_view result ≡ option_map (spec.behind_block first) (leb.sized bytes.now) }
     {
@@ -169,7 +169,7 @@ impl<'a> Operands<'a> {
         })
     }
 
-    /// A ULEB128, and what is read behind it: a ULEB128, an SLEB128 or a block.
+    /// A ULEB128, and what is read after it: a ULEB128, an SLEB128 or a block.
     fn with_column(shape: Shape, bytes: &'a [u8]) -> Option<Operands<'a>>
         ensures { option_map operands_view result ≡ spec.column_operands shape bytes.now }
     {
@@ -181,7 +181,7 @@ impl<'a> Operands<'a> {
         }
     }
 
-    /// The operands at the front of the bytes, where they are there.
+    /// The operands at the front of the bytes, if they are there.
     #[tactic(auto, unfolding(crate::specs::Instructions::operands_in))]
     pub(crate) fn read(shape: Shape, bytes: &'a [u8]) -> Option<Operands<'a>>
         ensures { option_map operands_view result ≡ spec.operands_in shape bytes.now }

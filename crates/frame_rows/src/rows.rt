@@ -42,7 +42,7 @@ pub struct Row {
     pub rules: [Rule; 32],
 }
 
-/// The rules before the first instruction, where none is for the return address.
+/// The rules before the first instruction, if none is for the return address.
 fn first_rules() -> [Rule; 32]
     ensures { result ≡ spec.first_rules }
 {
@@ -72,7 +72,7 @@ impl Row {
         row.with_rule(u64::from(column), Rule::Same)
     }
 
-    /// The rule of a column, undefined where it is not kept.
+    /// The rule of a column, undefined if it is not kept.
     #[tactic(auto, unfolding(crate::specs::Rows::rule_of))]
     pub(crate) fn rule(&self, column: u64) -> Rule
         ensures { result ≡ spec.rule_of self.now.rules column }
@@ -84,7 +84,7 @@ impl Row {
         }
     }
 
-    /// The row with another rule for a column, where it is kept.
+    /// The row with another rule for a column, if it is kept.
     #[tactic(auto, unfolding(crate::specs::Rows::set_rule))]
     pub(crate) fn with_rule(self, column: u64, rule: Rule) -> Row
         ensures { result ≡ spec.with_rule self column rule }
