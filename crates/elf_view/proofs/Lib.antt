@@ -11,3 +11,4 @@ pub mod FrontHeaders
 pub mod FrontNotes
 pub mod FrontWhole
 pub mod FrontSound
+pub mod SectionPlaces

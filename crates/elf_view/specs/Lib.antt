@@ -7,6 +7,7 @@ pub mod SegmentWords
 pub mod FieldNames
 pub mod LoadWords
 pub mod NoteWords
+pub mod SectionNames
 pub mod SectionWords
 pub mod ViewWords
 pub mod NoteGrammar

@@ -12,6 +12,7 @@ mod note_lists;
 mod numbers;
 mod program_headers;
 pub mod sample;
+mod section_names;
 mod sections;
 mod view;
 

@@ -10,6 +10,7 @@ use crate::loads::Loads;
 use crate::note_lists::Notes;
 use crate::numbers::{u16_at, u32_at, u64_at};
 use crate::program_headers::{Segment, Segments};
+use crate::section_names::named_section;
 use crate::sections::{Section, section_at, section_count};
 
 /// The fields of the file header that are shown.
@@ -42,7 +43,8 @@ impl<'a> Elf<'a> {
     ghost use Rattle.elf_view.specs.SegmentWords.{segment_view, segments_left};
     ghost use Rattle.elf_view.specs.NoteWords.{notes_left};
     ghost use Rattle.elf_view.specs.SectionTable.{section_count_of, section_of};
-    ghost use Rattle.elf_view.specs.SectionWords.{section_result};
+    ghost use Rattle.elf_view.specs.SectionNames.{named_section_of};
+    ghost use Rattle.elf_view.specs.SectionWords.{section_result, section_view};
     ghost use Rattle.elf_view.specs.ViewWords.{image_of, want_of, header_of, notes_of};
 
     /// Views an image as a core or an executable, or names the first of its checks that fails, in the order of
@@ -123,5 +125,14 @@ impl<'a> Elf<'a> {
         ensures { section_result result ≡ section_of (image_of self.now) i }
     {
         section_at(self.image, i)
+    }
+
+    /// The first section with a name whose bytes can be taken: they are in the file (it is no SHT_NOBITS), not compressed
+    /// (SHF_COMPRESSED), and all of them lie in the image. There is none where the section headers have a fault, or where
+    /// the section of the names, that of number e_shstrndx, is not there or not all in the image.
+    pub fn named_section(&self, name: &[u8]) -> Option<Section<'a>>
+        ensures { option_map section_view result ≡ named_section_of (image_of self.now) name.now }
+    {
+        named_section(self.image, name)
     }
 }

@@ -7,6 +7,8 @@ mod attached;
 #[cfg(test)]
 mod chains;
 #[cfg(test)]
+mod entries;
+#[cfg(test)]
 mod lookups;
 #[cfg(test)]
 mod mapped;
@@ -17,11 +19,15 @@ mod named;
 #[cfg(test)]
 mod paths;
 #[cfg(test)]
+mod real_entries;
+#[cfg(test)]
 mod real_frames;
 #[cfg(test)]
 mod real_symbols;
 #[cfg(test)]
 mod refused;
+#[cfg(test)]
+mod rows;
 #[cfg(test)]
 mod shown;
 #[cfg(test)]

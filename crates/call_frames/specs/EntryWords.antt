@@ -1,0 +1,18 @@
+-- What the code's tables and entries mean.
+use Rattle.call_frames.specs.CommonWords.{cie_view}
+use Rattle.call_frames.specs.Entry.{TableView, EntryView}
+use Rattle.call_frames.specs.declared.entries.Entry.{Entry}
+use Rattle.call_frames.specs.declared.entries.Table.{Table}
+
+abbrev pub table_view : Table → TableView
+table_view t = record { format = t.format; address = t.address; bytes = t.bytes.now }
+
+abbrev pub entry_view : Entry → EntryView
+entry_view e = record {
+  index = e.index;
+  place = e.place;
+  begin = e.begin;
+  range = e.range;
+  program = e.program.now;
+  cie = cie_view e.cie;
+}

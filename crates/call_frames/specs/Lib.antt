@@ -1,0 +1,17 @@
+pub mod Leb
+pub mod Pointers
+pub mod Chain
+pub mod Augmentation
+pub mod CommonEntry
+pub mod Entry
+pub mod FieldNames
+pub mod ReadWords
+pub mod CommonWords
+pub mod EntryWords
+pub mod Walk
+pub mod WalkWords
+pub mod Covering
+pub mod Tables
+pub mod Finding
+pub mod FindingWords
+pub mod Grammar
