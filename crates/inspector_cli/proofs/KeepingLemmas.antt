@@ -362,8 +362,7 @@ module _ {D : Type 0} (g : disk.Ghosts D) (numbers : NumbersAreAbove) where
       (λ does.
       (let clear : old.in_doubt ≡ [] = clear_before old.in_doubt old.holds new.holds frozen (ap (λ (z : Durable). z.next) does.7) in
       let below = (number clear).greatest in
-      let k : Kept = record { seq = old.holds.next; stream = does.0; image = does.3; label = Some [] } in
-      (
+      let k : Kept = record { seq = old.holds.next; stream = does.0; image = does.3; label = Some [] } in (
         record { seq = old.holds.next; stream = does.0; image = does.3; label = Some [] },
         told_once old.holds.next told (omega (arith, below)) small (sym does.6 ∙ is),
         does.4,
@@ -421,8 +420,7 @@ module _ {D : Type 0} (g : disk.Ghosts D) (numbers : NumbersAreAbove) where
   stores_store t asked found given before after answer s n stored =
       let a : AddsCase found t.input t.input' s.course.room.holds n s.course.ended.holds = subst (λ (o : Option ℕ). StoresOrNot found t.input t.input' s.course.room.holds o s.course.ended.holds) stored s.is.stores in
       let told : s.course.reply ≡ end_reply (Ok n) = subst (λ (o : Option ℕ). TellsStored o s.course.first s.course.reply) stored s.is.tells in
-      let none : s.is.doubts ≡ [] = ⊎_elim (λ is. is) (λ may. absurd (stored_apart n (codes "Disk") (sym told ∙ may.0))) s.is.doubted in
-      (
+      let none : s.is.doubts ≡ [] = ⊎_elim (λ is. is) (λ may. absurd (stored_apart n (codes "Disk") (sym told ∙ may.0))) s.is.doubted in (
         record { seq = n; stream = a.stream; image = a.image; label = Some [] },
         refl,
         a.begun,
@@ -436,9 +434,9 @@ module _ {D : Type 0} (g : disk.Ghosts D) (numbers : NumbersAreAbove) where
   pub stores_keep : AStoreKeepsACase g
   stores_keep k t asked found given before after answer s cs = (
     (λ holds clear spares next.
-    (let held = held_surely k s.course.ended holds clear in
-    let found_there = stays_found g k after s.course.ended (s.course.end ∷ []) s.safe.1.1.1 held (end_holds g k asked found given t.input t.input' s.course s.is spares held, tt) in
-    (found_there, next_keep g k after s.course.ended.disk cs next found_there))),
+        (let held = held_surely k s.course.ended holds clear in
+        let found_there = stays_found g k after s.course.ended (s.course.end ∷ []) s.safe.1.1.1 held (end_holds g k asked found given t.input t.input' s.course s.is spares held, tt) in
+        (found_there, next_keep g k after s.course.ended.disk cs next found_there))),
     (λ holds clear next. (let found_there = stays_found g k after s.course.end [] s.safe.1.1.1.1 (held_surely k s.course.end holds clear) tt in (found_there, next_keep g k after s.course.end.disk cs next found_there))),
   )
 

@@ -4,8 +4,8 @@ ghost use Rattle.inspector_cli.specs.Stored.{AnOpeningIsQuiet, SessionsAreTold, 
 
 use disk_model::Disk;
 use intake::{
-    calls_lead_from_mark_to_mark, found_after_a_stop, kept_over_many_stops, the_next_number_is_above,
-    what_calls_leave, what_stands_is_one,
+    calls_lead_from_mark_to_mark, found_after_a_stop, kept_over_many_stops,
+    the_next_number_is_above, what_calls_leave, what_stands_is_one,
 };
 
 /// A case that was answered `stored N`, and that no later line deletes or retires, is found after every stop with exactly the
