@@ -1,5 +1,7 @@
 //! A disk in memory, what crashes leave of it, and disks that fail.
-use disk_model::{CachedDisk, Disk, DiskFault, Fuse, Gathering, MemDisk, OneFault, Pick, write_stable};
+use disk_model::{
+    CachedDisk, Disk, DiskFault, Fuse, Gathering, MemDisk, OneFault, Pick, write_stable,
+};
 use std::process::Abort;
 use std::test::Fail;
 
