@@ -1,5 +1,5 @@
 // A disk whose writes are gathered.
-ghost use Rattle.std.specs.Prelude.{◌≡◌, ◌≢◌, ◌+◌, ◌≤◌, ◌↔◌, List, ℕ, [], length, IsTrue, IfOk, OnOk, IsOkUnless, Option};
+ghost use Rattle.std.specs.Prelude.{◌≡◌, ◌≢◌, ◌+◌, ◌≤◌, ◌↔◌, List, ℕ, [], length, IsTrue, IfOk, OnOk, OnErr, IsOkUnless, Option};
 ghost use Rattle.std.specs.Bool.{OnTrue};
 ghost use Rattle.std.proofs.Common.{inl};
 ghost use Rattle.disk_model.specs.Places.{part, overwritten};
@@ -7,7 +7,7 @@ ghost use Rattle.disk_model.specs.Disk.{Only, HasCause, joined, IsNextCount};
 ghost use Rattle.disk_model.specs.Moments.{IsSettled};
 ghost use Rattle.disk_model.specs.Gathering.{shown, MayStay, moment, stayed_since, IsQuiet, IsTaken};
 ghost use Rattle.disk_model.specs.GatheringLaws.{shows_whole, shows_bytes, stays_sized, shown_may_stay, only_this_moment};
-ghost use Rattle.disk_model.specs.declared.gathering.Durability.TheVariants.{Synced};
+ghost use Rattle.disk_model.specs.declared.gathering.Durability.TheVariants.{Synced, Unknown};
 ghost use Rattle.disk_model.specs.Gathers.{place_of, bytes_of, with_gathered, few_of, are_of};
 
 use crate::gathered::Gathered;
@@ -143,6 +143,7 @@ impl<D: Backing> Gathering<D> {
         ensures durable { OnOk result (IsTrue (D.is_honest self.old.disk)
             → Only (shown D.Disk (with_gathered self.old.disk self.old.gathered))
             (MayStay D.Disk (with_gathered self.new.disk self.new.gathered))) }
+        ensures lost { OnErr result (self.new.durability ≡ Unknown) }
         ensures cause { HasCause (D.failures self.old.disk) (D.failures self.new.disk) result }
         ensures refused { self.new.refused ≡ self.old.refused }
         ensures kind { IsOkUnless result DiskFault.Sync }
@@ -160,6 +161,7 @@ impl<D: Backing> Gathering<D> {
         ensures below { (self.new.disk ≡ self.old.disk) × (self.new.gathered ≡ self.old.gathered) }
         ensures cause { HasCause (joined (D.failures self.old.disk) self.old.refused) (joined (D.failures self.new.disk) self.new.refused) result }
         ensures refused { result ≡ Err DiskFault.Sync }
+        ensures lost { self.new.durability ≡ self.old.durability }
     {
         self.refused = after_failure(self.refused);
         Err(DiskFault::Sync)
@@ -168,7 +170,8 @@ impl<D: Backing> Gathering<D> {
 
 // Something was written that no sync has made stable.
 fn after_write(durability: Durability) -> Durability
-    ensures { result ≢ Synced }
+    ensures unsynced { result ≢ Synced }
+    ensures lost { durability ≡ Unknown → result ≡ Unknown }
 {
     match durability {
         Durability::Synced => Durability::Written,
