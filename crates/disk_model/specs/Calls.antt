@@ -1,5 +1,5 @@
 -- The calls that were made of a file, with what came of each, and the disk that they tell of.
-use Rattle.std.specs.Prelude.{◌≡◌, ◌⊎◌, ℕ, zero, suc, ◌+◌, ◌≤◌, Bool, true, IsTrue, if◌then◌else◌, List, [], ◌∷◌, length, slice_index, ◌==◌}
+use Rattle.std.specs.Prelude.{◌≡◌, ◌⊎◌, ℕ, zero, suc, ◌+◌, ◌≤◌, Bool, true, IsTrue, if◌then◌else◌, List, [], ◌∷◌, length}
 use Rattle.failure_count.specs.Counts.{next_count}
 use Rattle.disk_model.specs.Places.{AreBytes, part, overwritten}
 use Rattle.disk_model.specs.Notes.{Held, stable, written, MayLeave}
@@ -17,10 +17,6 @@ wrote at ok bytes = (1, at, ok, bytes)
 
 abbrev pub synced : Bool → Call
 synced ok = (2, 0, ok, [])
-
--- the call that these numbers name, of which the third is 1 for success
-abbrev pub call_of : List ℕ → List ℕ → Call
-call_of numbers bytes = (slice_index numbers 0, slice_index numbers 1, slice_index numbers 2 == 1, bytes)
 
 -- What no call tells of a file: its bytes when it was opened, and those that each write which failed left in its range, by the
 -- number of calls before it.

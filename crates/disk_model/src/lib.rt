@@ -16,7 +16,6 @@ mod mem_disk;
 mod note;
 mod one_fault;
 mod raw_file;
-mod record;
 mod stable;
 
 pub use agree::agrees_outside_writes;

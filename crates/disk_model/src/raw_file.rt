@@ -1,31 +1,21 @@
 // A file of the operating system as a disk: each method makes one call.
-ghost use Rattle.std.specs.Prelude.{◌≡◌, ◌^◌, ◌<◌, [], ◌∷◌, false, is_ok, IsOkUnless};
+ghost use Rattle.std.specs.Prelude.{◌≡◌, ◌^◌, ◌<◌, [], false, is_ok, IsOkUnless};
 ghost use Rattle.std.proofs.lemmas.Bool.{false≢true};
 ghost use Rattle.disk_model.specs.Disk.{HasCause};
-ghost use Rattle.disk_model.specs.Calls.{read, wrote, synced};
 
-use crate::record::Record;
 use crate::{Backing, Disk, DiskFault};
 use failure_count::after_failure;
 use std::fs::File;
 use std::io;
 use std::os::unix::fs::FileExt;
 
-// The calls, as a record of them has them.
-const READ: u64 = 0;
-
-const WRITE: u64 = 1;
-
-const SYNC: u64 = 2;
-
-/// A file, of the length that it had when it was opened. Each method makes one call of the operating system, and notes it with
-/// its outcome. That it makes the call that it notes has to be read: no clause says it.
+/// A file, of the length that it had when it was opened. Each of its methods as a disk makes one call of the operating system:
+/// no clause says it, so these three have to be read.
 #[derive(Drop)]
 pub(crate) struct RawFile {
     file: File,
     length: u64,
     failures: u64,
-    log: Record,
     ghost small: { length < 2 ^ 64 },
 }
 
@@ -39,7 +29,6 @@ impl RawFile {
             file,
             length,
             failures: 0,
-            log: Record::new(),
         }
     }
 
@@ -48,59 +37,16 @@ impl RawFile {
         &self.file
     }
 
-    // Reads the bytes from place `at` on into all of `into`.
-    fn read(&mut self, at: u64, into: &mut [u8]) -> Result<(), DiskFault>
-        ensures noted { self.new.log.calls ≡ read at (is_ok result) into.new ∷ self.old.log.calls }
-        ensures cause { HasCause self.old.failures self.new.failures result }
-        ensures kind { IsOkUnless result DiskFault.Read }
-        ensures length { self.new.length ≡ self.old.length }
-    {
-        let outcome = self.file.read_exact_at(into, at);
-        self.noted(READ, at, outcome, into, DiskFault::Read)
-    }
-
-    // Writes all of `from` from place `at` on.
-    fn write(&mut self, at: u64, from: &[u8]) -> Result<(), DiskFault>
-        ensures noted { self.new.log.calls ≡ wrote at (is_ok result) from.now ∷ self.old.log.calls }
-        ensures cause { HasCause self.old.failures self.new.failures result }
-        ensures kind { IsOkUnless result DiskFault.Write }
-        ensures length { self.new.length ≡ self.old.length }
-    {
-        let outcome = self.file.write_all_at(from, at);
-        self.noted(WRITE, at, outcome, from, DiskFault::Write)
-    }
-
-    // Makes durable what was written.
-    fn sync_all(&mut self) -> Result<(), DiskFault>
-        ensures noted { self.new.log.calls ≡ synced (is_ok result) ∷ self.old.log.calls }
-        ensures cause { HasCause self.old.failures self.new.failures result }
-        ensures kind { IsOkUnless result DiskFault.Sync }
-        ensures length { self.new.length ≡ self.old.length }
-    {
-        let outcome = self.file.sync_all();
-        self.noted(SYNC, 0, outcome, &[], DiskFault::Sync)
-    }
-
-    // Notes a call, and counts a failure where it failed, which is answered as this fault.
-    fn noted(
-        &mut self,
-        call: u64,
-        at: u64,
-        outcome: io::Result<()>,
-        bytes: &[u8],
-        fault: DiskFault,
-    ) -> Result<(), DiskFault>
-        ensures noted { self.new.log.calls ≡ (call, at, is_ok result, bytes.now) ∷ self.old.log.calls }
+    // Counts a failure where the call failed, which is answered as this fault.
+    fn counted(&mut self, outcome: io::Result<()>, fault: DiskFault) -> Result<(), DiskFault>
         ensures outcome { is_ok result ≡ is_ok outcome }
         ensures cause { HasCause self.old.failures self.new.failures result }
         ensures kind { IsOkUnless result fault }
         ensures length { self.new.length ≡ self.old.length }
     {
         if outcome.is_ok() {
-            self.log.note(&[call, at, 1], bytes);
             return Ok(());
         }
-        self.log.note(&[call, at, 0], bytes);
         self.failures = after_failure(self.failures);
         Err(fault)
     }
@@ -142,15 +88,18 @@ impl Disk for RawFile {
     }
 
     fn read_at(&mut self, at: u64, into: &mut [u8]) -> Result<(), DiskFault> {
-        self.read(at, into)
+        let outcome = self.file.read_exact_at(into, at);
+        self.counted(outcome, DiskFault::Read)
     }
 
     fn write_at(&mut self, at: u64, from: &[u8]) -> Result<(), DiskFault> {
-        self.write(at, from)
+        let outcome = self.file.write_all_at(from, at);
+        self.counted(outcome, DiskFault::Write)
     }
 
     fn sync(&mut self) -> Result<(), DiskFault> {
-        self.sync_all()
+        let outcome = self.file.sync_all();
+        self.counted(outcome, DiskFault::Sync)
     }
 }
 
