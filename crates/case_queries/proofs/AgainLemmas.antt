@@ -1,5 +1,5 @@
 -- Executables that were gathered are gathered again with no byte read.
-use Rattle.std.proofs.Common.{◌≡◌, inr, ⊎_elim, ℕ, Bool, true, false, List, [], ◌∷◌, Result, Ok, Err, Vec, Global, Some, IfOk, map, refl, sym, ap, subst}
+use Rattle.std.proofs.Common.{◌≡◌, inr, ⊎_elim, ℕ, Bool, true, false, List, [], ◌∷◌, Result, Ok, Err, Vec, Global, Option, None, Some, IfOk, map, refl, sym, ap, subst}
 use Rattle.std.proofs.lemmas.Bool.{false≢true}
 use Rattle.address_space.specs.Source.{ExecutableView}
 use Rattle.case_journal.specs.Viewing.{OnlyReads}
@@ -66,3 +66,10 @@ module _ {D : Type 0} (g : disk.Ghosts D) (now : Parts D) (only : (c : List ℕ)
       → IfOk r (λ v. StayGathered g now b (Some v))
   stay_gathered old b (Ok v) all = all_again old b (map executable_view v.items) all
   stay_gathered old b (Err f) all = tt
+
+  -- and what was gathered before may still be kept
+  pub stay_after : (old : Parts D) (b : List ℕ) (kept : Option (Vec Executable Global)) → Leaves g old now → StayGathered g old b kept → StayGathered g now b kept
+  stay_after old b None leaves stay = tt
+  stay_after old b (Some v) leaves stay =
+      subst (λ (cases : List CaseFacts). Gathers g now (wanted_of b cases) (Ok (map executable_view v.items)) now) (sym leaves.cases)
+      (again old old (wanted_of b (state_of old).cases) (map executable_view v.items) leaves stay)

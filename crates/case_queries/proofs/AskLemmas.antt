@@ -14,7 +14,7 @@ use Rattle.case_queries.specs.declared.kept_image.KeptImage.{KeptImage}
 module _ {D : Type 0} (g : disk.Ghosts D) where
   pub kept_still : (old new : Parts D) (kind : Kind) (q : QuerySaid) (image : List ℕ) (reply : List ℕ) (kept : KeptImage) → Shows g old kind q image reply new → IsKept g old (Some kept) → IsKept g new (Some kept)
   kept_still old new kind q image reply kept shows held =
-      (held.0, own_still g old new kept.seq held.0 (shows_leaves g old new kind q image (reads_executables q) reply shows) held.1, held.2, held.3)
+      (held.0, own_still g old new kept.seq held.0 (shows_leaves g old new kind q image (reads_executables q) reply shows) held.1, held.2, held.3, held.4)
 
   -- a reason, and an answer, as they were told
   pub reason_told : (a : Parts D) (seq : ℕ) (q : QuerySaid) (reason : List ℕ) (k : Result Kind (List ℕ)) → Err reason ≡ k → Asks g a seq q k (no_reply reason) a

@@ -1,5 +1,5 @@
 -- The first bytes of an image, read one part after the other.
-use Rattle.std.proofs.Common.{◌≡◌, ◌⊎◌, inl, inr, ⊎_elim, ℕ, ◌+◌, ◌-◌, ◌≤◌, Bool, true, false, List, [], ◌∷◌, ◌++◌, take, length, replicate, Option, None, Some, Result, Ok, Err, Vec, Global, refl, ap, sym, ◌∙◌, subst, arith}
+use Rattle.std.proofs.Common.{◌≡◌, ◌⊎◌, inl, inr, ⊎_elim, ℕ, ◌+◌, ◌-◌, ◌≤◌, Bool, true, false, List, [], ◌∷◌, ◌++◌, take, length, replicate, Option, None, Some, Result, Ok, Err, Vec, Global, vec_capacity, refl, ap, sym, ◌∙◌, subst, arith}
 use Rattle.std.proofs.lemmas.Bool.{false≢true}
 use Rattle.std.proofs.lemmas.Option.{same_Some}
 use Rattle.std.proofs.lemmas.List.{length-append, length-replicate, take_all}
@@ -71,7 +71,7 @@ module _ {D : Type 0} (g : disk.Ghosts D) where
       memory_not : OutOfMemory ≡ Disk → ⊥
       memory_not e = cc
 
-  first_refused : (old new : Parts D) (seq at n : ℕ) (bytes : List ℕ) (f : ArchiveFault) (c : CaseFacts) → HasCase (state_of old) seq c → PartCall g old seq at n (Err f) bytes new → LooksAt g old seq (Err f) new
+  pub first_refused : (old new : Parts D) (seq at n : ℕ) (bytes : List ℕ) (f : ArchiveFault) (c : CaseFacts) → HasCase (state_of old) seq c → PartCall g old seq at n (Err f) bytes new → LooksAt g old seq (Err f) new
   first_refused old new seq at n bytes f c has call = record {
     step = part_step (state_of old) (state_of new) seq c has f call.step;
     bytes = call.bytes;
@@ -98,7 +98,7 @@ module _ {D : Type 0} (g : disk.Ghosts D) where
         untouched = part_spares (state_of old) (state_of new) seq c has old.disk new.disk f step call.never;
       }
 
-  first_read : (old new : Parts D) (seq n : ℕ) (bytes : List ℕ) → PartCall g old seq 0 n (Ok tt) bytes new → ReadsFront g old seq bytes new
+  pub first_read : (old new : Parts D) (seq n : ℕ) (bytes : List ℕ) → PartCall g old seq 0 n (Ok tt) bytes new → ReadsFront g old seq bytes new
   first_read old new seq n bytes call = record {
     own = λ honest. (let p = call.bytes honest in (p.0, p.1, begins p.0 bytes n p.2 call.count, p.3));
     state = call.step.2;
@@ -107,7 +107,7 @@ module _ {D : Type 0} (g : disk.Ghosts D) where
     stays = call.stays;
   }
 
-  next_read : (old mid new : Parts D) (seq n : ℕ) (front bytes : List ℕ) → ReadsFront g old seq front mid → PartCall g mid seq (length front) n (Ok tt) bytes new → ReadsFront g old seq (front ++ bytes) new
+  pub next_read : (old mid new : Parts D) (seq n : ℕ) (front bytes : List ℕ) → ReadsFront g old seq front mid → PartCall g mid seq (length front) n (Ok tt) bytes new → ReadsFront g old seq (front ++ bytes) new
   next_read old mid new seq n front bytes reads call = record {
     own = λ honest.
         let a = reads.own honest in
@@ -125,7 +125,7 @@ module _ {D : Type 0} (g : disk.Ghosts D) where
 
   -- What is read is the first bytes of an image that a line may see: of the case's own where the disk is honest, and of one of that
   -- length on any disk.
-  front_by : (old new : Parts D) (seq : ℕ) (front : List ℕ) (c : CaseFacts) → case_at seq (state_of old).cases ≡ Some c → length front ≤ c.len → ReadsFront g old seq front new → (t : Bool) → g.is_honest old.disk ≡ t
+  pub front_by : (old new : Parts D) (seq : ℕ) (front : List ℕ) (c : CaseFacts) → case_at seq (state_of old).cases ≡ Some c → length front ≤ c.len → ReadsFront g old seq front new → (t : Bool) → g.is_honest old.disk ≡ t
       → (image : List ℕ) × SeesImage g old seq image new × (front ≡ take (length front) image) × (length image ≡ c.len)
   front_by old new seq front c at fits reads true e =
       let a = reads.own e in
@@ -188,12 +188,12 @@ module _ {D : Type 0} (g : disk.Ghosts D) where
       → ReadsUpTo g mid seq front end (Err f) front' new → LooksAt g old seq (Err f) new
   refused_next old mid new seq size end room front front' f has so_far up = later_refused old mid new seq (length front) (end - length front) front up.0 f has.0 has.1 so_far.reads up.1
 
-  pub read_enough : (old new : Parts D) (seq size room : ℕ) (want : Want) (image : Vec ℕ Global) → HasSize (state_of old) seq size → FrontIsRead old seq size image.items room new
+  pub read_enough : (old new : Parts D) (seq size : ℕ) (want : Want) (image : Vec ℕ Global) → HasSize (state_of old) seq size → FrontIsRead old seq size image.items (vec_capacity image) new
       → (length image.items ≡ size) ⊎ IsSoundFront want image.items → ReadsEnough g old seq want size (Ok image) new
-  read_enough old new seq size room want image has so_far enough =
+  read_enough old new seq size want image has so_far enough =
       let short = so_far.short in
       let p = front_by old new seq image.items has.0 has.1.1 (omega (arith, short, has.2)) so_far.reads (g.is_honest old.disk) refl in
-      (p.0, p.1, p.2, p.3 ∙ has.2, enough)
+      (p.0, p.1, p.2, p.3 ∙ has.2, enough, so_far.fits)
 
   -- an image that was read now, or its first bytes
   pub enough_read : (old new : Parts D) (seq size : ℕ) (want : Want) (k : KeptImage) → ReadsEnough g old seq want size (Ok k.image) new → SeesEnough g old seq want (Ok k) new
@@ -203,13 +203,13 @@ module _ {D : Type 0} (g : disk.Ghosts D) where
   pub read_is_kept : (old new : Parts D) (seq size : ℕ) (want : Want) (k : KeptImage) → k.seq ≡ seq → (k.is_whole ≡ true → length k.image.items ≡ size) → ReadsEnough g old seq want size (Ok k.image) new → IsKept g new (Some k)
   read_is_kept old new seq size want k at whole reads =
       let own = own_still g old new seq reads.0 (looks_leaves g old new seq (Ok reads.0) reads.1) reads.1.own in
-      (reads.0, subst (λ n. AreOfCase g new n reads.0) (sym at) own, reads.2, λ is. reads.2 ∙ ap (λ n. take n reads.0) (whole is ∙ sym reads.3) ∙ take_all (length reads.0) reads.0 (omega arith))
+      (reads.0, subst (λ n. AreOfCase g new n reads.0) (sym at) own, reads.2, λ is. reads.2 ∙ ap (λ n. take n reads.0) (whole is ∙ sym reads.3) ∙ take_all (length reads.0) reads.0 (omega arith), λ cut. (let long = reads.3 in let room = reads.5 in omega arith))
 
   -- the whole image, read now
-  pub whole_is_kept : (old new : Parts D) (seq : ℕ) (k : KeptImage) → k.seq ≡ seq → SeesImage g old seq k.image.items new → IsKept g new (Some k)
-  whole_is_kept old new seq k at sees =
+  pub whole_is_kept : (old new : Parts D) (seq : ℕ) (k : KeptImage) → k.seq ≡ seq → k.is_whole ≡ true → SeesImage g old seq k.image.items new → IsKept g new (Some k)
+  whole_is_kept old new seq k at whole sees =
       let own = own_still g old new seq k.image.items (looks_leaves g old new seq (Ok k.image.items) sees) sees.own in
-      (k.image.items, subst (λ n. AreOfCase g new n k.image.items) (sym at) own, sym (take_all (length k.image.items) k.image.items (omega arith)), λ is. refl)
+      (k.image.items, subst (λ n. AreOfCase g new n k.image.items) (sym at) own, sym (take_all (length k.image.items) k.image.items (omega arith)), λ is. refl, λ cut. absurd (false≢true (sym cut ∙ whole)))
 
   -- what is kept is seen without a read
   module _ (now : Parts D) (only : (x : List ℕ) → g.left_since now.disk (g.clock now.disk) x → g.may_leave now.disk x) where

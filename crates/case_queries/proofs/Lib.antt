@@ -3,3 +3,4 @@ pub mod AskLemmas
 pub mod AgainLemmas
 pub mod ShowLemmas
 pub mod FrontLemmas
+pub mod WindowLemmas

@@ -1,5 +1,14 @@
 -- What code's queries show of an image.
-use Rattle.std.proofs.Common.{◌≡◌, ◌⊎◌, inl, inr, ⊎_elim, Bool, true, false, List, [], ℕ, Result, None, Some, refl, sym}
+use Rattle.std.proofs.Common.{◌≡◌, ◌⊎◌, inl, inr, ⊎_elim, Bool, true, false, List, [], ℕ, Option, Result, None, Some, length, map, take, refl, ap, sym, subst, ◌∙◌}
+use Rattle.std.specs.Prelude.{◌&&◌}
+use Rattle.std.specs.List.{filter, list_any}
+use Rattle.elf_view.specs.Sound.{IsHeaderWhole, IsSound}
+use Rattle.elf_view.specs.declared.faults.Want.TheVariants.{Core}
+use Rattle.intake.specs.State.{CaseFacts}
+use Rattle.memory_replies.specs.Memory.{has_name, mapped_files}
+use Rattle.case_queries.specs.Fronts.{IsEnough}
+use Rattle.case_queries.specs.Gathering.{is_exec, wanted_case, wanted_of}
+use Rattle.case_queries.specs.Windows.{IsSeenBy}
 use Rattle.disk_model.specs.declared.disk.Disk as disk
 use Rattle.image_replies.specs.Core.{core_fault_of}
 use Rattle.image_replies.specs.Reasons.{core_reason}
@@ -14,7 +23,7 @@ use Rattle.script_lines.specs.declared.query.ImageQuery.TheVariants.{Header, Not
 use Rattle.script_lines.specs.declared.query.MemoryQuery.{MemoryQuery}
 use Rattle.script_lines.specs.declared.query.MemoryQuery.TheVariants.{Dump, Find, Strings, Backtrace}
 use Rattle.script_streams.specs.Replies.{no_reply, reply_of}
-use Rattle.case_queries.specs.Inspecting.{Shows, ShowsBeside, answer_of}
+use Rattle.case_queries.specs.Inspecting.{Shows, ShowsBeside, ShowsCore, answer_of}
 
 -- a reply of which it is known whether there was memory
 pub answered : (room : Bool) (answer : Result (List ℕ) (List ℕ)) (reply : List ℕ) → AnswersWith room answer reply → Answers answer reply
@@ -48,3 +57,31 @@ module _ {D : Type 0} (g : disk.Ghosts D) (a : Parts D) (kind : Kind) (b : List 
   pub symbol_shown : (address : ℕ) (room : Bool) (reply : List ℕ) → ((room ≡ true) × (reply ≡ reply_of (symbol_answer b address))) ⊎ ((room ≡ false) × (reply ≡ memory_reply) × (executable_fault b ≡ None))
       → Shows g a kind (ask_symbol address) b reply a
   symbol_shown address room reply told = (⊎_elim (λ told. inl told.1) (λ short. inr (short.1, short.2)) told, refl)
+
+  -- a core that has none, of which the first bytes show so much
+  pub core_shown : (q : MemoryQuery) (front : List ℕ) (reply : List ℕ) (new : Parts D) → core_fault_of front ≡ core_fault_of b → None ≡ core_fault_of front → ShowsCore g a kind (memory_query q) b reply new → Shows g a kind (memory_query q) b reply new
+  core_shown q front reply new same none shows = beside_shown q reply new (subst (λ (o : Option CoreFault). ShowsBeside g a kind (memory_query q) b o reply new) (none ∙ same) shows)
+
+-- These bytes are enough of the image.
+pub seen_enough : (q : MemoryQuery) (front : List ℕ) (size at : ℕ) (bytes image : List ℕ) → IsSeenBy q front size at bytes image → IsEnough Core front image
+seen_enough (Dump first n) front size at bytes image by = by.0
+seen_enough (Find needle) front size at bytes image by = inl by
+seen_enough (Strings least) front size at bytes image by = inl by
+seen_enough (Backtrace thread) front size at bytes image by = inl by
+
+-- what enough bytes show, where sound first bytes show it
+enough_shows : {A : Type 0} (of : List ℕ → A) → ((b : List ℕ) (n : ℕ) → IsHeaderWhole (take n b) → IsSound Core (take n b) → of (take n b) ≡ of b) → (front image : List ℕ) → IsEnough Core front image → of front ≡ of image
+enough_shows of law front image enough =
+    ⊎_elim
+    (λ is. ap of is)
+    (λ cut. ap of cut.0 ∙ law image (length front) (subst IsHeaderWhole cut.0 cut.1.0) (subst (IsSound Core) cut.0 cut.1.1))
+    enough
+
+pub fault_same : ((b : List ℕ) (n : ℕ) → IsHeaderWhole (take n b) → IsSound Core (take n b) → core_fault_of (take n b) ≡ core_fault_of b) → (q : MemoryQuery) (front : List ℕ) (size at : ℕ) (bytes image : List ℕ) → IsSeenBy q front size at bytes image
+    → core_fault_of front ≡ core_fault_of image
+fault_same law q front size at bytes image by = enough_shows core_fault_of law front image (seen_enough q front size at bytes image by)
+
+pub wanted_same : ((b : List ℕ) (n : ℕ) → IsHeaderWhole (take n b) → IsSound Core (take n b) → mapped_files (take n b) ≡ mapped_files b) → (q : MemoryQuery) (front : List ℕ) (size at : ℕ) (bytes image : List ℕ) → IsSeenBy q front size at bytes image
+    → (cases : List CaseFacts) → wanted_of front cases ≡ wanted_of image cases
+wanted_same law q front size at bytes image by cases =
+    ap (λ files. map wanted_case (filter (λ (c : CaseFacts). is_exec c.kind && list_any (has_name c.name) files) cases)) (enough_shows mapped_files law front image (seen_enough q front size at bytes image by))

@@ -1,5 +1,5 @@
 -- The first bytes of an image, for the lines that ask no more of it.
-use Rattle.std.specs.Prelude.{◌≡◌, ◌⊎◌, ℕ, ◌-◌, ◌++◌, List, length, take, OnOk, Some, Result, Ok, Err, IsTrue, Vec}
+use Rattle.std.specs.Prelude.{◌≡◌, ◌⊎◌, ◌≤◌, ℕ, ◌-◌, ◌++◌, List, length, take, OnOk, Some, Result, Ok, Err, IsTrue, Vec, vec_capacity}
 use Rattle.std.specs.Global.{Global}
 use Rattle.case_journal.specs.Viewing.{OnlyReads}
 use Rattle.disk_model.specs.declared.disk.Disk as disk
@@ -42,7 +42,7 @@ SeesEnough g old seq want (Err f) new = LooksAt g old seq (Err f) new
 abbrev pub ReadsEnough : {D : Type 0} → disk.Ghosts D → Parts D → ℕ → Want → ℕ → Result (Vec ℕ Global) ArchiveFault → Parts D → Type 0
 ReadsEnough g old seq want size (Ok v) new =
     (image : List ℕ) × SeesImage g old seq image new × (v.items ≡ take (length v.items) image) × (length image ≡ size)
-    × ((length v.items ≡ size) ⊎ IsSoundFront want v.items)
+    × ((length v.items ≡ size) ⊎ IsSoundFront want v.items) × (size ≤ vec_capacity v)
 ReadsEnough g old seq want size (Err f) new = LooksAt g old seq (Err f) new
 
 -- a case of this number has an image of this size

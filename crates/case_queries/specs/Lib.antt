@@ -5,3 +5,4 @@ pub mod Keeping
 pub mod Inspecting
 pub mod LeaveLaws
 pub mod Fronts
+pub mod Windows

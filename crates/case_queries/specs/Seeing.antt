@@ -1,5 +1,5 @@
 -- The image of a case, as the lines that ask it see it.
-use Rattle.std.specs.Prelude.{◌≡◌, ℕ, Bool, true, List, length, take, Option, None, Some, Result, Ok, Err, IsTrue}
+use Rattle.std.specs.Prelude.{◌≡◌, ◌≤◌, ℕ, Bool, true, false, List, length, take, Option, None, Some, Result, Ok, Err, IsTrue, vec_capacity}
 use Rattle.disk_model.specs.declared.disk.Disk as disk
 use Rattle.case_journal.specs.Viewing.{OnlyReads}
 use Rattle.intake.specs.Calls.{ImageCall, ChangesNoCase}
@@ -35,11 +35,13 @@ abbrev pub image_held : Result KeptImage ArchiveFault → Result (List ℕ) Arch
 image_held (Ok k) = Ok k.image.items
 image_held (Err f) = Err f
 
--- These bytes are the image of a case of this number, or its first bytes.
-abbrev pub HoldsFront : {D : Type 0} → disk.Ghosts D → Parts D → ℕ → Bool → List ℕ → Type 0
-HoldsFront g a seq is_whole bytes = (image : List ℕ) × AreOfCase g a seq image × (bytes ≡ take (length bytes) image) × (is_whole ≡ true → bytes ≡ image)
+-- These bytes are the image of a case of this number, or its first bytes, with room for all of it.
+abbrev pub HoldsFront : {D : Type 0} → disk.Ghosts D → Parts D → ℕ → Bool → ℕ → List ℕ → Type 0
+HoldsFront g a seq is_whole room bytes =
+    (image : List ℕ) × AreOfCase g a seq image × (bytes ≡ take (length bytes) image) × (is_whole ≡ true → bytes ≡ image)
+    × (is_whole ≡ false → length image ≤ room)
 
 -- what is kept of an image is of that of its case
 abbrev pub IsKept : {D : Type 0} → disk.Ghosts D → Parts D → Option KeptImage → Type 0
 IsKept g a None = Unit {0}
-IsKept g a (Some k) = HoldsFront g a k.seq k.is_whole k.image.items
+IsKept g a (Some k) = HoldsFront g a k.seq k.is_whole (vec_capacity k.image) k.image.items

@@ -56,7 +56,7 @@ fn read_behind<D: Disk>(
 }
 
 // Reads a case's image up to place `end`, of which these bytes are read. They have room for it.
-fn read_up_to<D: Disk>(
+pub(crate) fn read_up_to<D: Disk>(
     seq: u32,
     end: usize,
     image: &mut Vec<u8>,
@@ -99,7 +99,7 @@ fn read_front<D: Disk>(
 }
 
 // The size of a case's image.
-fn size_of<D: Disk>(seq: u32, archive: &Archive<D>) -> Option<usize>
+pub(crate) fn size_of<D: Disk>(seq: u32, archive: &Archive<D>) -> Option<usize>
     ensures { IfSome result (λ size. HasSize (state_of archive.now) seq size) }
 {
     match archive.case(seq) {
@@ -146,6 +146,7 @@ pub(crate) fn see_front<D: Disk>(
     ensures seen { SeesEnough D.Disk archive.old seq want result archive.new }
     ensures kept { IfOk result (λ k. IsKept D.Disk archive.new (Some k)) }
     ensures beside { IfOk result (λ k. AreKept D.Disk archive.new (Some k)) }
+    ensures seq { IfOk result (λ k. k.seq ≡ seq) }
 {
     if let Some(image) = enough_of_case(seq, want, kept) {
         return Ok(image);

@@ -1,16 +1,15 @@
 // The answers to lines that ask an image.
-ghost use Rattle.std.specs.Prelude.{◌≡◌, false, IfOk};
+ghost use Rattle.std.specs.Prelude.{◌≡◌, false, IfOk, Ok};
 ghost use Rattle.intake.specs.Parts.{state_of};
 ghost use Rattle.script_streams.specs.Replies.{TellsReply, telling};
-ghost use Rattle.script_lines.specs.Queries.{query_of, image_query, ask_notes};
-ghost use Rattle.case_queries.specs.Inspecting.{Asks, Inspects, Shows, asked_view, kind_asked, kind_for};
-ghost use Rattle.case_queries.specs.Keeping.{AreKept, StayGathered};
+ghost use Rattle.script_lines.specs.Queries.{query_of, image_query, ask_notes, ask_symbol};
+ghost use Rattle.case_queries.specs.Inspecting.{Asks, Inspects, asked_view, kind_asked, kind_for};
+ghost use Rattle.case_queries.specs.Keeping.{AreKept};
 ghost use Rattle.case_queries.specs.Seeing.{IsKept};
 
-use crate::by_front::{answer_by_front, tell_image};
-use crate::gather::Executable;
+use crate::by_front::answer_by_front;
 use crate::kept_image::{Images, see_image};
-use crate::memory::answer_memory;
+use crate::memory::answer_by_memory;
 use archive_replies::reason;
 use disk_model::Disk;
 use intake::Archive;
@@ -18,7 +17,6 @@ use journal_layout::Kind;
 use memory_replies::tell_symbol;
 use script_lines::{ImageQuery, Query};
 use script_streams::{Output, Reply, tell_no};
-use std::alloc::Global;
 
 /// Answers a line that asks the image of a case: tells what the layouts give for it, or the first reason why nothing is shown.
 /// The image is kept for the lines that ask the same case next, and with it the executables that are read beside it. Where
@@ -45,38 +43,29 @@ pub fn answer_query<O: Output, D: Disk>(
     };
     match query {
         Query::Image(query) => answer_by_front(seq, kind, query, images, reply, archive),
-        _ => answer_by_image(seq, kind, query, images, reply, archive),
+        Query::Memory(query) => answer_by_memory(seq, kind, query, images, reply, archive),
+        Query::Symbol { address } => answer_symbol(seq, kind, *address, images, reply, archive),
     }
 }
 
-// Answers a line of a case of this kind from the whole image.
-fn answer_by_image<O: Output, D: Disk>(
+// Answers a line that asks the symbol of an address, from the whole image of an executable.
+fn answer_symbol<O: Output, D: Disk>(
     seq: u32,
     kind: Kind,
-    query: &Query,
+    address: u64,
     images: &mut Images,
     reply: &mut Reply<'_, O>,
     archive: &mut Archive<D>,
 )
-    requires runs { archive.old.stopped ≡ false }
     requires kept { IsKept D.Disk archive.old images.old.kept }
     requires beside { AreKept D.Disk archive.old images.old.kept }
-    ensures answers { TellsReply (telling O.Output reply.old reply.new) (λ text. Asks D.Disk archive.old seq (query_of query.now) (Ok kind) text archive.new) }
+    ensures answers { TellsReply (telling O.Output reply.old reply.new) (λ text. Asks D.Disk archive.old seq (ask_symbol address) (Ok kind) text archive.new) }
     ensures kept { IsKept D.Disk archive.new images.new.kept }
     ensures beside { AreKept D.Disk archive.new images.new.kept }
 {
     match see_image(seq, images.kept.take(), archive) {
         Ok(seen) => {
-            let mut seen = seen;
-            let has_room = answer_seen(
-                images.alloc,
-                kind,
-                query,
-                &seen.image,
-                &mut seen.executables,
-                reply,
-                archive,
-            );
+            let has_room = tell_symbol(images.alloc, reply, &seen.image, address);
             if has_room {
                 images.kept = Some(seen);
             }
@@ -132,39 +121,5 @@ fn core_kind(kind: Kind) -> Result<Kind, &'static [u8]>
     match kind {
         Kind::Core => Ok(Kind::Core),
         Kind::Exec => Err(b"NotCore"),
-    }
-}
-
-// Answers a line from the image of its case, and from the executables that it reads beside it. Says whether there was memory
-// for it.
-fn answer_seen<O: Output, D: Disk>(
-    alloc: Global,
-    kind: Kind,
-    query: &Query,
-    image: &[u8],
-    executables: &mut Option<Vec<Executable>>,
-    reply: &mut Reply<'_, O>,
-    archive: &mut Archive<D>,
-) -> bool
-    requires runs { archive.old.stopped ≡ false }
-    requires beside { StayGathered D.Disk archive.old image.now executables.old }
-    ensures answers { TellsReply (telling O.Output reply.old reply.new) (λ text. Shows D.Disk archive.old kind (query_of query.now) image.now text archive.new) }
-    ensures beside { StayGathered D.Disk archive.new image.now executables.new }
-{
-    match query {
-        Query::Image(query) => {
-            tell_image(alloc, kind, query, image, reply);
-            true
-        }
-        Query::Memory(query) => answer_memory(
-            alloc,
-            kind,
-            query,
-            image,
-            executables,
-            reply,
-            archive,
-        ),
-        Query::Symbol { address } => tell_symbol(alloc, reply, image, *address),
     }
 }

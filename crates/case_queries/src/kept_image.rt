@@ -40,6 +40,7 @@ pub(crate) fn see_image<D: Disk>(
     ensures seen { LooksAt D.Disk archive.old seq (image_held result) archive.new }
     ensures kept { IfOk result (λ k. IsKept D.Disk archive.new (Some k)) }
     ensures beside { IfOk result (λ k. AreKept D.Disk archive.new (Some k)) }
+    ensures seq { IfOk result (λ k. k.seq ≡ seq) }
 {
     if let Some(image) = of_case(seq, kept) {
         return Ok(image);

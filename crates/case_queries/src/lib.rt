@@ -8,6 +8,7 @@ mod inspect;
 mod kept_image;
 mod memory;
 mod wanted;
+mod window;
 
 pub use gather::Executable;
 pub use inspect::answer_query;

@@ -1,5 +1,5 @@
 // The answers to lines over a core's memory.
-ghost use Rattle.std.specs.Prelude.{◌≡◌, false, map, Some, IfOk};
+ghost use Rattle.std.specs.Prelude.{◌≡◌, ℕ, List, Ok, false, map, Some, IfOk};
 ghost use Rattle.image_replies.specs.CoreWords.{core_bytes};
 ghost use Rattle.script_lines.specs.Queries.{memory_query};
 ghost use Rattle.script_streams.specs.Replies.{TellsReply, telling};
@@ -8,39 +8,85 @@ ghost use Rattle.memory_replies.specs.Memory.{attached_view};
 ghost use Rattle.intake.specs.Parts.{state_of};
 ghost use Rattle.case_queries.specs.Gathering.{GathersAll, wanted_of};
 ghost use Rattle.case_queries.specs.GatheringWords.{executable_view, gathered_view};
-ghost use Rattle.case_queries.specs.Inspecting.{Shows, ShowsCore, answer_of};
-ghost use Rattle.case_queries.specs.Keeping.{StayGathered};
+ghost use Rattle.case_queries.specs.Inspecting.{Asks, Shows, ShowsCore, answer_of};
+ghost use Rattle.case_queries.specs.Keeping.{AreKept, StayGathered};
+ghost use Rattle.case_queries.specs.Seeing.{IsKept};
+ghost use Rattle.case_queries.specs.Windows.{IsSeenBy};
 
 use crate::gather::{Executable, gather, lent};
+use crate::kept_image::Images;
+use crate::window::{lent_window, see_memory};
 use address_space::Attached;
 use archive_replies::reason;
 use disk_model::Disk;
-use image_replies::{CoreImage, tell_core_fault};
+use image_replies::{CoreImage, a_sound_front_answers, tell_core_fault};
 use intake::{Archive, ArchiveFault};
 use journal_layout::Kind;
-use memory_replies::{tell_bt, tell_dump, tell_find, tell_strings};
+use memory_replies::{
+    Window, a_sound_front_names_the_files, tell_bt, tell_dump, tell_find, tell_strings,
+};
 use script_lines::MemoryQuery;
 use script_streams::{Output, Reply, tell_no};
 use std::alloc::Global;
 
-// Answers a line over a core's memory, with the executables that its process had mapped, where they are stored. They are kept
-// for the lines over the same core that come next. Says whether there was memory for it.
-pub(crate) fn answer_memory<O: Output, D: Disk>(
+// Answers a line over a core's memory of a case of this kind.
+pub(crate) fn answer_by_memory<O: Output, D: Disk>(
+    seq: u32,
+    kind: Kind,
+    query: &MemoryQuery,
+    images: &mut Images,
+    reply: &mut Reply<'_, O>,
+    archive: &mut Archive<D>,
+)
+    requires runs { archive.old.stopped ≡ false }
+    requires kept { IsKept D.Disk archive.old images.old.kept }
+    requires beside { AreKept D.Disk archive.old images.old.kept }
+    ensures answers { TellsReply (telling O.Output reply.old reply.new) (λ text. Asks D.Disk archive.old seq (memory_query query.now) (Ok kind) text archive.new) }
+    ensures kept { IsKept D.Disk archive.new images.new.kept }
+    ensures beside { AreKept D.Disk archive.new images.new.kept }
+{
+    match see_memory(images.alloc, seq, query, images.kept.take(), archive) {
+        Ok(seen) => {
+            let mut seen = seen;
+            let has_room = answer_memory(
+                images.alloc,
+                kind,
+                query,
+                &seen.kept.image,
+                lent_window(&seen.kept.image, seen.size, &seen.part),
+                &mut seen.kept.executables,
+                reply,
+                archive,
+            );
+            if has_room {
+                images.kept = Some(seen.kept);
+            }
+        }
+        Err(fault) => tell_no(reply, reason(fault)),
+    }
+}
+
+// The same of an image of which this much is seen, with the executables that its process had mapped, where they are stored. They
+// are kept for the lines over the same core that come next. Says whether there was memory for it.
+fn answer_memory<O: Output, D: Disk>(
     alloc: Global,
     kind: Kind,
     query: &MemoryQuery,
-    image: &[u8],
+    front: &[u8],
+    window: Window<'_>,
     kept: &mut Option<Vec<Executable>>,
     reply: &mut Reply<'_, O>,
     archive: &mut Archive<D>,
 ) -> bool
     requires runs { archive.old.stopped ≡ false }
-    requires kept { StayGathered D.Disk archive.old image.now kept.old }
-    ensures answers { TellsReply (telling O.Output reply.old reply.new) (λ text. Shows D.Disk archive.old kind (memory_query query.now) image.now text archive.new) }
-    ensures kept { StayGathered D.Disk archive.new image.now kept.new }
+    requires kept { StayGathered D.Disk archive.old front.now kept.old }
+    ensures answers { (image : List ℕ) → IsSeenBy query.now front.now window.entry.size window.entry.at window.entry.bytes.now image
+        → TellsReply (telling O.Output reply.old reply.new) (λ text. Shows D.Disk archive.old kind (memory_query query.now) image text archive.new) }
+    ensures kept { StayGathered D.Disk archive.new front.now kept.new }
 {
-    match CoreImage::read(image) {
-        Ok(core) => answer_core(alloc, kind, query, &core, kept, reply, archive),
+    a_sound_front_answers();
+    match CoreImage::read(front) {
+        Ok(core) => answer_core(alloc, kind, query, &core, window, kept, reply, archive),
         Err(fault) => {
             tell_core_fault(reply, fault);
             true
@@ -54,18 +100,21 @@ fn answer_core<O: Output, D: Disk>(
     kind: Kind,
     query: &MemoryQuery,
     core: &CoreImage<'_>,
+    window: Window<'_>,
     kept: &mut Option<Vec<Executable>>,
     reply: &mut Reply<'_, O>,
     archive: &mut Archive<D>,
 ) -> bool
     requires runs { archive.old.stopped ≡ false }
     requires kept { StayGathered D.Disk archive.old (core_bytes core.now) kept.old }
-    ensures answers { TellsReply (telling O.Output reply.old reply.new) (λ text. ShowsCore D.Disk archive.old kind (memory_query query.now) (core_bytes core.now) text archive.new) }
+    ensures answers { (image : List ℕ) → IsSeenBy query.now (core_bytes core.now) window.entry.size window.entry.at window.entry.bytes.now image
+        → TellsReply (telling O.Output reply.old reply.new) (λ text. ShowsCore D.Disk archive.old kind (memory_query query.now) image text archive.new) }
     ensures kept { StayGathered D.Disk archive.new (core_bytes core.now) kept.new }
 {
+    a_sound_front_names_the_files();
     match gathered(alloc, core, kept.take(), archive) {
         Ok(executables) => {
-            let has_room = tell_beside(alloc, kind, query, core, &executables, reply);
+            let has_room = tell_beside(alloc, kind, query, core, window, &executables, reply);
             *kept = Some(executables);
             has_room
         }
@@ -100,13 +149,15 @@ fn tell_beside<O: Output>(
     kind: Kind,
     query: &MemoryQuery,
     core: &CoreImage<'_>,
+    window: Window<'_>,
     executables: &[Executable],
     reply: &mut Reply<'_, O>,
 ) -> bool
-    ensures { TellsReply (telling O.Output reply.old reply.new) (AnswersWith result (answer_of kind (memory_query query.now) (core_bytes core.now) (map executable_view executables.now))) }
+    ensures { (image : List ℕ) → IsSeenBy query.now (core_bytes core.now) window.entry.size window.entry.at window.entry.bytes.now image
+        → TellsReply (telling O.Output reply.old reply.new) (AnswersWith result (answer_of kind (memory_query query.now) image (map executable_view executables.now))) }
 {
     match lent(alloc, executables) {
-        Ok(attached) => tell_memory(alloc, kind, query, core, &attached, reply),
+        Ok(attached) => tell_memory(alloc, kind, query, core, window, &attached, reply),
         Err(_) => {
             tell_no(reply, b"OutOfMemory");
             false
@@ -119,14 +170,16 @@ fn tell_memory<O: Output>(
     kind: Kind,
     query: &MemoryQuery,
     core: &CoreImage<'_>,
+    window: Window<'_>,
     attached: &[Attached<'_>],
     reply: &mut Reply<'_, O>,
 ) -> bool
-    ensures { TellsReply (telling O.Output reply.old reply.new) (AnswersWith result (answer_of kind (memory_query query.now) (core_bytes core.now) (map attached_view attached.now))) }
+    ensures { (image : List ℕ) → IsSeenBy query.now (core_bytes core.now) window.entry.size window.entry.at window.entry.bytes.now image
+        → TellsReply (telling O.Output reply.old reply.new) (AnswersWith result (answer_of kind (memory_query query.now) image (map attached_view attached.now))) }
 {
     match query {
         MemoryQuery::Dump { first, length } => {
-            tell_dump(alloc, reply, core, attached, *first, *length)
+            tell_dump(alloc, reply, core, window, attached, *first, *length)
         }
         MemoryQuery::Find { needle } => {
             tell_find(alloc, reply, core, attached, needle.bytes.as_slice())

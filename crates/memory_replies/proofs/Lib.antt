@@ -8,3 +8,4 @@ pub mod TextLemmas
 pub mod PieceLemmas
 pub mod ValueLemmas
 pub mod FrontLemmas
+pub mod WindowLemmas

@@ -10,3 +10,4 @@ pub mod Symbol
 pub mod Backtrace
 pub mod NamedWords
 pub mod FileNameWords
+pub mod Window

@@ -1,6 +1,6 @@
 // A core's memory, with the executables that stand for its mapped files.
 ghost use Rattle.std.specs.Prelude.{◌≡◌, ◌++◌, ◌∷◌, [], IfOk, OnOk, map};
-ghost use Rattle.address_space.specs.SpaceWords.{space_of};
+ghost use Rattle.address_space.specs.SpaceWords.{core_of, space_of};
 ghost use Rattle.image_replies.specs.CoreWords.{core_bytes};
 ghost use Rattle.memory_replies.specs.Attaching.{with_attached};
 ghost use Rattle.memory_replies.specs.Backtrace.{known_among};
@@ -15,7 +15,8 @@ use std::alloc::{AllocError, Global};
 
 /// Attaches an executable where it passes the checks of its headers. The error is that there is no memory.
 fn attach<'a>(space: &mut AddressSpace<'a>, executable: Attached<'a>) -> Result<(), AllocError>
-    ensures { OnOk result (space_of space.new ≡ with_attached (space_of space.old) (spec.attached_view executable.entry)) }
+    ensures attached { OnOk result (space_of space.new ≡ with_attached (space_of space.old) (spec.attached_view executable.entry)) }
+    ensures core { core_of space.new ≡ core_of space.old }
 {
     let Ok(elf) = Elf::read(executable.image, Want::Exec) else {
         return Ok(());
@@ -35,7 +36,8 @@ pub(crate) fn plain_space<'a>(alloc: Global, core: &CoreImage<'a>) -> AddressSpa
 
 /// The same, in which segments and mapped files are looked up in tables. The error is that there is no memory for them.
 fn indexed_space<'a>(alloc: Global, core: &CoreImage<'a>) -> Result<AddressSpace<'a>, AllocError>
-    ensures { IfOk result (λ space. space_of space ≡ spec.memory_of (core_bytes core.now) []) }
+    ensures memory { IfOk result (λ space. space_of space ≡ spec.memory_of (core_bytes core.now) []) }
+    ensures core { IfOk result (λ space. core_of space ≡ core_bytes core.now) }
 {
     AddressSpace::indexed(alloc, &core.elf(), core.notes().files())
 }
@@ -47,8 +49,9 @@ pub(crate) fn space_with<'a>(
     core: &CoreImage<'a>,
     attached: &[Attached<'a>],
 ) -> Result<AddressSpace<'a>, AllocError>
-    ensures { IfOk result (λ space. space_of space
+    ensures memory { IfOk result (λ space. space_of space
         ≡ spec.memory_of (core_bytes core.now) (map spec.attached_view attached.now)) }
+    ensures core { IfOk result (λ space. core_of space ≡ core_bytes core.now) }
 {
     let mut space = indexed_space(alloc, core)?;
     for executable in attached {

@@ -1,22 +1,28 @@
 // The bytes of a range of addresses.
-ghost use Rattle.std.specs.Prelude.{◌≡◌, ◌+◌, ◌*◌, ◌^◌, ◌<◌, ◌≤◌, [], ◌∷◌, ◌++◌, map};
+ghost use Rattle.std.specs.Prelude.{◌≡◌, ◌+◌, ◌*◌, ◌^◌, ◌<◌, ◌≤◌, ℕ, List, [], ◌∷◌, ◌++◌, map};
 ghost use Rattle.std.specs.Option.{option_map};
 ghost use Rattle.script_words.specs.Printing.{hexadecimal};
 ghost use Rattle.address_space.specs.Source.{not_dumped};
 ghost use Rattle.std.specs.List.{flat_map};
 ghost use Rattle.script_streams.specs.Replies.{TellsReply, TellsText, reply_of, telling};
 ghost use Rattle.address_space.specs.Pieces.{pieces_of};
-ghost use Rattle.address_space.specs.SourceWords.{piece_view, spot_view};
-ghost use Rattle.address_space.specs.SpaceWords.{space_of};
+ghost use Rattle.address_space.specs.SourceWords.{spot_view};
+ghost use Rattle.address_space.specs.SpaceWords.{core_of, space_of};
+ghost use Rattle.address_space.specs.StretchWords.{IsWithin, piece_in};
+ghost use Rattle.address_space.specs.Whole.{AreHeldWithin, IsFrontOf, space_in};
+ghost use Rattle.elf_view.specs.Header.{segments_of};
 ghost use Rattle.image_replies.specs.CoreWords.{core_bytes};
 ghost use Rattle.memory_replies.specs.Answers.{AnswersWith};
 ghost use Rattle.memory_replies.specs.Memory.{attached_view};
 ghost use Rattle.memory_replies.specs.Words.{hex_word};
 ghost use Rattle.memory_replies.specs.Dump as spec;
+ghost use Rattle.memory_replies.specs.Window.{IsAtHand, IsPartOf, past_of};
 
 use crate::attached::space_with;
+use crate::laws::a_sound_front_names_the_files;
+use crate::window::Window;
 use crate::words::{tell_hex_word, tell_spot};
-use address_space::{AddressSpace, Attached, FileSpot, Piece, PieceKind};
+use address_space::{AddressSpace, Attached, FileSpot, Stretch, StretchKind};
 use elf_view::part;
 use image_replies::CoreImage;
 use script_streams::{Output, Reply, tell_no, tell_ok};
@@ -89,42 +95,47 @@ fn tell_absent<O: Output>(reply: &mut Reply<'_, O>, first: u64, word: &[u8], len
     reply.tell(b"\n");
 }
 
-/// Tells the lines of a piece.
+/// Tells the lines of a stretch, whose bytes are in the window.
 #[tactic(auto, unfolding(crate::specs::Dump::piece_lines))]
-fn tell_piece<O: Output>(reply: &mut Reply<'_, O>, piece: Piece<'_>)
-    ensures { TellsText (telling O.Output reply.old reply.new)
-        (spec.piece_lines (piece_view piece.entry)) }
+fn tell_stretch<O: Output>(reply: &mut Reply<'_, O>, window: Window<'_>, stretch: Stretch<'_>)
+    ensures { (image : List ℕ) → IsPartOf image window.entry.at window.entry.bytes.now → IsWithin window.entry.at (past_of window.entry.at window.entry.bytes.now) stretch.entry.length stretch.entry.kind
+        → TellsText (telling O.Output reply.old reply.new) (spec.piece_lines (piece_in image stretch.entry)) }
 {
-    match piece.kind {
-        PieceKind::Bytes(bytes) => tell_rows(reply, b"", piece.first, bytes),
-        PieceKind::FromFile(bytes) => tell_rows(reply, b"file ", piece.first, bytes),
-        PieceKind::NotDumped(spot) => {
-            tell_not_dumped(reply, piece.first, piece.length, spot);
+    match stretch.kind {
+        StretchKind::Core { offset } => {
+            let bytes = window.read(offset, stretch.length);
+            tell_rows(reply, b"", stretch.first, bytes);
         }
-        PieceKind::Cut => tell_absent(reply, piece.first, b"cut ", piece.length),
-        PieceKind::Unmapped => tell_absent(reply, piece.first, b"unmapped ", piece.length),
+        StretchKind::FromFile(bytes) => tell_rows(reply, b"file ", stretch.first, bytes),
+        StretchKind::NotDumped(spot) => {
+            tell_not_dumped(reply, stretch.first, stretch.length, spot);
+        }
+        StretchKind::Cut => tell_absent(reply, stretch.first, b"cut ", stretch.length),
+        StretchKind::Unmapped => tell_absent(reply, stretch.first, b"unmapped ", stretch.length),
     }
 }
 
-/// Tells the lines of each piece of `length` addresses.
-#[tactic(auto, using(crate::proofs::TellLemmas::up_to_start))]
-fn tell_pieces<O: Output>(
+/// Tells the lines of each stretch of `length` addresses, whose bytes are in the window.
+fn tell_stretches<O: Output>(
     reply: &mut Reply<'_, O>,
     space: &AddressSpace<'_>,
+    window: Window<'_>,
     first: u64,
     length: u64,
 )
     requires { first + length ≤ 2 ^ 64 }
-    ensures { TellsText (telling O.Output reply.old reply.new)
-        (flat_map spec.piece_lines (pieces_of (space_of space.now) first length)) }
+    ensures { (image : List ℕ) → IsFrontOf (core_of space.now) window.entry.size image → IsPartOf image window.entry.at window.entry.bytes.now
+        → AreHeldWithin window.entry.size first length window.entry.at (past_of window.entry.at window.entry.bytes.now) (segments_of (core_of space.now))
+        → TellsText (telling O.Output reply.old reply.new)
+        (flat_map spec.piece_lines (pieces_of (space_in image (space_of space.now)) first length)) }
 {
-    for piece in space.pieces(first, length) {
-        tell_piece(reply, piece);
+    for stretch in space.stretches(window.size, first, length) {
+        tell_stretch(reply, window, stretch);
     }
 }
 
-/// Whether the range ends past the last address, or is longer than a reply shows.
-fn is_out_of_range(first: u64, length: u64) -> bool
+/// Whether a range ends past the last address, or is longer than a reply shows.
+pub fn is_out_of_range(first: u64, length: u64) -> bool
     ensures { result ≡ spec.is_out_of_range first length }
 {
     length > MOST_SHOWN || u128::from(first) + u128::from(length) > 1 << 64
@@ -134,17 +145,22 @@ fn is_out_of_range(first: u64, length: u64) -> bool
 /// `ADDR file HEX` for each 16 that an attached executable has, `ADDR notdumped LEN OFFSET NAME`, `ADDR cut LEN` and
 /// `ADDR unmapped LEN`. A range that ends past the last address, or has over 65,536 addresses, is answered by `no Range`.
 /// Says whether there was memory for it; where there was none, the reply is `no OutOfMemory`.
+///
+/// The core may be the first bytes alone of an image. It is told what any image shows that begins so, and of which the window has
+/// all bytes that stand in the range.
 pub fn tell_dump<O: Output>(
     alloc: Global,
     reply: &mut Reply<'_, O>,
     core: &CoreImage<'_>,
+    window: Window<'_>,
     attached: &[Attached<'_>],
     first: u64,
     length: u64,
 ) -> bool
-    ensures { TellsReply (telling O.Output reply.old reply.new)
-        (AnswersWith result (spec.dump_answer (core_bytes core.now) (map attached_view attached.now) first length)) }
+    ensures { (image : List ℕ) → IsAtHand (core_bytes core.now) window.entry.size window.entry.at window.entry.bytes.now first length image → TellsReply (telling O.Output reply.old reply.new)
+        (AnswersWith result (spec.dump_answer image (map attached_view attached.now) first length)) }
 {
+    a_sound_front_names_the_files();
     let Ok(space) = space_with(alloc, core, attached) else {
         tell_no(reply, b"OutOfMemory");
         return false;
@@ -153,7 +169,7 @@ pub fn tell_dump<O: Output>(
         tell_no(reply, b"Range");
         return true;
     }
-    tell_pieces(reply, &space, first, length);
+    tell_stretches(reply, &space, window, first, length);
     tell_ok(reply);
     true
 }

@@ -4,6 +4,7 @@ ghost use Rattle.elf_view.specs.Sound.{IsHeaderWhole, IsSound};
 ghost use Rattle.elf_view.specs.declared.faults.Want.{Want};
 ghost use Rattle.image_replies.specs.Lines.{in_core};
 ghost use Rattle.memory_replies.specs.Maps.{maps_answer};
+ghost use Rattle.memory_replies.specs.Memory.{mapped_files};
 
 use elf_view::{Want, a_sound_front_is_enough};
 use image_replies::a_sound_front_answers;
@@ -16,4 +17,12 @@ pub fn a_sound_front_shows_the_mappings()
 {
     a_sound_front_is_enough();
     a_sound_front_answers();
+}
+
+/// So they name the mapped files that the whole core names. It does nothing.
+pub fn a_sound_front_names_the_files()
+    ensures { (b : List ℕ) (n : ℕ) → IsHeaderWhole (take n b) → IsSound Want.Core (take n b)
+        → mapped_files (take n b) ≡ mapped_files b }
+{
+    a_sound_front_is_enough();
 }

@@ -16,13 +16,15 @@ mod named_images;
 mod search;
 mod symbol;
 mod texts;
+mod window;
 mod words;
 
-pub use dump::tell_dump;
+pub use dump::{is_out_of_range, tell_dump};
 pub use file_names::FileNames;
 pub use frames::tell_bt;
-pub use laws::a_sound_front_shows_the_mappings;
+pub use laws::{a_sound_front_names_the_files, a_sound_front_shows_the_mappings};
 pub use maps::tell_maps;
 pub use search::tell_find;
 pub use symbol::tell_symbol;
 pub use texts::tell_strings;
+pub use window::Window;

@@ -1,4 +1,4 @@
-// How much of an image lines read that ask its headers and notes.
+// How much of an image lines read that ask its headers and notes, or a range of its memory.
 ghost use Rattle.std.specs.Prelude.{◌≡◌, ◌+◌, ◌≤◌, length};
 
 use crate::archives::{disk_of, opened, told};
@@ -156,5 +156,83 @@ fn notes_behind_the_memory_are_read_with_each_byte_once(rt: HostRuntime) -> Resu
     let none = bytes_read(alloc, with_core(alloc, &core)?, "free\n")?;
     let all = bytes_read(alloc, with_core(alloc, &core)?, "signal 1\n")?;
     assert_eq!(rt; all.saturating_sub(none), core.len() as u64);
+    Ok(())
+}
+
+// How many bytes a session over these lines reads more than one that asks no image.
+fn read_for(alloc: Global, core: &[u8], lines: &str) -> Result<u64, Fail> {
+    let none = bytes_read(alloc, with_core(alloc, core)?, "free\n")?;
+    Ok(bytes_read(alloc, with_core(alloc, core)?, lines)?.saturating_sub(none))
+}
+
+// That a session over these lines reads so many bytes more than `signal`, which reads the first 64 KiB of the image.
+fn reads_more(alloc: Global, core: &[u8], lines: &str, more: u64) -> Result<bool, Fail> {
+    let front = read_for(alloc, core, "signal 1\n")?;
+    Ok(read_for(alloc, core, lines)? == front.saturating_add(more))
+}
+
+// The memory of `large_core` stands from place 324 of its image on, so its first 65,212 bytes are among the first 64 KiB.
+#[test]
+fn a_dump_reads_a_front_and_its_range(rt: HostRuntime) -> Result<(), Fail> {
+    let alloc = rt.alloc();
+    let core = large_core(alloc)?;
+    assert!(rt; reads_more(alloc, &core, "dump 1 0x10000 4096\n", 0)?);
+    assert!(rt; reads_more(alloc, &core, "dump 1 0x60000 4096\n", 4096)?);
+    assert!(rt; reads_more(alloc, &core, "dump 1 0x10000 65536\n", 324)?);
+    assert!(rt; reads_more(alloc, &core, "dump 1 0x10fff0 65536\n", 16)?);
+    assert!(rt; reads_more(alloc, &core, "dump 1 0x900000 4096\n", 0)?);
+    Ok(())
+}
+
+#[test]
+fn dumps_in_a_row_read_the_front_once(rt: HostRuntime) -> Result<(), Fail> {
+    let alloc = rt.alloc();
+    let core = large_core(alloc)?;
+    let lines = "dump 1 0x60000 4096\nsignal 1\ndump 1 0x80000 16\n";
+    assert!(rt; reads_more(alloc, &core, lines, 4112)?);
+    Ok(())
+}
+
+// A core of which no bytes past the first 100,000 are there: a dump reads none of them.
+#[test]
+fn what_is_cut_is_not_read(rt: HostRuntime) -> Result<(), Fail> {
+    let alloc = rt.alloc();
+    let core = large_core(alloc)?;
+    let front = match core.get(..100_000) {
+        Some(front) => front,
+        None => Err("no front")?,
+    };
+    assert!(rt; reads_more(alloc, front, "dump 1 0x20000 65536\n", 34_140)?);
+    Ok(())
+}
+
+// A segment of a core, at that address.
+fn segment(vaddr: u64, bytes: &[u8]) -> LoadPart<'_> {
+    LoadPart {
+        flags: 6,
+        vaddr,
+        memsz: bytes.len() as u64,
+        bytes,
+    }
+}
+
+// A core of three segments: the first and the last are side by side in memory, and the second is between them in the image.
+fn scattered_core(alloc: Global) -> Result<Vec<u8>, Fail> {
+    let page = vec![in alloc; 7u8; 4096]?;
+    let between = vec![in alloc; 8u8; 1 << 18]?;
+    let loads = [
+        segment(0x11000, &page),
+        segment(0x100000, &between),
+        segment(0x10000, &page),
+    ];
+    Ok(core_image(alloc, &[], &loads)?)
+}
+
+#[test]
+fn a_range_that_is_scattered_is_read_with_each_byte_once(rt: HostRuntime) -> Result<(), Fail> {
+    let alloc = rt.alloc();
+    let core = scattered_core(alloc)?;
+    let read = read_for(alloc, &core, "dump 1 0x10000 8192\n")?;
+    assert_eq!(rt; read, core.len() as u64);
     Ok(())
 }

@@ -23,5 +23,5 @@ returns-in_err-read_up_to-2 g c =
 
 pub returns : goal.returns
 returns g c =
-    read_enough g.D.Disk c.args.archive.now c.loop-want.archive c.args.seq c.args.size (vec_capacity c.loop-want.image) c.args.want c.loop-want.image c.requires c.loop-want.invariant
+    read_enough g.D.Disk c.args.archive.now c.loop-want.archive c.args.seq c.args.size c.args.want c.loop-want.image c.requires c.loop-want.invariant
     (rw c.deref.ensures.value at (c.is_enough.ensures.enough c.loop-want-test.false))

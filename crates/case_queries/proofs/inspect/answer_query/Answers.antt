@@ -1,5 +1,5 @@
 use Rattle.intake.specs.Parts.{state_of}
-use Rattle.script_lines.specs.Queries.{query_of, image_query}
+use Rattle.script_lines.specs.Queries.{query_of, image_query, memory_query, ask_symbol}
 use Rattle.script_streams.specs.Replies.{no_reply}
 use Rattle.case_queries.specs.Inspecting.{kind_asked}
 use Rattle.case_queries.proofs.AskLemmas.{reason_told, kind_told}
@@ -18,7 +18,14 @@ returns-in-Image-clause-answers g c =
     let asked = rw c.in-Image.is at c.in-Ok.ensures.asked in
     rw c.in-Image.is (told.0, kind_told g.D.Disk c.args.archive.now c.answer_by_front.new.archive c.args.seq (image_query c.in-Image.query) c.in-Ok.kind _ told.0 asked told.1, told.2)
 
-pub returns-in_default-clause-answers : goal.returns-in_default-clause-answers
-returns-in_default-clause-answers g c =
-    let told = c.answer_by_image.ensures.answers in
-    (told.0, kind_told g.D.Disk c.args.archive.now c.answer_by_image.new.archive c.args.seq (query_of c.args.query.now) c.in-Ok.kind (kind_asked (state_of c.args.archive.now) c.args.seq (query_of c.args.query.now)) told.0 c.in-Ok.ensures.asked told.1, told.2)
+pub returns-in-Memory-clause-answers : goal.returns-in-Memory-clause-answers
+returns-in-Memory-clause-answers g c =
+    let told = c.answer_by_memory.ensures.answers in
+    let asked = rw c.in-Memory.is at c.in-Ok.ensures.asked in
+    rw c.in-Memory.is (told.0, kind_told g.D.Disk c.args.archive.now c.answer_by_memory.new.archive c.args.seq (memory_query c.in-Memory.query) c.in-Ok.kind _ told.0 asked told.1, told.2)
+
+pub returns-in-Symbol-clause-answers : goal.returns-in-Symbol-clause-answers
+returns-in-Symbol-clause-answers g c =
+    let told = c.answer_symbol.ensures.answers in
+    let asked = rw c.in-Symbol.is at c.in-Ok.ensures.asked in
+    rw c.in-Symbol.is (told.0, kind_told g.D.Disk c.args.archive.now c.answer_symbol.new.archive c.args.seq (ask_symbol c.in-Symbol.address) c.in-Ok.kind _ told.0 asked told.1, told.2)

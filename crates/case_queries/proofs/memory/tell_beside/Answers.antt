@@ -3,4 +3,4 @@ use Rattle.memory_replies.specs.Answers.{memory_reply}
 use Rattle.case_queries.proofs.memory.tell_beside.Goals as goal
 
 pub returns-in-Err : goal.returns-in-Err
-returns-in-Err g c = (memory_reply, refl, c.tell_no.ensures)
+returns-in-Err g c image by = (memory_reply, refl, c.tell_no.ensures)

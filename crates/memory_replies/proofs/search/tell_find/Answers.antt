@@ -8,4 +8,4 @@ returns-in_default g c = (_, refl, c.tell_no.ensures)
 
 pub returns : goal.returns
 returns g c =
-    (_, (matches_shown _ _ _ _ c.in-Ok.ensures), tells_then c.tell_matches.ensures c.tell_ok.ensures)
+    (_, (matches_shown _ _ _ _ c.in-Ok.ensures.memory), tells_then c.tell_matches.ensures c.tell_ok.ensures)

@@ -8,4 +8,4 @@ returns-in_default g c = (_, refl, c.tell_no.ensures)
 
 pub returns : goal.returns
 returns g c =
-    (_, (texts_told _ _ _ _ c.in-Ok.ensures), tells_then c.tell_texts.ensures c.tell_ok.ensures)
+    (_, (texts_told _ _ _ _ c.in-Ok.ensures.memory), tells_then c.tell_texts.ensures c.tell_ok.ensures)

@@ -1,0 +1,313 @@
+// What is read of an image for a line over a core's memory.
+ghost use Rattle.std.specs.Prelude.{◌≡◌, ◌+◌, ◌-◌, ◌^◌, ◌<◌, ◌≤◌, ℕ, [], Ok, IfOk, IfSome, Some, drop, take, length, false, vec_capacity};
+ghost use Rattle.elf_view.specs.Field.{part};
+ghost use Rattle.elf_view.specs.Header.{segments_of};
+ghost use Rattle.elf_view.specs.declared.faults.Want.TheVariants.{Core};
+ghost use Rattle.address_space.specs.Whole.{AreHeldWithin};
+ghost use Rattle.intake.specs.Part.{PartCall};
+ghost use Rattle.intake.specs.Parts.{Parts, state_of};
+ghost use Rattle.intake.specs.State.{CaseFacts};
+ghost use Rattle.intake.specs.Step.{case_at};
+ghost use Rattle.memory_replies.specs.Dump.{is_out_of_range};
+ghost use Rattle.script_lines.specs.declared.query.MemoryQuery.{MemoryQuery};
+ghost use Rattle.case_queries.specs.Fronts.{HasSize, SeesEnough};
+ghost use Rattle.case_queries.specs.Keeping.{AreKept};
+ghost use Rattle.case_queries.specs.Seeing.{IsKept};
+ghost use Rattle.case_queries.specs.Windows.{IsWanted, ReadsRange, SeesDump, SeesFor, part_at, part_bytes};
+
+use crate::front::{read_up_to, see_front, size_of};
+use crate::kept_image::{KeptImage, see_image};
+use address_space::{ImageRange, image_range};
+use disk_model::Disk;
+use elf_view::{Elf, Want, part};
+use intake::{Archive, ArchiveFault};
+use memory_replies::{Window, is_out_of_range};
+use script_lines::MemoryQuery;
+use std::alloc::Global;
+
+// How many bytes of an image a line reads at most after the first of it, if it doesn't read all: as many as a reply of `dump` has.
+const WINDOW: usize = 65_536;
+
+// Bytes of an image from a place on.
+#[derive(Drop)]
+pub(crate) struct Part {
+    pub(crate) at: u64,
+    pub(crate) bytes: Vec<u8>,
+}
+
+// What is seen of an image of `size` bytes: the first of them, and a part that was read for one line; or all of them.
+#[derive(Drop)]
+pub(crate) struct Seen {
+    pub(crate) kept: KeptImage,
+    pub(crate) size: u64,
+    pub(crate) part: Option<Part>,
+}
+
+// The part, lent; or all of the image.
+pub(crate) fn lent_window<'a>(image: &'a [u8], size: u64, part: &'a Option<Part>) -> Window<'a>
+    ensures size { result.size ≡ size }
+    ensures at { result.at ≡ part_at part.now }
+    ensures bytes { result.bytes.now ≡ part_bytes image.now part.now }
+{
+    match part {
+        Some(part) => Window {
+            size,
+            at: part.at,
+            bytes: &part.bytes,
+        },
+        None => Window {
+            size,
+            at: 0,
+            bytes: image,
+        },
+    }
+}
+
+// A whole image.
+fn all_of(kept: KeptImage) -> Seen
+    ensures kept { result.kept ≡ kept }
+    ensures size { result.size ≡ length kept.image.items }
+    ensures part { (part_at result.part ≡ 0) × (part_bytes result.kept.image.items result.part ≡ kept.image.items) }
+{
+    let size = kept.image.len() as u64;
+    Seen {
+        kept,
+        size,
+        part: None,
+    }
+}
+
+// The whole image of a case.
+fn see_whole<D: Disk>(
+    seq: u32,
+    kept: Option<KeptImage>,
+    archive: &mut Archive<D>,
+) -> Result<Seen, ArchiveFault>
+    requires kept { IsKept D.Disk archive.old kept }
+    requires beside { AreKept D.Disk archive.old kept }
+    ensures seen { (query : MemoryQuery) → SeesFor D.Disk archive.old seq query result archive.new }
+    ensures kept { IfOk result (λ s. IsKept D.Disk archive.new (Some s.kept)) }
+    ensures beside { IfOk result (λ s. AreKept D.Disk archive.new (Some s.kept)) }
+{
+    let kept = see_image(seq, kept, archive)?;
+    Ok(all_of(kept))
+}
+
+// The places of an image of `size` bytes that have what a dump shows, if they are few. These are its first bytes.
+fn wanted_range(front: &[u8], size: u64, first: u64, count: u64) -> Option<ImageRange>
+    ensures { IfSome result (λ r. IsWanted front.now size first count r.start r.past) }
+{
+    if is_out_of_range(first, count) {
+        return Some(ImageRange { start: 0, past: 0 });
+    }
+    let Ok(elf) = Elf::read(front, Want::Core) else {
+        return None;
+    };
+    let range = image_range(&elf, size, first, count);
+    if range.past - range.start > WINDOW as u64 {
+        return None;
+    }
+    Some(range)
+}
+
+// Reads a case's image to the end of these bytes, of which the first is that from place `start` on and those before `at` are there.
+fn read_after<D: Disk>(
+    seq: u32,
+    start: u64,
+    at: usize,
+    bytes: &mut [u8],
+    archive: &mut Archive<D>,
+) -> Result<(), ArchiveFault>
+    requires within { at ≤ length bytes.old }
+    requires end { start + length bytes.old < 2 ^ 64 }
+    requires fits { (c : CaseFacts) → case_at seq (state_of archive.old).cases ≡ Some c → start + length bytes.old ≤ c.len }
+    ensures read { PartCall D.Disk archive.old seq (start + at) (length bytes.old - at) result (drop at bytes.new) archive.new }
+    ensures before { take at bytes.new ≡ take at bytes.old }
+{
+    archive.image_part(seq, start + at as u64, &mut bytes[at..])
+}
+
+// Reads what a range of a case's image has after the first bytes of it, and puts what they have of the range before it.
+fn read_range<D: Disk>(
+    seq: u32,
+    size: usize,
+    front: &[u8],
+    range: ImageRange,
+    bytes: &mut Vec<u8>,
+    archive: &mut Archive<D>,
+) -> Result<(), ArchiveFault>
+    requires has { HasSize (state_of archive.old) seq size }
+    requires range { (range.start ≤ range.past) × (range.past ≤ size) }
+    requires room { range.past - range.start ≤ vec_capacity bytes.old }
+    requires none { bytes.old.items ≡ [] }
+    ensures { ReadsRange D.Disk archive.old seq front.now range.start (range.past - range.start) result bytes.new.items archive.new }
+{
+    let count = range.past - range.start;
+    bytes
+        .extend_from_slice(part(front, range.start, count))
+        .unwrap();
+    let at = bytes.len();
+    bytes.resize(count as usize, 0).unwrap();
+    read_after(seq, range.start, at, bytes, archive)
+}
+
+// Reads the range of an image that a line wants beside its first bytes.
+fn read_window<D: Disk>(
+    seq: u32,
+    size: usize,
+    front: KeptImage,
+    range: ImageRange,
+    mut room: Vec<u8>,
+    archive: &mut Archive<D>,
+) -> Result<Seen, ArchiveFault>
+    requires has { HasSize (state_of archive.old) seq size }
+    requires range { (range.start ≤ range.past) × (range.past ≤ size) }
+    requires room { range.past - range.start ≤ vec_capacity room }
+    requires none { room.items ≡ [] }
+    requires kept { IsKept D.Disk archive.old (Some front) }
+    requires beside { AreKept D.Disk archive.old (Some front) }
+    ensures seen { (before : Parts D) (first n : ℕ) → HasSize (state_of before) seq size → SeesEnough D.Disk before seq Core (Ok front) archive.old
+        → IsWanted front.image.items size first n range.start range.past → SeesDump D.Disk before seq first n result archive.new }
+    ensures kept { IfOk result (λ s. IsKept D.Disk archive.new (Some s.kept)) }
+    ensures beside { IfOk result (λ s. AreKept D.Disk archive.new (Some s.kept)) }
+{
+    read_range(seq, size, &front.image, range, &mut room, archive)?;
+    Ok(Seen {
+        kept: front,
+        size: size as u64,
+        part: Some(Part {
+            at: range.start,
+            bytes: room,
+        }),
+    })
+}
+
+// Reads the rest of an image, of which these are the first bytes.
+fn read_rest<D: Disk>(
+    seq: u32,
+    size: usize,
+    front: KeptImage,
+    archive: &mut Archive<D>,
+) -> Result<Seen, ArchiveFault>
+    requires has { HasSize (state_of archive.old) seq size }
+    requires short { length front.image.items ≤ size }
+    requires room { size ≤ vec_capacity front.image }
+    ensures seen { (before : Parts D) (first n : ℕ) → HasSize (state_of before) seq size → SeesEnough D.Disk before seq Core (Ok front) archive.old
+        → SeesDump D.Disk before seq first n result archive.new }
+    ensures kept { (before : Parts D) → HasSize (state_of before) seq size → SeesEnough D.Disk before seq Core (Ok front) archive.old
+        → IfOk result (λ s. IsKept D.Disk archive.new (Some s.kept)) }
+    ensures beside { IfOk result (λ s. AreKept D.Disk archive.new (Some s.kept)) }
+{
+    let mut image = front.image;
+    read_up_to(seq, size, &mut image, archive)?;
+    Ok(all_of(KeptImage {
+        seq,
+        image,
+        is_whole: true,
+        executables: None,
+    }))
+}
+
+// What a dump wants of an image beside its first bytes.
+fn see_more<D: Disk>(
+    seq: u32,
+    size: usize,
+    first: u64,
+    count: u64,
+    front: KeptImage,
+    room: Vec<u8>,
+    archive: &mut Archive<D>,
+) -> Result<Seen, ArchiveFault>
+    requires has { HasSize (state_of archive.old) seq size }
+    requires cut { front.is_whole ≡ false }
+    requires short { length front.image.items ≤ size }
+    requires roomy { size ≤ vec_capacity front.image }
+    requires room { 65536 ≤ vec_capacity room }
+    requires none { room.items ≡ [] }
+    requires kept { IsKept D.Disk archive.old (Some front) }
+    requires beside { AreKept D.Disk archive.old (Some front) }
+    ensures seen { (before : Parts D) → HasSize (state_of before) seq size → SeesEnough D.Disk before seq Core (Ok front) archive.old
+        → SeesDump D.Disk before seq first count result archive.new }
+    ensures kept { (before : Parts D) → HasSize (state_of before) seq size → SeesEnough D.Disk before seq Core (Ok front) archive.old
+        → IfOk result (λ s. IsKept D.Disk archive.new (Some s.kept)) }
+    ensures beside { IfOk result (λ s. AreKept D.Disk archive.new (Some s.kept)) }
+{
+    match wanted_range(&front.image, size as u64, first, count) {
+        Some(range) => read_window(seq, size, front, range, room, archive),
+        None => read_rest(seq, size, front, archive),
+    }
+}
+
+// As much of an image of `size` bytes as a dump wants: its first bytes, as the lines over headers want them, and the range that
+// has the bytes of these addresses; or all of it. Room is taken before the first read, because `OutOfMemory` promises that the
+// disk is untouched.
+fn see_window<D: Disk>(
+    alloc: Global,
+    seq: u32,
+    size: usize,
+    first: u64,
+    count: u64,
+    kept: Option<KeptImage>,
+    archive: &mut Archive<D>,
+) -> Result<Seen, ArchiveFault>
+    requires has { HasSize (state_of archive.old) seq size }
+    requires kept { IsKept D.Disk archive.old kept }
+    requires beside { AreKept D.Disk archive.old kept }
+    ensures seen { SeesDump D.Disk archive.old seq first count result archive.new }
+    ensures kept { IfOk result (λ s. IsKept D.Disk archive.new (Some s.kept)) }
+    ensures beside { IfOk result (λ s. AreKept D.Disk archive.new (Some s.kept)) }
+{
+    let Ok(room) = Vec::with_capacity(alloc, WINDOW) else {
+        return Err(ArchiveFault::OutOfMemory);
+    };
+    let front = see_front(alloc, seq, Want::Core, kept, archive)?;
+    if front.is_whole {
+        return Ok(all_of(front));
+    }
+    see_more(seq, size, first, count, front, room, archive)
+}
+
+// As much of a case's image as a dump wants.
+fn see_dump<D: Disk>(
+    alloc: Global,
+    seq: u32,
+    first: u64,
+    count: u64,
+    kept: Option<KeptImage>,
+    archive: &mut Archive<D>,
+) -> Result<Seen, ArchiveFault>
+    requires kept { IsKept D.Disk archive.old kept }
+    requires beside { AreKept D.Disk archive.old kept }
+    ensures seen { SeesDump D.Disk archive.old seq first count result archive.new }
+    ensures kept { IfOk result (λ s. IsKept D.Disk archive.new (Some s.kept)) }
+    ensures beside { IfOk result (λ s. AreKept D.Disk archive.new (Some s.kept)) }
+{
+    // If there is no such case, reading the whole image says why.
+    let Some(size) = size_of(seq, archive) else {
+        return see_whole(seq, None, archive);
+    };
+    see_window(alloc, seq, size, first, count, kept, archive)
+}
+
+// As much of a case's image as a line over a core's memory wants. A kept image that is of that case and enough is not read again;
+// another is dropped with its executables.
+pub(crate) fn see_memory<D: Disk>(
+    alloc: Global,
+    seq: u32,
+    query: &MemoryQuery,
+    kept: Option<KeptImage>,
+    archive: &mut Archive<D>,
+) -> Result<Seen, ArchiveFault>
+    requires kept { IsKept D.Disk archive.old kept }
+    requires beside { AreKept D.Disk archive.old kept }
+    ensures seen { SeesFor D.Disk archive.old seq query.now result archive.new }
+    ensures kept { IfOk result (λ s. IsKept D.Disk archive.new (Some s.kept)) }
+    ensures beside { IfOk result (λ s. AreKept D.Disk archive.new (Some s.kept)) }
+{
+    match query {
+        MemoryQuery::Dump { first, length } => {
+            see_dump(alloc, seq, *first, *length, kept, archive)
+        }
+        _ => see_whole(seq, kept, archive),
+    }
+}
