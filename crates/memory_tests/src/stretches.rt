@@ -42,14 +42,8 @@ fn the_places_of_stretches(rt: HostRuntime) -> Result<(), Fail> {
     let size = image.len() as u64;
     // The memory is the last 48 bytes of the image.
     let start = size.saturating_sub(48);
-    let front = match image.get(..start as usize) {
-        Some(front) => front,
-        None => Err("no front")?,
-    };
-    let elf = match Elf::read(front, Want::Core) {
-        Ok(elf) => elf,
-        Err(_) => Err("not sound")?,
-    };
+    let front = image.get(..start as usize).ok_or("no front")?;
+    let elf = Elf::read(front, Want::Core).ok().ok_or("not sound")?;
     let space = AddressSpace::new(alloc, &elf, None);
     // All of the image is there, and then all but the last byte.
     let mut whole = space.stretches(size, 0xfff, 0x50);
@@ -85,10 +79,7 @@ fn the_range_of_an_image(rt: HostRuntime) -> Result<(), Fail> {
     let image = two_segments(alloc)?;
     let size = image.len() as u64;
     let start = size.saturating_sub(48);
-    let elf = match Elf::read(&image, Want::Core) {
-        Ok(elf) => elf,
-        Err(_) => Err("not sound")?,
-    };
+    let elf = Elf::read(&image, Want::Core).ok().ok_or("not sound")?;
     let ranges = [
         (
             0x1000,
