@@ -198,10 +198,7 @@ fn dumps_in_a_row_read_the_front_once(rt: HostRuntime) -> Result<(), Fail> {
 fn what_is_cut_is_not_read(rt: HostRuntime) -> Result<(), Fail> {
     let alloc = rt.alloc();
     let core = large_core(alloc)?;
-    let front = match core.get(..100_000) {
-        Some(front) => front,
-        None => Err("no front")?,
-    };
+    let front = core.get(..100_000).ok_or("no front")?;
     assert!(rt; reads_more(alloc, front, "dump 1 0x20000 65536\n", 34_140)?);
     Ok(())
 }
