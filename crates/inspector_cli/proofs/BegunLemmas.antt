@@ -191,7 +191,7 @@ module _ {D : Type 0} (g : disk.Ghosts D) (slot : ℕ) where
   line_begun naming old new (begin_core s process) raw reply r = begins_begun old new s (core_stream naming process) reply r.0 r.1
   line_begun naming old new (part_of s n) raw reply (Ok u, takes, told) =
       subst (λ (t : Bool). IsBegun slot (state_of new) (cond (s == slot) (cond t None (begun_of (state_of old).streams slot)) (begun_of (state_of old).streams slot))) (sym (ap is_no told))
-      (grown slot (state_of old) (state_of new) s takes.step.0 _ takes.step.1.1 refl (ap (λ (b : ArchiveState). b.streams) takes.step.3))
+      (grown slot (state_of old) (state_of new) s takes.step.0 _ takes.step.1.1 refl (ap (λ (b : ArchiveState). b.streams) takes.step.4))
   line_begun naming old new (part_of s n) raw reply (Err f, takes, told) =
       subst (λ (t : Bool). IsBegun slot (state_of new) (cond (s == slot) (cond t None (begun_of (state_of old).streams slot)) (begun_of (state_of old).streams slot))) (sym (ap is_no told))
       (refused_begun (state_of old) (state_of new) s _ f takes.step)

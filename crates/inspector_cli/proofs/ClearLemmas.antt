@@ -113,7 +113,7 @@ begin_stays old new slot s (Err OutOfMemory) step stopped = ap (λ (b : ArchiveS
 begin_stays old new slot s (Err _) step stopped = absurd step
 
 take_stays : (old new : ArchiveState) (slot n : ℕ) (r : Result (Unit {0}) ArchiveFault) → TakeStep old slot n r new → old.stopped ≡ true → new.stopped ≡ true
-take_stays old new slot n (Ok x) step stopped = ap (λ (b : ArchiveState). b.stopped) step.3 ∙ stopped
+take_stays old new slot n (Ok x) step stopped = ap (λ (b : ArchiveState). b.stopped) step.4 ∙ stopped
 take_stays old new slot n (Err Stopped) step stopped = ap (λ (b : ArchiveState). b.stopped) step.1 ∙ stopped
 take_stays old new slot n (Err NoStream) step stopped = ap (λ (b : ArchiveState). b.stopped) step.2 ∙ stopped
 take_stays old new slot n (Err TooLong) step stopped = ap (λ (b : ArchiveState). b.stopped) step.4 ∙ stopped

@@ -26,3 +26,7 @@ pub mod BegunLemmas
 pub mod IdleLemmas
 pub mod CaseLemmas
 pub mod KeepingLemmas
+pub mod AgreeLemmas
+pub mod AgreeLooks
+pub mod AgreeLines
+pub mod AgreeScripts

@@ -57,10 +57,10 @@ fits_state a slot n fits =
 
 -- a stream that takes bytes has room
 pub has_room : (b mid : ArchiveState) (slot k : ℕ) (u : Unit {0}) (f : ArchiveFault) → TakeStep b slot k (Ok u) mid → RoomReply mid slot (Err f) → ⊥
-has_room b mid slot k u Stopped step reply = false≢true (sym step.1.0 ∙ sym (ap (λ (x : ArchiveState). x.stopped) step.3) ∙ reply)
+has_room b mid slot k u Stopped step reply = false≢true (sym step.1.0 ∙ sym (ap (λ (x : ArchiveState). x.stopped) step.4) ∙ reply)
 has_room b mid slot k u NoStream step reply =
-    let is : stream_at mid.streams slot ≡ Some (longer step.0 k) =
-    ap (λ (x : ArchiveState). stream_at x.streams slot) step.3 ∙ at_set b.streams slot step.0 (Some (longer step.0 k)) step.1.1 in
+    let is : stream_at mid.streams slot ≡ Some (longer step.0 k step.3) =
+    ap (λ (x : ArchiveState). stream_at x.streams slot) step.4 ∙ at_set b.streams slot step.0 (Some (longer step.0 k step.3)) step.1.1 in
     let none = reply.1 in
     cc
 has_room b mid slot k u _ step reply = reply

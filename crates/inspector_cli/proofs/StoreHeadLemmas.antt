@@ -66,18 +66,18 @@ none_apart n is = subst IsNone is tt
 module _ {D : Type 0} (g : disk.Ghosts D) (lasts : LastingLaws g) where
   -- the stream that has taken these bytes, where it had none when it began
   module _ (room mid filled : Parts D) (stream : StreamFacts) (raw : List ℕ) (none : stream.len ≡ 0) (begun : BeginCall g room 0 stream (Ok tt) mid) (takes : Takes g mid 0 raw (Ok tt) filled) where
-    facts_are : (s : StreamFacts) → stream_at (state_of filled).streams 0 ≡ Some s → s ≡ record stream { len = length raw }
+    facts_are : (s : StreamFacts) → stream_at (state_of filled).streams 0 ≡ Some s → s ≡ record stream { len = length raw; blocks = takes.step.3 }
     facts_are s at =
         let before : stream_at (slice_set (state_of room).streams 0 (Some stream)) 0 ≡ Some takes.step.0 =
         subst (λ (b : ArchiveState). stream_at b.streams 0 ≡ Some takes.step.0) begun.step.1 takes.step.1.1
         in
         let first : takes.step.0 ≡ stream = set_is (state_of room).streams 0 stream takes.step.0 before in
-        let after : stream_at (slice_set (state_of mid).streams 0 (Some (longer takes.step.0 (length raw)))) 0 ≡ Some s =
-        subst (λ (b : ArchiveState). stream_at b.streams 0 ≡ Some s) takes.step.3 at
+        let after : stream_at (slice_set (state_of mid).streams 0 (Some (longer takes.step.0 (length raw) takes.step.3))) 0 ≡ Some s =
+        subst (λ (b : ArchiveState). stream_at b.streams 0 ≡ Some s) takes.step.4 at
         in
-        set_is (state_of mid).streams 0 (longer takes.step.0 (length raw)) s after
-        ∙ ap (λ (x : StreamFacts). longer x (length raw)) first
-        ∙ ap (λ (k : ℕ). record stream { len = k }) (omega (arith, none))
+        set_is (state_of mid).streams 0 (longer takes.step.0 (length raw) takes.step.3) s after
+        ∙ ap (λ (x : StreamFacts). longer x (length raw) takes.step.3) first
+        ∙ ap (λ (k : ℕ). record stream { len = k; blocks = takes.step.3 }) (omega (arith, none))
 
     bytes_are : IsTrue (g.is_honest mid.disk) → (t : Taken) → stream_at (contents_of g.seen filled).taken 0 ≡ Some t → t.bytes ≡ raw
     bytes_are honest t at =

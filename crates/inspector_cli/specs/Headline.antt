@@ -24,9 +24,9 @@ use Rattle.inspector_cli.specs.Life.{LifeEnds, RunsOver}
 use Rattle.inspector_cli.specs.Session.{Ending, IsEnding, Item, IsItem, Streams, ending_text, said_last, spelled}
 use Rattle.inspector_cli.specs.Told.{Answer, what_of, is_no, parts_in}
 
--- a stream as it began, with no bytes
+-- a stream as it began, with no bytes and no blocks
 abbrev pub empty_stream : StreamFacts → StreamFacts
-empty_stream s = record s { len = 0 }
+empty_stream s = record s { len = 0; blocks = [] }
 
 -- the stream that a line begins, with no bytes yet
 abbrev pub begins_as : Naming → Said → Option StreamFacts

@@ -14,3 +14,4 @@ pub mod Copying
 pub mod Headline
 pub mod StoreHeadline
 pub mod Kept
+pub mod Agreement

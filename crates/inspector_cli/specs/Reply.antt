@@ -11,7 +11,7 @@ use Rattle.intake.specs.Contents.{Contents, Taken, RefusedBytes, with_taken}
 use Rattle.intake.specs.Parts.{Parts, state_of, contents_of}
 use Rattle.intake.specs.Slots.{stream_at}
 use Rattle.intake.specs.State.{ArchiveState, StreamFacts, blocks_in}
-use Rattle.intake.specs.Step.{FreeReply, with_stream, halted, longer}
+use Rattle.intake.specs.Step.{FreeReply, FillsBlocks, with_stream, halted, longer}
 use Rattle.retention.specs.declared.Decision.{Decision}
 use Rattle.retention.specs.declared.Policy.{Policy}
 use Rattle.archive_replies.specs.Texts.{plain_reply, begin_reply, end_reply, retire_reply, free_reply, list_reply}
@@ -40,11 +40,12 @@ MayTake s stream n = (stream.len + n ≤ s.limit) × ((m : ℕ) → IsWall s str
 abbrev pub IsOpen : ArchiveState → ℕ → StreamFacts → Type 0
 IsOpen s slot stream = (s.stopped ≡ false) × (stream_at s.streams slot ≡ Some stream)
 
--- n bytes more as one step, whatever pieces they come in: of the limit and the full disk that is told which the bytes meet
+-- n bytes more as one step, whatever pieces they come in: they take the lowest free blocks. Of the limit and the full disk that is told which the bytes meet
 -- first. Where memory or the disk failed, that was while some of them were taken.
 abbrev pub TakeStep : ArchiveState → ℕ → ℕ → Result (Unit {0}) ArchiveFault → ArchiveState → Type 0
 TakeStep old slot n (Ok u) new =
-    (s : StreamFacts) × IsOpen old slot s × MayTake old s n × (new ≡ with_stream old slot (Some (longer s n)))
+    (s : StreamFacts) × IsOpen old slot s × MayTake old s n
+    × (blocks : List ℕ) × (new ≡ with_stream old slot (Some (longer s n blocks))) × FillsBlocks old slot s ((s.len + n) / 4096) blocks
 TakeStep old slot n (Err Stopped) new = (old.stopped ≡ true) × (new ≡ old)
 TakeStep old slot n (Err NoStream) new = (old.stopped ≡ false) × (stream_at old.streams slot ≡ None) × (new ≡ old)
 TakeStep old slot n (Err TooLong) new =

@@ -1,4 +1,5 @@
 //! What holds over every script and every session. These functions do nothing.
+ghost use Rattle.inspector_cli.specs.Agreement.{LinesAgree, ScriptsAgree};
 ghost use Rattle.inspector_cli.specs.Cuts.{HasOneCut, HasACut, HasOneFront};
 ghost use Rattle.inspector_cli.specs.Headline.{SessionsAreCrashSafe};
 ghost use Rattle.inspector_cli.specs.StoreHeadline.{StoresAreCrashSafe};
@@ -7,7 +8,7 @@ ghost use Rattle.inspector_cli.specs.Runs.{WholeIsARun, FrontIsARun, StagesAreCl
 
 use disk_model::Disk;
 use intake::{
-    calls_lead_from_mark_to_mark, found_after_a_stop, nothing_else_is_left, what_calls_leave,
+    an_answer_is_one, calls_lead_from_mark_to_mark, found_after_a_stop, nothing_else_is_left, what_calls_leave,
 };
 use script_streams::lines_are_cut_one_way;
 
@@ -19,6 +20,17 @@ pub fn a_script_has_one_cut()
     ensures front { HasOneFront }
 {
     lines_are_cut_one_way();
+}
+
+/// What is answered is a function of the script and of what the archive holds: two archives that hold the same, whatever their
+/// disks, give a script the same text, unless a reply is `no OutOfMemory` or `no Disk`, which any line may get. They hold the same
+/// after each line, too.
+pub fn a_text_is_one<D: Disk, E: Disk>()
+    ensures lines { LinesAgree D.Disk E.Disk }
+    ensures scripts { ScriptsAgree D.Disk E.Disk }
+{
+    an_answer_is_one();
+    a_script_has_one_cut();
 }
 
 /// The stages of a session are a run of marks, and from an opening of an honest disk on they are a life, wherever the machine

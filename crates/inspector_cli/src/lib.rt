@@ -22,7 +22,7 @@ pub use begin::line_stream;
 pub use copying::{CopyFault, copy_image};
 pub use extract::{ImageFault, read_image, write_image};
 pub use laws::{
-    a_script_has_one_cut, a_session_is_crash_safe, a_store_is_crash_safe,
+    a_script_has_one_cut, a_session_is_crash_safe, a_store_is_crash_safe, a_text_is_one,
     room_is_made_for_a_stream, sessions_are_runs,
 };
 pub use life::open_and_run;

@@ -17,7 +17,8 @@ use Rattle.intake.specs.Balance.{Balances}
 use Rattle.intake.specs.Blocks.{joined, image_in}
 use Rattle.intake.specs.Contents.{Taken, advanced, with_taken, without_streams, RefusedBytes, AdvanceBytes}
 use Rattle.intake.specs.Ending.{EndsStreams}
-use Rattle.intake.specs.Growth.{ChangesFree, NeedsBlock, Grows}
+use Rattle.intake.specs.Growth.{AddsLowest, ChangesFree, NeedsBlock, Grows}
+use Rattle.intake.proofs.LowestLemmas.{grown_fills}
 use Rattle.intake.specs.Live.{case_uses}
 use Rattle.intake.specs.Parts.{Parts, StreamParts, state_of, stream_facts, taken_in, contents_of}
 use Rattle.intake.specs.Room.{FitsFree}
@@ -167,8 +168,11 @@ fine_grown free most s s' n u fine fits grows small =
 fills : (len n : ℕ) → n ≢ 0 → (len + n) % 4096 ≡ 0 → len % 4096 + n ≤ 4096 → len % 4096 + n ≡ 4096
 fills len n some whole fits = omega arith
 
-states_agree : (free most : ℕ) (s s' : StreamParts) (n : ℕ) (u : Unit {0}) → Grows free most s n (Ok u) s' → stream_facts s' ≡ longer (stream_facts s) n
-states_agree free most s s' n u grows = ⊎_elim (λ h. ap stream_facts h.1) (λ h. ap stream_facts h.3) grows.1
+states_agree : (free most : ℕ) (s s' : StreamParts) (n : ℕ) (u : Unit {0}) → Grows free most s n (Ok u) s' → stream_facts s' ≡ longer (stream_facts s) n s'.blocks
+states_agree free most s s' n u grows =
+    ⊎_elim
+    (λ h. ap stream_facts h.1 ∙ ap (longer (stream_facts s) n) (sym (ap (λ (x : StreamParts). x.blocks) h.1)))
+    (λ h. ap stream_facts h.3) grows.1
 
 module _ {D : Type 0} (g : disk.Ghosts D) (d d' : D) (j : Journaled) (most : ℕ) (flags : List Bool) (streams : List (Option StreamParts)) (slot n : ℕ) (s : StreamParts) (b : Bool)
     (running : IsRunning g d j most flags streams) (on : b ≡ false) (is : stream_at streams slot ≡ Some s) where
@@ -191,15 +195,17 @@ module _ {D : Type 0} (g : disk.Ghosts D) (d d' : D) (j : Journaled) (most : ℕ
   put_back dropped streams' s' gone put = put ∙ ap (λ (x : List (Option StreamParts)). set x slot (Some s')) gone ∙ set-set streams slot None (Some s')
 
   pub advance_ok : (dropped streams' : List (Option StreamParts)) (s' : StreamParts) (u : Unit {0}) → dropped ≡ slice_set streams slot None → streams' ≡ slice_set dropped slot (Some s') → s.len % 4096 + n ≤ 4096
-      → Grows (free_count flags) most s n (Ok u) s'
+      → Grows (free_count flags) most s n (Ok u) s' → (NeedsBlock s.len n → AddsLowest flags s.blocks s'.blocks)
       → AdvanceStep (state_of before) slot n (Ok u) (state_of (record { disk = d'; journal = j; limit = most; streams = streams'; stopped = b }))
-  advance_ok dropped streams' s' u gone put fits grows = (
+  advance_ok dropped streams' s' u gone put fits grows lowest = (
     stream_facts s,
     may grows.0,
     (λ none. ⊎_elim (λ h. h.0 (none.0, fills s.len n none.0 none.1 fits)) (λ h. there h.0 h.1 none) grows.1),
+    s'.blocks,
     ap (λ (x : List (Option StreamParts)). state_of (record { disk = d'; journal = j; limit = most; streams = x; stopped = b })) (put_back dropped streams' s' gone put)
         ∙ state_with d d' j most streams slot (Some s') b
         ∙ ap (λ (t : StreamFacts). with_stream (state_of before) slot (Some t)) (states_agree (free_count flags) most s s' n u grows),
+    grown_fills g d j most flags streams slot s b running is (free_count flags) n s' u fits grows lowest,
   )
 
   pub gone_state : (b' : Bool) (dropped streams' : List (Option StreamParts)) → dropped ≡ slice_set streams slot None → b' ≡ false → streams' ≡ dropped

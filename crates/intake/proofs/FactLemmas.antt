@@ -20,7 +20,7 @@ use Rattle.intake.proofs.MakingLemmas.{set_there, set_elsewhere, set_within, non
 
 -- the same stream, but for its length
 abbrev pub IsSameStream : StreamFacts → StreamFacts → Type 0
-IsSameStream b c = c ≡ record b { len = c.len }
+IsSameStream b c = c ≡ record b { len = c.len; blocks = c.blocks }
 
 abbrev Keeps : ArchiveState → ArchiveState → ℕ → StreamFacts → Type 0
 Keeps old new slot b = (c : StreamFacts) × (stream_at new.streams slot ≡ Some c) × IsSameStream b c
@@ -45,17 +45,17 @@ module _ (old new : ArchiveState) (slot : ℕ) (b : StreamFacts) (is : stream_at
   kept_closed : IsOpen new slot → new.streams ≡ closed old.streams → Keeps old new slot b
   kept_closed there shut = absurd (there (ap (λ (xs : List (Option StreamFacts)). stream_at xs slot) shut ∙ none_closed old.streams slot))
 
-  kept_longer : (at n : ℕ) (s : StreamFacts) → stream_at old.streams at ≡ Some s → new.streams ≡ slice_set old.streams at (Some (longer s n)) → Keeps old new slot b
-  kept_longer at n s there set =
+  kept_longer : (at n : ℕ) (s : StreamFacts) (blocks : List ℕ) → stream_at old.streams at ≡ Some s → new.streams ≡ slice_set old.streams at (Some (longer s n blocks)) → Keeps old new slot b
+  kept_longer at n s blocks there set =
       elim (cases_eq at slot) as (λ _. Keeps old new slot b) [
         | inl e ↦ (
             let same : s ≡ b = some_is s b (sym there ∙ ap (stream_at old.streams) e ∙ is) in (
-              longer b n,
-              ap (λ (xs : List (Option StreamFacts)). stream_at xs slot) (set ∙ ap (λ (k : ℕ). slice_set old.streams k (Some (longer s n))) e) ∙ set_there old.streams slot (Some (longer s n)) b is ∙ ap (λ (x : StreamFacts). Some (longer x n)) same,
+              longer b n blocks,
+              ap (λ (xs : List (Option StreamFacts)). stream_at xs slot) (set ∙ ap (λ (k : ℕ). slice_set old.streams k (Some (longer s n blocks))) e) ∙ set_there old.streams slot (Some (longer s n blocks)) b is ∙ ap (λ (x : StreamFacts). Some (longer x n blocks)) same,
               refl,
             )
             )
-        | inr ne ↦ kept_other at (Some (longer s n)) ne set
+        | inr ne ↦ kept_other at (Some (longer s n blocks)) ne set
       ]
 
 module _ {D : Type 0} (g : disk.Ghosts D) where
@@ -82,7 +82,7 @@ module _ {D : Type 0} (g : disk.Ghosts D) where
 
   kept_facts : (old new : Parts D) (call : Call) (r : ReplyTo call) (slot : ℕ) (b : StreamFacts) → Makes g old call r new → stream_at (state_of old).streams slot ≡ Some b → IsOpen (state_of new) slot → Keeps (state_of old) (state_of new) slot b
   kept_facts old new (begin_in at s) (Ok u) slot b made is there =
-      kept_other (state_of old) (state_of new) slot b is at (Some (record s { len = 0 })) (λ e. (let none : None ≡ Some b = sym (ap (stream_at (state_of old).streams) (sym e) ∙ made.step.0.2) ∙ is in cc)) (streams_are _ _ made.step.1)
+      kept_other (state_of old) (state_of new) slot b is at (Some (record s { len = 0; blocks = [] })) (λ e. (let none : None ≡ Some b = sym (ap (stream_at (state_of old).streams) (sym e) ∙ made.step.0.2) ∙ is in cc)) (streams_are _ _ made.step.1)
   kept_facts old new (begin_in at s) (Err fault.Stopped) slot b made is there = kept_same (state_of old) (state_of new) slot b is (streams_are _ _ made.step.1)
   kept_facts old new (begin_in at s) (Err fault.BadSlot) slot b made is there = kept_same (state_of old) (state_of new) slot b is (streams_are _ _ made.step.2)
   kept_facts old new (begin_in at s) (Err fault.SlotBusy) slot b made is there = kept_same (state_of old) (state_of new) slot b is (streams_are _ _ made.step.3)
@@ -90,7 +90,7 @@ module _ {D : Type 0} (g : disk.Ghosts D) where
   kept_facts old new (begin_in at s) (Err fault.OutOfMemory) slot b made is there = kept_same (state_of old) (state_of new) slot b is (streams_are _ _ made.step.1)
   kept_facts old new (begin_in at s) (Err _) slot b made is there = absurd made.step
   kept_facts old new (lend_of at left) r slot b made is there = kept_lent old new at slot r left b is made.2
-  kept_facts old new (advance_by at n) (Ok u) slot b made is there = kept_longer (state_of old) (state_of new) slot b is at n made.step.0 made.step.1.1 (streams_are _ _ made.step.3)
+  kept_facts old new (advance_by at n) (Ok u) slot b made is there = kept_longer (state_of old) (state_of new) slot b is at n made.step.0 made.step.3 made.step.1.1 (streams_are _ _ made.step.4)
   kept_facts old new (advance_by at n) (Err fault.Stopped) slot b made is there = kept_same (state_of old) (state_of new) slot b is (streams_are _ _ made.step.1)
   kept_facts old new (advance_by at n) (Err fault.NoStream) slot b made is there = kept_same (state_of old) (state_of new) slot b is (streams_are _ _ made.step.2)
   kept_facts old new (advance_by at n) (Err fault.TooLong) slot b made is there = kept_gone (state_of old) (state_of new) slot b is at there (streams_are _ _ made.step.4)
@@ -169,7 +169,7 @@ module _ {D : Type 0} (g : disk.Ghosts D) where
   facts_over a slot b (m ∷ ms) all is stays =
       let here = kept_facts a m.archive m.call m.reply slot b all.0 is stays.0 in
       let rest = facts_over m.archive slot here.0 ms all.1 here.1 stays.1 in
-      (rest.0, rest.1, rest.2 ∙ ap (λ (x : StreamFacts). record x { len = rest.0.len }) here.2)
+      (rest.0, rest.1, rest.2 ∙ ap (λ (x : StreamFacts). record x { len = rest.0.len; blocks = rest.0.blocks }) here.2)
 
   -- a stream that becomes a case, with what it took as its image
   pub image_taken : (old begun : Parts D) (slot : ℕ) (s : StreamFacts) (u : Unit {0}) (made : List (Made D)) (new : Parts D) (seq : ℕ) → IsTrue (g.is_honest old.disk)
@@ -182,13 +182,13 @@ module _ {D : Type 0} (g : disk.Ghosts D) where
       omega (arith, low, length-map old.streams (option_map stream_facts), length-map old.streams (option_map (taken_in old.journal (g.seen old.disk)))) in
       let first : stream_at (contents_of g.seen begun).taken slot ≡ Some empty_taken =
       ap (λ (c : Contents). stream_at c.taken slot) begin.bytes ∙ set_within g (contents_of g.seen old).taken slot (Some empty_taken) below in
-      let stream : stream_at (state_of begun).streams slot ≡ Some (record s { len = 0 }) =
-      ap (λ (x : ArchiveState). stream_at x.streams slot) begin.step.1 ∙ set_within g (state_of old).streams slot (Some (record s { len = 0 })) low in
+      let stream : stream_at (state_of begun).streams slot ≡ Some (record s { len = 0; blocks = [] }) =
+      ap (λ (x : ArchiveState). stream_at x.streams slot) begin.step.1 ∙ set_within g (state_of old).streams slot (Some (record s { len = 0; blocks = [] })) low in
       let taken = taken_all g begun slot empty_taken made (begin.stays.honesty ∙ honest) all first stays in
-      let facts = facts_over begun slot (record s { len = 0 }) made all stream stays in
+      let facts = facts_over begun slot (record s { len = 0; blocks = [] }) made all stream stays in
       let lasts = finish_lasts g last new taken.3 slot seq finish in
       let same : lasts.1.1 ≡ taken.0 = some_is lasts.1.1 taken.0 (sym lasts.1.3 ∙ taken.1) in
-      let told : lasts.1.0 ≡ record s { len = facts.0.len } = some_is lasts.1.0 facts.0 (sym lasts.1.2 ∙ facts.1) ∙ facts.2 in (
+      let told : lasts.1.0 ≡ record s { len = facts.0.len; blocks = facts.0.blocks } = some_is lasts.1.0 facts.0 (sym lasts.1.2 ∙ facts.1) ∙ facts.2 in (
         record {
           seq = (durable_of g.seen last).next;
           kind = lasts.1.0.kind;

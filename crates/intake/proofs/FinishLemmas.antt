@@ -28,6 +28,8 @@ use Rattle.case_journal.specs.declared.faults.JournalFault.TheVariants as journa
 use Rattle.intake.specs.Faults.{fault_of}
 use Rattle.intake.specs.Closing.{ClosesStream, Appends, with_blocks}
 use Rattle.intake.specs.Ending.{EndsStreams}
+use Rattle.intake.specs.Growth.{AddsLowest}
+use Rattle.intake.proofs.LowestLemmas.{closed_fills}
 use Rattle.intake.specs.Live.{case_uses}
 use Rattle.intake.specs.Parts.{Parts, StreamParts, state_of, case_facts, stream_facts}
 use Rattle.intake.specs.Slots.{stream_at}
@@ -61,6 +63,10 @@ module _ {D : Type 0} (g : disk.Ghosts D) (d d' : D) (j : Journaled) (most : ℕ
     (running : IsRunning g d j most flags streams) (on : b ≡ false) (is : stream_at streams slot ≡ Some s) where
   abbrev before : Parts D
   before = record { disk = d; journal = j; limit = most; streams = streams; stopped = b }
+
+  -- the bytes that fill no block take the lowest one
+  abbrev TakesLast : StreamParts → Type 0
+  TakesLast s' = (s.len % 4096 ≢ 0) → AddsLowest flags s.blocks s'.blocks
 
   may : ((s.len % 4096 ≢ 0) → 0 < free_count flags) → MayFinish (state_of before) slot (stream_facts s)
   may there = (on, some_there streams slot s is, (λ over full. (let lt = there over in let f = free_is g d d' j most flags streams slot 0 s b running on is in omega (arith, lt, full, f))))
@@ -148,46 +154,48 @@ module _ {D : Type 0} (g : disk.Ghosts D) (d d' : D) (j : Journaled) (most : ℕ
       ∙ gone_state g d d' j most flags streams slot 0 s b running on is b' dropped streams' gone still same
 
   -- the cases with the stream as the last one
-  cases_say : (blocks : List ℕ) → map case_facts (j.standing.cases ++ numbered j.standing.next (case_from_parts (with_blocks s blocks)) ∷ []) ≡ cases_with (state_of before) (stream_facts s) (length (runs_of blocks))
+  cases_say : (blocks : List ℕ) → map case_facts (j.standing.cases ++ numbered j.standing.next (case_from_parts (with_blocks s blocks)) ∷ []) ≡ cases_with (state_of before) (stream_facts s) blocks
   cases_say blocks = map-append case_facts j.standing.cases (numbered j.standing.next (case_from_parts (with_blocks s blocks)) ∷ [])
 
   -- the record was refused
   store_err : (j' : Journaled) (b' : Bool) (dropped streams' : List (Option StreamParts)) (s' : StreamParts) (u : Unit {0}) (jf : JournalFault) → dropped ≡ slice_set streams slot None → EndsStreams (fault_of jf) dropped b' streams'
-      → ClosesStream (free_count flags) s (Ok u) s' → StoreRefused j (case_from_parts (with_blocks s s'.blocks)) jf j'
+      → ClosesStream (free_count flags) s (Ok u) s' → TakesLast s' → StoreRefused j (case_from_parts (with_blocks s s'.blocks)) jf j'
       → FinishStep (state_of before) slot (Err (fault_of jf)) (state_of (record { disk = d'; journal = j'; limit = most; streams = streams'; stopped = b' }))
-  store_err j' b' dropped streams' s' u journal_fault.Stopped gone ends closes refused = absurd (let e : true ≡ false = sym refused.0 ∙ running.journal in cc)
-  store_err j' b' dropped streams' s' u journal_fault.JournalFull gone ends closes refused = (
+  store_err j' b' dropped streams' s' u journal_fault.Stopped gone ends closes lowest refused = absurd (let e : true ≡ false = sym refused.0 ∙ running.journal in cc)
+  store_err j' b' dropped streams' s' u journal_fault.JournalFull gone ends closes lowest refused = (
     stream_facts s,
-    length (runs_of s'.blocks),
+    s'.blocks,
     may (there_is s' u closes),
     runs_may s' u closes,
     record_full d d' j (store_of j.standing (case_from_parts (with_blocks s s'.blocks))) most streams b _ (cases_say s'.blocks) refused.1,
     gone_with j' b' dropped streams' gone ends.0 ends.1 refused.2,
+    closed_fills g d j most flags streams slot s b running is (free_count flags) s' u closes lowest,
   )
-  store_err j' b' dropped streams' s' u journal_fault.NumbersSpent gone ends closes refused = (
+  store_err j' b' dropped streams' s' u journal_fault.NumbersSpent gone ends closes lowest refused = (
     stream_facts s,
-    length (runs_of s'.blocks),
+    s'.blocks,
     may (there_is s' u closes),
     runs_may s' u closes,
     record_room d d' j (store_of j.standing (case_from_parts (with_blocks s s'.blocks))) most streams b _ (cases_say s'.blocks) refused.1,
     refused.2,
     gone_with j' b' dropped streams' gone ends.0 ends.1 refused.3,
+    closed_fills g d j most flags streams slot s b running is (free_count flags) s' u closes lowest,
   )
-  store_err j' b' dropped streams' s' u journal_fault.OutOfMemory gone ends closes refused = (stream_facts s, may (there_is s' u closes), gone_with j' b' dropped streams' gone ends.0 ends.1 refused.3)
-  store_err j' b' dropped streams' s' u journal_fault.Disk gone ends closes refused = (
+  store_err j' b' dropped streams' s' u journal_fault.OutOfMemory gone ends closes lowest refused = (stream_facts s, may (there_is s' u closes), gone_with j' b' dropped streams' gone ends.0 ends.1 refused.3)
+  store_err j' b' dropped streams' s' u journal_fault.Disk gone ends closes lowest refused = (
     stream_facts s,
     may (there_is s' u closes),
     ap (λ (k : Journaled). state_of (record { disk = d'; journal = k; limit = most; streams = streams'; stopped = b' })) refused.3
         ∙ halted_state g d d' j most flags streams slot 0 s b running on is b' dropped streams' gone ends.0 ends.1,
   )
-  store_err j' b' dropped streams' s' u journal_fault.OldVersion gone ends closes refused = absurd refused
+  store_err j' b' dropped streams' s' u journal_fault.OldVersion gone ends closes lowest refused = absurd refused
 
   pub refused_step : (j' : Journaled) (b' : Bool) (dropped streams' : List (Option StreamParts)) (s' : StreamParts) (u : Unit {0}) (f : ArchiveFault) (c : Case) → dropped ≡ slice_set streams slot None → EndsStreams f dropped b' streams'
-      → ClosesStream (free_count flags) s (Ok u) s' → c ≡ case_from_parts s' → Appends j c (Err f) j'
+      → ClosesStream (free_count flags) s (Ok u) s' → TakesLast s' → c ≡ case_from_parts s' → Appends j c (Err f) j'
       → FinishStep (state_of before) slot (Err f) (state_of (record { disk = d'; journal = j'; limit = most; streams = streams'; stopped = b' }))
-  refused_step j' b' dropped streams' s' u f c gone ends closes same appends =
+  refused_step j' b' dropped streams' s' u f c gone ends closes lowest same appends =
       subst (λ (x : ArchiveFault). FinishStep (state_of before) slot (Err x) (state_of (record { disk = d'; journal = j'; limit = most; streams = streams'; stopped = b' }))) (sym appends.1)
-      (store_err j' b' dropped streams' s' u appends.0 gone (subst (λ (x : ArchiveFault). EndsStreams x dropped b' streams') appends.1 ends) closes
+      (store_err j' b' dropped streams' s' u appends.0 gone (subst (λ (x : ArchiveFault). EndsStreams x dropped b' streams') appends.1 ends) closes lowest
       (subst (λ (x : Case). StoreRefused j x appends.0 j') (same ∙ closed_case s' u closes) appends.2))
 
   unmoved : (j' : Journaled) (b' : Bool) (flags' : List Bool) (dropped streams' : List (Option StreamParts)) (f : ArchiveFault) → IsArchiveSound g d j most flags streams b → dropped ≡ slice_set streams slot None → EndsStreams f dropped b' streams'
@@ -215,12 +223,12 @@ module _ {D : Type 0} (g : disk.Ghosts D) (d d' : D) (j : Journaled) (most : ℕ
       sound_unstored j' b' flags' dropped streams' appends.0 c sound gone (subst (λ (x : ArchiveFault). EndsStreams x dropped b' streams') appends.1 ends) appends.2 keeps bal
 
   -- the stream became the last case
-  store_ok : (j' : Journaled) (streams' : List (Option StreamParts)) (s' : StreamParts) (u : Unit {0}) (seq : ℕ) → streams' ≡ slice_set streams slot None → ClosesStream (free_count flags) s (Ok u) s'
+  store_ok : (j' : Journaled) (streams' : List (Option StreamParts)) (s' : StreamParts) (u : Unit {0}) (seq : ℕ) → streams' ≡ slice_set streams slot None → ClosesStream (free_count flags) s (Ok u) s' → TakesLast s'
       → Appends j (case_from_parts (with_blocks s s'.blocks)) (Ok seq) j'
       → FinishStep (state_of before) slot (Ok seq) (state_of (record { disk = d'; journal = j'; limit = most; streams = streams'; stopped = b }))
-  store_ok j' streams' s' u seq gone closes a = (
+  store_ok j' streams' s' u seq gone closes lowest a = (
     stream_facts s,
-    length (runs_of s'.blocks),
+    s'.blocks,
     may (there_is s' u closes),
     runs_may s' u closes,
     record_room d d' j (store_of j.standing (case_from_parts (with_blocks s s'.blocks))) most streams b _ (cases_say s'.blocks) a.1,
@@ -229,14 +237,15 @@ module _ {D : Type 0} (g : disk.Ghosts D) (d d' : D) (j : Journaled) (most : ℕ
     ap (λ (k : Journaled). state_of (record { disk = d'; journal = k; limit = most; streams = streams'; stopped = b })) a.4
         ∙ state_recorded d d' j (store_of j.standing (case_from_parts (with_blocks s s'.blocks))) most streams' b _ (cases_say s'.blocks)
         ∙ ap (λ (x : List (Option StreamFacts)).
-        record (recorded (record (state_of before) { streams = x }) (record_size s.name (length (runs_of s'.blocks))) (cases_with (state_of before) (stream_facts s) (length (runs_of s'.blocks)))) { next = j.standing.next + 1 })
+        record (recorded (record (state_of before) { streams = x }) (record_size s.name (length (runs_of s'.blocks))) (cases_with (state_of before) (stream_facts s) s'.blocks)) { next = j.standing.next + 1 })
         (ap (map (option_map stream_facts)) gone ∙ map-set (option_map stream_facts) streams slot None),
+    closed_fills g d j most flags streams slot s b running is (free_count flags) s' u closes lowest,
   )
 
-  pub stored_step : (j' : Journaled) (streams' : List (Option StreamParts)) (s' : StreamParts) (u : Unit {0}) (seq : ℕ) (c : Case) → streams' ≡ slice_set streams slot None → ClosesStream (free_count flags) s (Ok u) s' → c ≡ case_from_parts s'
+  pub stored_step : (j' : Journaled) (streams' : List (Option StreamParts)) (s' : StreamParts) (u : Unit {0}) (seq : ℕ) (c : Case) → streams' ≡ slice_set streams slot None → ClosesStream (free_count flags) s (Ok u) s' → TakesLast s' → c ≡ case_from_parts s'
       → Appends j c (Ok seq) j' → FinishStep (state_of before) slot (Ok seq) (state_of (record { disk = d'; journal = j'; limit = most; streams = streams'; stopped = b }))
-  stored_step j' streams' s' u seq c gone closes same appends =
-      store_ok j' streams' s' u seq gone closes (subst (λ (x : Case). Appends j x (Ok seq) j') (same ∙ closed_case s' u closes) appends)
+  stored_step j' streams' s' u seq c gone closes lowest same appends =
+      store_ok j' streams' s' u seq gone closes lowest (subst (λ (x : Case). Appends j x (Ok seq) j') (same ∙ closed_case s' u closes) appends)
 
   -- the archive stays sound with the new case, where a number is positive
   pub sound_with_case : (j' : Journaled) (flags1 flags' : List Bool) (streams' : List (Option StreamParts)) (s' : StreamParts) (u : Unit {0}) (seq : ℕ) (c : Case) → IsArchiveSound g d j most flags streams b → streams' ≡ slice_set streams slot None

@@ -1,6 +1,7 @@
 -- What each call does to what the archive holds.
-use Rattle.std.proofs.Common.{◌≡◌, ◌≢◌, ◌⊎◌, ⊎_elim, inl, inr, ℕ, ◌+◌, ◌≤◌, ◌==◌, Bool, true, false, not, cond, List, [], ◌∷◌, ◌++◌, map, Result, Ok, Err, refl, sym, ap, subst, ◌∙◌}
+use Rattle.std.proofs.Common.{◌≡◌, ◌≢◌, ◌⊎◌, ⊎_elim, inl, inr, ℕ, ◌+◌, ◌≤◌, ◌==◌, Bool, true, false, not, cond, List, [], ◌∷◌, ◌++◌, length, map, Result, Ok, Err, refl, sym, ap, subst, ◌∙◌}
 use Rattle.std.specs.List.{All, filter}
+use Rattle.extents.specs.Runs.{runs_of}
 use Rattle.std.specs.Prelude.{IsTrue}
 use Rattle.disk_model.specs.Moments.{AddsOnly}
 use Rattle.disk_model.specs.MomentLaws.{adds_weakened}
@@ -111,7 +112,7 @@ module _ {D : Type 0} (g : disk.Ghosts D) (old new : Parts D) (honest : IsTrue (
       let step = call.step in
       let bytes = call.bytes honest in
       let case : CaseFacts = case_from step.0 (state_of old).next step.1 in (
-        step.1,
+        length (runs_of step.1),
         (
           step.0,
           bytes.0,

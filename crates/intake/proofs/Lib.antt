@@ -39,3 +39,5 @@ pub mod LabelLemmas
 pub mod UpgradeLemmas
 pub mod RangeLemmas
 pub mod KeptNameLemmas
+pub mod LowestLemmas
+pub mod OneLemmas

@@ -210,6 +210,9 @@ one_count policy cases a b u v d e =
       ]
     ]
 
+pub one_unmet : (policy : Policy) (cases : List Brief) (a b : List ℕ) (u v : Bool) → IsDecision policy cases a u → IsDecision policy cases b v → u ≡ v
+one_unmet policy cases a b u v d e = d.unmet_is ∙ ap (λ (n : ℕ). not (holds_after policy cases n)) (one_count policy cases a b u v d e) ∙ sym e.unmet_is
+
 one_decision : (policy : Policy) (cases : List Brief) (a b : List ℕ) (u v : Bool) → IsDecision policy cases a u → IsDecision policy cases b v → a ≡ b
 one_decision policy cases a b u v d e =
     d.dropped_are ∙ ap (λ (n : ℕ). map seq_of (goes policy n cases)) (one_count policy cases a b u v d e) ∙ sym e.dropped_are

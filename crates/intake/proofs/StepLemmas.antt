@@ -112,10 +112,12 @@ module _ {D : Type 0} (g : disk.Ghosts D) (d : D) (j : Journaled) (most : ℕ) (
       fine
       (names_with (record { disk = d; journal = j; limit = most; streams = streams; stopped = b }) s free (sound.runs on).named))
 
-  pub begin_step : (u : Unit {0}) → BeginStep (state_of (record { disk = d; journal = j; limit = most; streams = streams; stopped = b })) slot (stream_facts s) (Ok u) (state_of (record { disk = d; journal = j; limit = most; streams = streams'; stopped = b }))
-  begin_step u = (
+  pub begin_step : (u : Unit {0}) → s.blocks ≡ [] → BeginStep (state_of (record { disk = d; journal = j; limit = most; streams = streams; stopped = b })) slot (record (stream_facts s) { blocks = [] }) (Ok u) (state_of (record { disk = d; journal = j; limit = most; streams = streams'; stopped = b }))
+  begin_step u no_blocks = (
     (on, (let e : length (map (option_map stream_facts) streams) ≡ length streams = simp length-map in let f = sound.slots in omega arith), none_there streams slot none, free),
-    ap (λ (x : List (Option StreamParts)). state_of (record { disk = d; journal = j; limit = most; streams = x; stopped = b })) now ∙ state_with d d j most streams slot (Some s) b,
+    ap (λ (x : List (Option StreamParts)). state_of (record { disk = d; journal = j; limit = most; streams = x; stopped = b })) now
+        ∙ state_with d d j most streams slot (Some s) b
+        ∙ ap (λ (l : List ℕ). with_stream (state_of (record { disk = d; journal = j; limit = most; streams = streams; stopped = b })) slot (Some (record (stream_facts s) { blocks = l }))) no_blocks,
   )
 
   pub begin_bytes : (u : Unit {0}) → s.len ≡ 0 → s.blocks ≡ [] → s.block ≡ zero_block

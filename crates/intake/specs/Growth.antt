@@ -1,7 +1,7 @@
 -- How an image grows by a block.
-use Rattle.std.specs.Prelude.{◌≡◌, ◌≢◌, Bool, true, false, ◌⊎◌, ℕ, ◌+◌, ◌%◌, ◌<◌, ◌≤◌, List, [], ◌∷◌, ◌++◌, length, Result, Ok, Err}
+use Rattle.std.specs.Prelude.{◌≡◌, ◌≢◌, Bool, true, false, ◌⊎◌, ℕ, ◌+◌, ◌%◌, ◌<◌, ◌≤◌, List, [], ◌∷◌, ◌++◌, length, Some, Result, Ok, Err}
 use Rattle.disk_model.specs.Places.{SameOutside}
-use Rattle.extents.specs.FreeSet.{is_free}
+use Rattle.extents.specs.FreeSet.{is_free, IsLowest}
 use Rattle.journal_layout.specs.declared.shape.Shape.{Shape}
 use Rattle.case_journal.specs.Journaled.{Journaled}
 use Rattle.intake.specs.Blocks.{block_start, block_bytes}
@@ -39,6 +39,10 @@ pub record Adds (shape : Shape) (flags : List Bool) (old new : List ℕ) (bytes 
   pub blocks : new ≡ old ++ block ∷ []
   pub others : SameOutside (block_start shape block) 4096 a b
   pub written : block_bytes shape b block ≡ bytes
+
+-- these blocks are followed by the lowest free one
+abbrev pub AddsLowest : List Bool → List ℕ → List ℕ → Type 0
+AddsLowest flags old new = (k : ℕ) × IsLowest flags (Some k) × (new ≡ old ++ k ∷ [])
 
 -- n bytes more fill a stream's block
 abbrev pub NeedsBlock : ℕ → ℕ → Type 0

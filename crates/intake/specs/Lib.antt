@@ -32,3 +32,4 @@ pub mod Untouched
 pub mod Lasts
 pub mod QuietLaws
 pub mod Ranges
+pub mod OneAnswer

@@ -71,7 +71,7 @@ ReplyTo _ = Result (Unit {0}) ArchiveFault
 -- What a call answers of an archive, and what it makes of it: what its contract promises. A slice that is lent keeps its
 -- length.
 abbrev pub Makes : {D : Type 0} → disk.Ghosts D → Parts D → (call : Call) → ReplyTo call → Parts D → Type 0
-Makes g old (begin_in slot s) r new = BeginCall g old slot (record s { len = 0 }) r new
+Makes g old (begin_in slot s) r new = BeginCall g old slot (record s { len = 0; blocks = [] }) r new
 Makes g old (lend_of slot left) r new = RoomReply (state_of old) slot r × (length left ≡ length (room_of old slot r)) × (new ≡ room_left old slot r left)
 Makes g old (advance_by slot n) r new = AdvanceCall g old slot n r new
 Makes g old (finish_of slot) r new = FinishCall g old slot r new

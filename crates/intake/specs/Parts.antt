@@ -40,11 +40,12 @@ case_facts c = record {
   pinned = c.pinned;
   len = c.len;
   runs = length (runs_of c.blocks);
+  blocks = c.blocks;
   label = c.label;
 }
 
 abbrev pub stream_facts : StreamParts → StreamFacts
-stream_facts s = record { kind = s.kind; name = s.name; pid = s.pid; signal = s.signal; time = s.time; len = s.len }
+stream_facts s = record { kind = s.kind; name = s.name; pid = s.pid; signal = s.signal; time = s.time; len = s.len; blocks = s.blocks }
 
 -- the state without bytes
 abbrev pub state_of : {D : Type 0} → Parts D → ArchiveState

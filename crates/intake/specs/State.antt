@@ -1,10 +1,10 @@
 -- The state of an archive without the images' bytes: its cases, its streams, and what decides how a call is answered.
-use Rattle.std.specs.Prelude.{ℕ, ◌+◌, ◌/◌, Bool, List, Option, None, Some, sum_by}
+use Rattle.std.specs.Prelude.{ℕ, ◌+◌, ◌/◌, Bool, List, [], Option, None, Some, sum_by}
 pub use Rattle.journal_layout.specs.Soundness.{blocks_for}
 use Rattle.journal_layout.specs.declared.shape.Shape.{Shape}
 use Rattle.journal_layout.specs.declared.entry.Kind.{Kind}
 
--- a case, with the number of its runs of blocks
+-- a case, with the blocks in which its image lies, in order, and how many runs they are
 pub record CaseFacts : Type 0 where
   pub seq : ℕ
   pub kind : Kind
@@ -15,10 +15,11 @@ pub record CaseFacts : Type 0 where
   pub pinned : Bool
   pub len : ℕ
   pub runs : ℕ
+  pub blocks : List ℕ
   -- what was noted about it: 0 to 64 bytes
   pub label : List ℕ
 
--- a stream on its way, with the bytes that it has taken so far
+-- a stream on its way, with how many bytes it has taken so far, and the blocks that they have filled
 pub record StreamFacts : Type 0 where
   pub kind : Kind
   pub name : List ℕ
@@ -26,6 +27,7 @@ pub record StreamFacts : Type 0 where
   pub signal : ℕ
   pub time : ℕ
   pub len : ℕ
+  pub blocks : List ℕ
 
 pub record ArchiveState : Type 0 where
   pub shape : Shape
@@ -45,7 +47,12 @@ pub record ArchiveState : Type 0 where
   pub streams : List (Option StreamFacts)
   pub stopped : Bool
 
--- the blocks that a stream has filled
+-- the blocks of the stream in a slot
+abbrev pub blocks_by : Option StreamFacts → List ℕ
+blocks_by None = []
+blocks_by (Some s) = s.blocks
+
+-- how many blocks it has filled
 abbrev pub filled_by : Option StreamFacts → ℕ
 filled_by None = 0
 filled_by (Some s) = s.len / 4096

@@ -1,8 +1,10 @@
 -- What each call does to the state without bytes, and when it is refused: relations by cases, the refusals in the order
 -- in which they are tried.
-use Rattle.std.specs.Prelude.{◌≡◌, ◌≢◌, ℕ, ◌+◌, ◌*◌, ◌%◌, ◌^◌, ◌<◌, ◌≤◌, Bool, true, false, List, [], ◌∷◌, ◌++◌, length, Option, None, Some, Result, Ok, Err, slice_set, ◌||◌, ◌⊎◌, ◌==◌, not, map, nat_lt, sum_by, if◌then◌else◌}
+use Rattle.std.specs.Prelude.{◌≡◌, ◌≢◌, ℕ, zero, suc, ◌+◌, ◌*◌, ◌/◌, ◌%◌, ◌^◌, ◌<◌, ◌≤◌, Bool, true, false, List, [], ◌∷◌, ◌++◌, length, Option, None, Some, Result, Ok, Err, slice_set, ◌||◌, ◌⊎◌, ◌==◌, not, map, nat_lt, sum_by, if◌then◌else◌}
 use Rattle.std.specs.List.{list_any, filter}
 use Rattle.std.specs.Str.{bytes_eq}
+use Rattle.extents.specs.FreeSet.{uses}
+use Rattle.extents.specs.Runs.{runs_of}
 use Rattle.journal_layout.specs.Layout.{half_length}
 use Rattle.journal_layout.specs.Record.{rounded}
 use Rattle.journal_layout.specs.Folding.{is_among}
@@ -14,7 +16,7 @@ use Rattle.intake.specs.declared.faults.ArchiveFault.{ArchiveFault}
 use Rattle.intake.specs.declared.space.Space.{Space}
 use Rattle.intake.specs.declared.faults.ArchiveFault.TheVariants.{Stopped, BadSlot, SlotBusy, NameTaken, NoStream, TooLong, SpaceFull, NoCase, Pinned, JournalFull, NumbersSpent, OutOfMemory, Disk, OldVersion}
 use Rattle.intake.specs.Slots.{stream_at, closed}
-use Rattle.intake.specs.State.{ArchiveState, CaseFacts, StreamFacts, blocks_for, blocks_in}
+use Rattle.intake.specs.State.{ArchiveState, CaseFacts, StreamFacts, blocks_for, blocks_in, blocks_by}
 
 -- the stream in this slot has this name
 abbrev pub has_name : List ℕ → Option StreamFacts → Bool
@@ -53,6 +55,26 @@ BeginStep old slot s (Err NameTaken) new =
 BeginStep old slot s (Err OutOfMemory) new = MayBegin old slot s.name × (new ≡ old)
 BeginStep old slot s (Err _) new = ⊥
 
+-- how often the cases and the streams use block k
+abbrev pub block_uses : ArchiveState → ℕ → ℕ
+block_uses s k = sum_by (λ (c : CaseFacts). uses c.blocks k) s.cases + sum_by (λ (o : Option StreamFacts). uses (blocks_by o) k) s.streams
+
+-- Block k is the lowest data block that neither the archive nor one more stream, which has these blocks, uses.
+pub record IsLowestFree (s : ArchiveState) (have : List ℕ) (k : ℕ) : Type 0 where
+  pub within : k < s.shape.data_blocks
+  pub free : block_uses s k + uses have k ≡ 0
+  pub lower_used : (j : ℕ) → j < k → 0 < block_uses s j + uses have j
+
+-- a stream that has these blocks takes `count` more, each the lowest free one
+abbrev pub TakesLowest : ArchiveState → List ℕ → ℕ → List ℕ → Type 0
+TakesLowest s have zero blocks = blocks ≡ have
+TakesLowest s have (suc n) blocks = (k : ℕ) × IsLowestFree s have k × TakesLowest s (have ++ k ∷ []) n blocks
+
+-- the stream in a slot takes the lowest free blocks until it has `total`: these are its blocks then
+abbrev pub FillsBlocks : ArchiveState → ℕ → StreamFacts → ℕ → List ℕ → Type 0
+FillsBlocks s slot stream total blocks =
+    (count : ℕ) × (stream.len / 4096 + count ≡ total) × TakesLowest (with_stream s slot None) stream.blocks count blocks
+
 -- room: lends the free part
 abbrev pub RoomReply : ArchiveState → ℕ → Result (Unit {0}) ArchiveFault → Type 0
 RoomReply old slot (Ok u) = (old.stopped ≡ false) × (stream_at old.streams slot ≢ None)
@@ -60,9 +82,9 @@ RoomReply old slot (Err Stopped) = old.stopped ≡ true
 RoomReply old slot (Err NoStream) = (old.stopped ≡ false) × (stream_at old.streams slot ≡ None)
 RoomReply old slot (Err _) = ⊥
 
--- the same stream with n bytes more
-abbrev pub longer : StreamFacts → ℕ → StreamFacts
-longer s n = record s { len = s.len + n }
+-- the same stream with n bytes more, and with these blocks
+abbrev pub longer : StreamFacts → ℕ → List ℕ → StreamFacts
+longer s n blocks = record s { len = s.len + n; blocks = blocks }
 
 -- the stream in this slot may take n bytes more, by its length
 abbrev pub MayGrow : ArchiveState → ℕ → ℕ → StreamFacts → Type 0
@@ -72,10 +94,11 @@ MayGrow old slot n s = (old.stopped ≡ false) × (stream_at old.streams slot �
 abbrev pub FindsNoBlock : ArchiveState → StreamFacts → ℕ → Type 0
 FindsNoBlock old s n = (n ≢ 0) × ((s.len + n) % 4096 ≡ 0) × (blocks_in old ≡ old.shape.data_blocks)
 
--- advance: n bytes more
+-- advance: n bytes more, for which the lowest free blocks are taken
 abbrev pub AdvanceStep : ArchiveState → ℕ → ℕ → Result (Unit {0}) ArchiveFault → ArchiveState → Type 0
 AdvanceStep old slot n (Ok u) new =
-    (s : StreamFacts) × MayGrow old slot n s × (FindsNoBlock old s n → ⊥) × (new ≡ with_stream old slot (Some (longer s n)))
+    (s : StreamFacts) × MayGrow old slot n s × (FindsNoBlock old s n → ⊥)
+    × (blocks : List ℕ) × (new ≡ with_stream old slot (Some (longer s n blocks))) × FillsBlocks old slot s ((s.len + n) / 4096) blocks
 AdvanceStep old slot n (Err Stopped) new = (old.stopped ≡ true) × (new ≡ old)
 AdvanceStep old slot n (Err NoStream) new = (old.stopped ≡ false) × (stream_at old.streams slot ≡ None) × (new ≡ old)
 AdvanceStep old slot n (Err TooLong) new =
@@ -146,8 +169,9 @@ recorded s size cases = record s {
   generation = if nat_lt (s.used + size) (half_length s.shape) then s.generation else s.generation + 1;
 }
 
-abbrev pub case_from : StreamFacts → ℕ → ℕ → CaseFacts
-case_from s seq runs = record {
+-- the case that a stream becomes, in these blocks
+abbrev pub case_from : StreamFacts → ℕ → List ℕ → CaseFacts
+case_from s seq blocks = record {
   seq = seq;
   kind = s.kind;
   name = s.name;
@@ -156,17 +180,22 @@ case_from s seq runs = record {
   time = s.time;
   pinned = false;
   len = s.len;
-  runs = runs;
+  runs = length (runs_of blocks);
+  blocks = blocks;
   label = [];
 }
 
 -- the cases with the stream as the last one
-abbrev pub cases_with : ArchiveState → StreamFacts → ℕ → List CaseFacts
-cases_with old s runs = old.cases ++ case_from s old.next runs ∷ []
+abbrev pub cases_with : ArchiveState → StreamFacts → List ℕ → List CaseFacts
+cases_with old s blocks = old.cases ++ case_from s old.next blocks ∷ []
+
+-- the bytes of the record of that case
+abbrev pub stream_size : StreamFacts → List ℕ → ℕ
+stream_size s blocks = record_size s.name (length (runs_of blocks))
 
 -- the stream becomes the last case
-abbrev pub stored : ArchiveState → ℕ → StreamFacts → ℕ → ArchiveState
-stored old slot s runs = record (recorded (with_stream old slot None) (record_size s.name runs) (cases_with old s runs)) { next = old.next + 1 }
+abbrev pub stored : ArchiveState → ℕ → StreamFacts → List ℕ → ArchiveState
+stored old slot s blocks = record (recorded (with_stream old slot None) (stream_size s blocks) (cases_with old s blocks)) { next = old.next + 1 }
 
 -- the stream stands in its slot, and there is a block for the bytes that fill none
 abbrev pub MayFinish : ArchiveState → ℕ → StreamFacts → Type 0
@@ -174,22 +203,23 @@ MayFinish old slot s =
     (old.stopped ≡ false) × (stream_at old.streams slot ≡ Some s)
     × ((s.len % 4096 ≢ 0) → (blocks_in old ≡ old.shape.data_blocks) → ⊥)
 
--- finish: the stream becomes the last case. Only how many runs it lies in is left open.
+-- finish: the stream becomes the last case. The bytes that fill no block take the lowest free one.
 abbrev pub FinishStep : ArchiveState → ℕ → Result ℕ ArchiveFault → ArchiveState → Type 0
 FinishStep old slot (Ok seq) new =
-    (s : StreamFacts) × (runs : ℕ) × MayFinish old slot s × MayHaveRuns s.len runs × HasRecordRoom old (record_size s.name runs) (cases_with old s runs)
-    × (old.next < 2 ^ 32) × (seq ≡ old.next) × (new ≡ stored old slot s runs)
+    (s : StreamFacts) × (blocks : List ℕ) × MayFinish old slot s × MayHaveRuns s.len (length (runs_of blocks)) × HasRecordRoom old (stream_size s blocks) (cases_with old s blocks)
+    × (old.next < 2 ^ 32) × (seq ≡ old.next) × (new ≡ stored old slot s blocks) × FillsBlocks old slot s (blocks_for s.len) blocks
 FinishStep old slot (Err Stopped) new = (old.stopped ≡ true) × (new ≡ old)
 FinishStep old slot (Err NoStream) new = (old.stopped ≡ false) × (stream_at old.streams slot ≡ None) × (new ≡ old)
 FinishStep old slot (Err SpaceFull) new =
     (s : StreamFacts) × (old.stopped ≡ false) × (stream_at old.streams slot ≡ Some s)
     × (s.len % 4096 ≢ 0) × (blocks_in old ≡ old.shape.data_blocks) × (new ≡ with_stream old slot None)
 FinishStep old slot (Err JournalFull) new =
-    (s : StreamFacts) × (runs : ℕ) × MayFinish old slot s × MayHaveRuns s.len runs
-    × IsFull old (record_size s.name runs) (cases_with old s runs) × (new ≡ with_stream old slot None)
+    (s : StreamFacts) × (blocks : List ℕ) × MayFinish old slot s × MayHaveRuns s.len (length (runs_of blocks))
+    × IsFull old (stream_size s blocks) (cases_with old s blocks) × (new ≡ with_stream old slot None)
+    × FillsBlocks old slot s (blocks_for s.len) blocks
 FinishStep old slot (Err NumbersSpent) new =
-    (s : StreamFacts) × (runs : ℕ) × MayFinish old slot s × MayHaveRuns s.len runs × HasRecordRoom old (record_size s.name runs) (cases_with old s runs)
-    × (old.next ≡ 2 ^ 32) × (new ≡ with_stream old slot None)
+    (s : StreamFacts) × (blocks : List ℕ) × MayFinish old slot s × MayHaveRuns s.len (length (runs_of blocks)) × HasRecordRoom old (stream_size s blocks) (cases_with old s blocks)
+    × (old.next ≡ 2 ^ 32) × (new ≡ with_stream old slot None) × FillsBlocks old slot s (blocks_for s.len) blocks
 FinishStep old slot (Err OutOfMemory) new = (s : StreamFacts) × MayFinish old slot s × (new ≡ with_stream old slot None)
 FinishStep old slot (Err Disk) new = (s : StreamFacts) × MayFinish old slot s × (new ≡ halted old)
 FinishStep old slot (Err _) new = ⊥

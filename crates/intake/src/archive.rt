@@ -172,6 +172,7 @@ impl<D: Disk> Archive<D> {
               signal = signal;
               time = time;
               len = 0;
+              blocks = [];
             }) result self.new }
     {
         if self.stopped {

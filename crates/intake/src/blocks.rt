@@ -1,5 +1,5 @@
 // Blocks of an image, as they are written.
-ghost use Rattle.std.specs.Prelude.{◌≡◌, ◌+◌, ◌*◌, ◌%◌, ◌/◌, ◌<◌, ◌≤◌, ◌++◌, ◌∷◌, ◌^◌, [], length, IsTrue, OnOk, OnErr, ℕ};
+ghost use Rattle.std.specs.Prelude.{◌≡◌, ◌≢◌, ◌+◌, ◌*◌, ◌%◌, ◌/◌, ◌<◌, ◌≤◌, ◌++◌, ◌∷◌, ◌^◌, [], length, IsTrue, OnOk, OnErr, ℕ};
 ghost use Rattle.disk_model.specs.Places.{overwritten, SameOutside};
 ghost use Rattle.extents.specs.FreeSet.{free_count};
 ghost use Rattle.journal_layout.specs.Layout.{IsWithinLimits, disk_length, half_length};
@@ -14,7 +14,7 @@ ghost use Rattle.journal_layout.specs.Standing.{store_of};
 ghost use Rattle.std.specs.Prelude.{false};
 ghost use Rattle.intake.specs.Balance.{AreFree, AreHeld, Balances};
 ghost use Rattle.intake.specs.Blocks.{block_start, block_bytes};
-ghost use Rattle.intake.specs.Growth.{DiskReply, BlockReply, IsDiskFault, ChangesFree, Adds, Grows, GrowsBytes, NeedsBlock, stops_at};
+ghost use Rattle.intake.specs.Growth.{DiskReply, BlockReply, IsDiskFault, ChangesFree, Adds, AddsLowest, Grows, GrowsBytes, NeedsBlock, stops_at};
 ghost use Rattle.case_journal.specs.Append.{MayStore};
 ghost use Rattle.journal_layout.specs.Case.{case_of};
 ghost use Rattle.intake.specs.Closing.{ClosesStream, ClosesBytes, ClosesPadded, Appends, GivesBack};
@@ -83,6 +83,7 @@ pub(crate) fn add_block<D: Disk>(
     ensures reply { BlockReply (free_count free.old) result }
     ensures balance { Balances free.old runs.old free.new runs.new }
     ensures more { OnOk result (length runs.new ≡ length runs.old + 1) }
+    ensures lowest { OnOk result (AddsLowest free.old runs.old runs.new) }
     ensures untouched { RefusalSpares result disk.old disk.new }
     ensures added { IsTrue (D.is_honest disk.old)
         → OnOk result (Adds shape free.old runs.old runs.new bytes.now (D.seen disk.old) (D.seen disk.new)) }
@@ -128,6 +129,7 @@ pub(crate) fn grow<D: Disk>(
     ensures step { Grows (free_count free.old) limit (parts_of block.old stream.old) n result
         (parts_of block.new stream.new) }
     ensures small { OnOk result (stream.old.length + n < 2 ^ 64) }
+    ensures lowest { OnOk result (NeedsBlock stream.old.length n → AddsLowest free.old stream.old.runs stream.new.runs) }
     ensures untouched { RefusalSpares result disk.old disk.new }
     // Bytes that fill no block leave the disk as it is.
     ensures idle { OnOk result ((NeedsBlock stream.old.length n → ⊥) → disk.new ≡ disk.old) }
@@ -171,6 +173,7 @@ pub(crate) fn seal<D: Disk>(
     requires held { AreHeld free.old stream.old.runs }
     ensures step { ClosesStream (free_count free.old) (parts_of block.old stream.old) result
         (parts_of block.new stream.new) }
+    ensures lowest { OnOk result ((stream.old.length % 4096 ≢ 0) → AddsLowest free.old stream.old.runs stream.new.runs) }
     ensures name { stream.new.name ≡ stream.old.name }
     ensures balance { Balances free.old stream.old.runs free.new stream.new.runs }
     ensures bytes { IsTrue (D.is_honest disk.old) → OnOk result (ClosesBytes shape (parts_of block.old stream.old)

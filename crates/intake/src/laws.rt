@@ -6,10 +6,12 @@ ghost use Rattle.intake.specs.Lasts.{FinishLasts, DeleteLasts, PinLasts, LabelLa
 ghost use Rattle.intake.specs.Lives.{AReopeningIsAStop, KeptOverAStop, KeptOverManyStops, ACaseIsFound, NumbersStayGiven, NumbersAreGivenOnce, WhatIsClosedIsFound};
 ghost use Rattle.intake.specs.Making.{CallsAreMarks, AnImageIsWhatWasTaken, AnImageIsAnsweredAsItWasTaken};
 ghost use Rattle.intake.specs.Marks.{FoundAfterAStop, NothingElseIsLeft, StaysLead, FinishLeads, DeleteLeads, PinLeads, LabelLeads, UpgradeLeads, RetireLeads};
+ghost use Rattle.intake.specs.OneAnswer.{BeginsOneWay, AbandonsOneWay, FinishesOneWay, DeletesOneWay, PinsOneWay, LabelsOneWay, UpgradesOneWay, RetiresOneWay, FillsOneWay};
 ghost use Rattle.intake.specs.Parts.{Parts, state_of, contents_of};
 
 use disk_model::Disk;
 use journal_layout::live_cases_are_sound;
+use retention::a_decision_is_one;
 
 /// Bytes stand for one archive at most: what an opening finds is told by them alone.
 pub fn what_stands_is_one()
@@ -141,3 +143,19 @@ pub fn numbers_stay_given<D: Disk>()
 pub fn numbers_are_given_once<D: Disk>()
     ensures { NumbersAreGivenOnce D.Disk }
 {}
+
+/// Each call answers one thing and leaves one state: both are functions of the state before it, unless there is no memory or
+/// the disk fails. The blocks that a stream fills are the lowest free ones, of which there is one list.
+pub fn an_answer_is_one()
+    ensures begin { BeginsOneWay }
+    ensures abandon { AbandonsOneWay }
+    ensures finish { FinishesOneWay }
+    ensures delete { DeletesOneWay }
+    ensures pin { PinsOneWay }
+    ensures label { LabelsOneWay }
+    ensures upgrade { UpgradesOneWay }
+    ensures retire { RetiresOneWay }
+    ensures fills { FillsOneWay }
+{
+    a_decision_is_one();
+}

@@ -21,7 +21,7 @@ name_fault name =
 
 -- the stream of an executable, with no bytes yet
 abbrev pub new_exec : List ℕ → StreamFacts
-new_exec name = record { kind = Exec; name = name; pid = 0; signal = 0; time = 0; len = 0 }
+new_exec name = record { kind = Exec; name = name; pid = 0; signal = 0; time = 0; len = 0; blocks = [] }
 
 -- the stream of a core, with no bytes yet
 abbrev pub new_core : ProcessSaid → List ℕ → StreamFacts
@@ -32,6 +32,7 @@ new_core process name = record {
   signal = process.signal;
   time = process.time;
   len = 0;
+  blocks = [];
 }
 
 -- the stream, or what is wrong with its name

@@ -3,6 +3,7 @@ use Rattle.std.proofs.Common.{◌∙◌, ap, sym, arith, subst, List, ℕ, ◌++
 use Rattle.intake.specs.Balance.{Balances}
 use Rattle.intake.proofs.CountLemmas.{none_free, some_free, taken_in_use, returned, taken_one, one_block, first_free}
 use Rattle.intake.proofs.BlockLemmas.{block_reply, on_ok, block_written}
+use Rattle.intake.proofs.CloseLemmas.{always}
 use Rattle.intake.proofs.blocks.add_block.Goals as goal
 
 pub returns-in_default-clause-reply : goal.returns-in_default-clause-reply
@@ -23,6 +24,16 @@ pub returns-clause-balance : goal.returns-clause-balance
 returns-clause-balance g c =
     subst (λ (x : List ℕ). Balances c.args.free.now c.args.runs.now c.take.new.self x) (sym c.in-Ok.ensures.ok)
     (taken_one c.args.free.now c.take.new.self c.in-Some.run' c.args.runs.now c.in-Some.ensures)
+
+pub returns-clause-lowest : goal.returns-clause-lowest
+returns-clause-lowest g c =
+    let t = c.in-Some.ensures in
+    always c.write_data.result _
+    (
+      c.in-Some.run'.start,
+      (first_free c.args.free.now c.take.new.self c.in-Some.run' t, t.lowest),
+      c.in-Ok.ensures.ok ∙ ap (λ (x : List ℕ). c.args.runs.now ++ x) (one_block c.args.free.now c.take.new.self c.in-Some.run' t),
+    )
 
 pub returns-clause-added : goal.returns-clause-added
 returns-clause-added g c honest =

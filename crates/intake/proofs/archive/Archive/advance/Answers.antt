@@ -111,7 +111,7 @@ returns g c = record {
       (c.self.invariant.sound.runs c.if-self.false) c.if-self.false (sym c.in-Some.ensures.stream)
       c.take.new.self c.put.new.self (parts_of c.grow-grown.new.block c.grow-grown.new.stream) c.in_default-grown.field-0 c.in-Some.ensures.slots c.put.ensures
       (fits_in g.D.Disk c.self.inside.disk c.grow-grown.new.disk c.self.inside.journal c.self.inside.settings.limit c.self.inside.free c.self.inside.slots c.args.slot c.args.n (parts_of c.in-Some.block c.in-Some.stream) c.self.inside.stopped (c.self.invariant.sound.runs c.if-self.false) c.if-self.false (sym c.in-Some.ensures.stream) (rw (← c.self.view_is) at c.requires))
-      c.in_default-grown.ensures.step);
+      c.in_default-grown.ensures.step c.in_default-grown.ensures.lowest);
   bytes = λ honest.
       let real = rw (← c.self.view_is) at honest in
       rw (← c.self.view_is)

@@ -29,7 +29,7 @@ returns g c = record {
   step = rw (← c.self.view_is)
       (begin_step g.D.Disk c.self.inside.disk c.self.inside.journal c.self.inside.settings.limit c.self.inside.free c.self.inside.slots c.put.new.self c.args.slot _ c.self.inside.stopped
       c.self.invariant.sound c.if-self.false (omega arith) (not_open _ _ c.is_open.ensures c.if-is_open.false)
-      (sym (taken_is (record { disk = c.self.inside.disk; journal = c.self.inside.journal; limit = c.self.inside.settings.limit; streams = c.self.inside.slots; stopped = c.self.inside.stopped }) c.self.inside.names c.args.name.items (c.self.invariant.taken c.if-self.false)) ∙ sym c.contains.ensures ∙ c.if-contains.false) c.put.ensures tt);
+      (sym (taken_is (record { disk = c.self.inside.disk; journal = c.self.inside.journal; limit = c.self.inside.settings.limit; streams = c.self.inside.slots; stopped = c.self.inside.stopped }) c.self.inside.names c.args.name.items (c.self.invariant.taken c.if-self.false)) ∙ sym c.contains.ensures ∙ c.if-contains.false) c.put.ensures tt c.new.ensures);
   bytes = rw (← c.self.view_is)
       (begin_bytes g.D.Disk c.self.inside.disk c.self.inside.journal c.self.inside.settings.limit c.self.inside.free c.self.inside.slots c.put.new.self c.args.slot _ c.self.inside.stopped
       c.self.invariant.sound c.if-self.false (omega arith) (not_open _ _ c.is_open.ensures c.if-is_open.false)

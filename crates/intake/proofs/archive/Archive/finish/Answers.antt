@@ -187,7 +187,7 @@ returns g c = record {
       (refused_step g.D.Disk c.self.inside.disk c.append_case.new.disk c.self.inside.journal c.self.inside.settings.limit c.self.inside.free c.self.inside.slots c.args.slot (parts_of c.in-Some.block c.in-Some.stream) c.self.inside.stopped
       (c.self.invariant.sound.runs c.if-self.false) c.if-self.false (sym c.in-Some.ensures.stream)
       c.append_case.new.journal c.end_streams-self-inside-in-Err-append_case.result c.take.new.self c.end_streams-self-inside-in-Err-append_case.new.slots (parts_of c.seal-sealed.new.block c.seal-sealed.new.stream) c.in_default-sealed.field-0 c.in-Err-append_case.fault _
-      c.in-Some.ensures.slots c.end_streams-self-inside-in-Err-append_case.ensures c.in_default-sealed.ensures.step c.into_entry-entry.ensures c.in-Err-append_case.ensures.step);
+      c.in-Some.ensures.slots c.end_streams-self-inside-in-Err-append_case.ensures c.in_default-sealed.ensures.step c.in_default-sealed.ensures.lowest c.into_entry-entry.ensures c.in-Err-append_case.ensures.step);
   bytes = λ honest.
       let real = rw (← c.self.view_is) at honest in
       let still = c.in_default-sealed.ensures.disk.honesty ∙ real in
@@ -246,7 +246,7 @@ returns-in-Ok g c = record {
       (stored_step g.D.Disk c.self.inside.disk c.append_case.new.disk c.self.inside.journal c.self.inside.settings.limit c.self.inside.free c.self.inside.slots c.args.slot (parts_of c.in-Some.block c.in-Some.stream) c.self.inside.stopped
       (c.self.invariant.sound.runs c.if-self.false) c.if-self.false (sym c.in-Some.ensures.stream)
       c.append_case.new.journal c.take.new.self (parts_of c.seal-sealed.new.block c.seal-sealed.new.stream) c.in_default-sealed.field-0 c.in-Ok.seq (case_of c.into_entry-entry.result)
-      c.in-Some.ensures.slots c.in_default-sealed.ensures.step c.into_entry-entry.ensures c.in-Ok.ensures.step);
+      c.in-Some.ensures.slots c.in_default-sealed.ensures.step c.in_default-sealed.ensures.lowest c.into_entry-entry.ensures c.in-Ok.ensures.step);
   bytes = λ honest.
       let real = rw (← c.self.view_is) at honest in
       let still = c.in_default-sealed.ensures.disk.honesty ∙ real in
@@ -294,3 +294,8 @@ returns-in-Ok g c = record {
   front = tt;
   untouched = tt;
 }
+
+pub append_case-requires-clause-guards : goal.append_case-requires-clause-guards
+append_case-requires-clause-guards g c =
+    (grow_rests g.D.Disk c.self.inside.disk c.seal-sealed.new.disk c.self.inside.journal c.self.inside.settings.limit c.self.inside.free c.self.inside.slots (c.self.invariant.sound.runs c.if-self.false)
+    (c.in_default-sealed.ensures.rests c.self.inside.journal (sym c.shape-shape.ensures))).guards
