@@ -1,21 +1,17 @@
 -- What lines do to archives that hold the same.
-use Rattle.std.proofs.Common.{◌≡◌, ◌≢◌, ◌⊎◌, ⊎_elim, inl, inr, ℕ, zero, suc, ◌+◌, ◌/◌, ◌<◌, ◌≤◌, Bool, true, false, List, [], ◌∷◌, ◌++◌, length, map, Option, Some, None, Result, Ok, Err, refl, sym, ap, subst, ◌∙◌, arith}
+use Rattle.std.proofs.Common.{◌≡◌, ◌⊎◌, ⊎_elim, inl, inr, ℕ, zero, suc, ◌+◌, ◌/◌, ◌<◌, ◌≤◌, true, false, List, [], ◌∷◌, ◌++◌, map, Option, Some, None, Result, Ok, Err, refl, sym, ap, subst, ◌∙◌, arith}
 use Rattle.std.proofs.lemmas.Bool.{false≢true}
-use Rattle.std.specs.Prelude.{option_map, slice_set, IsTrue, codes}
-use Rattle.disk_model.specs.declared.disk.Disk as disk
-use Rattle.archive_replies.specs.Reasons.{reason_of}
-use Rattle.archive_replies.specs.Texts.{plain_reply, begin_reply, end_reply, retire_reply, free_reply}
+use Rattle.std.specs.Prelude.{option_map, slice_set}
+use Rattle.archive_replies.specs.Texts.{plain_reply, begin_reply, end_reply, retire_reply}
 use Rattle.intake.specs.Contents.{Contents, Taken, BeginBytes, FinishBytes, AbandonBytes, DropBytes, RefusedBytes, UnmovedBytes, images_without, empty_taken, with_taken}
 use Rattle.intake.specs.OneAnswer.{IsDecided, IsOneAnswer}
-use Rattle.intake.specs.Parts.{Parts, state_of, contents_of}
 use Rattle.intake.specs.Slots.{stream_at}
 use Rattle.intake.specs.State.{ArchiveState, StreamFacts}
 use Rattle.intake.specs.Step.{FillsBlocks, with_stream, longer}
 use Rattle.intake.specs.declared.faults.ArchiveFault.{ArchiveFault}
 use Rattle.intake.specs.declared.faults.ArchiveFault.TheVariants.{Stopped, NoStream, TooLong, SpaceFull, OutOfMemory, Disk}
 use Rattle.retention.specs.declared.Decision.{Decision}
-use Rattle.script_streams.specs.Replies.{no_reply}
-use Rattle.inspector_cli.specs.Agreement.{HoldSame, IsFree, bytes_taken}
+use Rattle.inspector_cli.specs.Agreement.{IsFree, bytes_taken}
 use Rattle.inspector_cli.specs.Reply.{IsWall, MayTake, TakeStep, TakeBytes}
 use Rattle.inspector_cli.proofs.SlotLemmas.{at_mapped, some_same}
 
@@ -45,7 +41,7 @@ retire_decided (Err Disk) reply told bound = bound (inr told)
 retire_decided (Err _) reply told bound = tt
 
 -- The bytes of a part as one step: how a stream that is open takes them.
-TakesIn : ArchiveState → ℕ → ℕ → StreamFacts → Result (Unit {0}) ArchiveFault → ArchiveState → Type 0
+abbrev TakesIn : ArchiveState → ℕ → ℕ → StreamFacts → Result (Unit {0}) ArchiveFault → ArchiveState → Type 0
 TakesIn s slot n x (Ok u) new = MayTake s x n × (blocks : List ℕ) × (new ≡ with_stream s slot (Some (longer x n blocks))) × FillsBlocks s slot x ((x.len + n) / 4096) blocks
 TakesIn s slot n x (Err TooLong) new = (s.limit < x.len + n) × ((m : ℕ) → IsWall s x m → s.limit < m) × (new ≡ with_stream s slot None)
 TakesIn s slot n x (Err SpaceFull) new = (m : ℕ) × IsWall s x m × (m ≤ x.len + n) × (m ≤ s.limit) × (new ≡ with_stream s slot None)

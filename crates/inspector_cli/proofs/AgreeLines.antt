@@ -1,16 +1,15 @@
 -- Lines over archives that hold the same get the same replies.
-use Rattle.std.proofs.Common.{◌≡◌, ◌⊎◌, ⊎_elim, ℕ, ◌+◌, Bool, true, false, List, [], ◌∷◌, ◌++◌, length, Option, Some, None, Result, Ok, Err, refl, sym, ap, subst, ◌∙◌, arith}
+use Rattle.std.proofs.Common.{◌≡◌, ℕ, Bool, List, [], ◌∷◌, ◌++◌, length, Option, Result, Ok, Err, refl, sym, ap, subst, ◌∙◌, arith}
 use Rattle.std.proofs.lemmas.Bool.{false≢true}
 use Rattle.std.specs.Prelude.{IsTrue}
 use Rattle.std.specs.List.{flat_map}
 use Rattle.disk_model.specs.declared.disk.Disk as disk
 use Rattle.archive_replies.specs.Reasons.{reason_of}
 use Rattle.archive_replies.specs.Texts.{plain_reply, begin_reply, end_reply, retire_reply, free_reply, list_reply, dropped_line, unmet_line}
-use Rattle.intake.specs.Calls.{RetireCall}
 use Rattle.intake.specs.Contents.{Contents, AbandonBytes, BeginBytes, DropBytes, FinishBytes, LabelBytes, PinBytes, RetireBytes, UnmovedBytes, UpgradeBytes}
 use Rattle.intake.specs.OneAnswer.{IsDecided, BeginsOneWay, AbandonsOneWay, FinishesOneWay, DeletesOneWay, PinsOneWay, LabelsOneWay, UpgradesOneWay, RetiresOneWay, FillsOneWay, decision_said}
 use Rattle.intake.specs.Parts.{Parts, state_of, contents_of}
-use Rattle.intake.specs.State.{ArchiveState, StreamFacts, blocks_in}
+use Rattle.intake.specs.State.{ArchiveState, StreamFacts}
 use Rattle.intake.specs.Step.{BeginStep, AbandonStep, FinishStep, DeleteStep, PinStep, LabelStep, UpgradeStep, RetireStep, FreeReply}
 use Rattle.intake.specs.declared.faults.ArchiveFault.{ArchiveFault}
 use Rattle.intake.specs.declared.faults.ArchiveFault.TheVariants.{Stopped, OutOfMemory, Disk}
@@ -18,11 +17,10 @@ use Rattle.intake.specs.declared.space.Space.{Space}
 use Rattle.retention.specs.declared.Decision.{Decision}
 use Rattle.retention.specs.declared.Policy.{Policy}
 use Rattle.script_streams.specs.Replies.{no_reply, ok_reply}
-use Rattle.script_lines.specs.Said.{Said, silence, bad_line, long_line, begin_exec, begin_core, part_of, end_of, drop_of, delete_of, pin_of, label_of, retire_by, list_all_cases, count_free, upgrade_archive, inspect_of}
+use Rattle.script_lines.specs.Said.{silence, bad_line, long_line, begin_exec, begin_core, part_of, end_of, drop_of, delete_of, pin_of, label_of, retire_by, list_all_cases, count_free, upgrade_archive, inspect_of}
 use Rattle.stream_names.specs.Streams.{exec_stream, core_stream}
-use Rattle.stream_names.specs.declared.naming.Naming.{Naming}
-use Rattle.inspector_cli.specs.Agreement.{HoldSame, IsFree, LinesAgree, bytes_taken}
-use Rattle.inspector_cli.specs.Reply.{Begins, Drops, Deletes, Ends, Feeds, Frees, Labels, Pins, Replies, Retires, TakeBytes, TakeStep, Upgrades}
+use Rattle.inspector_cli.specs.Agreement.{HoldSame, IsFree, LinesAgree}
+use Rattle.inspector_cli.specs.Reply.{Begins, Drops, Deletes, Ends, Feeds, Frees, Labels, Pins, Retires, TakeBytes, TakeStep, Upgrades}
 use Rattle.inspector_cli.proofs.AgreeLemmas.{SameBytes, begin_decided, end_decided, plain_decided, retire_decided, same_begun, same_dropped, same_as, same_finished, same_gone, same_took, same_unmoved, take_one}
 use Rattle.inspector_cli.proofs.AgreeLooks.{decided_as, held_still, inspects_agree}
 
@@ -38,7 +36,7 @@ pub record OneWay : Type 0 where
   pub retire : RetiresOneWay
   pub fills : FillsOneWay
 
-ok_is : {X F : Type 0} (x y : X) → Ok {X} {F} y ≡ Ok x → y ≡ x
+ok_is : (x y : List ℕ × Bool) → ◌≡◌ {A = Result (List ℕ × Bool) ArchiveFault} (Ok y) (Ok x) → y ≡ x
 ok_is x y is = cc
 
 -- two archives and a line
@@ -66,8 +64,8 @@ module _ {D E : Type 0} (g : disk.Ghosts D) (h : disk.Ghosts E) (one : OneWay) (
   holds state bytes = record { state = state; images = bytes.images; taken = bytes.taken }
 
   begins : (slot : ℕ) (r : Result StreamFacts (List ℕ)) (accepted accepted' : Bool) → Begins g old slot r reply new accepted → Begins h old' slot r reply' new' accepted' → Agrees
-  begins slot (Err reason) accepted accepted' (told, is, no) (told', is', no') = (told' ∙ sym told, held_still g h old new old' new' same is is')
-  begins slot (Ok stream) accepted accepted' (r, call, told, yes) (r', call', told', yes') =
+  begins slot (Err reason) accepted accepted' (told, is, bad) (told', is', bad') = (told' ∙ sym told, held_still g h old new old' new' same is is')
+  begins slot (Ok stream) accepted accepted' (r, call, told, good) (r', call', told', good') =
       let d = begin_decided stream.name r reply told bound in
       let d' = begin_decided stream.name r' reply' told' bound' in
       let is = one.begin (state_of old) slot stream r r' (state_of new) (state_of new') call.step (subst (λ (s : ArchiveState). BeginStep s slot stream r' (state_of new')) same.state call'.step) d d' in
@@ -193,7 +191,7 @@ module _ {D E : Type 0} (g : disk.Ghosts D) (h : disk.Ghosts E) (one : OneWay) (
       moved (Err f) (Ok y) d is bytes bytes' = absurd (let e = is in cc)
       moved (Err f) (Err f') d is bytes bytes' =
           let e : f' ≡ f = (let e = is in cc) in
-          same_unmoved before before' after after' alike f (decided_as f d) bytes (subst (λ (x : ArchiveFault). UnmovedBytes before' x after') e bytes')
+          same_unmoved before before' after after' alike f (decided_as Decision (Unit {0}) f d) bytes (subst (λ (x : ArchiveFault). UnmovedBytes before' x after') e bytes')
 
   frees : Frees old reply new → Frees old' reply' new' → Agrees
   frees (r, says, told, is) (r', says', told', is') =

@@ -1,7 +1,7 @@
 -- What lines that ask an image show of archives that hold the same.
-use Rattle.std.proofs.Common.{◌≡◌, ◌≢◌, ◌⊎◌, ⊎_elim, inl, inr, ℕ, ◌==◌, Bool, true, false, cond, List, [], ◌∷◌, ◌++◌, map, Option, Some, None, Result, Ok, Err, refl, sym, ap, subst, ◌∙◌}
+use Rattle.std.proofs.Common.{◌≡◌, ⊎_elim, inl, inr, ℕ, ◌==◌, Bool, true, false, cond, List, [], ◌∷◌, map, Option, Some, None, Result, Ok, Err, refl, sym, ap, subst, ◌∙◌}
 use Rattle.std.proofs.lemmas.Bool.{cases_Bool, false≢true}
-use Rattle.std.specs.Prelude.{option_map, IsTrue, MatchResult, codes}
+use Rattle.std.specs.Prelude.{option_map, IsTrue, codes}
 use Rattle.address_space.specs.Source.{ExecutableView}
 use Rattle.archive_replies.specs.Reasons.{reason_of}
 use Rattle.disk_model.specs.declared.disk.Disk as disk
@@ -15,8 +15,8 @@ use Rattle.intake.specs.Step.{case_at}
 use Rattle.intake.specs.declared.faults.ArchiveFault.{ArchiveFault}
 use Rattle.intake.specs.declared.faults.ArchiveFault.TheVariants.{Stopped, NoCase, OutOfMemory, Disk}
 use Rattle.journal_layout.specs.declared.entry.Kind.{Kind}
-use Rattle.case_queries.specs.Gathering.{Gathers, GathersAll, RunsShort, Wanted, wanted_of, with_executable}
-use Rattle.case_queries.specs.Inspecting.{Inspects, Asks, ShowsSeen, Shows, ShowsBy, ShowsBeside, ShowsCore, Told, ToldBeside, kind_asked, kind_found, answer_of, reads_executables}
+use Rattle.case_queries.specs.Gathering.{Gathers, Wanted, wanted_of, with_executable}
+use Rattle.case_queries.specs.Inspecting.{Inspects, Asks, ShowsBy, ShowsBeside, ShowsCore, Told, ToldBeside, kind_asked, kind_found, reads_executables}
 use Rattle.case_queries.specs.Seeing.{LooksAt}
 use Rattle.script_lines.specs.Queries.{QuerySaid, ask_symbol}
 use Rattle.script_streams.specs.Replies.{no_reply}
@@ -28,10 +28,10 @@ told_decided OutOfMemory reply told bound = bound (inl told)
 told_decided Disk reply told bound = bound (inr told)
 told_decided _ reply told bound = tt
 
-pub decided_as : {T U : Type 0} (f : ArchiveFault) → IsDecided {T = T} (Err f) → IsDecided {T = U} (Err f)
-decided_as OutOfMemory x = x
-decided_as Disk x = x
-decided_as _ x = tt
+pub decided_as : (T U : Type 0) (f : ArchiveFault) → IsDecided {T = T} (Err f) → IsDecided {T = U} (Err f)
+decided_as T U OutOfMemory x = x
+decided_as T U Disk x = x
+decided_as T U _ x = tt
 
 -- a case that has an image is there
 has_case : (seq : ℕ) (cases : List CaseFacts) (images : List (List ℕ)) (image : List ℕ) → image_at seq cases images ≡ Some image → case_at seq cases ≡ None → ⊥
@@ -113,13 +113,13 @@ module _ {D E : Type 0} (g : disk.Ghosts D) (h : disk.Ghosts E) where
       let one : image' ≡ image = (let e = looks.0 in cc) in
       (is' ∙ ap (λ (i : List ℕ). with_executable x.1 i others') one ∙ ap (with_executable x.1 image) more.0 ∙ sym is, more.1)
   gathers_agree (x ∷ xs) old new old' new' r r' honest honest' same runs (Ok image, mid, sees, inr more) (Err f', mid', call', is') d d' =
-      let looks = looks_agree old mid old' mid' x.0 (Ok image) (Err f') honest honest' same runs sees call' tt (decided_as f' (subst IsDecided is'.0 d')) in
+      let looks = looks_agree old mid old' mid' x.0 (Ok image) (Err f') honest honest' same runs sees call' tt (decided_as (List ExecutableView) (List ℕ) f' (subst IsDecided is'.0 d')) in
       absurd (let e = looks.0 in cc)
   gathers_agree (x ∷ xs) old new old' new' r r' honest honest' same runs (Err f, mid, call, is) (Ok image', mid', sees', more') d d' =
-      let looks = looks_agree old mid old' mid' x.0 (Err f) (Ok image') honest honest' same runs call sees' (decided_as f (subst IsDecided is.0 d)) tt in
+      let looks = looks_agree old mid old' mid' x.0 (Err f) (Ok image') honest honest' same runs call sees' (decided_as (List ExecutableView) (List ℕ) f (subst IsDecided is.0 d)) tt in
       absurd (let e = looks.0 in cc)
   gathers_agree (x ∷ xs) old new old' new' r r' honest honest' same runs (Err f, mid, call, is) (Err f', mid', call', is') d d' =
-      let looks = looks_agree old mid old' mid' x.0 (Err f) (Err f') honest honest' same runs call call' (decided_as f (subst IsDecided is.0 d)) (decided_as f' (subst IsDecided is'.0 d')) in
+      let looks = looks_agree old mid old' mid' x.0 (Err f) (Err f') honest honest' same runs call call' (decided_as (List ExecutableView) (List ℕ) f (subst IsDecided is.0 d)) (decided_as (List ExecutableView) (List ℕ) f' (subst IsDecided is'.0 d')) in
       let one : f' ≡ f = (let e = looks.0 in cc) in
       (is'.0 ∙ ap (λ (y : ArchiveFault). Err y) one ∙ sym is.0, held_still mid new mid' new' looks.1 is.1 is'.1)
 
@@ -131,7 +131,7 @@ module _ {D E : Type 0} (g : disk.Ghosts D) (h : disk.Ghosts E) where
 
   beside_decided : (kind : Kind) (q : QuerySaid) (b : List ℕ) (r : Result (List ExecutableView) ArchiveFault) (reply : List ℕ) → ToldBeside kind q b r reply → (IsFree reply → ⊥) → IsDecided r
   beside_decided kind q b (Ok xs) reply told bound = tt
-  beside_decided kind q b (Err f) reply told bound = decided_as f (told_decided f reply told bound)
+  beside_decided kind q b (Err f) reply told bound = decided_as (List ℕ) (List ExecutableView) f (told_decided f reply told bound)
 
   beside_one : (kind : Kind) (q : QuerySaid) (b : List ℕ) (r : Result (List ExecutableView) ArchiveFault) (reply reply' : List ℕ) → ToldBeside kind q b r reply → ToldBeside kind q b r reply' → (IsFree reply → ⊥) → (IsFree reply' → ⊥)
       → reply' ≡ reply

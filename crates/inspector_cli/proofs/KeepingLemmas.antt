@@ -1,15 +1,14 @@
 -- A case that no line takes away is found again, over commands and stops.
-use Rattle.std.proofs.Common.{◌≡◌, ◌⊎◌, inl, inr, ⊎_elim, ℕ, ◌+◌, ◌==◌, ◌<◌, ◌≤◌, ◌^◌, Bool, true, false, not, cond, List, [], ◌∷◌, ◌++◌, length, map, Option, Some, None, Result, Ok, Err, refl, sym, ap, subst, ◌∙◌, arith, append_assoc}
+use Rattle.std.proofs.Common.{◌≡◌, ◌⊎◌, inl, inr, ⊎_elim, ℕ, ◌+◌, ◌==◌, ◌<◌, ◌≤◌, ◌^◌, Bool, true, false, not, cond, List, [], ◌∷◌, ◌++◌, length, map, Option, Some, None, Result, Ok, refl, sym, ap, subst, ◌∙◌, arith, append_assoc}
 use Rattle.std.proofs.lemmas.Bool.{cases_Bool, false≢true, eqb-false}
 use Rattle.std.proofs.lemmas.List.{append-nil}
 use Rattle.std.proofs.lemmas.Bool.Decides.{eqb_tells}
-use Rattle.std.specs.Prelude.{codes, option_map, IsTrue}
-use Rattle.std.specs.List.{flat_map, AllByRecursion}
-use Rattle.disk_model.specs.Anew.{IsMadeAnew, Restarts}
+use Rattle.std.specs.Prelude.{codes, IsTrue}
+use Rattle.std.specs.List.{AllByRecursion}
 use Rattle.disk_model.specs.declared.disk.Disk as disk
 use Rattle.journal_layout.specs.Folding.{is_among}
 use Rattle.journal_layout.specs.Soundness.{Rise}
-use Rattle.intake.specs.Durable.{Durable, FoundCase, StandsFor, without, flagged, labelled, with_case}
+use Rattle.intake.specs.Durable.{Durable, FoundCase, without, flagged, labelled, with_case}
 use Rattle.intake.specs.Lasting.{HasNumbers, NumbersAreAbove, number_of}
 use Rattle.intake.specs.Lives.{IsAmong}
 use Rattle.intake.specs.Marks.{IsOneOf}
@@ -20,14 +19,12 @@ use Rattle.script_streams.specs.Replies.{no_reply, ok_reply}
 use Rattle.stream_names.specs.declared.naming.Naming.{Naming}
 use Rattle.archive_replies.specs.Texts.{end_reply, dropped_line, unmet_line}
 use Rattle.inspector_cli.specs.declared.session.LifeFault.{LifeFault}
-use Rattle.inspector_cli.specs.declared.session.StoreOutcome.{StoreOutcome}
-use Rattle.inspector_cli.specs.Headline.{Moment, Line, Course, IsCrashSafe, IsCourse, Leads, LeadsOn, WouldLeave, AllLead, FindsMoment, FindsSince, IsSafe, AreSafe, answers_of, answer_of, moment_of, begins_as, begun_in, last_moment}
-use Rattle.inspector_cli.specs.Kept.{Kept, IsKeptAs, HasThisLabel, HoldsKept, FindsKept, MayLabel, Spares, AllSpare, Command, IsSession, IsStore, IsRefused, IsCommand, TakesUp, AStopIsTakenUp, IsReopened, AReopeningIsTakenUp, AreNext, StaysFound, StaysFoundBehind, ASessionKeepsACase, ALineStoresACase, AStoreStoresACase, AStoreKeepsACase, relabelled, ALineLabelsACase, AStoreLabelsACase}
+use Rattle.inspector_cli.specs.Headline.{Moment, Line, Course, IsCrashSafe, IsCourse, Leads, LeadsOn, WouldLeave, AllLead, FindsMoment, FindsSince, IsSafe, AreSafe, answer_of, moment_of, begins_as, begun_in, last_moment}
+use Rattle.inspector_cli.specs.Kept.{Kept, IsKeptAs, HasThisLabel, HoldsKept, FindsKept, Spares, AllSpare, Command, IsSession, IsStore, IsCommand, AStopIsTakenUp, AReopeningIsTakenUp, AreNext, StaysFound, ASessionKeepsACase, ALineStoresACase, AStoreStoresACase, AStoreKeepsACase, relabelled, ALineLabelsACase, AStoreLabelsACase}
 use Rattle.inspector_cli.specs.Session.{Streams}
-use Rattle.inspector_cli.specs.StoreHeadline.{AddsCase, StoresOrNot, TellsStored, StoreCourse, IsStoreCourse, IsStoreSafe, no_stream}
+use Rattle.inspector_cli.specs.StoreHeadline.{AddsCase, StoresOrNot, TellsStored, StoreCourse, IsStoreCourse, no_stream}
 use Rattle.inspector_cli.specs.Storing.{said_room, said_label}
-use Rattle.inspector_cli.specs.Told.{Answer, HasLine, MayDrop, what_of, parts_in}
-use Rattle.inspector_cli.proofs.ClearLemmas.{first_apart}
+use Rattle.inspector_cli.specs.Told.{Answer, HasLine, what_of, parts_in}
 use Rattle.inspector_cli.proofs.FoundLemmas.{told_once}
 use Rattle.inspector_cli.proofs.KeptLemmas.{among_more, among_last, among_filtered, among_mapped, all_append, all_mapped, one_apart, has_line}
 
@@ -218,7 +215,7 @@ module _ {D : Type 0} (g : disk.Ghosts D) (k : Kept) where
   module _ (asked : Option Policy) (found : Result StreamFacts (List ℕ)) (given file file' : Option (List ℕ)) (c : StoreCourse D) (is : IsStoreCourse asked found given file file' c) where
     case_stays : (stored : Option ℕ) (x y : Durable) → StoresOrNot found file file' x stored y → HoldsKept k x → HoldsKept k y
     case_stays None x y stores holds = same k x y stores holds
-    case_stays (Some n) x y stores holds = same k (with_case x (record stores.stream { len = length stores.image }) stores.runs stores.image) y stores.adds (with_case_holds k x _ stores.runs stores.image holds)
+    case_stays (Some n) x y stores holds = same k (with_case x (record stores.stream { len = length stores.image }) stores.runs stores.image) y stores.adds (with_case_holds k x (record stores.stream { len = length stores.image }) stores.runs stores.image holds)
 
     ended_holds : IsHeldAt k c.room → IsHeldAt k c.ended
     ended_holds held =

@@ -11,7 +11,6 @@ use Rattle.intake.specs.Parts.{Parts}
 use Rattle.intake.specs.State.{StreamFacts}
 use Rattle.script_lines.specs.Said.{Said}
 use Rattle.script_streams.specs.Replies.{no_reply}
-use Rattle.inspector_cli.specs.declared.session.LifeFault.TheVariants as life
 use Rattle.inspector_cli.specs.Stages.{Stage, Moves, MayLeave, mark_at, marks_of}
 use Rattle.inspector_cli.specs.Told.{Answer}
 use Rattle.inspector_cli.specs.Headline.{Leads, WouldLeave, Moment, LeadsOn, FindsMoment, FindsSince, AreSafe}

@@ -1,5 +1,5 @@
 -- One stream that is stored from its own input, with room made for it first, and the label of its case.
-use Rattle.std.proofs.Common.{◌≡◌, inl, ℕ, zero, suc, ◌+◌, ◌/◌, ◌<◌, ◌≤◌, Bool, true, false, List, [], ◌∷◌, ◌++◌, length, Option, Some, None, Result, Ok, Err, is_ok, refl, sym, ap, subst, ◌∙◌, arith, length-append}
+use Rattle.std.proofs.Common.{◌≡◌, inl, ℕ, zero, suc, ◌+◌, ◌<◌, ◌≤◌, Bool, true, false, List, [], ◌∷◌, ◌++◌, length, Option, Some, None, Result, Ok, Err, is_ok, refl, sym, ap, subst, ◌∙◌, arith, length-append}
 use Rattle.std.proofs.lemmas.List.{append-nil, length-map}
 use Rattle.std.proofs.KnownBytes.{Consumes-trans}
 use Rattle.std.specs.Io.KnownBytes.{Consumes}
@@ -61,7 +61,7 @@ fresh_takes old slot s none runs there = (
   s.blocks,
   ap (λ (xs : List (Option StreamFacts)). record old { streams = xs })
       (sym (set_again old.streams slot (Some s) (Some (longer s 0 s.blocks)) ∙ ap (λ (n : ℕ). slice_set old.streams slot (Some (record s { len = n }))) (omega arith))),
-  (0, ap (λ (n : ℕ). n / 4096) (omega arith), refl),
+  (0, omega arith, refl),
 )
 
 begun_step : (old new : ArchiveState) (slot : ℕ) (s : StreamFacts) → s.len ≡ 0 → BeginStep old slot s (Ok tt) new → TakeStep new slot 0 (Ok tt) new

@@ -42,8 +42,12 @@ wall_numbers len k n used used' all some whole fits is grown = (omega arith, ome
 
 -- blocks that were taken, and then more
 takes_then : (x : ArchiveState) (have : List ℕ) (count : ℕ) (mid : List ℕ) (more : ℕ) (blocks : List ℕ) → TakesLowest x have count mid → TakesLowest x mid more blocks → TakesLowest x have (count + more) blocks
-takes_then x have zero mid more blocks first then_more = subst (λ (b : List ℕ). TakesLowest x b more blocks) first then_more
-takes_then x have (suc n) mid more blocks first then_more = (first.0, first.1, takes_then x (have ++ first.0 ∷ []) n mid more blocks first.2 then_more)
+takes_then x have zero mid more blocks first then_more =
+    let e : more ≡ zero + more = omega arith in
+    subst (λ (n : ℕ). TakesLowest x have n blocks) e (subst (λ (b : List ℕ). TakesLowest x b more blocks) first then_more)
+takes_then x have (suc n) mid more blocks first then_more =
+    let e : suc (n + more) ≡ suc n + more = omega arith in
+    subst (λ (m : ℕ). TakesLowest x have m blocks) e (first.0, first.1, takes_then x (have ++ first.0 ∷ []) n mid more blocks first.2 then_more)
 
 some_is : {X : Type 0} (x y : X) → Some x ≡ Some y → x ≡ y
 some_is x y e = cc

@@ -1,5 +1,5 @@
 -- What is answered is a function of the script and of what the archive holds, unless there is no memory or the disk fails.
-use Rattle.std.specs.Prelude.{◌≡◌, ◌⊎◌, ℕ, List, ◌++◌, map, option_map, Result, codes, IsTrue}
+use Rattle.std.specs.Prelude.{◌≡◌, ◌⊎◌, ℕ, List, ◌++◌, map, option_map, codes, IsTrue}
 use Rattle.disk_model.specs.declared.disk.Disk as disk
 use Rattle.intake.specs.Contents.{Taken}
 use Rattle.intake.specs.Parts.{Parts, state_of, contents_of}

@@ -15,7 +15,7 @@ use Rattle.stream_names.specs.declared.naming.Naming.{Naming}
 use Rattle.archive_replies.specs.Texts.{end_reply}
 use Rattle.inspector_cli.specs.declared.session.LifeFault.{LifeFault}
 use Rattle.inspector_cli.specs.declared.session.StoreOutcome.{StoreOutcome}
-use Rattle.inspector_cli.specs.Headline.{Line, Moment, IsCrashSafe, answers_of, answer_of, begins_as, begun_in, last_moment}
+use Rattle.inspector_cli.specs.Headline.{Line, IsCrashSafe, answers_of, answer_of, begins_as, begun_in, last_moment}
 use Rattle.inspector_cli.specs.Session.{Streams}
 use Rattle.inspector_cli.specs.StoreHeadline.{IsStoreSafe}
 use Rattle.inspector_cli.specs.Storing.{said_room, said_label}

@@ -1,5 +1,5 @@
 -- What stays of the bytes before the data blocks.
-use Rattle.std.proofs.Common.{◌≡◌, inl, inr, ⊎_elim, ℕ, ◌+◌, ◌*◌, ◌≤◌, ◌∙◌, Bool, List, Result, Ok, Err, ap, refl, arith}
+use Rattle.std.proofs.Common.{◌≡◌, ⊎_elim, ℕ, ◌+◌, ◌≤◌, ◌∙◌, Bool, List, Err, ap, arith}
 use Rattle.std.specs.Prelude.{take}
 use Rattle.disk_model.specs.PartLaws.{widened}
 use Rattle.disk_model.specs.declared.disk.Disk as disk

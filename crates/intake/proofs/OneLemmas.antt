@@ -1,11 +1,11 @@
 -- Each call's answer, as a function of the state.
-use Rattle.std.proofs.Common.{◌≡◌, ◌≢◌, ◌⊎◌, ⊎_elim, inl, inr, ℕ, zero, suc, ◌+◌, ◌%◌, ◌/◌, ◌<◌, ◌≤◌, ◌^◌, Bool, true, false, not, cond, List, [], ◌∷◌, ◌++◌, length, map, refl, sym, ap, ◌∙◌, subst, arith, Option, None, Some, Result, Ok, Err}
-use Rattle.std.specs.Prelude.{nat_lt, nat_eq, ◌&&◌, ◌||◌, if◌then◌else◌}
+use Rattle.std.proofs.Common.{◌≡◌, ◌≢◌, ⊎_elim, ℕ, zero, suc, ◌+◌, ◌%◌, ◌^◌, Bool, true, false, not, cond, List, [], ◌∷◌, ◌++◌, length, map, refl, sym, ap, ◌∙◌, subst, arith, Option, None, Some, Result, Ok, Err}
+use Rattle.std.specs.Prelude.{nat_lt, nat_eq, ◌&&◌, ◌||◌}
 use Rattle.std.specs.Str.{bytes_eq}
 use Rattle.std.proofs.lemmas.Bool.{cases_order, cases_eq, cases_Bool, lt-ltb, le-ltb, eq-eqb, ne_eqb, true≢false, false≢true, and_from, and_left, and_right, or_left, or_right, or_from, false_from_ne_true}
 use Rattle.std.proofs.lemmas.Slice.Eq.{bytes_eq-Decides}
 use Rattle.journal_layout.specs.Layout.{half_length}
-use Rattle.retention.specs.Rule.{IsDecision, IsOneDecision, holds_after}
+use Rattle.retention.specs.Rule.{IsOneDecision}
 use Rattle.retention.specs.declared.Brief.{Brief}
 use Rattle.retention.specs.declared.Decision.{Decision}
 use Rattle.retention.specs.declared.Policy.{Policy}
@@ -13,7 +13,7 @@ use Rattle.intake.proofs.MarkLemmas.{one_unmet}
 use Rattle.intake.specs.OneAnswer.{IsDecided, IsOneAnswer, RetiresSo, decision_said}
 use Rattle.intake.specs.Slots.{stream_at}
 use Rattle.intake.specs.State.{ArchiveState, CaseFacts, StreamFacts, blocks_for, blocks_in}
-use Rattle.intake.specs.Step.{BeginStep, AbandonStep, FinishStep, DeleteStep, PinStep, LabelStep, UpgradeStep, RetireStep, HasRecordRoom, HasRoomAnew, IsFull, LacksRoomAnew, IsLowestFree, TakesLowest, FillsBlocks, MayFinish, is_taken, with_stream, snapshot_size, block_uses, stream_size, cases_with, stored, case_at, drop_size, cases_without, without_cases, pin_size, cases_flagged, with_flag, label_size, cases_labelled, with_label, anew_in_two, brief_of, RetiresSome}
+use Rattle.intake.specs.Step.{BeginStep, AbandonStep, FinishStep, DeleteStep, PinStep, LabelStep, UpgradeStep, RetireStep, HasRecordRoom, HasRoomAnew, IsFull, LacksRoomAnew, IsLowestFree, TakesLowest, FillsBlocks, is_taken, with_stream, snapshot_size, stream_size, cases_with, stored, case_at, drop_size, cases_without, without_cases, pin_size, cases_flagged, with_flag, label_size, cases_labelled, with_label, anew_in_two, brief_of, RetiresSome}
 use Rattle.intake.specs.declared.faults.ArchiveFault.{ArchiveFault}
 use Rattle.intake.specs.declared.faults.ArchiveFault.TheVariants.{Stopped, BadSlot, SlotBusy, NameTaken, NoStream, SpaceFull, NoCase, Pinned, JournalFull, NumbersSpent, OutOfMemory, Disk, OldVersion}
 

@@ -1,5 +1,5 @@
 -- The streams that lines begin.
-use Rattle.std.specs.Prelude.{ℕ, List, Result, Ok, Err}
+use Rattle.std.specs.Prelude.{ℕ, List, [], Result, Ok, Err}
 use Rattle.std.specs.Borrow.{Bor}
 use Rattle.intake.specs.State.{StreamFacts}
 use Rattle.stream_names.specs.declared.names.NewStream.{NewStream}

@@ -1,4 +1,4 @@
-use Rattle.std.proofs.Common.{◌||◌, Bool, ap, sym, ◌∙◌, rules}
+use Rattle.std.proofs.Common.{rules}
 use Rattle.intake.proofs.KeptNameLemmas.{stays_next}
 use Rattle.intake.proofs.names.is_name_kept.Goals as goal
 

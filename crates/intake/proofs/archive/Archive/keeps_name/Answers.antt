@@ -1,4 +1,4 @@
-use Rattle.std.proofs.Common.{◌∙◌, ap, sym, subst, List, ℕ, rules}
+use Rattle.std.proofs.Common.{◌∙◌, ap, sym, subst, List, ℕ}
 use Rattle.journal_layout.specs.Soundness.{Rise}
 use Rattle.intake.specs.Retiring.{stays_named}
 use Rattle.intake.proofs.RetireLemmas.{decision_of, entries_rise, retired_rise}
