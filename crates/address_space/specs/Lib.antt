@@ -9,6 +9,7 @@ pub mod Orders
 pub mod MappedFiles
 pub mod SourceWords
 pub mod Whole
+pub mod Dumped
 pub mod StretchWords
 pub mod StretchesWords
 pub mod AttachedWords
