@@ -21,3 +21,4 @@ pub mod CursorWords
 pub mod FindWords
 pub mod StringWords
 pub mod Coverage
+pub mod WordLaws
