@@ -92,13 +92,7 @@ fn is_settled(
 }
 
 /// Whether the stack shows what comes behind each frame from a pc and a frame pointer on.
-fn are_settled(
-    core: &CoreImage<'_>,
-    size: u64,
-    stack: StackBytes<'_>,
-    pc: u64,
-    fp: u64,
-) -> bool
+fn are_settled(core: &CoreImage<'_>, size: u64, stack: StackBytes<'_>, pc: u64, fp: u64) -> bool
     ensures { result ≡ true → (image : List ℕ) → IsFrontOf (core_bytes core.now) size image → (space : Space) → space.segments ≡ segments_of image
         → AreStackOf space stack.entry.first stack.entry.bytes.now
         → AgreeBehind (words_of space) (words_in stack.entry.first stack.entry.bytes.now) None (chain (words_in stack.entry.first stack.entry.bytes.now) pc fp) }
