@@ -26,7 +26,7 @@ use Rattle.address_space.proofs.Values.{found_passes}
 abbrev headed_too : ℕ × SegmentView → ℕ × SegmentView
 headed_too d = (d.0, headed d.1)
 
-abbrev filled_too : List ℕ → ℕ × SegmentView → ℕ × SegmentView
+abbrev pub filled_too : List ℕ → ℕ × SegmentView → ℕ × SegmentView
 filled_too b d = (d.0, filled b d.1)
 
 -- which header covers an address, its bytes don't tell
@@ -54,7 +54,7 @@ refilled b None = refl
 refilled b (Some d) = refl
 
 module _ (f b : List ℕ) (same : map headed (segments_of f) ≡ map headed (segments_of b)) where
-  first_in : (a : ℕ) → first_from (is_covering a) 0 (segments_of b) ≡ option_map (filled_too b) (first_from (is_covering a) 0 (segments_of f))
+  pub first_in : (a : ℕ) → first_from (is_covering a) 0 (segments_of b) ≡ option_map (filled_too b) (first_from (is_covering a) 0 (segments_of f))
   first_in a =
       let x = first_from (is_covering a) 0 (segments_of f) in
       let y = first_from (is_covering a) 0 (segments_of b) in

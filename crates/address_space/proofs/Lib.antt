@@ -17,3 +17,4 @@ pub mod Layering
 pub mod Sheets
 pub mod Leaping
 pub mod Filled
+pub mod Dumping

@@ -57,7 +57,7 @@ begun : (space : Space) (a : ℕ) → IsBegun a (place_at space a)
 unfolding place_at
 begun space a = placed_begun space a (decider space a) refl
 
-byte_of_part : (b : List ℕ) (p n k q : ℕ) → k < n → q ≡ p + k → get_or b q 0 ≡ get_or (part b p n) k 0
+pub byte_of_part : (b : List ℕ) (p n k q : ℕ) → k < n → q ≡ p + k → get_or b q 0 ≡ get_or (part b p n) k 0
 byte_of_part b p n k q h is = ap (λ j. get_or b j 0) is ∙ sym (get_or-drop p b k 0) ∙ sym (get_or-take n (drop p b) k 0 h)
 
 value_within : (p : Place) (a n k : ℕ) → IsBegun a p → k < n → value_of (content_by (λ b j. get_or b j 0) (a + k) p) ≡ value_in (bytes_in (content_by (λ b j. part b j n) a p)) k

@@ -9,6 +9,7 @@ pub mod Orders
 pub mod MappedFiles
 pub mod SourceWords
 pub mod Whole
+pub mod Dumped
 pub mod StretchWords
 pub mod StretchesWords
 pub mod AttachedWords
@@ -20,3 +21,4 @@ pub mod CursorWords
 pub mod FindWords
 pub mod StringWords
 pub mod Coverage
+pub mod WordLaws

@@ -4,6 +4,7 @@
 mod attached;
 mod by_path;
 mod cursor;
+mod dumped;
 mod file_sheet;
 mod file_table;
 mod find;
@@ -26,6 +27,7 @@ mod words;
 
 pub use attached::Attached;
 pub use by_path::ByPath;
+pub use dumped::{dumped_range, has_no_value};
 pub use find::Matches;
 pub use laws::{cut_is_past_the_image, stretches_are_the_range, texts_are_maximal};
 pub use mappings::{Mapping, Mappings};

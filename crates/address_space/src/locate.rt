@@ -48,7 +48,7 @@ pub(crate) struct Placed<'a> {
 }
 
 /// What of the segment's file range lies in an image of `size` bytes.
-fn held(segment: &Segment<'_>, size: u64) -> u64
+pub(crate) fn held(segment: &Segment<'_>, size: u64) -> u64
     ensures { result ≡ min segment.now.filesz (size - segment.now.offset) }
 {
     segment.filesz.min(size.saturating_sub(segment.offset))

@@ -2,7 +2,7 @@
 use Rattle.std.specs.Prelude.{◌≡◌, ℕ, ◌-◌, List, Option}
 use Rattle.std.specs.Iterator.{YieldsFirst}
 use Rattle.backtrace.specs.Chain.{Memory, frames_behind, frames_from, stop_behind, stop_from}
-use Rattle.backtrace.specs.MemoryWords.{memory_of}
+use Rattle.backtrace.specs.MemoryWords.{words_by}
 use Rattle.backtrace.specs.declared.frames.Frame.{Frame}
 use Rattle.backtrace.specs.declared.frames.Frames.{Frames}
 use Rattle.backtrace.specs.declared.frames.Stop.{Stop}
@@ -16,10 +16,10 @@ end_from m before f = stop_from m (1023 - f.index) before f
 
 -- the frames that are still to come, and why they will end or have ended
 unfoldable pub frames_left : Frames → List Frame
-frames_left f = frames_behind (rest_from (memory_of f.space.now) f.before) f.next
+frames_left f = frames_behind (rest_from (words_by f.words) f.before) f.next
 
 unfoldable pub stop_left : Frames → Stop
-stop_left f = stop_behind (end_from (memory_of f.space.now) f.before) f.next
+stop_left f = stop_behind (end_from (words_by f.words) f.before) f.next
 
 -- what a call of `next` does: it gives the first of the frames that are still to come, if there is one, and keeps why they
 -- end

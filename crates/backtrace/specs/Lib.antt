@@ -1,3 +1,5 @@
 pub mod Chain
 pub mod MemoryWords
 pub mod FrameWords
+pub mod Agreeing
+pub mod AgreeLaws

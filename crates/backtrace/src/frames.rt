@@ -1,10 +1,11 @@
 // Frames, one after another.
-ghost use Rattle.std.specs.Prelude.{◌≡◌, ◌≤◌};
+ghost use Rattle.std.specs.Prelude.{◌≡◌, ◌≤◌, false};
 ghost use Rattle.std.specs.Result.{ForOk};
 ghost use Rattle.backtrace.specs.Chain as spec;
-ghost use Rattle.backtrace.specs.MemoryWords.{memory_of};
+ghost use Rattle.backtrace.specs.MemoryWords.{memory_of, words_by, words_in};
 ghost use Rattle.backtrace.specs.declared.frames.Frame as numbers;
 
+use crate::words::{StackBytes, Words};
 use address_space::AddressSpace;
 
 /// The number of the last frame that is looked at.
@@ -39,7 +40,7 @@ pub enum Stop {
 /// The frames of a stack, from the innermost on.
 #[derive(Clone, Copy)]
 pub struct Frames<'s, 'a> {
-    space: &'s AddressSpace<'a>,
+    words: Words<'s, 'a>,
     before: Option<u64>,
     next: Result<Frame, Stop>,
     ghost few: { ForOk next (λ (f : numbers.Frame). f.index ≤ 1023) },
@@ -55,24 +56,36 @@ fn is_not_rising(before: Option<u64>, fp: u64) -> bool
     }
 }
 
+/// Whether what comes behind a frame, with that frame pointer before it, depends on the words below its own. Where it doesn't, each
+/// memory has the same there.
+#[tactic(auto, unfolding(crate::specs::Chain::link_below, crate::specs::Chain::step))]
+pub fn needs_words(before: Option<u64>, frame: Frame) -> bool
+    ensures { result ≡ false → (m p : spec.Memory) → spec.step m before frame ≡ spec.step p before frame }
+{
+    if is_not_rising(before, frame.fp) {
+        return false;
+    }
+    frame.fp >= 16 && frame.fp % 8 == 0
+}
+
 /// The words at 8 and at 16 below a frame pointer: the return address and the caller's frame pointer.
 #[tactic(auto, unfolding(crate::specs::Chain::link_below))]
-fn link_below(space: &AddressSpace<'_>, fp: u64) -> Option<(u64, u64)>
-    ensures { result ≡ spec.link_below (memory_of space.now) fp }
+fn link_below(words: &Words<'_, '_>, fp: u64) -> Option<(u64, u64)>
+    ensures { result ≡ spec.link_below (words_by words.now) fp }
 {
     if fp < 16 {
         return None;
     }
-    let pc = space.read_u64(fp - 8)?;
-    let link = space.read_u64(fp - 16)?;
+    let pc = words.word(fp - 8)?;
+    let link = words.word(fp - 16)?;
     Some((pc, link))
 }
 
 /// The frame behind one, or the first reason why there is none.
 #[tactic(auto, unfolding(crate::specs::Chain::step))]
-fn step(space: &AddressSpace<'_>, before: Option<u64>, frame: Frame) -> Result<Frame, Stop>
+fn step(words: &Words<'_, '_>, before: Option<u64>, frame: Frame) -> Result<Frame, Stop>
     requires { frame.index ≤ 1023 }
-    ensures step { result ≡ spec.step (memory_of space.now) before frame }
+    ensures step { result ≡ spec.step (words_by words.now) before frame }
     ensures few { ForOk result (λ (f : numbers.Frame). f.index ≤ 1023) }
 {
     if is_not_rising(before, frame.fp) {
@@ -84,7 +97,7 @@ fn step(space: &AddressSpace<'_>, before: Option<u64>, frame: Frame) -> Result<F
     if frame.fp % 8 != 0 {
         return Err(Stop::Misaligned);
     }
-    let Some((pc, fp)) = link_below(space, frame.fp) else {
+    let Some((pc, fp)) = link_below(words, frame.fp) else {
         return Err(Stop::Unreadable);
     };
     if frame.index == LAST {
@@ -101,13 +114,28 @@ impl<'s, 'a> Frames<'s, 'a> {
     ghost use Rattle.backtrace.specs.FrameWords.{frames_left, stop_left};
 
     /// The frames from a pc and a frame pointer on.
-    #[tactic(auto, unfolding(crate::specs::FrameWords::frames_left, crate::specs::FrameWords::stop_left, crate::specs::Chain::chain, crate::specs::Chain::stop_of))]
     pub fn new(space: &'s AddressSpace<'a>, pc: u64, fp: u64) -> Frames<'s, 'a>
         ensures frames { frames_left result ≡ spec.chain (memory_of space.now) pc fp }
         ensures stop { stop_left result ≡ spec.stop_of (memory_of space.now) pc fp }
     {
+        Frames::of(Words::Space(space), pc, fp)
+    }
+
+    /// The same where these bytes of the stack are all that is known of the memory.
+    pub fn in_stack(stack: StackBytes<'s>, pc: u64, fp: u64) -> Frames<'s, 'a>
+        ensures frames { frames_left result ≡ spec.chain (words_in stack.entry.first stack.entry.bytes.now) pc fp }
+        ensures stop { stop_left result ≡ spec.stop_of (words_in stack.entry.first stack.entry.bytes.now) pc fp }
+    {
+        Frames::of(Words::Stack(stack), pc, fp)
+    }
+
+    #[tactic(auto, unfolding(crate::specs::FrameWords::frames_left, crate::specs::FrameWords::stop_left, crate::specs::Chain::chain, crate::specs::Chain::stop_of))]
+    fn of(words: Words<'s, 'a>, pc: u64, fp: u64) -> Frames<'s, 'a>
+        ensures frames { frames_left result ≡ spec.chain (words_by words.entry) pc fp }
+        ensures stop { stop_left result ≡ spec.stop_of (words_by words.entry) pc fp }
+    {
         Frames {
-            space,
+            words,
             before: None,
             next: Ok(Frame { index: 0, pc, fp }),
         }
@@ -139,7 +167,7 @@ impl<'s, 'a> Iterator for Frames<'s, 'a> {
         let Ok(frame) = self.next else {
             return None;
         };
-        let next = step(self.space, self.before, frame);
+        let next = step(&self.words, self.before, frame);
         self.before = Some(frame.fp);
         self.next = next;
         Some(frame)

@@ -6,6 +6,8 @@
 
 mod frames;
 mod laws;
+mod words;
 
-pub use frames::{Frame, Frames, Stop};
+pub use frames::{Frame, Frames, Stop, needs_words};
 pub use laws::the_frames_are_the_chain;
+pub use words::StackBytes;

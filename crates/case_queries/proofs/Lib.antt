@@ -4,3 +4,4 @@ pub mod AgainLemmas
 pub mod ShowLemmas
 pub mod FrontLemmas
 pub mod WindowLemmas
+pub mod RestLemmas

@@ -67,7 +67,7 @@ pub seen_enough : (q : MemoryQuery) (front : List ℕ) (size at : ℕ) (bytes im
 seen_enough (Dump first n) front size at bytes image by = by.0
 seen_enough (Find needle) front size at bytes image by = inl by
 seen_enough (Strings least) front size at bytes image by = inl by
-seen_enough (Backtrace thread) front size at bytes image by = inl by
+seen_enough (Backtrace thread) front size at bytes image by = by.0
 
 -- what enough bytes show, where sound first bytes show it
 enough_shows : {A : Type 0} (of : List ℕ → A) → ((b : List ℕ) (n : ℕ) → IsHeaderWhole (take n b) → IsSound Core (take n b) → of (take n b) ≡ of b) → (front image : List ℕ) → IsEnough Core front image → of front ≡ of image

@@ -11,7 +11,7 @@ use Rattle.elf_view.specs.Field.{part}
 use Rattle.elf_view.specs.Header.{SegmentView, segments_of}
 use Rattle.elf_view.specs.declared.faults.Want.{Want}
 use Rattle.elf_view.specs.declared.faults.Want.TheVariants.{Core}
-use Rattle.address_space.specs.Whole.{AreHeldWithin}
+use Rattle.address_space.specs.Whole.{AreHeldWithin, IsFrontOf}
 use Rattle.intake.specs.Contents.{Contents, image_at}
 use Rattle.intake.specs.Part.{PartCall}
 use Rattle.intake.specs.Parts.{Parts, state_of, contents_of}
@@ -20,7 +20,8 @@ use Rattle.intake.specs.Step.{case_at}
 use Rattle.intake.specs.declared.faults.ArchiveFault.{ArchiveFault}
 use Rattle.intake.specs.QuietLaws.{quiet_then}
 use Rattle.intake.specs.StayLaws.{stays_then}
-use Rattle.memory_replies.specs.Window.{IsAtHand, past_of}
+use Rattle.memory_replies.specs.Stack.{HasFrames}
+use Rattle.memory_replies.specs.Window.{IsAtHand, IsPartOf, past_of}
 use Rattle.script_lines.specs.declared.query.MemoryQuery.{MemoryQuery}
 use Rattle.script_lines.specs.declared.query.MemoryQuery.TheVariants.{Dump, Find, Strings, Backtrace}
 use Rattle.case_queries.specs.Fronts.{HasSize, IsEnough, ReadsFront, ReadsUpTo, SeesEnough}
@@ -86,7 +87,7 @@ drop_past zero (x ∷ xs) h = absurd (omega (arith, h))
 drop_past (suc lo) (x ∷ xs) h = drop_past lo xs (omega (arith, h))
 
 -- what the first bytes have of a range
-front_part : (image front : List ℕ) (lo n : ℕ) → front ≡ take (length front) image → part front lo n ≡ take (length (part front lo n)) (drop lo image)
+pub front_part : (image front : List ℕ) (lo n : ℕ) → front ≡ take (length front) image → part front lo n ≡ take (length (part front lo n)) (drop lo image)
 front_part image front lo n cut = elim (cases_lt lo (length front)) as (λ _. part front lo n ≡ take (length (part front lo n)) (drop lo image)) [
   | inl less ↦
       let whole : length front ≡ lo + (length front - lo) = omega (arith, less) in
@@ -101,11 +102,11 @@ front_part image front lo n cut = elim (cases_lt lo (length front)) as (λ _. pa
     nothing zero = refl
     nothing (suc n) = refl
 
-part_long : (front : List ℕ) (lo n : ℕ) → length (part front lo n) ≡ min n (length front - lo)
+pub part_long : (front : List ℕ) (lo n : ℕ) → length (part front lo n) ≡ min n (length front - lo)
 part_long front lo n = length-take n (drop lo front) ∙ ap (min n) (length-drop lo front)
 
 -- a range of which the first bytes have some, and the others are read
-range_is : (image front read : List ℕ) (lo n : ℕ) → front ≡ take (length front) image → read ≡ take (n - length (part front lo n)) (drop (lo + length (part front lo n)) image) → part front lo n ++ read ≡ part image lo n
+pub range_is : (image front read : List ℕ) (lo n : ℕ) → front ≡ take (length front) image → read ≡ take (n - length (part front lo n)) (drop (lo + length (part front lo n)) image) → part front lo n ++ read ≡ part image lo n
 range_is image front read lo n cut is =
     let from = length (part front lo n) in
     let count = part_long front lo n in
@@ -116,7 +117,7 @@ range_is image front read lo n cut is =
     ∙ ap (λ k. take k (drop lo image)) whole
 
 -- bytes that are enough are the first
-enough_cut : (want : Want) (front image : List ℕ) → IsEnough want front image → front ≡ take (length front) image
+pub enough_cut : (want : Want) (front image : List ℕ) → IsEnough want front image → front ≡ take (length front) image
 enough_cut want front image enough = ⊎_elim (λ all. subst (λ x. front ≡ take (length front) x) all (sym (take_all (length front) front (omega arith)))) (λ cut. cut.0) enough
 
 enough_again : (want : Want) (front image other : List ℕ) → IsEnough want front image → length image ≡ length other → front ≡ take (length front) other → IsEnough want front other
@@ -144,7 +145,7 @@ seen_by q front f size s at a bytes b image is_front is_size is_at is_bytes by =
 
 module _ {D : Type 0} (g : disk.Ghosts D) where
   -- what is seen was read
-  seen_reads : (old new : Parts D) (seq : ℕ) (image front : List ℕ) → SeesImage g old seq image new → front ≡ take (length front) image → ReadsFront g old seq front new
+  pub seen_reads : (old new : Parts D) (seq : ℕ) (image front : List ℕ) → SeesImage g old seq image new → front ≡ take (length front) image → ReadsFront g old seq front new
   seen_reads old new seq image front sees cut = record {
     own = λ honest. (image, sees.own.bytes honest, cut, sees.own.long);
     state = sees.state;
@@ -189,27 +190,43 @@ module _ {D : Type 0} (g : disk.Ghosts D) where
       } in
       (x.0, sees, x.1, x.2, x.3)
 
-  -- a window that was read
-  pub window_is_seen : (before mid new : Parts D) (seq size first n start past : ℕ) (k : KeptImage) (bytes : Vec ℕ Global) → HasSize (state_of before) seq size → SeesEnough g before seq Core (Ok k) mid → IsWanted k.image.items size first n start past
-      → ReadsRange g mid seq k.image.items start (past - start) (Ok tt) bytes.items new → SeesDump g before seq first n (Ok (record { kept = k; size = size; part = Some (record { at = start; bytes = bytes }) })) new
-  window_is_seen before mid new seq size first n start past k bytes has seen wanted reads =
+  -- a part that was read: the image begins with the first bytes, and has it
+  pub range_read : (before mid new : Parts D) (seq size start n : ℕ) (k : KeptImage) (bytes : List ℕ) → HasSize (state_of before) seq size → SeesEnough g before seq Core (Ok k) mid → start + n ≤ size → ReadsRange g mid seq k.image.items start n (Ok tt) bytes new
+      → (image : List ℕ) × SeesImage g before seq image new × IsEnough Core k.image.items image × IsFrontOf k.image.items size image × IsPartOf image start bytes × (length bytes ≡ n)
+  range_read before mid new seq size start n k bytes has seen within reads =
       let front = k.image.items in
       let cut = enough_cut Core front seen.0 seen.2 in
       let long = sized before mid seq size seen.0 has seen.1 in
       let short = front_short front seen.0 cut in
-      let few = part_long front start (past - start) in
-      let range = wanted.range in
-      let x = part_by before mid new seq (start + length (part front start (past - start))) (past - start - length (part front start (past - start))) size front reads.0 has (omega (arith, long, short)) (omega (arith, few, range.0, range.1))
+      let few = part_long front start n in
+      let x = part_by before mid new seq (start + length (part front start n)) (n - length (part front start n)) size front reads.0 has (omega (arith, long, short)) (omega (arith, few, within))
       (λ some. omega (arith, few, some)) (seen_reads before mid seq seen.0 front seen.1 cut) reads.1 (g.is_honest before.disk) refl in
-      let is : bytes.items ≡ part x.0 start (past - start) = reads.2 ∙ range_is x.0 front reads.0 start (past - start) x.2 x.3 in
-      let count : length bytes.items ≡ past - start = ap length is ∙ part_long x.0 start (past - start) ∙ (let all = x.4 in omega (arith, all, range.0, range.1)) in
+      let is : bytes ≡ part x.0 start n = reads.2 ∙ range_is x.0 front reads.0 start n x.2 x.3 in
+      let count : length bytes ≡ n = ap length is ∙ part_long x.0 start n ∙ (let all = x.4 in omega (arith, all, within)) in
+      (x.0, x.1, enough_again Core front seen.0 x.0 seen.2 (long ∙ sym x.4) x.2, (x.4, x.2), is ∙ ap (part x.0 start) (sym count), count)
+
+  -- a window that was read
+  pub window_is_seen : (before mid new : Parts D) (seq size first n start past : ℕ) (k : KeptImage) (bytes : Vec ℕ Global) → HasSize (state_of before) seq size → SeesEnough g before seq Core (Ok k) mid → IsWanted k.image.items size first n start past
+      → ReadsRange g mid seq k.image.items start (past - start) (Ok tt) bytes.items new → SeesDump g before seq first n (Ok (record { kept = k; size = size; part = Some (record { at = start; bytes = bytes }) })) new
+  window_is_seen before mid new seq size first n start past k bytes has seen wanted reads =
+      let range = wanted.range in
+      let x = range_read before mid new seq size start (past - start) k bytes.items has seen (omega (arith, range.0, range.1)) reads in
+      let count = x.5 in
       let end : past_of start bytes.items ≡ past = omega (arith, count, range.0) in
-      let hand : IsAtHand front size start bytes.items first n x.0 = record {
-        begins = (x.4, x.2);
-        has = is ∙ ap (part x.0 start) (sym count);
-        all = λ inside. subst (λ e. AreHeldWithin size first n start e (segments_of front)) (sym end) (wanted.held inside);
+      let hand : IsAtHand k.image.items size start bytes.items first n x.0 = record {
+        begins = x.3;
+        has = x.4;
+        all = λ inside. subst (λ e. AreHeldWithin size first n start e (segments_of k.image.items)) (sym end) (wanted.held inside);
       } in
-      (x.0, x.1, (enough_again Core front seen.0 x.0 seen.2 (long ∙ sym x.4) x.2, hand))
+      (x.0, x.1, (x.2, hand))
+
+  -- a stack that was read, and shows its frames
+  pub stack_is_seen : (before mid new : Parts D) (seq size thread start n : ℕ) (k : KeptImage) (bytes : Vec ℕ Global) → HasSize (state_of before) seq size → SeesEnough g before seq Core (Ok k) mid → start + n ≤ size
+      → ReadsRange g mid seq k.image.items start n (Ok tt) bytes.items new → ((image : List ℕ) → IsFrontOf k.image.items size image → IsPartOf image start bytes.items → HasFrames k.image.items size bytes.items thread image)
+      → SeesFor g before seq (Backtrace thread) (Ok (record { kept = k; size = size; part = Some (record { at = start; bytes = bytes }) })) new
+  stack_is_seen before mid new seq size thread start n k bytes has seen within reads shows =
+      let x = range_read before mid new seq size start n k bytes.items has seen within reads in
+      (x.0, x.1, (x.2, shows x.0 x.3 x.4))
 
   pub window_refused : (before mid new : Parts D) (seq size first n start count : ℕ) (k : KeptImage) (bytes : List ℕ) (f : ArchiveFault) → HasSize (state_of before) seq size → SeesEnough g before seq Core (Ok k) mid
       → ReadsRange g mid seq k.image.items start count (Err f) bytes new → SeesDump g before seq first n (Err f) new
@@ -218,19 +235,23 @@ module _ {D : Type 0} (g : disk.Ghosts D) where
       later_refused g before mid new seq (start + length (part front start count)) (count - length (part front start count)) front reads.0 f has.0 has.1
       (seen_reads before mid seq seen.0 front seen.1 (enough_cut Core front seen.0 seen.2)) reads.1
 
-  -- the rest of an image that was read
+  -- all of an image that was read
+  pub all_read : (before new : Parts D) (seq size : ℕ) (bytes : List ℕ) → HasSize (state_of before) seq size → ReadsFront g before seq bytes new → length bytes ≡ size → SeesImage g before seq bytes new
+  all_read before new seq size bytes has reads count =
+      let x = front_by g before new seq bytes has.0 has.1.1 (omega (arith, count, has.2)) reads (g.is_honest before.disk) refl in
+      let all : bytes ≡ x.0 = x.2 ∙ take_all (length bytes) x.0 (let long = x.3 in omega (arith, long, count, has.2)) in
+      subst (λ b. SeesImage g before seq b new) (sym all) x.1
+
   pub rest_sees : (before mid new : Parts D) (seq size : ℕ) (k : KeptImage) (bytes : List ℕ) → HasSize (state_of before) seq size → SeesEnough g before seq Core (Ok k) mid → ReadsUpTo g mid seq k.image.items size (Ok tt) bytes new → length bytes ≡ size → SeesImage g before seq bytes new
   rest_sees before mid new seq size k bytes has seen up count =
       let front = k.image.items in
       let cut = enough_cut Core front seen.0 seen.2 in
       let reads = subst (λ x. ReadsFront g before seq x new) (sym up.2) (next_read g before mid new seq (size - length front) front up.0 (seen_reads before mid seq seen.0 front seen.1 cut) up.1) in
-      let x = front_by g before new seq bytes has.0 has.1.1 (omega (arith, count, has.2)) reads (g.is_honest before.disk) refl in
-      let all : bytes ≡ x.0 = x.2 ∙ take_all (length bytes) x.0 (let long = x.3 in omega (arith, long, count, has.2)) in
-      subst (λ b. SeesImage g before seq b new) (sym all) x.1
+      all_read before new seq size bytes has reads count
 
-  pub rest_refused : (before mid new : Parts D) (seq size first n : ℕ) (k : KeptImage) (bytes : List ℕ) (f : ArchiveFault) → HasSize (state_of before) seq size → SeesEnough g before seq Core (Ok k) mid → ReadsUpTo g mid seq k.image.items size (Err f) bytes new
-      → SeesDump g before seq first n (Err f) new
-  rest_refused before mid new seq size first n k bytes f has seen up =
+  pub rest_refused : (before mid new : Parts D) (seq size : ℕ) (q : MemoryQuery) (k : KeptImage) (bytes : List ℕ) (f : ArchiveFault) → HasSize (state_of before) seq size → SeesEnough g before seq Core (Ok k) mid → ReadsUpTo g mid seq k.image.items size (Err f) bytes new
+      → SeesFor g before seq q (Err f) new
+  rest_refused before mid new seq size q k bytes f has seen up =
       let front = k.image.items in
       later_refused g before mid new seq (length front) (size - length front) front up.0 f has.0 has.1 (seen_reads before mid seq seen.0 front seen.1 (enough_cut Core front seen.0 seen.2)) up.1
 
@@ -247,7 +268,12 @@ module _ {D : Type 0} (g : disk.Ghosts D) where
       (image, sees, (inl is, rw (bytes, is, size, at) hand))
   all_seen old new seq (Find needle) s image sees is size at bytes = (image, sees, is)
   all_seen old new seq (Strings least) s image sees is size at bytes = (image, sees, is)
-  all_seen old new seq (Backtrace thread) s image sees is size at bytes = (image, sees, is)
+  all_seen old new seq (Backtrace thread) s image sees is size at bytes =
+      let frames : HasFrames image (length image) image thread image = record {
+        begins = (refl, sym (take_all (length image) image (omega arith)));
+        frames = λ less. absurd (omega (arith, less));
+      } in
+      (image, sees, (inl is, rw (bytes, is, size) frames))
 
   -- first bytes that are all
   pub whole_front_seen : (old new : Parts D) (seq size : ℕ) (want : Want) (k : KeptImage) → HasSize (state_of old) seq size → SeesEnough g old seq want (Ok k) new → IsKept g new (Some k) → k.seq ≡ seq → k.is_whole ≡ true → SeesImage g old seq k.image.items new

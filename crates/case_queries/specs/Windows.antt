@@ -9,10 +9,11 @@ use Rattle.intake.specs.Part.{PartCall}
 use Rattle.intake.specs.Parts.{Parts}
 use Rattle.intake.specs.declared.faults.ArchiveFault.{ArchiveFault}
 use Rattle.memory_replies.specs.Dump.{is_out_of_range}
+use Rattle.memory_replies.specs.Stack.{HasFrames}
 use Rattle.memory_replies.specs.Window.{IsAtHand}
 use Rattle.script_lines.specs.declared.query.MemoryQuery.{MemoryQuery}
 use Rattle.script_lines.specs.declared.query.MemoryQuery.TheVariants.{Dump, Find, Strings, Backtrace}
-use Rattle.case_queries.specs.Fronts.{IsEnough}
+use Rattle.case_queries.specs.Fronts.{IsEnough, ReadsFront}
 use Rattle.case_queries.specs.Seeing.{LooksAt, SeesImage}
 use Rattle.case_queries.specs.declared.window.Part.{Part}
 use Rattle.case_queries.specs.declared.window.Seen.{Seen}
@@ -26,13 +27,20 @@ abbrev pub part_bytes : List ℕ → Option Part → List ℕ
 part_bytes image None = image
 part_bytes image (Some p) = p.bytes.items
 
--- These are as much of an image as a line wants: all of it, or for a dump bytes that are enough for its headers and notes, and a
--- window of it with what the range shows.
+-- how many bytes of an image a line reads at most after the first of it, if it doesn't read all
+abbrev pub most_for : MemoryQuery → ℕ
+most_for (Dump first n) = 65536
+most_for (Find needle) = 0
+most_for (Strings least) = 0
+most_for (Backtrace thread) = 1048576
+
+-- These are as much of an image as a line wants: all of it; or bytes that are enough for its headers and notes, and a window of it,
+-- for a dump with what the range shows, for the frames of a thread with its stack.
 abbrev pub IsSeenBy : MemoryQuery → List ℕ → ℕ → ℕ → List ℕ → List ℕ → Type 0
 IsSeenBy (Dump first n) front size at bytes image = IsEnough Core front image × IsAtHand front size at bytes first n image
 IsSeenBy (Find needle) front size at bytes image = front ≡ image
 IsSeenBy (Strings least) front size at bytes image = front ≡ image
-IsSeenBy (Backtrace thread) front size at bytes image = front ≡ image
+IsSeenBy (Backtrace thread) front size at bytes image = IsEnough Core front image × HasFrames front size bytes thread image
 
 -- the image of a case is seen by so much of it, or why it can't be read
 abbrev pub SeesFor : {D : Type 0} → disk.Ghosts D → Parts D → ℕ → MemoryQuery → Result Seen ArchiveFault → Parts D → Type 0
@@ -53,3 +61,8 @@ pub record IsWanted (front : List ℕ) (size first n start past : ℕ) : Type 0 
 abbrev pub ReadsRange : {D : Type 0} → disk.Ghosts D → Parts D → ℕ → List ℕ → ℕ → ℕ → Result (Unit {0}) ArchiveFault → List ℕ → Parts D → Type 0
 ReadsRange g old seq front start n r bytes new =
     (read : List ℕ) × PartCall g old seq (start + length (part front start n)) (n - length (part front start n)) r read new × OnOk r (bytes ≡ part front start n ++ read)
+
+-- The first bytes of a case's image are read, or why they can't be.
+abbrev pub ReadsOn : {D : Type 0} → disk.Ghosts D → Parts D → ℕ → Result (Unit {0}) ArchiveFault → List ℕ → Parts D → Type 0
+ReadsOn g old seq (Ok u) front new = ReadsFront g old seq front new
+ReadsOn g old seq (Err f) front new = LooksAt g old seq (Err f) new

@@ -7,6 +7,7 @@ mod gather;
 mod inspect;
 mod kept_image;
 mod memory;
+mod stack;
 mod wanted;
 mod window;
 

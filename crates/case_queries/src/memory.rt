@@ -185,6 +185,8 @@ fn tell_memory<O: Output>(
             tell_find(alloc, reply, core, attached, needle.bytes.as_slice())
         }
         MemoryQuery::Strings { least } => { tell_strings(alloc, reply, core, attached, *least) }
-        MemoryQuery::Backtrace { thread } => { tell_bt(alloc, reply, core, attached, *thread) }
+        MemoryQuery::Backtrace { thread } => {
+            tell_bt(alloc, reply, core, window, attached, *thread)
+        }
     }
 }

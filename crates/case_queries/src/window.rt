@@ -13,10 +13,11 @@ ghost use Rattle.script_lines.specs.declared.query.MemoryQuery.{MemoryQuery};
 ghost use Rattle.case_queries.specs.Fronts.{HasSize, SeesEnough};
 ghost use Rattle.case_queries.specs.Keeping.{AreKept};
 ghost use Rattle.case_queries.specs.Seeing.{IsKept};
-ghost use Rattle.case_queries.specs.Windows.{IsWanted, ReadsRange, SeesDump, SeesFor, part_at, part_bytes};
+ghost use Rattle.case_queries.specs.Windows.{IsWanted, ReadsRange, SeesDump, SeesFor, most_for, part_at, part_bytes};
 
 use crate::front::{read_up_to, see_front, size_of};
 use crate::kept_image::{KeptImage, see_image};
+use crate::stack::see_stack;
 use address_space::{ImageRange, image_range};
 use disk_model::Disk;
 use elf_view::{Elf, Want, part};
@@ -27,6 +28,9 @@ use std::alloc::Global;
 
 // How many bytes of an image a line reads at most after the first of it, if it doesn't read all: as many as a reply of `dump` has.
 const WINDOW: usize = 65_536;
+
+// The same for a thread's stack.
+const STACK: usize = 1_048_576;
 
 // Bytes of an image from a place on.
 #[derive(Drop)]
@@ -64,7 +68,7 @@ pub(crate) fn lent_window<'a>(image: &'a [u8], size: u64, part: &'a Option<Part>
 }
 
 // A whole image.
-fn all_of(kept: KeptImage) -> Seen
+pub(crate) fn all_of(kept: KeptImage) -> Seen
     ensures kept { result.kept ≡ kept }
     ensures size { result.size ≡ length kept.image.items }
     ensures part { (part_at result.part ≡ 0) × (part_bytes result.kept.image.items result.part ≡ kept.image.items) }
@@ -128,7 +132,7 @@ fn read_after<D: Disk>(
 }
 
 // Reads what a range of a case's image has after the first bytes of it, and puts what they have of the range before it.
-fn read_range<D: Disk>(
+pub(crate) fn read_range<D: Disk>(
     seq: u32,
     size: usize,
     front: &[u8],
@@ -140,7 +144,8 @@ fn read_range<D: Disk>(
     requires range { (range.start ≤ range.past) × (range.past ≤ size) }
     requires room { range.past - range.start ≤ vec_capacity bytes.old }
     requires none { bytes.old.items ≡ [] }
-    ensures { ReadsRange D.Disk archive.old seq front.now range.start (range.past - range.start) result bytes.new.items archive.new }
+    ensures reads { ReadsRange D.Disk archive.old seq front.now range.start (range.past - range.start) result bytes.new.items archive.new }
+    ensures long { length bytes.new.items ≡ range.past - range.start }
 {
     let count = range.past - range.start;
     bytes
@@ -183,7 +188,7 @@ fn read_window<D: Disk>(
 }
 
 // Reads the rest of an image, of which these are the first bytes.
-fn read_rest<D: Disk>(
+pub(crate) fn read_rest<D: Disk>(
     seq: u32,
     size: usize,
     front: KeptImage,
@@ -192,8 +197,8 @@ fn read_rest<D: Disk>(
     requires has { HasSize (state_of archive.old) seq size }
     requires short { length front.image.items ≤ size }
     requires room { size ≤ vec_capacity front.image }
-    ensures seen { (before : Parts D) (first n : ℕ) → HasSize (state_of before) seq size → SeesEnough D.Disk before seq Core (Ok front) archive.old
-        → SeesDump D.Disk before seq first n result archive.new }
+    ensures seen { (before : Parts D) (query : MemoryQuery) → HasSize (state_of before) seq size → SeesEnough D.Disk before seq Core (Ok front) archive.old
+        → SeesFor D.Disk before seq query result archive.new }
     ensures kept { (before : Parts D) → HasSize (state_of before) seq size → SeesEnough D.Disk before seq Core (Ok front) archive.old
         → IfOk result (λ s. IsKept D.Disk archive.new (Some s.kept)) }
     ensures beside { IfOk result (λ s. AreKept D.Disk archive.new (Some s.kept)) }
@@ -209,7 +214,7 @@ fn read_rest<D: Disk>(
 }
 
 // What a dump wants of an image beside its first bytes.
-fn see_more<D: Disk>(
+fn see_range<D: Disk>(
     seq: u32,
     size: usize,
     first: u64,
@@ -238,59 +243,99 @@ fn see_more<D: Disk>(
     }
 }
 
-// As much of an image of `size` bytes as a dump wants: its first bytes, as the lines over headers want them, and the range that
-// has the bytes of these addresses; or all of it. Room is taken before the first read, because `OutOfMemory` promises that the
-// disk is untouched.
-fn see_window<D: Disk>(
+// What a line over a core's memory wants of an image beside its first bytes.
+fn see_more<D: Disk>(
+    seq: u32,
+    size: usize,
+    query: &MemoryQuery,
+    front: KeptImage,
+    room: Vec<u8>,
+    archive: &mut Archive<D>,
+) -> Result<Seen, ArchiveFault>
+    requires has { HasSize (state_of archive.old) seq size }
+    requires cut { front.is_whole ≡ false }
+    requires short { length front.image.items ≤ size }
+    requires roomy { size ≤ vec_capacity front.image }
+    requires room { most_for query.now ≤ vec_capacity room }
+    requires none { room.items ≡ [] }
+    requires kept { IsKept D.Disk archive.old (Some front) }
+    requires beside { AreKept D.Disk archive.old (Some front) }
+    ensures seen { (before : Parts D) → HasSize (state_of before) seq size → SeesEnough D.Disk before seq Core (Ok front) archive.old
+        → SeesFor D.Disk before seq query.now result archive.new }
+    ensures kept { (before : Parts D) → HasSize (state_of before) seq size → SeesEnough D.Disk before seq Core (Ok front) archive.old
+        → IfOk result (λ s. IsKept D.Disk archive.new (Some s.kept)) }
+    ensures beside { IfOk result (λ s. AreKept D.Disk archive.new (Some s.kept)) }
+{
+    match query {
+        MemoryQuery::Dump { first, length } => {
+            see_range(seq, size, *first, *length, front, room, archive)
+        }
+        MemoryQuery::Find { .. } => read_rest(seq, size, front, archive),
+        MemoryQuery::Strings { .. } => read_rest(seq, size, front, archive),
+        MemoryQuery::Backtrace { thread } => see_stack(seq, size, *thread, front, room, archive),
+    }
+}
+
+// How many bytes of an image a line reads at most after the first of it, if it doesn't read all.
+fn most_for(query: &MemoryQuery) -> usize
+    ensures { result ≡ most_for query.now }
+{
+    match query {
+        MemoryQuery::Dump { .. } => WINDOW,
+        MemoryQuery::Find { .. } => 0,
+        MemoryQuery::Strings { .. } => 0,
+        MemoryQuery::Backtrace { .. } => STACK,
+    }
+}
+
+// As much of an image of `size` bytes as a line over a core's memory wants: its first bytes, as the lines over headers want them,
+// and the part that has the bytes of a dump's addresses or of a thread's stack; or all of it. Room is taken before the first read,
+// because `OutOfMemory` promises that the disk is untouched.
+fn see_parts<D: Disk>(
     alloc: Global,
     seq: u32,
     size: usize,
-    first: u64,
-    count: u64,
+    query: &MemoryQuery,
     kept: Option<KeptImage>,
     archive: &mut Archive<D>,
 ) -> Result<Seen, ArchiveFault>
     requires has { HasSize (state_of archive.old) seq size }
     requires kept { IsKept D.Disk archive.old kept }
     requires beside { AreKept D.Disk archive.old kept }
-    ensures seen { SeesDump D.Disk archive.old seq first count result archive.new }
+    ensures seen { SeesFor D.Disk archive.old seq query.now result archive.new }
     ensures kept { IfOk result (λ s. IsKept D.Disk archive.new (Some s.kept)) }
     ensures beside { IfOk result (λ s. AreKept D.Disk archive.new (Some s.kept)) }
 {
-    let Ok(room) = Vec::with_capacity(alloc, WINDOW) else {
+    let Ok(room) = Vec::with_capacity(alloc, most_for(query)) else {
         return Err(ArchiveFault::OutOfMemory);
     };
     let front = see_front(alloc, seq, Want::Core, kept, archive)?;
     if front.is_whole {
         return Ok(all_of(front));
     }
-    see_more(seq, size, first, count, front, room, archive)
+    see_more(seq, size, query, front, room, archive)
 }
 
-// As much of a case's image as a dump wants.
-fn see_dump<D: Disk>(
-    alloc: Global,
-    seq: u32,
-    first: u64,
-    count: u64,
-    kept: Option<KeptImage>,
-    archive: &mut Archive<D>,
-) -> Result<Seen, ArchiveFault>
-    requires kept { IsKept D.Disk archive.old kept }
-    requires beside { AreKept D.Disk archive.old kept }
-    ensures seen { SeesDump D.Disk archive.old seq first count result archive.new }
-    ensures kept { IfOk result (λ s. IsKept D.Disk archive.new (Some s.kept)) }
-    ensures beside { IfOk result (λ s. AreKept D.Disk archive.new (Some s.kept)) }
-{
-    // If there is no such case, reading the whole image says why.
-    let Some(size) = size_of(seq, archive) else {
-        return see_whole(seq, None, archive);
-    };
-    see_window(alloc, seq, size, first, count, kept, archive)
+// Whether the first bytes of that case's image are kept.
+fn keeps_front(seq: u32, kept: &Option<KeptImage>) -> bool {
+    match kept {
+        Some(image) => image.seq == seq && !image.is_whole,
+        None => false,
+    }
 }
 
-// As much of a case's image as a line over a core's memory wants. A kept image that is of that case and enough is not read again;
-// another is dropped with its executables.
+// Whether a line is answered from the whole image, of which nothing is read yet.
+fn reads_all(seq: u32, query: &MemoryQuery, kept: &Option<KeptImage>) -> bool {
+    match query {
+        MemoryQuery::Dump { .. } => false,
+        MemoryQuery::Find { .. } => !keeps_front(seq, kept),
+        MemoryQuery::Strings { .. } => !keeps_front(seq, kept),
+        MemoryQuery::Backtrace { .. } => false,
+    }
+}
+
+// As much of a case's image as a line over a core's memory wants. What is kept of that case's image is not read again; another
+// image is dropped with its executables.
 pub(crate) fn see_memory<D: Disk>(
     alloc: Global,
     seq: u32,
@@ -304,10 +349,12 @@ pub(crate) fn see_memory<D: Disk>(
     ensures kept { IfOk result (λ s. IsKept D.Disk archive.new (Some s.kept)) }
     ensures beside { IfOk result (λ s. AreKept D.Disk archive.new (Some s.kept)) }
 {
-    match query {
-        MemoryQuery::Dump { first, length } => {
-            see_dump(alloc, seq, *first, *length, kept, archive)
-        }
-        _ => see_whole(seq, kept, archive),
+    if reads_all(seq, query, &kept) {
+        return see_whole(seq, kept, archive);
     }
+    // If there is no such case, reading the whole image says why.
+    let Some(size) = size_of(seq, archive) else {
+        return see_whole(seq, None, archive);
+    };
+    see_parts(alloc, seq, size, query, kept, archive)
 }

@@ -9,3 +9,4 @@ pub mod PieceLemmas
 pub mod ValueLemmas
 pub mod FrontLemmas
 pub mod WindowLemmas
+pub mod StackLemmas

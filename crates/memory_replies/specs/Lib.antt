@@ -11,3 +11,4 @@ pub mod Backtrace
 pub mod NamedWords
 pub mod FileNameWords
 pub mod Window
+pub mod Stack

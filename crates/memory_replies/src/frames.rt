@@ -1,9 +1,11 @@
 // The frames of a thread's stack.
-ghost use Rattle.std.specs.Prelude.{◌≡◌, ◌++◌, map};
+ghost use Rattle.std.specs.Prelude.{◌≡◌, ◌++◌, ℕ, List, IfSome, None, length, map};
 ghost use Rattle.std.specs.List.{flat_map};
 ghost use Rattle.std.specs.Option.{option_map};
 ghost use Rattle.script_streams.specs.Replies.{TellsReply, TellsText, reply_of, telling};
+ghost use Rattle.address_space.specs.Source.{Space};
 ghost use Rattle.address_space.specs.SpaceWords.{space_of};
+ghost use Rattle.backtrace.specs.Chain.{chain, stop_of};
 ghost use Rattle.backtrace.specs.FrameWords.{frames_left, stop_left};
 ghost use Rattle.thread_regs.specs.ThreadWords.{thread_bytes};
 ghost use Rattle.image_replies.specs.CoreWords.{core_bytes};
@@ -11,13 +13,18 @@ ghost use Rattle.memory_replies.specs.Answers.{AnswersWith};
 ghost use Rattle.memory_replies.specs.Backtrace as spec;
 ghost use Rattle.memory_replies.specs.Memory.{attached_view};
 ghost use Rattle.memory_replies.specs.NamedWords.{named_view, place_view};
+ghost use Rattle.memory_replies.specs.Stack.{HasFrames, IsWalked};
+ghost use Rattle.thread_regs.specs.Register.{register_in};
 
 use crate::attached::space_and_images;
+use crate::laws::a_sound_front_names_the_files;
 use crate::named::{Place, place_of};
 use crate::named_images::NamedImages;
+use crate::window::Window;
 use crate::words::tell_hex_word;
 use address_space::{AddressSpace, Attached};
-use backtrace::{Frame, Frames, Stop};
+use backtrace::{Frame, Frames, StackBytes, Stop};
+use elf_view::a_sound_front_is_enough;
 use image_replies::CoreImage;
 use script_streams::{Output, Reply, tell_no, tell_ok};
 use std::alloc::Global;
@@ -113,37 +120,77 @@ fn tell_frames<O: Output>(
     }
 }
 
-/// Tells the frames of a thread.
+/// The frames from a pc and a frame pointer on: those of the memory, or those that bytes of its stack show.
+fn frames_from<'s, 'a>(
+    space: &'s AddressSpace<'a>,
+    stack: Option<&'s [u8]>,
+    pc: u64,
+    fp: u64,
+) -> Frames<'s, 'a>
+    ensures frames { (other : Space) → IsWalked stack.entry pc fp (space_of space.now) other → frames_left result ≡ chain (spec.words_of other) pc fp }
+    ensures stop { (other : Space) → IsWalked stack.entry pc fp (space_of space.now) other → stop_left result ≡ stop_of (spec.words_of other) pc fp }
+{
+    match stack {
+        Some(bytes) => {
+            let first = fp.saturating_sub(16);
+            Frames::in_stack(StackBytes { first, bytes }, pc, fp)
+        }
+        None => Frames::new(space, pc, fp),
+    }
+}
+
+/// Tells the frames of a thread: those of the memory, or those that bytes of its stack show.
 fn tell_thread<O: Output>(
     reply: &mut Reply<'_, O>,
     space: &AddressSpace<'_>,
     images: &NamedImages<'_>,
+    stack: Option<&[u8]>,
     thread: Thread<'_>,
 )
-    ensures { TellsText (telling O.Output reply.old reply.new)
-        (spec.thread_lines (space_of space.now) (space_of space.now).files (map named_view images.now.list.items)
+    ensures { (other : Space) → IsWalked stack.entry (register_in (thread_bytes thread.entry) 32) (register_in (thread_bytes thread.entry) 8) (space_of space.now) other
+        → TellsText (telling O.Output reply.old reply.new)
+        (spec.thread_lines other (space_of space.now).files (map named_view images.now.list.items)
         (thread_bytes thread.entry)) }
 {
     let ra = thread.register(Reg::of_word(1));
     let pc = thread.register(Reg::of_word(0));
     let fp = thread.register(Reg::of_word(8));
-    tell_frames(reply, space, images, ra, Frames::new(space, pc, fp));
+    tell_frames(reply, space, images, ra, frames_from(space, stack, pc, fp));
+}
+
+/// The bytes of the window, unless the core is the whole image.
+fn stack_in<'w>(core: &CoreImage<'_>, window: Window<'w>) -> Option<&'w [u8]>
+    ensures whole { result ≡ None → length (core_bytes core.now) ≡ window.entry.size }
+    ensures part { IfSome result (λ bytes. bytes.now ≡ window.entry.bytes.now) }
+    ensures short { IfSome result (λ bytes. ¬ (length (core_bytes core.now) ≡ window.entry.size)) }
+{
+    if core.elf().image().len() as u64 == window.size {
+        None
+    } else {
+        Some(window.bytes)
+    }
 }
 
 /// Tells the frames of a core's thread, by its number among the threads: `0 PC WHERE fp h ra h`, then `I PC WHERE fp h` for
 /// each other, and `stop REASON`. WHERE is `NAME+h` by the symbols of the executable that stands for the mapped file, or
 /// `?`. A core with fewer threads is answered by `no NoThread`.
 /// Says whether there was memory for it; where there was none, the reply is `no OutOfMemory`.
+///
+/// The core may be the first bytes alone of an image. It is told what any image shows that begins so, and whose frames are known by
+/// the window (`has_frames`).
 pub fn tell_bt<O: Output>(
     alloc: Global,
     reply: &mut Reply<'_, O>,
     core: &CoreImage<'_>,
+    window: Window<'_>,
     attached: &[Attached<'_>],
     thread: u64,
 ) -> bool
-    ensures { TellsReply (telling O.Output reply.old reply.new)
-        (AnswersWith result (spec.bt_answer (core_bytes core.now) (map attached_view attached.now) thread)) }
+    ensures { (image : List ℕ) → HasFrames (core_bytes core.now) window.entry.size window.entry.bytes.now thread image → TellsReply (telling O.Output reply.old reply.new)
+        (AnswersWith result (spec.bt_answer image (map attached_view attached.now) thread)) }
 {
+    a_sound_front_is_enough();
+    a_sound_front_names_the_files();
     let Ok((space, images)) = space_and_images(alloc, core, attached) else {
         tell_no(reply, b"OutOfMemory");
         return false;
@@ -152,7 +199,7 @@ pub fn tell_bt<O: Output>(
         tell_no(reply, b"NoThread");
         return true;
     };
-    tell_thread(reply, &space, &images, thread);
+    tell_thread(reply, &space, &images, stack_in(core, window), thread);
     tell_ok(reply);
     true
 }

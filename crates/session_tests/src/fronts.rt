@@ -165,9 +165,9 @@ fn read_for(alloc: Global, core: &[u8], lines: &str) -> Result<u64, Fail> {
     Ok(bytes_read(alloc, with_core(alloc, core)?, lines)?.saturating_sub(none))
 }
 
-// That a session over these lines reads so many bytes more than `signal`, which reads the first 64 KiB of the image.
+// That a session over these lines reads so many bytes more than `header`, which reads the first 64 KiB of the image.
 fn reads_more(alloc: Global, core: &[u8], lines: &str, more: u64) -> Result<bool, Fail> {
-    let front = read_for(alloc, core, "signal 1\n")?;
+    let front = read_for(alloc, core, "header 1\n")?;
     Ok(read_for(alloc, core, lines)? == front.saturating_add(more))
 }
 
@@ -231,5 +231,62 @@ fn a_range_that_is_scattered_is_read_with_each_byte_once(rt: HostRuntime) -> Res
     let core = scattered_core(alloc)?;
     let read = read_for(alloc, &core, "dump 1 0x10000 8192\n")?;
     assert_eq!(rt; read, core.len() as u64);
+    Ok(())
+}
+
+#[test]
+fn a_search_after_a_dump_reads_what_is_left(rt: HostRuntime) -> Result<(), Fail> {
+    let alloc = rt.alloc();
+    let core = large_core(alloc)?;
+    let lines = "dump 1 0x60000 4096\nfind 1 0708\nstrings 1 1024\n";
+    assert_eq!(rt; read_for(alloc, &core, lines)?, core.len() as u64 + 4096);
+    Ok(())
+}
+
+// A core of these segments whose one thread has this frame pointer: an NT_PRSTATUS with x8 in its registers.
+fn core_of_thread(alloc: Global, fp: u64, loads: &[LoadPart<'_>]) -> Result<Vec<u8>, Fail> {
+    let mut state = vec![in alloc; 0u8; 376]?;
+    for (i, byte) in fp.to_le_bytes().iter().enumerate() {
+        if let Some(place) = state.get_mut(176 + i) {
+            *place = *byte;
+        }
+    }
+    let status = NotePart {
+        name: b"CORE",
+        kind: 1,
+        desc: &state,
+    };
+    Ok(core_image(alloc, &[status], loads)?)
+}
+
+// The frame pointer in the memory leads nowhere: it is no multiple of 8.
+#[test]
+fn a_backtrace_reads_a_front_and_the_stack(rt: HostRuntime) -> Result<(), Fail> {
+    let alloc = rt.alloc();
+    let memory = vec![in alloc; 7u8; 1 << 20]?;
+    let loads = [segment(0x10000, &memory)];
+    let last = core_of_thread(alloc, 0x11_0000, &loads)?;
+    assert!(rt; reads_more(alloc, &last, "bt 1 0\n", 16)?);
+    let middle = core_of_thread(alloc, 0x6_0010, &loads)?;
+    assert!(rt; reads_more(alloc, &middle, "bt 1 0\n", 0xb_0000)?);
+    let elsewhere = core_of_thread(alloc, 0x900_0000, &loads)?;
+    assert!(rt; reads_more(alloc, &elsewhere, "bt 1 0\n", 0)?);
+    Ok(())
+}
+
+// The first frame leads from one segment into another.
+#[test]
+fn frames_that_leave_the_stack_are_read_with_each_byte_once(rt: HostRuntime) -> Result<(), Fail> {
+    let alloc = rt.alloc();
+    let other = vec![in alloc; 7u8; 1 << 18]?;
+    let mut stack = vec![in alloc; 0u8; 4096]?;
+    for (i, byte) in 0x10_0010u64.to_le_bytes().iter().enumerate() {
+        if let Some(place) = stack.get_mut(i) {
+            *place = *byte;
+        }
+    }
+    let loads = [segment(0x100000, &other), segment(0x10000, &stack)];
+    let core = core_of_thread(alloc, 0x1_0010, &loads)?;
+    assert_eq!(rt; read_for(alloc, &core, "bt 1 0\n")?, core.len() as u64);
     Ok(())
 }

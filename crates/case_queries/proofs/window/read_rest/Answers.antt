@@ -1,5 +1,4 @@
 use Rattle.std.proofs.Common.{true, None, Some, refl, ap, sym, subst, arith}
-use Rattle.script_lines.specs.declared.query.MemoryQuery.TheVariants.{Dump}
 use Rattle.case_queries.specs.Seeing.{IsKept}
 use Rattle.case_queries.specs.declared.kept_image.KeptImage.{KeptImage}
 use Rattle.case_queries.proofs.FrontLemmas.{whole_is_kept}
@@ -7,10 +6,10 @@ use Rattle.case_queries.proofs.WindowLemmas.{all_seen, rest_sees}
 use Rattle.case_queries.proofs.window.read_rest.Goals as goal
 
 pub returns-clause-seen : goal.returns-clause-seen
-returns-clause-seen g c before first n has seen =
+returns-clause-seen g c before query has seen =
     let image = c.read_up_to.new.image.items in
     let sees = rest_sees g.D.Disk before c.args.archive.now c.read_up_to.new.archive c.args.seq c.args.size c.args.front image has seen c.in_ok-read_up_to.ensures.read (omega (arith, c.in_ok-read_up_to.ensures.long)) in
-    all_seen g.D.Disk before c.read_up_to.new.archive c.args.seq (Dump first n) c.all_of.result image sees (ap (λ (k : KeptImage). k.image.items) c.all_of.ensures.kept) c.all_of.ensures.size c.all_of.ensures.part.0 c.all_of.ensures.part.1
+    all_seen g.D.Disk before c.read_up_to.new.archive c.args.seq query c.all_of.result image sees (ap (λ (k : KeptImage). k.image.items) c.all_of.ensures.kept) c.all_of.ensures.size c.all_of.ensures.part.0 c.all_of.ensures.part.1
 
 pub returns-clause-kept : goal.returns-clause-kept
 returns-clause-kept g c before has seen =

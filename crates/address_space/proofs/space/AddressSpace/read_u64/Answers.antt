@@ -2,7 +2,8 @@ use Rattle.std.proofs.Common.{sym, ap, ◌∙◌, Some, arith, lit<}
 use Rattle.std.specs.Option.{option_map}
 use Rattle.address_space.specs.CursorWords.{value_in}
 use Rattle.address_space.specs.SpaceWords.{space_of}
-use Rattle.address_space.proofs.Numbers.{word_front, word_none}
+use Rattle.address_space.specs.WordLaws.{word_none}
+use Rattle.address_space.proofs.Numbers.{word_front}
 use Rattle.address_space.proofs.space.AddressSpace.read_u64.Goals as goal
 
 pub returns-in_err-bytes : goal.returns-in_err-bytes

@@ -1,7 +1,7 @@
 use Rattle.std.proofs.Common.{Some, ◌∷◌, length, refl, sym, ap, ◌∙◌, arith}
 use Rattle.backtrace.specs.Chain.{frames_behind, stop_behind}
 use Rattle.backtrace.specs.FrameWords.{frames_left, stop_left, rest_from, end_from}
-use Rattle.backtrace.specs.MemoryWords.{memory_of}
+use Rattle.backtrace.specs.MemoryWords.{words_by}
 use Rattle.backtrace.proofs.Steps.{frames_step, stop_step}
 use Rattle.backtrace.proofs.frames.FramesIterator.next.Goals as goal
 
@@ -9,14 +9,14 @@ pub returns-in_default-clause-steps : goal.returns-in_default-clause-steps
 unfolding frames_left
 returns-in_default-clause-steps c =
     let s = c.args.self.now in
-    let none = ap (frames_behind (rest_from (memory_of s.space.now) s.before)) c.in_default.is in
+    let none = ap (frames_behind (rest_from (words_by s.words) s.before)) c.in_default.is in
     record { frames = (none, none); stop = refl }
 
 pub returns-clause-steps : goal.returns-clause-steps
 unfolding frames_left stop_left
 returns-clause-steps c =
     let s = c.args.self.now in
-    let m = memory_of s.space.now in
+    let m = words_by s.words in
     let f = c.in-Ok.frame in
     let few = s.few f c.in-Ok.is in
     record {
