@@ -1,0 +1,8 @@
+use Rattle.unwind.proofs.Steps.{unwound_found, unwound_only}
+use Rattle.unwind.proofs.laws.the_frames_are_unwound.Goals as goal
+
+pub returns-clause-found : goal.returns-clause-found
+returns-clause-found c = unwound_found
+
+pub returns-clause-only : goal.returns-clause-only
+returns-clause-only c = unwound_only
