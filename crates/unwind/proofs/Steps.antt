@@ -1,5 +1,5 @@
 -- A frame and those behind it.
-use Rattle.std.proofs.Common.{◌≡◌, ◌-◌, ℕ, zero, suc, List, [], ◌∷◌, None, Result, Ok, Err, refl, sym, ap, subst, ◌∙◌, cond, arith}
+use Rattle.std.proofs.Common.{◌≡◌, ◌≤◌, ◌+◌, length, ◌-◌, ℕ, zero, suc, List, [], ◌∷◌, None, Result, Ok, Err, refl, sym, ap, subst, ◌∙◌, cond, arith}
 use Rattle.std.proofs.lemmas.Bool.{ne_eqb}
 use Rattle.unwind.specs.Code.{ProcessView}
 use Rattle.unwind.specs.Unwinding.{by_rules, bounded, next, IsUnwoundFrom, frames_behind, stop_behind, frames_from, stop_from, first_frame, unwound, stop_of, told, most}
@@ -116,3 +116,17 @@ unwound_only p desc fs stop is =
     let found = unwound_found p desc in
     let same = same_frames p found.0 fs most (first_frame desc) (stop_of p desc) stop found.2 is in
     (found.1 ∙ ap (λ gs. first_frame desc ∷ gs) same.0, same.1)
+
+-- so many frames at most
+few_behind : (p : ProcessView) (n : ℕ) (r : Result Frame Stop) → ((g : Frame) → length (frames_from p n g) ≤ n + 1) → length (frames_behind (frames_from p n) r) ≤ n + 1
+few_behind p n (Ok g) h = h g
+few_behind p n (Err stop) h = omega arith
+
+few_from : (p : ProcessView) (n : ℕ) (f : Frame) → length (frames_from p n f) ≤ n + 1
+unfolding frames_from
+few_from p zero f = omega arith
+few_from p (suc n) f = omega (arith, few_behind p n (by_rules p f) (few_from p n))
+
+pub unwound_few : (p : ProcessView) (desc : List ℕ) → length (unwound p desc) ≤ 1024
+unfolding unwound
+unwound_few p desc = few_from p most (first_frame desc)

@@ -12,7 +12,7 @@ use crate::by_call::by_stub;
 use crate::code::{Code, Process};
 use crate::executable::Executable;
 use crate::faults::{RowFault, Stop};
-use crate::frame::{Callee, Frame, without};
+use crate::frame::{Callee, Frame, Registers, without};
 use crate::values::{cfa_by, is_undefined, registers_by, unknown_by, value_by};
 use address_space::AddressSpace;
 use call_frames::{Entry, NoEntry};
@@ -54,7 +54,7 @@ fn is_below(callee: Option<Callee>, pc: u64, cfa: u64) -> bool
 /// The return address by its rule.
 fn return_by(
     space: &AddressSpace<'_>,
-    registers: &[Option<u64>; 32],
+    registers: &Registers,
     cfa: u64,
     column: u64,
     rule: Rule,
@@ -68,7 +68,7 @@ fn return_by(
 }
 
 /// The frame that a row leads to.
-fn led_to(frame: &Frame, cfa: u64, pc: u64, registers: [Option<u64>; 32], back: Return) -> Frame
+fn led_to(frame: &Frame, cfa: u64, pc: u64, registers: Registers, back: Return) -> Frame
     ensures { result ≡ spec.led_to frame.now cfa pc registers back }
 {
     if back.signal {

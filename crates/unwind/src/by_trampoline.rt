@@ -6,7 +6,7 @@ ghost use Rattle.unwind.specs.ByTrampoline as spec;
 
 use crate::columns::SP;
 use crate::faults::Stop;
-use crate::frame::{Frame, known};
+use crate::frame::{Frame, Registers, known};
 use address_space::AddressSpace;
 
 /// `li a7, 139` (rt_sigreturn) and `ecall`.
@@ -57,7 +57,7 @@ fn saved_register(space: &AddressSpace<'_>, stack: u64, column: usize) -> Option
 
 /// The registers that a signal saved.
 #[tactic(auto, unfolding(crate::specs::ByTrampoline::saved_registers))]
-fn saved_registers(space: &AddressSpace<'_>, stack: u64) -> [Option<u64>; 32]
+fn saved_registers(space: &AddressSpace<'_>, stack: u64) -> Registers
     ensures { result ≡ spec.saved_registers (space_of space.now) stack }
 {
     let mut registers = [None; 32];
@@ -68,7 +68,7 @@ fn saved_registers(space: &AddressSpace<'_>, stack: u64) -> [Option<u64>; 32]
 }
 
 /// Whether all registers are known.
-fn are_known(registers: &[Option<u64>; 32]) -> bool
+fn are_known(registers: &Registers) -> bool
     ensures { result ≡ list_all is_some registers.now }
 {
     registers.iter().all(|register| register.is_some())

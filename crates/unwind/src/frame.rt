@@ -6,6 +6,9 @@ ghost use Rattle.unwind.specs.Unwinding as unwinding;
 
 use thread_regs::{Reg, Thread};
 
+/// The registers of a frame, by their DWARF numbers: x0 to x31, each as far as it is known.
+pub type Registers = [Option<u64>; 32];
+
 /// The frame that a frame called.
 #[derive(Clone, Copy, Debug, PartialEq, Eq)]
 pub struct Callee {
@@ -20,8 +23,8 @@ pub struct Callee {
 pub struct Frame {
     /// Where execution stands or stood, or the address to which a call returns.
     pub pc: u64,
-    /// x0 to x31, as far as they are known.
-    pub registers: [Option<u64>; 32],
+    /// Its registers.
+    pub registers: Registers,
     /// Execution stands or stood at the pc itself. Else the pc is the address after a call.
     pub exact: bool,
     /// The frame before, if a call led from this one to it and its CFA is known.
@@ -30,7 +33,7 @@ pub struct Frame {
 
 /// What is known of a register.
 #[tactic(auto, unfolding(crate::specs::Registers::known))]
-pub(crate) fn known(registers: &[Option<u64>; 32], column: u64) -> Option<u64>
+pub(crate) fn known(registers: &Registers, column: u64) -> Option<u64>
     ensures { result ≡ spec.known registers.now column }
 {
     if column < 32 {
@@ -42,7 +45,7 @@ pub(crate) fn known(registers: &[Option<u64>; 32], column: u64) -> Option<u64>
 
 /// The same registers, but one is not known.
 #[tactic(auto, unfolding(crate::specs::Registers::without))]
-pub(crate) fn without(registers: [Option<u64>; 32], column: u64) -> [Option<u64>; 32]
+pub(crate) fn without(registers: Registers, column: u64) -> Registers
     ensures { result ≡ spec.without registers column }
 {
     let mut others = registers;
@@ -65,7 +68,7 @@ fn register_of(thread: &Thread<'_>, column: usize) -> Option<u64>
 
 /// The registers of a thread.
 #[tactic(auto, unfolding(crate::specs::Unwinding::registers_of))]
-fn registers_of(thread: &Thread<'_>) -> [Option<u64>; 32]
+fn registers_of(thread: &Thread<'_>) -> Registers
     ensures { result ≡ unwinding.registers_of (thread_bytes thread.now) }
 {
     let mut registers = [None; 32];

@@ -1,5 +1,5 @@
 // What the definitions that the contracts cite say together.
-ghost use Rattle.std.specs.Prelude.{◌≡◌, ◌∷◌, ℕ, List, Ok, Err, false};
+ghost use Rattle.std.specs.Prelude.{◌≡◌, ◌≤◌, ◌∷◌, ℕ, List, Ok, Err, false, length};
 ghost use Rattle.unwind.specs.ByCall.{is_no_code};
 ghost use Rattle.unwind.specs.ByTrampoline.{is_trampoline};
 ghost use Rattle.unwind.specs.Code.{CodeView, ProcessView, code_of};
@@ -9,7 +9,7 @@ ghost use Rattle.unwind.specs.declared.faults.Stop as stops;
 ghost use Rattle.unwind.specs.declared.frame.Frame as numbers;
 
 /// The frames of a thread are those of the relation: no frame but the last has a reason to be it, and behind each other
-/// comes its next. There are no others. It does nothing.
+/// comes its next. There are no others, and at most 1,024. It does nothing.
 pub fn the_frames_are_unwound()
     ensures found { (p : ProcessView) (desc : List ℕ) → (behind : List numbers.Frame)
         × (spec.unwound p desc ≡ spec.first_frame desc ∷ behind)
@@ -17,6 +17,7 @@ pub fn the_frames_are_unwound()
     ensures only { (p : ProcessView) (desc : List ℕ) (behind : List numbers.Frame) (stop : stops.Stop)
         → spec.IsUnwoundFrom p spec.most (spec.first_frame desc) behind stop
         → (spec.unwound p desc ≡ spec.first_frame desc ∷ behind) × (spec.stop_of p desc ≡ stop) }
+    ensures few { (p : ProcessView) (desc : List ℕ) → length (spec.unwound p desc) ≤ 1024 }
 {}
 
 /// Each frame behind another stands on one of three rules: a signal saved it; a call to no code, or to a stub of the procedure

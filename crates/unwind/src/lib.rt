@@ -18,7 +18,7 @@ mod values;
 pub use by_trampoline::is_trampoline;
 pub use executable::Executable;
 pub use faults::{RowFault, Stop};
-pub use frame::{Callee, Frame};
+pub use frame::{Callee, Frame, Registers};
 pub use frames::Frames;
 pub use laws::{
     each_frame_stands_on_a_rule, nothing_is_guessed, the_frames_are_unwound, the_stack_rises,

@@ -4,14 +4,14 @@ ghost use Rattle.address_space.specs.SpaceWords.{space_of};
 ghost use Rattle.unwind.specs.Values as spec;
 
 use crate::faults::Stop;
-use crate::frame::known;
+use crate::frame::{Registers, known};
 use address_space::AddressSpace;
 use frame_rows::{Cfa, Row, Rule};
 
 /// The value that a column has in the caller by a rule.
 pub(crate) fn value_by(
     space: &AddressSpace<'_>,
-    registers: &[Option<u64>; 32],
+    registers: &Registers,
     cfa: u64,
     column: u64,
     rule: Rule,
@@ -31,7 +31,7 @@ pub(crate) fn value_by(
 /// The same by the rule of a row; x0 is 0.
 fn register_by(
     space: &AddressSpace<'_>,
-    registers: &[Option<u64>; 32],
+    registers: &Registers,
     cfa: u64,
     row: &Row,
     column: usize,
@@ -50,10 +50,10 @@ fn register_by(
 #[tactic(auto, unfolding(crate::specs::Values::registers_by))]
 pub(crate) fn registers_by(
     space: &AddressSpace<'_>,
-    registers: &[Option<u64>; 32],
+    registers: &Registers,
     cfa: u64,
     row: &Row,
-) -> [Option<u64>; 32]
+) -> Registers
     ensures { result ≡ spec.registers_by (space_of space.now) registers.now cfa row.now }
 {
     let mut values = [None; 32];
@@ -65,7 +65,7 @@ pub(crate) fn registers_by(
 
 /// The CFA, or why it is not known.
 #[tactic(auto, unfolding(crate::specs::Values::cfa_by))]
-pub(crate) fn cfa_by(registers: &[Option<u64>; 32], cfa: Cfa) -> Result<u64, Stop>
+pub(crate) fn cfa_by(registers: &Registers, cfa: Cfa) -> Result<u64, Stop>
     ensures { result ≡ spec.cfa_by registers.now cfa }
 {
     if cfa.expression {
