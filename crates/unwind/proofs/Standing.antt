@@ -23,6 +23,7 @@ use Rattle.unwind.specs.Registers.{Registers, ra, sp, known}
 use Rattle.unwind.specs.Stands.{IsBareCall, StandsOn, EachStands, IsAbove, Rises, EachRises, AreBare}
 use Rattle.unwind.specs.Unwinding.{call_or, by_rules, bounded, next, IsUnwoundFrom, first_frame, most}
 use Rattle.unwind.specs.Values.{cfa_by, value_by, registers_by, is_undefined, unknown_by}
+use Rattle.unwind.proofs.Kept.{stood, kept, written}
 use Rattle.unwind.proofs.Steps.{more_come}
 use Rattle.unwind.specs.declared.by_entry.Return.{Return}
 use Rattle.unwind.specs.declared.faults.Stop.{Stop}
@@ -210,11 +211,31 @@ next_led p n f g h = rule_led p f g (trampolines.is_trampoline p.space f.pc) ref
 -- so it stands on a rule
 stands_on : (p : ProcessView) (f g : Frame) → Led p f g → StandsOn p f g
 stands_on p f g (by_signal trampoline (s, stack, pc, same)) =
-    inl (s, record { trampoline = trampoline; stack = stack; pc = pc; registers = ap (λ (k : Frame). k.registers) same })
-stands_on p f g (by_bare_call bare (stood, pc, same)) =
-    inr (inl (record { bare = bare; stood = stood; pc = pc; registers = ap (λ (k : Frame). k.registers) same }))
+    inl (s, record { trampoline = trampoline; stack = stack; pc = pc; stood = ap (λ (k : Frame). k.exact) same; registers = ap (λ (k : Frame). k.registers) same })
+stands_on p f g (by_bare_call bare (at, pc, same)) =
+    inr (inl (record { bare = bare; stood = at; pc = pc; returns = ap (λ (k : Frame). k.exact) same; registers = ap (λ (k : Frame). k.registers) same }))
 stands_on p f g (by_fde code is (e, row, a, covers, found)) =
-    inr (inr (code, e, row, a, record { looked_up = is; covers = covers; executed = found.executed; cfa = found.cfa; pc = found.pc }))
+    let r = led.return_in e in
+    let exact : g.exact ≡ e.cie.signal = ap (λ (k : Frame). k.exact) found.frame ∙ stood p.space f a g.pc row r in
+    inr (inr (
+      code,
+      e,
+      row,
+      a,
+      record {
+        looked_up = is;
+        covers = covers;
+        executed = found.executed;
+        cfa = found.cfa;
+        pc = found.pc;
+        stood = exact;
+        registers = λ c few either.
+            ap (λ (k : Frame). known k.registers c) found.frame
+            ∙ kept p.space f a g.pc row r c few (⊎_elim (λ h. inl (sym exact ∙ h)) (λ apart. inr apart) either);
+        written = λ h.
+            ap (λ (k : Frame). known k.registers e.cie.column) found.frame ∙ written p.space f a g.pc row r (sym exact ∙ h);
+      },
+    ))
 
 pub each_stands : (p : ProcessView) (n : ℕ) (f : Frame) (fs : List Frame) (stop : Stop) → IsUnwoundFrom p n f fs stop → EachStands p f fs
 each_stands p n f [] stop is = tt

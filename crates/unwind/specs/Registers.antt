@@ -5,10 +5,6 @@ use Rattle.std.specs.Prelude.{ℕ, nat_lt, if◌then◌else◌, List, slice_set,
 abbrev pub Registers : Type 0
 Registers = List (Option ℕ)
 
--- how many there are
-abbrev pub count : ℕ
-count = 32
-
 -- x1, the return address
 abbrev pub ra : ℕ
 ra = 1

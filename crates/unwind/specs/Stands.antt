@@ -1,5 +1,5 @@
 -- What each frame behind another stands on: one of three rules.
-use Rattle.std.specs.Prelude.{◌≡◌, ◌≤◌, ◌⊎◌, ⊤, ℕ, true, false, List, [], ◌∷◌, Some, Ok, IfSome}
+use Rattle.std.specs.Prelude.{◌≡◌, ◌<◌, ◌≤◌, ◌⊎◌, ⊤, ℕ, true, false, List, [], ◌∷◌, None, Some, Ok, IfSome}
 use Rattle.call_frames.specs.Entry.{EntryView}
 use Rattle.call_frames.specs.Finding.{entry_of}
 use Rattle.frame_rows.specs.Execution.{row_of}
@@ -9,7 +9,7 @@ use Rattle.unwind.specs.ByCall.{is_no_code, is_stub}
 use Rattle.unwind.specs.ByTrampoline.{is_trampoline, saved_word, saved_registers}
 use Rattle.unwind.specs.Code.{ProcessView, CodeView, code_of}
 use Rattle.unwind.specs.Registers.{ra, sp, known, without}
-use Rattle.unwind.specs.Values.{cfa_by, value_by}
+use Rattle.unwind.specs.Values.{cfa_by, register_by, value_by}
 use Rattle.unwind.specs.declared.frame.Callee.{Callee}
 use Rattle.unwind.specs.declared.frame.Frame.{Frame}
 
@@ -18,6 +18,7 @@ pub record IsInterrupted (p : ProcessView) (f g : Frame) (s : ℕ) : Type 0 wher
   pub trampoline : is_trampoline p.space f.pc ≡ true
   pub stack : known f.registers sp ≡ Some s
   pub pc : saved_word p.space s 0 ≡ Some g.pc
+  pub stood : g.exact ≡ true
   pub registers : g.registers ≡ saved_registers p.space s
 
 -- no code is at its pc, or a stub of the procedure linkage table
@@ -29,16 +30,21 @@ pub record IsCaller (p : ProcessView) (f g : Frame) : Type 0 where
   pub bare : IsBareCall p f
   pub stood : f.exact ≡ true
   pub pc : known f.registers ra ≡ Some g.pc
+  pub returns : g.exact ≡ false
   pub registers : g.registers ≡ without f.registers ra
 
 -- The pc of the other is the value of the return column by its rule, in the row of the first FDE that covers the address that
--- is looked up for the frame.
+-- is looked up for the frame. So is each of its registers, but that of the return column after a call, which wrote it. A signal
+-- came where the CIE says so.
 pub record IsReturn (p : ProcessView) (f g : Frame) (code : CodeView) (e : EntryView) (row : Row) (a : ℕ) : Type 0 where
   pub looked_up : code_of p f ≡ Ok code
   pub covers : entry_of code.image code.address ≡ Ok e
   pub executed : row_of e code.address ≡ Ok row
   pub cfa : cfa_by f.registers row.cfa ≡ Ok a
   pub pc : value_by p.space f.registers a e.cie.column (rule_of row.rules e.cie.column) ≡ Some g.pc
+  pub stood : g.exact ≡ e.cie.signal
+  pub registers : (c : ℕ) → c < 32 → (g.exact ≡ true) ⊎ (c ≡ e.cie.column → ⊥) → known g.registers c ≡ register_by p.space f.registers a row c
+  pub written : g.exact ≡ false → known g.registers e.cie.column ≡ None
 
 abbrev pub IsReturnOf : ProcessView → Frame → Frame → Type 0
 IsReturnOf p f g = (code : CodeView) × (e : EntryView) × (row : Row) × (a : ℕ) × IsReturn p f g code e row a

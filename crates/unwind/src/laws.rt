@@ -22,7 +22,8 @@ pub fn the_frames_are_unwound()
 
 /// Each frame behind another stands on one of three rules: a signal saved it; a call to no code, or to a stub of the procedure
 /// linkage table, was made from it; or its pc is the value of the return column by its rule, in the row of the first FDE
-/// that covers the address that is looked up for the frame before. It does nothing.
+/// that covers the address that is looked up for the frame before, and so is each of its registers, but that which a call
+/// wrote. It does nothing.
 pub fn each_frame_stands_on_a_rule()
     ensures { (p : ProcessView) (n : ℕ) (f : numbers.Frame) (behind : List numbers.Frame) (stop : stops.Stop)
         → spec.IsUnwoundFrom p n f behind stop → stands.EachStands p f behind }
