@@ -3,7 +3,10 @@ use crate::entries::{image, put};
 use address_space::AddressSpace;
 use call_frames::{CallFrames, CfiFault, CfiField};
 use core_notes::CoreNotes;
-use elf_view::sample::{executable, file_core, stack_core};
+use elf_view::sample::{
+    FilePart, LoadPart, NT_FILE, NT_PRSTATUS, NotePart, core_image, executable, file_core, files,
+    registers, stack_core, status,
+};
 use elf_view::{Elf, Want};
 use frame_rows::RowField;
 use std::alloc::{AllocError, Global};
@@ -251,6 +254,14 @@ static ROWS: &[Row] = &[
         frames: FIRST,
         stop: Stop::NoEntry,
     },
+    // bytes of the executable's segment that end before the code
+    Row {
+        registers: &[],
+        words: &[],
+        changes: &[(96, 0), (97, 4)],
+        frames: FIRST,
+        stop: Stop::NoAddress,
+    },
     // a pc in the outermost function
     Row {
         registers: &[(0, 0x10600)],
@@ -421,4 +432,88 @@ fn a_caller_knows_what_calls_keep(rt: HostRuntime) -> Result<(), Fail> {
     let core = file_core(rt.alloc())?;
     let file = image(rt.alloc(), &[])?;
     check_kept(&rt, &core, &file)
+}
+
+/// A core whose stack has so many return addresses, one in each word, and a word of 0 after them.
+fn deep_core(alloc: Global, count: u64) -> Result<Vec<u8>, AllocError> {
+    let mut words = registers();
+    words[0] = 0x10401;
+    words[2] = 0x7000;
+    let mut bytes = Vec::new(alloc);
+    for _index in 0..count {
+        bytes.extend_from_slice(&0x10401u64.to_le_bytes())?;
+    }
+    bytes.extend_from_slice(&[0; 8])?;
+    let entry = FilePart {
+        start: 0x10000,
+        end: 0x11000,
+        offset: 0,
+        name: b"/bin/cat",
+    };
+    let files = files(alloc, 4096, &[entry])?;
+    let status = status(11, 1, &words);
+    let notes = [
+        NotePart {
+            name: b"CORE",
+            kind: NT_PRSTATUS,
+            desc: &status,
+        },
+        NotePart {
+            name: b"CORE",
+            kind: NT_FILE,
+            desc: &files,
+        },
+    ];
+    let load = LoadPart {
+        flags: 6,
+        vaddr: 0x7000,
+        memsz: bytes.len() as u64,
+        bytes: &bytes,
+    };
+    core_image(alloc, &notes, &[load])
+}
+
+/// How many frames there are.
+fn count_of(frames: Frames<'_, '_, '_, '_>) -> (u64, Option<Stop>) {
+    let mut frames = frames;
+    let mut count = 0u64;
+    while let Some(_frame) = frames.next() {
+        count = count.saturating_add(1);
+    }
+    (count, frames.stop())
+}
+
+/// How many frames a core has, where an executable is `/bin/cat`, and why they end.
+fn length_of(alloc: Global, core: &[u8], file: &[u8]) -> Result<(u64, Option<Stop>), Fail> {
+    let elf = Elf::read(core, Want::Core).ok().ok_or("refused")?;
+    let notes = CoreNotes::of(&elf).ok().ok_or("faulty")?;
+    let thread = threads(&notes).next().ok_or("no thread")?;
+    let space = AddressSpace::new(alloc, &elf, notes.files());
+    let elf = Elf::read(file, Want::Exec).ok().ok_or("refused")?;
+    let frames = CallFrames::read(alloc, &elf)?;
+    let executables = [Executable {
+        path: b"/bin/cat",
+        elf,
+        frames: &frames,
+    }];
+    Ok(count_of(Frames::new(&space, &executables, &thread)))
+}
+
+/// Return addresses, the frames that they make where each has 8 bytes, and why these end.
+static DEEP: &[(u64, u64, Stop)] = &[
+    (2000, 1024, Stop::Limit),
+    (1024, 1024, Stop::Limit),
+    (1023, 1024, Stop::ZeroPc),
+    (1022, 1023, Stop::ZeroPc),
+];
+
+#[test]
+fn the_frame_of_number_1023_is_the_last(rt: HostRuntime) -> Result<(), Fail> {
+    let file = image(rt.alloc(), &[(0x82a, 8)])?;
+    for (count, frames, stop) in DEEP {
+        let core = deep_core(rt.alloc(), *count)?;
+        let length = length_of(rt.alloc(), &core, &file)?;
+        assert_eq!(rt; length, (*frames, Some(*stop)));
+    }
+    Ok(())
 }

@@ -1,5 +1,5 @@
 // A call that led to no code, or to a stub of the procedure linkage table.
-ghost use Rattle.std.specs.Prelude.{◌≡◌, ◌≤◌, ◌+◌, codes};
+ghost use Rattle.std.specs.Prelude.{◌≡◌};
 ghost use Rattle.std.specs.Option.{option_map};
 ghost use Rattle.elf_view.specs.SectionWords.{section_view};
 ghost use Rattle.address_space.specs.SpaceWords.{space_of};

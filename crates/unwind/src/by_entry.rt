@@ -1,5 +1,5 @@
 // The caller of a frame by call frame information.
-ghost use Rattle.std.specs.Prelude.{◌≡◌, ◌≤◌};
+ghost use Rattle.std.specs.Prelude.{◌≡◌};
 ghost use Rattle.address_space.specs.SpaceWords.{space_of};
 ghost use Rattle.call_frames.specs.EntryWords.{entry_view};
 ghost use Rattle.call_frames.specs.Finding.{entry_of};

@@ -1,5 +1,5 @@
 // The code to which a signal handler returns.
-ghost use Rattle.std.specs.Prelude.{◌≡◌, ◌≤◌, ◌<◌, is_some};
+ghost use Rattle.std.specs.Prelude.{◌≡◌, ◌<◌, is_some};
 ghost use Rattle.std.specs.List.{list_all};
 ghost use Rattle.address_space.specs.SpaceWords.{space_of};
 ghost use Rattle.unwind.specs.ByTrampoline as spec;
