@@ -165,12 +165,12 @@ covering_led space f g e v h =
 abbrev pub IsCovered : Space → Frame → Frame → CodeView → Type 0
 IsCovered space f g code = (e : EntryView) × (row : Row) × (a : ℕ) × (entry_of code.image code.address ≡ Ok e) × IsLed space f g e code.address row a
 
-found_led : (space : Space) (f g : Frame) (code : CodeView) (r : Result EntryView entries.NoEntry) → entry_of code.image code.address ≡ r → led.by_found space f code r ≡ Ok g → IsCovered space f g code ⊎ (calls.by_stub code f ≡ Some g)
+found_led : (space : Space) (f g : Frame) (code : CodeView) (r : Result EntryView entries.NoEntry) → entry_of code.image code.address ≡ r → led.by_found space f code r ≡ Ok g → IsCovered space f g code ⊎ ((entry_of code.image code.address ≡ Err Uncovered) × (calls.by_stub code f ≡ Some g))
 found_led space f g code (Ok e) is h =
     let rest = covering_led space f g e code.address h in inl (e, rest.0, rest.1, is, rest.2)
 found_led space f g code (Err (Faulty fault)) is h = cc
 found_led space f g code (Err Uncovered) is h =
-    let some = checked_ok (calls.by_stub code f) NoEntry _ g h in inr (some.1 ∙ ap (λ k. Some k) (same_ok some.0 g some.2))
+    let some = checked_ok (calls.by_stub code f) NoEntry _ g h in inr (is, some.1 ∙ ap (λ k. Some k) (same_ok some.0 g some.2))
 
 -- a frame came by one of these
 pub data Led (p : ProcessView) (f g : Frame) : Type 0 where
@@ -182,7 +182,7 @@ code_led : (p : ProcessView) (f g : Frame) (code : CodeView) → code_of p f ≡
 unfolding led.by_code
 code_led p f g code is h =
     ⊎_elim (λ covered. by_fde code is covered)
-    (λ stub. let made = stub_made code f g stub in by_bare_call (inr (code, is, made.0)) made.1)
+    (λ stub. let made = stub_made code f g stub.1 in by_bare_call (inr (code, is, (stub.0, made.0))) made.1)
     (found_led p.space f g code (entry_of code.image code.address) refl h)
 
 entry_led : (p : ProcessView) (f g : Frame) → led.by_entry p f ≡ Ok g → Led p f g
@@ -311,7 +311,7 @@ each_rises p desc fs stop is = rises_from p most (first_frame desc) fs stop (λ 
 not_led : (p : ProcessView) (f g : Frame) → trampolines.is_trampoline p.space f.pc ≡ false → calls.is_no_code p.space f.pc ≡ false → ((code : CodeView) → code_of p f ≡ Ok code → AreBare code) → Led p f g → ⊥
 not_led p f g none code bare (by_signal trampoline signal) = both_ways _ none trampoline
 not_led p f g none code bare (by_bare_call (inl no_code) made) = both_ways _ code no_code
-not_led p f g none code bare (by_bare_call (inr (at, is, stub)) made) = both_ways _ (bare at is).1 stub
+not_led p f g none code bare (by_bare_call (inr (at, is, stub)) made) = both_ways _ (bare at is).1 stub.1
 not_led p f g none code bare (by_fde at is (e, row, a, covers, found)) = (bare at is).0 e covers
 
 stopped_by : (p : ProcessView) (n : ℕ) (f : Frame) (r : Result Frame Stop) → next p n f ≡ r → ((g : Frame) → Led p f g → ⊥) → (stop : Stop) × (next p n f ≡ Err stop)

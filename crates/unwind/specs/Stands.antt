@@ -1,7 +1,8 @@
 -- What each frame behind another stands on: one of three rules.
-use Rattle.std.specs.Prelude.{◌≡◌, ◌<◌, ◌≤◌, ◌⊎◌, ⊤, ℕ, true, false, List, [], ◌∷◌, None, Some, Ok, IfSome}
+use Rattle.std.specs.Prelude.{◌≡◌, ◌<◌, ◌≤◌, ◌⊎◌, ⊤, ℕ, true, false, List, [], ◌∷◌, None, Some, Ok, Err, IfSome}
 use Rattle.call_frames.specs.Entry.{EntryView}
 use Rattle.call_frames.specs.Finding.{entry_of}
+use Rattle.call_frames.specs.declared.faults.NoEntry.TheVariants.{Uncovered}
 use Rattle.frame_rows.specs.Execution.{row_of}
 use Rattle.frame_rows.specs.Rows.{rule_of}
 use Rattle.frame_rows.specs.declared.rows.Row.{Row}
@@ -21,9 +22,13 @@ pub record IsInterrupted (p : ProcessView) (f g : Frame) (s : ℕ) : Type 0 wher
   pub stood : g.exact ≡ true
   pub registers : g.registers ≡ saved_registers p.space s
 
--- no code is at its pc, or a stub of the procedure linkage table
+-- a stub of the procedure linkage table that no FDE covers, and none that has a fault may
+abbrev pub IsBareStub : CodeView → Type 0
+IsBareStub code = (entry_of code.image code.address ≡ Err Uncovered) × (is_stub code ≡ true)
+
+-- No code is at the pc, or such a stub.
 abbrev pub IsBareCall : ProcessView → Frame → Type 0
-IsBareCall p f = (is_no_code p.space f.pc ≡ true) ⊎ ((code : CodeView) × (code_of p f ≡ Ok code) × (is_stub code ≡ true))
+IsBareCall p f = (is_no_code p.space f.pc ≡ true) ⊎ ((code : CodeView) × (code_of p f ≡ Ok code) × IsBareStub code)
 
 -- Execution stood at such a pc, and the other has the address and the registers of the call.
 pub record IsCaller (p : ProcessView) (f g : Frame) : Type 0 where
