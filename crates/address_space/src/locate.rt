@@ -323,6 +323,14 @@ impl<'a> AddressSpace<'a> {
         }
     }
 
+    /// The flags of the segment that decides the address: 1 is PF_X, 2 is PF_W, 4 is PF_R.
+    pub fn flags(&self, at: u64) -> Option<u32>
+        ensures { result ≡ option_map (λ (d : ℕ × SegmentView). d.1.flags) (source.decider (space_of self.now) at) }
+    {
+        let decided = self.decide(at, 1).0?;
+        Some(decided.segment.flags)
+    }
+
     /// Where the address lies in the file that is mapped there.
     pub fn spot(&self, at: u64) -> Option<FileSpot<'a>>
         ensures { option_map spot_view result ≡ source.spot_of at (source.entry_at (space_of self.now) at) }

@@ -74,7 +74,7 @@ impl Row {
 
     /// The rule of a column, undefined if it is not kept.
     #[tactic(auto, unfolding(crate::specs::Rows::rule_of))]
-    pub(crate) fn rule(&self, column: u64) -> Rule
+    pub fn rule(&self, column: u64) -> Rule
         ensures { result ≡ spec.rule_of self.now.rules column }
     {
         if column < 32 {

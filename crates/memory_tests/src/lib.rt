@@ -38,3 +38,5 @@ mod stretches;
 mod symbol_faults;
 #[cfg(test)]
 mod symbol_refused;
+#[cfg(test)]
+mod unwound;

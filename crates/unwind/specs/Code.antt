@@ -1,0 +1,39 @@
+-- The code of a frame: which executable has it, and at which of its own addresses.
+use Rattle.std.specs.Prelude.{ℕ, ◌-◌, ◌==◌, if◌then◌else◌, List, find, Option, None, Some, Result, Ok}
+use Rattle.std.specs.Option.{option_and_then}
+use Rattle.address_space.specs.Source.{Space, SpotView, ExecutableView, spot_of, entry_at, is_named}
+use Rattle.symbols.specs.Offsets.{address_of}
+use Rattle.unwind.specs.Reasons.{checked}
+use Rattle.unwind.specs.declared.faults.Stop.{Stop}
+use Rattle.unwind.specs.declared.faults.Stop.TheVariants.{NoFile, NoExecutable, NoAddress}
+use Rattle.unwind.specs.declared.frame.Frame.{Frame}
+
+-- a process: its memory, and the executables that stand for mapped files
+pub record ProcessView : Type 0 where
+  pub space : Space
+  pub executables : List ExecutableView
+
+-- the address that is looked up for a frame: its pc if execution stood there, else, as a call is before the address that it
+-- returns to, the one before the pc
+abbrev pub looked_up : Frame → Option ℕ
+looked_up f = if f.exact then Some f.pc else (if f.pc == 0 then None else Some (f.pc - 1))
+
+-- where it lies in the file that is mapped there
+abbrev pub spot_at : Space → ℕ → Option SpotView
+spot_at space a = spot_of a (entry_at space a)
+
+-- an address in an image's own numbering
+pub record CodeView : Type 0 where
+  pub image : List ℕ
+  pub address : ℕ
+
+-- the address of a place in the file, in the first executable of its name
+unfoldable pub code_at : List ExecutableView → SpotView → Result CodeView Stop
+code_at executables spot =
+    checked (find (is_named spot.name) executables) NoExecutable (λ x.
+    checked (address_of x.image spot.offset) NoAddress (λ v.
+    Ok (record { image = x.image; address = v })))
+
+-- the code of a frame
+unfoldable pub code_of : ProcessView → Frame → Result CodeView Stop
+code_of p f = checked (option_and_then (spot_at p.space) (looked_up f)) NoFile (code_at p.executables)

@@ -1,0 +1,11 @@
+pub mod Registers
+pub mod Reasons
+pub mod Values
+pub mod Code
+pub mod ByEntry
+pub mod ByCall
+pub mod ByTrampoline
+pub mod Unwinding
+pub mod Stands
+pub mod Words
+pub mod FrameWords

@@ -1,0 +1,28 @@
+-- What the code's executables, processes and places stand for.
+use Rattle.std.specs.Prelude.{List, map, Result, Ok, Err}
+use Rattle.elf_view.specs.ViewWords.{image_of}
+use Rattle.address_space.specs.Source.{ExecutableView}
+use Rattle.address_space.specs.SpaceWords.{space_of}
+use Rattle.address_space.specs.declared.space.AddressSpace.{AddressSpace}
+use Rattle.unwind.specs.Code.{ProcessView, CodeView}
+use Rattle.unwind.specs.declared.code.Code.{Code}
+use Rattle.unwind.specs.declared.executable.Executable.{Executable}
+use Rattle.unwind.specs.declared.code.Process.{Process}
+use Rattle.unwind.specs.declared.faults.Stop.{Stop}
+
+abbrev pub executable_view : Executable → ExecutableView
+executable_view x = record { path = x.path.now; image = image_of x.elf }
+
+abbrev pub process_of : AddressSpace → List Executable → ProcessView
+process_of space executables = record { space = space_of space; executables = map executable_view executables }
+
+abbrev pub process_view : Process → ProcessView
+process_view p = process_of p.space.now p.executables.now
+
+abbrev pub code_view : Code → CodeView
+code_view c = record { image = image_of c.executable.elf; address = c.address }
+
+-- a result of the code as one of the definitions
+abbrev pub viewed : {A B : Type 0} → (A → B) → Result A Stop → Result B Stop
+viewed view (Ok x) = Ok (view x)
+viewed view (Err stop) = Err stop

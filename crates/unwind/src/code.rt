@@ -1,0 +1,93 @@
+// The code of a frame.
+ghost use Rattle.std.specs.Prelude.{◌≡◌, find, map};
+ghost use Rattle.std.specs.Option.{option_map, option_and_then};
+ghost use Rattle.address_space.specs.Source.{is_named};
+ghost use Rattle.address_space.specs.SourceWords.{spot_view};
+ghost use Rattle.address_space.specs.SpaceWords.{space_of};
+ghost use Rattle.unwind.specs.Code as spec;
+ghost use Rattle.unwind.specs.Words.{code_view, executable_view, process_view, viewed};
+
+use crate::executable::Executable;
+use crate::faults::Stop;
+use crate::frame::Frame;
+use address_space::{AddressSpace, FileSpot};
+use symbols::vaddr_of_offset;
+
+/// A process: its memory, and the executables that stand for mapped files.
+#[derive(Clone, Copy)]
+pub(crate) struct Process<'s, 'c, 'e, 'a> {
+    pub(crate) space: &'s AddressSpace<'c>,
+    pub(crate) executables: &'s [Executable<'e, 'a>],
+}
+
+/// An address in the numbering of an executable.
+#[derive(Clone, Copy)]
+pub(crate) struct Code<'e, 'a> {
+    pub(crate) executable: Executable<'e, 'a>,
+    pub(crate) address: u64,
+}
+
+/// The first executable of that path.
+fn named<'e, 'a>(executables: &[Executable<'e, 'a>], path: &[u8]) -> Option<Executable<'e, 'a>>
+    ensures { option_map executable_view result ≡ find (is_named path.now) (map executable_view executables.now) }
+{
+    for executable in executables {
+        if executable.path == path {
+            return Some(*executable);
+        }
+    }
+    None
+}
+
+/// The address of a place in a file.
+#[tactic(auto, unfolding(crate::specs::Code::code_at))]
+fn code_at<'e, 'a>(
+    executables: &[Executable<'e, 'a>],
+    spot: FileSpot<'_>,
+) -> Result<Code<'e, 'a>, Stop>
+    ensures { viewed code_view result ≡ spec.code_at (map executable_view executables.now) (spot_view spot.entry) }
+{
+    let Some(executable) = named(executables, spot.name) else {
+        return Err(Stop::NoExecutable);
+    };
+    let Some(address) = vaddr_of_offset(&executable.elf, spot.offset) else {
+        return Err(Stop::NoAddress);
+    };
+    Ok(Code {
+        executable,
+        address,
+    })
+}
+
+/// The address that is looked up for a frame: the pc if execution stood there, else the one before it.
+fn looked_up(frame: &Frame) -> Option<u64>
+    ensures { result ≡ spec.looked_up frame.now }
+{
+    if frame.exact {
+        Some(frame.pc)
+    } else {
+        frame.pc.checked_sub(1)
+    }
+}
+
+/// Where a frame's code lies in the file that is mapped there.
+fn spot_of<'c>(space: &AddressSpace<'c>, frame: &Frame) -> Option<FileSpot<'c>>
+    ensures { option_map spot_view result
+        ≡ option_and_then (spec.spot_at (space_of space.now)) (spec.looked_up frame.now) }
+{
+    let address = looked_up(frame)?;
+    space.spot(address)
+}
+
+impl<'s, 'c, 'e, 'a> Process<'s, 'c, 'e, 'a> {
+    /// The code of a frame.
+    #[tactic(auto, unfolding(crate::specs::Code::code_of))]
+    pub(crate) fn code_of(&self, frame: &Frame) -> Result<Code<'e, 'a>, Stop>
+        ensures { viewed code_view result ≡ spec.code_of (process_view self.now) frame.now }
+    {
+        let Some(spot) = spot_of(self.space, frame) else {
+            return Err(Stop::NoFile);
+        };
+        code_at(self.executables, spot)
+    }
+}

@@ -1,0 +1,21 @@
+// Executables with their call frame information.
+ghost use Rattle.std.specs.Prelude.{◌≡◌};
+ghost use Rattle.elf_view.specs.ViewWords.{image_of};
+ghost use Rattle.call_frames.specs.FindingWords.{eh_frame_in, debug_frame_in};
+ghost use Rattle.call_frames.specs.Tables.{eh_frame_of, debug_frame_of};
+
+use call_frames::CallFrames;
+use elf_view::Elf;
+
+/// An executable that stands for the mapped file of that path.
+#[derive(Clone, Copy)]
+pub struct Executable<'e, 'a> {
+    /// The path.
+    pub path: &'a [u8],
+    /// The executable.
+    pub elf: Elf<'a>,
+    /// Its call frame information, as [`CallFrames::read`] gives it.
+    pub frames: &'e CallFrames<'a>,
+    pub ghost eh_frame: { eh_frame_in frames.now ≡ eh_frame_of (image_of elf) },
+    pub ghost debug_frame: { debug_frame_in frames.now ≡ debug_frame_of (image_of elf) },
+}

@@ -1,0 +1,43 @@
+// Why frames end.
+use call_frames::CfiFault;
+use frame_rows::RowField;
+
+/// The fault of the instructions of an entry.
+#[derive(Clone, Copy, Debug, PartialEq, Eq)]
+pub struct RowFault {
+    /// What its first instruction that can't be executed is refused for.
+    pub field: RowField,
+    /// The number of the entry in its section, from 0 on.
+    pub index: u64,
+}
+
+/// Why no frame comes behind a frame.
+#[derive(Clone, Copy, Debug, PartialEq, Eq)]
+pub enum Stop {
+    /// No mapped file is told of at the address.
+    NoFile,
+    /// No executable stands for the file that is mapped there.
+    NoExecutable,
+    /// No PT_LOAD of the executable has that place of the file, or the address is over 2^64 - 1.
+    NoAddress,
+    /// No entry covers the address.
+    NoEntry,
+    /// No entry without a fault covers the address. This is the first fault.
+    FaultyEntry(CfiFault),
+    /// The instructions of the entry that covers the address make no row.
+    FaultyRow(RowFault),
+    /// The return address is undefined: nothing called this code.
+    Outermost,
+    /// A DWARF expression would tell the CFA or the return address.
+    Expression,
+    /// A register that is needed is not known.
+    Undefined,
+    /// The CFA is below that of the frame before, or it is the same and so is the pc.
+    NotRising,
+    /// A word that is needed is not there.
+    Unreadable,
+    /// The return address is 0.
+    ZeroPc,
+    /// The frame has number 1,023, and another would come behind it.
+    Limit,
+}

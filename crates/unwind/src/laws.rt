@@ -1,0 +1,47 @@
+// What the definitions that the contracts cite say together.
+ghost use Rattle.std.specs.Prelude.{◌≡◌, ◌≤◌, ◌∷◌, ℕ, List, Ok, Err, false, length};
+ghost use Rattle.unwind.specs.ByCall.{is_no_code};
+ghost use Rattle.unwind.specs.ByTrampoline.{is_trampoline};
+ghost use Rattle.unwind.specs.Code.{CodeView, ProcessView, code_of};
+ghost use Rattle.unwind.specs.Stands as stands;
+ghost use Rattle.unwind.specs.Unwinding as spec;
+ghost use Rattle.unwind.specs.declared.faults.Stop as stops;
+ghost use Rattle.unwind.specs.declared.frame.Frame as numbers;
+
+/// The frames of a thread are those of the relation: no frame but the last has a reason to be it, and behind each other
+/// comes its next. There are no others, and at most 1,024. It does nothing.
+pub fn the_frames_are_unwound()
+    ensures found { (p : ProcessView) (desc : List ℕ) → (behind : List numbers.Frame)
+        × (spec.unwound p desc ≡ spec.first_frame desc ∷ behind)
+        × spec.IsUnwoundFrom p spec.most (spec.first_frame desc) behind (spec.stop_of p desc) }
+    ensures only { (p : ProcessView) (desc : List ℕ) (behind : List numbers.Frame) (stop : stops.Stop)
+        → spec.IsUnwoundFrom p spec.most (spec.first_frame desc) behind stop
+        → (spec.unwound p desc ≡ spec.first_frame desc ∷ behind) × (spec.stop_of p desc ≡ stop) }
+    ensures few { (p : ProcessView) (desc : List ℕ) → length (spec.unwound p desc) ≤ 1024 }
+{}
+
+/// Each frame behind another stands on one of three rules: a signal saved it; a call to no code, or to a stub of the procedure
+/// linkage table, was made from it; or its pc is the value of the return column by its rule, in the row of the first FDE
+/// that covers the address that is looked up for the frame before, and so is each of its registers, but that which a call
+/// wrote. It does nothing.
+pub fn each_frame_stands_on_a_rule()
+    ensures { (p : ProcessView) (n : ℕ) (f : numbers.Frame) (behind : List numbers.Frame) (stop : stops.Stop)
+        → spec.IsUnwoundFrom p n f behind stop → stands.EachStands p f behind }
+{}
+
+/// The stack goes on upwards: between two signals no CFA is below the one before, and none with the same pc is equal. It does
+/// nothing.
+pub fn the_stack_rises()
+    ensures { (p : ProcessView) (desc : List ℕ) (behind : List numbers.Frame) (stop : stops.Stop)
+        → spec.IsUnwoundFrom p spec.most (spec.first_frame desc) behind stop
+        → stands.EachRises (spec.first_frame desc) behind }
+{}
+
+/// Nothing is guessed: a frame that is at no trampoline, whose pc has code, and whose code is no stub and is covered by no FDE is
+/// the last. It does nothing.
+pub fn nothing_is_guessed()
+    ensures { (p : ProcessView) (n : ℕ) (f : numbers.Frame) → is_trampoline p.space f.pc ≡ false
+        → is_no_code p.space f.pc ≡ false
+        → ((code : CodeView) → code_of p f ≡ Ok code → stands.AreBare code)
+        → (stop : stops.Stop) × (spec.next p n f ≡ Err stop) }
+{}

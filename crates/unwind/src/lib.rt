@@ -1,0 +1,25 @@
+//! The frames of a thread's stack, by call frame information.
+//!
+//! [`Frames`] goes from the registers of a thread up the stack, one frame an item, and says by [`Frames::stop`] why it ended.
+#![tactic(auto)]
+
+mod by_call;
+mod by_entry;
+mod by_trampoline;
+mod code;
+pub mod columns;
+mod executable;
+mod faults;
+mod frame;
+mod frames;
+mod laws;
+mod values;
+
+pub use by_trampoline::is_trampoline;
+pub use executable::Executable;
+pub use faults::{RowFault, Stop};
+pub use frame::{Callee, Frame, Registers};
+pub use frames::Frames;
+pub use laws::{
+    each_frame_stands_on_a_rule, nothing_is_guessed, the_frames_are_unwound, the_stack_rises,
+};
