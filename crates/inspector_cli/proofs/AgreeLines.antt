@@ -68,8 +68,7 @@ module _ {D E : Type 0} (g : disk.Ghosts D) (h : disk.Ghosts E) (one : OneWay) (
   begins slot (Ok stream) accepted accepted' (r, call, told, good) (r', call', told', good') =
       let d = begin_decided stream.name r reply told bound in
       let d' = begin_decided stream.name r' reply' told' bound' in
-      let is = one.begin (state_of old) slot stream r r' (state_of new) (state_of new') call.step (subst (λ (s : ArchiveState). BeginStep s slot stream r' (state_of new')) same.state call'.step) d d' in
-      (
+      let is = one.begin (state_of old) slot stream r r' (state_of new) (state_of new') call.step (subst (λ (s : ArchiveState). BeginStep s slot stream r' (state_of new')) same.state call'.step) d d' in (
         told' ∙ ap (begin_reply stream.name) is.0 ∙ sym told,
         holds is.1 (same_begun before before' after after' alike slot r call.bytes (subst (λ (q : Result (Unit {0}) ArchiveFault). BeginBytes before' slot q after') is.0 call'.bytes)),
       )
@@ -78,8 +77,7 @@ module _ {D E : Type 0} (g : disk.Ghosts D) (h : disk.Ghosts E) (one : OneWay) (
   feeds slot raw (r, call, told) (r', call', told') =
       let d = plain_decided r reply told bound in
       let d' = plain_decided r' reply' told' bound' in
-      let is = take_one one.fills (state_of old) slot (length raw) r r' (state_of new) (state_of new') call.step (subst (λ (s : ArchiveState). TakeStep s slot (length raw) r' (state_of new')) same.state call'.step) d d' in
-      (
+      let is = take_one one.fills (state_of old) slot (length raw) r r' (state_of new) (state_of new') call.step (subst (λ (s : ArchiveState). TakeStep s slot (length raw) r' (state_of new')) same.state call'.step) d d' in (
         told' ∙ ap plain_reply is.0 ∙ sym told,
         holds is.1 (same_took before before' after after' alike slot raw r d (call.bytes honest) (subst (λ (q : Result (Unit {0}) ArchiveFault). TakeBytes before' slot raw q after') is.0 (call'.bytes honest'))),
       )
@@ -88,8 +86,7 @@ module _ {D E : Type 0} (g : disk.Ghosts D) (h : disk.Ghosts E) (one : OneWay) (
   ends slot stored stored' (r, call, told, number) (r', call', told', number') =
       let d = end_decided r reply told bound in
       let d' = end_decided r' reply' told' bound' in
-      let is = one.finish (state_of old) slot r r' (state_of new) (state_of new') call.step (subst (λ (s : ArchiveState). FinishStep s slot r' (state_of new')) same.state call'.step) d d' in
-      (
+      let is = one.finish (state_of old) slot r r' (state_of new) (state_of new') call.step (subst (λ (s : ArchiveState). FinishStep s slot r' (state_of new')) same.state call'.step) d d' in (
         told' ∙ ap end_reply is.0 ∙ sym told,
         holds is.1 (same_finished before before' after after' alike slot r d (call.bytes honest) (subst (λ (q : Result ℕ ArchiveFault). FinishBytes before' slot q after') is.0 (call'.bytes honest'))),
       )
@@ -98,8 +95,7 @@ module _ {D E : Type 0} (g : disk.Ghosts D) (h : disk.Ghosts E) (one : OneWay) (
   drops slot (r, call, told) (r', call', told') =
       let d = plain_decided r reply told bound in
       let d' = plain_decided r' reply' told' bound' in
-      let is = one.abandon (state_of old) slot r r' (state_of new) (state_of new') call.step (subst (λ (s : ArchiveState). AbandonStep s slot r' (state_of new')) same.state call'.step) d d' in
-      (
+      let is = one.abandon (state_of old) slot r r' (state_of new) (state_of new') call.step (subst (λ (s : ArchiveState). AbandonStep s slot r' (state_of new')) same.state call'.step) d d' in (
         told' ∙ ap plain_reply is.0 ∙ sym told,
         holds is.1 (same_dropped before before' after after' alike slot r call.bytes (subst (λ (q : Result (Unit {0}) ArchiveFault). AbandonBytes before' slot q after') is.0 call'.bytes)),
       )
@@ -108,8 +104,7 @@ module _ {D E : Type 0} (g : disk.Ghosts D) (h : disk.Ghosts E) (one : OneWay) (
   deletes seq (r, call, told) (r', call', told') =
       let d = plain_decided r reply told bound in
       let d' = plain_decided r' reply' told' bound' in
-      let is = one.delete (state_of old) seq r r' (state_of new) (state_of new') call.step (subst (λ (s : ArchiveState). DeleteStep s seq r' (state_of new')) same.state call'.step) d d' in
-      (
+      let is = one.delete (state_of old) seq r r' (state_of new) (state_of new') call.step (subst (λ (s : ArchiveState). DeleteStep s seq r' (state_of new')) same.state call'.step) d d' in (
         told' ∙ ap plain_reply is.0 ∙ sym told,
         holds is.1 (same_gone before before' after after' alike (state_of old) (seq ∷ []) r d (call.bytes honest)
             (subst (λ (q : Result (Unit {0}) ArchiveFault). DropBytes (state_of old) before' (seq ∷ []) q after') is.0 (subst (λ (s : ArchiveState). DropBytes s before' (seq ∷ []) r' after') same.state (call'.bytes honest')))),
@@ -119,8 +114,7 @@ module _ {D E : Type 0} (g : disk.Ghosts D) (h : disk.Ghosts E) (one : OneWay) (
   pins seq flag (r, call, told) (r', call', told') =
       let d = plain_decided r reply told bound in
       let d' = plain_decided r' reply' told' bound' in
-      let is = one.pin (state_of old) seq flag r r' (state_of new) (state_of new') call.step (subst (λ (s : ArchiveState). PinStep s seq flag r' (state_of new')) same.state call'.step) d d' in
-      (
+      let is = one.pin (state_of old) seq flag r r' (state_of new) (state_of new') call.step (subst (λ (s : ArchiveState). PinStep s seq flag r' (state_of new')) same.state call'.step) d d' in (
         told' ∙ ap plain_reply is.0 ∙ sym told,
         holds is.1 (unmoved r d (call.bytes honest) (subst (λ (q : Result (Unit {0}) ArchiveFault). PinBytes before' q after') is.0 (call'.bytes honest'))),
       )
@@ -133,8 +127,7 @@ module _ {D E : Type 0} (g : disk.Ghosts D) (h : disk.Ghosts E) (one : OneWay) (
   labels seq text (r, call, told) (r', call', told') =
       let d = plain_decided r reply told bound in
       let d' = plain_decided r' reply' told' bound' in
-      let is = one.label (state_of old) seq text r r' (state_of new) (state_of new') call.step (subst (λ (s : ArchiveState). LabelStep s seq text r' (state_of new')) same.state call'.step) d d' in
-      (
+      let is = one.label (state_of old) seq text r r' (state_of new) (state_of new') call.step (subst (λ (s : ArchiveState). LabelStep s seq text r' (state_of new')) same.state call'.step) d d' in (
         told' ∙ ap plain_reply is.0 ∙ sym told,
         holds is.1 (unmoved r d (call.bytes honest) (subst (λ (q : Result (Unit {0}) ArchiveFault). LabelBytes before' q after') is.0 (call'.bytes honest'))),
       )
@@ -147,8 +140,7 @@ module _ {D E : Type 0} (g : disk.Ghosts D) (h : disk.Ghosts E) (one : OneWay) (
   upgrades (r, call, told) (r', call', told') =
       let d = plain_decided r reply told bound in
       let d' = plain_decided r' reply' told' bound' in
-      let is = one.upgrade (state_of old) r r' (state_of new) (state_of new') call.step (subst (λ (s : ArchiveState). UpgradeStep s r' (state_of new')) same.state call'.step) d d' in
-      (
+      let is = one.upgrade (state_of old) r r' (state_of new) (state_of new') call.step (subst (λ (s : ArchiveState). UpgradeStep s r' (state_of new')) same.state call'.step) d d' in (
         told' ∙ ap plain_reply is.0 ∙ sym told,
         holds is.1 (unmoved r d (call.bytes honest) (subst (λ (q : Result (Unit {0}) ArchiveFault). UpgradeBytes before' q after') is.0 (call'.bytes honest'))),
       )
@@ -163,8 +155,7 @@ module _ {D E : Type 0} (g : disk.Ghosts D) (h : disk.Ghosts E) (one : OneWay) (
       let d = retire_decided r reply told bound in
       let d' = retire_decided r' reply' told' bound' in
       let is = one.retire (state_of old) policy (decision_said r) (decision_said r') (state_of new) (state_of new') (r, call.step, refl)
-          (r', subst (λ (s : ArchiveState). RetireStep s policy r' (state_of new')) same.state call'.step, refl) (said_decided r d) (said_decided r' d') in
-      (
+      (r', subst (λ (s : ArchiveState). RetireStep s policy r' (state_of new')) same.state call'.step, refl) (said_decided r d) (said_decided r' d') in (
         told' ∙ retold r r' is.0 ∙ sym told,
         holds is.1 (moved r r' d is.0 (call.bytes honest) (subst (λ (s : ArchiveState). RetireBytes s before' r' after') same.state (call'.bytes honest'))),
       )

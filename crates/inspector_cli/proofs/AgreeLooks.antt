@@ -78,10 +78,10 @@ module _ {D E : Type 0} (g : disk.Ghosts D) (h : disk.Ghosts E) where
       → LooksAt g old seq r new → LooksAt h old' seq r' new' → IsDecided r → IsDecided r' → (r' ≡ r) × HoldSame g h new new'
   looks_agree old new old' new' seq (Ok image) (Ok image') honest honest' same runs sees sees' d d' =
       let is : Some image' ≡ Some image =
-          sym (sees'.own.bytes honest')
-          ∙ ap (λ (s : ArchiveState). image_at seq s.cases (contents_of h.seen old').images) same.state
-          ∙ ap (image_at seq (state_of old).cases) same.images
-          ∙ sees.own.bytes honest in
+      sym (sees'.own.bytes honest')
+      ∙ ap (λ (s : ArchiveState). image_at seq s.cases (contents_of h.seen old').images) same.state
+      ∙ ap (image_at seq (state_of old).cases) same.images
+      ∙ sees.own.bytes honest in
       (let e : Ok image' ≡ Ok image = cc in e, held_on old new old' new' same sees.state (sees.contents honest) sees'.state (sees'.contents honest'))
   looks_agree old new old' new' seq (Ok image) (Err f) honest honest' same runs sees call d d' =
       let u = unseen h old' new' seq f honest' (ap (λ (s : ArchiveState). s.stopped) same.state ∙ runs) call d' in
@@ -109,7 +109,7 @@ module _ {D E : Type 0} (g : disk.Ghosts D) (h : disk.Ghosts E) where
   gathers_agree (x ∷ xs) old new old' new' r r' honest honest' same runs (Ok image, mid, sees, inr (others, rest, is)) (Ok image', mid', sees', inr (others', rest', is')) d d' =
       let looks = looks_agree old mid old' mid' x.0 (Ok image) (Ok image') honest honest' same runs sees sees' tt tt in
       let more = gathers_agree xs mid new mid' new' others others' (sees.stays.honesty ∙ honest) (sees'.stays.honesty ∙ honest') looks.1 (ap (λ (s : ArchiveState). s.stopped) sees.state ∙ runs) rest rest'
-          (others_decided x.1 image others (subst IsDecided is d)) (others_decided x.1 image' others' (subst IsDecided is' d')) in
+      (others_decided x.1 image others (subst IsDecided is d)) (others_decided x.1 image' others' (subst IsDecided is' d')) in
       let one : image' ≡ image = (let e = looks.0 in cc) in
       (is' ∙ ap (λ (i : List ℕ). with_executable x.1 i others') one ∙ ap (with_executable x.1 image) more.0 ∙ sym is, more.1)
   gathers_agree (x ∷ xs) old new old' new' r r' honest honest' same runs (Ok image, mid, sees, inr more) (Err f', mid', call', is') d d' =
@@ -146,8 +146,8 @@ module _ {D E : Type 0} (g : disk.Ghosts D) (h : disk.Ghosts E) where
     core_agrees (r, inr all, told) (r', inl short, told') = absurd (subst IsDecided short.0 (beside_decided kind q b r' reply' told' bound'))
     core_agrees (r, inr all, told) (r', inr all', told') =
         let gathered = gathers_agree (wanted_of b (state_of old).cases) old new old' new' r r' honest honest' same runs all
-            (subst (λ (s : ArchiveState). Gathers h old' (wanted_of b s.cases) r' new') same.state all')
-            (beside_decided kind q b r reply told bound) (beside_decided kind q b r' reply' told' bound') in
+        (subst (λ (s : ArchiveState). Gathers h old' (wanted_of b s.cases) r' new') same.state all')
+        (beside_decided kind q b r reply told bound) (beside_decided kind q b r' reply' told' bound') in
         (beside_one kind q b r reply reply' told (subst (λ (x : Result (List ExecutableView) ArchiveFault). ToldBeside kind q b x reply') gathered.0 told') bound bound', gathered.1)
 
     beside_agrees : (o : Option CoreFault) → ShowsBeside g old kind q b o reply new → ShowsBeside h old' kind q b o reply' new' → (reply' ≡ reply) × HoldSame g h new new'

@@ -40,9 +40,9 @@ module _ {D E : Type 0} (g : disk.Ghosts D) (h : disk.Ghosts E) (lines : LinesAg
       let b = subst (λ (l : List ℕ). HasFree l → ⊥) is bound in
       let b' = subst (λ (l : List ℕ). HasFree l → ⊥) is' bound' in
       let line = lines naming old.archive s.archive old'.archive t.archive (said i.line) i.raw reply reply' both.honest both.honest' both.same answers answers'
-          (one_bound reply (front_bound reply more b)) (one_bound reply' (front_bound reply' more' b')) in
+      (one_bound reply (front_bound reply more b)) (one_bound reply' (front_bound reply' more' b')) in
       let others = items_agree items s ss t ts more more' (record { honest = moves.passes.honesty ∙ both.honest; honest' = moves'.passes.honesty ∙ both.honest'; same = line.1 }) rest rest'
-          (back_bound reply more b) (back_bound reply' more' b') in
+      (back_bound reply more b) (back_bound reply' more' b') in
       (is' ∙ ap (λ (l : List ℕ). l ++ more') line.0 ∙ ap (λ (l : List ℕ). reply ++ l) others.0 ∙ sym is, others.1)
 
   truncated_alike : (old new : Parts D) (old' new' : Parts E) (what : Said) (raw reply reply' : List ℕ) → Truncates g old what raw reply new → Truncates h old' what raw reply' new' → reply' ≡ reply
@@ -64,8 +64,8 @@ scripts_agree {D} {E} g h lines one_cut naming script text text' old new stages 
     let b = subst (λ (l : List ℕ). HasFree l → ⊥) all.text bound in
     let b' = subst (λ (l : List ℕ). HasFree l → ⊥) all'.text bound' in
     let items = items_agree g h lines naming all.items old stages old' stages' all.replies all'.replies (record { honest = honest; honest' = honest'; same = same }) all.run
-        (subst (λ (x : List Item). AnswersItems h naming old' x all'.replies stages') (sym cut.0) all'.run) (front_bound all.replies all.last b) (front_bound all'.replies all'.last b') in
+    (subst (λ (x : List Item). AnswersItems h naming old' x all'.replies stages') (sym cut.0) all'.run) (front_bound all.replies all.last b) (front_bound all'.replies all'.last b') in
     let end = end_agrees g h lines naming all.ending (last_stage old stages).archive new.archive (last_stage old' stages').archive new'.archive all.last all'.last items.1 all.final
-        (subst (λ (x : Ending). EndReplies h naming (last_stage old' stages').archive x all'.last new'.archive) (sym cut.1) all'.final)
-        (one_bound all.last (back_bound all.replies all.last b)) (one_bound all'.last (back_bound all'.replies all'.last b')) in
+    (subst (λ (x : Ending). EndReplies h naming (last_stage old' stages').archive x all'.last new'.archive) (sym cut.1) all'.final)
+    (one_bound all.last (back_bound all.replies all.last b)) (one_bound all'.last (back_bound all'.replies all'.last b')) in
     all'.text ∙ ap (λ (l : List ℕ). l ++ all'.last) items.0 ∙ ap (λ (l : List ℕ). all.replies ++ l) end ∙ sym all.text

@@ -99,8 +99,7 @@ module _ (b : ArchiveState) (slot k n : ℕ) (s : StreamFacts) (had : List ℕ) 
   piece_taken (Ok u) new step =
       let is = which step.0 step.1.1 in
       let low : s.len + k + n ≤ b.limit = subst (λ (t : StreamFacts). t.len + n ≤ b.limit) is step.1.2 in
-      let free = subst (λ (t : StreamFacts). FindsNoBlock (midway b slot s k had) t n → ⊥) is step.2 in
-      (
+      let free = subst (λ (t : StreamFacts). FindsNoBlock (midway b slot s k had) t n → ⊥) is step.2 in (
         s,
         stands,
         may_more low free,

@@ -8,7 +8,8 @@ ghost use Rattle.inspector_cli.specs.Runs.{WholeIsARun, FrontIsARun, StagesAreCl
 
 use disk_model::Disk;
 use intake::{
-    an_answer_is_one, calls_lead_from_mark_to_mark, found_after_a_stop, nothing_else_is_left, what_calls_leave,
+    an_answer_is_one, calls_lead_from_mark_to_mark, found_after_a_stop, nothing_else_is_left,
+    what_calls_leave,
 };
 use script_streams::lines_are_cut_one_way;
 

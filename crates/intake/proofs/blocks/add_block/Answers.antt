@@ -28,8 +28,7 @@ returns-clause-balance g c =
 pub returns-clause-lowest : goal.returns-clause-lowest
 returns-clause-lowest g c =
     let t = c.in-Some.ensures in
-    always c.write_data.result _
-    (
+    always c.write_data.result _ (
       c.in-Some.run'.start,
       (first_free c.args.free.now c.take.new.self c.in-Some.run' t, t.lowest),
       c.in-Ok.ensures.ok ∙ ap (λ (x : List ℕ). c.args.runs.now ++ x) (one_block c.args.free.now c.take.new.self c.in-Some.run' t),
