@@ -15,6 +15,7 @@ ghost use Rattle.memory_replies.specs.NamedWords.{named_view, place_view};
 use crate::attached::space_and_images;
 use crate::named::{Place, place_of};
 use crate::named_images::NamedImages;
+use crate::outcome::Outcome;
 use crate::words::tell_hex_word;
 use address_space::{AddressSpace, Attached};
 use backtrace::{Frame, Frames, Stop};
@@ -133,26 +134,26 @@ fn tell_thread<O: Output>(
 /// Tells the frames of a core's thread, by its number among the threads: `0 PC WHERE fp h ra h`, then `I PC WHERE fp h` for
 /// each other, and `stop REASON`. WHERE is `NAME+h` by the symbols of the executable that stands for the mapped file, or
 /// `?`. A core with fewer threads is answered by `no NoThread`.
-/// Says whether there was memory for it; where there was none, the reply is `no OutOfMemory`.
+/// Says what became of it.
 pub fn tell_bt<O: Output>(
     alloc: Global,
     reply: &mut Reply<'_, O>,
     core: &CoreImage<'_>,
     attached: &[Attached<'_>],
     thread: u64,
-) -> bool
+) -> Outcome
     ensures { TellsReply (telling O.Output reply.old reply.new)
         (AnswersWith result (spec.bt_answer (core_bytes core.now) (map attached_view attached.now) thread)) }
 {
     let Ok((space, images)) = space_and_images(alloc, core, attached) else {
         tell_no(reply, b"OutOfMemory");
-        return false;
+        return Outcome::OutOfMemory;
     };
     let Some(thread) = threads(core.notes()).thread(thread) else {
         tell_no(reply, b"NoThread");
-        return true;
+        return Outcome::Refused;
     };
     tell_thread(reply, &space, &images, thread);
     tell_ok(reply);
-    true
+    Outcome::Done
 }
