@@ -1,5 +1,7 @@
 -- What code's queries show of an image.
-use Rattle.std.proofs.Common.{◌≡◌, ◌⊎◌, inl, inr, ⊎_elim, Bool, true, false, List, [], ℕ, Option, Result, None, Some, length, map, take, refl, ap, sym, subst, ◌∙◌}
+use Rattle.std.proofs.Common.{◌≡◌, ◌⊎◌, inl, inr, ⊎_elim, Bool, true, false, true≢false, List, [], ℕ, Option, Result, Ok, Err, None, Some, length, map, take, refl, ap, sym, subst, ◌∙◌}
+use Rattle.std.proofs.lemmas.Bool.{false≢true}
+use Rattle.std.specs.Prelude.{is_ok, codes}
 use Rattle.std.specs.Prelude.{◌&&◌}
 use Rattle.std.specs.List.{filter, list_any}
 use Rattle.elf_view.specs.Sound.{IsHeaderWhole, IsSound}
@@ -15,20 +17,36 @@ use Rattle.image_replies.specs.Reasons.{core_reason}
 use Rattle.image_replies.specs.declared.core_image.CoreFault.{CoreFault}
 use Rattle.intake.specs.Parts.{Parts}
 use Rattle.journal_layout.specs.declared.entry.Kind.{Kind}
-use Rattle.memory_replies.specs.Answers.{Answers, AnswersWith, memory_reply}
+use Rattle.memory_replies.specs.Answers.{Answers, AnswersWith, is_done}
+use Rattle.memory_replies.specs.declared.outcome.Outcome.{Outcome}
+use Rattle.memory_replies.specs.declared.outcome.Outcome.TheVariants.{Done, Refused, OutOfMemory}
 use Rattle.memory_replies.specs.Symbol.{symbol_answer, executable_fault}
 use Rattle.script_lines.specs.Queries.{image_query, memory_query, ask_symbol}
 use Rattle.script_lines.specs.declared.query.ImageQuery.{ImageQuery}
 use Rattle.script_lines.specs.declared.query.ImageQuery.TheVariants.{Header, Notes, Threads, Registers, Process, Signal, AuxiliaryVector, Files, Maps}
 use Rattle.script_lines.specs.declared.query.MemoryQuery.{MemoryQuery}
 use Rattle.script_lines.specs.declared.query.MemoryQuery.TheVariants.{Dump, Find, Strings, Backtrace}
-use Rattle.script_streams.specs.Replies.{no_reply, reply_of}
+use Rattle.script_streams.specs.Replies.{IsOutcome, no_reply, reply_of}
 use Rattle.case_queries.specs.Inspecting.{Shows, ShowsBeside, ShowsCore, answer_of}
 
--- a reply of which it is known whether there was memory
-pub answered : (room : Bool) (answer : Result (List ℕ) (List ℕ)) (reply : List ℕ) → AnswersWith room answer reply → Answers answer reply
-answered true answer reply is = inl is
-answered false answer reply is = inr is
+-- a reply of which it is known what became of it
+pub answered : (outcome : Outcome) (answer : Result (List ℕ) (List ℕ)) (reply : List ℕ) → AnswersWith outcome answer reply → Answers answer reply
+answered Done answer reply is = inl is.1
+answered Refused answer reply is = inl is.1
+answered OutOfMemory answer reply is = inr is
+
+-- the outcome of a line whose answer is told
+pub outcome_is : (done : Bool) (answer : Result (List ℕ) (List ℕ)) → done ≡ is_ok answer → IsOutcome done (reply_of answer)
+outcome_is true (Ok lines) is = (lines, refl)
+outcome_is true (Err reason) is = absurd (true≢false is)
+outcome_is false (Ok lines) is = absurd (false≢true is)
+outcome_is false (Err reason) is = (reason, refl)
+
+-- the same where its work takes memory
+pub outcome_with : (outcome : Outcome) (answer : Result (List ℕ) (List ℕ)) (text : List ℕ) → AnswersWith outcome answer text → IsOutcome (is_done outcome) text
+outcome_with Done answer text told = subst (IsOutcome true) (sym told.1) (outcome_is true answer (sym told.0))
+outcome_with Refused answer text told = subst (IsOutcome false) (sym told.1) (outcome_is false answer (sym told.0))
+outcome_with OutOfMemory answer text told = (codes "OutOfMemory", told)
 
 module _ {D : Type 0} (g : disk.Ghosts D) (a : Parts D) (kind : Kind) (b : List ℕ) where
   -- what the image alone answers
@@ -54,9 +72,11 @@ module _ {D : Type 0} (g : disk.Ghosts D) (a : Parts D) (kind : Kind) (b : List 
   fault_shown q fault is = beside_shown q (no_reply (core_reason fault)) a (rw (sym is) (refl, refl))
 
   -- an executable's symbol
-  pub symbol_shown : (address : ℕ) (room : Bool) (reply : List ℕ) → ((room ≡ true) × (reply ≡ reply_of (symbol_answer b address))) ⊎ ((room ≡ false) × (reply ≡ memory_reply) × (executable_fault b ≡ None))
+  pub symbol_shown : (address : ℕ) (outcome : Outcome) (reply : List ℕ) → AnswersWith outcome (symbol_answer b address) reply → (outcome ≡ OutOfMemory → executable_fault b ≡ None)
       → Shows g a kind (ask_symbol address) b reply a
-  symbol_shown address room reply told = (⊎_elim (λ told. inl told.1) (λ short. inr (short.1, short.2)) told, refl)
+  symbol_shown address Done reply told none = (inl told.1, refl)
+  symbol_shown address Refused reply told none = (inl told.1, refl)
+  symbol_shown address OutOfMemory reply told none = (inr (told, none refl), refl)
 
   -- a core that has none, of which the first bytes show so much
   pub core_shown : (q : MemoryQuery) (front : List ℕ) (reply : List ℕ) (new : Parts D) → core_fault_of front ≡ core_fault_of b → None ≡ core_fault_of front → ShowsCore g a kind (memory_query q) b reply new → Shows g a kind (memory_query q) b reply new

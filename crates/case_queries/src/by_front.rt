@@ -1,6 +1,6 @@
 // The lines that ask the header, the notes and the mappings of an image: its first bytes answer them, where they are sound.
-ghost use Rattle.std.specs.Prelude.{◌≡◌, ℕ, [], List, Ok, take};
-ghost use Rattle.script_streams.specs.Replies.{TellsReply, TellsText, telling, reply_of};
+ghost use Rattle.std.specs.Prelude.{◌≡◌, ℕ, [], List, Ok, take, is_ok};
+ghost use Rattle.script_streams.specs.Replies.{TellsOutcome, TellsText, telling, reply_of};
 ghost use Rattle.script_lines.specs.Queries.{image_query, ask_maps};
 ghost use Rattle.script_lines.specs.declared.query.ImageQuery.{ImageQuery};
 ghost use Rattle.journal_layout.specs.declared.entry.Kind.{Kind};
@@ -55,7 +55,7 @@ fn a_front_answers()
 }
 
 // Answers a line of a case of this kind from the first bytes of its image, as many as it wants. They are kept for the lines that
-// ask the same case next.
+// ask the same case next. Says whether it was done; if not, it was refused.
 pub(crate) fn answer_by_front<O: Output, D: Disk>(
     seq: u32,
     kind: Kind,
@@ -63,47 +63,54 @@ pub(crate) fn answer_by_front<O: Output, D: Disk>(
     images: &mut Images,
     reply: &mut Reply<'_, O>,
     archive: &mut Archive<D>,
-)
+) -> bool
     requires kept { IsKept D.Disk archive.old images.old.kept }
     requires beside { AreKept D.Disk archive.old images.old.kept }
-    ensures answers { TellsReply (telling O.Output reply.old reply.new) (λ text. Asks D.Disk archive.old seq (image_query query.now) (Ok kind) text archive.new) }
+    ensures answers { TellsOutcome (telling O.Output reply.old reply.new) (λ text. Asks D.Disk archive.old seq (image_query query.now) (Ok kind) text archive.new) result }
     ensures kept { IsKept D.Disk archive.new images.new.kept }
     ensures beside { AreKept D.Disk archive.new images.new.kept }
 {
     let want = front_want(kind, query);
     match see_front(images.alloc, seq, want, images.kept.take(), archive) {
         Ok(seen) => {
-            tell_front(images.alloc, kind, query, &seen.image, reply);
+            let is_done = tell_front(images.alloc, kind, query, &seen.image, reply);
             images.kept = Some(seen);
+            is_done
         }
-        Err(fault) => tell_no(reply, reason(fault)),
+        Err(fault) => {
+            tell_no(reply, reason(fault));
+            false
+        }
     }
 }
 
-// Tells what any image answers of which these bytes are enough.
+// Tells what any image answers of which these bytes are enough. Says whether it is told; if not, the reply is `no REASON`.
 fn tell_front<O: Output>(
     alloc: Global,
     kind: Kind,
     query: &ImageQuery,
     front: &[u8],
     reply: &mut Reply<'_, O>,
-)
-    ensures { (image : List ℕ) → IsEnough (front_want kind query.now) front.now image
+) -> bool
+    ensures tells { (image : List ℕ) → IsEnough (front_want kind query.now) front.now image
         → TellsText (telling O.Output reply.old reply.new) (reply_of (answer_of kind (image_query query.now) image [])) }
+    ensures done { (image : List ℕ) → IsEnough (front_want kind query.now) front.now image
+        → result ≡ is_ok (answer_of kind (image_query query.now) image []) }
 {
     a_front_answers();
-    tell_image(alloc, kind, query, front, reply);
+    tell_image(alloc, kind, query, front, reply)
 }
 
-// Tells what an image alone answers.
+// Tells what an image alone answers. Says whether it is told; if not, the reply is `no REASON`.
 pub(crate) fn tell_image<O: Output>(
     alloc: Global,
     kind: Kind,
     query: &ImageQuery,
     image: &[u8],
     reply: &mut Reply<'_, O>,
-)
-    ensures { TellsText (telling O.Output reply.old reply.new) (reply_of (answer_of kind (image_query query.now) image.now [])) }
+) -> bool
+    ensures tells { TellsText (telling O.Output reply.old reply.new) (reply_of (answer_of kind (image_query query.now) image.now [])) }
+    ensures done { result ≡ is_ok (answer_of kind (image_query query.now) image.now []) }
 {
     match query {
         ImageQuery::Header => tell_header(reply, image, want_of(kind)),
@@ -118,12 +125,19 @@ pub(crate) fn tell_image<O: Output>(
     }
 }
 
-// Tells the mappings of a core.
-fn tell_mappings<O: Output>(alloc: Global, image: &[u8], reply: &mut Reply<'_, O>)
-    ensures { (kind : Kind) → TellsText (telling O.Output reply.old reply.new) (reply_of (answer_of kind ask_maps image.now [])) }
+// Tells the mappings of a core. Says whether they are told; if not, the reply is `no REASON`.
+fn tell_mappings<O: Output>(alloc: Global, image: &[u8], reply: &mut Reply<'_, O>) -> bool
+    ensures tells { (kind : Kind) → TellsText (telling O.Output reply.old reply.new) (reply_of (answer_of kind ask_maps image.now [])) }
+    ensures done { (kind : Kind) → result ≡ is_ok (answer_of kind ask_maps image.now []) }
 {
     match CoreImage::read(image) {
-        Ok(core) => tell_maps(alloc, reply, &core),
-        Err(fault) => tell_core_fault(reply, fault),
+        Ok(core) => {
+            tell_maps(alloc, reply, &core);
+            true
+        }
+        Err(fault) => {
+            tell_core_fault(reply, fault);
+            false
+        }
     }
 }

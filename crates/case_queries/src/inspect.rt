@@ -1,14 +1,14 @@
 // The answers to lines that ask an image.
 ghost use Rattle.std.specs.Prelude.{◌≡◌, false, IfOk, Ok};
 ghost use Rattle.intake.specs.Parts.{state_of};
-ghost use Rattle.script_streams.specs.Replies.{TellsReply, telling};
+ghost use Rattle.script_streams.specs.Replies.{TellsOutcome, telling};
 ghost use Rattle.script_lines.specs.Queries.{query_of, image_query, ask_notes, ask_symbol};
 ghost use Rattle.case_queries.specs.Inspecting.{Asks, Inspects, asked_view, kind_asked, kind_for};
 ghost use Rattle.case_queries.specs.Keeping.{AreKept};
 ghost use Rattle.case_queries.specs.Seeing.{IsKept};
 
 use crate::by_front::answer_by_front;
-use crate::kept_image::{Images, see_image};
+use crate::kept_image::{Images, kept_if, see_image};
 use crate::memory::answer_by_memory;
 use archive_replies::reason;
 use disk_model::Disk;
@@ -20,17 +20,18 @@ use script_streams::{Output, Reply, tell_no};
 
 /// Answers a line that asks the image of a case: tells what the layouts give for it, or the first reason why nothing is shown.
 /// The image is kept for the lines that ask the same case next, and with it the executables that are read beside it. Where
-/// memory was refused nothing is kept, so that the line made again has its room.
+/// memory was refused nothing is kept, so that the line made again has its room. Says whether it was done; if not, the reply is
+/// `no REASON`.
 pub fn answer_query<O: Output, D: Disk>(
     seq: u32,
     query: &Query,
     images: &mut Images,
     reply: &mut Reply<'_, O>,
     archive: &mut Archive<D>,
-)
+) -> bool
     requires kept { IsKept D.Disk archive.old images.old.kept }
     requires beside { AreKept D.Disk archive.old images.old.kept }
-    ensures answers { TellsReply (telling O.Output reply.old reply.new) (λ text. Inspects D.Disk archive.old seq (query_of query.now) text archive.new) }
+    ensures answers { TellsOutcome (telling O.Output reply.old reply.new) (λ text. Inspects D.Disk archive.old seq (query_of query.now) text archive.new) result }
     ensures kept { IsKept D.Disk archive.new images.new.kept }
     ensures beside { AreKept D.Disk archive.new images.new.kept }
 {
@@ -38,7 +39,7 @@ pub fn answer_query<O: Output, D: Disk>(
         Ok(kind) => kind,
         Err(reason) => {
             tell_no(reply, reason);
-            return;
+            return false;
         }
     };
     match query {
@@ -48,7 +49,7 @@ pub fn answer_query<O: Output, D: Disk>(
     }
 }
 
-// Answers a line that asks the symbol of an address, from the whole image of an executable.
+// Answers a line that asks the symbol of an address, from the whole image of an executable. Says whether it was done.
 fn answer_symbol<O: Output, D: Disk>(
     seq: u32,
     kind: Kind,
@@ -56,21 +57,23 @@ fn answer_symbol<O: Output, D: Disk>(
     images: &mut Images,
     reply: &mut Reply<'_, O>,
     archive: &mut Archive<D>,
-)
+) -> bool
     requires kept { IsKept D.Disk archive.old images.old.kept }
     requires beside { AreKept D.Disk archive.old images.old.kept }
-    ensures answers { TellsReply (telling O.Output reply.old reply.new) (λ text. Asks D.Disk archive.old seq (ask_symbol address) (Ok kind) text archive.new) }
+    ensures answers { TellsOutcome (telling O.Output reply.old reply.new) (λ text. Asks D.Disk archive.old seq (ask_symbol address) (Ok kind) text archive.new) result }
     ensures kept { IsKept D.Disk archive.new images.new.kept }
     ensures beside { AreKept D.Disk archive.new images.new.kept }
 {
     match see_image(seq, images.kept.take(), archive) {
         Ok(seen) => {
-            let has_room = tell_symbol(images.alloc, reply, &seen.image, address);
-            if has_room {
-                images.kept = Some(seen);
-            }
+            let outcome = tell_symbol(images.alloc, reply, &seen.image, address);
+            images.kept = kept_if(outcome.had_memory(), seen);
+            outcome.is_done()
         }
-        Err(fault) => tell_no(reply, reason(fault)),
+        Err(fault) => {
+            tell_no(reply, reason(fault));
+            false
+        }
     }
 }
 

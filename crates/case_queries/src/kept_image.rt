@@ -67,3 +67,10 @@ fn of_case(seq: u32, kept: Option<KeptImage>) -> Option<KeptImage>
     }
     Some(image)
 }
+
+// An image, if there is memory to keep it.
+pub(crate) fn kept_if(has_memory: bool, image: KeptImage) -> Option<KeptImage>
+    ensures { IfSome result (λ kept. kept ≡ image) }
+{
+    if has_memory { Some(image) } else { None }
+}

@@ -2,8 +2,8 @@
 ghost use Rattle.std.specs.Prelude.{◌≡◌, ℕ, List, Ok, false, map, Some, IfOk};
 ghost use Rattle.image_replies.specs.CoreWords.{core_bytes};
 ghost use Rattle.script_lines.specs.Queries.{memory_query};
-ghost use Rattle.script_streams.specs.Replies.{TellsReply, telling};
-ghost use Rattle.memory_replies.specs.Answers.{AnswersWith};
+ghost use Rattle.script_streams.specs.Replies.{TellsOutcome, TellsReply, telling};
+ghost use Rattle.memory_replies.specs.Answers.{AnswersWith, is_done};
 ghost use Rattle.memory_replies.specs.Memory.{attached_view};
 ghost use Rattle.intake.specs.Parts.{state_of};
 ghost use Rattle.case_queries.specs.Gathering.{GathersAll, wanted_of};
@@ -14,7 +14,7 @@ ghost use Rattle.case_queries.specs.Seeing.{IsKept};
 ghost use Rattle.case_queries.specs.Windows.{IsSeenBy};
 
 use crate::gather::{Executable, gather, lent};
-use crate::kept_image::Images;
+use crate::kept_image::{Images, kept_if};
 use crate::window::{lent_window, see_memory};
 use address_space::Attached;
 use archive_replies::reason;
@@ -23,13 +23,13 @@ use image_replies::{CoreImage, a_sound_front_answers, tell_core_fault};
 use intake::{Archive, ArchiveFault};
 use journal_layout::Kind;
 use memory_replies::{
-    Window, a_sound_front_names_the_files, tell_bt, tell_dump, tell_find, tell_strings,
+    Outcome, Window, a_sound_front_names_the_files, tell_bt, tell_dump, tell_find, tell_strings,
 };
 use script_lines::MemoryQuery;
 use script_streams::{Output, Reply, tell_no};
 use std::alloc::Global;
 
-// Answers a line over a core's memory of a case of this kind.
+// Answers a line over a core's memory of a case of this kind. Says whether it was done; if not, it was refused.
 pub(crate) fn answer_by_memory<O: Output, D: Disk>(
     seq: u32,
     kind: Kind,
@@ -37,18 +37,18 @@ pub(crate) fn answer_by_memory<O: Output, D: Disk>(
     images: &mut Images,
     reply: &mut Reply<'_, O>,
     archive: &mut Archive<D>,
-)
+) -> bool
     requires runs { archive.old.stopped ≡ false }
     requires kept { IsKept D.Disk archive.old images.old.kept }
     requires beside { AreKept D.Disk archive.old images.old.kept }
-    ensures answers { TellsReply (telling O.Output reply.old reply.new) (λ text. Asks D.Disk archive.old seq (memory_query query.now) (Ok kind) text archive.new) }
+    ensures answers { TellsOutcome (telling O.Output reply.old reply.new) (λ text. Asks D.Disk archive.old seq (memory_query query.now) (Ok kind) text archive.new) result }
     ensures kept { IsKept D.Disk archive.new images.new.kept }
     ensures beside { AreKept D.Disk archive.new images.new.kept }
 {
     match see_memory(images.alloc, seq, query, images.kept.take(), archive) {
         Ok(seen) => {
             let mut seen = seen;
-            let has_room = answer_memory(
+            let outcome = answer_memory(
                 images.alloc,
                 kind,
                 query,
@@ -58,16 +58,18 @@ pub(crate) fn answer_by_memory<O: Output, D: Disk>(
                 reply,
                 archive,
             );
-            if has_room {
-                images.kept = Some(seen.kept);
-            }
+            images.kept = kept_if(outcome.had_memory(), seen.kept);
+            outcome.is_done()
         }
-        Err(fault) => tell_no(reply, reason(fault)),
+        Err(fault) => {
+            tell_no(reply, reason(fault));
+            false
+        }
     }
 }
 
 // The same of an image of which this much is seen, with the executables that its process had mapped, where they are stored. They
-// are kept for the lines over the same core that come next. Says whether there was memory for it.
+// are kept for the lines over the same core that come next. Says what became of it.
 fn answer_memory<O: Output, D: Disk>(
     alloc: Global,
     kind: Kind,
@@ -77,11 +79,11 @@ fn answer_memory<O: Output, D: Disk>(
     kept: &mut Option<Vec<Executable>>,
     reply: &mut Reply<'_, O>,
     archive: &mut Archive<D>,
-) -> bool
+) -> Outcome
     requires runs { archive.old.stopped ≡ false }
     requires kept { StayGathered D.Disk archive.old front.now kept.old }
     ensures answers { (image : List ℕ) → IsSeenBy query.now front.now window.entry.size window.entry.at window.entry.bytes.now image
-        → TellsReply (telling O.Output reply.old reply.new) (λ text. Shows D.Disk archive.old kind (memory_query query.now) image text archive.new) }
+        → TellsOutcome (telling O.Output reply.old reply.new) (λ text. Shows D.Disk archive.old kind (memory_query query.now) image text archive.new) (is_done result) }
     ensures kept { StayGathered D.Disk archive.new front.now kept.new }
 {
     a_sound_front_answers();
@@ -89,7 +91,7 @@ fn answer_memory<O: Output, D: Disk>(
         Ok(core) => answer_core(alloc, kind, query, &core, window, kept, reply, archive),
         Err(fault) => {
             tell_core_fault(reply, fault);
-            true
+            Outcome::Refused
         }
     }
 }
@@ -104,24 +106,34 @@ fn answer_core<O: Output, D: Disk>(
     kept: &mut Option<Vec<Executable>>,
     reply: &mut Reply<'_, O>,
     archive: &mut Archive<D>,
-) -> bool
+) -> Outcome
     requires runs { archive.old.stopped ≡ false }
     requires kept { StayGathered D.Disk archive.old (core_bytes core.now) kept.old }
     ensures answers { (image : List ℕ) → IsSeenBy query.now (core_bytes core.now) window.entry.size window.entry.at window.entry.bytes.now image
-        → TellsReply (telling O.Output reply.old reply.new) (λ text. ShowsCore D.Disk archive.old kind (memory_query query.now) image text archive.new) }
+        → TellsOutcome (telling O.Output reply.old reply.new) (λ text. ShowsCore D.Disk archive.old kind (memory_query query.now) image text archive.new) (is_done result) }
     ensures kept { StayGathered D.Disk archive.new (core_bytes core.now) kept.new }
 {
     a_sound_front_names_the_files();
     match gathered(alloc, core, kept.take(), archive) {
         Ok(executables) => {
-            let has_room = tell_beside(alloc, kind, query, core, window, &executables, reply);
+            let outcome = tell_beside(alloc, kind, query, core, window, &executables, reply);
             *kept = Some(executables);
-            has_room
+            outcome
         }
-        Err(fault) => {
-            tell_no(reply, reason(fault));
-            false
+        Err(refusal) => {
+            tell_no(reply, reason(refusal));
+            refused_by(refusal)
         }
+    }
+}
+
+// What became of a line that the archive refused so.
+fn refused_by(fault: ArchiveFault) -> Outcome
+    ensures { is_done result ≡ false }
+{
+    match fault {
+        ArchiveFault::OutOfMemory => Outcome::OutOfMemory,
+        _ => Outcome::Refused,
     }
 }
 
@@ -143,7 +155,7 @@ fn gathered<D: Disk>(
     }
 }
 
-// Tells what a core and these executables answer. Says whether there was memory for it.
+// Tells what a core and these executables answer. Says what became of it.
 fn tell_beside<O: Output>(
     alloc: Global,
     kind: Kind,
@@ -152,7 +164,7 @@ fn tell_beside<O: Output>(
     window: Window<'_>,
     executables: &[Executable],
     reply: &mut Reply<'_, O>,
-) -> bool
+) -> Outcome
     ensures { (image : List ℕ) → IsSeenBy query.now (core_bytes core.now) window.entry.size window.entry.at window.entry.bytes.now image
         → TellsReply (telling O.Output reply.old reply.new) (AnswersWith result (answer_of kind (memory_query query.now) image (map executable_view executables.now))) }
 {
@@ -160,7 +172,7 @@ fn tell_beside<O: Output>(
         Ok(attached) => tell_memory(alloc, kind, query, core, window, &attached, reply),
         Err(_) => {
             tell_no(reply, b"OutOfMemory");
-            false
+            Outcome::OutOfMemory
         }
     }
 }
@@ -173,7 +185,7 @@ fn tell_memory<O: Output>(
     window: Window<'_>,
     attached: &[Attached<'_>],
     reply: &mut Reply<'_, O>,
-) -> bool
+) -> Outcome
     ensures { (image : List ℕ) → IsSeenBy query.now (core_bytes core.now) window.entry.size window.entry.at window.entry.bytes.now image
         → TellsReply (telling O.Output reply.old reply.new) (AnswersWith result (answer_of kind (memory_query query.now) image (map attached_view attached.now))) }
 {

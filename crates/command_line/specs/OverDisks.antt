@@ -1,8 +1,9 @@
 -- What the program does over the archive on a disk, by the values that its words say.
-use Rattle.std.specs.Prelude.{◌≡◌, ◌⊎◌, ℕ, List, [], ◌∷◌, ◌++◌, Option, None, Some, Result, Ok, Err, Vec}
+use Rattle.std.specs.Prelude.{◌≡◌, ◌⊎◌, ℕ, Bool, List, [], Option, None, Result, Ok, Err, Vec}
 use Rattle.std.specs.Global.{Global}
 use Rattle.std.specs.Io.KnownBytes.{Keeps}
 use Rattle.disk_model.specs.declared.disk.Disk as disk
+use Rattle.inspector_cli.specs.Asking.{AsksAlone, as_session, line_streams}
 use Rattle.inspector_cli.specs.Copying.{CopiesImage}
 use Rattle.inspector_cli.specs.Extracting.{ReadsImage}
 use Rattle.inspector_cli.specs.Life.{LifeEnds, RunsOver, StoresOver}
@@ -14,6 +15,8 @@ use Rattle.inspector_cli.specs.declared.session.LifeFault.{LifeFault}
 use Rattle.inspector_cli.specs.declared.session.StoreOutcome.{StoreOutcome}
 use Rattle.intake.specs.Calls.{OpenCall}
 use Rattle.intake.specs.Parts.{Parts}
+use Rattle.script_lines.specs.Said.{Said, said}
+use Rattle.script_streams.specs.Lines.{IsLine}
 use Rattle.stream_names.specs.Commands.{stream_found}
 use Rattle.stream_names.specs.declared.naming.Naming.{Naming}
 use Rattle.command_line.specs.declared.failures.Failure.{Failure}
@@ -21,7 +24,7 @@ use Rattle.command_line.specs.declared.failures.Failure.TheVariants.{Refused}
 use Rattle.command_line.specs.declared.failures.Refusal.{Refusal}
 use Rattle.command_line.specs.declared.failures.Refusal.TheVariants.{OutOfMemory, Open}
 use Rattle.command_line.specs.declared.storing.StoreRequest.{StoreRequest}
-use Rattle.command_line.specs.Told.{run_told, store_told, copy_told, image_told}
+use Rattle.command_line.specs.Told.{run_told, ask_told, store_told, copy_told, image_told}
 
 -- A session over the archive on a disk, and how its end is told.
 abbrev pub RunsOnDisk : {D : Type 0} → disk.Ghosts D → ℕ → Naming → Streams → D → Result (Unit {0}) Failure → D → Type 0
@@ -41,11 +44,15 @@ pub record AreStreams (file before after : Option (List ℕ)) (count count' : �
   pub lost : t.lost ≡ count
   pub lost' : t.lost' ≡ count'
 
--- One line is carried out over the archive on a disk.
-abbrev pub AnswersLine : {D : Type 0} → disk.Ghosts D → List ℕ → Naming → Option (List ℕ) → Option (List ℕ) → ℕ → ℕ → D → Result (Unit {0}) Failure → D → Type 0
-AnswersLine g line naming taken taken' lost lost' before r after =
-    IsNotBegun taken taken' lost lost' before r after
-    ⊎ ((t : Streams) × AreStreams (Some (line ++ 10 ∷ [])) taken taken' lost lost' t × RunsOnDisk g 0 naming t before r after)
+-- One line that says this is carried out over the archive on a disk: it is done, and the reply shows so, or it is refused, and the
+-- reply says why; and it is a session over that line.
+abbrev pub AnswersLine : {D : Type 0} → disk.Ghosts D → Said → Option (List ℕ) → Option (List ℕ) → ℕ → ℕ → D → Result (Unit {0}) Failure → D → Type 0
+AnswersLine g what taken taken' lost lost' before r after =
+    (asked : Result Bool LifeFault)
+    × LifeEnds g 0 (line_streams [] asked taken taken' lost lost') before asked after (AsksAlone g what taken taken')
+    × ((naming : Naming) (line : List ℕ) → IsLine line → said line ≡ what
+    → RunsOnDisk g 0 naming (line_streams line asked taken taken' lost lost') before (run_told (as_session asked)) after)
+    × (r ≡ ask_told asked)
 
 -- A stream is stored in the archive on a disk, as a request says, and how that is told.
 abbrev pub StoresOnDisk : {D : Type 0} → disk.Ghosts D → StoreRequest → Streams → D → Result (Unit {0}) Failure → D → Type 0

@@ -1,5 +1,5 @@
 -- How the end of what is done over a disk is told.
-use Rattle.std.specs.Prelude.{ℕ, Bool, ◌&&◌, Result, Ok, Err, is_some, if◌then◌else◌, Vec}
+use Rattle.std.specs.Prelude.{ℕ, Bool, true, false, ◌&&◌, Result, Ok, Err, is_some, if◌then◌else◌, Vec}
 use Rattle.std.specs.Global.{Global}
 use Rattle.inspector_cli.specs.declared.copying.CopyFault.{CopyFault}
 use Rattle.inspector_cli.specs.declared.copying.CopyFault.TheVariants as copy
@@ -24,6 +24,12 @@ life_failure (life.Session f) = Faulted f
 abbrev pub run_told : Result (Unit {0}) LifeFault → Result (Unit {0}) Failure
 run_told (Ok u) = Ok tt
 run_told (Err f) = Err (life_failure f)
+
+-- A question is done, or its reply has said why it is refused.
+abbrev pub ask_told : Result Bool LifeFault → Result (Unit {0}) Failure
+ask_told (Ok true) = Ok tt
+ask_told (Ok false) = Err Told
+ask_told (Err f) = Err (life_failure f)
 
 -- what is told of a store: it is done where the case is stored, and neither its room nor its label was refused
 abbrev pub store_told : Result StoreOutcome LifeFault → Result (Unit {0}) Failure

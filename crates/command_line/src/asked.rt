@@ -7,9 +7,12 @@ use arrayvec::ArrayVec;
 use clap::ArgMatches;
 use journal_layout::Shape;
 use retention::Policy;
-use script_lines::{Command, Request, parse_text};
+use script_lines::{Call, Question, parse_question};
 use script_words::parse_number;
 use std::alloc::{AllocError, Global};
+
+// The most bytes of a line of a script.
+const LONGEST_LINE: usize = 1024;
 
 // What the program is asked to do. Files are named by their paths.
 #[derive(Drop)]
@@ -42,10 +45,10 @@ pub(crate) enum Asked<'a> {
         case: &'a str,
         file: Option<&'a str>,
     },
-    // One line of a script, and its reply.
+    // What one line of a script asks, and its reply.
     Ask {
         archive: Place<'a>,
-        line: Vec<u8>,
+        question: Question,
     },
     // Nothing.
     Nothing,
@@ -111,11 +114,11 @@ pub(crate) fn read_words<'a>(alloc: Global, words: &'a [String]) -> Result<Asked
         }),
         Some(("list", found)) => Ok(Asked::Ask {
             archive: place_of(found)?,
-            line: b"list".to_vec(alloc)?,
+            question: Question::Call(Call::ListCases),
         }),
         Some(("ask", found)) => Ok(Asked::Ask {
             archive: place_of(found)?,
-            line: asked_line(alloc, found)?,
+            question: question_of(alloc, found)?,
         }),
         _ => Ok(Asked::Nothing),
     }
@@ -215,10 +218,19 @@ fn label_of(alloc: Global, found: &ArgMatches<'_>) -> Result<Option<ArrayVec<u8,
     };
     let mut line = b"label 1 ".to_vec(alloc)?;
     push_value(&mut line, text, found.get_flag("escape"))?;
-    match parse_text(&line) {
-        Command::Plain(Request::Label { label, .. }) => Ok(Some(label)),
+    match parse_question(&line) {
+        Some(Question::Call(Call::Label { label, .. })) => Ok(Some(label)),
         _ => Err(Refusal::BadLine),
     }
+}
+
+// What the line of a script that these words are asks.
+fn question_of(alloc: Global, found: &ArgMatches<'_>) -> Result<Question, Refusal> {
+    let line = asked_line(alloc, found)?;
+    if line.len() > LONGEST_LINE {
+        return Err(Refusal::LineTooLong);
+    }
+    parse_question(&line).ok_or(Refusal::BadLine)
 }
 
 // The line of a script that these words are.

@@ -2,7 +2,7 @@
 ghost use Rattle.std.specs.Prelude.{◌≡◌, None, ◌<◌, ◌≤◌, length, IfOk};
 
 use failure_count::after_failure;
-use script_streams::{Output, Reply, StreamFault};
+use script_streams::{Output, StreamFault, write_whole};
 use std::alloc::Global;
 
 // An output that takes a reply and holds it. So whoever reads the reply slowly keeps nobody from the archive. Where there is no
@@ -13,7 +13,6 @@ pub(crate) struct Held<'a, O: Output> {
     text: Vec<u8>,
     // There was no memory.
     is_let_go: bool,
-    end: LastLine,
     failures: u64,
 }
 
@@ -23,24 +22,20 @@ impl<'a, O: Output> Held<'a, O> {
             output,
             text: Vec::new(alloc),
             is_let_go: false,
-            end: LastLine::new(),
             failures: 0,
         }
     }
 
-    // Writes what is held. Says whether the last line of the reply is not `no REASON`.
-    pub(crate) fn finish(mut self) -> Result<bool, StreamFault> {
-        self.let_go()?;
-        Ok(!self.end.was_refusal)
+    // Writes what is held.
+    pub(crate) fn finish(mut self) -> Result<(), StreamFault> {
+        self.let_go()
     }
 
     // Writes what is held, and holds no more.
     fn let_go(&mut self) -> Result<(), StreamFault>
         ensures failures { self.new.failures ≡ self.old.failures }
     {
-        let mut reply = Reply::new(self.output);
-        reply.tell(&self.text);
-        let written = reply.finish();
+        let written = write_whole(self.output, &self.text);
         self.text.clear();
         self.is_let_go = true;
         written
@@ -69,56 +64,11 @@ impl<O: Output> Output for Held<'_, O> {
 
     fn write(&mut self, from: &[u8]) -> Result<usize, StreamFault> {
         match self.take(from) {
-            Ok(count) => {
-                self.end.read(&from[..count]);
-                Ok(count)
-            }
+            Ok(count) => Ok(count),
             Err(fault) => {
                 self.failures = after_failure(self.failures);
                 Err(fault)
             }
-        }
-    }
-}
-
-// What the last line of a refused reply begins with.
-const REFUSAL: [u8; 3] = *b"no ";
-
-// The last line of a text that comes in pieces.
-#[derive(Drop)]
-struct LastLine {
-    // How many bytes of the line that is not ended yet agree with the front of a refusal. None where one does not.
-    agreeing: Option<usize>,
-    // The last line that is ended is a refusal.
-    was_refusal: bool,
-}
-
-impl LastLine {
-    fn new() -> LastLine {
-        LastLine {
-            agreeing: Some(0),
-            was_refusal: false,
-        }
-    }
-
-    fn read(&mut self, text: &[u8]) {
-        for byte in text {
-            self.read_byte(*byte);
-        }
-    }
-
-    fn read_byte(&mut self, byte: u8) {
-        if byte == b'\n' {
-            self.was_refusal = self.agreeing == Some(REFUSAL.len());
-            self.agreeing = Some(0);
-            return;
-        }
-        if let Some(count) = self.agreeing {
-            self.agreeing = match REFUSAL.get(count) {
-                None => Some(count),
-                Some(wanted) if *wanted == byte => Some(count + 1),
-                Some(_) => None,
-            };
         }
     }
 }

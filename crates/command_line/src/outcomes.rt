@@ -1,6 +1,6 @@
 // How the end of what is done over the archive on a disk is told.
 ghost use Rattle.std.specs.Prelude.{◌≡◌};
-ghost use Rattle.command_line.specs.Told.{life_failure, run_told, store_told, image_told, copy_told};
+ghost use Rattle.command_line.specs.Told.{life_failure, run_told, ask_told, store_told, image_told, copy_told};
 
 use crate::failures::{Failure, Refusal};
 use inspector_cli::{CopyFault, ImageFault, LifeFault, SessionFault, StoreOutcome};
@@ -12,6 +12,17 @@ pub(crate) fn run_told(ended: Result<(), LifeFault>) -> Result<(), Failure>
 {
     match ended {
         Ok(()) => Ok(()),
+        Err(fault) => Err(life_failure(fault)),
+    }
+}
+
+// How the end of a question is told: its reply has said why it is refused.
+pub(crate) fn ask_told(asked: Result<bool, LifeFault>) -> Result<(), Failure>
+    ensures { result ≡ ask_told asked }
+{
+    match asked {
+        Ok(true) => Ok(()),
+        Ok(false) => Err(Failure::Told),
         Err(fault) => Err(life_failure(fault)),
     }
 }

@@ -1,14 +1,15 @@
 // What `run`, `ask` and `extract` do over the archive on a disk.
 ghost use Rattle.std.specs.Prelude.{◌≡◌, ◌^◌, ◌-◌, option_map};
+ghost use Rattle.script_lines.specs.Commands.{question_said};
 ghost use Rattle.inspector_cli.specs.Session.{streams_of};
 ghost use Rattle.command_line.specs.OverDisks.{RunsOnDisk, AnswersLine, CopiesOnDisk, ReadsOnDisk, LooksOnDisk};
 
 use crate::failures::{Failure, Refusal};
-use crate::outcomes::{copy_told, image_told, run_told};
+use crate::outcomes::{ask_told, copy_told, image_told, run_told};
 use disk_model::Disk;
-use inspector_cli::{Naming, copy_image, open_and_run, read_image};
+use inspector_cli::{Naming, Question, copy_image, open_and_ask, open_and_run, read_image};
 use intake::{Archive, Settings};
-use script_streams::{Input, Output, ReadInput};
+use script_streams::{Input, Output};
 use script_words::parse_case_number;
 use std::alloc::Global;
 
@@ -27,22 +28,17 @@ pub(crate) fn run_over<D: Disk, I: Input, O: Output>(
     (run_told(ended), disk)
 }
 
-// Opens the archive on a disk, carries out one line of a script over it, and hands the disk back.
-pub(crate) fn answer_over<D: Disk, O: Output>(
+// Opens the archive on a disk, answers one question over it, and hands the disk back. The reply says why a question is refused.
+pub(crate) fn ask_over<D: Disk, O: Output>(
     alloc: Global,
     disk: D,
-    line: Vec<u8>,
-    naming: &Naming,
+    question: Question,
     output: &mut O,
 ) -> (Result<(), Failure>, D)
-    ensures { AnswersLine D.Disk line.items naming.now (O.taken output.old) (O.taken output.new) (O.failures output.old) (O.failures output.new) disk result.0 result.1 }
+    ensures { AnswersLine D.Disk (question_said question) (O.taken output.old) (O.taken output.new) (O.failures output.old) (O.failures output.new) disk result.0 result.1 }
 {
-    let mut script = line;
-    let Ok(()) = script.extend_from_slice(b"\n") else {
-        return (Err(Failure::Refused(Refusal::OutOfMemory)), disk);
-    };
-    let mut input = ReadInput::new(script.as_slice());
-    run_over(alloc, disk, 0, naming, &mut input, output)
+    let (asked, disk) = open_and_ask(alloc, disk, Settings { limit: 0 }, question, output);
+    (ask_told(asked), disk)
 }
 
 // The number of a case, as a word has it. Whoever holds it can't change it.

@@ -1,25 +1,22 @@
 // What needs no script: an image out of its archive, and one line with its reply.
 ghost use Rattle.std.specs.Prelude.{◌≡◌};
-ghost use Rattle.script_lines.specs.Said.{said, only_looks};
+ghost use Rattle.script_lines.specs.Commands.{question_said};
+ghost use Rattle.script_lines.specs.Said.{only_looks};
 ghost use Rattle.command_line.specs.Told.{access_by};
 
 use crate::archives::{Access, take_disk};
 use crate::asked::Place;
 use crate::failures::{Failure, Refusal, Word};
 use crate::held::Held;
-use crate::over_disk::{CaseNumber, answer_over, copy_over, read_over};
+use crate::over_disk::{CaseNumber, ask_over, copy_over, read_over};
 use disk_model::FileFault;
-use inspector_cli::{Naming, SessionFault, is_question, only_looks, write_image};
-use name_template::Template;
+use inspector_cli::{Question, SessionFault, write_image};
 use script_streams::{Output, WriteOutput};
 use std::fs;
 use std::fs::{File, Permissions};
 use std::io::ErrorKind;
 use std::os::unix::fs::{OpenOptionsExt, PermissionsExt};
 use std::rt::Files;
-
-// The most bytes of a line of a script.
-const LONGEST_LINE: usize = 1024;
 
 // Its owner may read and write a file, and nobody else.
 const OWNER_ALONE: u32 = 0o600;
@@ -135,48 +132,30 @@ fn new_file<R: Files<File = File>>(rt: &R, path: &str) -> Result<File, FileFault
     Ok(file)
 }
 
-// Carries out one line of a script, and writes its reply once the archive is let go.
+// Answers one question, and writes its reply once the archive is let go.
 pub(crate) fn ask<R: AllocGlobal + Files<File = File>, O: Output>(
     rt: &R,
     place: Place<'_>,
-    line: Vec<u8>,
+    question: Question,
     output: &mut O,
 ) -> Result<(), Failure> {
-    if line.len() > LONGEST_LINE {
-        return Err(Failure::Refused(Refusal::LineTooLong));
-    }
-    if !is_question(&line) {
-        return Err(Failure::Refused(Refusal::BadLine));
-    }
-    let naming = no_naming()?;
-    let disk = take_disk(rt, place, access_of(&line))?;
-    let mut replies = Held::new(rt.alloc(), output);
-    let (answered, disk) = answer_over(rt.alloc(), disk, line, &naming, &mut replies);
+    let disk = take_disk(rt, place, access_of(&question))?;
+    let mut reply = Held::new(rt.alloc(), output);
+    let (asked, disk) = ask_over(rt.alloc(), disk, question, &mut reply);
     drop(disk);
-    answered?;
-    match replies.finish() {
-        Ok(true) => Ok(()),
-        Ok(false) => Err(Failure::Told),
-        Err(_) => Err(Failure::Faulted(SessionFault::WriteFailed)),
-    }
+    let Ok(()) = reply.finish() else {
+        return Err(Failure::Faulted(SessionFault::WriteFailed));
+    };
+    asked
 }
 
-// A line that changes nothing needs no right to write the archive's file.
-fn access_of(line: &[u8]) -> Access
-    ensures { result ≡ access_by (only_looks (said line.now)) }
+// A question that changes nothing needs no right to write the archive's file.
+fn access_of(question: &Question) -> Access
+    ensures { result ≡ access_by (only_looks (question_said question.now)) }
 {
-    if only_looks(line) {
+    if question.only_looks() {
         Access::Looking
     } else {
         Access::Changing
     }
-}
-
-// No core is named by one line.
-fn no_naming() -> Result<Naming, Refusal> {
-    let template = Template::parse(b"core")?;
-    Ok(Naming {
-        template,
-        uses_pid: false,
-    })
 }

@@ -124,7 +124,7 @@ fn answer_asked<R: AllocGlobal + Files<File = File>, I: Read, O: Output>(
             case,
             file,
         } => extract(rt, archive, case, file, output),
-        Asked::Ask { archive, line } => ask(rt, archive, line, output),
+        Asked::Ask { archive, question } => ask(rt, archive, question, output),
         Asked::Nothing => Ok(()),
     }
 }

@@ -1,5 +1,5 @@
 // The reply to `auxv`.
-ghost use Rattle.std.specs.Prelude.{◌≡◌};
+ghost use Rattle.std.specs.Prelude.{◌≡◌, is_ok};
 ghost use Rattle.std.specs.List.{flat_map};
 ghost use Rattle.std.specs.Option.{option_map, option_copied};
 ghost use Rattle.core_notes.specs.DescriptorWords.{auxv_bytes, pairs_left};
@@ -13,27 +13,35 @@ use core_notes::{Auxv, AuxvPair, AuxvPairs};
 use script_streams::{Output, Reply, tell_no, tell_ok};
 
 /// Tells the auxiliary vector of the process of a core, or the first that holds of: the core or a typed note is at fault,
-/// it has no NT_AUXV (`no Missing`).
-pub fn tell_auxv<O: Output>(reply: &mut Reply<'_, O>, image: &[u8])
-    ensures { TellsText (telling O.Output reply.old reply.new) (reply_of (spec.auxv_answer image.now)) }
+/// it has no NT_AUXV (`no Missing`). Says whether it is told; if not, the reply is `no REASON`.
+pub fn tell_auxv<O: Output>(reply: &mut Reply<'_, O>, image: &[u8]) -> bool
+    ensures tells { TellsText (telling O.Output reply.old reply.new) (reply_of (spec.auxv_answer image.now)) }
+    ensures done { result ≡ is_ok (spec.auxv_answer image.now) }
 {
     match CoreImage::read(image) {
         Ok(core) => tell_found(reply, core.notes().auxv()),
-        Err(fault) => tell_core_fault(reply, fault),
+        Err(fault) => {
+            tell_core_fault(reply, fault);
+            false
+        }
     }
 }
 
-/// Tells an auxiliary vector, if it is there.
-fn tell_found<O: Output>(reply: &mut Reply<'_, O>, auxv: Option<Auxv<'_>>)
-    ensures { TellsText (telling O.Output reply.old reply.new)
-        (reply_of (if_there (option_map auxv_bytes auxv.entry) spec.pair_lines)) }
+/// Tells an auxiliary vector, if it is there. Says whether it is.
+fn tell_found<O: Output>(reply: &mut Reply<'_, O>, auxv: Option<Auxv<'_>>) -> bool
+    ensures tells { TellsText (telling O.Output reply.old reply.new) (reply_of (if_there (option_map auxv_bytes auxv.entry) spec.pair_lines)) }
+    ensures done { result ≡ is_ok (if_there (option_map auxv_bytes auxv.entry) spec.pair_lines) }
 {
     match auxv {
         Some(auxv) => {
             tell_pair_lines(reply, auxv.pairs());
             tell_ok(reply);
+            true
         }
-        None => tell_no(reply, b"Missing"),
+        None => {
+            tell_no(reply, b"Missing");
+            false
+        }
     }
 }
 

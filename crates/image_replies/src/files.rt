@@ -1,5 +1,5 @@
 // The reply to `files`.
-ghost use Rattle.std.specs.Prelude.{◌≡◌};
+ghost use Rattle.std.specs.Prelude.{◌≡◌, is_ok};
 ghost use Rattle.std.specs.List.{flat_map};
 ghost use Rattle.std.specs.Option.{option_map};
 ghost use Rattle.core_notes.specs.FileWords.{file_view, files_bytes, files_left};
@@ -14,27 +14,35 @@ use core_notes::{FileMap, FileMaps, Files};
 use script_streams::{Output, Reply, tell_no, tell_ok};
 
 /// Tells the mapped files of the process of a core, or the first that holds of: the core or a typed note is at fault, it
-/// has no NT_FILE (`no Missing`).
-pub fn tell_files<O: Output>(reply: &mut Reply<'_, O>, image: &[u8])
-    ensures { TellsText (telling O.Output reply.old reply.new) (reply_of (spec.files_answer image.now)) }
+/// has no NT_FILE (`no Missing`). Says whether they are told; if not, the reply is `no REASON`.
+pub fn tell_files<O: Output>(reply: &mut Reply<'_, O>, image: &[u8]) -> bool
+    ensures tells { TellsText (telling O.Output reply.old reply.new) (reply_of (spec.files_answer image.now)) }
+    ensures done { result ≡ is_ok (spec.files_answer image.now) }
 {
     match CoreImage::read(image) {
         Ok(core) => tell_found(reply, core.notes().files()),
-        Err(fault) => tell_core_fault(reply, fault),
+        Err(fault) => {
+            tell_core_fault(reply, fault);
+            false
+        }
     }
 }
 
-/// Tells mapped files, if they are there.
-fn tell_found<O: Output>(reply: &mut Reply<'_, O>, files: Option<Files<'_>>)
-    ensures { TellsText (telling O.Output reply.old reply.new)
-        (reply_of (if_there (option_map files_bytes files.entry) spec.file_lines)) }
+/// Tells mapped files, if they are there. Says whether they are.
+fn tell_found<O: Output>(reply: &mut Reply<'_, O>, files: Option<Files<'_>>) -> bool
+    ensures tells { TellsText (telling O.Output reply.old reply.new) (reply_of (if_there (option_map files_bytes files.entry) spec.file_lines)) }
+    ensures done { result ≡ is_ok (if_there (option_map files_bytes files.entry) spec.file_lines) }
 {
     match files {
         Some(files) => {
             tell_file_lines(reply, files.maps());
             tell_ok(reply);
+            true
         }
-        None => tell_no(reply, b"Missing"),
+        None => {
+            tell_no(reply, b"Missing");
+            false
+        }
     }
 }
 

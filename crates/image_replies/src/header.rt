@@ -1,5 +1,5 @@
 // The reply to `header`.
-ghost use Rattle.std.specs.Prelude.{◌≡◌, ◌<◌, ◌++◌, ◌^◌, length, Ok};
+ghost use Rattle.std.specs.Prelude.{◌≡◌, ◌<◌, ◌++◌, ◌^◌, length, Ok, is_ok};
 ghost use Rattle.elf_view.specs.Header.{segments_of};
 ghost use Rattle.elf_view.specs.ViewWords.{header_of, image_of};
 ghost use Rattle.elf_view.specs.SegmentWords.{segment_view, segments_left};
@@ -11,13 +11,21 @@ use crate::words::{tell_address, tell_number};
 use elf_view::{Elf, Header, Segment, Segments, Want};
 use script_streams::{Output, Reply, tell_ok};
 
-/// Tells the file header of an image and a line for each of its program headers, or the first of its checks that fails.
-pub fn tell_header<O: Output>(reply: &mut Reply<'_, O>, image: &[u8], want: Want)
-    ensures { TellsText (telling O.Output reply.old reply.new) (reply_of (spec.header_answer want image.now)) }
+/// Tells the file header of an image and a line for each of its program headers, or the first of its checks that fails. Says
+/// whether they are told; if not, the reply is `no REASON`.
+pub fn tell_header<O: Output>(reply: &mut Reply<'_, O>, image: &[u8], want: Want) -> bool
+    ensures tells { TellsText (telling O.Output reply.old reply.new) (reply_of (spec.header_answer want image.now)) }
+    ensures done { result ≡ is_ok (spec.header_answer want image.now) }
 {
     match Elf::read(image, want) {
-        Ok(elf) => tell_headers(reply, &elf),
-        Err(fault) => tell_elf_fault(reply, fault),
+        Ok(elf) => {
+            tell_headers(reply, &elf);
+            true
+        }
+        Err(fault) => {
+            tell_elf_fault(reply, fault);
+            false
+        }
     }
 }
 

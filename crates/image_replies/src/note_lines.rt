@@ -1,5 +1,5 @@
 // The reply to `notes`.
-ghost use Rattle.std.specs.Prelude.{◌≡◌, ◌<◌, ◌^◌, length, Ok};
+ghost use Rattle.std.specs.Prelude.{◌≡◌, ◌<◌, ◌^◌, length, Ok, is_ok};
 ghost use Rattle.elf_view.specs.ViewWords.{image_of, notes_of, want_of};
 ghost use Rattle.elf_view.specs.NoteWords.{note_view, notes_left};
 ghost use Rattle.script_streams.specs.Replies.{TellsText, telling, reply_of};
@@ -10,13 +10,21 @@ use crate::words::{tell_address, tell_number};
 use elf_view::{Elf, Note, Notes, Want};
 use script_streams::{Output, Reply, tell_ok};
 
-/// Tells a line for each note of a core, or the first check of its headers and notes that fails. It looks at no typed note.
-pub fn tell_notes<O: Output>(reply: &mut Reply<'_, O>, image: &[u8])
-    ensures { TellsText (telling O.Output reply.old reply.new) (reply_of (spec.notes_answer image.now)) }
+/// Tells a line for each note of a core, or the first check of its headers and notes that fails. It looks at no typed note. Says
+/// whether they are told; if not, the reply is `no REASON`.
+pub fn tell_notes<O: Output>(reply: &mut Reply<'_, O>, image: &[u8]) -> bool
+    ensures tells { TellsText (telling O.Output reply.old reply.new) (reply_of (spec.notes_answer image.now)) }
+    ensures done { result ≡ is_ok (spec.notes_answer image.now) }
 {
     match Elf::read(image, Want::Core) {
-        Ok(elf) => tell_note_list(reply, notes_in(&elf)),
-        Err(fault) => tell_elf_fault(reply, fault),
+        Ok(elf) => {
+            tell_note_list(reply, notes_in(&elf));
+            true
+        }
+        Err(fault) => {
+            tell_elf_fault(reply, fault);
+            false
+        }
     }
 }
 

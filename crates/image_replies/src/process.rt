@@ -1,5 +1,5 @@
 // The reply to `process`.
-ghost use Rattle.std.specs.Prelude.{◌≡◌, ◌++◌};
+ghost use Rattle.std.specs.Prelude.{◌≡◌, ◌++◌, is_ok};
 ghost use Rattle.std.specs.Option.{option_map};
 ghost use Rattle.core_notes.specs.DescriptorWords.{psinfo_bytes};
 ghost use Rattle.script_streams.specs.Replies.{TellsText, telling, reply_of};
@@ -13,27 +13,35 @@ use core_notes::PsInfo;
 use script_streams::{Output, Reply, tell_no, tell_ok};
 
 /// Tells the state and the names of the process of a core, or the first that holds of: the core or a typed note is at
-/// fault, it has no NT_PRPSINFO (`no Missing`).
-pub fn tell_process<O: Output>(reply: &mut Reply<'_, O>, image: &[u8])
-    ensures { TellsText (telling O.Output reply.old reply.new) (reply_of (spec.process_answer image.now)) }
+/// fault, it has no NT_PRPSINFO (`no Missing`). Says whether they are told; if not, the reply is `no REASON`.
+pub fn tell_process<O: Output>(reply: &mut Reply<'_, O>, image: &[u8]) -> bool
+    ensures tells { TellsText (telling O.Output reply.old reply.new) (reply_of (spec.process_answer image.now)) }
+    ensures done { result ≡ is_ok (spec.process_answer image.now) }
 {
     match CoreImage::read(image) {
         Ok(core) => tell_found(reply, core.notes().psinfo()),
-        Err(fault) => tell_core_fault(reply, fault),
+        Err(fault) => {
+            tell_core_fault(reply, fault);
+            false
+        }
     }
 }
 
-/// Tells a process, if it is there.
-fn tell_found<O: Output>(reply: &mut Reply<'_, O>, process: Option<PsInfo<'_>>)
-    ensures { TellsText (telling O.Output reply.old reply.new)
-        (reply_of (if_there (option_map psinfo_bytes process.entry) spec.process_lines)) }
+/// Tells a process, if it is there. Says whether it is.
+fn tell_found<O: Output>(reply: &mut Reply<'_, O>, process: Option<PsInfo<'_>>) -> bool
+    ensures tells { TellsText (telling O.Output reply.old reply.new) (reply_of (if_there (option_map psinfo_bytes process.entry) spec.process_lines)) }
+    ensures done { result ≡ is_ok (if_there (option_map psinfo_bytes process.entry) spec.process_lines) }
 {
     match process {
         Some(process) => {
             tell_process_lines(reply, &process);
             tell_ok(reply);
+            true
         }
-        None => tell_no(reply, b"Missing"),
+        None => {
+            tell_no(reply, b"Missing");
+            false
+        }
     }
 }
 

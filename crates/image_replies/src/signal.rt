@@ -1,5 +1,5 @@
 // The reply to `signal`.
-ghost use Rattle.std.specs.Prelude.{◌≡◌};
+ghost use Rattle.std.specs.Prelude.{◌≡◌, is_ok};
 ghost use Rattle.std.specs.Option.{option_map};
 ghost use Rattle.core_notes.specs.Descriptor.{si_pid, si_uid, si_addr};
 ghost use Rattle.core_notes.specs.DescriptorWords.{siginfo_bytes};
@@ -16,27 +16,35 @@ use script_streams::{Output, Reply, tell_no, tell_ok};
 use thread_regs::signal_name;
 
 /// Tells the signal that the process of a core met, or the first that holds of: the core or a typed note is at fault, it
-/// has no NT_SIGINFO (`no Missing`).
-pub fn tell_signal<O: Output>(reply: &mut Reply<'_, O>, image: &[u8])
-    ensures { TellsText (telling O.Output reply.old reply.new) (reply_of (spec.signal_answer image.now)) }
+/// has no NT_SIGINFO (`no Missing`). Says whether it is told; if not, the reply is `no REASON`.
+pub fn tell_signal<O: Output>(reply: &mut Reply<'_, O>, image: &[u8]) -> bool
+    ensures tells { TellsText (telling O.Output reply.old reply.new) (reply_of (spec.signal_answer image.now)) }
+    ensures done { result ≡ is_ok (spec.signal_answer image.now) }
 {
     match CoreImage::read(image) {
         Ok(core) => tell_found(reply, core.notes().siginfo()),
-        Err(fault) => tell_core_fault(reply, fault),
+        Err(fault) => {
+            tell_core_fault(reply, fault);
+            false
+        }
     }
 }
 
-/// Tells a signal, if it is there.
-fn tell_found<O: Output>(reply: &mut Reply<'_, O>, signal: Option<SigInfo<'_>>)
-    ensures { TellsText (telling O.Output reply.old reply.new)
-        (reply_of (if_there (option_map siginfo_bytes signal.entry) spec.signal_lines)) }
+/// Tells a signal, if it is there. Says whether it is.
+fn tell_found<O: Output>(reply: &mut Reply<'_, O>, signal: Option<SigInfo<'_>>) -> bool
+    ensures tells { TellsText (telling O.Output reply.old reply.new) (reply_of (if_there (option_map siginfo_bytes signal.entry) spec.signal_lines)) }
+    ensures done { result ≡ is_ok (if_there (option_map siginfo_bytes signal.entry) spec.signal_lines) }
 {
     match signal {
         Some(signal) => {
             tell_signal_lines(reply, &signal);
             tell_ok(reply);
+            true
         }
-        None => tell_no(reply, b"Missing"),
+        None => {
+            tell_no(reply, b"Missing");
+            false
+        }
     }
 }
 

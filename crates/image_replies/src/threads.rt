@@ -1,5 +1,5 @@
 // The replies to `threads` and `regs`.
-ghost use Rattle.std.specs.Prelude.{◌≡◌, ◌<◌, ◌^◌, length, Ok};
+ghost use Rattle.std.specs.Prelude.{◌≡◌, ◌<◌, ◌^◌, length, Ok, is_ok};
 ghost use Rattle.std.specs.Option.{option_map};
 ghost use Rattle.core_notes.specs.Descriptor.{pr_reg};
 ghost use Rattle.core_notes.specs.Typed.{all_descs};
@@ -17,13 +17,21 @@ use crate::words::tell_number;
 use script_streams::{Output, Reply, tell_no, tell_ok};
 use thread_regs::{Reg, Thread, ThreadList, threads};
 
-/// Tells a line for each thread of a core, or the first fault of the core and its typed notes.
-pub fn tell_threads<O: Output>(reply: &mut Reply<'_, O>, image: &[u8])
-    ensures { TellsText (telling O.Output reply.old reply.new) (reply_of (spec.threads_answer image.now)) }
+/// Tells a line for each thread of a core, or the first fault of the core and its typed notes. Says whether they are told; if not,
+/// the reply is `no REASON`.
+pub fn tell_threads<O: Output>(reply: &mut Reply<'_, O>, image: &[u8]) -> bool
+    ensures tells { TellsText (telling O.Output reply.old reply.new) (reply_of (spec.threads_answer image.now)) }
+    ensures done { result ≡ is_ok (spec.threads_answer image.now) }
 {
     match CoreImage::read(image) {
-        Ok(core) => tell_thread_list(reply, threads_of(&core)),
-        Err(fault) => tell_core_fault(reply, fault),
+        Ok(core) => {
+            tell_thread_list(reply, threads_of(&core));
+            true
+        }
+        Err(fault) => {
+            tell_core_fault(reply, fault);
+            false
+        }
     }
 }
 
@@ -74,27 +82,35 @@ fn tell_thread_line<O: Output>(reply: &mut Reply<'_, O>, index: u128, thread: &T
 }
 
 /// Tells the registers of a thread of a core, or the first that holds of: the core or a typed note is at fault, there are
-/// fewer threads (`no NoThread`).
-pub fn tell_regs<O: Output>(reply: &mut Reply<'_, O>, image: &[u8], thread: u64)
-    ensures { TellsText (telling O.Output reply.old reply.new) (reply_of (spec.regs_answer image.now thread)) }
+/// fewer threads (`no NoThread`). Says whether they are told; if not, the reply is `no REASON`.
+pub fn tell_regs<O: Output>(reply: &mut Reply<'_, O>, image: &[u8], thread: u64) -> bool
+    ensures tells { TellsText (telling O.Output reply.old reply.new) (reply_of (spec.regs_answer image.now thread)) }
+    ensures done { result ≡ is_ok (spec.regs_answer image.now thread) }
 {
     match CoreImage::read(image) {
         Ok(core) => tell_registers_of(reply, threads_of(&core).thread(thread)),
-        Err(fault) => tell_core_fault(reply, fault),
+        Err(fault) => {
+            tell_core_fault(reply, fault);
+            false
+        }
     }
 }
 
-/// Tells the registers of a thread, if it is there.
-fn tell_registers_of<O: Output>(reply: &mut Reply<'_, O>, thread: Option<Thread<'_>>)
-    ensures { TellsText (telling O.Output reply.old reply.new)
-        (reply_of (spec.registers_of (option_map thread_bytes thread.entry))) }
+/// Tells the registers of a thread, if it is there. Says whether it is.
+fn tell_registers_of<O: Output>(reply: &mut Reply<'_, O>, thread: Option<Thread<'_>>) -> bool
+    ensures tells { TellsText (telling O.Output reply.old reply.new) (reply_of (spec.registers_of (option_map thread_bytes thread.entry))) }
+    ensures done { result ≡ is_ok (spec.registers_of (option_map thread_bytes thread.entry)) }
 {
     match thread {
         Some(thread) => {
             tell_register_lines(reply, &thread);
             tell_ok(reply);
+            true
         }
-        None => tell_no(reply, b"NoThread"),
+        None => {
+            tell_no(reply, b"NoThread");
+            false
+        }
     }
 }
 

@@ -6,6 +6,7 @@ pub mod LineLemmas
 pub mod RunLemmas
 pub mod CloseLemmas
 pub mod SessionLemmas
+pub mod AskLemmas
 pub mod StageLemmas
 pub mod FeedLemmas
 pub mod StoreLemmas

@@ -12,15 +12,19 @@ use Rattle.script_streams.specs.declared.reader.ReadStop.TheVariants.{ReadFailed
 use Rattle.inspector_cli.specs.declared.script.ScriptStop.{ScriptStop}
 use Rattle.inspector_cli.specs.declared.script.ScriptStop.TheVariants.{Read}
 use Rattle.stream_names.specs.declared.naming.Naming.{Naming}
-use Rattle.script_lines.specs.Said.{Said, said, raw_length, inspect_of}
-use Rattle.script_lines.specs.Queries.{QuerySaid}
-use Rattle.script_lines.specs.Commands.{asked_by}
+use Rattle.script_lines.specs.Said.{Said, said, raw_length}
+use Rattle.script_lines.specs.Commands.{asked_by, call_said, question_said}
 use Rattle.script_lines.specs.declared.command.Request.{Request}
-use Rattle.script_lines.specs.declared.command.Request.TheVariants.{Silence, BadLine, LineTooLong, BeginExec, BeginCore, End, Drop, Delete, Pin, Label, Retire, ListCases, CountFree, Upgrade}
+use Rattle.script_lines.specs.declared.command.Request.TheVariants.{Silence, BadLine, LineTooLong, BeginExec, BeginCore, End, Drop}
+use Rattle.script_lines.specs.declared.question.Call.{Call}
+use Rattle.script_lines.specs.declared.question.Call.TheVariants.{Delete, Pin, Label, Retire, ListCases, CountFree, Upgrade}
+use Rattle.script_lines.specs.declared.question.Question.{Question}
+use Rattle.script_lines.specs.declared.question.Question.TheVariants as asked
 use Rattle.inspector_cli.specs.Reply.{Replies}
 use Rattle.inspector_cli.specs.Session.{cut_part, LastReplies, Truncates}
 use Rattle.script_streams.specs.Replies.{Telling}
 use Rattle.inspector_cli.specs.Answering.{Halts, Reading, AnswersTo, PartAnswers, LastAnswers, CommandEnds}
+use Rattle.inspector_cli.specs.Asking.{AnswersAsked}
 use Rattle.script_streams.specs.TellLaws.{tells_then}
 use Rattle.inspector_cli.proofs.GiveLemmas.{gives_nothing, gives_then, gives_as}
 
@@ -40,13 +44,20 @@ no_raw (BeginExec slot name) = refl
 no_raw (BeginCore slot process) = refl
 no_raw (End slot) = refl
 no_raw (Drop slot) = refl
-no_raw (Delete seq) = refl
-no_raw (Pin seq flag) = refl
-no_raw (Label seq label) = refl
-no_raw (Retire policy) = refl
-no_raw ListCases = refl
-no_raw CountFree = refl
-no_raw Upgrade = refl
+
+-- no bytes stand behind a question
+no_raw_call : (c : Call) → raw_length (call_said c) ≡ 0
+no_raw_call (Delete seq) = refl
+no_raw_call (Pin seq flag) = refl
+no_raw_call (Label seq label) = refl
+no_raw_call (Retire policy) = refl
+no_raw_call ListCases = refl
+no_raw_call CountFree = refl
+no_raw_call Upgrade = refl
+
+pub no_raw_asked : (q : Question) → raw_length (question_said q) ≡ 0
+no_raw_asked (asked.Inspect seq query) = refl
+no_raw_asked (asked.Call call) = no_raw_call call
 
 -- the same answer of a script
 abbrev pub as_script : Result Bool ReadStop → Result Bool ScriptStop
@@ -65,11 +76,17 @@ module _ {D : Type 0} (g : disk.Ghosts D) where
       subst (λ (w : Said). LastAnswers g naming t old w new) is
       (answers.0, last_whole g naming (raw_length (asked_by r)) old new (asked_by r) answers.0 (no_raw r) answers.1, answers.2)
 
-  pub query_answers : (naming : Naming) (a : Option (List ℕ)) (b : ScriptBuffer) (t : Telling) (old new : Parts D) (seq : ℕ) (q : QuerySaid) (what : Said) → inspect_of seq q ≡ what → AnswersTo g naming t old (inspect_of seq q) [] new
+  -- a question is answered as any line
+  pub question_answers : (naming : Naming) (a : Option (List ℕ)) (b : ScriptBuffer) (t : Telling) (old new : Parts D) (q : Question) (what : Said) (done : Bool) → question_said q ≡ what → AnswersAsked g t old (question_said q) done new
       → PartAnswers g naming (record { before = a; after = a; buffer = b; buffer' = b }) t old what new (Ok true)
-  query_answers naming a b t old new seq q what is answers =
+  question_answers naming a b t old new q what done is told =
       subst (λ (w : Said). PartAnswers g naming (record { before = a; after = a; buffer = b; buffer' = b }) t old w new (Ok true)) is
-      ([], refl, gives_nothing a b, answers)
+      ([], sym (no_raw_asked q), gives_nothing a b, (told.0, told.1 naming, told.3))
+
+  pub question_last : (naming : Naming) (t : Telling) (old new : Parts D) (q : Question) (what : Said) (done : Bool) → question_said q ≡ what → AnswersAsked g t old (question_said q) done new → LastAnswers g naming t old what new
+  question_last naming t old new q what done is told =
+      subst (λ (w : Said). LastAnswers g naming t old w new) is
+      (told.0, last_whole g naming (raw_length (question_said q)) old new (question_said q) told.0 (no_raw_asked q) (told.1 naming), told.3)
 
   module _ (naming : Naming) (a b c : Option (List ℕ)) (buf mid buf' : ScriptBuffer) (t : Telling) (old new : Parts D) (line : List ℕ) (one : IsLine line)
       (gives : Gives a b buf mid (line ++ 10 ∷ [])) where

@@ -2,6 +2,7 @@ pub mod Reply
 pub mod Stages
 pub mod Session
 pub mod Answering
+pub mod Asking
 pub mod Storing
 pub mod Life
 pub mod Cuts

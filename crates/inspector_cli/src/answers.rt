@@ -1,23 +1,27 @@
-// The answers to lines that no bytes stand behind.
-ghost use Rattle.std.specs.Prelude.{◌≡◌, [], is_ok};
+// The answers to lines that no bytes stand behind: to those that ask nothing, or a step of a stream, and the calls of the archive.
+ghost use Rattle.std.specs.Prelude.{◌≡◌, [], is_ok, not};
 ghost use Rattle.intake.specs.Parts.{state_of};
-ghost use Rattle.script_lines.specs.Commands.{asked_by};
+ghost use Rattle.script_lines.specs.Commands.{asked_by, call_said, question_said};
 ghost use Rattle.inspector_cli.specs.Reply.{Ends, Drops, Deletes, Pins, Labels, Upgrades, Retires, Frees};
 ghost use Rattle.archive_replies.specs.Texts.{list_reply};
 ghost use Rattle.script_streams.specs.Replies.{TellsReply, TellsText, telling};
+ghost use Rattle.case_queries.specs.Keeping.{AreKept};
+ghost use Rattle.case_queries.specs.Seeing.{IsKept};
 ghost use Rattle.inspector_cli.specs.Answering.{AnswersTo};
+ghost use Rattle.inspector_cli.specs.Asking.{AnswersAsked};
 
 use crate::begin::answer_begin;
 use archive_replies::{tell_cases, tell_free, tell_outcome, tell_retired, tell_stored};
 use arrayvec::ArrayVec;
+use case_queries::{Images, answer_query};
 use disk_model::Disk;
 use intake::Archive;
 use retention::Policy;
-use script_lines::Request;
+use script_lines::{Call, Question, Request};
 use script_streams::{Output, Reply, tell_no};
 use stream_names::{Naming, core_stream, exec_stream};
 
-// Answers a line.
+// Answers a line that is no question.
 pub(crate) fn answer_plain<O: Output, D: Disk>(
     request: Request<'_>,
     reply: &mut Reply<'_, O>,
@@ -41,17 +45,47 @@ pub(crate) fn answer_plain<O: Output, D: Disk>(
             let _ = answer_end(slot, reply, archive);
         }
         Request::Drop { slot } => answer_drop(slot, reply, archive),
-        Request::Delete { seq } => answer_delete(seq, reply, archive),
-        Request::Pin { seq, flag } => answer_pin(seq, flag, reply, archive),
-        Request::Label { seq, label } => {
-            let _ = answer_label(seq, &label, reply, archive);
+    }
+}
+
+// Answers a question. Says whether it is done; if not, it is refused.
+pub(crate) fn answer_question<O: Output, D: Disk>(
+    question: Question,
+    images: &mut Images,
+    reply: &mut Reply<'_, O>,
+    archive: &mut Archive<D>,
+) -> bool
+    requires kept { IsKept D.Disk archive.old images.old.kept }
+    requires beside { AreKept D.Disk archive.old images.old.kept }
+    ensures answers { AnswersAsked D.Disk (telling O.Output reply.old reply.new) archive.old (question_said question) result archive.new }
+    ensures kept { IsKept D.Disk archive.new images.new.kept }
+    ensures beside { AreKept D.Disk archive.new images.new.kept }
+{
+    match question {
+        Question::Inspect { seq, query } => answer_query(seq, &query, images, reply, archive),
+        Question::Call(call) => {
+            images.kept = None;
+            answer_call(call, reply, archive)
         }
-        Request::Retire { policy } => {
-            let _ = answer_retire(policy, reply, archive);
-        }
-        Request::ListCases => answer_list(reply, archive),
-        Request::CountFree => answer_free(reply, archive),
-        Request::Upgrade => answer_upgrade(reply, archive),
+    }
+}
+
+// Answers a call of the archive. Says whether it is done; if not, it is refused.
+fn answer_call<O: Output, D: Disk>(
+    call: Call,
+    reply: &mut Reply<'_, O>,
+    archive: &mut Archive<D>,
+) -> bool
+    ensures { AnswersAsked D.Disk (telling O.Output reply.old reply.new) archive.old (call_said call) result archive.new }
+{
+    match call {
+        Call::Delete { seq } => answer_delete(seq, reply, archive),
+        Call::Pin { seq, flag } => answer_pin(seq, flag, reply, archive),
+        Call::Label { seq, label } => answer_label(seq, &label, reply, archive),
+        Call::Retire { policy } => answer_retire(policy, reply, archive),
+        Call::ListCases => answer_list(reply, archive),
+        Call::CountFree => answer_free(reply, archive),
+        Call::Upgrade => answer_upgrade(reply, archive),
     }
 }
 
@@ -77,25 +111,33 @@ fn answer_drop<O: Output, D: Disk>(slot: u8, reply: &mut Reply<'_, O>, archive: 
     tell_outcome(reply, outcome);
 }
 
-// Answers `delete`.
-fn answer_delete<O: Output, D: Disk>(seq: u32, reply: &mut Reply<'_, O>, archive: &mut Archive<D>)
-    ensures { TellsReply (telling O.Output reply.old reply.new) (λ text. Deletes D.Disk archive.old seq text archive.new) }
+// Answers `delete`. Says whether it was answered other than `no REASON`.
+fn answer_delete<O: Output, D: Disk>(
+    seq: u32,
+    reply: &mut Reply<'_, O>,
+    archive: &mut Archive<D>,
+) -> bool
+    ensures { TellsReply (telling O.Output reply.old reply.new) (λ text. (answered : Deletes D.Disk archive.old seq text archive.new) × (result ≡ is_ok answered.0)) }
 {
     let outcome = archive.delete(seq);
+    let is_carried_out = outcome.is_ok();
     tell_outcome(reply, outcome);
+    is_carried_out
 }
 
-// Answers `pin` and `unpin`.
+// Answers `pin` and `unpin`. Says whether it was answered other than `no REASON`.
 fn answer_pin<O: Output, D: Disk>(
     seq: u32,
     flag: bool,
     reply: &mut Reply<'_, O>,
     archive: &mut Archive<D>,
-)
-    ensures { TellsReply (telling O.Output reply.old reply.new) (λ text. Pins D.Disk archive.old seq flag text archive.new) }
+) -> bool
+    ensures { TellsReply (telling O.Output reply.old reply.new) (λ text. (answered : Pins D.Disk archive.old seq flag text archive.new) × (result ≡ is_ok answered.0)) }
 {
     let outcome = archive.pin(seq, flag);
+    let is_carried_out = outcome.is_ok();
     tell_outcome(reply, outcome);
+    is_carried_out
 }
 
 // Answers `label`. Says whether it was answered other than `no REASON`.
@@ -113,12 +155,14 @@ pub(crate) fn answer_label<O: Output, D: Disk>(
     is_carried_out
 }
 
-// Answers `upgrade`.
-fn answer_upgrade<O: Output, D: Disk>(reply: &mut Reply<'_, O>, archive: &mut Archive<D>)
-    ensures { TellsReply (telling O.Output reply.old reply.new) (λ text. Upgrades D.Disk archive.old text archive.new) }
+// Answers `upgrade`. Says whether it was answered other than `no REASON`.
+fn answer_upgrade<O: Output, D: Disk>(reply: &mut Reply<'_, O>, archive: &mut Archive<D>) -> bool
+    ensures { TellsReply (telling O.Output reply.old reply.new) (λ text. (answered : Upgrades D.Disk archive.old text archive.new) × (result ≡ is_ok answered.0)) }
 {
     let outcome = archive.upgrade();
+    let is_carried_out = outcome.is_ok();
     tell_outcome(reply, outcome);
+    is_carried_out
 }
 
 // Answers `retire`. Says whether it was answered other than `no REASON`.
@@ -135,23 +179,33 @@ fn answer_retire<O: Output, D: Disk>(
     is_carried_out
 }
 
-// Answers `list`.
-fn answer_list<O: Output, D: Disk>(reply: &mut Reply<'_, O>, archive: &Archive<D>)
-    ensures { TellsText (telling O.Output reply.old reply.new) (list_reply (state_of archive.now).stopped (state_of archive.now).version (state_of archive.now).cases) }
+// Answers `list`. Says whether it was answered other than `no REASON`.
+fn answer_list<O: Output, D: Disk>(reply: &mut Reply<'_, O>, archive: &Archive<D>) -> bool
+    ensures tells { TellsText (telling O.Output reply.old reply.new) (list_reply (state_of archive.now).stopped (state_of archive.now).version (state_of archive.now).cases) }
+    ensures done { result ≡ not (state_of archive.now).stopped }
 {
     let Ok(version) = archive.version() else {
         tell_no(reply, b"Stopped");
-        return;
+        return false;
     };
     match archive.cases() {
-        Ok(cases) => tell_cases(reply, version, cases),
-        Err(_) => tell_no(reply, b"Stopped"),
+        Ok(cases) => {
+            tell_cases(reply, version, cases);
+            true
+        }
+        Err(_) => {
+            tell_no(reply, b"Stopped");
+            false
+        }
     }
 }
 
-// Answers `free`.
-fn answer_free<O: Output, D: Disk>(reply: &mut Reply<'_, O>, archive: &Archive<D>)
-    ensures { TellsReply (telling O.Output reply.old reply.new) (λ text. Frees archive.now text archive.now) }
+// Answers `free`. Says whether it was answered other than `no REASON`.
+fn answer_free<O: Output, D: Disk>(reply: &mut Reply<'_, O>, archive: &Archive<D>) -> bool
+    ensures { TellsReply (telling O.Output reply.old reply.new) (λ text. (answered : Frees archive.now text archive.now) × (result ≡ is_ok answered.0)) }
 {
-    tell_free(reply, archive.free_blocks());
+    let counted = archive.free_blocks();
+    let is_carried_out = counted.is_ok();
+    tell_free(reply, counted);
+    is_carried_out
 }

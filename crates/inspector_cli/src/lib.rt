@@ -2,6 +2,7 @@
 #![tactic(auto)]
 
 mod answers;
+mod ask;
 mod begin;
 mod copying;
 mod extract;
@@ -18,6 +19,7 @@ mod store_life;
 mod stored;
 
 pub use archive_replies::reason;
+pub use ask::open_and_ask;
 pub use begin::line_stream;
 pub use copying::{CopyFault, copy_image};
 pub use extract::{ImageFault, read_image, write_image};
@@ -28,7 +30,7 @@ pub use laws::{
 pub use life::open_and_run;
 pub use memory_life::memory_session;
 pub use run::run_session;
-pub use script_lines::{is_question, only_looks};
+pub use script_lines::{Call, Question, parse_question};
 pub use script_streams::{Input, Output, ReadInput, StreamFault, WriteOutput};
 pub use session::{LifeFault, MemoryFault, SessionFault, StoreOutcome};
 pub use store::store_stream;

@@ -57,7 +57,7 @@ fn session_fault(stop: ScriptStop) -> SessionFault
 }
 
 // Drops the streams that are open.
-fn close_streams<D: Disk>(archive: &mut Archive<D>)
+pub(crate) fn close_streams<D: Disk>(archive: &mut Archive<D>)
     ensures { DropsStreams D.Disk archive.old archive.new }
 {
     for slot in 0..8u8 {

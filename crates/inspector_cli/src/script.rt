@@ -11,10 +11,10 @@ ghost use Rattle.case_queries.specs.Keeping.{AreKept};
 ghost use Rattle.case_queries.specs.Seeing.{IsKept};
 ghost use Rattle.inspector_cli.specs.Answering.{CommandEnds, Halts, ScriptEnds, PartAnswers, LastAnswers, reading};
 
-use crate::answers::answer_plain;
+use crate::answers::{answer_plain, answer_question};
 use crate::parts::answer_part;
 use archive_replies::tell_outcome;
-use case_queries::{Images, answer_query};
+use case_queries::Images;
 use disk_model::Disk;
 use intake::{Archive, calls_lead_from_mark_to_mark};
 use script_lines::{Command, parse_line};
@@ -139,8 +139,8 @@ fn answer_line<I: Input, O: Output, D: Disk>(
             images.kept = None;
             answer_part(slot, count, buffer, input, reply, archive)
         }
-        Command::Inspect { seq, query } => {
-            answer_query(seq, &query, images, reply, archive);
+        Command::Ask(question) => {
+            let _ = answer_question(question, images, reply, archive);
             Ok(true)
         }
         Command::Plain(request) => {
@@ -173,7 +173,9 @@ fn answer_last<O: Output, D: Disk>(
             images.kept = None;
             answer_cut(slot, count, reply, archive)
         }
-        Command::Inspect { seq, query } => { answer_query(seq, &query, images, reply, archive) }
+        Command::Ask(question) => {
+            let _ = answer_question(question, images, reply, archive);
+        }
         Command::Plain(request) => {
             images.kept = None;
             answer_plain(request, reply, archive, naming)

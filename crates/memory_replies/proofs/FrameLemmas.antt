@@ -1,12 +1,11 @@
 -- What is answered of a thread's frames.
-use Rattle.std.proofs.Common.{◌≡◌, ◌<◌, ℕ, ◌+◌, cond, true, false, List, [], ◌∷◌, ◌++◌, length, take, Option, None, Some, refl, ap, sym, subst, ◌∙◌, arith, inl, inr}
+use Rattle.std.proofs.Common.{◌≡◌, ◌<◌, ℕ, ◌+◌, cond, true, false, List, [], ◌∷◌, ◌++◌, length, take, Option, None, Some, refl, ap, sym, subst, ◌∙◌, arith, inl, inr, Ok, Err}
 use Rattle.std.proofs.lemmas.Bool.{cases_lt}
 use Rattle.std.proofs.lemmas.List.{length-take, take_all}
 use Rattle.std.specs.Borrow.{Bor}
 use Rattle.std.specs.Prelude.{IfSome, codes, is_none, slice_get}
 use Rattle.std.specs.List.{find, flat_map}
 use Rattle.std.specs.Option.{option_map, option_or}
-use Rattle.script_streams.specs.Replies.{no_reply, ok_reply, reply_of}
 use Rattle.elf_view.specs.NoteList.{NoteView}
 use Rattle.elf_view.specs.Header.{segments_of}
 use Rattle.elf_view.specs.Sound.{IsHeaderWhole, IsSound, first_fault}
@@ -69,9 +68,9 @@ pub desc_is : (b : List ℕ) (t : ℕ) (o : Option (List ℕ)) (descs : List (Li
 desc_is b t o descs notes is descs_are own = is ∙ ap (λ ds. slice_get ds t) (descs_are ∙ ap (all_descs 1) own)
 
 pub thread_missing : (b : List ℕ) (xs : List ExecutableView) (t : ℕ) (descs : List (List ℕ)) (notes : List NoteView) → None ≡ slice_get descs t → descs ≡ all_descs 1 notes → notes ≡ notes_of Core b
-    → no_reply (codes "NoThread") ≡ reply_of (bt_answer b xs t)
+    → Err (codes "NoThread") ≡ bt_answer b xs t
 unfolding bt_answer
-thread_missing b xs t descs notes is descs_are own = ap (λ o. reply_of (thread_answer b xs o)) (desc_is b t None descs notes is descs_are own)
+thread_missing b xs t descs notes is descs_are own = ap (thread_answer b xs) (desc_is b t None descs notes is descs_are own)
 
 -- the lines over a memory whose mapped files are those of the core
 lines_of : Space → List ExecutableView → List ℕ → List ℕ
@@ -80,12 +79,12 @@ lines_of space known desc = thread_lines space space.files known desc
 pub thread_shown : (b : List ℕ) (xs : List ExecutableView) (t : ℕ) (desc : List ℕ) (descs : List (List ℕ)) (notes : List NoteView) (space : Space) (known : List ExecutableView)
     → Some desc ≡ slice_get descs t → descs ≡ all_descs 1 notes → notes ≡ notes_of Core b
     → space ≡ memory_of b xs → known ≡ known_among xs
-    → thread_lines space space.files known desc ++ ok_reply ≡ reply_of (bt_answer b xs t)
+    → Ok (thread_lines space space.files known desc) ≡ bt_answer b xs t
 unfolding bt_answer memory_of lines_of
 thread_shown b xs t desc descs notes space known is descs_are own space_is known_are =
-    ap (λ s. lines_of s known desc ++ ok_reply) space_is
-    ∙ ap (λ k. thread_lines (memory_of b xs) (mapped_files b) k desc ++ ok_reply) known_are
-    ∙ ap (λ o. reply_of (thread_answer b xs o)) (desc_is b t (Some desc) descs notes is descs_are own)
+    ap (λ s. Ok (lines_of s known desc)) space_is
+    ∙ ap (λ k. Ok (thread_lines (memory_of b xs) (mapped_files b) k desc)) known_are
+    ∙ ap (thread_answer b xs) (desc_is b t (Some desc) descs notes is descs_are own)
 
 -- What is told from the first bytes of an image, and from bytes of the thread's stack where the image has more.
 module _ (core : CoreImage) (image : List ℕ) (size t : ℕ) (bytes : List ℕ) (has : HasFrames (core_bytes core) size bytes t image) where

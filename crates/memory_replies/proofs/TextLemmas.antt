@@ -1,11 +1,10 @@
 -- The values of texts.
-use Rattle.std.proofs.Common.{◌≡◌, ◌≤◌, ℕ, zero, suc, ◌+◌, ◌-◌, ◌^◌, cond, true, false, List, [], ◌∷◌, ◌++◌, length, map, Option, None, Some, refl, sym, ap, subst, ◌∙◌, arith, inl, inr, append_assoc}
+use Rattle.std.proofs.Common.{◌≡◌, ◌≤◌, ℕ, zero, suc, ◌+◌, ◌-◌, ◌^◌, cond, true, false, List, [], ◌∷◌, ◌++◌, length, map, Option, None, Some, refl, sym, ap, subst, ◌∙◌, arith, inl, inr, append_assoc, Ok}
 use Rattle.std.proofs.lemmas.Bool.{cases_Bool, cond-true, cond-false}
 use Rattle.std.proofs.lemmas.List.{append-nil}
 use Rattle.std.proofs.lemmas.Grind.{flat_map-append}
 use Rattle.std.specs.List.{filter, flat_map}
 use Rattle.script_words.specs.Printing.{shown, shown_byte}
-use Rattle.script_streams.specs.Replies.{ok_reply, reply_of}
 use Rattle.address_space.specs.Source.{Space, ExecutableView, value_at}
 use Rattle.address_space.specs.Occurrence.{begins_text, is_long, is_text_at, is_text_value, ordered, strings_of, text_from, text_len}
 use Rattle.address_space.specs.Pieces.{PieceView, pieces_of}
@@ -106,6 +105,6 @@ unfolding strings_of
 strings_are space least = texts_are space least (ordered space (begins_text space))
 
 pub texts_told : (b : List ℕ) (xs : List ExecutableView) (least : ℕ) (space : Space) → space ≡ memory_of b xs
-    → flat_map (text_line space) (strings_of space least) ++ ok_reply ≡ reply_of (strings_answer b xs least)
+    → Ok (flat_map (text_line space) (strings_of space least)) ≡ strings_answer b xs least
 unfolding strings_answer
-texts_told b xs least space is = ap (λ s. flat_map (text_line s) (strings_of s least) ++ ok_reply) is
+texts_told b xs least space is = ap (λ s. Ok (flat_map (text_line s) (strings_of s least))) is

@@ -20,6 +20,7 @@ ghost use Rattle.memory_replies.specs.Window.{IsAtHand, IsPartOf, past_of};
 
 use crate::attached::space_with;
 use crate::laws::a_sound_front_names_the_files;
+use crate::outcome::Outcome;
 use crate::window::Window;
 use crate::words::{tell_hex_word, tell_spot};
 use address_space::{AddressSpace, Attached, FileSpot, Stretch, StretchKind};
@@ -144,7 +145,7 @@ pub fn is_out_of_range(first: u64, length: u64) -> bool
 /// Tells what stands at `length` addresses from `first` on, piece by piece in rising order: `ADDR HEX` for each 16 bytes,
 /// `ADDR file HEX` for each 16 that an attached executable has, `ADDR notdumped LEN OFFSET NAME`, `ADDR cut LEN` and
 /// `ADDR unmapped LEN`. A range that ends past the last address, or has over 65,536 addresses, is answered by `no Range`.
-/// Says whether there was memory for it; where there was none, the reply is `no OutOfMemory`.
+/// Says what became of it.
 ///
 /// The core may be the first bytes alone of an image. It is told what any image shows that begins so, and of which the window has
 /// all bytes that stand in the range.
@@ -156,20 +157,20 @@ pub fn tell_dump<O: Output>(
     attached: &[Attached<'_>],
     first: u64,
     length: u64,
-) -> bool
+) -> Outcome
     ensures { (image : List ℕ) → IsAtHand (core_bytes core.now) window.entry.size window.entry.at window.entry.bytes.now first length image → TellsReply (telling O.Output reply.old reply.new)
         (AnswersWith result (spec.dump_answer image (map attached_view attached.now) first length)) }
 {
     a_sound_front_names_the_files();
     let Ok(space) = space_with(alloc, core, attached) else {
         tell_no(reply, b"OutOfMemory");
-        return false;
+        return Outcome::OutOfMemory;
     };
     if is_out_of_range(first, length) {
         tell_no(reply, b"Range");
-        return true;
+        return Outcome::Refused;
     }
     tell_stretches(reply, &space, window, first, length);
     tell_ok(reply);
-    true
+    Outcome::Done
 }

@@ -20,6 +20,7 @@ use crate::attached::space_and_images;
 use crate::laws::a_sound_front_names_the_files;
 use crate::named::{Place, place_of};
 use crate::named_images::NamedImages;
+use crate::outcome::Outcome;
 use crate::window::Window;
 use crate::words::tell_hex_word;
 use address_space::{AddressSpace, Attached};
@@ -174,7 +175,7 @@ fn stack_in<'w>(core: &CoreImage<'_>, window: Window<'w>) -> Option<&'w [u8]>
 /// Tells the frames of a core's thread, by its number among the threads: `0 PC WHERE fp h ra h`, then `I PC WHERE fp h` for
 /// each other, and `stop REASON`. WHERE is `NAME+h` by the symbols of the executable that stands for the mapped file, or
 /// `?`. A core with fewer threads is answered by `no NoThread`.
-/// Says whether there was memory for it; where there was none, the reply is `no OutOfMemory`.
+/// Says what became of it.
 ///
 /// The core may be the first bytes alone of an image. It is told what any image shows that begins so, and whose frames are known by
 /// the window (`has_frames`).
@@ -185,7 +186,7 @@ pub fn tell_bt<O: Output>(
     window: Window<'_>,
     attached: &[Attached<'_>],
     thread: u64,
-) -> bool
+) -> Outcome
     ensures { (image : List ℕ) → HasFrames (core_bytes core.now) window.entry.size window.entry.bytes.now thread image → TellsReply (telling O.Output reply.old reply.new)
         (AnswersWith result (spec.bt_answer image (map attached_view attached.now) thread)) }
 {
@@ -193,13 +194,13 @@ pub fn tell_bt<O: Output>(
     a_sound_front_names_the_files();
     let Ok((space, images)) = space_and_images(alloc, core, attached) else {
         tell_no(reply, b"OutOfMemory");
-        return false;
+        return Outcome::OutOfMemory;
     };
     let Some(thread) = threads(core.notes()).thread(thread) else {
         tell_no(reply, b"NoThread");
-        return true;
+        return Outcome::Refused;
     };
     tell_thread(reply, &space, &images, stack_in(core, window), thread);
     tell_ok(reply);
-    true
+    Outcome::Done
 }

@@ -1,5 +1,5 @@
 // The lines of mappings.
-ghost use Rattle.std.specs.Prelude.{◌≡◌, ◌<◌, ◌+◌};
+ghost use Rattle.std.specs.Prelude.{◌≡◌, ◌<◌, ◌+◌, true, is_ok};
 ghost use Rattle.std.specs.List.{flat_map};
 ghost use Rattle.script_streams.specs.Replies.{TellsText, reply_of, telling};
 ghost use Rattle.address_space.specs.PieceWords.{mapping_view};
@@ -72,8 +72,8 @@ fn tell_mappings<O: Output>(reply: &mut Reply<'_, O>, space: &AddressSpace<'_>)
 /// where there is no memory for tables of the segments and mapped files, and no reply tells that.
 #[tactic(auto, unfolding(crate::specs::Maps::maps_answer))]
 pub fn tell_maps<O: Output>(alloc: Global, reply: &mut Reply<'_, O>, core: &CoreImage<'_>)
-    ensures { TellsText (telling O.Output reply.old reply.new)
-        (reply_of (spec.maps_answer (core_bytes core.now))) }
+    ensures tells { TellsText (telling O.Output reply.old reply.new) (reply_of (spec.maps_answer (core_bytes core.now))) }
+    ensures done { is_ok (spec.maps_answer (core_bytes core.now)) ≡ true }
 {
     let space = plain_space(alloc, core);
     tell_mappings(reply, &space);

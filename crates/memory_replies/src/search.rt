@@ -10,6 +10,7 @@ ghost use Rattle.memory_replies.specs.Memory.{attached_view};
 ghost use Rattle.memory_replies.specs.Find as spec;
 
 use crate::attached::space_with;
+use crate::outcome::Outcome;
 use address_space::{AddressSpace, Attached};
 use image_replies::CoreImage;
 use script_streams::{Output, Reply, tell_no, tell_ok};
@@ -36,23 +37,23 @@ fn tell_matches<O: Output>(reply: &mut Reply<'_, O>, space: &AddressSpace<'_>, n
 }
 
 /// Tells every address at which the bytes occur in a core's memory, by the number of the segment that decides it and then
-/// by itself. Says whether there was memory for it; where there was none, the reply is `no OutOfMemory`.
+/// by itself. Says what became of it.
 pub fn tell_find<O: Output>(
     alloc: Global,
     reply: &mut Reply<'_, O>,
     core: &CoreImage<'_>,
     attached: &[Attached<'_>],
     needle: &[u8],
-) -> bool
+) -> Outcome
     requires { 0 < length needle.now }
     ensures { TellsReply (telling O.Output reply.old reply.new)
         (AnswersWith result (spec.find_answer (core_bytes core.now) (map attached_view attached.now) needle.now)) }
 {
     let Ok(space) = space_with(alloc, core, attached) else {
         tell_no(reply, b"OutOfMemory");
-        return false;
+        return Outcome::OutOfMemory;
     };
     tell_matches(reply, &space, needle);
     tell_ok(reply);
-    true
+    Outcome::Done
 }

@@ -13,6 +13,7 @@ ghost use Rattle.memory_replies.specs.Memory.{attached_view};
 ghost use Rattle.memory_replies.specs.Texts as spec;
 
 use crate::attached::space_with;
+use crate::outcome::Outcome;
 use crate::words::tell_hex_word;
 use address_space::{AddressSpace, Attached, PieceKind, Source};
 use image_replies::CoreImage;
@@ -134,22 +135,22 @@ fn tell_texts<O: Output>(reply: &mut Reply<'_, O>, space: &AddressSpace<'_>, lea
 
 /// Tells the stretches of text in a core's memory that have at least `least` bytes: `ADDR LENGTH TEXT`, by the number of the
 /// segment that decides the first address and then by that address. Bytes of text are those from the space to `~` and the
-/// tab. Says whether there was memory for it; where there was none, the reply is `no OutOfMemory`.
+/// tab. Says what became of it.
 pub fn tell_strings<O: Output>(
     alloc: Global,
     reply: &mut Reply<'_, O>,
     core: &CoreImage<'_>,
     attached: &[Attached<'_>],
     least: u64,
-) -> bool
+) -> Outcome
     ensures { TellsReply (telling O.Output reply.old reply.new)
         (AnswersWith result (spec.strings_answer (core_bytes core.now) (map attached_view attached.now) least)) }
 {
     let Ok(space) = space_with(alloc, core, attached) else {
         tell_no(reply, b"OutOfMemory");
-        return false;
+        return Outcome::OutOfMemory;
     };
     tell_texts(reply, &space, least);
     tell_ok(reply);
-    true
+    Outcome::Done
 }

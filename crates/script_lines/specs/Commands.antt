@@ -8,9 +8,13 @@ use Rattle.script_lines.specs.declared.process.Process.{Process}
 use Rattle.script_lines.specs.declared.process.ProcessWords.{ProcessWords}
 use Rattle.script_lines.specs.declared.command.Command.{Command}
 use Rattle.script_lines.specs.declared.names.NameWord.{NameWord}
-use Rattle.script_lines.specs.declared.command.Command.TheVariants.{Part, Inspect, Plain}
+use Rattle.script_lines.specs.declared.command.Command.TheVariants.{Part, Ask, Plain}
 use Rattle.script_lines.specs.declared.command.Request.{Request}
-use Rattle.script_lines.specs.declared.command.Request.TheVariants.{Silence, BadLine, LineTooLong, BeginExec, BeginCore, End, Drop, Delete, Pin, Label, Retire, ListCases, CountFree, Upgrade}
+use Rattle.script_lines.specs.declared.command.Request.TheVariants.{Silence, BadLine, LineTooLong, BeginExec, BeginCore, End, Drop}
+use Rattle.script_lines.specs.declared.question.Question.{Question}
+use Rattle.script_lines.specs.declared.question.Question.TheVariants as question
+use Rattle.script_lines.specs.declared.question.Call.{Call}
+use Rattle.script_lines.specs.declared.question.Call.TheVariants.{Delete, Pin, Label, Retire, ListCases, CountFree, Upgrade}
 
 -- what is told of a process
 abbrev pub process_of : Process → ProcessSaid
@@ -49,16 +53,24 @@ asked_by (BeginExec slot name) = begin_exec slot name.text.items
 asked_by (BeginCore slot process) = begin_core slot (process_told process)
 asked_by (End slot) = end_of slot
 asked_by (Drop slot) = drop_of slot
-asked_by (Delete seq) = delete_of seq
-asked_by (Pin seq flag) = pin_of seq flag
-asked_by (Label seq label) = label_of seq label.items
-asked_by (Retire policy) = retire_by policy
-asked_by ListCases = list_all_cases
-asked_by CountFree = count_free
-asked_by Upgrade = upgrade_archive
+
+-- what a call says
+abbrev pub call_said : Call → Said
+call_said (Delete seq) = delete_of seq
+call_said (Pin seq flag) = pin_of seq flag
+call_said (Label seq label) = label_of seq label.items
+call_said (Retire policy) = retire_by policy
+call_said ListCases = list_all_cases
+call_said CountFree = count_free
+call_said Upgrade = upgrade_archive
+
+-- what a question says
+abbrev pub question_said : Question → Said
+question_said (question.Inspect seq query) = inspect_of seq (query_of query)
+question_said (question.Call call) = call_said call
 
 -- what a command says
 abbrev pub said_by : Command → Said
 said_by (Part slot count) = part_of slot count
-said_by (Inspect seq query) = inspect_of seq (query_of query)
+said_by (Ask question) = question_said question
 said_by (Plain request) = asked_by request

@@ -7,9 +7,11 @@ mod laws;
 mod names;
 mod process;
 mod query;
+mod question;
 
-pub use command::{Command, Request, is_question, only_looks, parse_line, parse_text};
+pub use command::{Command, Request, parse_line, parse_question, parse_text};
 pub use laws::every_query_can_be_said;
 pub use names::{NameWord, Needle};
 pub use process::{Process, ProcessWords};
 pub use query::{ImageQuery, MemoryQuery, Query};
+pub use question::{Call, Question};

@@ -1,5 +1,5 @@
 -- The texts of replies: lines and `ok`, or the reason why there are none.
-use Rattle.std.specs.Prelude.{ℕ, List, [], ◌∷◌, ◌++◌, Result, Ok, Err, codes}
+use Rattle.std.specs.Prelude.{◌≡◌, ℕ, Bool, true, false, List, [], ◌∷◌, ◌++◌, Result, Ok, Err, codes}
 use Rattle.script_streams.specs.Telling.{Sink, sink, Tells}
 use Rattle.script_streams.specs.declared.reply.Reply.{Reply}
 use Rattle.script_streams.specs.declared.streams.Output as output
@@ -31,3 +31,12 @@ no_reply reason = (codes "no " ++ reason) ++ 10 ∷ []
 abbrev pub reply_of : Result (List ℕ) (List ℕ) → List ℕ
 reply_of (Ok lines) = lines ++ ok_reply
 reply_of (Err reason) = no_reply reason
+
+-- The outcome of a line, by its reply: it is done, and the reply is its lines and `ok`; or it is refused, and the reply is why.
+abbrev pub IsOutcome : Bool → List ℕ → Type 0
+IsOutcome true text = (lines : List ℕ) × (text ≡ reply_of (Ok lines))
+IsOutcome false text = (reason : List ℕ) × (text ≡ reply_of (Err reason))
+
+-- a reply that is so is told, and its outcome is this
+abbrev pub TellsOutcome : Telling → (List ℕ → Type 0) → Bool → Type 0
+TellsOutcome t P done = (text : List ℕ) × P text × IsOutcome done text × TellsText t text

@@ -12,5 +12,5 @@ pub use kept_line::KeptLine;
 pub use laws::{lines_are_cut_one_way, reading_adds_up, telling_adds_up};
 pub use reader::{LineEnding, ReadStop, ScriptBuffer};
 pub use replies::{tell_no, tell_ok};
-pub use reply::Reply;
+pub use reply::{Reply, write_whole};
 pub use streams::{Input, Output, ReadInput, StreamFault, WriteOutput};

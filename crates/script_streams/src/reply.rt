@@ -214,8 +214,12 @@ fn pass_on<O: Output>(failed: bool, output: &mut O, text: &[u8]) -> bool
     }
 }
 
-// Writes a text, in as many writes as it takes.
-fn write_whole<O: Output>(output: &mut O, text: &[u8]) -> Result<(), StreamFault>
+/// Writes a text, in as many writes as it takes.
+///
+/// # Errors
+///
+/// `StreamFault` where a write failed: the output has taken a front of the text.
+pub fn write_whole<O: Output>(output: &mut O, text: &[u8]) -> Result<(), StreamFault>
     ensures { Writes (O.taken output.old) (O.taken output.new)
         (O.failures output.old) (O.failures output.new) text.now result }
 {

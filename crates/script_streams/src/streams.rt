@@ -1,5 +1,5 @@
 //! Where a script comes from, and where replies go.
-ghost use Rattle.std.specs.Prelude.{◌≡◌, ℕ, ◌<◌, ◌≤◌, List, Option, None, length, IfOk, OnOk, OnErr};
+ghost use Rattle.std.specs.Prelude.{◌≡◌, ℕ, ◌<◌, ◌≤◌, List, Option, None, length, IfOk, OnOk, OnErr, is_some, nat_lt};
 ghost use Rattle.std.specs.Io.KnownBytes.{ReadConsumes, WriteAppends};
 ghost use Rattle.failure_count.specs.Counts.{HasRisen};
 
@@ -89,6 +89,7 @@ pub struct WriteOutput<W> {
     failures: u64,
     // Of the last write that failed.
     fault: Option<ErrorKind>,
+    ghost told: { is_some fault ≡ nat_lt 0 failures },
 }
 
 impl<W: Write> WriteOutput<W> {
@@ -104,8 +105,10 @@ impl<W: Write> WriteOutput<W> {
         }
     }
 
-    /// Why the last write failed that did, if one has.
-    pub fn fault(&self) -> Option<ErrorKind> {
+    /// Why the last write failed that did, if one has: there is a reason exactly if a failure is counted.
+    pub fn fault(&self) -> Option<ErrorKind>
+        ensures { is_some result ≡ nat_lt 0 (⟦<WriteOutput<W> as Output>⟧.failures self.now) }
+    {
         self.fault
     }
 

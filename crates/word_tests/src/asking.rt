@@ -1,19 +1,20 @@
 //! Which lines may be asked alone.
-use script_lines::{is_question, only_looks};
+use script_lines::parse_question;
 
-/// Lines, whether each may be asked, and whether it changes nothing.
-static LINES: [(&[u8], (bool, bool)); 6] = [
-    (b"upgrade", (true, false)),
-    (b"label 1", (true, false)),
-    (b"label 1 x", (true, false)),
-    (b"retire keep=1", (true, false)),
-    (b"list", (true, true)),
-    (b"part 0 1", (false, false)),
+/// Lines, and whether each is a question that only looks, if it is a question.
+static LINES: [(&[u8], Option<bool>); 6] = [
+    (b"upgrade", Some(false)),
+    (b"label 1", Some(false)),
+    (b"label 1 x", Some(false)),
+    (b"retire keep=1", Some(false)),
+    (b"list", Some(true)),
+    (b"part 0 1", None),
 ];
 
 #[test]
 fn lines_that_may_be_asked(rt: HostRuntime) {
     for (line, wanted) in &LINES {
-        assert_eq!(rt; (is_question(line), only_looks(line)), *wanted);
+        let found = parse_question(line).map(|question| question.only_looks());
+        assert_eq!(rt; found, *wanted);
     }
 }

@@ -3,6 +3,7 @@ use Rattle.journal_layout.specs.declared.entry.Kind.{Kind}
 use Rattle.script_lines.specs.Queries.{image_query}
 use Rattle.script_lines.specs.declared.query.ImageQuery.{ImageQuery}
 use Rattle.script_streams.specs.Replies.{reply_of}
+use Rattle.std.specs.Prelude.{is_ok}
 use Rattle.case_queries.specs.Fronts.{IsEnough, IsSoundFront, front_want}
 use Rattle.case_queries.specs.Inspecting.{answer_of}
 use Rattle.case_queries.proofs.by_front.tell_front.Goals as goal
@@ -17,6 +18,10 @@ same kind query front image law enough =
     (λ cut. ap (λ b. answer_of kind (image_query query) b []) cut.0 ∙ law image (length front) (subst (IsSoundFront (front_want kind query)) cut.0 cut.1))
     enough
 
-pub returns : goal.returns
-returns g c image enough =
-    rw (sym (ap reply_of (same c.args.kind c.args.query.now c.args.front.now image (c.a_front_answers.ensures c.args.kind c.args.query.now) enough))) c.tell_image.ensures
+pub returns-clause-tells : goal.returns-clause-tells
+returns-clause-tells g c image enough =
+    rw (sym (ap reply_of (same c.args.kind c.args.query.now c.args.front.now image (c.a_front_answers.ensures c.args.kind c.args.query.now) enough))) c.tell_image.ensures.tells
+
+pub returns-clause-done : goal.returns-clause-done
+returns-clause-done g c image enough =
+    c.tell_image.ensures.done ∙ ap is_ok (same c.args.kind c.args.query.now c.args.front.now image (c.a_front_answers.ensures c.args.kind c.args.query.now) enough)

@@ -7,19 +7,19 @@ use Rattle.script_lines.specs.Queries.{memory_query}
 use Rattle.case_queries.specs.Gathering.{GathersAll, Wanted}
 use Rattle.case_queries.specs.Inspecting.{answer_of}
 use Rattle.case_queries.specs.GatheringWords.{executable_view}
-use Rattle.case_queries.proofs.ShowLemmas.{answered, wanted_same}
+use Rattle.case_queries.proofs.ShowLemmas.{answered, outcome_with, wanted_same}
 use Rattle.case_queries.proofs.memory.answer_core.Goals as goal
 
 pub returns-in-Err-clause-answers : goal.returns-in-Err-clause-answers
 returns-in-Err-clause-answers g c image by =
     let wanted = wanted_same c.a_sound_front_names_the_files.ensures c.args.query.now (core_bytes c.args.core.now) c.args.window.size c.args.window.at c.args.window.bytes.now image by (state_of c.args.archive.now).cases in
-    let gathers = subst (λ (xs : List Wanted). GathersAll g.D.Disk c.args.archive.now xs (Err c.in-Err.fault) c.gathered.new.archive) wanted c.in-Err.ensures.gathered in
-    (no_reply (reason_of c.in-Err.fault), (Err c.in-Err.fault, gathers, refl), rw c.reason.ensures at c.tell_no.ensures)
+    let gathers = subst (λ (xs : List Wanted). GathersAll g.D.Disk c.args.archive.now xs (Err c.in-Err.refusal) c.gathered.new.archive) wanted c.in-Err.ensures.gathered in
+    (no_reply (reason_of c.in-Err.refusal), (Err c.in-Err.refusal, gathers, refl), rw c.refused_by.ensures (reason_of c.in-Err.refusal, refl), rw c.reason.ensures at c.tell_no.ensures)
 
 pub returns-in-Ok-clause-answers : goal.returns-in-Ok-clause-answers
 returns-in-Ok-clause-answers g c image by =
-    let told = rw c.deref.ensures.value at (c.tell_beside-has_room.ensures image by) in
+    let told = rw c.deref.ensures.value at (c.tell_beside-outcome.ensures image by) in
     let xs = map executable_view c.in-Ok.executables.items in
     let wanted = wanted_same c.a_sound_front_names_the_files.ensures c.args.query.now (core_bytes c.args.core.now) c.args.window.size c.args.window.at c.args.window.bytes.now image by (state_of c.args.archive.now).cases in
     let gathers = subst (λ (ws : List Wanted). GathersAll g.D.Disk c.args.archive.now ws (Ok xs) c.gathered.new.archive) wanted c.in-Ok.ensures.gathered in
-    (told.0, (Ok xs, gathers, answered c.tell_beside-has_room.result (answer_of c.args.kind (memory_query c.args.query.now) image xs) told.0 told.1), told.2)
+    (told.0, (Ok xs, gathers, answered c.tell_beside-outcome.result (answer_of c.args.kind (memory_query c.args.query.now) image xs) told.0 told.1), outcome_with c.tell_beside-outcome.result _ told.0 told.1, told.2)

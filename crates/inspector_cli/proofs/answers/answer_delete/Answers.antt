@@ -6,10 +6,6 @@ pub returns : goal.returns
 returns g c =
     let call = c.delete-outcome.ensures in (
       plain_reply c.delete-outcome.result,
-      (
-        c.delete-outcome.result,
-        call,
-        refl,
-      ),
+      ((c.delete-outcome.result, call, refl), c.is_ok-is_carried_out.ensures.value),
       c.tell_outcome.ensures,
     )

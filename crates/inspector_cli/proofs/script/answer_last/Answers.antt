@@ -2,7 +2,7 @@ use Rattle.script_streams.specs.Replies.{telling}
 use Rattle.std.proofs.Common.{subst}
 use Rattle.script_lines.specs.Said.{Said, said}
 use Rattle.inspector_cli.specs.Answering.{LastAnswers}
-use Rattle.inspector_cli.proofs.LineLemmas.{plain_last}
+use Rattle.inspector_cli.proofs.LineLemmas.{plain_last, question_last}
 use Rattle.inspector_cli.proofs.script.answer_last.Goals as goal
 
 pub returns-in-Part-clause-answers : goal.returns-in-Part-clause-answers
@@ -17,3 +17,7 @@ returns-in-Part-clause-answers g c = λ text keeps.
 pub returns-in-Plain-clause-answers : goal.returns-in-Plain-clause-answers
 returns-in-Plain-clause-answers g c = λ text keeps.
     plain_last g.D.Disk c.args.naming.now _ c.args.archive.now c.answer_plain.new.archive c.in-Plain.request (said text) (c.in-Plain.ensures text keeps) c.answer_plain.ensures
+
+pub returns-in-Ask-clause-answers : goal.returns-in-Ask-clause-answers
+returns-in-Ask-clause-answers g c = λ text keeps.
+    question_last g.D.Disk c.args.naming.now _ c.args.archive.now c.answer_question.new.archive c.in-Ask.question (said text) c.answer_question.result (c.in-Ask.ensures text keeps) c.answer_question.ensures.answers

@@ -2,8 +2,7 @@ use Rattle.script_streams.specs.Replies.{telling}
 use Rattle.std.proofs.Common.{subst}
 use Rattle.script_lines.specs.Said.{Said, said}
 use Rattle.inspector_cli.specs.Answering.{PartAnswers}
-use Rattle.script_lines.specs.Queries.{query_of}
-use Rattle.inspector_cli.proofs.LineLemmas.{plain_answers, query_answers}
+use Rattle.inspector_cli.proofs.LineLemmas.{plain_answers, question_answers}
 use Rattle.inspector_cli.proofs.script.answer_line.Goals as goal
 
 pub returns-in-Part-clause-answers : goal.returns-in-Part-clause-answers
@@ -26,7 +25,7 @@ returns-in-Plain-clause-answers g c = λ text keeps.
     plain_answers g.D.Disk c.args.naming.now (g.I.Input.remaining c.args.input.now) c.args.buffer.now _ c.args.archive.now c.answer_plain.new.archive c.in-Plain.request (said text)
     (c.in-Plain.ensures text keeps) c.answer_plain.ensures
 
-pub returns-in-Inspect-clause-answers : goal.returns-in-Inspect-clause-answers
-returns-in-Inspect-clause-answers g c = λ text keeps.
-    query_answers g.D.Disk c.args.naming.now (g.I.Input.remaining c.args.input.now) c.args.buffer.now _ c.args.archive.now c.answer_query.new.archive c.in-Inspect.seq (query_of c.in-Inspect.query) (said text)
-    (c.in-Inspect.ensures text keeps) c.answer_query.ensures.answers
+pub returns-in-Ask-clause-answers : goal.returns-in-Ask-clause-answers
+returns-in-Ask-clause-answers g c = λ text keeps.
+    question_answers g.D.Disk c.args.naming.now (g.I.Input.remaining c.args.input.now) c.args.buffer.now _ c.args.archive.now c.answer_question.new.archive c.in-Ask.question (said text) c.answer_question.result
+    (c.in-Ask.ensures text keeps) c.answer_question.ensures.answers

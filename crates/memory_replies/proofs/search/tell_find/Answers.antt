@@ -1,5 +1,5 @@
 use Rattle.std.proofs.Common.{refl}
-use Rattle.memory_replies.proofs.AnswerLemmas.{matches_shown}
+use Rattle.memory_replies.proofs.AnswerLemmas.{matches_shown, shown}
 use Rattle.script_streams.specs.TellLaws.{tells_then}
 use Rattle.memory_replies.proofs.search.tell_find.Goals as goal
 
@@ -8,4 +8,4 @@ returns-in_default g c = (_, refl, c.tell_no.ensures)
 
 pub returns : goal.returns
 returns g c =
-    (_, (matches_shown _ _ _ _ c.in-Ok.ensures.memory), tells_then c.tell_matches.ensures c.tell_ok.ensures)
+    (_, shown _ _ (matches_shown _ _ _ _ c.in-Ok.ensures.memory), tells_then c.tell_matches.ensures c.tell_ok.ensures)

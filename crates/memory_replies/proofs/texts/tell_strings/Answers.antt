@@ -1,4 +1,5 @@
 use Rattle.std.proofs.Common.{refl}
+use Rattle.memory_replies.proofs.AnswerLemmas.{shown}
 use Rattle.memory_replies.proofs.TextLemmas.{texts_told}
 use Rattle.script_streams.specs.TellLaws.{tells_then}
 use Rattle.memory_replies.proofs.texts.tell_strings.Goals as goal
@@ -8,4 +9,4 @@ returns-in_default g c = (_, refl, c.tell_no.ensures)
 
 pub returns : goal.returns
 returns g c =
-    (_, (texts_told _ _ _ _ c.in-Ok.ensures.memory), tells_then c.tell_texts.ensures c.tell_ok.ensures)
+    (_, shown _ _ (texts_told _ _ _ _ c.in-Ok.ensures.memory), tells_then c.tell_texts.ensures c.tell_ok.ensures)
