@@ -25,6 +25,8 @@ mod real_frames;
 #[cfg(test)]
 mod real_symbols;
 #[cfg(test)]
+mod real_unwound;
+#[cfg(test)]
 mod refused;
 #[cfg(test)]
 mod rows;

@@ -259,14 +259,19 @@ fn eh_frame_is_found_by_its_segment(rt: HostRuntime) -> Result<(), Fail> {
     check(&rt, rt.alloc(), &image, ENTRIES)
 }
 
-#[test]
-fn debug_frame_is_read(rt: HostRuntime) -> Result<(), Fail> {
+/// The static executable.
+pub(crate) fn debug_executable(alloc: Global) -> Result<Vec<u8>, AllocError> {
     let parts = [
         (0, DEBUG_FRONT),
         (0x11b8, DEBUG_FRAMES),
         (0x1bf0, DEBUG_BACK),
         (0x1cc0, DEBUG_SECTIONS),
     ];
-    let image = image(rt.alloc(), &parts)?;
+    image(alloc, &parts)
+}
+
+#[test]
+fn debug_frame_is_read(rt: HostRuntime) -> Result<(), Fail> {
+    let image = debug_executable(rt.alloc())?;
     check(&rt, rt.alloc(), &image, DEBUG_ENTRIES)
 }
