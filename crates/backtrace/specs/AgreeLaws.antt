@@ -1,5 +1,5 @@
 -- Where two memories agree behind each frame of a stack, it has the same frames in both.
-use Rattle.std.proofs.Common.{◌≡◌, ℕ, zero, suc, ◌+◌, List, [], ◌∷◌, Option, None, Some, Result, Ok, Err, refl, ap, ◌∙◌}
+use Rattle.std.proofs.Common.{◌≡◌, ℕ, zero, suc, ◌+◌, [], ◌∷◌, Option, None, Some, Result, Ok, Err, refl, ap, ◌∙◌}
 use Rattle.std.specs.Prelude.{◌==◌, ◌%◌, not, is_none}
 use Rattle.backtrace.specs.Agreeing.{AgreeBehind}
 use Rattle.backtrace.specs.Chain.{Memory, link_below, is_not_rising, first_holding, led_to, step_by, step, frames_behind, stop_behind, frames_from, stop_from, first_frame, chain, stop_of}

@@ -1,5 +1,5 @@
 -- Memories in which a stack has the same frames.
-use Rattle.std.specs.Prelude.{◌≡◌, ℕ, List, [], ◌∷◌, Option, None, Some}
+use Rattle.std.specs.Prelude.{◌≡◌, ℕ, List, [], ◌∷◌, Option, Some}
 use Rattle.backtrace.specs.Chain.{Memory, step}
 use Rattle.backtrace.specs.declared.frames.Frame.{Frame}
 
