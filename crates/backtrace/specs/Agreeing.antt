@@ -4,6 +4,6 @@ use Rattle.backtrace.specs.Chain.{Memory, step}
 use Rattle.backtrace.specs.declared.frames.Frame.{Frame}
 
 -- At each of these frames, of which the first has that frame pointer before it, two memories lead to the same.
-abbrev pub AgreeBehind : Memory → Memory → Option ℕ → List Frame → Type 0
-AgreeBehind m p before [] = Unit {0}
-AgreeBehind m p before (f ∷ fs) = (step m before f ≡ step p before f) × AgreeBehind m p (Some f.fp) fs
+abbrev pub AgreeAt : Memory → Memory → Option ℕ → List Frame → Type 0
+AgreeAt m p before [] = Unit {0}
+AgreeAt m p before (f ∷ fs) = (step m before f ≡ step p before f) × AgreeAt m p (Some f.fp) fs
