@@ -56,7 +56,7 @@ fn is_not_rising(before: Option<u64>, fp: u64) -> bool
     }
 }
 
-/// Whether what comes behind a frame, with that frame pointer before it, depends on the words below its own. Where it doesn't, each
+/// Whether what comes after a frame, with that frame pointer before it, depends on the words below its own. Where it doesn't, each
 /// memory has the same there.
 #[tactic(auto, unfolding(crate::specs::Chain::link_below, crate::specs::Chain::step))]
 pub fn needs_words(before: Option<u64>, frame: Frame) -> bool

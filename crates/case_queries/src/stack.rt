@@ -72,7 +72,7 @@ fn read_on<D: Disk>(
     read_up_to(seq, end, image, archive)
 }
 
-// Reads a case's image up to a part of it that is read already, and puts that behind.
+// Reads a case's image up to a part of it that is read already, and appends the part.
 fn read_to_part<D: Disk>(
     seq: u32,
     size: usize,

@@ -12,7 +12,7 @@ use Rattle.thread_regs.specs.Register.{register_in}
 use Rattle.address_space.specs.Source.{Space, value_at}
 use Rattle.address_space.specs.WordLaws.{word_field, word_none}
 use Rattle.address_space.specs.Whole.{IsFrontOf}
-use Rattle.backtrace.specs.Agreeing.{AgreeBehind}
+use Rattle.backtrace.specs.Agreeing.{AgreeAt}
 use Rattle.backtrace.specs.AgreeLaws.{chain_alike}
 use Rattle.backtrace.specs.Chain.{Memory, both, chain, link_below, stop_of}
 use Rattle.backtrace.specs.MemoryWords.{words_in}
@@ -88,7 +88,7 @@ module _ (space : Space) (first fp : ℕ) (bytes : List ℕ) (values : AreStackO
 
 -- the frames of a thread whose registers are these
 pub frames_known : (b image : List ℕ) (size t : ℕ) (bytes desc : List ℕ) (pc fp first : ℕ) → Some desc ≡ slice_get (all_descs 1 (notes_of Core b)) t → pc ≡ register_in desc 32 → fp ≡ register_in desc 8 → first ≡ fp - 16 → IsFrontOf b size image
-    → ((space : Space) → space.segments ≡ segments_of image → AgreeBehind (words_of space) (words_in first bytes) None (chain (words_in first bytes) pc fp)) → HasFrames b size bytes t image
+    → ((space : Space) → space.segments ≡ segments_of image → AgreeAt (words_of space) (words_in first bytes) None (chain (words_in first bytes) pc fp)) → HasFrames b size bytes t image
 frames_known b image size t bytes desc pc fp first is pc_is fp_is first_is front agree =
     let known : (space : Space) → space.segments ≡ segments_of image → HasFramesOf (register_in desc 32) (register_in desc 8) bytes space = λ space own.
     (subst (λ n. HasFramesOf n (register_in desc 8) bytes space) pc_is

@@ -3,7 +3,7 @@ ghost use Rattle.std.specs.Prelude.{◌≡◌, ◌≤◌, ◌-◌, ℕ, List, No
 ghost use Rattle.elf_view.specs.Header.{segments_of};
 ghost use Rattle.address_space.specs.Source.{Space};
 ghost use Rattle.address_space.specs.Whole.{IsFrontOf};
-ghost use Rattle.backtrace.specs.Agreeing.{AgreeBehind};
+ghost use Rattle.backtrace.specs.Agreeing.{AgreeAt};
 ghost use Rattle.backtrace.specs.Chain.{chain, link_below, step};
 ghost use Rattle.backtrace.specs.MemoryWords.{words_in};
 ghost use Rattle.image_replies.specs.CoreWords.{core_bytes};
@@ -73,7 +73,7 @@ fn is_link_known(core: &CoreImage<'_>, size: u64, stack: StackBytes<'_>, fp: u64
     has_no_value(&core.elf(), size, fp - 16)
 }
 
-/// Whether the stack shows what comes behind a frame, with that frame pointer before it.
+/// Whether the stack shows what comes after a frame, with that frame pointer before it.
 fn is_settled(
     core: &CoreImage<'_>,
     size: u64,
@@ -91,11 +91,11 @@ fn is_settled(
     is_link_known(core, size, stack, frame.fp)
 }
 
-/// Whether the stack shows what comes behind each frame from a pc and a frame pointer on.
+/// Whether the stack shows what comes after each frame from a pc and a frame pointer on.
 fn are_settled(core: &CoreImage<'_>, size: u64, stack: StackBytes<'_>, pc: u64, fp: u64) -> bool
     ensures { result ≡ true → (image : List ℕ) → IsFrontOf (core_bytes core.now) size image → (space : Space) → space.segments ≡ segments_of image
         → AreStackOf space stack.entry.first stack.entry.bytes.now
-        → AgreeBehind (words_of space) (words_in stack.entry.first stack.entry.bytes.now) None (chain (words_in stack.entry.first stack.entry.bytes.now) pc fp) }
+        → AgreeAt (words_of space) (words_in stack.entry.first stack.entry.bytes.now) None (chain (words_in stack.entry.first stack.entry.bytes.now) pc fp) }
 {
     let mut frames = Frames::in_stack(stack, pc, fp);
     let mut before = None;

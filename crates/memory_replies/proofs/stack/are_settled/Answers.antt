@@ -1,5 +1,5 @@
 use Rattle.std.proofs.Common.{List, sym, subst}
-use Rattle.backtrace.specs.Agreeing.{AgreeBehind}
+use Rattle.backtrace.specs.Agreeing.{AgreeAt}
 use Rattle.backtrace.specs.MemoryWords.{words_in}
 use Rattle.backtrace.specs.declared.frames.Frame.{Frame}
 use Rattle.memory_replies.specs.Backtrace.{words_of}
@@ -12,9 +12,9 @@ pub loop-frame-preserved : goal.loop-frame-preserved
 loop-frame-preserved c image front space is values agree =
     let here = c.is_settled.ensures c.if-not-is_settled.false image front space is values in
     c.loop-frame.invariant image front space is values
-    (subst (λ (fs : List Frame). AgreeBehind (words_of space) (words_in c.args.stack.first c.args.stack.bytes.now) c.loop-frame.before fs) (sym c.in-Some.ensures.steps.frames) (here, agree))
+    (subst (λ (fs : List Frame). AgreeAt (words_of space) (words_in c.args.stack.first c.args.stack.bytes.now) c.loop-frame.before fs) (sym c.in-Some.ensures.steps.frames) (here, agree))
 
 pub returns : goal.returns
 returns c says image front space is values =
     c.loop-frame.invariant image front space is values
-    (subst (λ (fs : List Frame). AgreeBehind (words_of space) (words_in c.args.stack.first c.args.stack.bytes.now) c.loop-frame.before fs) (sym c.in_default.ensures.steps.frames.0) tt)
+    (subst (λ (fs : List Frame). AgreeAt (words_of space) (words_in c.args.stack.first c.args.stack.bytes.now) c.loop-frame.before fs) (sym c.in_default.ensures.steps.frames.0) tt)
