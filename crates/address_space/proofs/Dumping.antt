@@ -5,7 +5,7 @@ use Rattle.std.proofs.lemmas.Bool.{cond-true, cond-false, le-leb, lt-leb}
 use Rattle.elf_view.specs.Field.{part}
 use Rattle.elf_view.specs.Front.{headed}
 use Rattle.elf_view.specs.Header.{SegmentView, segments_of}
-use Rattle.address_space.specs.Source.{Space, content_by, cut_off, decider, dumped, first_from, is_covering, placed, value_at, value_of}
+use Rattle.address_space.specs.Source.{Space, content_by, cut_off, decider, dumped, first_from, is_covering, place_at, placed, value_at, value_of}
 use Rattle.address_space.specs.Ranges.{IsAlike}
 use Rattle.address_space.specs.Whole.{filled}
 use Rattle.address_space.proofs.Filled.{filled_too, first_in, part_long}

@@ -1,4 +1,4 @@
-use Rattle.std.proofs.Common.{arith}
+use Rattle.std.proofs.Common.{◌-◌, arith}
 use Rattle.elf_view.specs.ViewWords.{image_of}
 use Rattle.address_space.specs.ScanWords.{decided_view}
 use Rattle.address_space.proofs.Dumping.{values_are}
