@@ -1,1 +1,2 @@
 pub mod MakeLemmas
+pub mod HeldLemmas

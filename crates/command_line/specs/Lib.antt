@@ -1,3 +1,4 @@
 pub mod Told
 pub mod OverDisks
 pub mod Making
+pub mod Holding

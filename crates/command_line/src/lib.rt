@@ -13,6 +13,7 @@ mod raw_words;
 mod single;
 mod storing;
 mod tables;
+mod unsent;
 mod words;
 
 pub use failures::tell_unwritten;
