@@ -2,7 +2,7 @@
 _corekeep() {
     local word=${COMP_WORDS[COMP_CWORD]}
     local before=${COMP_WORDS[COMP_CWORD-1]}
-    local commands="format run store list ask extract memory"
+    local commands="format run store handle list ask extract memory"
     local lines="list free delete pin unpin label retire upgrade header notes threads regs process signal auxv files maps dump find strings bt symbol"
     local session="--template --uses-pid --limit"
     COMPREPLY=()
@@ -12,6 +12,10 @@ _corekeep() {
     fi
     case $before in
     --half | --data | --template | --limit | --keep | --bytes | --before | --exec | --label) return ;;
+    --log | --archive)
+        COMPREPLY=($(compgen -f -- "$word"))
+        return
+        ;;
     --layout)
         COMPREPLY=($(compgen -W "1 2" -- "$word"))
         return
@@ -21,7 +25,8 @@ _corekeep() {
     case ${COMP_WORDS[1]} in
     format) options="--half --data --sparse --layout --help" ;;
     run) options="--no-wait $session --help" ;;
-    store) options="--exec --label --escape --keep --bytes --before --no-wait $session --help" ;;
+    store) options="--exec --label --escape --keep --bytes --before --log --no-wait $session --help" ;;
+    handle) options="--check --archive --help" ;;
     list | ask | extract) options="--no-wait --help" ;;
     memory) options="--half --data $session --help" ;;
     esac

@@ -2,3 +2,4 @@ pub mod Told
 pub mod OverDisks
 pub mod Making
 pub mod Holding
+pub mod Telling

@@ -2,11 +2,11 @@
 use crate::asked::Place;
 use crate::failures::{Refusal, Word};
 use crate::making::format_over;
+use crate::part_file::{clear, give_name, is_named, is_same, part_of};
 use disk_model::{Disk, FileDisk, FileFault};
 use journal_layout::Shape;
 use std::fs;
 use std::fs::{File, Metadata, TryLockError};
-use std::os::unix::fs::MetadataExt;
 use std::rt::Files;
 
 // What is done to an archive: what only looks needs no right to write its file, and shares its lock.
@@ -34,21 +34,46 @@ pub(crate) struct NewArchive {
     pub(crate) is_sparse: bool,
 }
 
-// Makes an archive in a new file. The shape is looked at before there is one.
+// Makes an archive in a new file. The shape is looked at before there is one. Until the archive is whole its file is called
+// ARCHIVE.part, so that one that is stopped leaves nothing in the way.
 pub(crate) fn make_archive<R: AllocGlobal + Files<File = File>>(
     rt: &R,
     path: &str,
     wanted: NewArchive,
 ) -> Result<(), Refusal> {
     let length = wanted.shape.length()?;
-    let made = if wanted.is_sparse {
-        FileDisk::create_sparse(rt, path, length)
+    let part = part_of(rt.alloc(), path)?;
+    clear(rt, path, &part).map_err(|fault| Refusal::File(Word::Archive, fault))?;
+    let disk = make_file(rt, &part, length, wanted.is_sparse)?;
+    let (formatted, disk) = format_over(rt.alloc(), disk, wanted);
+    if formatted.is_err() {
+        let _ = fs::remove_file(rt, &part);
+    }
+    formatted?;
+    // The lock of its file is kept until it has its name.
+    let named = give_name(rt, path, &part);
+    drop(disk);
+    named.map_err(|fault| Refusal::File(Word::Archive, fault))
+}
+
+// Makes the file of an archive. One that can't be made whole is removed, unless another process made it.
+fn make_file<R: AllocGlobal + Files<File = File>>(
+    rt: &R,
+    part: &str,
+    length: u64,
+    is_sparse: bool,
+) -> Result<FileDisk, Refusal> {
+    let made = if is_sparse {
+        FileDisk::create_sparse(rt, part, length)
     } else {
-        FileDisk::create(rt, path, length)
+        FileDisk::create(rt, part, length)
     };
-    let disk = made.map_err(|fault| Refusal::File(Word::Archive, fault))?;
-    let (formatted, _) = format_over(rt.alloc(), disk, wanted);
-    formatted
+    made.map_err(|fault| {
+        if fault != FileFault::Exists && fault != FileFault::Busy {
+            let _ = fs::remove_file(rt, part);
+        }
+        Refusal::File(Word::Archive, fault)
+    })
 }
 
 // Takes the disk of an archive in a file. This alone waits: for the file's lock, as long as another process has it, or, of
@@ -156,10 +181,6 @@ fn names<R: Files<File = File>>(rt: &R, path: &str, file: &Metadata) -> bool {
     }
 }
 
-fn is_same(one: &Metadata, other: &Metadata) -> bool {
-    one.dev() == other.dev() && one.ino() == other.ino()
-}
-
 fn open_file<R: Files<File = File>>(rt: &R, path: &str, access: Access) -> Result<File, FileFault> {
     let mut options = File::options();
     options.read(true).write(access == Access::Changing);
@@ -187,11 +208,4 @@ fn wait_for_lock(file: &File, access: Access) -> Result<(), FileFault> {
         Access::Changing => file.lock(),
     };
     locked.map_err(|_| FileFault::Lock)
-}
-
-// Whether the path still names the file.
-fn is_named<R: Files<File = File>>(rt: &R, path: &str, file: &File) -> Result<bool, FileFault> {
-    let named = fs::metadata(rt, path)?;
-    let opened = file.metadata()?;
-    Ok(is_same(&named, &opened))
 }

@@ -2,12 +2,13 @@
 use crate::archives::NewArchive;
 use crate::failures::{Failure, Part, Refusal};
 use crate::grammar::program;
+use crate::handle::HandleWords;
 use crate::raw_words::{is_text, push_escaped};
 use arrayvec::ArrayVec;
 use clap::ArgMatches;
 use journal_layout::Shape;
 use retention::Policy;
-use script_lines::{Call, Question, parse_question};
+use script_lines::{Call, Command, Question, Request, parse_question, parse_text};
 use script_words::parse_number;
 use std::alloc::{AllocError, Global};
 
@@ -38,6 +39,8 @@ pub(crate) enum Asked<'a> {
         file: &'a str,
         wanted: StoreWords,
         settings: SessionWords<'a>,
+        // Where its outcome is told, if it is.
+        log: Option<&'a str>,
     },
     // The image of a case, in a new file or on the output.
     Extract {
@@ -45,6 +48,8 @@ pub(crate) enum Asked<'a> {
         case: &'a str,
         file: Option<&'a str>,
     },
+    // A core from the input, as a configuration says.
+    Handle(HandleWords<'a>),
     // What one line of a script asks, and its reply.
     Ask {
         archive: Place<'a>,
@@ -106,12 +111,14 @@ pub(crate) fn read_words<'a>(alloc: Global, words: &'a [String]) -> Result<Asked
                 label: label_of(alloc, found)?,
             },
             settings: settings_of(found)?,
+            log: found.get_str("log").map(checked).transpose()?,
         }),
         Some(("extract", found)) => Ok(Asked::Extract {
             archive: place_of(found)?,
             case: text_of(found, "case")?,
             file: found.get_str("file").map(checked).transpose()?,
         }),
+        Some(("handle", found)) => Ok(Asked::Handle(handle_words(alloc, found)?)),
         Some(("list", found)) => Ok(Asked::Ask {
             archive: place_of(found)?,
             question: Question::Call(Call::ListCases),
@@ -218,10 +225,73 @@ fn label_of(alloc: Global, found: &ArgMatches<'_>) -> Result<Option<ArrayVec<u8,
     };
     let mut line = b"label 1 ".to_vec(alloc)?;
     push_value(&mut line, text, found.get_flag("escape"))?;
-    match parse_question(&line) {
-        Some(Question::Call(Call::Label { label, .. })) => Ok(Some(label)),
+    Ok(Some(label_in(&line)?))
+}
+
+// A label of these bytes, whatever they are.
+pub(crate) fn escaped_label(alloc: Global, text: &str) -> Result<ArrayVec<u8, 64>, Refusal> {
+    let mut line = b"label 1 ".to_vec(alloc)?;
+    push_escaped(&mut line, text)?;
+    label_in(&line)
+}
+
+// The label that a line gives.
+fn label_in(line: &[u8]) -> Result<ArrayVec<u8, 64>, Refusal> {
+    match parse_question(line) {
+        Some(Question::Call(Call::Label { label, .. })) => Ok(label),
         _ => Err(Refusal::BadLine),
     }
+}
+
+// What the words of `handle` ask for. The first word that is no pair names the configuration.
+fn handle_words<'a>(alloc: Global, found: &ArgMatches<'a>) -> Result<HandleWords<'a>, Refusal> {
+    let words = found.get_strs("pairs").unwrap_or(&[]);
+    let (config, pairs) = match words.split_first() {
+        Some((first, rest)) if !first.contains('=') => (Some(checked(first)?), rest),
+        _ => (None, words),
+    };
+    let (begin, left_out) = known_pairs(alloc, pairs)?;
+    Ok(HandleWords {
+        config,
+        archive: found.get_str("archive").map(checked).transpose()?,
+        begin,
+        left_out,
+        is_check: found.get_flag("check"),
+    })
+}
+
+// The line that begins a core with these pairs, and the pairs that it can't have.
+fn known_pairs<'a>(
+    alloc: Global,
+    pairs: &[&'a str],
+) -> Result<(Vec<u8>, Vec<&'a str>), AllocError> {
+    let mut line = b"begin core 0".to_vec(alloc)?;
+    let mut left_out = Vec::new(alloc);
+    for pair in pairs {
+        let at = line.len();
+        if !takes_pair(&mut line, pair)? {
+            line.truncate(at);
+            left_out.push(*pair)?;
+        }
+    }
+    Ok((line, left_out))
+}
+
+// Adds a pair to the line that begins a core. Says whether the line is one still.
+fn takes_pair(line: &mut Vec<u8>, pair: &str) -> Result<bool, AllocError> {
+    push_text(line, " ")?;
+    match push_pair(line, pair, true) {
+        Ok(()) => Ok(begins_core(line)),
+        Err(Refusal::OutOfMemory) => Err(AllocError),
+        Err(_) => Ok(false),
+    }
+}
+
+fn begins_core(line: &[u8]) -> bool {
+    matches!(
+        parse_text(line),
+        Command::Plain(Request::BeginCore { .. })
+    )
 }
 
 // What the line of a script that these words are asks.

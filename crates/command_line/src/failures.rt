@@ -1,6 +1,12 @@
 // Why the program ends with a status other than 0, and how it says so.
-ghost use Rattle.std.specs.Prelude.{◌≡◌, ◌≢◌, ◌≤◌};
+ghost use Rattle.std.specs.Prelude.{◌≡◌, ◌≢◌, ◌≤◌, true};
+ghost use Rattle.script_streams.specs.Replies.{TellsText, telling, no_reply};
+ghost use Rattle.command_line.specs.Telling.{IsToldAs, fault_line, fault_words, file_words, is_aside, open_words, refusal_words};
+ghost use Rattle.command_line.specs.declared.failures.Failure.TheVariants.{Faulted, Refused};
+ghost use Rattle.command_line.specs.declared.failures.Refusal.{Refusal};
+ghost use Rattle.inspector_cli.specs.declared.session.SessionFault.{SessionFault};
 
+use crate::collected::Collected;
 use crate::outcomes::life_failure;
 use case_journal::FormatFault;
 use clap::error::ErrorKind;
@@ -9,7 +15,7 @@ use inspector_cli::{MemoryFault, SessionFault, reason};
 use intake::ArchiveFault;
 use journal_layout::{BadShape, OpenFault};
 use name_template::TemplateFault;
-use script_streams::{Output, Reply, StreamFault};
+use script_streams::{Output, Reply, write_whole};
 use std::alloc::{AllocError, Global};
 use std::io;
 
@@ -152,6 +158,11 @@ pub(crate) fn tell_failure<O: Output, E: Output>(
 ) -> u8
     ensures most { result ≤ 2 }
     ensures quiet { result ≡ 0 → errors.new ≡ errors.old }
+    ensures refused { (r : Refusal) → failure.now ≡ Refused r
+        → IsToldAs (O.taken output.old) (O.taken output.new) (O.failures output.old) (O.failures output.new) (no_reply (refusal_words r)) }
+    ensures aside { is_aside failure.now ≡ true → output.new ≡ output.old }
+    ensures fault { (f : SessionFault) → failure.now ≡ Faulted f
+        → IsToldAs (E.taken errors.old) (E.taken errors.new) (E.failures errors.old) (E.failures errors.new) (fault_line f) }
 {
     match failure {
         Failure::Words(error) => tell_words(alloc, error, output, errors),
@@ -186,19 +197,13 @@ fn tell_words<O: Output, E: Output>(
         return tell_refusal(Refusal::OutOfMemory, output);
     };
     if error.use_stderr() {
-        let _ = tell_text(errors, text.as_bytes());
+        let _ = write_whole(errors, text.as_bytes());
         return 2;
     }
-    match tell_text(output, text.as_bytes()) {
+    match write_whole(output, text.as_bytes()) {
         Ok(()) => 0,
         Err(_) => 1,
     }
-}
-
-fn tell_text<O: Output>(output: &mut O, text: &[u8]) -> Result<(), StreamFault> {
-    let mut reply = Reply::new(output);
-    reply.tell(text);
-    reply.finish()
 }
 
 /// Tells people why this file could not be written, where the file system has no room for it; of other reasons nothing is told.
@@ -237,38 +242,67 @@ fn tell_in_words<E: Output>(alloc: Global, refusal: Refusal, errors: &mut E) {
     let Ok(text) = text else {
         return;
     };
-    let _ = tell_text(errors, text.as_bytes());
+    let _ = write_whole(errors, text.as_bytes());
 }
 
 // Tells what is refused.
 fn tell_refusal<O: Output>(refusal: Refusal, output: &mut O) -> u8
-    ensures { result ≡ 1 }
+    ensures status { result ≡ 1 }
+    ensures told { IsToldAs (O.taken output.old) (O.taken output.new) (O.failures output.old) (O.failures output.new) (no_reply (refusal_words refusal)) }
 {
     let mut reply = Reply::new(output);
     reply.tell(b"no ");
-    match refusal {
-        Refusal::BadLine => reply.tell(b"BadLine"),
-        Refusal::Pipe => reply.tell(b"Pipe"),
-        Refusal::TemplateTooLong => reply.tell(b"TemplateTooLong"),
-        Refusal::BadShape => reply.tell(b"BadShape"),
-        Refusal::File(_, FileFault::Busy) => reply.tell(b"Busy"),
-        Refusal::File(_, FileFault::OutOfMemory) => reply.tell(b"OutOfMemory"),
-        Refusal::File(_, FileFault::Settle) => reply.tell(b"Disk"),
-        Refusal::File(_, _) | Refusal::Output => reply.tell(b"File"),
-        Refusal::LineTooLong => reply.tell(b"LineTooLong"),
-        Refusal::NotUtf8(_) => reply.tell(b"NotUtf8"),
-        Refusal::OutOfMemory => reply.tell(b"OutOfMemory"),
-        Refusal::Disk => reply.tell(b"Disk"),
-        Refusal::Open(fault) => tell_open_fault(&mut reply, fault),
-        Refusal::Call(fault) => reply.tell(reason(fault)),
-    }
+    tell_reason(&mut reply, refusal);
     reply.tell(b"\n");
     let _ = reply.finish();
     1
 }
 
+// The reason of a refusal.
+pub(crate) fn reason_of(alloc: Global, refusal: Refusal) -> Collected {
+    let mut words = Collected::new(alloc);
+    let mut reply = Reply::new(&mut words);
+    tell_reason(&mut reply, refusal);
+    let _ = reply.finish();
+    words
+}
+
+// Tells the reason of a refusal.
+fn tell_reason<O: Output>(reply: &mut Reply<'_, O>, refusal: Refusal)
+    ensures { TellsText (telling O.Output reply.old reply.new) (refusal_words refusal) }
+{
+    match refusal {
+        Refusal::BadLine => reply.tell(b"BadLine"),
+        Refusal::Pipe => reply.tell(b"Pipe"),
+        Refusal::TemplateTooLong => reply.tell(b"TemplateTooLong"),
+        Refusal::BadShape => reply.tell(b"BadShape"),
+        Refusal::File(_, fault) => reply.tell(file_reason(fault)),
+        Refusal::Output => reply.tell(b"File"),
+        Refusal::LineTooLong => reply.tell(b"LineTooLong"),
+        Refusal::NotUtf8(_) => reply.tell(b"NotUtf8"),
+        Refusal::OutOfMemory => reply.tell(b"OutOfMemory"),
+        Refusal::Disk => reply.tell(b"Disk"),
+        Refusal::Open(fault) => tell_open_fault(reply, fault),
+        Refusal::Call(fault) => reply.tell(reason(fault)),
+    }
+}
+
+// The reason for which a file is refused.
+fn file_reason(fault: FileFault) -> &'static [u8]
+    ensures { result.now ≡ file_words fault }
+{
+    match fault {
+        FileFault::Busy => b"Busy",
+        FileFault::OutOfMemory => b"OutOfMemory",
+        FileFault::Settle => b"Disk",
+        _ => b"File",
+    }
+}
+
 // Tells why an archive could not be opened.
-fn tell_open_fault<O: Output>(reply: &mut Reply<'_, O>, fault: OpenFault) {
+fn tell_open_fault<O: Output>(reply: &mut Reply<'_, O>, fault: OpenFault)
+    ensures { TellsText (telling O.Output reply.old reply.new) (open_words fault) }
+{
     match fault {
         OpenFault::Disk => reply.tell(b"Disk"),
         OpenFault::NotAnArchive => reply.tell(b"NotAnArchive"),
@@ -288,7 +322,8 @@ fn tell_open_fault<O: Output>(reply: &mut Reply<'_, O>, fault: OpenFault) {
 
 // Tells why a session ended before its script.
 fn tell_fault<E: Output>(fault: SessionFault, errors: &mut E) -> u8
-    ensures { result ≡ 1 }
+    ensures status { result ≡ 1 }
+    ensures told { IsToldAs (E.taken errors.old) (E.taken errors.new) (E.failures errors.old) (E.failures errors.new) (fault_line fault) }
 {
     let mut reply = Reply::new(errors);
     reply.tell(b"fault ");
@@ -298,7 +333,9 @@ fn tell_fault<E: Output>(fault: SessionFault, errors: &mut E) -> u8
     1
 }
 
-fn fault_name(fault: SessionFault) -> &'static [u8] {
+fn fault_name(fault: SessionFault) -> &'static [u8]
+    ensures { result.now ≡ fault_words fault }
+{
     match fault {
         SessionFault::ReadFailed => b"ReadFailed",
         SessionFault::WriteFailed => b"WriteFailed",

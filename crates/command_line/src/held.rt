@@ -50,6 +50,13 @@ impl<'a, O: Output> Held<'a, O> {
         }
     }
 
+    // What is held.
+    pub(crate) fn text(&self) -> &[u8]
+        ensures { result.now ≡ self.now.unsent }
+    {
+        self.unsent.bytes()
+    }
+
     // Writes what is held: then the output behind this one has all that this one took. Where a write failed, it has a front of it.
     pub(crate) fn finish(&mut self) -> Result<(), StreamFault>
         ensures kept { Keeps (taken_by O.Output self.old) (taken_by O.Output self.new) }

@@ -3,16 +3,28 @@
 
 mod archives;
 mod asked;
+mod checking;
+mod collected;
+mod config_file;
+mod examine;
 mod failures;
 mod grammar;
+mod handle;
 mod held;
+mod log;
 mod making;
+mod outcome_lines;
 mod outcomes;
 mod over_disk;
+mod part_file;
 mod raw_words;
+mod reasons;
+mod shapes;
 mod single;
+mod store_file;
 mod storing;
 mod tables;
+mod teller;
 mod unsent;
 mod words;
 

@@ -9,17 +9,14 @@ use crate::asked::Place;
 use crate::failures::{Failure, Refusal, Word};
 use crate::held::Held;
 use crate::over_disk::{CaseNumber, ask_over, copy_over, read_over};
+use crate::part_file::{begin, give_name, part_of};
 use disk_model::FileFault;
 use inspector_cli::{Question, SessionFault, write_image};
 use script_streams::{Output, WriteOutput};
 use std::fs;
-use std::fs::{File, Permissions};
+use std::fs::File;
 use std::io::ErrorKind;
-use std::os::unix::fs::{OpenOptionsExt, PermissionsExt};
 use std::rt::Files;
-
-// Its owner may read and write a file, and nobody else.
-const OWNER_ALONE: u32 = 0o600;
 
 // Writes the image of a case to the output, or to a new file, which is durable then.
 pub(crate) fn extract<R: AllocGlobal + Files<File = File>, O: Output>(
@@ -64,32 +61,38 @@ fn extract_to<R: AllocGlobal + Files<File = File>, O: Output>(
     }
 }
 
-// What is in a file that was made stays there, whatever failed behind it; one in which nothing was written goes.
+// FILE has its name only once it is whole and synced. Until then it is called FILE.part. What was written stays there, whatever
+// failed after it; if nothing was written, it is removed.
 fn extract_to_file<R: AllocGlobal + Files<File = File>>(
     rt: &R,
     place: Place<'_>,
     case: CaseNumber,
     path: &str,
 ) -> Result<(), Failure> {
-    let file = new_file(rt, path).map_err(|fault| Failure::Aside(Refusal::File(
-        Word::File,
-        fault,
-    )))?;
+    let part = part_of(rt.alloc(), path).map_err(|_| Failure::Aside(Refusal::OutOfMemory))?;
+    let file = begin(rt, path, &part).map_err(|fault| refused_file(fault))?;
     let mut output = WriteOutput::new(file);
     let done = copy_to(rt, place, case, &mut output);
     let why = output.fault();
     let file = output.into_inner();
     match done {
-        Ok(()) => file
-            .sync_all()
-            .map_err(|error| Failure::Unwritten(error.kind())),
+        Ok(()) => {
+            file.sync_all()
+                .map_err(|error| Failure::Unwritten(error.kind()))?;
+            give_name(rt, path, &part).map_err(|fault| refused_file(fault))
+        }
         Err(failure) => {
             if is_empty(&file) {
-                let _ = fs::remove_file(rt, path);
+                let _ = fs::remove_file(rt, &part);
             }
             Err(told_why(failure, why))
         }
     }
+}
+
+// FILE is refused.
+fn refused_file(fault: FileFault) -> Failure {
+    Failure::Aside(Refusal::File(Word::File, fault))
 }
 
 // What failed, with the reason where it is that of a write.
@@ -119,17 +122,6 @@ fn is_empty(file: &File) -> bool {
         Ok(attributes) => attributes.len() == 0,
         Err(_) => false,
     }
-}
-
-// A new file, for its owner alone, whatever the process masks.
-fn new_file<R: Files<File = File>>(rt: &R, path: &str) -> Result<File, FileFault> {
-    let file = File::options()
-        .write(true)
-        .create_new(true)
-        .mode(OWNER_ALONE)
-        .open(rt, path)?;
-    file.set_permissions(Permissions::from_mode(OWNER_ALONE))?;
-    Ok(file)
 }
 
 // Answers one question, and writes its reply once the archive is let go.

@@ -8,6 +8,7 @@ ghost use Rattle.inspector_cli.specs.Storing.{line_stream};
 ghost use Rattle.command_line.specs.OverDisks.{StoresOnDisk, StoresFile, IsFitted};
 
 use crate::asked::StoreWords;
+use crate::collected::Collected;
 use crate::failures::{Failure, Refusal};
 use crate::outcomes::store_told;
 use arrayvec::ArrayVec;
@@ -15,7 +16,7 @@ use disk_model::Disk;
 use inspector_cli::{Naming, NewStream, line_stream, open_and_store};
 use intake::Settings;
 use retention::Policy;
-use script_streams::{Input, Output, ReadInput};
+use script_streams::{Input, Output, ReadInput, Reply};
 use std::alloc::Global;
 use std::io::{BufRead, BufReader, Read};
 
@@ -61,6 +62,26 @@ impl StoreRequest {
         ensures { result ≡ self.now.limit }
     {
         self.limit
+    }
+
+    // Why no stream can begin, if none can.
+    pub(crate) fn refusal(&self) -> Option<&'static [u8]> {
+        match &self.found {
+            Ok(_) => None,
+            Err(reason) => Some(*reason),
+        }
+    }
+
+    // The name of the case as it prints, or what it is if it has none.
+    pub(crate) fn printed_name(&self, alloc: Global) -> Collected {
+        let mut name = Collected::new(alloc);
+        let mut reply = Reply::new(&mut name);
+        match &self.found {
+            Ok(stream) => reply.tell_text(stream.name.as_slice()),
+            Err(_) => reply.tell(b"a core"),
+        }
+        let _ = reply.finish();
+        name
     }
 
     // No room is made for what can't be stored.

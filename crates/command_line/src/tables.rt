@@ -40,7 +40,7 @@ pub(crate) struct CommandWords {
 }
 
 // The commands, in the order in which help shows them.
-pub(crate) static COMMANDS: [CommandWords; 7] = [
+pub(crate) static COMMANDS: [CommandWords; 8] = [
     CommandWords {
         name: "format",
         about: "makes an archive in a new file, with no case in it",
@@ -56,8 +56,13 @@ pub(crate) static COMMANDS: [CommandWords; 7] = [
         about: "stores a core file as a case of an archive, named by the template, or an executable",
         words: &[
             ARCHIVE, FILE, PAIRS, EXEC, LABEL, ESCAPE, KEEP, BYTES, BEFORE, NO_WAIT, TEMPLATE,
-            USES_PID, LIMIT,
+            USES_PID, LIMIT, LOG,
         ],
+    },
+    CommandWords {
+        name: "handle",
+        about: "stores a core from standard input as a configuration says, and tells its outcome to a log: the kernel's handler",
+        words: &[HANDLER_PAIRS, HANDLER_ARCHIVE, CHECK],
     },
     CommandWords {
         name: "list",
@@ -187,6 +192,42 @@ const PAIRS: Word = Word {
     takes: Takes::Pairs,
     default: None,
     help: "what is known of the core; KEY is comm, exe, host, pid, tid, sig, uid, gid, mode, time or limit, and a byte of a text outside 0x21 to 0x7e, or a backslash, is \\xHH, unless --escape is there",
+};
+
+// Where the outcome is told.
+const LOG: Word = Word {
+    id: "log",
+    shown: "PATH",
+    takes: Takes::Text,
+    default: None,
+    help: "adds a line to this file, made if it does not exist, that says what became of FILE; /dev/kmsg is the kernel's log",
+};
+
+// The configuration of a handler, and what is known of a core.
+const HANDLER_PAIRS: Word = Word {
+    id: "pairs",
+    shown: "WORD",
+    takes: Takes::Pairs,
+    default: None,
+    help: "the configuration's file (else /etc/corekeep.conf), and then KEY=VALUE as `store --escape` takes them; a pair that is none is told and left out",
+};
+
+// The archive of a handler.
+const HANDLER_ARCHIVE: Word = Word {
+    id: "archive",
+    shown: "ARCHIVE",
+    takes: Takes::Text,
+    default: None,
+    help: "the archive's file if the configuration names none, or can't be read",
+};
+
+// Whether a handler's configuration is told, and nothing is stored.
+const CHECK: Word = Word {
+    id: "check",
+    shown: "",
+    takes: Takes::Flag,
+    default: None,
+    help: "stores nothing: tells what holds by the configuration, each fault with its line, and whether the archive is large enough",
 };
 
 // The name of an executable.

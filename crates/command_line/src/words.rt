@@ -3,12 +3,15 @@ ghost use Rattle.std.specs.Prelude.{◌≡◌, ◌≤◌};
 
 use crate::archives::{Access, make_archive, names_output, take_disk};
 use crate::asked::{Asked, Place, SessionWords, read_words};
-use crate::failures::{Failure, Refusal, Word, tell_failure};
-use crate::over_disk::{look_over, run_over};
+use crate::failures::{Failure, Refusal, tell_failure};
+use crate::handle::handle;
+use crate::log::Log;
+use crate::over_disk::run_over;
 use crate::raw_words::words_of;
 use crate::single::{ask, extract};
-use crate::storing::{StoreRequest, store_from};
-use disk_model::FileFault;
+use crate::store_file::store_file;
+use crate::storing::StoreRequest;
+use crate::teller::{Teller, store_told};
 use inspector_cli::{Naming, memory_session};
 use intake::Settings;
 use journal_layout::Shape;
@@ -17,10 +20,11 @@ use script_streams::{Output, ReadInput};
 use std::fs::File;
 use std::io::Read;
 use std::rt::{Env, Files};
+use std::time::Clock;
 
 /// The program but for its standard streams, which its `main` hands in. Its words are those of the process, of any bytes.
 /// It answers the status that the program ends with, as `run_words` does.
-pub fn run_program<R: Env + AllocGlobal + Files<File = File>, I: Read, O: Output, E: Output>(
+pub fn run_program<R: Env + AllocGlobal + Files<File = File> + Clock, I: Read, O: Output, E: Output>(
     rt: &R,
     input: &mut I,
     output: &mut O,
@@ -65,7 +69,7 @@ pub fn run_program<R: Env + AllocGlobal + Files<File = File>, I: Read, O: Output
 /// `errors`), or the session ends before its script, with one line `fault NAME` on `errors`; 2 where the words are refused,
 /// with the reason on `errors`. Help goes to `output`, and the status is 0 then. What is refused is looked for in this
 /// order: the words, the template, the shape, ARCHIVE, FILE.
-pub fn run_words<R: AllocGlobal + Files<File = File>, I: Read, O: Output, E: Output>(
+pub fn run_words<R: AllocGlobal + Files<File = File> + Clock, I: Read, O: Output, E: Output>(
     rt: &R,
     words: &[String],
     input: &mut I,
@@ -83,7 +87,7 @@ pub fn run_words<R: AllocGlobal + Files<File = File>, I: Read, O: Output, E: Out
 }
 
 // Does what the words ask for, unless what is told of it would overwrite a file that they name.
-fn answer_words<R: AllocGlobal + Files<File = File>, I: Read, O: Output>(
+fn answer_words<R: AllocGlobal + Files<File = File> + Clock, I: Read, O: Output>(
     rt: &R,
     words: &[String],
     input: &mut I,
@@ -99,7 +103,7 @@ fn answer_words<R: AllocGlobal + Files<File = File>, I: Read, O: Output>(
 }
 
 // Does what is asked for.
-fn answer_asked<R: AllocGlobal + Files<File = File>, I: Read, O: Output>(
+fn answer_asked<R: AllocGlobal + Files<File = File> + Clock, I: Read, O: Output>(
     rt: &R,
     asked: Asked<'_>,
     input: &mut I,
@@ -114,16 +118,18 @@ fn answer_asked<R: AllocGlobal + Files<File = File>, I: Read, O: Output>(
             file,
             wanted,
             settings,
+            log,
         } => {
             let naming = naming_of(settings)?;
             let request = StoreRequest::of(wanted, &naming, settings.limit);
-            store(rt, archive, file, request, input, output)
+            store(rt, archive, file, request, log, input, output)
         }
         Asked::Extract {
             archive,
             case,
             file,
         } => extract(rt, archive, case, file, output),
+        Asked::Handle(words) => handle(rt, words, input, output),
         Asked::Ask { archive, question } => ask(rt, archive, question, output),
         Asked::Nothing => Ok(()),
     }
@@ -188,47 +194,24 @@ fn run_memory<R: AllocGlobal, I: Read, O: Output>(
     Ok(ended?)
 }
 
-// Stores a file, or the standard input. The file is opened before the archive's lock is taken, so that a pipe that nobody
-// writes to keeps no other process waiting; yet what is wrong with the archive is told first.
+// Stores a file, or the standard input, and tells a log of it, if one is named.
 fn store<R: AllocGlobal + Files<File = File>, I: Read, O: Output>(
     rt: &R,
     place: Place<'_>,
     file: &str,
     request: StoreRequest,
+    log: Option<&str>,
     input: &mut I,
     output: &mut O,
 ) -> Result<(), Failure> {
-    if file == "-" {
-        let disk = take_disk(rt, place, Access::Changing)?;
-        let (ended, _) = store_from(rt.alloc(), disk, request, input, output);
-        return ended;
-    }
-    let opened = File::open(rt, file);
-    let disk = take_disk(rt, place, Access::Changing)?;
-    match opened {
-        Ok(mut file) => {
-            let request = if is_longer(&file, request.limit()) {
-                request.without_room()
-            } else {
-                request
-            };
-            let (ended, _) = store_from(rt.alloc(), disk, request, &mut file, output);
-            ended
-        }
-        Err(error) => {
-            let (looked, _) = look_over(rt.alloc(), disk, request.limit());
-            looked?;
-            Err(Failure::Refused(Refusal::File(Word::File, FileFault::from(error))))
-        }
-    }
-}
-
-// Whether a file is known to have more bytes than an image may.
-fn is_longer(file: &File, limit: u64) -> bool {
-    match file.metadata() {
-        Ok(attributes) => attributes.is_file() && attributes.len() > limit,
-        Err(_) => false,
-    }
+    let Some(path) = log else {
+        return store_file(rt, place, file, request, input, output).0;
+    };
+    let teller = Teller {
+        alloc: rt.alloc(),
+        log: Log { path },
+    };
+    store_told(rt, teller, place, file, request, input, output)
 }
 
 // How cores are named.

@@ -1,0 +1,159 @@
+// What becomes of a case that is stored, told to a log.
+use crate::asked::Place;
+use crate::collected::Collected;
+use crate::examine::{Seen, look_at_case, trouble_of};
+use crate::failures::{Failure, reason_of};
+use crate::held::Held;
+use crate::log::{Level, Log};
+use crate::outcome_lines::{lost_line, outcome_of, stored_line};
+use crate::store_file::store_file;
+use crate::storing::StoreRequest;
+use disk_model::FileDisk;
+use inspector_cli::SessionFault;
+use script_streams::{Output, Reply};
+use script_words::parse_case_number;
+use std::alloc::Global;
+use std::fs::File;
+use std::io::Read;
+use std::rt::Files;
+use thread_regs::signal_name;
+
+// Where outcomes are told.
+#[derive(Clone, Copy)]
+pub(crate) struct Teller<'a> {
+    pub(crate) alloc: Global,
+    pub(crate) log: Log<'a>,
+}
+
+// Stores a file, or the standard input, and tells what became of it.
+pub(crate) fn store_told<R: AllocGlobal + Files<File = File>, I: Read, O: Output>(
+    rt: &R,
+    teller: Teller<'_>,
+    place: Place<'_>,
+    file: &str,
+    request: StoreRequest,
+    input: &mut I,
+    output: &mut O,
+) -> Result<(), Failure> {
+    let name = request.printed_name(teller.alloc);
+    let mut reply = Held::new(teller.alloc, output);
+    let (ended, disk) = store_file(rt, place, file, request, input, &mut reply);
+    teller.tell_outcome(rt, place.path, name.text(), reply.text(), &ended, disk);
+    let Ok(()) = reply.finish() else {
+        return Err(Failure::Faulted(SessionFault::WriteFailed));
+    };
+    ended
+}
+
+impl<'a> Teller<'a> {
+    // Tells a line.
+    pub(crate) fn tell<R: Files<File = File>>(&self, rt: &R, level: Level, text: &[u8]) {
+        self.log.tell(rt, self.alloc, level, text);
+    }
+
+    fn tell_lost<R: Files<File = File>>(&self, rt: &R, name: &[u8], reason: &[u8]) {
+        let line = lost_line(self.alloc, name, reason);
+        self.tell(rt, Level::Error, line.text());
+    }
+
+    // Tells why a case is not stored: as its replies say, or why there are none.
+    fn tell_refused<R: Files<File = File>>(
+        &self,
+        rt: &R,
+        name: &[u8],
+        refused: &[u8],
+        ended: &Result<(), Failure>,
+    ) {
+        match ended {
+            Err(Failure::Refused(refusal)) => {
+                self.tell_lost(rt, name, reason_of(self.alloc, *refusal).text());
+            }
+            _ => self.tell_lost(rt, name, refused),
+        }
+    }
+
+    // Tells of a case that is stored. The disk is let go.
+    fn tell_stored<R: Files<File = File>>(
+        &self,
+        rt: &R,
+        archive: &str,
+        replies: &[u8],
+        number: &[u8],
+        disk: FileDisk,
+    ) {
+        let Some(seq) = parse_case_number(number) else {
+            return;
+        };
+        let (seen, disk) = look_at_case(self.alloc, disk, seq);
+        let details = details_of(self.alloc, &seen);
+        let line = stored_line(self.alloc, replies, number, details.text(), archive);
+        self.tell(rt, Level::Info, line.text());
+        if let Some(seen) = &seen {
+            let (trouble, _) = trouble_of(self.alloc, disk, seq, seen);
+            self.tell_trouble(rt, number, trouble.text());
+        }
+    }
+
+    // Tells what became of a case, by the replies of its store. The disk is let go.
+    fn tell_outcome<R: Files<File = File>>(
+        &self,
+        rt: &R,
+        archive: &str,
+        name: &[u8],
+        replies: &[u8],
+        ended: &Result<(), Failure>,
+        disk: Option<FileDisk>,
+    ) {
+        let outcome = outcome_of(replies);
+        match (outcome.stored, disk) {
+            (Some(number), Some(disk)) => self.tell_stored(rt, archive, replies, number, disk),
+            _ => self.tell_refused(rt, name, outcome.refused, ended),
+        }
+    }
+
+    fn tell_trouble<R: Files<File = File>>(&self, rt: &R, number: &[u8], trouble: &[u8]) {
+        if trouble.is_empty() {
+            return;
+        }
+        let mut line = Collected::new(self.alloc);
+        let mut reply = Reply::new(&mut line);
+        reply.tell(b"case ");
+        reply.tell(number);
+        reply.tell(b" ");
+        reply.tell(trouble);
+        let _ = reply.finish();
+        self.tell(rt, Level::Warning, line.text());
+    }
+}
+
+// How many bytes a case has, and by which signal its process ended.
+fn details_of(alloc: Global, seen: &Option<Seen>) -> Collected {
+    let mut details = Collected::new(alloc);
+    let mut reply = Reply::new(&mut details);
+    if let Some(seen) = seen {
+        reply.tell(b" ");
+        reply.tell_decimal(u128::from(seen.length));
+        reply.tell(b" ");
+        tell_signal(&mut reply, seen.signal);
+    }
+    let _ = reply.finish();
+    details
+}
+
+// Tells a signal by its name, or by its number if it has none.
+fn tell_signal(reply: &mut Reply<'_, Collected>, signal: u32) {
+    let name = match i32::try_from(signal) {
+        Ok(number) => signal_name(number),
+        Err(_) => None,
+    };
+    match name {
+        Some(name) => {
+            reply.tell(b"SIG");
+            reply.tell(name.as_bytes());
+        }
+        None => {
+            reply.tell(b"signal ");
+            reply.tell_decimal(u128::from(signal));
+        }
+    }
+}

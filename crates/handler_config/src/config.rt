@@ -1,0 +1,51 @@
+// A configuration.
+ghost use Rattle.toml.specs.View.{view};
+ghost use Rattle.handler_config.specs.Config.{Says};
+
+use crate::values::{age_at, flag_at, natural_at, text_at};
+use toml::Value;
+
+/// What a configuration says. A key that is not there, or whose value is faulty, says nothing.
+#[derive(Clone, Copy)]
+pub struct Config<'t> {
+    /// The archive's file.
+    pub archive: Option<&'t str>,
+    /// How many cases stay beside a new one.
+    pub keep: Option<u64>,
+    /// How many bytes the images of the cases that stay have.
+    pub bytes: Option<u64>,
+    /// How old a case may be, in seconds.
+    pub before: Option<u64>,
+    /// The most bytes of an image.
+    pub limit: Option<u64>,
+    /// How cores are named, a template of core(5).
+    pub template: Option<&'t str>,
+    /// Names get a dot and the process if their template has no `%p`.
+    pub uses_pid: bool,
+    /// A core is refused if another process has the archive.
+    pub no_wait: bool,
+    /// The label of each new case.
+    pub label: Option<&'t str>,
+    /// The file to which each outcome is told; none if it is empty.
+    pub log: Option<&'t str>,
+}
+
+impl<'t> Config<'t> {
+    /// What a document says. Of a value that is no table nothing is said.
+    pub fn of(document: &'t Value) -> Config<'t>
+        ensures { Says (view document.entry.now) result }
+    {
+        Config {
+            archive: text_at(document, "archive"),
+            keep: natural_at(document, "keep"),
+            bytes: natural_at(document, "bytes"),
+            before: age_at(document, "before"),
+            limit: natural_at(document, "limit"),
+            template: text_at(document, "template"),
+            uses_pid: flag_at(document, "uses-pid"),
+            no_wait: flag_at(document, "no-wait"),
+            label: text_at(document, "label"),
+            log: text_at(document, "log"),
+        }
+    }
+}

@@ -1,0 +1,92 @@
+// The keys of a configuration.
+ghost use Rattle.std.specs.Prelude.{◌≡◌};
+ghost use Rattle.toml.specs.View.{view};
+ghost use Rattle.handler_config.specs.Keys as spec;
+
+use crate::values::{age_in, natural_in};
+use toml::Value;
+
+/// A key of a configuration.
+#[derive(Clone, Copy, Debug, PartialEq, Eq)]
+pub enum Key {
+    /// The archive's file: a text.
+    Archive,
+    /// How many cases stay beside a new one: a number.
+    Keep,
+    /// How many bytes the images of the cases that stay have: a number.
+    Bytes,
+    /// How old a case may be: an age.
+    Before,
+    /// The most bytes of an image: a number.
+    Limit,
+    /// How cores are named, a template of core(5): a text.
+    Template,
+    /// Names get a dot and the process if their template has no `%p`: true or false.
+    UsesPid,
+    /// A core is refused if another process has the archive: true or false.
+    NoWait,
+    /// The label of each new case: a text.
+    Label,
+    /// The file to which each outcome is told: a text.
+    Log,
+}
+
+/// What is wrong with an entry of a configuration.
+#[derive(Clone, Copy, Debug, PartialEq, Eq)]
+pub enum Fault {
+    /// There is no such key.
+    Unknown,
+    /// The value is no text.
+    NotText,
+    /// The value is no number from 0 on.
+    NotNumber,
+    /// The value is neither true nor false.
+    NotFlag,
+    /// The value is no age: a text of a number and `s`, `m`, `h` or `d`.
+    NotAge,
+}
+
+// The key that is written so.
+fn key_of(word: &str) -> Option<Key>
+    ensures { result ≡ spec.key_of word.now }
+{
+    match word {
+        "archive" => Some(Key::Archive),
+        "keep" => Some(Key::Keep),
+        "bytes" => Some(Key::Bytes),
+        "before" => Some(Key::Before),
+        "limit" => Some(Key::Limit),
+        "template" => Some(Key::Template),
+        "uses-pid" => Some(Key::UsesPid),
+        "no-wait" => Some(Key::NoWait),
+        "label" => Some(Key::Label),
+        "log" => Some(Key::Log),
+        _ => None,
+    }
+}
+
+// A value that is missing is this fault.
+fn unless_there(fault: Fault, is_there: bool) -> Option<Fault>
+    ensures { result ≡ spec.unless fault is_there }
+{
+    if is_there { None } else { Some(fault) }
+}
+
+/// What is wrong with an entry, if anything is: there is no such key, or its value is of another type.
+pub fn entry_fault(word: &str, value: &Value) -> Option<Fault>
+    ensures { result ≡ spec.entry_fault word.now (view value.now) }
+{
+    let Some(key) = key_of(word) else {
+        return Some(Fault::Unknown);
+    };
+    match key {
+        Key::Archive | Key::Template | Key::Label | Key::Log => {
+            unless_there(Fault::NotText, value.as_str().is_some())
+        }
+        Key::Keep | Key::Bytes | Key::Limit => {
+            unless_there(Fault::NotNumber, natural_in(value).is_some())
+        }
+        Key::Before => unless_there(Fault::NotAge, age_in(value).is_some()),
+        Key::UsesPid | Key::NoWait => unless_there(Fault::NotFlag, value.as_bool().is_some()),
+    }
+}

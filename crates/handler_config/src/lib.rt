@@ -1,0 +1,11 @@
+//! What a handler of core files goes by: the keys and values of its configuration, a TOML document.
+//!
+//! [`Config::of`] reads the keys that a document has. [`entry_fault`] says what is wrong with one of them.
+#![tactic(auto)]
+
+mod config;
+mod keys;
+mod values;
+
+pub use config::Config;
+pub use keys::{Fault, Key, entry_fault};
