@@ -1,12 +1,13 @@
 // What the words ask for.
-use crate::archives::NewArchive;
-use crate::failures::{Failure, Part, Refusal};
+use archive_files::{ArchivePath, NewArchive, Refusal, StoreWords, WordPart};
+use crate::endings::Ending;
 use crate::grammar::program;
 use crate::handle::HandleWords;
 use crate::raw_words::{is_text, push_escaped};
 use arrayvec::ArrayVec;
 use clap::ArgMatches;
 use journal_layout::Shape;
+use line_help::help_of;
 use retention::Policy;
 use script_lines::{Call, Command, Question, Request, parse_question, parse_text};
 use script_words::parse_number;
@@ -25,7 +26,7 @@ pub(crate) enum Asked<'a> {
     },
     // A session over the archive in a file.
     Run {
-        archive: Place<'a>,
+        archive: ArchivePath<'a>,
         settings: SessionWords<'a>,
     },
     // A session over a fresh archive in memory.
@@ -35,7 +36,7 @@ pub(crate) enum Asked<'a> {
     },
     // A file as a case of an archive.
     Store {
-        archive: Place<'a>,
+        archive: ArchivePath<'a>,
         file: &'a str,
         wanted: StoreWords,
         settings: SessionWords<'a>,
@@ -44,7 +45,7 @@ pub(crate) enum Asked<'a> {
     },
     // The image of a case, in a new file or on the output.
     Extract {
-        archive: Place<'a>,
+        archive: ArchivePath<'a>,
         case: &'a str,
         file: Option<&'a str>,
     },
@@ -52,29 +53,11 @@ pub(crate) enum Asked<'a> {
     Handle(HandleWords<'a>),
     // What one line of a script asks, and its reply.
     Ask {
-        archive: Place<'a>,
+        archive: ArchivePath<'a>,
         question: Question,
     },
     // Nothing.
     Nothing,
-}
-
-// What a file is stored as.
-#[derive(Drop)]
-pub(crate) struct StoreWords {
-    // By which room is made first, where that is asked for.
-    pub(crate) policy: Option<Policy>,
-    // The line of a script that begins the stream.
-    pub(crate) begin: Vec<u8>,
-    // The label of the case, where one is asked for.
-    pub(crate) label: Option<ArrayVec<u8, 64>>,
-}
-
-// The file of an archive, and whether to wait for it where another process has it.
-#[derive(Clone, Copy)]
-pub(crate) struct Place<'a> {
-    pub(crate) path: &'a str,
-    pub(crate) waits: bool,
 }
 
 // What a session goes by, as the words say it.
@@ -87,7 +70,7 @@ pub(crate) struct SessionWords<'a> {
 }
 
 // What the words ask for.
-pub(crate) fn read_words<'a>(alloc: Global, words: &'a [String]) -> Result<Asked<'a>, Failure> {
+pub(crate) fn read_words<'a>(alloc: Global, words: &'a [String]) -> Result<Asked<'a>, Ending> {
     let matches = program(alloc)?.try_get_matches_from(words)?;
     match matches.subcommand() {
         Some(("format", found)) => Ok(Asked::Format {
@@ -138,10 +121,10 @@ fn text_of<'a>(found: &ArgMatches<'a>, id: &str) -> Result<&'a str, Refusal> {
 
 // A word that has to be text.
 fn checked<'a>(word: &'a str) -> Result<&'a str, Refusal> {
-    checked_part(word, Part::Other)
+    checked_part(word, WordPart::Other)
 }
 
-fn checked_part<'a>(word: &'a str, part: Part) -> Result<&'a str, Refusal> {
+fn checked_part<'a>(word: &'a str, part: WordPart) -> Result<&'a str, Refusal> {
     if is_text(word) {
         Ok(word)
     } else {
@@ -149,8 +132,8 @@ fn checked_part<'a>(word: &'a str, part: Part) -> Result<&'a str, Refusal> {
     }
 }
 
-fn place_of<'a>(found: &ArgMatches<'a>) -> Result<Place<'a>, Refusal> {
-    Ok(Place {
+fn place_of<'a>(found: &ArgMatches<'a>) -> Result<ArchivePath<'a>, Refusal> {
+    Ok(ArchivePath {
         path: text_of(found, "archive")?,
         waits: !found.get_flag("no-wait"),
     })
@@ -300,7 +283,19 @@ fn question_of(alloc: Global, found: &ArgMatches<'_>) -> Result<Question, Refusa
     if line.len() > LONGEST_LINE {
         return Err(Refusal::LineTooLong);
     }
-    parse_question(&line).ok_or(Refusal::BadLine)
+    match parse_question(&line) {
+        Some(question) => Ok(question),
+        None => Err(Refusal::NoLine(usage_of(found))),
+    }
+}
+
+// The words of the line that these words begin like; empty if there is none.
+fn usage_of(found: &ArgMatches<'_>) -> &'static str {
+    let words = found.get_strs("words").unwrap_or(&[]);
+    match words.first() {
+        Some(name) => help_of(name).map_or("", |help| help.usage),
+        None => "",
+    }
 }
 
 // The line of a script that these words are.
@@ -349,7 +344,7 @@ fn push_value(line: &mut Vec<u8>, value: &str, escapes: bool) -> Result<(), Refu
     if escapes {
         push_escaped(line, value)?;
     } else {
-        push_text(line, checked_part(value, Part::Value)?)?;
+        push_text(line, checked_part(value, WordPart::Value)?)?;
     }
     Ok(())
 }

@@ -1,11 +1,8 @@
 // What holds by a handler's configuration, told to a person.
-use crate::archives::{Access, take_disk};
-use crate::asked::Place;
+use archive_files::{Access, ArchivePath, Failure, reason_of, shape_on, take_disk};
 use crate::config_file::Document;
-use crate::failures::{Failure, reason_of};
 use crate::handle::{HANDLER_LIMIT, HANDLER_TEMPLATE, HandleWords};
 use crate::log::KERNEL_LOG;
-use crate::shapes::shape_on;
 use handler_config::Config;
 use inspector_cli::SessionFault;
 use journal_layout::Shape;
@@ -109,7 +106,7 @@ fn tell_size<R: AllocGlobal + Files<File = File>, O: Output>(
         reply.tell(b"fault no archive is named\n");
         return false;
     };
-    let place = Place { path, waits: true };
+    let place = ArchivePath { path, waits: true };
     match take_disk(rt, place, Access::Looking) {
         Ok(disk) => {
             let mut disk = disk;

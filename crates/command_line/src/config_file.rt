@@ -1,5 +1,5 @@
 // The file of a handler's configuration.
-use crate::collected::Collected;
+use archive_files::Collected;
 use handler_config::{Fault, entry_fault};
 use script_streams::Reply;
 use std::alloc::{AllocError, Global};

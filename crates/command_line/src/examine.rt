@@ -1,8 +1,7 @@
 // What is seen at once of a case that was stored.
 ghost use Rattle.std.specs.Prelude.{◌≡◌, ◌≤◌, Some, IfSome};
 
-use crate::collected::Collected;
-use crate::over_disk::ask_over;
+use archive_files::{Collected, ask_over};
 use disk_model::Disk;
 use intake::{Archive, Settings};
 use script_lines::{ImageQuery, Query};

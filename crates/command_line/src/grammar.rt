@@ -31,6 +31,9 @@ fn whole_program<'a>(alloc: Global) -> Result<Command<'a>, Error> {
 // A command and its words.
 fn command_of<'a>(alloc: Global, words: &CommandWords) -> Result<Command<'a>, Error> {
     let mut command = Command::new(alloc, words.name).about(words.about);
+    if let Some(help) = words.after_help {
+        command = command.after_help(help);
+    }
     for word in words.words {
         command = command.arg(argument(alloc, word))?;
     }

@@ -1,11 +1,9 @@
 // What the kernel's handler does: a core from the input is stored as a configuration says, and the outcome is told to a log.
-use crate::asked::{Place, StoreWords, escaped_label};
+use archive_files::{ArchivePath, Collected, Failure, FileWord, Refusal, StoreRequest, StoreWords};
+use crate::asked::escaped_label;
 use crate::checking::check;
-use crate::collected::Collected;
 use crate::config_file::{DEFAULT_CONFIG, Document, Trouble, read_document};
-use crate::failures::{Failure, Refusal, Word};
 use crate::log::{KERNEL_LOG, Level, Log};
-use crate::storing::StoreRequest;
 use crate::teller::{Teller, store_told};
 use arrayvec::ArrayVec;
 use disk_model::FileFault;
@@ -83,11 +81,11 @@ pub(crate) fn handle<R: AllocGlobal + Files<File = File> + Clock, I: Read, O: Ou
     let Some(archive) = config.archive.or(words.archive) else {
         handler.tell(rt, Level::Error, b"lost a core: no archive is named");
         return Err(Failure::Refused(Refusal::File(
-            Word::Archive,
+            FileWord::Archive,
             FileFault::Missing,
         )));
     };
-    let place = Place {
+    let place = ArchivePath {
         path: archive,
         waits: !config.no_wait,
     };
@@ -208,7 +206,7 @@ impl<'a> Handler<'a> {
     fn store<R: AllocGlobal + Files<File = File>, I: Read, O: Output>(
         &self,
         rt: &R,
-        place: Place<'_>,
+        place: ArchivePath<'_>,
         request: StoreRequest,
         input: &mut I,
         output: &mut O,

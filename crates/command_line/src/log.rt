@@ -1,5 +1,5 @@
 // The log of a handler: one line for each outcome.
-use crate::collected::Collected;
+use archive_files::Collected;
 use script_streams::Reply;
 use std::alloc::Global;
 use std::fs::File;

@@ -1,5 +1,5 @@
 // What the replies of a store say of its outcome, for a log.
-use crate::collected::Collected;
+use archive_files::Collected;
 use crate::reasons::meaning_of;
 use script_streams::Reply;
 use std::alloc::Global;

@@ -1,4 +1,5 @@
 // The program's commands and their words, as tables.
+use crate::ask_help::ASK_HELP;
 
 // What stands in the place of a word.
 #[derive(Clone, Copy)]
@@ -36,6 +37,8 @@ pub(crate) struct Word {
 pub(crate) struct CommandWords {
     pub(crate) name: &'static str,
     pub(crate) about: &'static str,
+    // What help shows after its words.
+    pub(crate) after_help: Option<&'static str>,
     pub(crate) words: &'static [Word],
 }
 
@@ -44,16 +47,19 @@ pub(crate) static COMMANDS: [CommandWords; 8] = [
     CommandWords {
         name: "format",
         about: "makes an archive in a new file, with no case in it",
+        after_help: None,
         words: &[NEW_ARCHIVE, SPARSE, LAYOUT, HALF, DATA],
     },
     CommandWords {
         name: "run",
         about: "runs the script on standard input over an archive, and writes its replies to standard output",
+        after_help: None,
         words: &[ARCHIVE, NO_WAIT, TEMPLATE, USES_PID, LIMIT],
     },
     CommandWords {
         name: "store",
         about: "stores a core file as a case of an archive, named by the template, or an executable",
+        after_help: None,
         words: &[
             ARCHIVE, FILE, PAIRS, EXEC, LABEL, ESCAPE, KEEP, BYTES, BEFORE, NO_WAIT, TEMPLATE,
             USES_PID, LIMIT, LOG,
@@ -62,26 +68,31 @@ pub(crate) static COMMANDS: [CommandWords; 8] = [
     CommandWords {
         name: "handle",
         about: "stores a core from standard input as a configuration says, and tells its outcome to a log: the kernel's handler",
+        after_help: None,
         words: &[HANDLER_PAIRS, HANDLER_ARCHIVE, CHECK],
     },
     CommandWords {
         name: "list",
         about: "lists the cases of an archive",
+        after_help: None,
         words: &[ARCHIVE, NO_WAIT],
     },
     CommandWords {
         name: "ask",
         about: "carries out one line of a script over an archive, and writes its reply; the status is 1 where it is refused",
+        after_help: Some(ASK_HELP),
         words: &[ARCHIVE, LINE, NO_WAIT],
     },
     CommandWords {
         name: "extract",
         about: "writes the image of a case, byte for byte, and nothing else; what is refused is told on standard error",
+        after_help: None,
         words: &[ARCHIVE, CASE, NEW_FILE, NO_WAIT],
     },
     CommandWords {
         name: "memory",
         about: "runs the script on standard input over a fresh archive in memory, which is gone at its end",
+        after_help: None,
         words: &[HALF, DATA, TEMPLATE, USES_PID, LIMIT],
     },
 ];

@@ -1,13 +1,8 @@
 // What becomes of a case that is stored, told to a log.
-use crate::asked::Place;
-use crate::collected::Collected;
+use archive_files::{ArchivePath, Collected, Failure, Held, StoreRequest, reason_of, store_file};
 use crate::examine::{Seen, look_at_case, trouble_of};
-use crate::failures::{Failure, reason_of};
-use crate::held::Held;
 use crate::log::{Level, Log};
 use crate::outcome_lines::{lost_line, outcome_of, stored_line};
-use crate::store_file::store_file;
-use crate::storing::StoreRequest;
 use disk_model::FileDisk;
 use inspector_cli::SessionFault;
 use script_streams::{Output, Reply};
@@ -29,7 +24,7 @@ pub(crate) struct Teller<'a> {
 pub(crate) fn store_told<R: AllocGlobal + Files<File = File>, I: Read, O: Output>(
     rt: &R,
     teller: Teller<'_>,
-    place: Place<'_>,
+    place: ArchivePath<'_>,
     file: &str,
     request: StoreRequest,
     input: &mut I,

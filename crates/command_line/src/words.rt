@@ -1,16 +1,13 @@
 // The program: what its words ask for, and the status that it ends with.
 ghost use Rattle.std.specs.Prelude.{◌≡◌, ◌≤◌};
 
-use crate::archives::{Access, make_archive, names_output, take_disk};
-use crate::asked::{Asked, Place, SessionWords, read_words};
-use crate::failures::{Failure, Refusal, tell_failure};
+use archive_files::{Access, ArchivePath, Failure, Refusal, StoreRequest, ask, extract, make_archive, names_output, run_over, store_file, take_disk};
+use crate::asked::{Asked, SessionWords, read_words};
+use crate::endings::{Ending, tell_ending};
 use crate::handle::handle;
+use crate::line_helps::{asked_help, tell_help};
 use crate::log::Log;
-use crate::over_disk::run_over;
 use crate::raw_words::words_of;
-use crate::single::{ask, extract};
-use crate::store_file::store_file;
-use crate::storing::StoreRequest;
 use crate::teller::{Teller, store_told};
 use inspector_cli::{Naming, memory_session};
 use intake::Settings;
@@ -35,9 +32,9 @@ pub fn run_program<R: Env + AllocGlobal + Files<File = File> + Clock, I: Read, O
 {
     match words_of(rt) {
         Ok(words) => run_words(rt, words.as_slice(), input, output, errors),
-        Err(_) => tell_failure(
+        Err(_) => tell_ending(
             rt.alloc(),
-            &Failure::Refused(Refusal::OutOfMemory),
+            &Ending::from(Refusal::OutOfMemory),
             output,
             errors,
         ),
@@ -82,7 +79,7 @@ pub fn run_words<R: AllocGlobal + Files<File = File> + Clock, I: Read, O: Output
 {
     match answer_words(rt, words, input, output) {
         Ok(()) => 0,
-        Err(failure) => tell_failure(rt.alloc(), &failure, output, errors),
+        Err(ending) => tell_ending(rt.alloc(), &ending, output, errors),
     }
 }
 
@@ -92,13 +89,16 @@ fn answer_words<R: AllocGlobal + Files<File = File> + Clock, I: Read, O: Output>
     words: &[String],
     input: &mut I,
     output: &mut O,
-) -> Result<(), Failure> {
+) -> Result<(), Ending> {
     if names_output(rt, words) {
-        return Err(Failure::Aside(Refusal::Output));
+        return Err(Ending::Failed(Failure::Aside(Refusal::Output)));
+    }
+    if let Some(help) = asked_help(words) {
+        return tell_help(help, output).map_err(|_| Ending::from(Failure::Told));
     }
     match read_words(rt.alloc(), words) {
-        Ok(asked) => answer_asked(rt, asked, input, output),
-        Err(failure) => Err(beside_an_image(words, failure)),
+        Ok(asked) => Ok(answer_asked(rt, asked, input, output)?),
+        Err(ending) => Err(aside_of_an_image(words, ending)),
     }
 }
 
@@ -136,9 +136,11 @@ fn answer_asked<R: AllocGlobal + Files<File = File> + Clock, I: Read, O: Output>
 }
 
 // What `extract` is refused is told beside its output, which is that of an image, also where its words could not be read.
-fn beside_an_image(words: &[String], failure: Failure) -> Failure {
-    match failure {
-        Failure::Refused(refusal) if asks_for_an_image(words) => Failure::Aside(refusal),
+fn aside_of_an_image(words: &[String], ending: Ending) -> Ending {
+    match ending {
+        Ending::Failed(Failure::Refused(refusal)) if asks_for_an_image(words) => {
+            Ending::Failed(Failure::Aside(refusal))
+        }
         other => other,
     }
 }
@@ -153,7 +155,7 @@ fn asks_for_an_image(words: &[String]) -> bool {
 // Runs a script over the archive in a file.
 fn run_file<R: AllocGlobal + Files<File = File>, I: Read, O: Output>(
     rt: &R,
-    place: Place<'_>,
+    place: ArchivePath<'_>,
     settings: SessionWords<'_>,
     input: &mut I,
     output: &mut O,
@@ -197,7 +199,7 @@ fn run_memory<R: AllocGlobal, I: Read, O: Output>(
 // Stores a file, or the standard input, and tells a log of it, if one is named.
 fn store<R: AllocGlobal + Files<File = File>, I: Read, O: Output>(
     rt: &R,
-    place: Place<'_>,
+    place: ArchivePath<'_>,
     file: &str,
     request: StoreRequest,
     log: Option<&str>,

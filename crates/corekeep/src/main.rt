@@ -1,7 +1,8 @@
 //! The program: its standard streams and its status.
 #![tactic(auto)]
 
-use command_line::{run_program, tell_unwritten};
+use archive_files::tell_unwritten;
+use command_line::run_program;
 use script_streams::{Output, Reply, WriteOutput};
 use std::fs::File;
 use std::io;

@@ -1,0 +1,88 @@
+-- What the program does over the archive on a disk, by the values that its words say.
+use Rattle.std.specs.Prelude.{◌≡◌, ◌⊎◌, ℕ, Bool, List, [], Option, None, Result, Ok, Err, Vec}
+use Rattle.std.specs.Global.{Global}
+use Rattle.std.specs.Io.KnownBytes.{Keeps}
+use Rattle.disk_model.specs.declared.disk.Disk as disk
+use Rattle.inspector_cli.specs.Asking.{AsksAlone, as_session, line_streams}
+use Rattle.inspector_cli.specs.Copying.{CopiesImage}
+use Rattle.inspector_cli.specs.Extracting.{ReadsImage}
+use Rattle.inspector_cli.specs.Life.{LifeEnds, RunsOver, StoresOver}
+use Rattle.inspector_cli.specs.Session.{Streams}
+use Rattle.inspector_cli.specs.Storing.{label_asked}
+use Rattle.inspector_cli.specs.declared.copying.CopyFault.{CopyFault}
+use Rattle.inspector_cli.specs.declared.extract.ImageFault.{ImageFault}
+use Rattle.inspector_cli.specs.declared.session.LifeFault.{LifeFault}
+use Rattle.inspector_cli.specs.declared.session.StoreOutcome.{StoreOutcome}
+use Rattle.intake.specs.Calls.{OpenCall}
+use Rattle.intake.specs.Parts.{Parts}
+use Rattle.script_lines.specs.Said.{Said, said}
+use Rattle.script_streams.specs.Lines.{IsLine}
+use Rattle.stream_names.specs.Commands.{stream_found}
+use Rattle.stream_names.specs.declared.naming.Naming.{Naming}
+use Rattle.archive_files.specs.declared.failures.Failure.{Failure}
+use Rattle.archive_files.specs.declared.failures.Failure.TheVariants.{Refused}
+use Rattle.archive_files.specs.declared.failures.Refusal.{Refusal}
+use Rattle.archive_files.specs.declared.failures.Refusal.TheVariants.{OutOfMemory, Open}
+use Rattle.archive_files.specs.declared.storing.StoreRequest.{StoreRequest}
+use Rattle.archive_files.specs.Told.{run_told, ask_told, store_told, copy_told, image_told}
+
+-- A session over the archive on a disk, and how its end is told.
+abbrev pub RunsOnDisk : {D : Type 0} → disk.Ghosts D → ℕ → Naming → Streams → D → Result (Unit {0}) Failure → D → Type 0
+RunsOnDisk g limit naming t before r after =
+    (ended : Result (Unit {0}) LifeFault) × LifeEnds g limit t before ended after (RunsOver g naming t) × (r ≡ run_told ended)
+
+-- Nothing is done for want of memory: the disk and the output are as they were.
+abbrev pub IsNotBegun : {D : Type 0} → Option (List ℕ) → Option (List ℕ) → ℕ → ℕ → D → Result (Unit {0}) Failure → D → Type 0
+IsNotBegun taken taken' lost lost' before r after = (r ≡ Err (Refused OutOfMemory)) × (after ≡ before) × (taken' ≡ taken) × (lost' ≡ lost)
+
+-- A session's streams: an input that has this to give, where that is known, and has not failed, and an output.
+pub record AreStreams (file before after : Option (List ℕ)) (count count' : ℕ) (t : Streams) : Type 0 where
+  pub input : Keeps file t.input
+  pub fails : t.fails ≡ 0
+  pub taken : t.taken ≡ before
+  pub taken' : t.taken' ≡ after
+  pub lost : t.lost ≡ count
+  pub lost' : t.lost' ≡ count'
+
+-- One line that says this is carried out over the archive on a disk: it is done, and the reply shows so, or it is refused, and the
+-- reply says why; and it is a session over that line.
+abbrev pub AnswersLine : {D : Type 0} → disk.Ghosts D → Said → Option (List ℕ) → Option (List ℕ) → ℕ → ℕ → D → Result (Unit {0}) Failure → D → Type 0
+AnswersLine g what taken taken' lost lost' before r after =
+    (asked : Result Bool LifeFault)
+    × LifeEnds g 0 (line_streams [] asked taken taken' lost lost') before asked after (AsksAlone g what taken taken')
+    × ((naming : Naming) (line : List ℕ) → IsLine line → said line ≡ what
+    → RunsOnDisk g 0 naming (line_streams line asked taken taken' lost lost') before (run_told (as_session asked)) after)
+    × (r ≡ ask_told asked)
+
+-- A stream is stored in the archive on a disk, as a request says, and how that is told.
+abbrev pub StoresOnDisk : {D : Type 0} → disk.Ghosts D → StoreRequest → Streams → D → Result (Unit {0}) Failure → D → Type 0
+StoresOnDisk g request t before r after =
+    (ended : Result StoreOutcome LifeFault)
+    × LifeEnds g request.limit t before ended after (StoresOver g request.policy (stream_found request.found) (label_asked request.label) t)
+    × (r ≡ store_told ended)
+
+-- the same request, or without room
+abbrev pub IsFitted : StoreRequest → StoreRequest → Type 0
+IsFitted request fitted = (fitted ≡ request) ⊎ (fitted ≡ record request { policy = None })
+
+-- The same of a file that is read ahead.
+abbrev pub StoresFile : {D : Type 0} → disk.Ghosts D → StoreRequest → Option (List ℕ) → Option (List ℕ) → Option (List ℕ) → ℕ → ℕ → D → Result (Unit {0}) Failure → D → Type 0
+StoresFile g request file taken taken' lost lost' before r after =
+    IsNotBegun taken taken' lost lost' before r after
+    ⊎ ((fitted : StoreRequest) × (t : Streams) × IsFitted request fitted × AreStreams file taken taken' lost lost' t × StoresOnDisk g fitted t before r after)
+
+-- An image is copied out of the archive on a disk, and how that is told.
+abbrev pub CopiesOnDisk : {D : Type 0} → disk.Ghosts D → ℕ → Option (List ℕ) → Option (List ℕ) → ℕ → ℕ → D → Result (Unit {0}) Failure → D → Type 0
+CopiesOnDisk g seq taken taken' lost lost' before r after =
+    (copied : Result (Unit {0}) CopyFault) × CopiesImage g 0 seq before taken taken' lost lost' copied after × (r ≡ copy_told copied)
+
+-- An image is read out of the archive on a disk, and how that is told.
+abbrev pub ReadsOnDisk : {D : Type 0} → disk.Ghosts D → ℕ → D → Result (Vec ℕ Global) Failure → D → Type 0
+ReadsOnDisk g seq before r after =
+    (read : Result (Vec ℕ Global) ImageFault) × ReadsImage g 0 seq before read after × (r ≡ image_told read)
+
+-- The archive on a disk is opened, and no more; or why it is not.
+abbrev pub LooksOnDisk : {D : Type 0} → disk.Ghosts D → ℕ → D → Result (Unit {0}) Refusal → D → Type 0
+LooksOnDisk {D} g limit before (Ok u) after = (opened : Parts D) × OpenCall g limit before (Ok opened) × (after ≡ opened.disk)
+LooksOnDisk g limit before (Err (Open f)) after = OpenCall g limit before (Err (f, after))
+LooksOnDisk g limit before (Err _) after = ⊥

@@ -1,0 +1,69 @@
+-- What the program tells of a failure: `no REASON` for what is refused, and `fault NAME` where a session ended before its script.
+use Rattle.std.specs.Prelude.{ℕ, Bool, true, false, List, [], ◌∷◌, ◌++◌, Option, Result, codes, decimal}
+use Rattle.intake.specs.declared.faults.ArchiveFault.{ArchiveFault}
+use Rattle.archive_replies.specs.Reasons.{reason_of}
+use Rattle.disk_model.specs.declared.file_disk.FileFault.{FileFault}
+use Rattle.disk_model.specs.declared.file_disk.FileFault.TheVariants as file
+use Rattle.inspector_cli.specs.declared.session.SessionFault.{SessionFault}
+use Rattle.inspector_cli.specs.declared.session.SessionFault.TheVariants.{ReadFailed, WriteFailed, TooManyReads}
+use Rattle.journal_layout.specs.FieldNames.{field_name}
+use Rattle.journal_layout.specs.declared.faults.OpenFault.{OpenFault}
+use Rattle.journal_layout.specs.declared.faults.OpenFault.TheVariants as opening
+use Rattle.script_streams.specs.Telling.{IsDelivered}
+use Rattle.script_streams.specs.declared.streams.StreamFault.{StreamFault}
+use Rattle.archive_files.specs.declared.failures.Failure.{Failure}
+use Rattle.archive_files.specs.declared.failures.Failure.TheVariants.{Refused, Aside, Faulted, Unwritten, Told}
+use Rattle.archive_files.specs.declared.failures.Refusal.{Refusal}
+use Rattle.archive_files.specs.declared.failures.Refusal.TheVariants.{BadLine, NoLine, Pipe, TemplateTooLong, BadShape, File, Output, LineTooLong, NotUtf8, OutOfMemory, Disk, Open, Call}
+
+-- A text goes to an output that had taken `before`: it takes all of it, or a front of it until a write fails.
+abbrev pub IsToldAs : Option (List ℕ) → Option (List ℕ) → ℕ → ℕ → List ℕ → Type 0
+IsToldAs before after count count' text = (r : Result (Unit {0}) StreamFault) × IsDelivered before count after count' text r
+
+-- why an archive could not be opened: a damaged one by the place and the name of its first faulty field
+abbrev pub open_words : OpenFault → List ℕ
+open_words opening.Disk = codes "Disk"
+open_words opening.NotAnArchive = codes "NotAnArchive"
+open_words opening.OutOfMemory = codes "OutOfMemory"
+open_words (opening.UnknownVersion version) = codes "UnknownVersion " ++ decimal version
+open_words (opening.Damaged at field) = ((codes "Damaged " ++ decimal at) ++ codes " ") ++ field_name field
+
+-- why a file could not be made, opened or locked
+abbrev pub file_words : FileFault → List ℕ
+file_words file.Busy = codes "Busy"
+file_words file.OutOfMemory = codes "OutOfMemory"
+file_words file.Settle = codes "Disk"
+file_words _ = codes "File"
+
+-- what is refused
+abbrev pub refusal_words : Refusal → List ℕ
+refusal_words BadLine = codes "BadLine"
+refusal_words (NoLine usage) = codes "BadLine"
+refusal_words Pipe = codes "Pipe"
+refusal_words TemplateTooLong = codes "TemplateTooLong"
+refusal_words BadShape = codes "BadShape"
+refusal_words (File word fault) = file_words fault
+refusal_words Output = codes "File"
+refusal_words LineTooLong = codes "LineTooLong"
+refusal_words (NotUtf8 part) = codes "NotUtf8"
+refusal_words OutOfMemory = codes "OutOfMemory"
+refusal_words Disk = codes "Disk"
+refusal_words (Open fault) = open_words fault
+refusal_words (Call fault) = reason_of fault
+
+abbrev pub fault_words : SessionFault → List ℕ
+fault_words ReadFailed = codes "ReadFailed"
+fault_words WriteFailed = codes "WriteFailed"
+fault_words TooManyReads = codes "TooManyReads"
+
+-- why a session ended before its script
+abbrev pub fault_line : SessionFault → List ℕ
+fault_line fault = (codes "fault " ++ fault_words fault) ++ 10 ∷ []
+
+-- What goes to the errors alone. The output is that of an image, or has said so already.
+abbrev pub is_aside : Failure → Bool
+is_aside (Refused refusal) = false
+is_aside (Aside refusal) = true
+is_aside (Faulted fault) = true
+is_aside (Unwritten kind) = true
+is_aside Told = true

@@ -1,0 +1,54 @@
+-- How the end of what is done over a disk is told.
+use Rattle.std.specs.Prelude.{ℕ, Bool, true, false, ◌&&◌, Result, Ok, Err, is_some, if◌then◌else◌, Vec}
+use Rattle.std.specs.Global.{Global}
+use Rattle.inspector_cli.specs.declared.copying.CopyFault.{CopyFault}
+use Rattle.inspector_cli.specs.declared.copying.CopyFault.TheVariants as copy
+use Rattle.inspector_cli.specs.declared.extract.ImageFault.{ImageFault}
+use Rattle.inspector_cli.specs.declared.extract.ImageFault.TheVariants as image
+use Rattle.inspector_cli.specs.declared.session.LifeFault.{LifeFault}
+use Rattle.inspector_cli.specs.declared.session.LifeFault.TheVariants as life
+use Rattle.inspector_cli.specs.declared.session.SessionFault.TheVariants.{WriteFailed}
+use Rattle.inspector_cli.specs.declared.session.StoreOutcome.{StoreOutcome}
+use Rattle.intake.specs.declared.faults.ArchiveFault.TheVariants.{Disk}
+use Rattle.archive_files.specs.declared.archives.Access.{Access}
+use Rattle.archive_files.specs.declared.archives.Access.TheVariants.{Looking, Changing}
+use Rattle.archive_files.specs.declared.failures.Failure.{Failure}
+use Rattle.archive_files.specs.declared.failures.Failure.TheVariants.{Refused, Aside, Faulted, Told}
+use Rattle.archive_files.specs.declared.failures.Refusal.TheVariants.{Open, Call}
+
+-- how a fault of an opening, or of a session, is told
+abbrev pub life_failure : LifeFault → Failure
+life_failure (life.Open f) = Refused (Open f)
+life_failure (life.Session f) = Faulted f
+
+abbrev pub run_told : Result (Unit {0}) LifeFault → Result (Unit {0}) Failure
+run_told (Ok u) = Ok tt
+run_told (Err f) = Err (life_failure f)
+
+-- A question is done, or its reply has said why it is refused.
+abbrev pub ask_told : Result Bool LifeFault → Result (Unit {0}) Failure
+ask_told (Ok true) = Ok tt
+ask_told (Ok false) = Err Told
+ask_told (Err f) = Err (life_failure f)
+
+-- what is told of a store: it is done where the case is stored, and neither its room nor its label was refused
+abbrev pub store_told : Result StoreOutcome LifeFault → Result (Unit {0}) Failure
+store_told (Ok outcome) = if outcome.made_room && is_some outcome.stored && outcome.labelled then Ok tt else Err Told
+store_told (Err f) = Err (life_failure f)
+
+-- What is refused of an image goes to the errors, beside the image.
+abbrev pub copy_told : Result (Unit {0}) CopyFault → Result (Unit {0}) Failure
+copy_told (Ok u) = Ok tt
+copy_told (Err (copy.Open f)) = Err (Aside (Open f))
+copy_told (Err (copy.Archive f)) = Err (Aside (Call f))
+copy_told (Err copy.Disk) = Err (Aside (Call Disk))
+copy_told (Err copy.Output) = Err (Faulted WriteFailed)
+
+abbrev pub image_told : Result (Vec ℕ Global) ImageFault → Result (Vec ℕ Global) Failure
+image_told (Ok bytes) = Ok bytes
+image_told (Err (image.Open f)) = Err (Aside (Open f))
+image_told (Err (image.Archive f)) = Err (Aside (Call f))
+
+-- what is done to an archive by a line that only looks, and by any other
+abbrev pub access_by : Bool → Access
+access_by looks = if looks then Looking else Changing

@@ -1,0 +1,6 @@
+/// The file of an archive, and whether to wait for it where another process has it.
+#[derive(Clone, Copy)]
+pub struct ArchivePath<'a> {
+    pub path: &'a str,
+    pub waits: bool,
+}

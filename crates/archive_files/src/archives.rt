@@ -1,0 +1,211 @@
+// Archives, made, and taken from their files.
+use crate::archive_path::ArchivePath;
+use crate::failures::{Refusal, FileWord};
+use crate::making::format_over;
+use crate::part_file::{clear, give_name, is_named, is_same, part_of};
+use disk_model::{Disk, FileDisk, FileFault};
+use journal_layout::Shape;
+use std::fs;
+use std::fs::{File, Metadata, TryLockError};
+use std::rt::Files;
+
+/// What is done to an archive: what only looks needs no right to write its file, and shares its lock.
+#[derive(Clone, Copy, Debug, PartialEq, Eq)]
+pub enum Access {
+    Looking,
+    Changing,
+}
+
+// How often a file is opened anew that is no longer the one of its path.
+const MOST_TRIES: u32 = 1_000_000;
+
+// The bytes of a block, and the most blocks of a half of a journal.
+const BLOCK: u64 = 4096;
+
+const MOST_HALF_BLOCKS: u32 = 4096;
+
+/// What is asked of a new archive.
+#[derive(Clone, Copy)]
+pub struct NewArchive {
+    pub shape: Shape,
+    /// It is of version 2 of the layout.
+    pub keeps_labels: bool,
+    /// Its zeros are not written.
+    pub is_sparse: bool,
+}
+
+/// Makes an archive in a new file. The shape is looked at before there is one. Until the archive is whole its file is called
+/// ARCHIVE.part, so that one that is stopped leaves nothing in the way.
+pub fn make_archive<R: AllocGlobal + Files<File = File>>(
+    rt: &R,
+    path: &str,
+    wanted: NewArchive,
+) -> Result<(), Refusal> {
+    let length = wanted.shape.length()?;
+    let part = part_of(rt.alloc(), path)?;
+    clear(rt, path, &part).map_err(|fault| Refusal::File(FileWord::Archive, fault))?;
+    let disk = make_file(rt, &part, length, wanted.is_sparse)?;
+    let (formatted, disk) = format_over(rt.alloc(), disk, wanted);
+    if formatted.is_err() {
+        let _ = fs::remove_file(rt, &part);
+    }
+    formatted?;
+    // The lock of its file is kept until it has its name.
+    let named = give_name(rt, path, &part);
+    drop(disk);
+    named.map_err(|fault| Refusal::File(FileWord::Archive, fault))
+}
+
+// Makes the file of an archive. One that can't be made whole is removed, unless another process made it.
+fn make_file<R: AllocGlobal + Files<File = File>>(
+    rt: &R,
+    part: &str,
+    length: u64,
+    is_sparse: bool,
+) -> Result<FileDisk, Refusal> {
+    let made = if is_sparse {
+        FileDisk::create_sparse(rt, part, length)
+    } else {
+        FileDisk::create(rt, part, length)
+    };
+    made.map_err(|fault| {
+        if fault != FileFault::Exists && fault != FileFault::Busy {
+            let _ = fs::remove_file(rt, part);
+        }
+        Refusal::File(FileWord::Archive, fault)
+    })
+}
+
+/// Takes the disk of an archive in a file. This alone waits: for the file's lock, as long as another process has it, or, of
+/// what only looks, as long as another changes the archive.
+pub fn take_disk<R: AllocGlobal + Files<File = File>>(
+    rt: &R,
+    place: ArchivePath<'_>,
+    access: Access,
+) -> Result<FileDisk, Refusal> {
+    let taken = disk_of(rt, place, access);
+    taken.map_err(|fault| Refusal::File(FileWord::Archive, fault))
+}
+
+fn disk_of<R: AllocGlobal + Files<File = File>>(
+    rt: &R,
+    place: ArchivePath<'_>,
+    access: Access,
+) -> Result<FileDisk, FileFault> {
+    let file = take_file(rt, place, access)?;
+    match access {
+        Access::Looking => FileDisk::from_shared(file),
+        Access::Changing => settled(FileDisk::from_locked(rt.alloc(), file)?),
+    }
+}
+
+// Has the archive's superblock and journal written again. An earlier process may have failed to write some of it, and reads
+// don't tell. What is built on them then is as durable as they are.
+fn settled(disk: FileDisk) -> Result<FileDisk, FileFault> {
+    let mut disk = disk;
+    let front = front_of(&mut disk)?;
+    disk.write_again(front)?;
+    Ok(disk)
+}
+
+// How many bytes the superblock and the journal take. 0 where there is no archive.
+fn front_of<D: Disk>(disk: &mut D) -> Result<u64, FileFault> {
+    let mut start = [0u8; 20];
+    if disk.length() < BLOCK {
+        return Ok(0);
+    }
+    if disk.read_at(0, &mut start).is_err() {
+        return Err(FileFault::Settle);
+    }
+    if !start[8..].starts_with(b"COREKEEP") {
+        return Ok(0);
+    }
+    let half_blocks = u32::from_le_bytes([start[16], start[17], start[18], start[19]]);
+    Ok(BLOCK * (1 + 2 * u64::from(half_blocks.min(MOST_HALF_BLOCKS))))
+}
+
+// Opens the file and takes its lock. Opening a pipe could wait for ever, so what is no regular file is refused before. While
+// it waited, another file may have been put in its place: then it begins again.
+fn take_file<R: Files<File = File>>(
+    rt: &R,
+    place: ArchivePath<'_>,
+    access: Access,
+) -> Result<File, FileFault> {
+    for _ in 0..MOST_TRIES {
+        look_at_file(rt, place.path)?;
+        let file = open_file(rt, place.path, access)?;
+        lock(&file, place.waits, access)?;
+        if is_named(rt, place.path, &file)? {
+            return Ok(file);
+        }
+    }
+    Err(FileFault::Busy)
+}
+
+// Refuses a path that names neither a regular file nor a folder, which is refused once it is open.
+fn look_at_file<R: Files<File = File>>(rt: &R, path: &str) -> Result<(), FileFault> {
+    let named = fs::metadata(rt, path)?;
+    if named.is_file() || named.is_dir() {
+        Ok(())
+    } else {
+        Err(FileFault::Special)
+    }
+}
+
+/// Whether one of the words of a command over an archive names the file that standard output goes to. What the program tells
+/// would be written over it.
+pub fn names_output<R: Files<File = File>>(rt: &R, words: &[String]) -> bool {
+    let Some((command, others)) = words.split_first() else {
+        return false;
+    };
+    if !takes_archive(command) {
+        return false;
+    }
+    match fs::metadata(rt, "/dev/stdout") {
+        Ok(output) if output.is_file() => others.iter().any(|word| names(rt, word, &output)),
+        _ => false,
+    }
+}
+
+fn takes_archive(command: &str) -> bool {
+    matches!(
+        command,
+        "format" | "run" | "store" | "extract" | "list" | "ask"
+    )
+}
+
+fn names<R: Files<File = File>>(rt: &R, path: &str, file: &Metadata) -> bool {
+    match fs::metadata(rt, path) {
+        Ok(named) => is_same(&named, file),
+        Err(_) => false,
+    }
+}
+
+fn open_file<R: Files<File = File>>(rt: &R, path: &str, access: Access) -> Result<File, FileFault> {
+    let mut options = File::options();
+    options.read(true).write(access == Access::Changing);
+    Ok(options.open(rt, path)?)
+}
+
+fn lock(file: &File, waits: bool, access: Access) -> Result<(), FileFault> {
+    if waits {
+        return wait_for_lock(file, access);
+    }
+    let tried = match access {
+        Access::Looking => file.try_lock_shared(),
+        Access::Changing => file.try_lock(),
+    };
+    match tried {
+        Ok(()) => Ok(()),
+        Err(TryLockError::WouldBlock) => Err(FileFault::Busy),
+        Err(TryLockError::Error(_)) => Err(FileFault::Lock),
+    }
+}
+
+fn wait_for_lock(file: &File, access: Access) -> Result<(), FileFault> {
+    let locked = match access {
+        Access::Looking => file.lock_shared(),
+        Access::Changing => file.lock(),
+    };
+    locked.map_err(|_| FileFault::Lock)
+}

@@ -1,0 +1,43 @@
+// Text that is kept, and goes nowhere by itself.
+ghost use Rattle.std.specs.Prelude.{Some};
+
+use failure_count::after_failure;
+use script_streams::{Output, StreamFault};
+use std::alloc::Global;
+
+/// An output that keeps what it takes, as far as there is memory.
+#[derive(Drop)]
+pub struct Collected {
+    text: Vec<u8>,
+    failures: u64,
+}
+
+impl Collected {
+    pub fn new(alloc: Global) -> Collected {
+        Collected {
+            text: Vec::new(alloc),
+            failures: 0,
+        }
+    }
+
+    /// What it has taken.
+    pub fn text(&self) -> &[u8] {
+        &self.text
+    }
+}
+
+impl Output for Collected {
+    ghost taken = { λ s. Some s.text.items };
+
+    ghost failures = { λ s. s.failures };
+
+    fn write(&mut self, from: &[u8]) -> Result<usize, StreamFault> {
+        match self.text.extend_from_slice(from) {
+            Ok(()) => Ok(from.len()),
+            Err(_) => {
+                self.failures = after_failure(self.failures);
+                Err(StreamFault)
+            }
+        }
+    }
+}

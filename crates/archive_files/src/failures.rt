@@ -1,0 +1,312 @@
+// Why the program ends with a status other than 0, and how it says so.
+ghost use Rattle.std.specs.Prelude.{◌≡◌, ◌≢◌, ◌≤◌, true};
+ghost use Rattle.script_streams.specs.Replies.{TellsText, telling, no_reply};
+ghost use Rattle.archive_files.specs.Telling.{IsToldAs, fault_line, fault_words, file_words, is_aside, open_words, refusal_words};
+ghost use Rattle.archive_files.specs.declared.failures.Failure.TheVariants.{Faulted, Refused};
+ghost use Rattle.archive_files.specs.declared.failures.Refusal.{Refusal};
+ghost use Rattle.inspector_cli.specs.declared.session.SessionFault.{SessionFault};
+
+use crate::collected::Collected;
+use crate::outcomes::life_failure;
+use case_journal::FormatFault;
+use disk_model::FileFault;
+use inspector_cli::{MemoryFault, SessionFault, reason};
+use intake::ArchiveFault;
+use journal_layout::{BadShape, OpenFault};
+use name_template::TemplateFault;
+use script_streams::{Output, Reply, write_whole};
+use std::alloc::{AllocError, Global};
+use std::io;
+
+/// Why the program did not do what its words ask for.
+#[derive(Drop)]
+pub enum Failure {
+    /// It was refused.
+    Refused(Refusal),
+    /// It was refused, and the output is that of an image, so this is told beside it.
+    Aside(Refusal),
+    /// The session ended before its script.
+    Faulted(SessionFault),
+    /// The file of an image could not be written.
+    Unwritten(io::ErrorKind),
+    /// A step was refused, and its reply has said so.
+    Told,
+}
+
+/// Which word of the command line names a file.
+#[derive(Clone, Copy, Debug, PartialEq, Eq)]
+pub enum FileWord {
+    Archive,
+    File,
+}
+
+/// Which part of the command line is not UTF-8.
+#[derive(Clone, Copy, Debug, PartialEq, Eq)]
+pub enum WordPart {
+    /// The VALUE of a pair, or NAME: `--escape` takes its bytes as they are.
+    Value,
+    /// Any other word.
+    Other,
+}
+
+/// What a line `no REASON` tells.
+#[derive(Clone, Copy, Debug, PartialEq, Eq)]
+pub enum Refusal {
+    /// The words contradict one another.
+    BadLine,
+    /// The words are no line. A line that begins so has these words, if there is one.
+    NoLine(&'static str),
+    /// The template would hand cores to a program.
+    Pipe,
+    /// The template is too long.
+    TemplateTooLong,
+    /// The shape is outside its limits.
+    BadShape,
+    /// The file that a word names could not be made, opened or locked.
+    File(FileWord, FileFault),
+    /// Standard output goes to a file that a word names.
+    Output,
+    /// A line of over 1,024 bytes.
+    LineTooLong,
+    /// A word is not UTF-8.
+    NotUtf8(WordPart),
+    /// There was no memory.
+    OutOfMemory,
+    /// The disk failed while the archive was made.
+    Disk,
+    /// The archive could not be opened.
+    Open(OpenFault),
+    /// The archive refused a call.
+    Call(ArchiveFault),
+}
+
+impl From<Refusal> for Failure {
+    fn from(refusal: Refusal) -> Self {
+        Failure::Refused(refusal)
+    }
+}
+
+impl From<SessionFault> for Failure {
+    fn from(fault: SessionFault) -> Self {
+        Failure::Faulted(fault)
+    }
+}
+
+impl From<MemoryFault> for Failure {
+    fn from(fault: MemoryFault) -> Self {
+        match fault {
+            MemoryFault::BadShape => Failure::Refused(Refusal::BadShape),
+            MemoryFault::OutOfMemory => Failure::Refused(Refusal::OutOfMemory),
+            MemoryFault::Disk => Failure::Refused(Refusal::Disk),
+            MemoryFault::Life(fault) => life_failure(fault),
+        }
+    }
+}
+
+impl From<AllocError> for Failure {
+    fn from(_: AllocError) -> Self {
+        Failure::Refused(Refusal::OutOfMemory)
+    }
+}
+
+impl From<TemplateFault> for Refusal {
+    fn from(fault: TemplateFault) -> Self {
+        match fault {
+            TemplateFault::Pipe => Refusal::Pipe,
+            TemplateFault::TemplateTooLong => Refusal::TemplateTooLong,
+        }
+    }
+}
+
+impl From<BadShape> for Refusal {
+    fn from(_: BadShape) -> Self {
+        Refusal::BadShape
+    }
+}
+
+impl From<AllocError> for Refusal {
+    fn from(_: AllocError) -> Self {
+        Refusal::OutOfMemory
+    }
+}
+
+impl From<FormatFault> for Refusal {
+    fn from(fault: FormatFault) -> Self {
+        match fault {
+            FormatFault::BadShape => Refusal::BadShape,
+            FormatFault::Disk => Refusal::Disk,
+        }
+    }
+}
+
+/// Says why the program failed, and answers its status. Help is no failure: it goes to the output, and the status is 0.
+pub fn tell_failure<O: Output, E: Output>(
+    alloc: Global,
+    failure: &Failure,
+    output: &mut O,
+    errors: &mut E,
+) -> u8
+    ensures most { result ≤ 2 }
+    ensures quiet { result ≡ 0 → errors.new ≡ errors.old }
+    ensures refused { (r : Refusal) → failure.now ≡ Refused r
+        → IsToldAs (O.taken output.old) (O.taken output.new) (O.failures output.old) (O.failures output.new) (no_reply (refusal_words r)) }
+    ensures aside { is_aside failure.now ≡ true → output.new ≡ output.old }
+    ensures fault { (f : SessionFault) → failure.now ≡ Faulted f
+        → IsToldAs (E.taken errors.old) (E.taken errors.new) (E.failures errors.old) (E.failures errors.new) (fault_line f) }
+{
+    match failure {
+        Failure::Refused(refusal) => {
+            tell_in_words(alloc, *refusal, errors);
+            tell_refusal(*refusal, output)
+        }
+        Failure::Aside(refusal) => {
+            tell_in_words(alloc, *refusal, errors);
+            tell_refusal(*refusal, errors)
+        }
+        Failure::Faulted(fault) => tell_fault(*fault, errors),
+        Failure::Unwritten(kind) => {
+            tell_unwritten(b"FILE", *kind, errors);
+            tell_fault(SessionFault::WriteFailed, errors)
+        }
+        Failure::Told => 1,
+    }
+}
+
+/// Tells people why this file could not be written, where the file system has no room for it; of other reasons nothing is told.
+pub fn tell_unwritten<E: Output>(file: &[u8], kind: io::ErrorKind, errors: &mut E) {
+    let why: &[u8] = match kind {
+        io::ErrorKind::StorageFull => b"the file system is full",
+        io::ErrorKind::QuotaExceeded => b"the quota is used up",
+        io::ErrorKind::FileTooLarge => b"the file may not grow so large",
+        _ => return,
+    };
+    let mut reply = Reply::new(errors);
+    reply.tell(b"corekeep: ");
+    reply.tell(file);
+    reply.tell(b": ");
+    reply.tell(why);
+    reply.tell(b"\n");
+    let _ = reply.finish();
+}
+
+// Tells people what a reason for scripts leaves open.
+fn tell_in_words<E: Output>(alloc: Global, refusal: Refusal, errors: &mut E) {
+    let text = match refusal {
+        Refusal::File(FileWord::Archive, fault) => format!(in alloc; "corekeep: ARCHIVE: {fault}\n"),
+        Refusal::File(FileWord::File, fault) => format!(in alloc; "corekeep: FILE: {fault}\n"),
+        Refusal::NoLine("") => format!(in alloc; "corekeep: no line begins so: corekeep ask --help lists them\n"),
+        Refusal::NoLine(usage) => format!(in alloc; "corekeep: the line is: {usage}\n"),
+        Refusal::Output => format!(in alloc;
+            "corekeep: standard output goes to a file that the command names, and would overwrite it\n"
+        ),
+        Refusal::NotUtf8(WordPart::Value) => format!(in alloc;
+            "corekeep: the VALUE of a pair, or NAME, is not UTF-8, or has a character past U+10FF7F: --escape takes its bytes as they are\n"
+        ),
+        Refusal::NotUtf8(WordPart::Other) => format!(in alloc;
+            "corekeep: a word is not UTF-8, or has a character past U+10FF7F: name the file otherwise, or write such bytes of a line as \\xHH\n"
+        ),
+        _ => return,
+    };
+    let Ok(text) = text else {
+        return;
+    };
+    let _ = write_whole(errors, text.as_bytes());
+}
+
+// Tells what is refused.
+fn tell_refusal<O: Output>(refusal: Refusal, output: &mut O) -> u8
+    ensures status { result ≡ 1 }
+    ensures told { IsToldAs (O.taken output.old) (O.taken output.new) (O.failures output.old) (O.failures output.new) (no_reply (refusal_words refusal)) }
+{
+    let mut reply = Reply::new(output);
+    reply.tell(b"no ");
+    tell_reason(&mut reply, refusal);
+    reply.tell(b"\n");
+    let _ = reply.finish();
+    1
+}
+
+/// The reason of a refusal.
+pub fn reason_of(alloc: Global, refusal: Refusal) -> Collected {
+    let mut words = Collected::new(alloc);
+    let mut reply = Reply::new(&mut words);
+    tell_reason(&mut reply, refusal);
+    let _ = reply.finish();
+    words
+}
+
+// Tells the reason of a refusal.
+fn tell_reason<O: Output>(reply: &mut Reply<'_, O>, refusal: Refusal)
+    ensures { TellsText (telling O.Output reply.old reply.new) (refusal_words refusal) }
+{
+    match refusal {
+        Refusal::BadLine | Refusal::NoLine(_) => reply.tell(b"BadLine"),
+        Refusal::Pipe => reply.tell(b"Pipe"),
+        Refusal::TemplateTooLong => reply.tell(b"TemplateTooLong"),
+        Refusal::BadShape => reply.tell(b"BadShape"),
+        Refusal::File(_, fault) => reply.tell(file_reason(fault)),
+        Refusal::Output => reply.tell(b"File"),
+        Refusal::LineTooLong => reply.tell(b"LineTooLong"),
+        Refusal::NotUtf8(_) => reply.tell(b"NotUtf8"),
+        Refusal::OutOfMemory => reply.tell(b"OutOfMemory"),
+        Refusal::Disk => reply.tell(b"Disk"),
+        Refusal::Open(fault) => tell_open_fault(reply, fault),
+        Refusal::Call(fault) => reply.tell(reason(fault)),
+    }
+}
+
+// The reason for which a file is refused.
+fn file_reason(fault: FileFault) -> &'static [u8]
+    ensures { result.now ≡ file_words fault }
+{
+    match fault {
+        FileFault::Busy => b"Busy",
+        FileFault::OutOfMemory => b"OutOfMemory",
+        FileFault::Settle => b"Disk",
+        _ => b"File",
+    }
+}
+
+// Tells why an archive could not be opened.
+fn tell_open_fault<O: Output>(reply: &mut Reply<'_, O>, fault: OpenFault)
+    ensures { TellsText (telling O.Output reply.old reply.new) (open_words fault) }
+{
+    match fault {
+        OpenFault::Disk => reply.tell(b"Disk"),
+        OpenFault::NotAnArchive => reply.tell(b"NotAnArchive"),
+        OpenFault::OutOfMemory => reply.tell(b"OutOfMemory"),
+        OpenFault::UnknownVersion(version) => {
+            reply.tell(b"UnknownVersion ");
+            reply.tell_decimal(u128::from(version));
+        }
+        OpenFault::Damaged { at, field } => {
+            reply.tell(b"Damaged ");
+            reply.tell_decimal(u128::from(at));
+            reply.tell(b" ");
+            reply.tell(field.name().as_bytes());
+        }
+    }
+}
+
+// Tells why a session ended before its script.
+fn tell_fault<E: Output>(fault: SessionFault, errors: &mut E) -> u8
+    ensures status { result ≡ 1 }
+    ensures told { IsToldAs (E.taken errors.old) (E.taken errors.new) (E.failures errors.old) (E.failures errors.new) (fault_line fault) }
+{
+    let mut reply = Reply::new(errors);
+    reply.tell(b"fault ");
+    reply.tell(fault_name(fault));
+    reply.tell(b"\n");
+    let _ = reply.finish();
+    1
+}
+
+fn fault_name(fault: SessionFault) -> &'static [u8]
+    ensures { result.now ≡ fault_words fault }
+{
+    match fault {
+        SessionFault::ReadFailed => b"ReadFailed",
+        SessionFault::WriteFailed => b"WriteFailed",
+        SessionFault::TooManyReads => b"TooManyReads",
+    }
+}

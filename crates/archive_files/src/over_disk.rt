@@ -1,0 +1,98 @@
+// What `run`, `ask` and `extract` do over the archive on a disk.
+ghost use Rattle.std.specs.Prelude.{◌≡◌, ◌^◌, ◌-◌, option_map};
+ghost use Rattle.script_lines.specs.Commands.{question_said};
+ghost use Rattle.inspector_cli.specs.Session.{streams_of};
+ghost use Rattle.archive_files.specs.OverDisks.{RunsOnDisk, AnswersLine, CopiesOnDisk, ReadsOnDisk, LooksOnDisk};
+
+use crate::failures::{Failure, Refusal};
+use crate::outcomes::{ask_told, copy_told, image_told, run_told};
+use disk_model::Disk;
+use inspector_cli::{Naming, Question, copy_image, open_and_ask, open_and_run, read_image};
+use intake::{Archive, Settings};
+use script_streams::{Input, Output};
+use script_words::parse_case_number;
+use std::alloc::Global;
+
+/// Opens the archive on a disk, runs a script over it, and hands the disk back.
+pub fn run_over<D: Disk, I: Input, O: Output>(
+    alloc: Global,
+    disk: D,
+    limit: u64,
+    naming: &Naming,
+    script: &mut I,
+    output: &mut O,
+) -> (Result<(), Failure>, D)
+    ensures { RunsOnDisk D.Disk limit naming.now (streams_of I.Input O.Output script.old script.new output.old output.new) disk result.0 result.1 }
+{
+    let (ended, disk) = open_and_run(alloc, disk, Settings { limit }, naming, script, output);
+    (run_told(ended), disk)
+}
+
+/// Opens the archive on a disk, answers one question over it, and hands the disk back. The reply says why a question is refused.
+pub fn ask_over<D: Disk, O: Output>(
+    alloc: Global,
+    disk: D,
+    question: Question,
+    output: &mut O,
+) -> (Result<(), Failure>, D)
+    ensures { AnswersLine D.Disk (question_said question) (O.taken output.old) (O.taken output.new) (O.failures output.old) (O.failures output.new) disk result.0 result.1 }
+{
+    let (asked, disk) = open_and_ask(alloc, disk, Settings { limit: 0 }, question, output);
+    (ask_told(asked), disk)
+}
+
+/// The number of a case, as a word has it. Whoever holds it can't change it.
+#[derive(Clone, Copy)]
+pub struct CaseNumber {
+    seq: u32,
+}
+
+impl CaseNumber {
+    ghost use Rattle.script_words.specs.Number.{number_within};
+
+    /// The number that a word says, if it says one.
+    pub fn of(word: &[u8]) -> Option<Self>
+        ensures { option_map (λ number. number.seq) result ≡ number_within 1 (2 ^ 32 - 1) word.now }
+    {
+        let seq = parse_case_number(word)?;
+        Some(CaseNumber { seq })
+    }
+}
+
+/// Opens the archive on a disk, copies the image of a case to an output, and hands the disk back.
+pub fn copy_over<D: Disk, O: Output>(
+    alloc: Global,
+    disk: D,
+    case: CaseNumber,
+    output: &mut O,
+) -> (Result<(), Failure>, D)
+    ensures { CopiesOnDisk D.Disk case.seq (O.taken output.old) (O.taken output.new) (O.failures output.old) (O.failures output.new) disk result.0 result.1 }
+{
+    let (copied, disk) = copy_image(alloc, disk, Settings { limit: 0 }, case.seq, output);
+    (copy_told(copied), disk)
+}
+
+/// Opens the archive on a disk, reads the image of a case, and hands the disk back.
+pub fn read_over<D: Disk>(
+    alloc: Global,
+    disk: D,
+    case: CaseNumber,
+) -> (Result<Vec<u8>, Failure>, D)
+    ensures { ReadsOnDisk D.Disk case.seq disk result.0 result.1 }
+{
+    let (read, disk) = read_image(alloc, disk, Settings { limit: 0 }, case.seq);
+    (image_told(read), disk)
+}
+
+/// Opens the archive on a disk for the sake of what is wrong with it, and hands the disk back.
+pub fn look_over<D: Disk>(alloc: Global, disk: D, limit: u64) -> (Result<(), Refusal>, D)
+    ensures { LooksOnDisk D.Disk limit disk result.0 result.1 }
+{
+    match Archive::open(alloc, disk, Settings { limit }) {
+        Ok(archive) => {
+            let disk = archive.close();
+            (Ok(()), disk)
+        }
+        Err((fault, disk)) => (Err(Refusal::Open(fault)), disk),
+    }
+}

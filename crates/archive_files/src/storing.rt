@@ -1,0 +1,170 @@
+// What `store` does over the archive on a disk.
+ghost use Rattle.std.specs.Prelude.{◌≡◌, None};
+ghost use Rattle.std.specs.Io.KnownBytes.{Keeps};
+ghost use Rattle.script_lines.specs.Said.{said};
+ghost use Rattle.stream_names.specs.Commands.{stream_found};
+ghost use Rattle.inspector_cli.specs.Session.{streams_of};
+ghost use Rattle.inspector_cli.specs.Storing.{line_stream};
+ghost use Rattle.archive_files.specs.OverDisks.{StoresOnDisk, StoresFile, IsFitted};
+
+use crate::collected::Collected;
+use crate::failures::{Failure, Refusal};
+use crate::outcomes::store_told;
+use arrayvec::ArrayVec;
+use disk_model::Disk;
+use inspector_cli::{Naming, NewStream, line_stream, open_and_store};
+use intake::Settings;
+use retention::Policy;
+use script_streams::{Input, Output, ReadInput, Reply};
+use std::alloc::Global;
+use std::io::{BufRead, BufReader, Read};
+
+// How many bytes `store` asks for at a time.
+const AHEAD: usize = 65_536;
+
+/// What a file is stored as.
+#[derive(Drop)]
+pub struct StoreWords {
+    /// By which room is made first, where that is asked for.
+    pub policy: Option<Policy>,
+    /// The line of a script that begins the stream.
+    pub begin: Vec<u8>,
+    /// The label of the case, where one is asked for.
+    pub label: Option<ArrayVec<u8, 64>>,
+}
+
+/// What is stored, and with what. Whoever holds it may leave the room out, and change nothing else.
+#[derive(Drop)]
+pub struct StoreRequest {
+    // By which room is made first, if it is.
+    policy: Option<Policy>,
+    // The stream, or why there is none.
+    found: Result<NewStream, &'static [u8]>,
+    // The label of the case, where one is asked for.
+    label: Option<ArrayVec<u8, 64>>,
+    // The most bytes of an image.
+    limit: u64,
+}
+
+impl StoreRequest {
+    /// What the words say.
+    pub fn of(words: StoreWords, naming: &Naming, limit: u64) -> Self
+        ensures policy { result.policy ≡ words.policy }
+        ensures found { stream_found result.found ≡ line_stream naming.now (said words.begin.items) }
+        ensures label { result.label ≡ words.label }
+        ensures limit { result.limit ≡ limit }
+    {
+        let StoreWords {
+            policy,
+            begin,
+            label,
+        } = words;
+        StoreRequest {
+            policy,
+            found: line_stream(&begin, naming),
+            label,
+            limit,
+        }
+    }
+
+    /// The most bytes of an image.
+    pub fn limit(&self) -> u64
+        ensures { result ≡ self.now.limit }
+    {
+        self.limit
+    }
+
+    /// Why no stream can begin, if none can.
+    pub fn refusal(&self) -> Option<&'static [u8]> {
+        match &self.found {
+            Ok(_) => None,
+            Err(reason) => Some(*reason),
+        }
+    }
+
+    /// The name of the case as it prints, or what it is if it has none.
+    pub fn printed_name(&self, alloc: Global) -> Collected {
+        let mut name = Collected::new(alloc);
+        let mut reply = Reply::new(&mut name);
+        match &self.found {
+            Ok(stream) => reply.tell_text(stream.name.as_slice()),
+            Err(_) => reply.tell(b"a core"),
+        }
+        let _ = reply.finish();
+        name
+    }
+
+    /// No room is made for what can't be stored.
+    pub fn without_room(self) -> Self
+        ensures { result ≡ record self { policy = None } }
+    {
+        StoreRequest {
+            policy: None,
+            ..self
+        }
+    }
+
+    // No room is made where the first bytes of the file can't be read, or are more than an image may have.
+    fn fitted<I: BufRead>(self, file: &mut I) -> Self
+        ensures fitted { IsFitted self result }
+        ensures same { Keeps (I.remaining file.old) (I.remaining file.new) }
+    {
+        if self.policy.is_none() || begins_well(file, self.limit) {
+            self
+        } else {
+            self.without_room()
+        }
+    }
+}
+
+// Whether a reader's first bytes can be read, and are no more than an image may have.
+fn begins_well<I: BufRead>(input: &mut I, limit: u64) -> bool
+    ensures { Keeps (I.remaining input.old) (I.remaining input.new) }
+{
+    match input.fill_buf() {
+        Ok(first) => first.len() as u64 <= limit,
+        Err(_) => false,
+    }
+}
+
+/// Opens the archive on a disk, stores what a reader gives, and hands the disk back. The reader is read ahead: the archive takes
+/// its blocks one by one, and one call of the operating system gives many of them. Where room is to be made, the first bytes
+/// are read before the archive is changed.
+pub fn store_from<D: Disk, I: Read, O: Output>(
+    alloc: Global,
+    disk: D,
+    request: StoreRequest,
+    input: &mut I,
+    output: &mut O,
+) -> (Result<(), Failure>, D)
+    ensures { StoresFile D.Disk request (I.remaining input.old) (O.taken output.old) (O.taken output.new) (O.failures output.old) (O.failures output.new) disk result.0 result.1 }
+{
+    let Ok(ahead) = BufReader::with_capacity(alloc, AHEAD, input) else {
+        return (Err(Failure::Refused(Refusal::OutOfMemory)), disk);
+    };
+    let mut ahead = ahead;
+    let request = request.fitted(&mut ahead);
+    let mut file = ReadInput::new(ahead);
+    store_with_room(alloc, disk, request, &mut file, output)
+}
+
+// Opens the archive on a disk, stores a stream in it, and hands the disk back.
+fn store_with_room<D: Disk, I: Input, O: Output>(
+    alloc: Global,
+    disk: D,
+    request: StoreRequest,
+    file: &mut I,
+    output: &mut O,
+) -> (Result<(), Failure>, D)
+    ensures { StoresOnDisk D.Disk request (streams_of I.Input O.Output file.old file.new output.old output.new) disk result.0 result.1 }
+{
+    let StoreRequest {
+        policy,
+        found,
+        label,
+        limit,
+    } = request;
+    let settings = Settings { limit };
+    let (ended, disk) = open_and_store(alloc, disk, settings, policy, found, &label, file, output);
+    (store_told(ended), disk)
+}

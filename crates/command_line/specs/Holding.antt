@@ -1,9 +1,0 @@
--- What an output has taken that holds a reply.
-use Rattle.std.specs.Prelude.{ℕ, List, Option}
-use Rattle.std.specs.Io.KnownBytes.{append_known}
-use Rattle.script_streams.specs.declared.streams.Output as output
-use Rattle.command_line.specs.declared.held.Held.{Held}
-
--- what the output behind it has taken, and then what is held
-abbrev pub taken_by : {O : Type 0} → output.Ghosts O → Held O → Option (List ℕ)
-taken_by o h = append_known (o.taken h.output.now) h.unsent

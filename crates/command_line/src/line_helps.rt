@@ -1,0 +1,36 @@
+// `corekeep help LINE`: what a line of a script is for.
+use crate::tables::COMMANDS;
+use line_help::{LineHelp, help_of};
+use script_streams::{Output, Reply, StreamFault};
+
+// The line whose help these words ask for. What is a command too has the command's help.
+pub(crate) fn asked_help(words: &[String]) -> Option<&'static LineHelp> {
+    let [help, name] = words else {
+        return None;
+    };
+    if help.as_str() != "help" || is_command(name) {
+        return None;
+    }
+    help_of(name)
+}
+
+fn is_command(name: &str) -> bool {
+    COMMANDS.iter().any(|command| command.name == name)
+}
+
+// Tells what a line is for.
+pub(crate) fn tell_help<O: Output>(help: &LineHelp, output: &mut O) -> Result<(), StreamFault> {
+    let mut reply = Reply::new(output);
+    reply.tell(help.usage.as_bytes());
+    tell_part(&mut reply, b"\n\n    ", help.does);
+    tell_part(&mut reply, b"\n    reply:    ", help.reply);
+    tell_part(&mut reply, b"\n    example:  ", help.example);
+    tell_part(&mut reply, b"\n    refused:  ", help.reasons);
+    reply.tell(b"\n");
+    reply.finish()
+}
+
+fn tell_part<O: Output>(reply: &mut Reply<'_, O>, heading: &[u8], text: &str) {
+    reply.tell(heading);
+    reply.tell(text.as_bytes());
+}
