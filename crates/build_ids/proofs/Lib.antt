@@ -1,0 +1,2 @@
+pub mod NotePlaces
+pub mod HeaderPlaces

@@ -1,0 +1,3 @@
+pub mod Notes
+pub mod NoteWords
+pub mod BuildId
