@@ -3,7 +3,7 @@ ghost use Rattle.std.specs.Prelude.{◌≡◌, option_map};
 ghost use Rattle.script_words.specs.WordsLeft.{words_left};
 ghost use Rattle.script_words.specs.Hex.{needle_of};
 ghost use Rattle.script_words.specs.Number.{number_of, number_within};
-ghost use Rattle.script_lines.specs.Queries.{ask_dump, query_rows, memory_rows, query_in, query_of, image_query, needle_bytes, alone, one_word, ranged};
+ghost use Rattle.script_lines.specs.Queries.{ask_dump, ask_frame, query_rows, memory_rows, query_in, query_of, image_query, needle_bytes, alone, one_word, ranged};
 
 use crate::names::Needle;
 use script_words::{Words, decode_hex, parse_number, parse_number_within};
@@ -68,10 +68,22 @@ pub enum MemoryQuery {
         /// The fewest bytes of a text, 1 to 1,024.
         least: u64,
     },
-    /// The frames of one of the core's threads.
+    /// The frames of one of the core's threads, by frame pointers.
     Backtrace {
         /// The place of the thread among the core's threads, from 0 on.
         thread: u64,
+    },
+    /// The same by call frame information.
+    Unwind {
+        /// The place of the thread among the core's threads, from 0 on.
+        thread: u64,
+    },
+    /// The registers of one of these frames.
+    Frame {
+        /// The place of the thread among the core's threads, from 0 on.
+        thread: u64,
+        /// The place of the frame among the thread's frames, from 0 on.
+        frame: u64,
     },
 }
 
@@ -122,6 +134,12 @@ fn parse_memory_query(command: &[u8], words: Words<'_>) -> Option<Query>
         Some(Query::Memory(MemoryQuery::Backtrace {
             thread: parse_number_alone(words)?,
         }))
+    } else if command == b"unwind".as_slice() {
+        Some(Query::Memory(MemoryQuery::Unwind {
+            thread: parse_number_alone(words)?,
+        }))
+    } else if command == b"frame".as_slice() {
+        parse_frame(words)
     } else if command == b"symbol".as_slice() {
         Some(Query::Symbol {
             address: parse_number_alone(words)?,
@@ -192,5 +210,21 @@ fn parse_dump(words: Words<'_>) -> Option<Query>
     Some(Query::Memory(MemoryQuery::Dump {
         first: parse_number(first)?,
         length: parse_number(length)?,
+    }))
+}
+
+// `frame`: the place of a thread and that of a frame.
+fn parse_frame(words: Words<'_>) -> Option<Query>
+    ensures { option_map query_of result ≡ ranged ask_frame (words_left words.entry) }
+{
+    let mut rest = words;
+    let thread = rest.next()?;
+    let frame = rest.next()?;
+    if rest.next().is_some() {
+        return None;
+    }
+    Some(Query::Memory(MemoryQuery::Frame {
+        thread: parse_number(thread)?,
+        frame: parse_number(frame)?,
     }))
 }
