@@ -9,7 +9,7 @@ use Rattle.script_lines.specs.declared.query.Query.TheVariants.{Image, Memory, S
 use Rattle.script_lines.specs.declared.query.ImageQuery.{ImageQuery}
 use Rattle.script_lines.specs.declared.query.ImageQuery.TheVariants.{Header, Notes, Threads, Registers, Process, Signal, AuxiliaryVector, Files, Maps}
 use Rattle.script_lines.specs.declared.query.MemoryQuery.{MemoryQuery}
-use Rattle.script_lines.specs.declared.query.MemoryQuery.TheVariants.{Dump, Find, Strings, Backtrace, Unwind, Frame}
+use Rattle.script_lines.specs.declared.query.MemoryQuery.TheVariants.{Dump, Find, Strings, Backtrace, Unwind, Frame, Builds}
 
 -- what a line asks an image
 pub data QuerySaid : Type 0 where
@@ -43,6 +43,8 @@ pub data QuerySaid : Type 0 where
   ask_unwind : ℕ → QuerySaid
   -- the registers of the frame at this place among them, from 0 on, of the thread at that place
   ask_frame : ℕ → ℕ → QuerySaid
+  -- the build IDs of the files that were mapped into its memory, and of the executables
+  ask_builds : QuerySaid
   -- the function of an executable that covers this address
   ask_symbol : ℕ → QuerySaid
 
@@ -95,6 +97,7 @@ memory_rows =
     ∷ (codes "bt", numbered ask_backtrace)
     ∷ (codes "unwind", numbered ask_unwind)
     ∷ (codes "frame", ranged ask_frame)
+    ∷ (codes "builds", alone ask_builds)
     ∷ (codes "symbol", numbered ask_symbol)
     ∷ []
 
@@ -139,6 +142,7 @@ memory_query (Strings least) = ask_strings least
 memory_query (Backtrace thread) = ask_backtrace thread
 memory_query (Unwind thread) = ask_unwind thread
 memory_query (Frame thread frame) = ask_frame thread frame
+memory_query Builds = ask_builds
 
 abbrev pub query_of : Query → QuerySaid
 query_of (Image query) = image_query query
