@@ -1,3 +1,2 @@
 pub mod NameLemmas
-pub mod SpaceLemmas
 pub mod AnswerLemmas

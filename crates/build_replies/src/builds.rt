@@ -4,7 +4,6 @@ ghost use Rattle.std.specs.List.{flat_map};
 ghost use Rattle.std.specs.Option.{option_map};
 ghost use Rattle.script_streams.specs.Replies.{TellsReply, TellsText, telling};
 ghost use Rattle.address_space.specs.SpaceWords.{attached_view};
-ghost use Rattle.address_space.specs.SpaceWords as words;
 ghost use Rattle.core_notes.specs.FileList.{files_of};
 ghost use Rattle.core_notes.specs.FileWords.{files_bytes};
 ghost use Rattle.image_replies.specs.CoreWords.{core_bytes};
@@ -16,10 +15,10 @@ ghost use Rattle.build_replies.specs.TableWords.{path_of, table_rows};
 use crate::fronts::fronts;
 use crate::names::names;
 use crate::table::Table;
-use address_space::{AddressSpace, Attached};
+use address_space::Attached;
 use core_notes::Files;
 use image_replies::CoreImage;
-use memory_replies::Outcome;
+use memory_replies::{Outcome, space_with};
 use script_streams::{Output, Reply, tell_no, tell_ok};
 use std::alloc::{AllocError, Global};
 
@@ -92,13 +91,6 @@ fn tell_lines<O: Output>(reply: &mut Reply<'_, O>, compared: &Compared<'_>)
     }
 }
 
-/// The memory of a core, in which no executable is attached. The error is that there is no memory for its tables.
-fn space_of<'a>(alloc: Global, core: &CoreImage<'a>) -> Result<AddressSpace<'a>, AllocError>
-    ensures { IfOk result (λ space. words.space_of space ≡ memory_of (core_bytes core.now) []) }
-{
-    AddressSpace::indexed(alloc, &core.elf(), core.notes().files())
-}
-
 impl<'a> Compared<'a> {
     /// What is compared for a core. The error is that there is no memory.
     fn of(
@@ -113,7 +105,8 @@ impl<'a> Compared<'a> {
             ≡ spec.fronts_of (memory_of (core_bytes core.now) []) (files_of (files_bytes files.now))) }
         ensures stored { IfOk result (λ all. table_rows all.stored ≡ map attached_view attached.now) }
     {
-        let space = space_of(alloc, core)?;
+        // No executable is attached: the core is asked what it has.
+        let space = space_with(alloc, core, &[])?;
         Ok(Compared {
             names: names(alloc, files)?,
             fronts: fronts(alloc, &space, files)?,
