@@ -19,6 +19,7 @@ use crate::window::{lent_window, see_memory};
 use address_space::Attached;
 use archive_replies::reason;
 use disk_model::Disk;
+use frame_replies::{tell_frame, tell_unwind};
 use image_replies::{CoreImage, a_sound_front_answers, tell_core_fault};
 use intake::{Archive, ArchiveFault};
 use journal_layout::Kind;
@@ -199,6 +200,10 @@ fn tell_memory<O: Output>(
         MemoryQuery::Strings { least } => { tell_strings(alloc, reply, core, attached, *least) }
         MemoryQuery::Backtrace { thread } => {
             tell_bt(alloc, reply, core, window, attached, *thread)
+        }
+        MemoryQuery::Unwind { thread } => tell_unwind(alloc, reply, core, attached, *thread),
+        MemoryQuery::Frame { thread, frame } => {
+            tell_frame(alloc, reply, core, attached, *thread, *frame)
         }
     }
 }
