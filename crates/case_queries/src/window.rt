@@ -275,6 +275,7 @@ fn see_more<D: Disk>(
         MemoryQuery::Backtrace { thread } => see_stack(seq, size, *thread, front, room, archive),
         MemoryQuery::Unwind { .. } => read_rest(seq, size, front, archive),
         MemoryQuery::Frame { .. } => read_rest(seq, size, front, archive),
+        MemoryQuery::Builds => read_rest(seq, size, front, archive),
     }
 }
 
@@ -289,6 +290,7 @@ fn most_for(query: &MemoryQuery) -> usize
         MemoryQuery::Backtrace { .. } => STACK,
         MemoryQuery::Unwind { .. } => 0,
         MemoryQuery::Frame { .. } => 0,
+        MemoryQuery::Builds => 0,
     }
 }
 
@@ -337,6 +339,7 @@ fn reads_all(seq: u32, query: &MemoryQuery, kept: &Option<KeptImage>) -> bool {
         MemoryQuery::Backtrace { .. } => false,
         MemoryQuery::Unwind { .. } => !keeps_front(seq, kept),
         MemoryQuery::Frame { .. } => !keeps_front(seq, kept),
+        MemoryQuery::Builds => !keeps_front(seq, kept),
     }
 }
 
