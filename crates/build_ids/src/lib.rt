@@ -2,8 +2,10 @@
 #![tactic(auto)]
 
 mod ids;
+mod laws;
 mod notes;
 mod padding;
 
 pub use ids::build_id;
+pub use laws::the_notes_are_the_run;
 pub use padding::Padding;
