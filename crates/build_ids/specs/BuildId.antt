@@ -7,9 +7,8 @@ use Rattle.elf_view.specs.Field.{field}
 use Rattle.elf_view.specs.Header.{SegmentView, e_phoff, segment_at, segment_count}
 use Rattle.elf_view.specs.Sound.{first_fault}
 use Rattle.elf_view.specs.declared.faults.Want.TheVariants.{Exec}
-use Rattle.build_ids.specs.Notes.{NoteView, notes_in}
+use Rattle.build_ids.specs.Notes.{NoteView, notes_in, padding_by}
 use Rattle.build_ids.specs.declared.padding.Padding.{Padding}
-use Rattle.build_ids.specs.declared.padding.Padding.TheVariants.{Four, Eight}
 
 -- `GNU` and one NUL
 abbrev pub gnu : List ℕ
@@ -23,9 +22,9 @@ is_build_id n = bytes_eq n.name gnu && n.kind == 3 && nat_le 1 (length n.desc) &
 abbrev pub id_among : List NoteView → Option (List ℕ)
 id_among notes = option_map (λ (n : NoteView). n.desc) (find is_build_id notes)
 
--- how the notes of program header i are padded: to eight bytes where its p_align is 8, else to four
+-- how the notes of program header i are padded: by its p_align
 abbrev pub padding_of : List ℕ → ℕ → Padding
-padding_of b i = if field b (e_phoff b + 56 * i + 48) 8 == 8 then Eight else Four
+padding_of b i = padding_by (field b (e_phoff b + 56 * i + 48) 8)
 
 -- the program header is a PT_NOTE (4), all of which lies in the bytes
 abbrev pub has_notes : List ℕ → SegmentView → Bool

@@ -1,5 +1,5 @@
 -- The notes of an executable (System V gABI, "Note Section"): as many as are whole. Numbers are little endian.
-use Rattle.std.specs.Prelude.{ℕ, zero, suc, ◌+◌, ◌-◌, ◌*◌, ◌/◌, ◌&&◌, nat_le, if◌then◌else◌, Bool, List, [], ◌∷◌, length}
+use Rattle.std.specs.Prelude.{ℕ, zero, suc, ◌+◌, ◌-◌, ◌*◌, ◌/◌, ◌==◌, ◌&&◌, nat_le, if◌then◌else◌, Bool, List, [], ◌∷◌, length}
 use Rattle.elf_view.specs.Field.{field, part}
 use Rattle.build_ids.specs.declared.padding.Padding.{Padding}
 use Rattle.build_ids.specs.declared.padding.Padding.TheVariants.{Four, Eight}
@@ -9,6 +9,10 @@ pub record NoteView : Type 0 where
   pub name : List ℕ
   pub kind : ℕ
   pub desc : List ℕ
+
+-- notes are padded to eight bytes where p_align is 8, else to four
+abbrev pub padding_by : ℕ → Padding
+padding_by align = if align == 8 then Eight else Four
 
 -- the first place that is not before n and a multiple of four, or of eight
 abbrev pub padded : Padding → ℕ → ℕ

@@ -35,11 +35,7 @@ fn padding_of(elf: &Elf<'_>, i: u64) -> Padding
 {
     let image = elf.image();
     let at = u64_at(image, 32) + 56 * i + 48;
-    if u64_at(image, at as usize) == 8 {
-        Padding::Eight
-    } else {
-        Padding::Four
-    }
+    Padding::by(u64_at(image, at as usize))
 }
 
 /// Whether a program header is a PT_NOTE, all of which lies in the image.

@@ -12,6 +12,16 @@ pub enum Padding {
 }
 
 impl Padding {
+    /// That of a PT_NOTE by its p_align.
+    pub(crate) fn by(align: u64) -> Padding
+        ensures { result ≡ spec.padding_by align }
+    {
+        match align {
+            8 => Padding::Eight,
+            _ => Padding::Four,
+        }
+    }
+
     /// The first such place that is not before a place.
     pub(crate) fn padded(self, place: u64) -> u64
         requires { place < 2 ^ 63 }
