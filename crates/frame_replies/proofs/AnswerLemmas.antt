@@ -1,5 +1,5 @@
 -- What is answered of a thread's frames.
-use Rattle.std.proofs.Common.{◌≡◌, ℕ, true, false, List, ◌++◌, map, Option, None, Some, Result, Ok, Err, refl, sym, ap, subst, ◌∙◌}
+use Rattle.std.proofs.Common.{◌≡◌, ℕ, List, ◌++◌, map, Option, None, Some, Result, Ok, Err, refl, sym, ap, subst, ◌∙◌}
 use Rattle.std.specs.Prelude.{codes, is_ok, slice_get}
 use Rattle.std.specs.List.{filter}
 use Rattle.script_streams.specs.Replies.{no_reply, ok_reply, reply_of}

@@ -1,10 +1,9 @@
 use Rattle.std.proofs.Common.{ap, map, ◌∙◌}
-use Rattle.address_space.specs.SpaceWords.{space_of}
 use Rattle.image_replies.specs.CoreWords.{core_bytes}
 use Rattle.memory_replies.specs.Memory.{attached_view}
 use Rattle.script_streams.specs.TellLaws.{tells_then}
 use Rattle.thread_regs.specs.ThreadWords.{thread_bytes}
-use Rattle.unwind.specs.Words.{executable_view, process_of}
+use Rattle.unwind.specs.Words.{executable_view}
 use Rattle.frame_replies.specs.ProcessWords.{described_view}
 use Rattle.frame_replies.proofs.AnswerLemmas.{no_memory, process_is, refused, shown, unwind_missing, unwind_shown}
 use Rattle.frame_replies.proofs.lines.tell_unwind.Goals as goal

@@ -1,4 +1,4 @@
-use Rattle.std.proofs.Common.{ap, map, subst, ◌∙◌}
+use Rattle.std.proofs.Common.{ap, map, ◌∙◌}
 use Rattle.image_replies.specs.CoreWords.{core_bytes}
 use Rattle.memory_replies.specs.Memory.{attached_view}
 use Rattle.thread_regs.specs.ThreadWords.{thread_bytes}
