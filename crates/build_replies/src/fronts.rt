@@ -12,6 +12,19 @@ use address_space::{AddressSpace, Attached, PieceKind};
 use core_notes::{FileMap, Files};
 use std::alloc::{AllocError, Global};
 
+/// The bytes that the core has of a piece.
+fn bytes_of<'a>(kind: PieceKind<'a>) -> &'a [u8]
+    ensures { result.now ≡ spec.bytes_of (kind_view kind.entry) }
+{
+    match kind {
+        PieceKind::Bytes(bytes) => bytes,
+        PieceKind::FromFile(_) => &[],
+        PieceKind::NotDumped(_) => &[],
+        PieceKind::Cut => &[],
+        PieceKind::Unmapped => &[],
+    }
+}
+
 /// What a core has of the front of a file that is mapped so.
 #[tactic(auto, unfolding(crate::specs::Builds::front_of))]
 fn front_of<'a>(space: &AddressSpace<'a>, map: FileMap<'a>) -> Attached<'a>
@@ -25,19 +38,6 @@ fn front_of<'a>(space: &AddressSpace<'a>, map: FileMap<'a>) -> Attached<'a>
     Attached {
         path: map.name,
         image,
-    }
-}
-
-/// The bytes that the core has of a piece.
-fn bytes_of<'a>(kind: PieceKind<'a>) -> &'a [u8]
-    ensures { result.now ≡ spec.bytes_of (kind_view kind.entry) }
-{
-    match kind {
-        PieceKind::Bytes(bytes) => bytes,
-        PieceKind::FromFile(_) => &[],
-        PieceKind::NotDumped(_) => &[],
-        PieceKind::Cut => &[],
-        PieceKind::Unmapped => &[],
     }
 }
 

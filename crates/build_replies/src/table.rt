@@ -32,6 +32,16 @@ impl<'a> Table<'a> {
         }
     }
 
+    /// Puts one behind the others. The error is that there is no memory.
+    pub(crate) fn push(&mut self, executable: Attached<'a>) -> Result<(), AllocError>
+        ensures { OnOk result (table_rows self.new ≡ table_rows self.old ++ attached_view executable.entry ∷ []) }
+    {
+        self.list.reserve(1)?;
+        self.paths.add(executable.path, self.list.len())?;
+        self.list.push(executable).unwrap();
+        Ok(())
+    }
+
     /// Those of a list. The error is that there is no memory.
     pub(crate) fn of(alloc: Global, executables: &[Attached<'a>]) -> Result<Table<'a>, AllocError>
         ensures { IfOk result (λ table. table_rows table ≡ map attached_view executables.now) }
@@ -41,16 +51,6 @@ impl<'a> Table<'a> {
             table.push(*executable)?;
         }
         Ok(table)
-    }
-
-    /// Puts one behind the others. The error is that there is no memory.
-    pub(crate) fn push(&mut self, executable: Attached<'a>) -> Result<(), AllocError>
-        ensures { OnOk result (table_rows self.new ≡ table_rows self.old ++ attached_view executable.entry ∷ []) }
-    {
-        self.list.reserve(1)?;
-        self.paths.add(executable.path, self.list.len())?;
-        self.list.push(executable).unwrap();
-        Ok(())
     }
 
     /// The one of that number.
