@@ -3,7 +3,7 @@ _corekeep() {
     local word=${COMP_WORDS[COMP_CWORD]}
     local before=${COMP_WORDS[COMP_CWORD-1]}
     local commands="format run store handle list ask extract memory"
-    local lines="list free delete pin unpin label retire upgrade header notes threads regs process signal auxv files maps dump find strings bt symbol"
+    local lines="list free delete pin unpin label retire upgrade header notes threads regs process signal auxv files maps dump find strings bt unwind frame builds symbol"
     local session="--template --uses-pid --limit"
     COMPREPLY=()
     if [ "$COMP_CWORD" -eq 1 ]; then

@@ -1,5 +1,5 @@
 -- What code's queries show of an image.
-use Rattle.std.proofs.Common.{◌≡◌, ◌⊎◌, inl, inr, ⊎_elim, Bool, true, false, true≢false, List, [], ℕ, Option, Result, Ok, Err, None, Some, length, map, take, refl, ap, sym, subst, ◌∙◌}
+use Rattle.std.proofs.Common.{◌≡◌, inl, inr, ⊎_elim, Bool, true, false, true≢false, List, [], ℕ, Option, Result, Ok, Err, None, Some, length, map, take, refl, ap, sym, subst, ◌∙◌}
 use Rattle.std.proofs.lemmas.Bool.{false≢true}
 use Rattle.std.specs.Prelude.{is_ok, codes}
 use Rattle.std.specs.Prelude.{◌&&◌}
@@ -25,7 +25,7 @@ use Rattle.script_lines.specs.Queries.{image_query, memory_query, ask_symbol}
 use Rattle.script_lines.specs.declared.query.ImageQuery.{ImageQuery}
 use Rattle.script_lines.specs.declared.query.ImageQuery.TheVariants.{Header, Notes, Threads, Registers, Process, Signal, AuxiliaryVector, Files, Maps}
 use Rattle.script_lines.specs.declared.query.MemoryQuery.{MemoryQuery}
-use Rattle.script_lines.specs.declared.query.MemoryQuery.TheVariants.{Dump, Find, Strings, Backtrace}
+use Rattle.script_lines.specs.declared.query.MemoryQuery.TheVariants.{Dump, Find, Strings, Backtrace, Unwind, Frame, Builds}
 use Rattle.script_streams.specs.Replies.{IsOutcome, no_reply, reply_of}
 use Rattle.case_queries.specs.Inspecting.{Shows, ShowsBeside, ShowsCore, answer_of}
 
@@ -66,6 +66,9 @@ module _ {D : Type 0} (g : disk.Ghosts D) (a : Parts D) (kind : Kind) (b : List 
   beside_shown (Find needle) reply new shows = shows
   beside_shown (Strings least) reply new shows = shows
   beside_shown (Backtrace thread) reply new shows = shows
+  beside_shown (Unwind thread) reply new shows = shows
+  beside_shown (Frame thread frame) reply new shows = shows
+  beside_shown Builds reply new shows = shows
 
   -- a core that has a fault
   pub fault_shown : (q : MemoryQuery) (fault : CoreFault) → Some fault ≡ core_fault_of b → Shows g a kind (memory_query q) b (no_reply (core_reason fault)) a
@@ -88,6 +91,9 @@ seen_enough (Dump first n) front size at bytes image by = by.0
 seen_enough (Find needle) front size at bytes image by = inl by
 seen_enough (Strings least) front size at bytes image by = inl by
 seen_enough (Backtrace thread) front size at bytes image by = by.0
+seen_enough (Unwind thread) front size at bytes image by = inl by
+seen_enough (Frame thread frame) front size at bytes image by = inl by
+seen_enough Builds front size at bytes image by = inl by
 
 -- what enough bytes show, where sound first bytes show it
 enough_shows : {A : Type 0} (of : List ℕ → A) → ((b : List ℕ) (n : ℕ) → IsHeaderWhole (take n b) → IsSound Core (take n b) → of (take n b) ≡ of b) → (front image : List ℕ) → IsEnough Core front image → of front ≡ of image

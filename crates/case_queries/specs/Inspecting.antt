@@ -5,6 +5,9 @@ use Rattle.address_space.specs.Source.{ExecutableView}
 use Rattle.disk_model.specs.declared.disk.Disk as disk
 use Rattle.elf_view.specs.declared.faults.Want.{Want}
 use Rattle.elf_view.specs.declared.faults.Want.TheVariants as want
+use Rattle.build_replies.specs.Builds.{builds_answer}
+use Rattle.frame_replies.specs.FrameLines.{unwind_answer}
+use Rattle.frame_replies.specs.FrameRegisters.{frame_answer}
 use Rattle.image_replies.specs.Header.{header_answer}
 use Rattle.image_replies.specs.Notes.{notes_answer}
 use Rattle.image_replies.specs.Threads.{threads_answer, regs_answer}
@@ -29,7 +32,7 @@ use Rattle.memory_replies.specs.Find.{find_answer}
 use Rattle.memory_replies.specs.Maps.{maps_answer}
 use Rattle.memory_replies.specs.Texts.{strings_answer}
 use Rattle.memory_replies.specs.Symbol.{symbol_answer, executable_fault}
-use Rattle.script_lines.specs.Queries.{QuerySaid, ask_header, ask_notes, ask_threads, ask_registers, ask_process, ask_signal, ask_auxiliary_vector, ask_files, ask_maps, ask_dump, ask_find, ask_strings, ask_backtrace, ask_symbol}
+use Rattle.script_lines.specs.Queries.{QuerySaid, ask_header, ask_notes, ask_threads, ask_registers, ask_process, ask_signal, ask_auxiliary_vector, ask_files, ask_maps, ask_dump, ask_find, ask_strings, ask_backtrace, ask_unwind, ask_frame, ask_builds, ask_symbol}
 use Rattle.script_streams.specs.Replies.{no_reply, reply_of}
 use Rattle.case_queries.specs.Gathering.{GathersAll, wanted_of}
 use Rattle.archive_replies.specs.Reasons.{reason_of}
@@ -74,6 +77,9 @@ answer_of kind (ask_dump first length) b xs = dump_answer b xs first length
 answer_of kind (ask_find needle) b xs = find_answer b xs needle
 answer_of kind (ask_strings least) b xs = strings_answer b xs least
 answer_of kind (ask_backtrace thread) b xs = bt_answer b xs thread
+answer_of kind (ask_unwind thread) b xs = unwind_answer b xs thread
+answer_of kind (ask_frame thread frame) b xs = frame_answer b xs thread frame
+answer_of kind ask_builds b xs = builds_answer b xs
 answer_of kind (ask_symbol address) b xs = symbol_answer b address
 
 -- the lines that read the executables whose names the core's NT_FILE has
@@ -82,6 +88,9 @@ reads_executables (ask_dump first length) = true
 reads_executables (ask_find needle) = true
 reads_executables (ask_strings least) = true
 reads_executables (ask_backtrace thread) = true
+reads_executables (ask_unwind thread) = true
+reads_executables (ask_frame thread frame) = true
+reads_executables ask_builds = true
 reads_executables _ = false
 
 -- The reply where no executable is read: that of the answer. The table of an executable's symbols takes memory.

@@ -12,7 +12,7 @@ use Rattle.memory_replies.specs.Dump.{is_out_of_range}
 use Rattle.memory_replies.specs.Stack.{HasFrames}
 use Rattle.memory_replies.specs.Window.{IsAtHand}
 use Rattle.script_lines.specs.declared.query.MemoryQuery.{MemoryQuery}
-use Rattle.script_lines.specs.declared.query.MemoryQuery.TheVariants.{Dump, Find, Strings, Backtrace}
+use Rattle.script_lines.specs.declared.query.MemoryQuery.TheVariants.{Dump, Find, Strings, Backtrace, Unwind, Frame, Builds}
 use Rattle.case_queries.specs.Fronts.{IsEnough, ReadsFront}
 use Rattle.case_queries.specs.Seeing.{LooksAt, SeesImage}
 use Rattle.case_queries.specs.declared.window.Part.{Part}
@@ -33,6 +33,9 @@ most_for (Dump first n) = 65536
 most_for (Find needle) = 0
 most_for (Strings least) = 0
 most_for (Backtrace thread) = 1048576
+most_for (Unwind thread) = 0
+most_for (Frame thread frame) = 0
+most_for Builds = 0
 
 -- These are as much of an image as a line wants: all of it; or bytes that are enough for its headers and notes, and a window of it,
 -- for a dump with what the range shows, for the frames of a thread with its stack.
@@ -41,6 +44,9 @@ IsSeenBy (Dump first n) front size at bytes image = IsEnough Core front image ×
 IsSeenBy (Find needle) front size at bytes image = front ≡ image
 IsSeenBy (Strings least) front size at bytes image = front ≡ image
 IsSeenBy (Backtrace thread) front size at bytes image = IsEnough Core front image × HasFrames front size bytes thread image
+IsSeenBy (Unwind thread) front size at bytes image = front ≡ image
+IsSeenBy (Frame thread frame) front size at bytes image = front ≡ image
+IsSeenBy Builds front size at bytes image = front ≡ image
 
 -- the image of a case is seen by so much of it, or why it can't be read
 abbrev pub SeesFor : {D : Type 0} → disk.Ghosts D → Parts D → ℕ → MemoryQuery → Result Seen ArchiveFault → Parts D → Type 0

@@ -18,7 +18,9 @@ use crate::kept_image::{Images, kept_if};
 use crate::window::{lent_window, see_memory};
 use address_space::Attached;
 use archive_replies::reason;
+use build_replies::tell_builds;
 use disk_model::Disk;
+use frame_replies::{tell_frame, tell_unwind};
 use image_replies::{CoreImage, a_sound_front_answers, tell_core_fault};
 use intake::{Archive, ArchiveFault};
 use journal_layout::Kind;
@@ -200,5 +202,10 @@ fn tell_memory<O: Output>(
         MemoryQuery::Backtrace { thread } => {
             tell_bt(alloc, reply, core, window, attached, *thread)
         }
+        MemoryQuery::Unwind { thread } => tell_unwind(alloc, reply, core, attached, *thread),
+        MemoryQuery::Frame { thread, frame } => {
+            tell_frame(alloc, reply, core, attached, *thread, *frame)
+        }
+        MemoryQuery::Builds => tell_builds(alloc, reply, core, attached),
     }
 }

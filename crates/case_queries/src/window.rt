@@ -273,6 +273,9 @@ fn see_more<D: Disk>(
         MemoryQuery::Find { .. } => read_rest(seq, size, front, archive),
         MemoryQuery::Strings { .. } => read_rest(seq, size, front, archive),
         MemoryQuery::Backtrace { thread } => see_stack(seq, size, *thread, front, room, archive),
+        MemoryQuery::Unwind { .. } => read_rest(seq, size, front, archive),
+        MemoryQuery::Frame { .. } => read_rest(seq, size, front, archive),
+        MemoryQuery::Builds => read_rest(seq, size, front, archive),
     }
 }
 
@@ -285,6 +288,9 @@ fn most_for(query: &MemoryQuery) -> usize
         MemoryQuery::Find { .. } => 0,
         MemoryQuery::Strings { .. } => 0,
         MemoryQuery::Backtrace { .. } => STACK,
+        MemoryQuery::Unwind { .. } => 0,
+        MemoryQuery::Frame { .. } => 0,
+        MemoryQuery::Builds => 0,
     }
 }
 
@@ -331,6 +337,9 @@ fn reads_all(seq: u32, query: &MemoryQuery, kept: &Option<KeptImage>) -> bool {
         MemoryQuery::Find { .. } => !keeps_front(seq, kept),
         MemoryQuery::Strings { .. } => !keeps_front(seq, kept),
         MemoryQuery::Backtrace { .. } => false,
+        MemoryQuery::Unwind { .. } => !keeps_front(seq, kept),
+        MemoryQuery::Frame { .. } => !keeps_front(seq, kept),
+        MemoryQuery::Builds => !keeps_front(seq, kept),
     }
 }
 

@@ -1,8 +1,10 @@
-//! Tests of the readers of images: ELF headers, notes, threads and registers.
+//! Tests of the readers of images: ELF headers, notes, build IDs, threads and registers.
 #![tactic(auto)]
 
 #[cfg(test)]
 mod elf;
+#[cfg(test)]
+mod ids;
 #[cfg(test)]
 mod notes;
 #[cfg(test)]

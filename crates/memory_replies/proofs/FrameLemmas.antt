@@ -25,7 +25,8 @@ use Rattle.backtrace.specs.declared.frames.Stop.{Stop}
 use Rattle.image_replies.specs.CoreWords.{core_bytes}
 use Rattle.image_replies.specs.Reasons.{elf_reason}
 use Rattle.image_replies.specs.declared.core_image.CoreImage.{CoreImage}
-use Rattle.memory_replies.specs.Backtrace.{bt_answer, frame_line, if_known, known_among, spot_among, stop_line, thread_answer, thread_lines, words_of}
+use Rattle.memory_replies.specs.Backtrace.{bt_answer, frame_line, stop_line, thread_answer, thread_lines, words_of}
+use Rattle.memory_replies.specs.Places.{if_known, known_among, spot_among}
 use Rattle.memory_replies.specs.Memory.{mapped_files, memory_of}
 use Rattle.memory_replies.specs.Stack.{HasFrames, HasFramesOf, IsWalked}
 use Rattle.memory_replies.specs.Symbol.{executable_fault, symbol_reason}

@@ -16,7 +16,7 @@ use Rattle.core_notes.specs.declared.file_list.Files.{Files}
 use Rattle.address_space.specs.Source.{Space, ExecutableView}
 use Rattle.address_space.specs.SpaceWords.{files_in, space_view}
 use Rattle.memory_replies.specs.Attaching.{with_attached}
-use Rattle.memory_replies.specs.Backtrace.{has_symbols, known_among}
+use Rattle.memory_replies.specs.Places.{has_symbols, known_among}
 use Rattle.memory_replies.specs.Symbol.{executable_fault}
 use Rattle.memory_replies.specs.Memory.{attached_view, files_by, is_attached, mapped_files, memory_of}
 use Rattle.address_space.specs.declared.attached.Attached.{Attached}

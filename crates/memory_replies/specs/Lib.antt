@@ -7,8 +7,10 @@ pub mod Dump
 pub mod Find
 pub mod Texts
 pub mod Symbol
+pub mod Places
 pub mod Backtrace
 pub mod NamedWords
+pub mod NamedList
 pub mod FileNameWords
 pub mod Window
 pub mod Stack

@@ -1,7 +1,7 @@
 -- What the code's executables with symbols, and its places, stand for.
 use Rattle.address_space.specs.Source.{ExecutableView}
 use Rattle.address_space.specs.SpaceWords.{attached_view}
-use Rattle.memory_replies.specs.Backtrace.{PlaceView}
+use Rattle.memory_replies.specs.Places.{PlaceView}
 use Rattle.memory_replies.specs.declared.named_image.NamedImage.{NamedImage}
 use Rattle.memory_replies.specs.declared.named.Place.{Place}
 

@@ -3,8 +3,9 @@ ghost use Rattle.std.specs.Prelude.{◌≡◌, ◌++◌, ◌∷◌, [], IfOk, On
 ghost use Rattle.address_space.specs.SpaceWords.{core_of, space_of};
 ghost use Rattle.image_replies.specs.CoreWords.{core_bytes};
 ghost use Rattle.memory_replies.specs.Attaching.{with_attached};
-ghost use Rattle.memory_replies.specs.Backtrace.{known_among};
+ghost use Rattle.memory_replies.specs.Places.{known_among};
 ghost use Rattle.memory_replies.specs.Memory as spec;
+ghost use Rattle.memory_replies.specs.NamedList.{named_in};
 ghost use Rattle.memory_replies.specs.NamedWords.{named_view};
 
 use crate::named_images::NamedImages;
@@ -44,7 +45,7 @@ fn indexed_space<'a>(alloc: Global, core: &CoreImage<'a>) -> Result<AddressSpace
 
 /// The memory of a core, with those of the executables that pass the checks of their headers. The error is that there is
 /// no memory.
-pub(crate) fn space_with<'a>(
+pub fn space_with<'a>(
     alloc: Global,
     core: &CoreImage<'a>,
     attached: &[Attached<'a>],
@@ -84,14 +85,14 @@ fn attach_named<'a>(
 
 /// The same memory as `space_with`, and the executables by whose symbols frames are named. Headers are checked once. The
 /// error is that there is no memory.
-pub(crate) fn space_and_images<'a>(
+pub fn space_and_images<'a>(
     alloc: Global,
     core: &CoreImage<'a>,
     attached: &[Attached<'a>],
 ) -> Result<(AddressSpace<'a>, NamedImages<'a>), AllocError>
     ensures space { IfOk result (λ m. space_of m.0
         ≡ spec.memory_of (core_bytes core.now) (map spec.attached_view attached.now)) }
-    ensures images { IfOk result (λ m. map named_view m.1.list.items ≡ known_among (map spec.attached_view attached.now)) }
+    ensures images { IfOk result (λ m. named_in m.1 ≡ known_among (map spec.attached_view attached.now)) }
 {
     let mut space = indexed_space(alloc, core)?;
     let mut images = NamedImages::new(alloc);

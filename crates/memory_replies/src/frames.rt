@@ -1,7 +1,6 @@
 // The frames of a thread's stack.
 ghost use Rattle.std.specs.Prelude.{◌≡◌, ◌++◌, ℕ, List, IfSome, None, length, map};
 ghost use Rattle.std.specs.List.{flat_map};
-ghost use Rattle.std.specs.Option.{option_map};
 ghost use Rattle.script_streams.specs.Replies.{TellsReply, TellsText, reply_of, telling};
 ghost use Rattle.address_space.specs.Source.{Space};
 ghost use Rattle.address_space.specs.SpaceWords.{space_of};
@@ -12,13 +11,13 @@ ghost use Rattle.image_replies.specs.CoreWords.{core_bytes};
 ghost use Rattle.memory_replies.specs.Answers.{AnswersWith};
 ghost use Rattle.memory_replies.specs.Backtrace as spec;
 ghost use Rattle.memory_replies.specs.Memory.{attached_view};
-ghost use Rattle.memory_replies.specs.NamedWords.{named_view, place_view};
+ghost use Rattle.memory_replies.specs.NamedList.{named_in};
 ghost use Rattle.memory_replies.specs.Stack.{HasFrames, IsWalked};
 ghost use Rattle.thread_regs.specs.Register.{register_in};
 
 use crate::attached::space_and_images;
 use crate::laws::a_sound_front_names_the_files;
-use crate::named::{Place, place_of};
+use crate::named::tell_where;
 use crate::named_images::NamedImages;
 use crate::outcome::Outcome;
 use crate::window::Window;
@@ -31,18 +30,14 @@ use script_streams::{Output, Reply, tell_no, tell_ok};
 use std::alloc::Global;
 use thread_regs::{Reg, Thread, threads};
 
-/// Tells a place in a function, `NAME+h`, or `?` where it is not known.
-fn tell_place<O: Output>(reply: &mut Reply<'_, O>, place: Option<Place<'_>>)
-    ensures { TellsText (telling O.Output reply.old reply.new)
-        (spec.place_words (option_map place_view place.entry)) }
+/// The address that is looked up for a frame: its pc in frame 0, and in others the address before it.
+fn looked_up(frame: Frame) -> Option<u64>
+    ensures { result ≡ spec.looked_up frame }
 {
-    match place {
-        Some(place) => {
-            reply.tell_text(place.name);
-            reply.tell(b"+");
-            reply.tell_hexadecimal(place.distance);
-        }
-        None => reply.tell(b"?"),
+    if frame.index == 0 {
+        Some(frame.pc)
+    } else {
+        frame.pc.checked_sub(1)
     }
 }
 
@@ -66,12 +61,12 @@ fn tell_frame<O: Output>(
     frame: Frame,
 )
     ensures { TellsText (telling O.Output reply.old reply.new)
-        (spec.frame_line (space_of space.now).files (map named_view images.now.list.items) ra frame) }
+        (spec.frame_line (space_of space.now).files (named_in images.now) ra frame) }
 {
     reply.tell_decimal(u128::from(frame.index));
     reply.tell(b" ");
     tell_hex_word(reply, frame.pc);
-    tell_place(reply, place_of(space, images, frame));
+    tell_where(reply, space, images, frame.pc, looked_up(frame));
     reply.tell(b" fp ");
     reply.tell_hexadecimal(u128::from(frame.fp));
     tell_return(reply, ra, frame);
@@ -109,7 +104,7 @@ fn tell_frames<O: Output>(
     frames: Frames<'_, '_>,
 )
     ensures { TellsText (telling O.Output reply.old reply.new)
-        (flat_map (spec.frame_line (space_of space.now).files (map named_view images.now.list.items) ra) (frames_left frames.entry)
+        (flat_map (spec.frame_line (space_of space.now).files (named_in images.now) ra) (frames_left frames.entry)
         ++ spec.stop_line (stop_left frames.entry)) }
 {
     let mut frames = frames;
@@ -150,7 +145,7 @@ fn tell_thread<O: Output>(
 )
     ensures { (other : Space) → IsWalked stack.entry (register_in (thread_bytes thread.entry) 32) (register_in (thread_bytes thread.entry) 8) (space_of space.now) other
         → TellsText (telling O.Output reply.old reply.new)
-        (spec.thread_lines other (space_of space.now).files (map named_view images.now.list.items)
+        (spec.thread_lines other (space_of space.now).files (named_in images.now)
         (thread_bytes thread.entry)) }
 {
     let ra = thread.register(Reg::of_word(1));

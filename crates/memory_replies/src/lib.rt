@@ -21,14 +21,18 @@ mod texts;
 mod window;
 mod words;
 
+pub use attached::{space_and_images, space_with};
 pub use dump::{is_out_of_range, tell_dump};
 pub use file_names::FileNames;
 pub use frames::tell_bt;
 pub use laws::{a_sound_front_names_the_files, a_sound_front_shows_the_mappings};
 pub use maps::tell_maps;
+pub use named::tell_where;
+pub use named_images::NamedImages;
 pub use outcome::Outcome;
 pub use search::tell_find;
 pub use stack::{has_frames, stack_range};
 pub use symbol::tell_symbol;
 pub use texts::tell_strings;
 pub use window::Window;
+pub use words::tell_hex_word;

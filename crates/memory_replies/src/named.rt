@@ -1,15 +1,17 @@
-// Which function a frame executes.
+// In which function a pc is.
 ghost use Rattle.std.specs.Prelude.{◌≡◌, map};
 ghost use Rattle.std.specs.Option.{option_map};
+ghost use Rattle.script_streams.specs.Replies.{TellsText, telling};
 ghost use Rattle.address_space.specs.SourceWords.{spot_view};
 ghost use Rattle.address_space.specs.SpaceWords.{space_of};
-ghost use Rattle.memory_replies.specs.Backtrace as spec;
+ghost use Rattle.memory_replies.specs.Places as spec;
+ghost use Rattle.memory_replies.specs.NamedList.{named_in};
 ghost use Rattle.memory_replies.specs.NamedWords.{named_view, place_view};
 
 use crate::named_image::NamedImage;
 use crate::named_images::NamedImages;
 use address_space::{AddressSpace, FileSpot};
-use backtrace::Frame;
+use script_streams::{Output, Reply};
 use symbols::vaddr_of_offset;
 
 /// A place in a function.
@@ -28,17 +30,6 @@ fn spot_at<'a>(space: &AddressSpace<'a>, address: u64) -> Option<FileSpot<'a>>
     space.spot(address)
 }
 
-/// The address that is looked up for a frame: its pc in frame 0, and in others the address before it.
-fn looked_up(frame: Frame) -> Option<u64>
-    ensures { result ≡ spec.looked_up frame }
-{
-    if frame.index == 0 {
-        Some(frame.pc)
-    } else {
-        frame.pc.checked_sub(1)
-    }
-}
-
 /// The function at an offset of an executable, of which a pc is `behind` bytes behind.
 fn place_in<'a>(image: &NamedImage<'a>, offset: u64, behind: u64) -> Option<Place<'a>>
     ensures { option_map place_view result ≡ spec.place_in behind offset (named_view image.now) }
@@ -55,23 +46,54 @@ fn place_in<'a>(image: &NamedImage<'a>, offset: u64, behind: u64) -> Option<Plac
 /// The function at a place of a mapped file.
 fn place_at<'a>(images: &NamedImages<'a>, spot: FileSpot<'_>, behind: u64) -> Option<Place<'a>>
     ensures { option_map place_view result
-        ≡ spec.place_at_spot (map named_view images.now.list.items) behind (spot_view spot.entry) }
+        ≡ spec.place_at_spot (named_in images.now) behind (spot_view spot.entry) }
 {
     let image = images.named(spot.name)?;
     place_in(image, spot.offset, behind)
 }
 
-/// The function that a frame executes.
-#[tactic(auto, unfolding(crate::specs::Backtrace::place_of))]
-pub(crate) fn place_of<'a>(
+/// The function at the address that is looked up for a pc, if one is.
+#[tactic(auto, unfolding(crate::specs::Places::place_of))]
+fn place_of<'a>(
     space: &AddressSpace<'_>,
     images: &NamedImages<'a>,
-    frame: Frame,
+    pc: u64,
+    address: Option<u64>,
 ) -> Option<Place<'a>>
     ensures { option_map place_view result
-        ≡ spec.place_of (space_of space.now).files (map named_view images.now.list.items) frame }
+        ≡ spec.place_of (space_of space.now).files (named_in images.now) pc address }
 {
-    let address = looked_up(frame)?;
+    let address = address?;
     let spot = spot_at(space, address)?;
-    place_at(images, spot, frame.pc - address)
+    place_at(images, spot, pc.saturating_sub(address))
+}
+
+/// Tells a place in a function, `NAME+h`, or `?` where it is not known.
+fn tell_place<O: Output>(reply: &mut Reply<'_, O>, place: Option<Place<'_>>)
+    ensures { TellsText (telling O.Output reply.old reply.new)
+        (spec.place_words (option_map place_view place.entry)) }
+{
+    match place {
+        Some(place) => {
+            reply.tell_text(place.name);
+            reply.tell(b"+");
+            reply.tell_hexadecimal(place.distance);
+        }
+        None => reply.tell(b"?"),
+    }
+}
+
+/// Tells where a pc is: `NAME+h`, how far it is behind the value of the function at the address that is looked up for it; or `?`, if
+/// no address is looked up or its function is not known.
+pub fn tell_where<O: Output>(
+    reply: &mut Reply<'_, O>,
+    space: &AddressSpace<'_>,
+    images: &NamedImages<'_>,
+    pc: u64,
+    address: Option<u64>,
+)
+    ensures { TellsText (telling O.Output reply.old reply.new)
+        (spec.where_words (space_of space.now).files (named_in images.now) pc address) }
+{
+    tell_place(reply, place_of(space, images, pc, address));
 }

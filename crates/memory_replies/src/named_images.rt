@@ -6,7 +6,7 @@ ghost use Rattle.elf_view.specs.ViewWords.{image_of};
 ghost use Rattle.elf_view.specs.declared.faults.Want.TheVariants.{Exec};
 ghost use Rattle.address_space.specs.Source.{is_named};
 ghost use Rattle.address_space.specs.PathWords.{AreNumbered};
-ghost use Rattle.memory_replies.specs.Backtrace as spec;
+ghost use Rattle.memory_replies.specs.Places as spec;
 ghost use Rattle.memory_replies.specs.Memory.{attached_view};
 ghost use Rattle.memory_replies.specs.NamedWords.{named_view};
 
@@ -18,9 +18,9 @@ use symbols::{SymbolError, Symbols};
 
 /// The executables whose headers and symbols have no fault, in their order, and a table of their paths.
 #[derive(Drop)]
-pub(crate) struct NamedImages<'a> {
-    pub list: Vec<NamedImage<'a>>,
-    pub paths: ByPath<'a>,
+pub struct NamedImages<'a> {
+    pub(crate) list: Vec<NamedImage<'a>>,
+    pub(crate) paths: ByPath<'a>,
     /// Its numbers are theirs.
     ghost numbered: { AreNumbered paths (map named_view list.items) },
 }

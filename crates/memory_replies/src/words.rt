@@ -10,7 +10,7 @@ use script_streams::{Output, Reply};
 
 /// Tells a number in hexadecimal and a space.
 #[tactic(auto, unfolding(crate::specs::Words::hex_word))]
-pub(crate) fn tell_hex_word<O: Output>(reply: &mut Reply<'_, O>, number: u64)
+pub fn tell_hex_word<O: Output>(reply: &mut Reply<'_, O>, number: u64)
     ensures { TellsText (telling O.Output reply.old reply.new) (spec.hex_word number) }
 {
     reply.tell_hexadecimal(u128::from(number));

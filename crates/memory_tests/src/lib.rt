@@ -25,8 +25,6 @@ mod real_frames;
 #[cfg(test)]
 mod real_symbols;
 #[cfg(test)]
-mod real_unwound;
-#[cfg(test)]
 mod refused;
 #[cfg(test)]
 mod rows;
@@ -40,5 +38,3 @@ mod stretches;
 mod symbol_faults;
 #[cfg(test)]
 mod symbol_refused;
-#[cfg(test)]
-mod unwound;

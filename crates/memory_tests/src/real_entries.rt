@@ -260,7 +260,7 @@ fn eh_frame_is_found_by_its_segment(rt: HostRuntime) -> Result<(), Fail> {
 }
 
 /// The static executable.
-pub(crate) fn debug_executable(alloc: Global) -> Result<Vec<u8>, AllocError> {
+fn debug_executable(alloc: Global) -> Result<Vec<u8>, AllocError> {
     let parts = [
         (0, DEBUG_FRONT),
         (0x11b8, DEBUG_FRAMES),

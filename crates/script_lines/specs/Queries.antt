@@ -9,7 +9,7 @@ use Rattle.script_lines.specs.declared.query.Query.TheVariants.{Image, Memory, S
 use Rattle.script_lines.specs.declared.query.ImageQuery.{ImageQuery}
 use Rattle.script_lines.specs.declared.query.ImageQuery.TheVariants.{Header, Notes, Threads, Registers, Process, Signal, AuxiliaryVector, Files, Maps}
 use Rattle.script_lines.specs.declared.query.MemoryQuery.{MemoryQuery}
-use Rattle.script_lines.specs.declared.query.MemoryQuery.TheVariants.{Dump, Find, Strings, Backtrace}
+use Rattle.script_lines.specs.declared.query.MemoryQuery.TheVariants.{Dump, Find, Strings, Backtrace, Unwind, Frame, Builds}
 
 -- what a line asks an image
 pub data QuerySaid : Type 0 where
@@ -37,8 +37,14 @@ pub data QuerySaid : Type 0 where
   ask_find : List ℕ → QuerySaid
   -- the texts in its memory of at least this length in bytes
   ask_strings : ℕ → QuerySaid
-  -- the frames of the thread at this place among them, from 0 on
+  -- the frames of the thread at this place among them, from 0 on, by frame pointers
   ask_backtrace : ℕ → QuerySaid
+  -- the same by call frame information
+  ask_unwind : ℕ → QuerySaid
+  -- the registers of the frame at this place among them, from 0 on, of the thread at that place
+  ask_frame : ℕ → ℕ → QuerySaid
+  -- the build IDs of the files that were mapped into its memory, and of the executables
+  ask_builds : QuerySaid
   -- the function of an executable that covers this address
   ask_symbol : ℕ → QuerySaid
 
@@ -89,6 +95,9 @@ memory_rows =
     ∷ (codes "find", searched ask_find)
     ∷ (codes "strings", bounded ask_strings)
     ∷ (codes "bt", numbered ask_backtrace)
+    ∷ (codes "unwind", numbered ask_unwind)
+    ∷ (codes "frame", ranged ask_frame)
+    ∷ (codes "builds", alone ask_builds)
     ∷ (codes "symbol", numbered ask_symbol)
     ∷ []
 
@@ -131,6 +140,9 @@ memory_query (Dump first length) = ask_dump first length
 memory_query (Find needle) = ask_find needle.bytes.items
 memory_query (Strings least) = ask_strings least
 memory_query (Backtrace thread) = ask_backtrace thread
+memory_query (Unwind thread) = ask_unwind thread
+memory_query (Frame thread frame) = ask_frame thread frame
+memory_query Builds = ask_builds
 
 abbrev pub query_of : Query → QuerySaid
 query_of (Image query) = image_query query
@@ -144,5 +156,7 @@ IsSayable (ask_dump first length) = (first < 2 ^ 64) × (length < 2 ^ 64)
 IsSayable (ask_find needle) = (0 < length needle) × (length needle ≤ 64) × All (λ c. c < 256) needle
 IsSayable (ask_strings least) = (1 ≤ least) × (least ≤ 1024)
 IsSayable (ask_backtrace thread) = thread < 2 ^ 64
+IsSayable (ask_unwind thread) = thread < 2 ^ 64
+IsSayable (ask_frame thread frame) = (thread < 2 ^ 64) × (frame < 2 ^ 64)
 IsSayable (ask_symbol address) = address < 2 ^ 64
 IsSayable _ = Unit {0}

@@ -3,7 +3,7 @@ ghost use Rattle.std.specs.Prelude.{◌≡◌, option_map};
 ghost use Rattle.script_words.specs.WordsLeft.{words_left};
 ghost use Rattle.script_words.specs.Hex.{needle_of};
 ghost use Rattle.script_words.specs.Number.{number_of, number_within};
-ghost use Rattle.script_lines.specs.Queries.{ask_dump, query_rows, memory_rows, query_in, query_of, image_query, needle_bytes, alone, one_word, ranged};
+ghost use Rattle.script_lines.specs.Queries.{ask_dump, ask_frame, query_rows, memory_rows, query_in, query_of, needle_bytes, alone, one_word, ranged};
 
 use crate::names::Needle;
 use script_words::{Words, decode_hex, parse_number, parse_number_within};
@@ -68,11 +68,25 @@ pub enum MemoryQuery {
         /// The fewest bytes of a text, 1 to 1,024.
         least: u64,
     },
-    /// The frames of one of the core's threads.
+    /// The frames of one of the core's threads, by frame pointers.
     Backtrace {
         /// The place of the thread among the core's threads, from 0 on.
         thread: u64,
     },
+    /// The same by call frame information.
+    Unwind {
+        /// The place of the thread among the core's threads, from 0 on.
+        thread: u64,
+    },
+    /// The registers of one of these frames.
+    Frame {
+        /// The place of the thread among the core's threads, from 0 on.
+        thread: u64,
+        /// The place of the frame among the thread's frames, from 0 on.
+        frame: u64,
+    },
+    /// The build IDs of the files that were mapped into it, and of the executables.
+    Builds,
 }
 
 // The table of the lines that inspect: the command of each, and what may stand behind the number of the case.
@@ -80,23 +94,23 @@ pub(crate) fn parse_query(command: &[u8], words: Words<'_>) -> Option<Query>
     ensures { option_map query_of result ≡ query_in query_rows command.now (words_left words.entry) }
 {
     if command == b"header".as_slice() {
-        alone(words, ImageQuery::Header)
+        alone(words, Query::Image(ImageQuery::Header))
     } else if command == b"notes".as_slice() {
-        alone(words, ImageQuery::Notes)
+        alone(words, Query::Image(ImageQuery::Notes))
     } else if command == b"threads".as_slice() {
-        alone(words, ImageQuery::Threads)
+        alone(words, Query::Image(ImageQuery::Threads))
     } else if command == b"regs".as_slice() {
         Some(Query::Image(ImageQuery::Registers {
             thread: parse_number_alone(words)?,
         }))
     } else if command == b"process".as_slice() {
-        alone(words, ImageQuery::Process)
+        alone(words, Query::Image(ImageQuery::Process))
     } else if command == b"signal".as_slice() {
-        alone(words, ImageQuery::Signal)
+        alone(words, Query::Image(ImageQuery::Signal))
     } else if command == b"auxv".as_slice() {
-        alone(words, ImageQuery::AuxiliaryVector)
+        alone(words, Query::Image(ImageQuery::AuxiliaryVector))
     } else if command == b"files".as_slice() {
-        alone(words, ImageQuery::Files)
+        alone(words, Query::Image(ImageQuery::Files))
     } else {
         parse_memory_query(command, words)
     }
@@ -107,7 +121,7 @@ fn parse_memory_query(command: &[u8], words: Words<'_>) -> Option<Query>
     ensures { option_map query_of result ≡ query_in memory_rows command.now (words_left words.entry) }
 {
     if command == b"maps".as_slice() {
-        alone(words, ImageQuery::Maps)
+        alone(words, Query::Image(ImageQuery::Maps))
     } else if command == b"dump".as_slice() {
         parse_dump(words)
     } else if command == b"find".as_slice() {
@@ -122,6 +136,14 @@ fn parse_memory_query(command: &[u8], words: Words<'_>) -> Option<Query>
         Some(Query::Memory(MemoryQuery::Backtrace {
             thread: parse_number_alone(words)?,
         }))
+    } else if command == b"unwind".as_slice() {
+        Some(Query::Memory(MemoryQuery::Unwind {
+            thread: parse_number_alone(words)?,
+        }))
+    } else if command == b"frame".as_slice() {
+        parse_frame(words)
+    } else if command == b"builds".as_slice() {
+        alone(words, Query::Memory(MemoryQuery::Builds))
     } else if command == b"symbol".as_slice() {
         Some(Query::Symbol {
             address: parse_number_alone(words)?,
@@ -132,14 +154,14 @@ fn parse_memory_query(command: &[u8], words: Words<'_>) -> Option<Query>
 }
 
 // A query behind whose case nothing stands.
-fn alone(words: Words<'_>, query: ImageQuery) -> Option<Query>
-    ensures { option_map query_of result ≡ alone (image_query query) (words_left words.entry) }
+fn alone(words: Words<'_>, query: Query) -> Option<Query>
+    ensures { option_map query_of result ≡ alone (query_of query) (words_left words.entry) }
 {
     let mut rest = words;
     if rest.next().is_some() {
         return None;
     }
-    Some(Query::Image(query))
+    Some(query)
 }
 
 // A number and nothing else.
@@ -192,5 +214,21 @@ fn parse_dump(words: Words<'_>) -> Option<Query>
     Some(Query::Memory(MemoryQuery::Dump {
         first: parse_number(first)?,
         length: parse_number(length)?,
+    }))
+}
+
+// `frame`: the place of a thread and that of a frame.
+fn parse_frame(words: Words<'_>) -> Option<Query>
+    ensures { option_map query_of result ≡ ranged ask_frame (words_left words.entry) }
+{
+    let mut rest = words;
+    let thread = rest.next()?;
+    let frame = rest.next()?;
+    if rest.next().is_some() {
+        return None;
+    }
+    Some(Query::Memory(MemoryQuery::Frame {
+        thread: parse_number(thread)?,
+        frame: parse_number(frame)?,
     }))
 }

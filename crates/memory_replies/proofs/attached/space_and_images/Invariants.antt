@@ -1,7 +1,7 @@
 use Rattle.std.proofs.Common.{◌≡◌, take, map}
 use Rattle.address_space.specs.SpaceWords.{space_of}
 use Rattle.image_replies.specs.CoreWords.{core_bytes}
-use Rattle.memory_replies.specs.Backtrace.{known_among}
+use Rattle.memory_replies.specs.Places.{known_among}
 use Rattle.memory_replies.specs.Memory.{attached_view, memory_of}
 use Rattle.memory_replies.specs.NamedWords.{named_view}
 use Rattle.memory_replies.proofs.attached.space_and_images.Given as goal

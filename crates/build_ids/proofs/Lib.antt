@@ -1,0 +1,3 @@
+pub mod NotePlaces
+pub mod Grammar
+pub mod HeaderPlaces

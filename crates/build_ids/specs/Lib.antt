@@ -1,0 +1,4 @@
+pub mod Notes
+pub mod NoteGrammar
+pub mod NoteWords
+pub mod BuildId

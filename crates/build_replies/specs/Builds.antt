@@ -1,0 +1,76 @@
+-- The build IDs of a core's mapped files (core(5), NT_FILE), next to those of the executables that are stored under their names.
+use Rattle.std.specs.Prelude.{ℕ, ◌-◌, ◌==◌, not, if◌then◌else◌, Bool, List, [], ◌∷◌, ◌++◌, filter, find, map, Option, None, Some, Result, codes}
+use Rattle.std.specs.List.{flat_map}
+use Rattle.std.specs.Option.{option_and_then}
+use Rattle.std.specs.Str.{bytes_eq}
+use Rattle.script_words.specs.Hex.{hex_of}
+use Rattle.script_words.specs.Printing.{shown}
+use Rattle.elf_view.specs.ViewWords.{notes_of}
+use Rattle.elf_view.specs.declared.faults.Want.TheVariants.{Core}
+use Rattle.core_notes.specs.FileList.{FileView, files_of}
+use Rattle.core_notes.specs.Typed.{first_desc}
+use Rattle.address_space.specs.Source.{Space, ExecutableView, Content, held, is_named}
+use Rattle.address_space.specs.Pieces.{PieceView, pieces_of}
+use Rattle.build_ids.specs.BuildId.{build_id_of}
+use Rattle.image_replies.specs.Lines.{if_there}
+use Rattle.memory_replies.specs.Memory.{memory_of}
+
+-- each of the names once, at its first place
+unfoldable pub once : List (List ℕ) → List (List ℕ)
+once [] = []
+once (name ∷ names) = name ∷ filter (λ other. not (bytes_eq name other)) (once names)
+
+abbrev pub name_of : FileView → List ℕ
+name_of f = f.name
+
+-- a mapped file from its first byte on
+abbrev pub is_front : FileView → Bool
+is_front f = f.offset == 0
+
+-- the bytes that the core has of the first of these pieces
+abbrev pub bytes_of : Content (List ℕ) → List ℕ
+bytes_of (held bytes) = bytes
+bytes_of _ = []
+
+abbrev pub first_bytes : List PieceView → List ℕ
+first_bytes [] = []
+first_bytes (p ∷ ps) = bytes_of p.content
+
+-- what the core has of the front of a file: the bytes of the first piece of the addresses where it is mapped
+unfoldable pub front_of : Space → FileView → ExecutableView
+front_of space f = record { path = f.name; image = first_bytes (pieces_of space f.start (f.past - f.start)) }
+
+-- those of the mapped files that have one, in order. Of a name the first counts.
+abbrev pub fronts_of : Space → List FileView → List ExecutableView
+fronts_of space files = map (front_of space) (filter is_front files)
+
+-- the build ID of the first of the executables, or fronts, of that name
+abbrev pub id_named : List ExecutableView → List ℕ → Option (List ℕ)
+id_named xs name = option_and_then (λ (x : ExecutableView). build_id_of x.image) (find (is_named name) xs)
+
+-- an ID in hexadecimal digits, or `-` where there is none
+abbrev pub id_word : Option (List ℕ) → List ℕ
+id_word None = codes "-"
+id_word (Some id) = hex_of id
+
+-- what the two IDs say
+abbrev pub verdict : Option (List ℕ) → Option (List ℕ) → List ℕ
+verdict (Some core) (Some stored) = if bytes_eq core stored then codes "same" else codes "differs"
+verdict (Some core) None = codes "unknown"
+verdict None stored = codes "unknown"
+
+-- `CORE STORED VERDICT`
+abbrev pub ids_words : Option (List ℕ) → Option (List ℕ) → List ℕ
+ids_words core stored = id_word core ++ (32 ∷ [] ++ (id_word stored ++ (32 ∷ [] ++ verdict core stored)))
+
+-- `NAME CORE STORED VERDICT`
+unfoldable pub build_line : List ExecutableView → List ExecutableView → List ℕ → List ℕ
+build_line fronts stored name = shown name ++ (32 ∷ [] ++ (ids_words (id_named fronts name) (id_named stored name) ++ 10 ∷ []))
+
+-- a line for each name
+abbrev pub lines_of : Space → List ExecutableView → List FileView → List ℕ
+lines_of space stored files = flat_map (build_line (fronts_of space files) stored) (once (map name_of files))
+
+-- `builds`: of the first NT_FILE (0x46494c45). No executable is attached to the memory in which the fronts are.
+unfoldable pub builds_answer : List ℕ → List ExecutableView → Result (List ℕ) (List ℕ)
+builds_answer b executables = if_there (first_desc 0x46494c45 (notes_of Core b)) (λ desc. lines_of (memory_of b []) executables (files_of desc))

@@ -1,0 +1,12 @@
+//! The answer to the line of a script that asks for the build IDs of a core's mapped files: slices in, text out.
+//!
+//! A core is a [`image_replies::CoreImage`]. The executables that are stored under the names of its mapped files are handed over
+//! as [`address_space::Attached`] images.
+#![tactic(auto)]
+
+mod builds;
+mod fronts;
+mod names;
+mod table;
+
+pub use builds::tell_builds;

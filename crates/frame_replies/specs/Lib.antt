@@ -1,0 +1,5 @@
+pub mod Processes
+pub mod ProcessWords
+pub mod Known
+pub mod FrameLines
+pub mod FrameRegisters

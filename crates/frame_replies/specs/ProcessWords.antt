@@ -1,0 +1,13 @@
+-- What the code's executables stand for.
+use Rattle.std.specs.Prelude.{if◌then◌else◌, Option, None, Some}
+use Rattle.elf_view.specs.ViewWords.{image_of}
+use Rattle.address_space.specs.Source.{ExecutableView}
+use Rattle.memory_replies.specs.Memory.{is_attached}
+use Rattle.frame_replies.specs.declared.described.Described.{Described}
+
+abbrev pub described_view : Described → ExecutableView
+described_view x = record { path = x.path.now; image = image_of x.elf }
+
+-- an executable that is attached, where it is one
+abbrev pub if_attached : ExecutableView → Option ExecutableView
+if_attached x = if is_attached x then Some x else None

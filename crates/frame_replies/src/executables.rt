@@ -1,0 +1,79 @@
+// The executables that stand for mapped files, with their call frame information.
+ghost use Rattle.std.specs.Prelude.{◌≡◌, ◌++◌, ◌∷◌, [], IfOk, OnOk, filter, map};
+ghost use Rattle.std.specs.Option.{option_map};
+ghost use Rattle.memory_replies.specs.Memory.{attached_view, is_attached};
+ghost use Rattle.unwind.specs.Words.{executable_view};
+ghost use Rattle.frame_replies.specs.ProcessWords.{described_view, if_attached};
+
+use crate::described::Described;
+use address_space::Attached;
+use call_frames::CallFrames;
+use elf_view::{Elf, Want};
+use std::alloc::{AllocError, Global};
+use unwind::Executable;
+
+/// Reads the call frame information of an executable. `None` is one whose headers have a fault; the error is that there is no
+/// memory.
+fn read_described<'a>(
+    alloc: Global,
+    executable: Attached<'a>,
+) -> Result<Option<Described<'a>>, AllocError>
+    ensures { IfOk result (λ found. option_map described_view found ≡ if_attached (attached_view executable.entry)) }
+{
+    let Ok(elf) = Elf::read(executable.image, Want::Exec) else {
+        return Ok(None);
+    };
+    let frames = CallFrames::read(alloc, &elf)?;
+    Ok(Some(Described {
+        path: executable.path,
+        elf,
+        frames,
+    }))
+}
+
+/// Puts an executable behind the others, unless its headers have a fault. The error is that there is no memory.
+fn add<'a>(
+    alloc: Global,
+    list: &mut Vec<Described<'a>>,
+    executable: Attached<'a>,
+) -> Result<(), AllocError>
+    ensures { OnOk result (map described_view list.new.items
+        ≡ map described_view list.old.items ++ filter is_attached (attached_view executable.entry ∷ [])) }
+{
+    if let Some(image) = read_described(alloc, executable)? {
+        list.push(image)?;
+    }
+    Ok(())
+}
+
+/// Those of the executables whose headers have no fault, in their order. The error is that there is no memory.
+pub(crate) fn all_described<'a>(
+    alloc: Global,
+    attached: &[Attached<'a>],
+) -> Result<Vec<Described<'a>>, AllocError>
+    ensures { IfOk result (λ list. map described_view list.items ≡ filter is_attached (map attached_view attached.now)) }
+{
+    let mut list = Vec::new(alloc);
+    for executable in attached {
+        add(alloc, &mut list, *executable)?;
+    }
+    Ok(list)
+}
+
+/// The same, lent. The error is that there is no memory for the list of them.
+pub(crate) fn lent<'e, 'a>(
+    alloc: Global,
+    list: &'e [Described<'a>],
+) -> Result<Vec<Executable<'e, 'a>>, AllocError>
+    ensures { IfOk result (λ v. map executable_view v.items ≡ map described_view list.now) }
+{
+    let mut all = Vec::with_capacity(alloc, list.len())?;
+    for image in list {
+        all.push(Executable {
+            path: image.path,
+            elf: image.elf,
+            frames: &image.frames,
+        })?;
+    }
+    Ok(all)
+}

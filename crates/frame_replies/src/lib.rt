@@ -1,0 +1,16 @@
+//! The answers to the lines of a script that ask for frames by call frame information: slices in, text out.
+//!
+//! A core is a [`image_replies::CoreImage`], and the executables that stand for its mapped files are handed over as
+//! [`address_space::Attached`] images, as for the lines of memory_replies.
+#![tactic(auto)]
+
+mod described;
+mod executables;
+mod known;
+mod lines;
+mod refused;
+mod registers;
+mod stops;
+
+pub use lines::tell_unwind;
+pub use registers::tell_frame;

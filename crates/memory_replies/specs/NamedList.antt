@@ -1,0 +1,8 @@
+-- What the code's list of executables with symbols stands for.
+use Rattle.std.specs.Prelude.{List, map}
+use Rattle.address_space.specs.Source.{ExecutableView}
+use Rattle.memory_replies.specs.NamedWords.{named_view}
+use Rattle.memory_replies.specs.declared.named_images.NamedImages.{NamedImages}
+
+abbrev pub named_in : NamedImages → List ExecutableView
+named_in images = map named_view images.list.items
