@@ -67,3 +67,13 @@ is_aside (Aside refusal) = true
 is_aside (Faulted fault) = true
 is_aside (Unwritten kind) = true
 is_aside Told = true
+
+-- what holds of a refusal that the output is told, if it is one
+abbrev pub IfRefused : Failure → (Refusal → Type 0) → Type 0
+IfRefused (Refused refusal) P = P refusal
+IfRefused _ P = Unit {0}
+
+-- what holds of the fault of a session, if it is one
+abbrev pub IfFaulted : Failure → (SessionFault → Type 0) → Type 0
+IfFaulted (Faulted fault) P = P fault
+IfFaulted _ P = Unit {0}

@@ -1,6 +1,6 @@
 // Archives, made, and taken from their files.
 use crate::archive_path::ArchivePath;
-use crate::failures::{Refusal, FileWord};
+use crate::failures::{FileWord, Refusal};
 use crate::making::format_over;
 use crate::part_file::{clear, give_name, is_named, is_same, part_of};
 use disk_model::{Disk, FileDisk, FileFault};

@@ -1,7 +1,7 @@
 // Why the program ends with a status other than 0, and how it says so.
 ghost use Rattle.std.specs.Prelude.{◌≡◌, ◌≢◌, ◌≤◌, true};
 ghost use Rattle.script_streams.specs.Replies.{TellsText, telling, no_reply};
-ghost use Rattle.archive_files.specs.Telling.{IsToldAs, fault_line, fault_words, file_words, is_aside, open_words, refusal_words};
+ghost use Rattle.archive_files.specs.Telling.{IfFaulted, IfRefused, IsToldAs, fault_line, fault_words, file_words, is_aside, open_words, refusal_words};
 ghost use Rattle.archive_files.specs.declared.failures.Failure.TheVariants.{Faulted, Refused};
 ghost use Rattle.archive_files.specs.declared.failures.Refusal.{Refusal};
 ghost use Rattle.inspector_cli.specs.declared.session.SessionFault.{SessionFault};
@@ -148,11 +148,11 @@ pub fn tell_failure<O: Output, E: Output>(
 ) -> u8
     ensures most { result ≤ 2 }
     ensures quiet { result ≡ 0 → errors.new ≡ errors.old }
-    ensures refused { (r : Refusal) → failure.now ≡ Refused r
-        → IsToldAs (O.taken output.old) (O.taken output.new) (O.failures output.old) (O.failures output.new) (no_reply (refusal_words r)) }
+    ensures refused { IfRefused failure.now (λ r.
+        IsToldAs (O.taken output.old) (O.taken output.new) (O.failures output.old) (O.failures output.new) (no_reply (refusal_words r))) }
     ensures aside { is_aside failure.now ≡ true → output.new ≡ output.old }
-    ensures fault { (f : SessionFault) → failure.now ≡ Faulted f
-        → IsToldAs (E.taken errors.old) (E.taken errors.new) (E.failures errors.old) (E.failures errors.new) (fault_line f) }
+    ensures fault { IfFaulted failure.now (λ f.
+        IsToldAs (E.taken errors.old) (E.taken errors.new) (E.failures errors.old) (E.failures errors.new) (fault_line f)) }
 {
     match failure {
         Failure::Refused(refusal) => {
@@ -192,9 +192,13 @@ pub fn tell_unwritten<E: Output>(file: &[u8], kind: io::ErrorKind, errors: &mut 
 // Tells people what a reason for scripts leaves open.
 fn tell_in_words<E: Output>(alloc: Global, refusal: Refusal, errors: &mut E) {
     let text = match refusal {
-        Refusal::File(FileWord::Archive, fault) => format!(in alloc; "corekeep: ARCHIVE: {fault}\n"),
+        Refusal::File(FileWord::Archive, fault) => format!(in alloc;
+            "corekeep: ARCHIVE: {fault}\n"
+        ),
         Refusal::File(FileWord::File, fault) => format!(in alloc; "corekeep: FILE: {fault}\n"),
-        Refusal::NoLine("") => format!(in alloc; "corekeep: no line begins so: corekeep ask --help lists them\n"),
+        Refusal::NoLine("") => format!(in alloc;
+            "corekeep: no line begins so: corekeep ask --help lists them\n"
+        ),
         Refusal::NoLine(usage) => format!(in alloc; "corekeep: the line is: {usage}\n"),
         Refusal::Output => format!(in alloc;
             "corekeep: standard output goes to a file that the command names, and would overwrite it\n"

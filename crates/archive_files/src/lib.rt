@@ -5,6 +5,7 @@ mod archive_path;
 mod archives;
 mod collected;
 mod failures;
+mod file_store;
 mod held;
 mod making;
 mod outcomes;
@@ -12,19 +13,16 @@ mod over_disk;
 mod part_file;
 mod shapes;
 mod single;
-mod store_file;
 mod storing;
 mod unsent;
 
 pub use archive_path::ArchivePath;
 pub use archives::{Access, NewArchive, make_archive, names_output, take_disk};
 pub use collected::Collected;
-pub use failures::{
-    Failure, FileWord, Refusal, WordPart, reason_of, tell_failure, tell_unwritten,
-};
+pub use failures::{Failure, FileWord, Refusal, WordPart, reason_of, tell_failure, tell_unwritten};
+pub use file_store::store_file;
 pub use held::Held;
 pub use over_disk::{ask_over, run_over};
 pub use shapes::shape_on;
 pub use single::{ask, extract};
-pub use store_file::store_file;
 pub use storing::{StoreRequest, StoreWords};

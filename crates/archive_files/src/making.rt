@@ -14,11 +14,7 @@ use std::alloc::Global;
 
 /// Makes an archive with no case on a disk, and hands the disk back. One that keeps labels is made as any other, and brought to
 /// version 2 of the layout then.
-pub fn format_over<D: Disk>(
-    alloc: Global,
-    disk: D,
-    wanted: NewArchive,
-) -> (Result<(), Refusal>, D)
+pub fn format_over<D: Disk>(alloc: Global, disk: D, wanted: NewArchive) -> (Result<(), Refusal>, D)
     ensures { MakesArchive D.Disk wanted.shape wanted.keeps_labels disk result.0 result.1 }
 {
     let mut disk = disk;

@@ -73,11 +73,7 @@ pub fn copy_over<D: Disk, O: Output>(
 }
 
 /// Opens the archive on a disk, reads the image of a case, and hands the disk back.
-pub fn read_over<D: Disk>(
-    alloc: Global,
-    disk: D,
-    case: CaseNumber,
-) -> (Result<Vec<u8>, Failure>, D)
+pub fn read_over<D: Disk>(alloc: Global, disk: D, case: CaseNumber) -> (Result<Vec<u8>, Failure>, D)
     ensures { ReadsOnDisk D.Disk case.seq disk result.0 result.1 }
 {
     let (read, disk) = read_image(alloc, disk, Settings { limit: 0 }, case.seq);

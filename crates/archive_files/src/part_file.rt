@@ -1,13 +1,12 @@
 // Files that have their own name only once they are whole. Until then a file is called PATH.part.
 use disk_model::FileFault;
 use std::alloc::{AllocError, Global};
-use std::fs;
 use std::fs::{File, Metadata, Permissions, TryLockError};
-use std::io;
 use std::io::ErrorKind;
 use std::os::unix::fs::{MetadataExt, OpenOptionsExt, PermissionsExt};
 use std::path::Path;
 use std::rt::Files;
+use std::{fs, io};
 
 // Its owner may read and write a file, and nobody else.
 const OWNER_ALONE: u32 = 0o600;
@@ -21,11 +20,7 @@ pub fn part_of(alloc: Global, path: &str) -> Result<String, AllocError> {
 
 /// Sees to it that a file can be made: PATH must not exist, and what a process that ended has left under PATH.part is removed. A
 /// process that still writes it keeps its lock: then the file is busy.
-pub fn clear<R: Files<File = File>>(
-    rt: &R,
-    path: &str,
-    part: &str,
-) -> Result<(), FileFault> {
+pub fn clear<R: Files<File = File>>(rt: &R, path: &str, part: &str) -> Result<(), FileFault> {
     if fs::metadata(rt, path).is_ok() {
         return Err(FileFault::Exists);
     }
@@ -50,11 +45,7 @@ fn remove_stale<R: Files<File = File>>(rt: &R, part: &str, file: &File) -> Resul
 }
 
 /// Makes an empty file under the name PATH.part, for its owner alone, whatever the process masks, and has its lock.
-pub fn begin<R: Files<File = File>>(
-    rt: &R,
-    path: &str,
-    part: &str,
-) -> Result<File, FileFault> {
+pub fn begin<R: Files<File = File>>(rt: &R, path: &str, part: &str) -> Result<File, FileFault> {
     clear(rt, path, part)?;
     let file = File::options()
         .write(true)
@@ -68,11 +59,7 @@ pub fn begin<R: Files<File = File>>(
 
 /// Gives a file that is whole and synced its own name, and makes the name durable. A file that has come under PATH meanwhile stays:
 /// then this one is removed.
-pub fn give_name<R: Files<File = File>>(
-    rt: &R,
-    path: &str,
-    part: &str,
-) -> Result<(), FileFault> {
+pub fn give_name<R: Files<File = File>>(rt: &R, path: &str, part: &str) -> Result<(), FileFault> {
     let named = link(rt, path, part);
     if named.is_err() {
         let _ = fs::remove_file(rt, part);
@@ -100,11 +87,7 @@ fn sync_folder<R: Files<File = File>>(rt: &R, path: &str) -> io::Result<()> {
 }
 
 /// Whether a path still names the file.
-pub fn is_named<R: Files<File = File>>(
-    rt: &R,
-    path: &str,
-    file: &File,
-) -> Result<bool, FileFault> {
+pub fn is_named<R: Files<File = File>>(rt: &R, path: &str, file: &File) -> Result<bool, FileFault> {
     let named = fs::metadata(rt, path)?;
     let opened = file.metadata()?;
     Ok(is_same(&named, &opened))

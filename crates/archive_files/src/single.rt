@@ -4,9 +4,9 @@ ghost use Rattle.script_lines.specs.Commands.{question_said};
 ghost use Rattle.script_lines.specs.Said.{only_looks};
 ghost use Rattle.archive_files.specs.Told.{access_by};
 
-use crate::archives::{Access, take_disk};
 use crate::archive_path::ArchivePath;
-use crate::failures::{Failure, Refusal, FileWord};
+use crate::archives::{Access, take_disk};
+use crate::failures::{Failure, FileWord, Refusal};
 use crate::held::Held;
 use crate::over_disk::{CaseNumber, ask_over, copy_over, read_over};
 use crate::part_file::{begin, give_name, part_of};

@@ -1,9 +1,9 @@
 // What the words ask for.
-use archive_files::{ArchivePath, NewArchive, Refusal, StoreWords, WordPart};
 use crate::endings::Ending;
 use crate::grammar::program;
 use crate::handle::HandleWords;
 use crate::raw_words::{is_text, push_escaped};
+use archive_files::{ArchivePath, NewArchive, Refusal, StoreWords, WordPart};
 use arrayvec::ArrayVec;
 use clap::ArgMatches;
 use journal_layout::Shape;
@@ -271,10 +271,7 @@ fn takes_pair(line: &mut Vec<u8>, pair: &str) -> Result<bool, AllocError> {
 }
 
 fn begins_core(line: &[u8]) -> bool {
-    matches!(
-        parse_text(line),
-        Command::Plain(Request::BeginCore { .. })
-    )
+    matches!(parse_text(line), Command::Plain(Request::BeginCore { .. }))
 }
 
 // What the line of a script that these words are asks.

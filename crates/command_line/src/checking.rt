@@ -1,8 +1,8 @@
 // What holds by a handler's configuration, told to a person.
-use archive_files::{Access, ArchivePath, Failure, reason_of, shape_on, take_disk};
 use crate::config_file::Document;
 use crate::handle::{HANDLER_LIMIT, HANDLER_TEMPLATE, HandleWords};
 use crate::log::KERNEL_LOG;
+use archive_files::{Access, ArchivePath, Failure, reason_of, shape_on, take_disk};
 use handler_config::Config;
 use inspector_cli::SessionFault;
 use journal_layout::Shape;
@@ -42,7 +42,11 @@ fn tell_config<O: Output>(reply: &mut Reply<'_, O>, config: &Config<'_>, archive
     tell_number_line(reply, b"keep ", config.keep);
     tell_number_line(reply, b"bytes ", config.bytes);
     tell_number_line(reply, b"before ", config.before);
-    tell_number_line(reply, b"limit ", Some(config.limit.unwrap_or(HANDLER_LIMIT)));
+    tell_number_line(
+        reply,
+        b"limit ",
+        Some(config.limit.unwrap_or(HANDLER_LIMIT)),
+    );
     let template = config.template.unwrap_or(HANDLER_TEMPLATE);
     tell_text_line(reply, b"template ", Some(template));
     tell_flag_line(reply, b"uses-pid ", config.uses_pid);
@@ -136,7 +140,11 @@ fn tell_blocks<O: Output>(
         return false;
     };
     let is_large = wanted <= u128::from(shape.data_blocks);
-    reply.tell(if is_large { b"blocks " } else { b"fault too small: blocks " });
+    reply.tell(if is_large {
+        b"blocks "
+    } else {
+        b"fault too small: blocks "
+    });
     reply.tell_decimal(wanted);
     reply.tell(b" wanted, ");
     reply.tell_decimal(u128::from(shape.data_blocks));

@@ -69,7 +69,12 @@ fn tell_words<O: Output, E: Output>(
     ensures quiet { result ≢ 2 → errors.new ≡ errors.old }
 {
     let Ok(text) = format!(in alloc; "{error}") else {
-        return tell_failure(alloc, &Failure::Refused(Refusal::OutOfMemory), output, errors);
+        return tell_failure(
+            alloc,
+            &Failure::Refused(Refusal::OutOfMemory),
+            output,
+            errors,
+        );
     };
     if error.use_stderr() {
         let _ = write_whole(errors, text.as_bytes());

@@ -3,9 +3,9 @@ ghost use Rattle.std.specs.Prelude.{◌≡◌, ◌≤◌, Some, IfSome};
 
 use archive_files::{Collected, ask_over};
 use disk_model::Disk;
+use inspector_cli::Question;
 use intake::{Archive, Settings};
 use script_lines::{ImageQuery, Query};
-use inspector_cli::Question;
 use script_streams::Reply;
 use std::alloc::Global;
 
@@ -98,12 +98,7 @@ fn see_case<D: Disk>(seq: u32, archive: &mut Archive<D>) -> Option<Seen> {
 }
 
 // What can't be read of a case's image, in words; none if its headers and notes are sound. Hands the disk back.
-pub(crate) fn trouble_of<D: Disk>(
-    alloc: Global,
-    disk: D,
-    seq: u32,
-    seen: &Seen,
-) -> (Collected, D) {
+pub(crate) fn trouble_of<D: Disk>(alloc: Global, disk: D, seq: u32, seen: &Seen) -> (Collected, D) {
     let mut words = Collected::new(alloc);
     let mut reply = Reply::new(&mut words);
     let is_told = seen.tell_kind(&mut reply);

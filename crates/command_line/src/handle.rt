@@ -1,10 +1,10 @@
 // What the kernel's handler does: a core from the input is stored as a configuration says, and the outcome is told to a log.
-use archive_files::{ArchivePath, Collected, Failure, FileWord, Refusal, StoreRequest, StoreWords};
 use crate::asked::escaped_label;
 use crate::checking::check;
 use crate::config_file::{DEFAULT_CONFIG, Document, Trouble, read_document};
 use crate::log::{KERNEL_LOG, Level, Log};
 use crate::teller::{Teller, store_told};
+use archive_files::{ArchivePath, Collected, Failure, FileWord, Refusal, StoreRequest, StoreWords};
 use arrayvec::ArrayVec;
 use disk_model::FileFault;
 use handler_config::Config;
@@ -80,10 +80,7 @@ pub(crate) fn handle<R: AllocGlobal + Files<File = File> + Clock, I: Read, O: Ou
     tell_faults(rt, &handler, &words, &document);
     let Some(archive) = config.archive.or(words.archive) else {
         handler.tell(rt, Level::Error, b"lost a core: no archive is named");
-        return Err(Failure::Refused(Refusal::File(
-            FileWord::Archive,
-            FileFault::Missing,
-        )));
+        return Err(Failure::Refused(Refusal::File(FileWord::Archive, FileFault::Missing)));
     };
     let place = ArchivePath {
         path: archive,
@@ -178,7 +175,11 @@ impl<'a> Handler<'a> {
         match escaped_label(self.teller.alloc, text) {
             Ok(label) => Some(label),
             Err(_) => {
-                self.tell(rt, Level::Warning, b"the label is left out: it has over 64 bytes");
+                self.tell(
+                    rt,
+                    Level::Warning,
+                    b"the label is left out: it has over 64 bytes",
+                );
                 None
             }
         }

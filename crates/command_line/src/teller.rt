@@ -1,8 +1,8 @@
 // What becomes of a case that is stored, told to a log.
-use archive_files::{ArchivePath, Collected, Failure, Held, StoreRequest, reason_of, store_file};
 use crate::examine::{Seen, look_at_case, trouble_of};
 use crate::log::{Level, Log};
 use crate::outcome_lines::{lost_line, outcome_of, stored_line};
+use archive_files::{ArchivePath, Collected, Failure, Held, StoreRequest, reason_of, store_file};
 use disk_model::FileDisk;
 use inspector_cli::SessionFault;
 use script_streams::{Output, Reply};

@@ -1,7 +1,6 @@
 // The program: what its words ask for, and the status that it ends with.
 ghost use Rattle.std.specs.Prelude.{◌≡◌, ◌≤◌};
 
-use archive_files::{Access, ArchivePath, Failure, Refusal, StoreRequest, ask, extract, make_archive, names_output, run_over, store_file, take_disk};
 use crate::asked::{Asked, SessionWords, read_words};
 use crate::endings::{Ending, tell_ending};
 use crate::handle::handle;
@@ -9,6 +8,10 @@ use crate::line_helps::{asked_help, tell_help};
 use crate::log::Log;
 use crate::raw_words::words_of;
 use crate::teller::{Teller, store_told};
+use archive_files::{
+    Access, ArchivePath, Failure, Refusal, StoreRequest, ask, extract, make_archive, names_output,
+    run_over, store_file, take_disk,
+};
 use inspector_cli::{Naming, memory_session};
 use intake::Settings;
 use journal_layout::Shape;
@@ -21,12 +24,12 @@ use std::time::Clock;
 
 /// The program but for its standard streams, which its `main` hands in. Its words are those of the process, of any bytes.
 /// It answers the status that the program ends with, as `run_words` does.
-pub fn run_program<R: Env + AllocGlobal + Files<File = File> + Clock, I: Read, O: Output, E: Output>(
-    rt: &R,
-    input: &mut I,
-    output: &mut O,
-    errors: &mut E,
-) -> u8
+pub fn run_program<
+    R: Env + AllocGlobal + Files<File = File> + Clock,
+    I: Read,
+    O: Output,
+    E: Output,
+>(rt: &R, input: &mut I, output: &mut O, errors: &mut E) -> u8
     ensures most { result ≤ 2 }
     ensures quiet { result ≡ 0 → errors.new ≡ errors.old }
 {

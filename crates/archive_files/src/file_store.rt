@@ -1,7 +1,7 @@
 // A file as a case of an archive.
-use crate::archives::{Access, take_disk};
 use crate::archive_path::ArchivePath;
-use crate::failures::{Failure, Refusal, FileWord};
+use crate::archives::{Access, take_disk};
+use crate::failures::{Failure, FileWord, Refusal};
 use crate::over_disk::look_over;
 use crate::storing::{StoreRequest, store_from};
 use disk_model::{FileDisk, FileFault};
