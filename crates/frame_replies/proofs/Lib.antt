@@ -1,3 +1,4 @@
 pub mod TellLemmas
 pub mod RegisterLemmas
 pub mod AnswerLemmas
+pub mod ShownLemmas

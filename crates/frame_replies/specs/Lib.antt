@@ -3,3 +3,4 @@ pub mod ProcessWords
 pub mod Known
 pub mod FrameLines
 pub mod FrameRegisters
+pub mod Shown

@@ -7,10 +7,12 @@
 mod described;
 mod executables;
 mod known;
+mod laws;
 mod lines;
 mod refused;
 mod registers;
 mod stops;
 
+pub use laws::each_frame_shown_stands_on_a_rule;
 pub use lines::tell_unwind;
 pub use registers::tell_frame;

@@ -1,0 +1,21 @@
+-- What is shown of a thread's frames.
+use Rattle.std.specs.Prelude.{◌≡◌, ℕ, List, ◌∷◌, ◌++◌, slice_get}
+use Rattle.address_space.specs.Source.{ExecutableView}
+use Rattle.image_replies.specs.Lines.{numbered_lines}
+use Rattle.memory_replies.specs.Memory.{memory_of}
+use Rattle.memory_replies.specs.Places.{known_among}
+use Rattle.unwind.specs.Stands.{EachStands}
+use Rattle.unwind.specs.Unwinding.{IsUnwoundFrom, first_frame, most}
+use Rattle.unwind.specs.declared.faults.Stop.{Stop}
+use Rattle.unwind.specs.declared.frame.Frame.{Frame}
+use Rattle.frame_replies.specs.FrameLines.{frame_line, stop_line}
+use Rattle.frame_replies.specs.FrameRegisters.{frame_answer, registers_of}
+use Rattle.frame_replies.specs.Processes.{process_in}
+
+-- The lines are those of a frame with the thread's registers and of the frames behind it, and of why these end. Each frame behind
+-- another stands on a rule. What is told of the registers of the frame of a number is of the one in that place.
+pub record IsShown (b : List ℕ) (executables : List ExecutableView) (t : ℕ) (lines desc : List ℕ) (behind : List Frame) (stop : Stop) : Type 0 where
+  pub told : lines ≡ numbered_lines (frame_line (memory_of b executables) (known_among executables)) 0 (first_frame desc ∷ behind) ++ stop_line stop
+  pub unwound : IsUnwoundFrom (process_in b executables) most (first_frame desc) behind stop
+  pub stands : EachStands (process_in b executables) (first_frame desc) behind
+  pub registers : (i : ℕ) → frame_answer b executables t i ≡ registers_of (slice_get (first_frame desc ∷ behind) i)
