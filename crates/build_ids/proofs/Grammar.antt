@@ -29,7 +29,7 @@ field-take xs n p (suc w) h =
 length_part : (a b : ℕ) (xs : List ℕ) → a + b ≤ length xs → length (part xs a b) ≡ b
 length_part a b xs h = length-take-le b (drop a xs) (omega (arith, length-drop a xs))
 
--- what stands behind a front of known length
+-- what comes after a front of known length
 part_at : (xs ys zs : List ℕ) (a b : ℕ) → length xs ≡ a → length ys ≡ b → part (xs ++ (ys ++ zs)) a b ≡ ys
 part_at xs ys zs a b ha hb = ap (take b) (drop_at xs (ys ++ zs) a ha) ∙ take_at ys zs b hb
 
@@ -38,7 +38,7 @@ take-add a b xs =
     let le : a ≤ a + b = omega arith in
     sym (take-append-drop a (take (a + b) xs)) ∙ ap (λ front. front ++ drop a (take (a + b) xs)) (take-take a (a + b) xs le) ∙ ap (λ back. take a xs ++ back) (drop-take a b xs)
 
--- sizes and type, name, padding and descriptor, one behind the other
+-- sizes and type, name, padding and descriptor, one after the other
 four_parts : (bytes : List ℕ) (n g at d : ℕ) → at ≡ 12 + n + g → take (at + d) bytes ≡ take 12 bytes ++ (part bytes 12 n ++ (part bytes (12 + n) g ++ part bytes at d))
 four_parts bytes n g at d e =
     take-add at d bytes
@@ -83,7 +83,7 @@ same_note a b name kind desc =
     let by_desc : (let r : NoteView = record { name = b.name; kind = b.kind; desc = a.desc } in r) ≡ b = ap (λ n. record { name = b.name; kind = b.kind; desc = n }) desc in
     by_name ∙ by_kind ∙ by_desc
 
--- what stands at the front of bytes that begin with the text of a note
+-- what is at the front of bytes that begin with the text of a note
 record BeginsWith (p : Padding) (bytes text : List ℕ) (note : NoteView) : Type 0 where
   pub whole : is_whole p bytes ≡ true
   pub len : length text ≡ desc_past p bytes

@@ -27,7 +27,7 @@ pub whole_len : (p : Padding) (bytes : List ℕ) → is_whole p bytes ≡ true �
 unfolding is_whole
 whole_len p bytes whole = leb-true 12 (length bytes) (and_parts (nat_le 12 (length bytes)) _ whole).0
 
--- behind a whole note stand the notes of the rest
+-- after a whole note come the notes of the rest
 pub notes_step : (p : Padding) (bytes : List ℕ) → is_whole p bytes ≡ true → notes_in p bytes ≡ note_at p bytes ∷ notes_in p (drop (note_len p bytes) bytes)
 unfolding notes_past
 notes_step p [] whole = absurd (omega (arith, whole_len p [] whole))

@@ -10,7 +10,7 @@ use address_space::Attached;
 use core_notes::Files;
 use std::alloc::{AllocError, Global};
 
-/// Puts a name behind the others, if none has it. The error is that there is no memory.
+/// Puts a name after the others, if none has it. The error is that there is no memory.
 fn add_name<'a>(table: &mut Table<'a>, name: &'a [u8]) -> Result<(), AllocError>
     ensures { OnOk result (table_rows table.new ≡ with_name (table_rows table.old) name.entry.now) }
 {

@@ -10,7 +10,7 @@ use address_space::{Attached, ByPath};
 use build_ids::build_id;
 use std::alloc::{AllocError, Global};
 
-/// Executables in their order, or the bytes that stand for their fronts, and a table of their names.
+/// Executables in their order, or the bytes of their fronts, and a table of their names.
 #[derive(Drop)]
 pub(crate) struct Table<'a> {
     pub list: Vec<Attached<'a>>,
@@ -32,7 +32,7 @@ impl<'a> Table<'a> {
         }
     }
 
-    /// Puts one behind the others. The error is that there is no memory.
+    /// Puts one after the others. The error is that there is no memory.
     pub(crate) fn push(&mut self, executable: Attached<'a>) -> Result<(), AllocError>
         ensures { OnOk result (table_rows self.new ≡ table_rows self.old ++ attached_view executable.entry ∷ []) }
     {
