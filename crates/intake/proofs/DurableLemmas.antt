@@ -16,7 +16,7 @@ use Rattle.case_journal.specs.Journaled.{Journaled}
 use Rattle.intake.specs.Blocks.{block_start, image_in}
 use Rattle.intake.specs.Durable.{FoundCase, Durable, found_with, found_case, durable_in, durable_of, durable_part, with_images, without, flagged, labelled, upgraded}
 use Rattle.intake.specs.Live.{case_uses}
-use Rattle.intake.specs.Parts.{Parts, case_facts, state_of, contents_of}
+use Rattle.intake.specs.Parts.{Parts, state_of, contents_of}
 use Rattle.intake.proofs.BlockLemmas.{joined_other}
 use Rattle.intake.proofs.StoreLemmas.{joined_behind}
 
@@ -95,7 +95,7 @@ pub durable_stored : (s : Standing) (c : Case) (bytes : List ℕ)
 durable_stored s c bytes = ap (λ (l : List FoundCase). record { cases = l; next = s.next + 1; version = s.version }) (map-append (found_case s.shape bytes) s.cases (numbered s.next c ∷ []))
 
 -- a state and its bytes say the same
-pub found_zipped : (shape : Shape) (bytes : List ℕ) (cases : List Case) → map (found_case shape bytes) cases ≡ with_images (map case_facts cases) (map (λ (c : Case). image_in shape bytes c.blocks c.len) cases)
+pub found_zipped : (shape : Shape) (bytes : List ℕ) (cases : List Case) → map (found_case shape bytes) cases ≡ with_images cases (map (λ (c : Case). image_in shape bytes c.blocks c.len) cases)
 found_zipped shape bytes [] = refl
 found_zipped shape bytes (c ∷ rest) = ap (λ (l : List FoundCase). found_case shape bytes c ∷ l) (found_zipped shape bytes rest)
 

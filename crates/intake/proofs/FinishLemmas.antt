@@ -31,7 +31,7 @@ use Rattle.intake.specs.Ending.{EndsStreams}
 use Rattle.intake.specs.Growth.{AddsLowest}
 use Rattle.intake.proofs.LowestLemmas.{closed_fills}
 use Rattle.intake.specs.Live.{case_uses}
-use Rattle.intake.specs.Parts.{Parts, StreamParts, state_of, case_facts, stream_facts}
+use Rattle.intake.specs.Parts.{Parts, StreamParts, state_of, stream_facts}
 use Rattle.intake.specs.Slots.{stream_at}
 use Rattle.intake.specs.Sound.{IsArchiveSound, IsRunning, IsFine, IsFineIfOpen, held_by, is_called}
 use Rattle.intake.specs.Step.{FinishStep, MayFinish, MayHaveRuns, cases_with, record_size, recorded, with_stream}
@@ -153,10 +153,6 @@ module _ {D : Type 0} (g : disk.Ghosts D) (d d' : D) (j : Journaled) (most : ℕ
       ap (λ (k : Journaled). state_of (record { disk = d'; journal = k; limit = most; streams = streams'; stopped = b' })) now
       ∙ gone_state g d d' j most flags streams slot 0 s b running on is b' dropped streams' gone still same
 
-  -- the cases with the stream as the last one
-  cases_say : (blocks : List ℕ) → map case_facts (j.standing.cases ++ numbered j.standing.next (case_from_parts (with_blocks s blocks)) ∷ []) ≡ cases_with (state_of before) (stream_facts s) blocks
-  cases_say blocks = map-append case_facts j.standing.cases (numbered j.standing.next (case_from_parts (with_blocks s blocks)) ∷ [])
-
   -- the record was refused
   store_err : (j' : Journaled) (b' : Bool) (dropped streams' : List (Option StreamParts)) (s' : StreamParts) (u : Unit {0}) (jf : JournalFault) → dropped ≡ slice_set streams slot None → EndsStreams (fault_of jf) dropped b' streams'
       → ClosesStream (free_count flags) s (Ok u) s' → TakesLast s' → StoreRefused j (case_from_parts (with_blocks s s'.blocks)) jf j'
@@ -167,7 +163,7 @@ module _ {D : Type 0} (g : disk.Ghosts D) (d d' : D) (j : Journaled) (most : ℕ
     s'.blocks,
     may (there_is s' u closes),
     runs_may s' u closes,
-    record_full d d' j (store_of j.standing (case_from_parts (with_blocks s s'.blocks))) most streams b _ (cases_say s'.blocks) refused.1,
+    record_full d d' j (store_of j.standing (case_from_parts (with_blocks s s'.blocks))) most streams b refused.1,
     gone_with j' b' dropped streams' gone ends.0 ends.1 refused.2,
     closed_fills g d j most flags streams slot s b running is (free_count flags) s' u closes lowest,
   )
@@ -176,7 +172,7 @@ module _ {D : Type 0} (g : disk.Ghosts D) (d d' : D) (j : Journaled) (most : ℕ
     s'.blocks,
     may (there_is s' u closes),
     runs_may s' u closes,
-    record_room d d' j (store_of j.standing (case_from_parts (with_blocks s s'.blocks))) most streams b _ (cases_say s'.blocks) refused.1,
+    record_room d d' j (store_of j.standing (case_from_parts (with_blocks s s'.blocks))) most streams b refused.1,
     refused.2,
     gone_with j' b' dropped streams' gone ends.0 ends.1 refused.3,
     closed_fills g d j most flags streams slot s b running is (free_count flags) s' u closes lowest,
@@ -231,11 +227,11 @@ module _ {D : Type 0} (g : disk.Ghosts D) (d d' : D) (j : Journaled) (most : ℕ
     s'.blocks,
     may (there_is s' u closes),
     runs_may s' u closes,
-    record_room d d' j (store_of j.standing (case_from_parts (with_blocks s s'.blocks))) most streams b _ (cases_say s'.blocks) a.1,
+    record_room d d' j (store_of j.standing (case_from_parts (with_blocks s s'.blocks))) most streams b a.1,
     a.2,
     a.3,
     ap (λ (k : Journaled). state_of (record { disk = d'; journal = k; limit = most; streams = streams'; stopped = b })) a.4
-        ∙ state_recorded d d' j (store_of j.standing (case_from_parts (with_blocks s s'.blocks))) most streams' b _ (cases_say s'.blocks)
+        ∙ state_recorded d d' j (store_of j.standing (case_from_parts (with_blocks s s'.blocks))) most streams' b
         ∙ ap (λ (x : List (Option StreamFacts)).
         record (recorded (record (state_of before) { streams = x }) (record_size s.name (length (runs_of s'.blocks))) (cases_with (state_of before) (stream_facts s) s'.blocks)) { next = j.standing.next + 1 })
         (ap (map (option_map stream_facts)) gone ∙ map-set (option_map stream_facts) streams slot None),

@@ -7,25 +7,18 @@ use Rattle.std.proofs.lemmas.Bool.{cases_lt, cases_eq, lt-ltb}
 use Rattle.disk_model.specs.declared.disk.Disk as disk
 use Rattle.extents.specs.FreeSet.{is_free, uses, one_if}
 use Rattle.case_journal.specs.Journaled.{Journaled}
-use Rattle.journal_layout.specs.Case.{Case}
 use Rattle.intake.specs.Closing.{ClosesStream}
 use Rattle.intake.specs.Growth.{AddsLowest, Grows, NeedsBlock}
 use Rattle.intake.specs.Live.{case_uses}
-use Rattle.intake.specs.Parts.{Parts, StreamParts, state_of, case_facts, stream_facts}
+use Rattle.intake.specs.Parts.{Parts, StreamParts, state_of, stream_facts}
 use Rattle.intake.specs.Slots.{stream_at}
 use Rattle.intake.specs.Sound.{IsRunning, held_by, stream_uses}
-use Rattle.intake.specs.State.{CaseFacts, StreamFacts, blocks_by, blocks_for}
+use Rattle.intake.specs.State.{StreamFacts, blocks_by, blocks_for}
 use Rattle.intake.specs.Step.{IsLowestFree, FillsBlocks, block_uses, with_stream}
 use Rattle.intake.proofs.CountLemmas.{in_range, one_if_le}
+use Rattle.journal_layout.specs.Case.{Case}
 
 -- the uses of a block, as the state without bytes counts them
-cases_use : (k : ℕ) (cases : List Case) → sum_by (λ (c : CaseFacts). uses c.blocks k) (map case_facts cases) ≡ case_uses cases k
-cases_use k [] = refl
-cases_use k (c ∷ rest) =
-    let s = sum_by-cons (λ (x : CaseFacts). uses x.blocks k) (case_facts c) (map case_facts rest) in
-    let t = sum_by-cons (λ (x : Case). uses x.blocks k) c rest in
-    omega (arith, s, t, cases_use k rest)
-
 streams_use : (k : ℕ) (streams : List (Option StreamParts)) → sum_by (λ (o : Option StreamFacts). uses (blocks_by o) k) (map (option_map stream_facts) streams) ≡ stream_uses streams k
 streams_use k [] = refl
 streams_use k (o ∷ rest) =
@@ -55,11 +48,10 @@ module _ {D : Type 0} (g : disk.Ghosts D) (d : D) (j : Journaled) (most : ℕ) (
   -- what the archive without the stream uses, and what the stream has
   parted : (k : ℕ) → block_uses (with_stream (state_of before) slot None) k + uses s.blocks k ≡ case_uses j.standing.cases k + stream_uses streams k
   parted k =
-      let c = cases_use k j.standing.cases in
       let m = ap (sum_by (λ (o : Option StreamFacts). uses (blocks_by o) k)) (map-set (option_map stream_facts) streams slot None) in
       let t = streams_use k (slice_set streams slot None) in
       let o = taken_out k streams slot s is in
-      omega (arith, c, m, t, o)
+      omega (arith, m, t, o)
 
   lowest_is : (k : ℕ) → is_free flags k ≡ true → ((i : ℕ) → i < k → is_free flags i ≡ false) → IsLowestFree (with_stream (state_of before) slot None) s.blocks k
   lowest_is k free lower = record {

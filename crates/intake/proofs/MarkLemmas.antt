@@ -14,7 +14,7 @@ use Rattle.intake.specs.Guarding.{Leaves, LeavesNew, StoresIn, MayBeStored, MayB
 use Rattle.intake.specs.Marks.{Mark, IsOneOf, FindsMark, IsMarkSettled, Passes, IsRunOfMarks, last_of, FindsOne, IsFoundFrom, IsFoundSince, mark_of, doubted, LeadsToMark}
 use Rattle.intake.specs.Parts.{Parts, StreamParts, state_of, stream_facts, contents_of, taken_in}
 use Rattle.intake.specs.Slots.{stream_at}
-use Rattle.intake.specs.State.{ArchiveState, CaseFacts, StreamFacts, blocks_for}
+use Rattle.intake.specs.State.{ArchiveState, StreamFacts, blocks_for}
 use Rattle.intake.specs.Step.{MayHaveRuns, FinishStep, DeleteStep, PinStep, LabelStep, UpgradeStep, RetireStep, brief_of, stored, halted, without_cases, with_flag, with_label, anew_in_two}
 use Rattle.intake.specs.declared.faults.ArchiveFault.{ArchiveFault}
 use Rattle.intake.specs.declared.faults.ArchiveFault.TheVariants as fault
@@ -23,6 +23,7 @@ use Rattle.retention.specs.Rule.{IsDecision, holds_after, goes, seq_of}
 use Rattle.retention.specs.declared.Brief.{Brief}
 use Rattle.retention.specs.declared.Decision.{Decision}
 use Rattle.retention.specs.declared.Policy.{Policy}
+use Rattle.journal_layout.specs.Case.{Case}
 
 module _ {D : Type 0} (g : disk.Ghosts D) (only : (d : D) (c : List ℕ) → g.left_since d (g.clock d) c → g.may_leave d c) where
   first_finds : (c : List ℕ) (m : Mark D) (ns : List (Mark D)) → FindsMark c m → FindsOne c m ns
@@ -360,7 +361,7 @@ module _ {D : Type 0} (g : disk.Ghosts D) (counts : (d : D) (t : ℕ) (c : List 
       → UnmovedBytes (contents_of g.seen old) f (contents_of g.seen new) → SameCases
   refused_same f is bytes =
       unmoved f is.0
-      (ap (λ (cs : List CaseFacts). record { cases = with_images cs (contents_of g.seen old).images; next = is.0.next; version = is.0.version }) is.2
+      (ap (λ (cs : List Case). record { cases = with_images cs (contents_of g.seen old).images; next = is.0.next; version = is.0.version }) is.2
       ∙ ap (λ (n : ℕ). record { cases = with_images (state_of old).cases (contents_of g.seen old).images; next = n; version = is.0.version }) is.3
       ∙ ap (λ (v : ℕ). record { cases = with_images (state_of old).cases (contents_of g.seen old).images; next = (state_of old).next; version = v }) is.4)
       is.1 bytes

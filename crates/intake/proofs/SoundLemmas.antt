@@ -18,8 +18,8 @@ use Rattle.intake.specs.Balance.{AreHeld, Balances}
 use Rattle.intake.specs.Contents.{zero_block}
 use Rattle.journal_layout.specs.Live.{IsWhole}
 use Rattle.intake.specs.Live.{cases_named}
-use Rattle.intake.specs.Parts.{StreamParts, state_of, case_facts, stream_facts}
-use Rattle.intake.specs.State.{CaseFacts, blocks_for, blocks_in, filled_by}
+use Rattle.intake.specs.Parts.{StreamParts, state_of, stream_facts}
+use Rattle.intake.specs.State.{blocks_for, blocks_in, filled_by}
 use Rattle.intake.specs.Room.{HasBlock, SlotReply}
 use Rattle.intake.specs.Lending.{refilled, with_room, slots_left}
 use Rattle.intake.specs.declared.faults.ArchiveFault.{ArchiveFault}
@@ -115,10 +115,10 @@ sound_halted g d d' j j' most flags flags' streams streams' b sound same long = 
 }
 
 -- the blocks in use, as the state without bytes counts them
-cases_count : (next : ℕ) (cases : List Case) → All (IsWhole next) cases → sum_by (λ (c : CaseFacts). blocks_for c.len) (map case_facts cases) ≡ case_blocks cases
+cases_count : (next : ℕ) (cases : List Case) → All (IsWhole next) cases → sum_by (λ (c : Case). blocks_for c.len) cases ≡ case_blocks cases
 cases_count next [] each = refl
 cases_count next (c ∷ rest) each =
-    let s = sum_by-cons (λ (x : CaseFacts). blocks_for x.len) (case_facts c) (map case_facts rest) in
+    let s = sum_by-cons (λ (x : Case). blocks_for x.len) c rest in
     let t = sum_by-cons (λ (x : Case). length x.blocks) c rest in
     let m = cases_count next rest (All-tail (IsWhole next) c rest each) in
     let e = (All-head (IsWhole next) c rest each).enough in

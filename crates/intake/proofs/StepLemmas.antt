@@ -11,17 +11,18 @@ use Rattle.case_journal.specs.Journaled.{Journaled}
 use Rattle.extents.specs.FreeSet.{one_if}
 use Rattle.intake.specs.Contents.{Taken, zero_block, empty_taken, with_taken}
 use Rattle.intake.specs.Live.{cases_named}
-use Rattle.intake.specs.Parts.{Parts, StreamParts, state_of, case_facts, stream_facts, taken_in, contents_of}
+use Rattle.intake.specs.Parts.{Parts, StreamParts, state_of, stream_facts, taken_in, contents_of}
 use Rattle.intake.specs.Slots.{stream_at}
 use Rattle.intake.specs.Sound.{streams_named, is_called}
-use Rattle.intake.specs.State.{CaseFacts, StreamFacts}
-use Rattle.intake.specs.Step.{has_name, is_taken, with_stream}
+use Rattle.intake.specs.State.{StreamFacts}
+use Rattle.intake.specs.Step.{has_name, is_taken, with_stream, is_named}
 use Rattle.disk_model.specs.declared.disk.Disk as disk
 use Rattle.intake.specs.Balance.{Balances}
 use Rattle.intake.specs.Contents.{BeginBytes, AbandonBytes}
 use Rattle.intake.specs.Sound.{IsArchiveSound, IsFine}
 use Rattle.intake.specs.Step.{BeginStep, AbandonStep}
 use Rattle.intake.proofs.SoundLemmas.{state_at, sound_with, nothing_moves}
+use Rattle.journal_layout.specs.Case.{Case}
 
 -- the same archive with something else in a slot
 module _ {D : Type 0} (d d' : D) (j : Journaled) (most : ℕ) (streams : List (Option StreamParts)) (slot : ℕ) (o : Option StreamParts) (b : Bool) where
@@ -52,14 +53,19 @@ pub not_open : (t : Bool) (o : Option StreamParts) → IsTrue t ↔ IsSome o →
 not_open t None both off = refl
 not_open t (Some s) both off = absurd (let h : t ≡ true = both.1 refl in let e : true ≡ false = sym h ∙ off in cc)
 
+-- a test of what is told of some, in words of these
+pub list_any-map : {X Y : Type 0} (P : Y → Bool) (f : X → Y) (xs : List X) → list_any P (map f xs) ≡ list_any (λ x. P (f x)) xs
+list_any-map P f [] = refl
+list_any-map P f (x ∷ xs) = ap (λ b. P (f x) || b) (list_any-map P f xs)
+
 -- a name that is not taken is that of no case and no stream
-pub none_of : {X Y : Type 0} (P : Y → Bool) (f : X → Y) (xs : List X) → list_any P (map f xs) ≡ false → count_by (λ x. P (f x)) xs ≡ 0
-none_of P f [] e = refl
-none_of P f (x ∷ xs) e =
-    let h = or_parts (P (f x)) (list_any P (map f xs)) e in
-    let s = sum_by-cons (λ y. cond (P (f y)) 1 0) x xs in
-    let g : one_if (P (f x)) ≡ 0 = ap one_if h.0 in
-    omega (arith, s, g, none_of P f xs h.1)
+pub none_of : {X : Type 0} (P : X → Bool) (xs : List X) → list_any P xs ≡ false → count_by P xs ≡ 0
+none_of P [] e = refl
+none_of P (x ∷ xs) e =
+    let h = or_parts (P x) (list_any P xs) e in
+    let s = sum_by-cons (λ y. cond (P y) 1 0) x xs in
+    let g : one_if (P x) ≡ 0 = ap one_if h.0 in
+    omega (arith, s, g, none_of P xs h.1)
 
 pub called_same : (name : List ℕ) (streams : List (Option StreamParts)) → count_by (λ o. has_name name (option_map stream_facts o)) streams ≡ streams_named streams name
 called_same name [] = refl
@@ -75,9 +81,9 @@ called_same name (o ∷ rest) =
 
 pub new_name : {D : Type 0} (a : Parts D) (name : List ℕ) → is_taken (state_of a) name ≡ false → (cases_named a.journal.standing.cases name ≡ 0) × (streams_named a.streams name ≡ 0)
 new_name a name e =
-    let h = or_parts (list_any (λ (c : CaseFacts). bytes_eq c.name name) (map case_facts a.journal.standing.cases)) (list_any (has_name name) (map (option_map stream_facts) a.streams)) e in (
-      none_of (λ (c : CaseFacts). bytes_eq c.name name) case_facts a.journal.standing.cases h.0,
-      sym (called_same name a.streams) ∙ none_of (has_name name) (option_map stream_facts) a.streams h.1,
+    let h = or_parts (is_named name a.journal.standing.cases) (list_any (has_name name) (map (option_map stream_facts) a.streams)) e in (
+      none_of (λ (c : Case). bytes_eq c.name name) a.journal.standing.cases h.0,
+      sym (called_same name a.streams) ∙ none_of (λ o. has_name name (option_map stream_facts o)) a.streams (sym (list_any-map (has_name name) (option_map stream_facts) a.streams) ∙ h.1),
     )
 
 of_true : (x y : List ℕ) → bytes_eq x y ≡ true → x ≡ y
@@ -94,11 +100,6 @@ names_with a s free once name = both (bytes_eq s.name name) refl
         let f = ap (cases_named a.journal.standing.cases) same in
         let g = ap (streams_named a.streams) same in
         let c = n.0 in let t = n.1 in omega (arith, f, g, c, t))
-
--- the test of the cases, in the words of the entries
-pub list_any-map : {X Y : Type 0} (P : Y → Bool) (f : X → Y) (xs : List X) → list_any P (map f xs) ≡ list_any (λ x. P (f x)) xs
-list_any-map P f [] = refl
-list_any-map P f (x ∷ xs) = ap (λ b. P (f x) || b) (list_any-map P f xs)
 
 -- a stream is begun
 module _ {D : Type 0} (g : disk.Ghosts D) (d : D) (j : Journaled) (most : ℕ) (flags : List Bool) (streams streams' : List (Option StreamParts)) (slot : ℕ) (s : StreamParts) (b : Bool)

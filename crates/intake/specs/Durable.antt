@@ -1,8 +1,7 @@
 -- What an archive holds that outlives a stop: its cases with their images, the number of the next one, and the version of its
 -- layout.
-use Rattle.std.specs.Prelude.{◌≡◌, ◌⊎◌, ◌==◌, ℕ, ◌+◌, Bool, false, not, List, [], ◌∷◌, ◌++◌, length, map, Result, Ok, Err, if◌then◌else◌}
+use Rattle.std.specs.Prelude.{◌≡◌, ◌⊎◌, ◌==◌, ℕ, ◌+◌, Bool, false, not, List, [], ◌∷◌, ◌++◌, map, Result, Ok, Err, if◌then◌else◌}
 use Rattle.std.specs.List.{filter}
-use Rattle.extents.specs.Runs.{runs_of}
 use Rattle.journal_layout.specs.declared.entry.Kind.{Kind}
 use Rattle.journal_layout.specs.declared.faults.OpenFault.{OpenFault}
 use Rattle.journal_layout.specs.declared.faults.OpenFault.TheVariants as fault
@@ -14,7 +13,7 @@ use Rattle.journal_layout.specs.Stands.{Stands}
 use Rattle.intake.specs.Blocks.{image_in}
 use Rattle.intake.specs.Contents.{Contents}
 use Rattle.intake.specs.Parts.{Parts}
-use Rattle.intake.specs.State.{ArchiveState, CaseFacts, StreamFacts}
+use Rattle.intake.specs.State.{ArchiveState, StreamFacts, runs_in}
 
 -- a case with its image
 pub record FoundCase : Type 0 where
@@ -51,7 +50,7 @@ found_with c image = record {
   pinned = c.pinned;
   len = c.len;
   image = image;
-  runs = length (runs_of c.blocks);
+  runs = runs_in c;
   label = c.label;
 }
 
@@ -74,22 +73,10 @@ abbrev pub durable_of : {D : Type 0} → (D → List ℕ) → Parts D → Durabl
 durable_of seen a = durable_in (seen a.disk) a.journal.standing
 
 -- the cases of a state, each with its image
-abbrev pub with_images : List CaseFacts → List (List ℕ) → List FoundCase
+abbrev pub with_images : List Case → List (List ℕ) → List FoundCase
 with_images [] images = []
 with_images (c ∷ cases) [] = []
-with_images (c ∷ cases) (image ∷ images) = record {
-  seq = c.seq;
-  kind = c.kind;
-  name = c.name;
-  pid = c.pid;
-  signal = c.signal;
-  time = c.time;
-  pinned = c.pinned;
-  len = c.len;
-  image = image;
-  runs = c.runs;
-  label = c.label;
-} ∷ with_images cases images
+with_images (c ∷ cases) (image ∷ images) = found_with c image ∷ with_images cases images
 
 -- what a state and its bytes leave after a stop
 abbrev pub durable_part : ArchiveState → Contents → Durable

@@ -1,11 +1,10 @@
 -- What an archive is made of, as its contracts see it.
-use Rattle.std.specs.Prelude.{ℕ, ◌%◌, Bool, List, Option, ◌++◌, map, option_map, take, drop, length}
-use Rattle.extents.specs.Runs.{runs_of}
+use Rattle.std.specs.Prelude.{ℕ, ◌%◌, Bool, List, Option, ◌++◌, map, option_map, take, drop}
 use Rattle.journal_layout.specs.declared.entry.Kind.{Kind}
 use Rattle.journal_layout.specs.Case.{Case}
 use Rattle.case_journal.specs.Journaled.{Journaled}
 use Rattle.intake.specs.Blocks.{joined, image_in}
-use Rattle.intake.specs.State.{CaseFacts, StreamFacts, ArchiveState}
+use Rattle.intake.specs.State.{StreamFacts, ArchiveState}
 use Rattle.intake.specs.Contents.{Taken, Contents}
 
 -- a stream: what it is of, the blocks that it has filled, and the block that it fills
@@ -29,21 +28,6 @@ pub record Parts (D : Type 0) : Type 0 where
   pub streams : List (Option StreamParts)
   pub stopped : Bool
 
-abbrev pub case_facts : Case → CaseFacts
-case_facts c = record {
-  seq = c.seq;
-  kind = c.kind;
-  name = c.name;
-  pid = c.pid;
-  signal = c.signal;
-  time = c.time;
-  pinned = c.pinned;
-  len = c.len;
-  runs = length (runs_of c.blocks);
-  blocks = c.blocks;
-  label = c.label;
-}
-
 abbrev pub stream_facts : StreamParts → StreamFacts
 stream_facts s = record { kind = s.kind; name = s.name; pid = s.pid; signal = s.signal; time = s.time; len = s.len; blocks = s.blocks }
 
@@ -53,7 +37,7 @@ state_of a = record {
   shape = a.journal.standing.shape;
   version = a.journal.standing.version;
   limit = a.limit;
-  cases = map case_facts a.journal.standing.cases;
+  cases = a.journal.standing.cases;
   next = a.journal.standing.next;
   used = a.journal.standing.used;
   generation = a.journal.standing.generation;

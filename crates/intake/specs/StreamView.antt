@@ -1,9 +1,10 @@
 -- What contracts see of a stream.
-use Rattle.std.specs.Prelude.{ℕ, false, List, [], Option, option_map}
+use Rattle.std.specs.Prelude.{ℕ, List, Option, option_map}
 use Rattle.journal_layout.specs.Case.{Case}
+use Rattle.intake.specs.Step.{case_from}
 use Rattle.intake.specs.declared.stream.Stream.{Stream}
 use Rattle.intake.specs.declared.slots.Slot.{Slot}
-use Rattle.intake.specs.Parts.{StreamParts}
+use Rattle.intake.specs.Parts.{StreamParts, stream_facts}
 
 -- a stream whose block holds this
 abbrev pub parts_of : List ℕ → Stream → StreamParts
@@ -24,18 +25,7 @@ parts_in slot = option_map (parts_of slot.block) slot.stream
 
 -- the case that a stream becomes, not numbered yet, and with no label
 abbrev pub case_from_parts : StreamParts → Case
-case_from_parts s = record {
-  seq = 0;
-  kind = s.kind;
-  name = s.name;
-  pid = s.pid;
-  signal = s.signal;
-  time = s.time;
-  pinned = false;
-  len = s.len;
-  blocks = s.blocks;
-  label = [];
-}
+case_from_parts s = case_from (stream_facts s) 0 s.blocks
 
 -- a stream that was taken out of its slot, with its block
 abbrev pub taken_parts : Stream × List ℕ → StreamParts
