@@ -1,5 +1,5 @@
 -- An archive after the append of a record that is no case's.
-use Rattle.std.proofs.Common.{◌≡◌, ◌≢◌, ℕ, ◌*◌, ◌+◌, ◌≤◌, Bool, true, false, cond, List, [], length, map, refl, sym, ap, ◌∙◌, subst, arith, Option, Some, Err}
+use Rattle.std.proofs.Common.{◌≡◌, ◌≢◌, ℕ, ◌*◌, ◌+◌, ◌≤◌, Bool, true, false, List, length, map, refl, sym, ap, ◌∙◌, subst, arith, Option, Err}
 use Rattle.std.specs.Prelude.{option_map}
 use mathlib.Core.Bool.{beq}
 use Rattle.disk_model.specs.Places.{SameOutside}

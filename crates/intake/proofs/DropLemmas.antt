@@ -1,7 +1,6 @@
 -- How cases are dropped.
 use Rattle.std.proofs.Common.{◌≡◌, ℕ, ◌*◌, ◌+◌, Bool, true, false, not, cond, List, [], ◌∷◌, length, map, refl, sym, ap, ◌∙◌, subst, arith, Option, Some, Result, Ok, Err}
 use Rattle.std.specs.Prelude.{option_map, nat_lt}
-use Rattle.std.specs.List.{filter}
 use Rattle.disk_model.specs.Places.{SameOutside}
 use Rattle.disk_model.specs.declared.disk.Disk as disk
 use Rattle.extents.specs.FreeSet.{one_if}

@@ -1,5 +1,5 @@
 -- How a stream becomes a case.
-use Rattle.std.proofs.Common.{◌≡◌, ◌≢◌, ⊎_elim, ℕ, ◌+◌, ◌%◌, ◌<◌, Bool, true, false, cond, List, [], ◌∷◌, ◌++◌, length, map, refl, sym, ap, ◌∙◌, subst, arith, Option, None, Some, Ok, Err}
+use Rattle.std.proofs.Common.{◌≡◌, ◌≢◌, ⊎_elim, ℕ, ◌+◌, ◌%◌, ◌<◌, Bool, true, false, cond, List, [], ◌∷◌, length, map, refl, sym, ap, ◌∙◌, subst, arith, Option, None, Some, Ok, Err}
 use Rattle.std.specs.Prelude.{option_map, slice_set, nat_lt}
 use Rattle.std.specs.List.{list_any, count_by}
 use Rattle.std.specs.Str.{bytes_eq}
@@ -9,7 +9,7 @@ use Rattle.std.proofs.lemmas.List.Sums.{sum_by-cons}
 use Rattle.disk_model.specs.declared.disk.Disk as disk
 use Rattle.extents.specs.FreeSet.{free_count, uses, one_if}
 use Rattle.extents.specs.FreeLaws.{uses_append}
-use Rattle.journal_layout.specs.Case.{Case, numbered}
+use Rattle.journal_layout.specs.Case.{Case}
 use Rattle.journal_layout.specs.Folding.{used_blocks}
 use Rattle.journal_layout.specs.Soundness.{IsStorable, blocks_for}
 use Rattle.case_journal.specs.Journaled.{Journaled}
@@ -18,7 +18,7 @@ use Rattle.intake.specs.declared.faults.ArchiveFault.TheVariants as fault
 use Rattle.intake.specs.Balance.{Balances}
 use Rattle.extents.specs.Runs.{runs_of}
 use Rattle.extents.specs.RunLaws.{runs_no_more, runs_some}
-use Rattle.std.proofs.lemmas.List.{length-set, map-set, map-append}
+use Rattle.std.proofs.lemmas.List.{length-set, map-set}
 use Rattle.journal_layout.specs.Standing.{store_of}
 use Rattle.intake.specs.State.{StreamFacts}
 use Rattle.case_journal.specs.Append.{StoreRefused}

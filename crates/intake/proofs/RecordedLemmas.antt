@@ -1,5 +1,5 @@
 -- The state without bytes after one record more, and whether the record has room.
-use Rattle.std.proofs.Common.{◌≡◌, inl, inr, ⊎_elim, ℕ, ◌+◌, Bool, List, [], ◌∷◌, map, refl, ap, ◌∙◌, arith, Option, cond}
+use Rattle.std.proofs.Common.{◌≡◌, inl, inr, ⊎_elim, ℕ, ◌+◌, Bool, List, [], ◌∷◌, refl, ap, arith, Option, cond}
 use Rattle.std.specs.Prelude.{sum_by}
 use Rattle.std.proofs.lemmas.List.Sums.{sum_by-cons}
 use Rattle.journal_layout.specs.Case.{Case}

@@ -1,5 +1,5 @@
 -- How the cases are written anew in version 2 of the layout.
-use Rattle.std.proofs.Common.{◌≡◌, ◌⊎◌, inl, inr, ⊎_elim, ℕ, ◌*◌, ◌≤◌, Bool, true, false, List, map, refl, sym, ap, ◌∙◌, subst, arith, Option, Ok, Err}
+use Rattle.std.proofs.Common.{◌≡◌, ◌⊎◌, inl, inr, ⊎_elim, ℕ, ◌*◌, ◌≤◌, Bool, true, false, List, refl, sym, ap, ◌∙◌, subst, arith, Option, Ok, Err}
 use Rattle.std.specs.Prelude.{IsTrue}
 use Rattle.disk_model.specs.Disk.{ChangedIn}
 use Rattle.disk_model.specs.MomentLaws.{adds, weakened, both, now_too}

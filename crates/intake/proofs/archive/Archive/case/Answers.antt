@@ -1,5 +1,4 @@
-use Rattle.std.proofs.Common.{◌∙◌, ap, sym}
-use Rattle.std.specs.Prelude.{option_map}
+use Rattle.std.proofs.Common.{sym}
 use Rattle.intake.proofs.archive.Archive.case.Goals as goal
 
 pub returns-in-Some : goal.returns-in-Some

@@ -2,7 +2,6 @@ use Rattle.std.proofs.Common.{List, ℕ, [], ◌∷◌, map}
 use Rattle.intake.specs.Names.{name_of_case}
 use Rattle.intake.proofs.ListedLemmas.{gone_one}
 use Rattle.std.proofs.Common.{rules, ◌∙◌, ap, sym, refl}
-use Rattle.std.specs.Prelude.{option_map}
 use Rattle.intake.specs.Parts.{state_of}
 use Rattle.journal_layout.specs.Case.{case_of}
 use Rattle.intake.proofs.DropLemmas.{delete_may, delete_step}

@@ -1,6 +1,5 @@
 use Rattle.intake.proofs.NameLemmas.{taken_still}
 use Rattle.std.proofs.Common.{rules, ◌≡◌, ◌∙◌, ◌≤◌, ap, sym, refl, subst, arith, List, ℕ, Some, Err, Vec, Global}
-use Rattle.std.specs.Prelude.{option_map}
 use Rattle.journal_layout.specs.Case.{case_of}
 use Rattle.journal_layout.specs.declared.shape.Shape.{Shape}
 use Rattle.intake.specs.Blocks.{image_in}

@@ -1,5 +1,4 @@
-use Rattle.std.proofs.Common.{rules, ◌≡◌, ◌∙◌, ◌≤◌, ap, sym, refl, subst, arith, length, List, Some, Err}
-use Rattle.std.specs.Prelude.{option_map}
+use Rattle.std.proofs.Common.{rules, ◌≡◌, ◌∙◌, ◌≤◌, sym, refl, subst, arith, length, List, Some, Err}
 use Rattle.disk_model.specs.Places.{part}
 use Rattle.extents.specs.Runs.{blocks_of}
 use Rattle.extents.specs.declared.run_list.Run.{Run}

@@ -1,5 +1,4 @@
-use Rattle.std.proofs.Common.{◌∙◌, ◌≤◌, ap, sym, subst, arith, List}
-use Rattle.std.specs.Prelude.{option_map}
+use Rattle.std.proofs.Common.{◌≤◌, sym, subst, arith, List}
 use Rattle.std.proofs.lemmas.Result.{err_from_is_err_and}
 use Rattle.extents.specs.Runs.{runs_of}
 use Rattle.extents.specs.declared.run_list.Run.{Run}

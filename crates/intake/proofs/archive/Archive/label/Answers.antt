@@ -4,8 +4,7 @@ use Rattle.intake.specs.Names.{AreTaken}
 use Rattle.case_journal.specs.Journaled.{Journaled}
 use Rattle.intake.proofs.DropLemmas.{still_cases}
 use Rattle.intake.proofs.NameLemmas.{names_labelled, taken_still}
-use Rattle.std.proofs.Common.{rules, arith, ◌≡◌, ◌∙◌, refl, ap, sym, subst, Ok, Err}
-use Rattle.std.specs.Prelude.{option_map}
+use Rattle.std.proofs.Common.{rules, arith, ◌≡◌, ◌∙◌, refl, sym, subst, Ok, Err}
 use Rattle.intake.specs.Contents.{UnmovedBytes}
 use Rattle.intake.specs.Ending.{EndsStreams}
 use Rattle.intake.specs.Faults.{fault_of}

@@ -4,8 +4,7 @@ use Rattle.intake.specs.Names.{AreTaken}
 use Rattle.case_journal.specs.Journaled.{Journaled}
 use Rattle.intake.proofs.DropLemmas.{still_cases}
 use Rattle.intake.proofs.NameLemmas.{names_pinned, taken_still}
-use Rattle.std.proofs.Common.{rules, ◌≡◌, ◌∙◌, refl, ap, sym, subst, Err}
-use Rattle.std.specs.Prelude.{option_map}
+use Rattle.std.proofs.Common.{rules, ◌≡◌, refl, sym, subst, Err}
 use Rattle.intake.specs.Contents.{UnmovedBytes}
 use Rattle.intake.specs.Ending.{EndsStreams}
 use Rattle.intake.specs.Faults.{fault_of}
