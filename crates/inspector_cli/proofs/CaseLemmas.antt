@@ -1,5 +1,5 @@
 -- A case of a state, among those that an archive holds.
-use Rattle.std.proofs.Common.{◌≡◌, inl, inr, ⊎_elim, ℕ, Bool, cond, List, [], ◌∷◌, map, Some, refl, ap, subst, None, sym}
+use Rattle.std.proofs.Common.{◌≡◌, inl, inr, ⊎_elim, ℕ, Bool, cond, List, [], ◌∷◌, map, Some, refl, ap, subst, None, sym, ◌∙◌}
 use Rattle.std.proofs.lemmas.Bool.Decides.{eqb_tells}
 use Rattle.intake.specs.Durable.{FoundCase, found_case}
 use Rattle.intake.specs.Lives.{IsAmong}
