@@ -120,7 +120,7 @@ module _ {D : Type 0} (g : disk.Ghosts D) (lasts : LastingLaws g) where
     image = takes.0;
     read = takes.1;
     whole = takes.2;
-    runs = may.0;
+    blocks = may.0;
     number = number;
     adds =
         may.1.5

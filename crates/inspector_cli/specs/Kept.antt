@@ -34,14 +34,14 @@ HasThisLabel (Some label) text = text ≡ label
 
 -- this is the case
 pub record IsKeptAs (k : Kept) (c : FoundCase) : Type 0 where
-  pub number : c.seq ≡ k.seq
-  pub kind : c.kind ≡ k.stream.kind
-  pub name : c.name ≡ k.stream.name
-  pub pid : c.pid ≡ k.stream.pid
-  pub signal : c.signal ≡ k.stream.signal
-  pub time : c.time ≡ k.stream.time
+  pub number : c.case.seq ≡ k.seq
+  pub kind : c.case.kind ≡ k.stream.kind
+  pub name : c.case.name ≡ k.stream.name
+  pub pid : c.case.pid ≡ k.stream.pid
+  pub signal : c.case.signal ≡ k.stream.signal
+  pub time : c.case.time ≡ k.stream.time
   pub bytes : c.image ≡ k.image
-  pub labelled : HasThisLabel k.label c.label
+  pub labelled : HasThisLabel k.label c.case.label
 
 -- the archive holds the case
 abbrev pub HoldsKept : Kept → Durable → Type 0

@@ -7,7 +7,7 @@ use Rattle.std.proofs.lemmas.Slice.Eq.{bytes_eq-Decides}
 use Rattle.disk_model.specs.Places.{SameOutside}
 use Rattle.disk_model.specs.declared.disk.Disk as disk
 use Rattle.journal_layout.specs.Case.{Case}
-use Rattle.journal_layout.specs.Folding.{used_blocks, with_label}
+use Rattle.journal_layout.specs.Folding.{used_blocks, with_label, labelled_as}
 use Rattle.journal_layout.specs.Front.{is_known}
 use Rattle.journal_layout.specs.Layout.{half_length}
 use Rattle.journal_layout.specs.LiveCounts.{case_uses_same, used_length, named_labelled}
@@ -18,6 +18,7 @@ use Rattle.journal_layout.specs.Soundness.{IsLabel, case_numbered, uses as uses_
 use Rattle.journal_layout.specs.Standing.{folded_of}
 use Rattle.case_journal.specs.Append.{AppendStep, MayFollow, MayLabel, LabelStep as JournalStep}
 use Rattle.case_journal.specs.Journaled.{Journaled}
+use Rattle.intake.proofs.DurableLemmas.{held_image, images_made, label_moves_none}
 use Rattle.intake.specs.Guarding.{Guards}
 use Rattle.case_journal.specs.declared.faults.JournalFault.{JournalFault}
 use Rattle.case_journal.specs.declared.faults.JournalFault.TheVariants as journal_fault
@@ -122,18 +123,9 @@ module _ {D : Type 0} (g : disk.Ghosts D) (d d' : D) (j j' : Journaled) (most : 
       let e = ap length (used_labelled seq text j.standing.cases) in omega (arith, x, y, e))
       (λ name. (let n : cases_named (with_label seq text j.standing.cases) name ≡ cases_named j.standing.cases name = named_labelled seq text j.standing.cases name in omega (arith, n))))
 
-  images_labelled : (bytes : List ℕ) (cases : List Case) → map (λ (x : Case). image_in j.standing.shape bytes x.blocks x.len) (with_label seq text cases) ≡ map (λ (x : Case). image_in j.standing.shape bytes x.blocks x.len) cases
-  images_labelled bytes [] = refl
-  images_labelled bytes (x ∷ rest) =
-      elim (x.seq == seq) as (λ t. image_in j.standing.shape bytes (cond t (record x { label = text }) x).blocks (cond t (record x { label = text }) x).len ∷ map (λ (y : Case). image_in j.standing.shape bytes y.blocks y.len) (with_label seq text rest)
-      ≡ image_in j.standing.shape bytes x.blocks x.len ∷ map (λ (y : Case). image_in j.standing.shape bytes y.blocks y.len) rest) [
-        | true ↦ ap (λ (l : List (List ℕ)). image_in j.standing.shape bytes x.blocks x.len ∷ l) (images_labelled bytes rest)
-        | false ↦ ap (λ (l : List (List ℕ)). image_in j.standing.shape bytes x.blocks x.len ∷ l) (images_labelled bytes rest)
-      ]
-
   pub label_bytes : (u : Unit {0}) → AppendStep j (Label seq text) (Ok u) j' → SameOutside 4096 (2 * half_length j.standing.shape) (g.seen d) (g.seen d')
       → contents_of g.seen (record { disk = d'; journal = j'; limit = most; streams = streams; stopped = b }) ≡ contents_of g.seen old
   label_bytes u step outside =
       ap (λ (k : Journaled). contents_of g.seen (record { disk = d'; journal = k; limit = most; streams = streams; stopped = b })) step.2
-      ∙ ap (λ (x : List (List ℕ)). record { images = x; taken = map (option_map (taken_in j (g.seen d'))) streams }) (images_labelled (g.seen d') j.standing.cases)
+      ∙ ap (λ (x : List (List ℕ)). record { images = x; taken = map (option_map (taken_in j (g.seen d'))) streams }) (images_made (held_image j.standing.shape (g.seen d')) (labelled_as seq text) (label_moves_none j.standing.shape (g.seen d') seq text) j.standing.cases)
       ∙ same_bytes g.seen d d' j most streams b outside b

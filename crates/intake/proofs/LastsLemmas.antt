@@ -1,7 +1,6 @@
 -- What each call does to what the archive holds.
 use Rattle.std.proofs.Common.{◌≡◌, ◌≢◌, ◌⊎◌, ⊎_elim, inl, inr, ℕ, ◌+◌, ◌≤◌, ◌==◌, Bool, true, false, not, cond, List, [], ◌∷◌, ◌++◌, length, map, Result, Ok, Err, refl, sym, ap, subst, ◌∙◌}
 use Rattle.std.specs.List.{All, filter}
-use Rattle.extents.specs.Runs.{runs_of}
 use Rattle.std.specs.Prelude.{IsTrue}
 use Rattle.disk_model.specs.Moments.{AddsOnly}
 use Rattle.disk_model.specs.MomentLaws.{adds_weakened}
@@ -12,7 +11,7 @@ use Rattle.intake.proofs.KeptNameLemmas.{all_left}
 use Rattle.intake.specs.Blocks.{image_in}
 use Rattle.intake.specs.Calls.{FinishCall, DeleteCall, PinCall, LabelCall, UpgradeCall, RetireCall}
 use Rattle.intake.specs.Contents.{Contents, images_without}
-use Rattle.intake.specs.Durable.{Durable, FoundCase, StandsFor, durable_of, durable_part, with_images, without, flagged, labelled, upgraded, found_with}
+use Rattle.intake.specs.Durable.{Durable, FoundCase, StandsFor, durable_of, durable_part, with_images, without, flagged, labelled, upgraded, found_with, made_of}
 use Rattle.intake.specs.Guarding.{Leaves, LeavesNew, MayBeStored}
 use Rattle.intake.specs.Lasting.{HasEmptyLabel}
 use Rattle.intake.specs.Lasts.{IsUpgradeOf}
@@ -37,43 +36,22 @@ module _ (image : Case → List ℕ) where
 
   zipped_without : (seqs : List ℕ) (cases : List Case)
       → with_images (dropped seqs cases) (images_without seqs cases (map image cases))
-      ≡ filter (λ (c : FoundCase). not (is_among seqs c.seq)) (zipped cases)
+      ≡ filter (λ (c : FoundCase). not (is_among seqs c.case.seq)) (zipped cases)
   zipped_without seqs [] = refl
   zipped_without seqs (d ∷ ds) =
       let cs : List Case = dropped seqs ds in
       let is : List (List ℕ) = images_without seqs ds (map image ds) in
-      let fs : List FoundCase = filter (λ (c : FoundCase). not (is_among seqs c.seq)) (zipped ds) in
+      let fs : List FoundCase = filter (λ (c : FoundCase). not (is_among seqs c.case.seq)) (zipped ds) in
       elim (is_among seqs d.seq) as (λ t. with_images (cond (not t) (d ∷ cs) cs) (cond t is (image d ∷ is)) ≡ cond (not t) (found_with d (image d) ∷ fs) fs) [
         | true ↦ zipped_without seqs ds
         | false ↦ ap (λ (l : List FoundCase). found_with d (image d) ∷ l) (zipped_without seqs ds)
       ]
 
-  zipped_flagged : (seq : ℕ) (flag : Bool) (cases : List Case)
-      → with_images (map (pinned_as seq flag) cases) (map image cases)
-      ≡ map (λ (c : FoundCase). cond (c.seq == seq) (record c { pinned = flag }) c) (zipped cases)
-  zipped_flagged seq flag [] = refl
-  zipped_flagged seq flag (d ∷ ds) =
-      let cs : List Case = map (pinned_as seq flag) ds in
-      let fs : List FoundCase = map (λ (c : FoundCase). cond (c.seq == seq) (record c { pinned = flag }) c) (zipped ds) in
-      elim (d.seq == seq) as (λ t. with_images (cond t (record d { pinned = flag }) d ∷ cs) (image d ∷ map image ds)
-      ≡ cond t (record (found_with d (image d)) { pinned = flag }) (found_with d (image d)) ∷ fs) [
-        | true ↦ ap (λ (l : List FoundCase). record (found_with d (image d)) { pinned = flag } ∷ l) (zipped_flagged seq flag ds)
-        | false ↦ ap (λ (l : List FoundCase). found_with d (image d) ∷ l) (zipped_flagged seq flag ds)
-      ]
-
--- the same of a label
-zipped_labelled : (image : Case → List ℕ) (seq : ℕ) (text : List ℕ) (cases : List Case)
-    → with_images (map (labelled_as seq text) cases) (map image cases)
-    ≡ map (λ (c : FoundCase). cond (c.seq == seq) (record c { label = text }) c) (zipped image cases)
-zipped_labelled image seq text [] = refl
-zipped_labelled image seq text (d ∷ ds) =
-    let cs : List Case = map (labelled_as seq text) ds in
-    let fs : List FoundCase = map (λ (c : FoundCase). cond (c.seq == seq) (record c { label = text }) c) (zipped image ds) in
-    elim (d.seq == seq) as (λ t. with_images (cond t (record d { label = text }) d ∷ cs) (image d ∷ map image ds)
-    ≡ cond t (record (found_with d (image d)) { label = text }) (found_with d (image d)) ∷ fs) [
-      | true ↦ ap (λ (l : List FoundCase). record (found_with d (image d)) { label = text } ∷ l) (zipped_labelled image seq text ds)
-      | false ↦ ap (λ (l : List FoundCase). found_with d (image d) ∷ l) (zipped_labelled image seq text ds)
-    ]
+-- a change of cases leaves their images
+zipped_made : (f : Case → Case) (cases : List Case) (images : List (List ℕ)) → with_images (map f cases) images ≡ map (made_of f) (with_images cases images)
+zipped_made f [] images = refl
+zipped_made f (c ∷ cs) [] = refl
+zipped_made f (c ∷ cs) (i ∷ is) = ap (λ (l : List FoundCase). found_with (f c) i ∷ l) (zipped_made f cs is)
 
 module _ {D : Type 0} (g : disk.Ghosts D) (old new : Parts D) (honest : IsTrue (g.is_honest old.disk)) where
   abbrev image_of : Case → List ℕ
@@ -94,7 +72,7 @@ module _ {D : Type 0} (g : disk.Ghosts D) (old new : Parts D) (honest : IsTrue (
       let step = call.step in
       let bytes = call.bytes honest in
       let case : Case = case_from step.0 (state_of old).next step.1 in (
-        length (runs_of step.1),
+        step.1,
         (
           step.0,
           bytes.0,
@@ -110,7 +88,7 @@ module _ {D : Type 0} (g : disk.Ghosts D) (old new : Parts D) (honest : IsTrue (
   left : (seqs : List ℕ) → record { cases = with_images (without_cases (state_of old) seqs).cases (images_without seqs (state_of old).cases (contents_of g.seen old).images); next = (state_of old).next; version = (state_of old).version } ≡ without (durable_of g.seen old) seqs
   left seqs =
       ap (λ (l : List FoundCase). record { cases = l; next = (state_of old).next; version = (state_of old).version })
-      (zipped_without image_of seqs old.journal.standing.cases ∙ ap (filter (λ (c : FoundCase). not (is_among seqs c.seq))) found_before)
+      (zipped_without image_of seqs old.journal.standing.cases ∙ ap (filter (λ (c : FoundCase). not (is_among seqs c.case.seq))) found_before)
 
   pub delete_lasts : (seq : ℕ) (u : Unit {0}) → DeleteCall g old seq (Ok u) new → durable_of g.seen new ≡ without (durable_of g.seen old) (seq ∷ [])
   delete_lasts seq u call = lasts (without_cases (state_of old) (seq ∷ [])) _ call.step.4 (call.bytes honest) ∙ left (seq ∷ [])
@@ -128,7 +106,7 @@ module _ {D : Type 0} (g : disk.Ghosts D) (old new : Parts D) (honest : IsTrue (
             set.0,
             lasts (with_flag (state_of old) seq flag) (contents_of g.seen old) set.2 (call.bytes honest)
                 ∙ ap (λ (l : List FoundCase). record { cases = l; next = (state_of old).next; version = (state_of old).version })
-                (zipped_flagged image_of seq flag old.journal.standing.cases ∙ ap (map (λ (c : FoundCase). cond (c.seq == seq) (record c { pinned = flag }) c)) found_before),
+                (zipped_made (pinned_as seq flag) (state_of old).cases (contents_of g.seen old).images ∙ ap (map (made_of (pinned_as seq flag))) found_before),
           ))
           call.step.2
 
@@ -145,7 +123,7 @@ module _ {D : Type 0} (g : disk.Ghosts D) (old new : Parts D) (honest : IsTrue (
             set.0,
             lasts (with_label (state_of old) seq text) (contents_of g.seen old) set.2 (call.bytes honest)
                 ∙ ap (λ (l : List FoundCase). record { cases = l; next = (state_of old).next; version = (state_of old).version })
-                (zipped_labelled image_of seq text old.journal.standing.cases ∙ ap (map (λ (c : FoundCase). cond (c.seq == seq) (record c { label = text }) c)) found_before),
+                (zipped_made (labelled_as seq text) (state_of old).cases (contents_of g.seen old).images ∙ ap (map (made_of (labelled_as seq text))) found_before),
           ))
           call.step.2
 

@@ -36,7 +36,7 @@ use Rattle.intake.specs.Names.{KeepsName, ForgetsName, ForgetsNames, is_one_of, 
 use Rattle.intake.specs.Parts.{Parts, StreamParts, stream_facts, state_of}
 use Rattle.intake.specs.declared.faults.ArchiveFault.{ArchiveFault}
 use Rattle.intake.proofs.ListedLemmas.{gone-append}
-use Rattle.intake.proofs.StepLemmas.{list_any-map, none_of, called_same, new_name}
+use Rattle.intake.proofs.StepLemmas.{list_any-map, none_of, new_name}
 
 one_true : (t : Bool) → 1 ≤ one_if t → t ≡ true
 one_true true some = refl
@@ -69,9 +69,8 @@ some_taken a name e = of (is_named name a.journal.standing.cases) refl
     of : (t : Bool) → is_named name a.journal.standing.cases ≡ t → 1 ≤ cases_named a.journal.standing.cases name + streams_named a.streams name
     of true here = (let s = some_of (λ (c : Case). bytes_eq c.name name) a.journal.standing.cases here in omega (arith, s))
     of false here =
-        let s = some_of (λ o. is_name_in name (option_map stream_facts o)) a.streams (sym (list_any-map (is_name_in name) (option_map stream_facts) a.streams) ∙ sym (ap (λ t. t || list_any (is_name_in name) (map (option_map stream_facts) a.streams)) here) ∙ e) in
-        let f = called_same name a.streams in
-        omega (arith, s, f)
+        let s = some_of (is_called name) a.streams (sym (list_any-map (is_name_in name) (option_map stream_facts) a.streams) ∙ sym (ap (λ t. t || list_any (is_name_in name) (map (option_map stream_facts) a.streams)) here) ∙ e) in
+        omega (arith, s)
 
 -- whether the set has a name, where it has those that are taken
 pub taken_is : {D : Type 0} (a : Parts D) (names : BTreeSet (ArrayVec ℕ)) (name : List ℕ) → AreTaken a.journal.standing.cases a.streams names → has_name names name ≡ is_taken (state_of a) name
@@ -96,48 +95,48 @@ slot_there streams slot s is =
 
 -- a stream is begun, and its name kept
 pub taken_begun : (cases : List Case) (streams streams' : List (Option StreamParts)) (slot : ℕ) (s : StreamParts) (a b : BTreeSet (ArrayVec ℕ)) → AreTaken cases streams a → slot < length streams → stream_at streams slot ≡ None
-    → streams' ≡ slice_set streams slot (Some s) → has_name a s.name ≡ false → KeepsName (Ok tt) s.name a b → AreTaken cases streams' b
+    → streams' ≡ slice_set streams slot (Some s) → has_name a s.facts.name ≡ false → KeepsName (Ok tt) s.facts.name a b → AreTaken cases streams' b
 taken_begun cases streams streams' slot s a b are below none now fresh keeps = subst (λ (x : List (Option StreamParts)). AreTaken cases x b) (sym now) each
   where
     each : AreTaken cases (slice_set streams slot (Some s)) b
-    each q = of (bytes_eq s.name q) refl
+    each q = of (bytes_eq s.facts.name q) refl
       where
-        of : (t : Bool) → bytes_eq s.name q ≡ t → cases_named cases q + streams_named (slice_set streams slot (Some s)) q ≡ one_if (has_name b q)
+        of : (t : Bool) → bytes_eq s.facts.name q ≡ t → cases_named cases q + streams_named (slice_set streams slot (Some s)) q ≡ one_if (has_name b q)
         of true e =
             let n = named_with streams slot None (Some s) q below none in
-            let c : one_if (bytes_eq s.name q) ≡ 1 = ap one_if e in
-            let f : one_if (has_name a q) ≡ 0 = ap one_if (ap (has_name a) (sym ((bytes_eq-Decides s.name q).0 e)) ∙ fresh) in
+            let c : one_if (bytes_eq s.facts.name q) ≡ 1 = ap one_if e in
+            let f : one_if (has_name a q) ≡ 0 = ap one_if (ap (has_name a) (sym ((bytes_eq-Decides s.facts.name q).0 e)) ∙ fresh) in
             let h : one_if (has_name b q) ≡ 1 = ap one_if (keeps q ∙ ap (λ t. t || has_name a q) e) in
             omega (arith, n, c, f, h, are q)
         of false e =
             let n = named_with streams slot None (Some s) q below none in
-            let c : one_if (bytes_eq s.name q) ≡ 0 = ap one_if e in
+            let c : one_if (bytes_eq s.facts.name q) ≡ 0 = ap one_if e in
             let h : one_if (has_name b q) ≡ one_if (has_name a q) = ap one_if (keeps q ∙ ap (λ t. t || has_name a q) e) in
             omega (arith, n, c, h, are q)
 
 -- a stream is dropped, and its name forgotten
 pub taken_dropped : (cases : List Case) (streams streams' : List (Option StreamParts)) (slot : ℕ) (s : StreamParts) (a b : BTreeSet (ArrayVec ℕ)) → AreTaken cases streams a → stream_at streams slot ≡ Some s
-    → streams' ≡ slice_set streams slot None → ForgetsName s.name a b → AreTaken cases streams' b
+    → streams' ≡ slice_set streams slot None → ForgetsName s.facts.name a b → AreTaken cases streams' b
 taken_dropped cases streams streams' slot s a b are is now forgets = subst (λ (x : List (Option StreamParts)). AreTaken cases x b) (sym now) each
   where
     each : AreTaken cases (slice_set streams slot None) b
-    each q = of (bytes_eq s.name q) refl
+    each q = of (bytes_eq s.facts.name q) refl
       where
-        of : (t : Bool) → bytes_eq s.name q ≡ t → cases_named cases q + streams_named (slice_set streams slot None) q ≡ one_if (has_name b q)
+        of : (t : Bool) → bytes_eq s.facts.name q ≡ t → cases_named cases q + streams_named (slice_set streams slot None) q ≡ one_if (has_name b q)
         of true e =
             let n = named_with streams slot (Some s) None q (slot_there streams slot s is) is in
-            let c : one_if (bytes_eq s.name q) ≡ 1 = ap one_if e in
+            let c : one_if (bytes_eq s.facts.name q) ≡ 1 = ap one_if e in
             let h : one_if (has_name b q) ≡ 0 = ap one_if (forgets q ∙ ap (λ t. cond t false (has_name a q)) e) in
             omega (arith, n, c, h, are q, one_most (has_name a q))
         of false e =
             let n = named_with streams slot (Some s) None q (slot_there streams slot s is) is in
-            let c : one_if (bytes_eq s.name q) ≡ 0 = ap one_if e in
+            let c : one_if (bytes_eq s.facts.name q) ≡ 0 = ap one_if e in
             let h : one_if (has_name b q) ≡ one_if (has_name a q) = ap one_if (forgets q ∙ ap (λ t. cond t false (has_name a q)) e) in
             omega (arith, n, c, h, are q)
 
 -- another stream of the same name stands in the slot
 pub taken_grown : (cases : List Case) (streams streams' : List (Option StreamParts)) (slot : ℕ) (s s' : StreamParts) (a : BTreeSet (ArrayVec ℕ)) → AreTaken cases streams a → stream_at streams slot ≡ Some s
-    → streams' ≡ slice_set streams slot (Some s') → s'.name ≡ s.name → AreTaken cases streams' a
+    → streams' ≡ slice_set streams slot (Some s') → s'.facts.name ≡ s.facts.name → AreTaken cases streams' a
 taken_grown cases streams streams' slot s s' a are is now same = subst (λ (x : List (Option StreamParts)). AreTaken cases x a) (sym now)
     (λ q. (let n = named_with streams slot (Some s) (Some s') q (slot_there streams slot s is) is in
     let e = ap (λ (n : List ℕ). one_if (bytes_eq n q)) same in
@@ -157,7 +156,7 @@ taken_lent cases streams slot b (Ok u) ws a are reply = here (stream_at streams 
 
 -- a stream became the last case
 pub taken_stored : (cases : List Case) (streams streams' : List (Option StreamParts)) (slot : ℕ) (s : StreamParts) (x : Case) (a : BTreeSet (ArrayVec ℕ)) → AreTaken cases streams a → stream_at streams slot ≡ Some s
-    → streams' ≡ slice_set streams slot None → x.name ≡ s.name → AreTaken (cases ++ x ∷ []) streams' a
+    → streams' ≡ slice_set streams slot None → x.name ≡ s.facts.name → AreTaken (cases ++ x ∷ []) streams' a
 taken_stored cases streams streams' slot s x a are is now called = subst (λ (xs : List (Option StreamParts)). AreTaken (cases ++ x ∷ []) xs a) (sym now)
     (λ q. (let n = named_with streams slot (Some s) None q (slot_there streams slot s is) is in
     let m = named_stored cases x q in

@@ -5,7 +5,7 @@ use Rattle.std.proofs.lemmas.Bool.{ltb-false}
 use Rattle.disk_model.specs.Places.{SameOutside}
 use Rattle.disk_model.specs.declared.disk.Disk as disk
 use Rattle.journal_layout.specs.Case.{Case}
-use Rattle.journal_layout.specs.Folding.{used_blocks, with_pin}
+use Rattle.journal_layout.specs.Folding.{used_blocks, with_pin, pinned_as}
 use Rattle.journal_layout.specs.Layout.{half_length}
 use Rattle.journal_layout.specs.LiveCounts.{case_uses_same, used_length, named_pinned}
 use Rattle.journal_layout.specs.LiveLaws.{used_pinned}
@@ -16,6 +16,7 @@ use Rattle.journal_layout.specs.Soundness.{case_numbered, uses as uses_in}
 use Rattle.journal_layout.specs.Standing.{folded_of}
 use Rattle.case_journal.specs.Append.{AppendStep, MayFollow}
 use Rattle.case_journal.specs.Journaled.{Journaled}
+use Rattle.intake.proofs.DurableLemmas.{held_image, images_made, pin_moves_none}
 use Rattle.intake.specs.Guarding.{Guards}
 use Rattle.case_journal.specs.declared.faults.JournalFault.{JournalFault}
 use Rattle.case_journal.specs.declared.faults.JournalFault.TheVariants as journal_fault
@@ -85,18 +86,9 @@ module _ {D : Type 0} (g : disk.Ghosts D) (d d' : D) (j j' : Journaled) (most : 
       let e = ap length (used_pinned seq flag j.standing.cases) in omega (arith, x, y, e))
       (λ name. (let n : cases_named (with_pin seq flag j.standing.cases) name ≡ cases_named j.standing.cases name = named_pinned seq flag j.standing.cases name in omega (arith, n))))
 
-  images_pinned : (bytes : List ℕ) (cases : List Case) → map (λ (x : Case). image_in j.standing.shape bytes x.blocks x.len) (with_pin seq flag cases) ≡ map (λ (x : Case). image_in j.standing.shape bytes x.blocks x.len) cases
-  images_pinned bytes [] = refl
-  images_pinned bytes (x ∷ rest) =
-      elim (x.seq == seq) as (λ t. image_in j.standing.shape bytes (cond t (record x { pinned = flag }) x).blocks (cond t (record x { pinned = flag }) x).len ∷ map (λ (y : Case). image_in j.standing.shape bytes y.blocks y.len) (with_pin seq flag rest)
-      ≡ image_in j.standing.shape bytes x.blocks x.len ∷ map (λ (y : Case). image_in j.standing.shape bytes y.blocks y.len) rest) [
-        | true ↦ ap (λ (l : List (List ℕ)). image_in j.standing.shape bytes x.blocks x.len ∷ l) (images_pinned bytes rest)
-        | false ↦ ap (λ (l : List (List ℕ)). image_in j.standing.shape bytes x.blocks x.len ∷ l) (images_pinned bytes rest)
-      ]
-
   pub pin_bytes : (u : Unit {0}) → AppendStep j (Pin seq flag) (Ok u) j' → SameOutside 4096 (2 * half_length j.standing.shape) (g.seen d) (g.seen d')
       → contents_of g.seen (record { disk = d'; journal = j'; limit = most; streams = streams; stopped = b }) ≡ contents_of g.seen old
   pin_bytes u step outside =
       ap (λ (k : Journaled). contents_of g.seen (record { disk = d'; journal = k; limit = most; streams = streams; stopped = b })) step.2
-      ∙ ap (λ (x : List (List ℕ)). record { images = x; taken = map (option_map (taken_in j (g.seen d'))) streams }) (images_pinned (g.seen d') j.standing.cases)
+      ∙ ap (λ (x : List (List ℕ)). record { images = x; taken = map (option_map (taken_in j (g.seen d'))) streams }) (images_made (held_image j.standing.shape (g.seen d')) (pinned_as seq flag) (pin_moves_none j.standing.shape (g.seen d') seq flag) j.standing.cases)
       ∙ same_bytes g.seen d d' j most streams b outside b

@@ -191,7 +191,7 @@ sound_lent g d j most flags streams slot b (Ok u) ws sound reply = here (stream_
     here (Some s) is =
         let fine : IsFine most s = subst (IsFineIfOpen most) is (fine_at most streams slot (sound.runs reply.0).streams_fine) in
         subst (λ (o : Option StreamParts). IsArchiveSound g d j most flags (slice_set streams slot (option_map (with_room ws) o)) b) (sym is)
-        (sound_with g d d j most flags flags streams slot (Some s) (Some (with_room ws s)) b sound reply.0 low is (sound.runs reply.0).keeps (nothing_moves flags s.blocks)
+        (sound_with g d d j most flags flags streams slot (Some s) (Some (with_room ws s)) b sound reply.0 low is (sound.runs reply.0).keeps (nothing_moves flags s.facts.blocks)
         (record {
           name = fine.name;
           pid = fine.pid;
@@ -200,7 +200,7 @@ sound_lent g d j most flags streams slot b (Ok u) ws sound reply = here (stream_
           small = fine.small;
           limit = fine.limit;
           filled = fine.filled;
-          block = length-refilled s.block (s.len % 4096) ws (let e = fine.block in omega arith) ∙ fine.block;
+          block = length-refilled s.block (s.facts.len % 4096) ws (let e = fine.block in omega arith) ∙ fine.block;
         })
         (λ name. (let n = (sound.runs reply.0).named name in no_more _ _ n)))
 
@@ -211,13 +211,13 @@ slot_below g d j most flags streams slot s b sound is =
     elim (cases_lt slot 8) as (λ _. slot < 8) [ inl lt ↦ lt | inr high ↦ absurd (let e : None ≡ Some s = sym (get_or_past streams slot None (let e = sound.slots in omega arith)) ∙ is in cc) ]
 
 pub sound_dropped : {D : Type 0} (g : disk.Ghosts D) (d d' : D) (j : Journaled) (most : ℕ) (flags flags' : List Bool) (streams streams' : List (Option StreamParts)) (slot : ℕ) (s : StreamParts) (b : Bool)
-    → IsArchiveSound g d j most flags streams b → b ≡ false → stream_at streams slot ≡ Some s → streams' ≡ slice_set streams slot None → Guards g d' j → Balances flags s.blocks flags' []
+    → IsArchiveSound g d j most flags streams b → b ≡ false → stream_at streams slot ≡ Some s → streams' ≡ slice_set streams slot None → Guards g d' j → Balances flags s.facts.blocks flags' []
     → IsArchiveSound g d' j most flags' streams' b
 sound_dropped g d d' j most flags flags' streams streams' slot s b sound on is now keeps bal =
     subst (λ (x : List (Option StreamParts)). IsArchiveSound g d' j most flags' x b) (sym now)
     (sound_without g d d' j most flags flags' streams slot (Some s) b sound on (slot_below g d j most flags streams slot s b sound is) is keeps bal)
 
-pub fine_new : (most : ℕ) (s : StreamParts) → IsName s.name → s.pid < 2 ^ 32 → s.signal < 2 ^ 32 → s.time < 2 ^ 64 → s.len ≡ 0 → s.blocks ≡ [] → s.block ≡ zero_block → IsFine most s
+pub fine_new : (most : ℕ) (s : StreamParts) → IsName s.facts.name → s.facts.pid < 2 ^ 32 → s.facts.signal < 2 ^ 32 → s.facts.time < 2 ^ 64 → s.facts.len ≡ 0 → s.facts.blocks ≡ [] → s.block ≡ zero_block → IsFine most s
 fine_new most s name pid signal time none no_blocks zeros = record {
   name = name;
   pid = pid;

@@ -56,14 +56,14 @@ journal_answered T jf h f told is = ap (λ (k : JournalFault). let r : Result T 
 
 -- bytes that fill no block need none
 pub needs_none : (streams : List (Option StreamParts)) (slot n : ℕ) (s : StreamParts) (t : StreamFacts) → stream_at streams slot ≡ Some s → stream_at (map (option_map stream_facts) streams) slot ≡ Some t
-    → (((n ≢ 0) × ((t.len + n) % 4096 ≡ 0)) → ⊥) → NeedsBlock s.len n → ⊥
+    → (((n ≢ 0) × ((t.len + n) % 4096 ≡ 0)) → ⊥) → NeedsBlock s.facts.len n → ⊥
 needs_none streams slot n s t is at none needs =
-    let same : stream_facts s ≡ t = inside (sym (some_there streams slot s is) ∙ at) in
-    let long : s.len ≡ t.len = ap (λ (x : StreamFacts). x.len) same in
+    let same : s.facts ≡ t = inside (sym (some_there streams slot s is) ∙ at) in
+    let long : s.facts.len ≡ t.len = ap (λ (x : StreamFacts). x.len) same in
     let full = needs.1 in
     none (needs.0, omega arith)
   where
-    inside : Some (stream_facts s) ≡ Some t → stream_facts s ≡ t
+    inside : Some s.facts ≡ Some t → s.facts ≡ t
     inside e = cc
 
 -- a case with another flag is not one whose flag stands already

@@ -100,9 +100,9 @@ pub record AbandonCall {D : Type 0} (g : disk.Ghosts D) (old : Parts D) (slot : 
 pub record FinishCall {D : Type 0} (g : disk.Ghosts D) (old : Parts D) (slot : ℕ) (r : Result ℕ ArchiveFault) (new : Parts D) : Type 0 where
   pub step : FinishStep (state_of old) slot r (state_of new)
   pub bytes : IsTrue (g.is_honest old.disk) → FinishBytes (contents_of g.seen old) slot r (contents_of g.seen new)
-  -- the runs of blocks in which the image lies, or would lie had the disk not failed
-  pub runs : ℕ
-  pub changes : Changes ℕ g old r new (StoresIn runs (state_of old) (contents_of g.seen old) (durable_of g.seen old) slot)
+  -- the blocks in which the image lies, or would lie had the disk not failed
+  pub blocks : List ℕ
+  pub changes : Changes ℕ g old r new (StoresIn blocks (state_of old) (contents_of g.seen old) (durable_of g.seen old) slot)
   -- nothing of what stood in the stream's block behind its bytes is on the disk
   pub padded : IsTrue (g.is_honest old.disk) → FinishPads g.seen old slot r new
   pub untouched : FinishSpares r old.disk new.disk

@@ -161,14 +161,14 @@ StaysOpen slot (m ∷ ms) = (stream_at (state_of m.archive).streams slot ≢ Non
 
 -- The case of a stream that began so, under this number, with these bytes as its image.
 pub record IsCaseOf (s : StreamFacts) (seq : ℕ) (bytes : List ℕ) (c : FoundCase) : Type 0 where
-  pub number : c.seq ≡ seq
-  pub kind : c.kind ≡ s.kind
-  pub name : c.name ≡ s.name
-  pub pid : c.pid ≡ s.pid
-  pub signal : c.signal ≡ s.signal
-  pub time : c.time ≡ s.time
-  pub unpinned : c.pinned ≡ false
-  pub unlabelled : c.label ≡ []
+  pub number : c.case.seq ≡ seq
+  pub kind : c.case.kind ≡ s.kind
+  pub name : c.case.name ≡ s.name
+  pub pid : c.case.pid ≡ s.pid
+  pub signal : c.case.signal ≡ s.signal
+  pub time : c.case.time ≡ s.time
+  pub unpinned : c.case.pinned ≡ false
+  pub unlabelled : c.case.label ≡ []
   pub image : c.image ≡ bytes
 
 -- A case is what its own stream began as, and its image is what its calls took, from its begin to its finish, whatever other
