@@ -1,8 +1,7 @@
 -- What holds of every archive: each data block is free or used once, by a case or by a stream, and no two of these have
 -- one name.
-use Rattle.std.specs.Prelude.{◌≡◌, ℕ, ◌+◌, ◌/◌, ◌^◌, ◌<◌, ◌≤◌, Bool, true, false, List, [], Option, None, Some, length, sum_by, nat_lt, option_map}
+use Rattle.std.specs.Prelude.{◌≡◌, ℕ, ◌+◌, ◌/◌, ◌^◌, ◌<◌, ◌≤◌, Bool, true, false, List, Option, None, Some, length, sum_by, nat_lt, option_map}
 use Rattle.std.specs.List.{All, count_by}
-use Rattle.std.specs.Str.{bytes_eq}
 use Rattle.disk_model.specs.declared.disk.Disk as disk
 use Rattle.extents.specs.FreeSet.{is_free, free_count, uses, one_if}
 use Rattle.journal_layout.specs.Case.{Case}

@@ -14,8 +14,6 @@ use Rattle.journal_layout.specs.Case.{Case, case_of}
 use Rattle.journal_layout.specs.Soundness.{IsStorable}
 use Rattle.journal_layout.specs.declared.shape.Shape.{Shape}
 use Rattle.journal_layout.specs.Layout.{data_start}
-use Rattle.extents.specs.Runs.{runs_of}
-use Rattle.std.proofs.Common.{length}
 use Rattle.intake.proofs.FinishLemmas.{runs_may, seal_err, seal_not_stopped, seal_not_missing, storable, sound_not_stored, refused_step, stored_step, sound_with_case, closed_case}
 use Rattle.intake.specs.Closing.{ClosesBytes, ClosesPadded}
 use Rattle.intake.proofs.UntouchedLemmas.{seal_spares, append_spares, never_stopped}
