@@ -1,5 +1,5 @@
 -- What code's queries show of an image.
-use Rattle.std.proofs.Common.{◌≡◌, ◌⊎◌, inl, inr, ⊎_elim, Bool, true, false, true≢false, List, [], ℕ, Option, Result, Ok, Err, None, Some, length, map, take, refl, ap, sym, subst, ◌∙◌}
+use Rattle.std.proofs.Common.{◌≡◌, inl, inr, ⊎_elim, Bool, true, false, true≢false, List, [], ℕ, Option, Result, Ok, Err, None, Some, length, map, take, refl, ap, sym, subst, ◌∙◌}
 use Rattle.std.proofs.lemmas.Bool.{false≢true}
 use Rattle.std.specs.Prelude.{is_ok, codes}
 use Rattle.std.specs.Prelude.{◌&&◌}

@@ -1,5 +1,5 @@
 -- An archive with no case is brought to version 2 of the layout.
-use Rattle.std.proofs.Common.{◌≡◌, ⊎_elim, Ok, map, true, false, ap, subst, ◌∙◌, arith}
+use Rattle.std.proofs.Common.{◌≡◌, ⊎_elim, Ok, true, false, ap, subst, ◌∙◌, arith}
 use Rattle.std.specs.Prelude.{IsTrue}
 use Rattle.disk_model.specs.declared.disk.Disk as disk
 use Rattle.intake.specs.Calls.{OpenCall, UpgradeCall, CloseCall}

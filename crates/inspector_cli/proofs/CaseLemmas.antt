@@ -1,7 +1,7 @@
 -- A case of a state, among those that an archive holds.
 use Rattle.std.proofs.Common.{◌≡◌, inl, inr, ⊎_elim, ℕ, Bool, cond, List, [], ◌∷◌, map, Some, refl, ap, subst, None, sym, ◌∙◌}
 use Rattle.std.proofs.lemmas.Bool.Decides.{eqb_tells}
-use Rattle.intake.specs.Durable.{FoundCase, found_case}
+use Rattle.intake.specs.Durable.{found_case}
 use Rattle.intake.specs.Lives.{IsAmong}
 use Rattle.intake.specs.Step as step
 use Rattle.journal_layout.specs.Soundness.{case_numbered}
