@@ -43,7 +43,7 @@ module _ (k : Kept) where
       (c, among_filtered (λ (d : FoundCase). not (is_among seqs d.case.seq)) x.cases c among (ap not (ap (is_among seqs) is.number ∙ apart)), is)
 
   flag_set : (t flag : Bool) (c : FoundCase) → IsKeptAs k c → IsKeptAs k (record c { case = cond t (record c.case { pinned = flag }) c.case })
-  flag_set true flag c is = record { number = is.number; kind = is.kind; name = is.name; pid = is.pid; signal = is.signal; time = is.time; bytes = is.bytes; labelled = is.labelled }
+  flag_set true flag c is = record { number = is.number; origin = is.origin; bytes = is.bytes; labelled = is.labelled }
   flag_set false flag c is = is
 
   flagged_holds : (x : Durable) (seq : ℕ) (flag : Bool) → Holds x → Holds (flagged x seq flag)
@@ -60,11 +60,7 @@ module _ (k : Kept) where
   label_set : (t : Bool) (text : List ℕ) (c : FoundCase) → (t ≡ true → k.label ≡ None) → IsKeptAs k c → IsKeptAs k (record c { case = cond t (record c.case { label = text }) c.case })
   label_set true text c unnamed is = record {
     number = is.number;
-    kind = is.kind;
-    name = is.name;
-    pid = is.pid;
-    signal = is.signal;
-    time = is.time;
+    origin = is.origin;
     bytes = is.bytes;
     labelled = subst (λ (o : Option (List ℕ)). HasThisLabel o text) (sym (unnamed refl)) tt;
   }
@@ -321,13 +317,13 @@ module _ {D : Type 0} (g : disk.Ghosts D) (numbers : NumbersAreAbove) where
       leads.in_doubt ∙ ap (λ (ds : List Durable). ds ++ old.in_doubt) none ∙ clear
 
   label_held : (t : Bool) (k : Kept) (text : List ℕ) (c : FoundCase) → t ≡ true → IsKeptAs k c → IsKeptAs (relabelled k text) (record c { case = cond t (record c.case { label = text }) c.case })
-  label_held true k text c set is = record { number = is.number; kind = is.kind; name = is.name; pid = is.pid; signal = is.signal; time = is.time; bytes = is.bytes; labelled = refl }
+  label_held true k text c set is = record { number = is.number; origin = is.origin; bytes = is.bytes; labelled = refl }
   label_held false k text c set is = absurd (false≢true set)
 
   label_there : (k : Kept) (text : List ℕ) (c d : FoundCase) → c ≡ d → d.case.label ≡ text → IsKeptAs k c → IsKeptAs (relabelled k text) d
   label_there k text c d same label is =
       let there : IsKeptAs k d = subst (IsKeptAs k) same is in
-      record { number = there.number; kind = there.kind; name = there.name; pid = there.pid; signal = there.signal; time = there.time; bytes = there.bytes; labelled = label }
+      record { number = there.number; origin = there.origin; bytes = there.bytes; labelled = label }
 
   label_given : (k : Kept) (text : List ℕ) (begins : Said → Option StreamFacts) (earlier : List Answer) (old new : Moment D) → LeadsOn begins earlier old (label_of k.seq text) ok_reply new → HasNumbers old.holds → HoldsKept k old.holds
       → old.in_doubt ≡ [] → HoldsKept (relabelled k text) new.holds × (new.in_doubt ≡ [])
@@ -366,7 +362,7 @@ module _ {D : Type 0} (g : disk.Ghosts D) (numbers : NumbersAreAbove) where
         does.5,
         refl,
         subst (HoldsKept (record { seq = old.holds.next; stream = does.0; image = does.3; label = Some [] })) (sym does.7)
-            (_, among_last old.holds.cases _, record { number = refl; kind = refl; name = refl; pid = refl; signal = refl; time = refl; bytes = refl; labelled = refl }),
+            (_, among_last old.holds.cases _, record { number = refl; origin = refl; bytes = refl; labelled = refl }),
         clear_after begins earlier old new (end_of slot) reply leads (λ no. stored_apart told (codes "Disk") (sym is ∙ no)) clear,
       )))
       (λ no. absurd (stored_apart told no.0 (sym is ∙ no.1))) leads.leads
@@ -424,7 +420,7 @@ module _ {D : Type 0} (g : disk.Ghosts D) (numbers : NumbersAreAbove) where
         a.read,
         refl,
         subst (HoldsKept (record { seq = n; stream = a.stream; image = a.image; label = Some [] })) (sym a.adds)
-            (_, among_last s.course.room.holds.cases _, record { number = sym a.number; kind = refl; name = refl; pid = refl; signal = refl; time = refl; bytes = refl; labelled = refl }),
+            (_, among_last s.course.room.holds.cases _, record { number = sym a.number; origin = refl; bytes = refl; labelled = refl }),
         s.is.in_doubt ∙ ap (λ (ds : List Durable). ds ++ s.course.room.in_doubt) none ∙ s.is.sure n stored,
       )
 

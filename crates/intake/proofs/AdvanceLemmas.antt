@@ -143,20 +143,14 @@ pub fine_grown : (free most : ℕ) (s s' : StreamParts) (n : ℕ) (u : Unit {0})
 fine_grown free most s s' n u fine fits grows small =
     ⊎_elim
     (λ h. subst (IsFine most) (sym h.1) (record {
-      name = fine.name;
-      pid = fine.pid;
-      signal = fine.signal;
-      time = fine.time;
+      origin = fine.origin;
       small = small;
       limit = grows.0;
       filled = fine.filled ∙ same_blocks s.facts.len n fits h.0;
       block = fine.block;
     }))
     (λ h. subst (IsFine most) (sym h.3) (record {
-      name = fine.name;
-      pid = fine.pid;
-      signal = fine.signal;
-      time = fine.time;
+      origin = fine.origin;
       small = small;
       limit = grows.0;
       filled = (let a = fine.filled in let w = h.0.1 in let m = h.2 in omega (arith, a, w, m));
@@ -249,7 +243,7 @@ module _ {D : Type 0} (g : disk.Ghosts D) (d d' : D) (j : Journaled) (most : ℕ
       (sound_with g d d' j most flags flags' streams slot (Some s) (Some s') b sound on (slot_below g d j most flags streams slot s b sound is) is keeps bal
       (fine_grown (free_count flags) most s s' n u fine_of fits grows small)
       (λ name. (let m = running.named name in
-      let e : one_if (bytes_eq s'.facts.name name) ≡ one_if (bytes_eq s.facts.name name) = ap (λ (t : StreamFacts). one_if (bytes_eq t.name name)) (states_agree (free_count flags) most s s' n u grows) in
+      let e : one_if (bytes_eq s'.facts.origin.name name) ≡ one_if (bytes_eq s.facts.origin.name name) = ap (λ (t : StreamFacts). one_if (bytes_eq t.origin.name name)) (states_agree (free_count flags) most s s' n u grows) in
       omega (arith, m, e))))
 
   pub advance_ok_bytes : (dropped streams' : List (Option StreamParts)) (s' : StreamParts) (u : Unit {0}) → ChangesFree j.standing.shape flags (g.seen d) (g.seen d') → dropped ≡ slice_set streams slot None → streams' ≡ slice_set dropped slot (Some s')

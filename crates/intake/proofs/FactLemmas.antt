@@ -192,11 +192,7 @@ module _ {D : Type 0} (g : disk.Ghosts D) where
         found_with (case_from lasts.1.0 (durable_of g.seen last).next lasts.0) lasts.1.1.bytes,
         record {
           number = sym finish.step.6;
-          kind = ap (λ (x : StreamFacts). x.kind) told;
-          name = ap (λ (x : StreamFacts). x.name) told;
-          pid = ap (λ (x : StreamFacts). x.pid) told;
-          signal = ap (λ (x : StreamFacts). x.signal) told;
-          time = ap (λ (x : StreamFacts). x.time) told;
+          origin = ap (λ (x : StreamFacts). x.origin) told;
           unpinned = refl;
           unlabelled = refl;
           image = ap (λ (x : Taken). x.bytes) same ∙ taken.2;

@@ -112,15 +112,15 @@ module _ {D : Type 0} (g : disk.Ghosts D) (d d' : D) (j : Journaled) (most : ℕ
   storable flags' s' u closes bal =
       let fine = fine_is in
       subst (IsStorable j.standing.shape.data_blocks j.standing.cases) (sym (closed_case s' u closes)) (record {
-        name = fine.name;
-        new_name = none_named (λ (c : Case). bytes_eq c.name s.facts.name) j.standing.cases
-            (let n = running.named s.facts.name in let m = named_in s.facts.name streams slot in
-            let e = ap (λ (o : Option StreamParts). one_if (is_called s.facts.name o)) is in
-            let same : one_if (bytes_eq s.facts.name s.facts.name) ≡ 1 = ap one_if ((bytes_eq-Decides s.facts.name s.facts.name).1 refl) in
+        name = fine.origin.name;
+        new_name = none_named (λ (c : Case). bytes_eq c.name s.facts.origin.name) j.standing.cases
+            (let n = running.named s.facts.origin.name in let m = named_in s.facts.origin.name streams slot in
+            let e = ap (λ (o : Option StreamParts). one_if (is_called s.facts.origin.name o)) is in
+            let same : one_if (bytes_eq s.facts.origin.name s.facts.origin.name) ≡ 1 = ap one_if ((bytes_eq-Decides s.facts.origin.name s.facts.origin.name).1 refl) in
             omega (arith, n, m, e, same));
-        pid = fine.pid;
-        signal = fine.signal;
-        time = fine.time;
+        pid = fine.origin.pid;
+        signal = fine.origin.signal;
+        time = fine.origin.time;
         bytes = fine.small;
         enough = closed_enough s' u closes;
         spare = λ k some. (
@@ -233,7 +233,7 @@ module _ {D : Type 0} (g : disk.Ghosts D) (d d' : D) (j : Journaled) (most : ℕ
     ap (λ (k : Journaled). state_of (record { disk = d'; journal = k; limit = most; streams = streams'; stopped = b })) a.4
         ∙ state_recorded d d' j (store_of j.standing (case_from_parts (with_blocks s s'.facts.blocks))) most streams' b
         ∙ ap (λ (x : List (Option StreamFacts)).
-        record (recorded (record (state_of before) { streams = x }) (record_size s.facts.name (length (runs_of s'.facts.blocks))) (cases_with (state_of before) s.facts s'.facts.blocks)) { next = j.standing.next + 1 })
+        record (recorded (record (state_of before) { streams = x }) (record_size s.facts.origin.name (length (runs_of s'.facts.blocks))) (cases_with (state_of before) s.facts s'.facts.blocks)) { next = j.standing.next + 1 })
         (ap (map (option_map stream_facts)) gone ∙ map-set (option_map stream_facts) streams slot None),
     closed_fills g d j most flags streams slot s b running is (free_count flags) s' u closes lowest,
   )

@@ -95,48 +95,48 @@ slot_there streams slot s is =
 
 -- a stream is begun, and its name kept
 pub taken_begun : (cases : List Case) (streams streams' : List (Option StreamParts)) (slot : ℕ) (s : StreamParts) (a b : BTreeSet (ArrayVec ℕ)) → AreTaken cases streams a → slot < length streams → stream_at streams slot ≡ None
-    → streams' ≡ slice_set streams slot (Some s) → has_name a s.facts.name ≡ false → KeepsName (Ok tt) s.facts.name a b → AreTaken cases streams' b
+    → streams' ≡ slice_set streams slot (Some s) → has_name a s.facts.origin.name ≡ false → KeepsName (Ok tt) s.facts.origin.name a b → AreTaken cases streams' b
 taken_begun cases streams streams' slot s a b are below none now fresh keeps = subst (λ (x : List (Option StreamParts)). AreTaken cases x b) (sym now) each
   where
     each : AreTaken cases (slice_set streams slot (Some s)) b
-    each q = of (bytes_eq s.facts.name q) refl
+    each q = of (bytes_eq s.facts.origin.name q) refl
       where
-        of : (t : Bool) → bytes_eq s.facts.name q ≡ t → cases_named cases q + streams_named (slice_set streams slot (Some s)) q ≡ one_if (has_name b q)
+        of : (t : Bool) → bytes_eq s.facts.origin.name q ≡ t → cases_named cases q + streams_named (slice_set streams slot (Some s)) q ≡ one_if (has_name b q)
         of true e =
             let n = named_with streams slot None (Some s) q below none in
-            let c : one_if (bytes_eq s.facts.name q) ≡ 1 = ap one_if e in
-            let f : one_if (has_name a q) ≡ 0 = ap one_if (ap (has_name a) (sym ((bytes_eq-Decides s.facts.name q).0 e)) ∙ fresh) in
+            let c : one_if (bytes_eq s.facts.origin.name q) ≡ 1 = ap one_if e in
+            let f : one_if (has_name a q) ≡ 0 = ap one_if (ap (has_name a) (sym ((bytes_eq-Decides s.facts.origin.name q).0 e)) ∙ fresh) in
             let h : one_if (has_name b q) ≡ 1 = ap one_if (keeps q ∙ ap (λ t. t || has_name a q) e) in
             omega (arith, n, c, f, h, are q)
         of false e =
             let n = named_with streams slot None (Some s) q below none in
-            let c : one_if (bytes_eq s.facts.name q) ≡ 0 = ap one_if e in
+            let c : one_if (bytes_eq s.facts.origin.name q) ≡ 0 = ap one_if e in
             let h : one_if (has_name b q) ≡ one_if (has_name a q) = ap one_if (keeps q ∙ ap (λ t. t || has_name a q) e) in
             omega (arith, n, c, h, are q)
 
 -- a stream is dropped, and its name forgotten
 pub taken_dropped : (cases : List Case) (streams streams' : List (Option StreamParts)) (slot : ℕ) (s : StreamParts) (a b : BTreeSet (ArrayVec ℕ)) → AreTaken cases streams a → stream_at streams slot ≡ Some s
-    → streams' ≡ slice_set streams slot None → ForgetsName s.facts.name a b → AreTaken cases streams' b
+    → streams' ≡ slice_set streams slot None → ForgetsName s.facts.origin.name a b → AreTaken cases streams' b
 taken_dropped cases streams streams' slot s a b are is now forgets = subst (λ (x : List (Option StreamParts)). AreTaken cases x b) (sym now) each
   where
     each : AreTaken cases (slice_set streams slot None) b
-    each q = of (bytes_eq s.facts.name q) refl
+    each q = of (bytes_eq s.facts.origin.name q) refl
       where
-        of : (t : Bool) → bytes_eq s.facts.name q ≡ t → cases_named cases q + streams_named (slice_set streams slot None) q ≡ one_if (has_name b q)
+        of : (t : Bool) → bytes_eq s.facts.origin.name q ≡ t → cases_named cases q + streams_named (slice_set streams slot None) q ≡ one_if (has_name b q)
         of true e =
             let n = named_with streams slot (Some s) None q (slot_there streams slot s is) is in
-            let c : one_if (bytes_eq s.facts.name q) ≡ 1 = ap one_if e in
+            let c : one_if (bytes_eq s.facts.origin.name q) ≡ 1 = ap one_if e in
             let h : one_if (has_name b q) ≡ 0 = ap one_if (forgets q ∙ ap (λ t. cond t false (has_name a q)) e) in
             omega (arith, n, c, h, are q, one_most (has_name a q))
         of false e =
             let n = named_with streams slot (Some s) None q (slot_there streams slot s is) is in
-            let c : one_if (bytes_eq s.facts.name q) ≡ 0 = ap one_if e in
+            let c : one_if (bytes_eq s.facts.origin.name q) ≡ 0 = ap one_if e in
             let h : one_if (has_name b q) ≡ one_if (has_name a q) = ap one_if (forgets q ∙ ap (λ t. cond t false (has_name a q)) e) in
             omega (arith, n, c, h, are q)
 
 -- another stream of the same name stands in the slot
 pub taken_grown : (cases : List Case) (streams streams' : List (Option StreamParts)) (slot : ℕ) (s s' : StreamParts) (a : BTreeSet (ArrayVec ℕ)) → AreTaken cases streams a → stream_at streams slot ≡ Some s
-    → streams' ≡ slice_set streams slot (Some s') → s'.facts.name ≡ s.facts.name → AreTaken cases streams' a
+    → streams' ≡ slice_set streams slot (Some s') → s'.facts.origin.name ≡ s.facts.origin.name → AreTaken cases streams' a
 taken_grown cases streams streams' slot s s' a are is now same = subst (λ (x : List (Option StreamParts)). AreTaken cases x a) (sym now)
     (λ q. (let n = named_with streams slot (Some s) (Some s') q (slot_there streams slot s is) is in
     let e = ap (λ (n : List ℕ). one_if (bytes_eq n q)) same in
@@ -156,7 +156,7 @@ taken_lent cases streams slot b (Ok u) ws a are reply = here (stream_at streams 
 
 -- a stream became the last case
 pub taken_stored : (cases : List Case) (streams streams' : List (Option StreamParts)) (slot : ℕ) (s : StreamParts) (x : Case) (a : BTreeSet (ArrayVec ℕ)) → AreTaken cases streams a → stream_at streams slot ≡ Some s
-    → streams' ≡ slice_set streams slot None → x.name ≡ s.facts.name → AreTaken (cases ++ x ∷ []) streams' a
+    → streams' ≡ slice_set streams slot None → x.name ≡ s.facts.origin.name → AreTaken (cases ++ x ∷ []) streams' a
 taken_stored cases streams streams' slot s x a are is now called = subst (λ (xs : List (Option StreamParts)). AreTaken (cases ++ x ∷ []) xs a) (sym now)
     (λ q. (let n = named_with streams slot (Some s) None q (slot_there streams slot s is) is in
     let m = named_stored cases x q in

@@ -39,7 +39,7 @@ busy_at None taken some = absurd (some refl)
 busy_at (Some x) taken some = refl
 
 abbrev begin_answer : ArchiveState → ℕ → StreamFacts → Result (Unit {0}) ArchiveFault
-begin_answer s slot x = cond s.stopped (Err Stopped) (cond (nat_lt slot (length s.streams)) (begin_at (stream_at s.streams slot) (is_taken s x.name)) (Err BadSlot))
+begin_answer s slot x = cond s.stopped (Err Stopped) (cond (nat_lt slot (length s.streams)) (begin_at (stream_at s.streams slot) (is_taken s x.origin.name)) (Err BadSlot))
 
 abbrev begin_after : ArchiveState → ℕ → StreamFacts → Result (Unit {0}) ArchiveFault → ArchiveState
 begin_after s slot x (Ok u) = with_stream s slot (Some x)
@@ -49,7 +49,7 @@ begin_is : (s : ArchiveState) (slot : ℕ) (x : StreamFacts) (r : Result (Unit {
 begin_is s slot x (Ok u) new step d = (rw (step.0.0, lt-ltb slot (length s.streams) step.0.1, step.0.2, step.0.3) refl, step.1)
 begin_is s slot x (Err Stopped) new step d = (rw (step.0) refl, step.1)
 begin_is s slot x (Err BadSlot) new step d = (rw (step.0, le-ltb slot (length s.streams) step.1) refl, step.2)
-begin_is s slot x (Err SlotBusy) new step d = (rw (step.0, lt-ltb slot (length s.streams) step.1) (busy_at (stream_at s.streams slot) (is_taken s x.name) step.2), step.3)
+begin_is s slot x (Err SlotBusy) new step d = (rw (step.0, lt-ltb slot (length s.streams) step.1) (busy_at (stream_at s.streams slot) (is_taken s x.origin.name) step.2), step.3)
 begin_is s slot x (Err NameTaken) new step d = (rw (step.0, lt-ltb slot (length s.streams) step.1, step.2, step.3) refl, step.4)
 begin_is s slot x (Err OutOfMemory) new step d = absurd d
 begin_is s slot x (Err _) new step d = absurd step

@@ -26,7 +26,7 @@ use Rattle.intake.specs.declared.faults.ArchiveFault.{ArchiveFault}
 use Rattle.journal_layout.specs.Case.{Case}
 use Rattle.journal_layout.specs.Layout.{IsWithinLimits}
 use Rattle.intake.specs.Slots.{stream_at, closed}
-use Rattle.intake.specs.Sound.{IsArchiveSound, IsRunning, IsFine, IsFineIfOpen, held_by, stream_uses, stream_blocks, case_blocks, is_called, streams_named}
+use Rattle.intake.specs.Sound.{IsArchiveSound, IsRunning, IsFine, IsFineIfOpen, held_by, stream_uses, stream_blocks, case_blocks, is_called, streams_named, IsWritable}
 
 pub length-zero_block : length zero_block ≡ 4096
 unfolding zero_block
@@ -193,10 +193,7 @@ sound_lent g d j most flags streams slot b (Ok u) ws sound reply = here (stream_
         subst (λ (o : Option StreamParts). IsArchiveSound g d j most flags (slice_set streams slot (option_map (with_room ws) o)) b) (sym is)
         (sound_with g d d j most flags flags streams slot (Some s) (Some (with_room ws s)) b sound reply.0 low is (sound.runs reply.0).keeps (nothing_moves flags s.facts.blocks)
         (record {
-          name = fine.name;
-          pid = fine.pid;
-          signal = fine.signal;
-          time = fine.time;
+          origin = fine.origin;
           small = fine.small;
           limit = fine.limit;
           filled = fine.filled;
@@ -217,12 +214,9 @@ sound_dropped g d d' j most flags flags' streams streams' slot s b sound on is n
     subst (λ (x : List (Option StreamParts)). IsArchiveSound g d' j most flags' x b) (sym now)
     (sound_without g d d' j most flags flags' streams slot (Some s) b sound on (slot_below g d j most flags streams slot s b sound is) is keeps bal)
 
-pub fine_new : (most : ℕ) (s : StreamParts) → IsName s.facts.name → s.facts.pid < 2 ^ 32 → s.facts.signal < 2 ^ 32 → s.facts.time < 2 ^ 64 → s.facts.len ≡ 0 → s.facts.blocks ≡ [] → s.block ≡ zero_block → IsFine most s
-fine_new most s name pid signal time none no_blocks zeros = record {
-  name = name;
-  pid = pid;
-  signal = signal;
-  time = time;
+pub fine_new : (most : ℕ) (s : StreamParts) → IsWritable s.facts.origin → s.facts.len ≡ 0 → s.facts.blocks ≡ [] → s.block ≡ zero_block → IsFine most s
+fine_new most s fits none no_blocks zeros = record {
+  origin = fits;
   small = rw none (lit< tt);
   limit = rw none (omega arith);
   filled = rw (none, no_blocks) refl;

@@ -77,14 +77,14 @@ new_name a name e =
 of_true : (x y : List ℕ) → bytes_eq x y ≡ true → x ≡ y
 of_true x y e = (let d = bytes_eq-Decides x y in d.0 e)
 
-pub names_with : {D : Type 0} (a : Parts D) (s : StreamParts) → is_taken (state_of a) s.facts.name ≡ false → ((name : List ℕ) → cases_named a.journal.standing.cases name + streams_named a.streams name ≤ 1)
-    → (name : List ℕ) → cases_named a.journal.standing.cases name + streams_named a.streams name + one_if (bytes_eq s.facts.name name) ≤ 1 + 0
-names_with a s free once name = both (bytes_eq s.facts.name name) refl
+pub names_with : {D : Type 0} (a : Parts D) (s : StreamParts) → is_taken (state_of a) s.facts.origin.name ≡ false → ((name : List ℕ) → cases_named a.journal.standing.cases name + streams_named a.streams name ≤ 1)
+    → (name : List ℕ) → cases_named a.journal.standing.cases name + streams_named a.streams name + one_if (bytes_eq s.facts.origin.name name) ≤ 1 + 0
+names_with a s free once name = both (bytes_eq s.facts.origin.name name) refl
   where
-    both : (t : Bool) → bytes_eq s.facts.name name ≡ t → cases_named a.journal.standing.cases name + streams_named a.streams name + one_if t ≤ 1 + 0
+    both : (t : Bool) → bytes_eq s.facts.origin.name name ≡ t → cases_named a.journal.standing.cases name + streams_named a.streams name + one_if t ≤ 1 + 0
     both false e = (let o = once name in omega (arith, o))
-    both true e = (let n = new_name a s.facts.name free in
-        let same : s.facts.name ≡ name = of_true s.facts.name name e in
+    both true e = (let n = new_name a s.facts.origin.name free in
+        let same : s.facts.origin.name ≡ name = of_true s.facts.origin.name name e in
         let f = ap (cases_named a.journal.standing.cases) same in
         let g = ap (streams_named a.streams) same in
         let c = n.0 in let t = n.1 in omega (arith, f, g, c, t))
@@ -92,7 +92,7 @@ names_with a s free once name = both (bytes_eq s.facts.name name) refl
 -- a stream is begun
 module _ {D : Type 0} (g : disk.Ghosts D) (d : D) (j : Journaled) (most : ℕ) (flags : List Bool) (streams streams' : List (Option StreamParts)) (slot : ℕ) (s : StreamParts) (b : Bool)
     (sound : IsArchiveSound g d j most flags streams b) (on : b ≡ false) (low : slot < 8) (none : stream_at streams slot ≡ None)
-    (free : is_taken (state_of (record { disk = d; journal = j; limit = most; streams = streams; stopped = b })) s.facts.name ≡ false) (now : streams' ≡ slice_set streams slot (Some s)) where
+    (free : is_taken (state_of (record { disk = d; journal = j; limit = most; streams = streams; stopped = b })) s.facts.origin.name ≡ false) (now : streams' ≡ slice_set streams slot (Some s)) where
   pub sound_begun : IsFine most s → s.facts.blocks ≡ [] → IsArchiveSound g d j most flags streams' b
   sound_begun fine no_blocks =
       subst (λ (x : List (Option StreamParts)). IsArchiveSound g d j most flags x b) (sym now)

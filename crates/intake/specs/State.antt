@@ -6,13 +6,17 @@ use Rattle.journal_layout.specs.declared.shape.Shape.{Shape}
 use Rattle.journal_layout.specs.declared.entry.Kind.{Kind}
 use Rattle.extents.specs.Runs.{runs_of}
 
--- a stream on its way, with how many bytes it has taken so far, and the blocks that they have filled
-pub record StreamFacts : Type 0 where
+-- what an image is of
+pub record Origin : Type 0 where
   pub kind : Kind
   pub name : List ℕ
   pub pid : ℕ
   pub signal : ℕ
   pub time : ℕ
+
+-- a stream on its way, with how many bytes it has taken so far, and the blocks that they have filled
+pub record StreamFacts : Type 0 where
+  pub origin : Origin
   pub len : ℕ
   pub blocks : List ℕ
 
@@ -51,3 +55,7 @@ blocks_in s = sum_by (λ (c : Case). blocks_for c.len) s.cases + sum_by filled_b
 -- in how many runs of blocks the image of a case lies
 abbrev pub runs_in : Case → ℕ
 runs_in c = length (runs_of c.blocks)
+
+-- what the image of a case is of
+abbrev pub origin_of : Case → Origin
+origin_of c = record { kind = c.kind; name = c.name; pid = c.pid; signal = c.signal; time = c.time }

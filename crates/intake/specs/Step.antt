@@ -24,7 +24,7 @@ use Rattle.intake.specs.State.{ArchiveState, StreamFacts, blocks_for, blocks_in,
 -- the stream in this slot has this name
 abbrev pub has_name : List ℕ → Option StreamFacts → Bool
 has_name name None = false
-has_name name (Some s) = bytes_eq s.name name
+has_name name (Some s) = bytes_eq s.origin.name name
 
 -- one of the cases has the name
 abbrev pub is_named : List ℕ → List Case → Bool
@@ -48,14 +48,14 @@ MayBegin old slot name =
     (old.stopped ≡ false) × (slot < length old.streams) × (stream_at old.streams slot ≡ None) × (is_taken old name ≡ false)
 
 abbrev pub BeginStep : ArchiveState → ℕ → StreamFacts → Result (Unit {0}) ArchiveFault → ArchiveState → Type 0
-BeginStep old slot s (Ok u) new = MayBegin old slot s.name × (new ≡ with_stream old slot (Some s))
+BeginStep old slot s (Ok u) new = MayBegin old slot s.origin.name × (new ≡ with_stream old slot (Some s))
 BeginStep old slot s (Err Stopped) new = (old.stopped ≡ true) × (new ≡ old)
 BeginStep old slot s (Err BadSlot) new = (old.stopped ≡ false) × (length old.streams ≤ slot) × (new ≡ old)
 BeginStep old slot s (Err SlotBusy) new =
     (old.stopped ≡ false) × (slot < length old.streams) × (stream_at old.streams slot ≢ None) × (new ≡ old)
 BeginStep old slot s (Err NameTaken) new =
-    (old.stopped ≡ false) × (slot < length old.streams) × (stream_at old.streams slot ≡ None) × (is_taken old s.name ≡ true) × (new ≡ old)
-BeginStep old slot s (Err OutOfMemory) new = MayBegin old slot s.name × (new ≡ old)
+    (old.stopped ≡ false) × (slot < length old.streams) × (stream_at old.streams slot ≡ None) × (is_taken old s.origin.name ≡ true) × (new ≡ old)
+BeginStep old slot s (Err OutOfMemory) new = MayBegin old slot s.origin.name × (new ≡ old)
 BeginStep old slot s (Err _) new = ⊥
 
 -- how often the cases and the streams use block k
@@ -176,11 +176,11 @@ recorded s size cases = record s {
 abbrev pub case_from : StreamFacts → ℕ → List ℕ → Case
 case_from s seq blocks = record {
   seq = seq;
-  kind = s.kind;
-  name = s.name;
-  pid = s.pid;
-  signal = s.signal;
-  time = s.time;
+  kind = s.origin.kind;
+  name = s.origin.name;
+  pid = s.origin.pid;
+  signal = s.origin.signal;
+  time = s.origin.time;
   pinned = false;
   len = s.len;
   blocks = blocks;
@@ -193,7 +193,7 @@ cases_with old s blocks = old.cases ++ case_from s old.next blocks ∷ []
 
 -- the bytes of the record of that case
 abbrev pub stream_size : StreamFacts → List ℕ → ℕ
-stream_size s blocks = record_size s.name (length (runs_of blocks))
+stream_size s blocks = record_size s.origin.name (length (runs_of blocks))
 
 -- the stream becomes the last case
 abbrev pub stored : ArchiveState → ℕ → StreamFacts → List ℕ → ArchiveState

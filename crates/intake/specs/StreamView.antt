@@ -9,7 +9,11 @@ use Rattle.intake.specs.Parts.{StreamParts}
 
 -- a stream without its block
 abbrev pub facts_of : Stream → StreamFacts
-facts_of s = record { kind = s.kind; name = s.name.items; pid = s.pid; signal = s.signal; time = s.time; len = s.length; blocks = s.runs }
+facts_of s = record {
+  origin = record { kind = s.kind; name = s.name.items; pid = s.pid; signal = s.signal; time = s.time };
+  len = s.length;
+  blocks = s.runs;
+}
 
 -- a stream whose block holds this
 abbrev pub parts_of : List ℕ → Stream → StreamParts

@@ -167,11 +167,7 @@ impl<D: Disk> Archive<D> {
         requires name { IsName name.items }
         ensures { BeginCall D.Disk self.old slot
             (record {
-              kind = kind;
-              name = name.items;
-              pid = pid;
-              signal = signal;
-              time = time;
+              origin = record { kind = kind; name = name.items; pid = pid; signal = signal; time = time };
               len = 0;
               blocks = [];
             }) result self.new }
