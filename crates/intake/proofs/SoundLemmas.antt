@@ -12,8 +12,7 @@ use Rattle.disk_model.specs.declared.disk.Disk as disk
 use Rattle.extents.specs.FreeSet.{free_count, uses, one_if}
 use Rattle.case_journal.specs.Journaled.{Journaled}
 use Rattle.intake.specs.Guarding.{Guards}
-use Rattle.std.proofs.Common.{lit<, ◌^◌}
-use Rattle.journal_layout.specs.Soundness.{IsName}
+use Rattle.std.proofs.Common.{lit<}
 use Rattle.intake.specs.Balance.{AreHeld, Balances}
 use Rattle.intake.specs.Contents.{zero_block}
 use Rattle.journal_layout.specs.Live.{IsWhole}
