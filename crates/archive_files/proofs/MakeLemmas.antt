@@ -1,10 +1,10 @@
 -- An archive with no case is brought to version 2 of the layout.
-use Rattle.std.proofs.Common.{◌≡◌, ⊎_elim, Ok, map, true, false, ap, subst, ◌∙◌, arith}
+use Rattle.std.proofs.Common.{◌≡◌, ⊎_elim, Ok, true, false, ap, subst, ◌∙◌, arith}
 use Rattle.std.specs.Prelude.{IsTrue}
 use Rattle.disk_model.specs.declared.disk.Disk as disk
 use Rattle.intake.specs.Calls.{OpenCall, UpgradeCall, CloseCall}
 use Rattle.intake.specs.Durable.{Durable, StandsFor, durable_of, durable_part, with_images}
-use Rattle.intake.specs.Parts.{Parts, state_of, contents_of, case_facts}
+use Rattle.intake.specs.Parts.{Parts, state_of, contents_of}
 use Rattle.intake.specs.State.{ArchiveState}
 use Rattle.intake.specs.Step.{anew_in_two}
 use Rattle.journal_layout.specs.Standing.{Standing, fresh}
@@ -29,7 +29,7 @@ module _ {D : Type 0} (g : disk.Ghosts D) (shape : Shape) (before after : D) (op
   empty =
       law new
       ∙ ap (λ (s : ArchiveState). durable_part s (contents_of g.seen new)) anew
-      ∙ ap (λ (s : Standing). record { cases = with_images (map case_facts s.cases) (contents_of g.seen new).images; next = s.next; version = 2 }) found
+      ∙ ap (λ (s : Standing). record { cases = with_images s.cases (contents_of g.seen new).images; next = s.next; version = 2 }) found
 
   pub made_in_two : IsFresh g shape true after
   made_in_two =

@@ -1,13 +1,13 @@
 -- The replies to lines over an archive.
 use Rattle.std.specs.Prelude.{ℕ, Bool, List, [], ◌∷◌, ◌++◌, Result, Ok, Err, codes, decimal, ◌==◌, if◌then◌else◌}
 use Rattle.std.specs.List.{flat_map}
+use Rattle.journal_layout.specs.Case.{Case}
 use Rattle.journal_layout.specs.declared.entry.Kind.{Kind}
 use Rattle.journal_layout.specs.declared.entry.Kind.TheVariants.{Core, Exec}
 use Rattle.script_words.specs.Printing.{shown}
 use Rattle.script_streams.specs.Replies.{ok_reply, no_reply}
 use Rattle.intake.specs.declared.faults.ArchiveFault.{ArchiveFault}
 use Rattle.intake.specs.declared.space.Space.{Space}
-use Rattle.intake.specs.State.{CaseFacts}
 use Rattle.retention.specs.declared.Decision.{Decision}
 use Rattle.archive_replies.specs.Reasons.{reason_of}
 
@@ -60,11 +60,11 @@ abbrev pub label_word : ℕ → List ℕ → List ℕ
 label_word version label = if version == 2 then 32 ∷ shown label else []
 
 -- `N KIND LENGTH PID SIGNAL TIME PIN NAME`, and in version 2 of the layout ` LABEL`
-abbrev pub case_line : ℕ → CaseFacts → List ℕ
+abbrev pub case_line : ℕ → Case → List ℕ
 case_line version c =
     number_word c.seq ++ (kind_name c.kind ++ (32 ∷ [] ++ (number_word c.len ++ (number_word c.pid ++ (number_word c.signal
     ++ (number_word c.time ++ (pin_name c.pinned ++ (32 ∷ [] ++ (shown c.name ++ (label_word version c.label ++ 10 ∷ []))))))))))
 
 -- a line for each case
-abbrev pub list_reply : Bool → ℕ → List CaseFacts → List ℕ
+abbrev pub list_reply : Bool → ℕ → List Case → List ℕ
 list_reply stopped version cases = if stopped then no_reply (codes "Stopped") else flat_map (case_line version) cases ++ ok_reply

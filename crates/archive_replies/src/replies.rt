@@ -2,7 +2,6 @@
 ghost use Rattle.std.specs.Prelude.{◌≡◌, ◌++◌, map};
 ghost use Rattle.std.specs.List.{flat_map};
 ghost use Rattle.journal_layout.specs.Case.{case_of};
-ghost use Rattle.intake.specs.Parts.{case_facts};
 ghost use Rattle.script_streams.specs.Replies.{ok_reply, no_reply, TellsText, telling};
 ghost use Rattle.archive_replies.specs.Texts.{plain_reply, begin_reply, end_reply, retire_reply, dropped_line, free_reply, number_word, case_line, label_word, kind_name, pin_name};
 
@@ -102,8 +101,7 @@ pub fn tell_free<O: Output>(reply: &mut Reply<'_, O>, outcome: Result<Space, Arc
 
 /// Tells a line for each case of an archive of this version of the layout: version 2 keeps labels.
 pub fn tell_cases<O: Output>(reply: &mut Reply<'_, O>, version: u32, cases: &[Entry])
-    ensures { TellsText (telling O.Output reply.old reply.new) (flat_map (case_line version) (map case_facts
-        (map case_of cases.now)) ++ ok_reply) }
+    ensures { TellsText (telling O.Output reply.old reply.new) (flat_map (case_line version) (map case_of cases.now) ++ ok_reply) }
 {
     for entry in cases {
         tell_case(reply, version, entry);
@@ -113,7 +111,7 @@ pub fn tell_cases<O: Output>(reply: &mut Reply<'_, O>, version: u32, cases: &[En
 
 // Tells the line of a case.
 fn tell_case<O: Output>(reply: &mut Reply<'_, O>, version: u32, entry: &Entry)
-    ensures { TellsText (telling O.Output reply.old reply.new) (case_line version (case_facts (case_of entry.now))) }
+    ensures { TellsText (telling O.Output reply.old reply.new) (case_line version (case_of entry.now)) }
 {
     tell_number(reply, entry.seq as u64);
     reply.tell(kind_word(entry.kind));

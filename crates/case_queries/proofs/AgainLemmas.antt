@@ -6,7 +6,6 @@ use Rattle.case_journal.specs.Viewing.{OnlyReads}
 use Rattle.disk_model.specs.MomentLaws.{started}
 use Rattle.disk_model.specs.declared.disk.Disk as disk
 use Rattle.intake.specs.Parts.{Parts, state_of}
-use Rattle.intake.specs.State.{CaseFacts}
 use Rattle.intake.specs.StayLaws.{stays_none}
 use Rattle.intake.specs.declared.faults.ArchiveFault.{ArchiveFault}
 use Rattle.case_queries.specs.Gathering.{Gathers, GathersAll, Wanted, wanted_of, with_executable}
@@ -15,6 +14,7 @@ use Rattle.case_queries.specs.Keeping.{StayGathered}
 use Rattle.case_queries.specs.Seeing.{AreOfCase, SeesImage}
 use Rattle.case_queries.specs.declared.gather.Executable.{Executable}
 use Rattle.case_queries.specs.LeaveLaws.{Leaves, leaves_as, leaves_then, looks_leaves, gathers_leaves, all_leaves, own_still}
+use Rattle.journal_layout.specs.Case.{Case}
 
 abbrev is_given : {A B : Type 0} → Result A B → Bool
 is_given (Ok x) = true
@@ -58,7 +58,7 @@ module _ {D : Type 0} (g : disk.Ghosts D) (now : Parts D) (only : (c : List ℕ)
   all_again : (old : Parts D) (b : List ℕ) (views : List ExecutableView) → GathersAll g old (wanted_of b (state_of old).cases) (Ok views) now → Gathers g now (wanted_of b (state_of now).cases) (Ok views) now
   all_again old b views all =
       let leaves = all_leaves g old now (wanted_of b (state_of old).cases) (Ok views) all in
-      subst (λ (cases : List CaseFacts). Gathers g now (wanted_of b cases) (Ok views) now) (sym leaves.cases)
+      subst (λ (cases : List Case). Gathers g now (wanted_of b cases) (Ok views) now) (sym leaves.cases)
       (⊎_elim (λ short. absurd (given_not views _ short.0)) (λ gathers. again old now (wanted_of b (state_of old).cases) views (leaves_as g now now refl) gathers) all)
 
   -- what was gathered just now may be kept
@@ -71,5 +71,5 @@ module _ {D : Type 0} (g : disk.Ghosts D) (now : Parts D) (only : (c : List ℕ)
   pub stay_after : (old : Parts D) (b : List ℕ) (kept : Option (Vec Executable Global)) → Leaves g old now → StayGathered g old b kept → StayGathered g now b kept
   stay_after old b None leaves stay = tt
   stay_after old b (Some v) leaves stay =
-      subst (λ (cases : List CaseFacts). Gathers g now (wanted_of b cases) (Ok (map executable_view v.items)) now) (sym leaves.cases)
+      subst (λ (cases : List Case). Gathers g now (wanted_of b cases) (Ok (map executable_view v.items)) now) (sym leaves.cases)
       (again old old (wanted_of b (state_of old).cases) (map executable_view v.items) leaves stay)

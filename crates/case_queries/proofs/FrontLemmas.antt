@@ -12,9 +12,9 @@ use Rattle.intake.specs.Contents.{Contents, UnmovedBytes, image_at}
 use Rattle.intake.specs.Part.{PartCall}
 use Rattle.intake.specs.Parts.{Parts, state_of, contents_of}
 use Rattle.intake.specs.QuietLaws.{quiet_none, quiet_then}
-use Rattle.intake.specs.State.{ArchiveState, CaseFacts}
+use Rattle.intake.specs.State.{ArchiveState}
 use Rattle.intake.specs.StayLaws.{stays_none, stays_then}
-use Rattle.intake.specs.Step.{ImageStep, HasCase, case_at}
+use Rattle.intake.specs.Step.{ImageStep, HasCase}
 use Rattle.intake.specs.Untouched.{RefusalSpares}
 use Rattle.intake.specs.declared.faults.ArchiveFault.{ArchiveFault}
 use Rattle.intake.specs.declared.faults.ArchiveFault.TheVariants.{Stopped, NoCase, OutOfMemory, Disk}
@@ -23,6 +23,8 @@ use Rattle.case_queries.specs.LeaveLaws.{own_still, looks_leaves}
 use Rattle.case_queries.specs.Seeing.{AreOfCase, IsKept, LooksAt, SeesImage, image_held}
 use Rattle.case_queries.specs.declared.kept_image.KeptImage.{KeptImage}
 use Rattle.case_queries.proofs.AgainLemmas.{seen_again}
+use Rattle.journal_layout.specs.Soundness.{case_numbered}
+use Rattle.journal_layout.specs.Case.{Case}
 
 -- the first bytes of an image, and those after them
 behind : (image front bytes : List ℕ) (n : ℕ) → front ≡ take (length front) image → bytes ≡ part image (length front) n → length bytes ≡ n → front ++ bytes ≡ take (length (front ++ bytes)) image
@@ -37,7 +39,7 @@ begins : (image bytes : List ℕ) (n : ℕ) → bytes ≡ part image 0 n → len
 begins image bytes n is long = is ∙ part_is image 0 n ∙ ap (λ k. take k image) (sym long)
 
 -- Reading a part of a case's image fails by the disk alone.
-module _ (s t : ArchiveState) (seq : ℕ) (c : CaseFacts) (has : HasCase s seq c) where
+module _ (s t : ArchiveState) (seq : ℕ) (c : Case) (has : HasCase s seq c) where
   part_step : (f : ArchiveFault) → ImageStep {T = Unit {0}} s seq (Err f) t → ImageStep {T = Vec ℕ Global} s seq (Err f) t
   part_step Stopped step = step
   part_step NoCase step = step
@@ -50,14 +52,14 @@ module _ (s t : ArchiveState) (seq : ℕ) (c : CaseFacts) (has : HasCase s seq c
   part_spares old new Stopped step never = absurd (false≢true (sym has.0 ∙ step.0))
   part_spares old new NoCase step never = absurd (none_some (sym step.1 ∙ has.1))
     where
-      none_some : ◌≡◌ {A = Option CaseFacts} None (Some c) → ⊥
+      none_some : ◌≡◌ {A = Option Case} None (Some c) → ⊥
       none_some e = cc
   part_spares old new OutOfMemory step never = absurd (never refl)
   part_spares old new _ step never = absurd step
 
 module _ {D : Type 0} (g : disk.Ghosts D) where
   -- nothing is read yet
-  pub none_refused : (old : Parts D) (seq : ℕ) (c : CaseFacts) → ((x : List ℕ) → g.left_since old.disk (g.clock old.disk) x → g.may_leave old.disk x) → HasCase (state_of old) seq c → LooksAt g old seq (Err OutOfMemory) old
+  pub none_refused : (old : Parts D) (seq : ℕ) (c : Case) → ((x : List ℕ) → g.left_since old.disk (g.clock old.disk) x → g.may_leave old.disk x) → HasCase (state_of old) seq c → LooksAt g old seq (Err OutOfMemory) old
   none_refused old seq c only has = record {
     step = (c, has, refl);
     bytes = λ honest. refl;
@@ -71,7 +73,7 @@ module _ {D : Type 0} (g : disk.Ghosts D) where
       memory_not : OutOfMemory ≡ Disk → ⊥
       memory_not e = cc
 
-  pub first_refused : (old new : Parts D) (seq at n : ℕ) (bytes : List ℕ) (f : ArchiveFault) (c : CaseFacts) → HasCase (state_of old) seq c → PartCall g old seq at n (Err f) bytes new → LooksAt g old seq (Err f) new
+  pub first_refused : (old new : Parts D) (seq at n : ℕ) (bytes : List ℕ) (f : ArchiveFault) (c : Case) → HasCase (state_of old) seq c → PartCall g old seq at n (Err f) bytes new → LooksAt g old seq (Err f) new
   first_refused old new seq at n bytes f c has call = record {
     step = part_step (state_of old) (state_of new) seq c has f call.step;
     bytes = call.bytes;
@@ -83,7 +85,7 @@ module _ {D : Type 0} (g : disk.Ghosts D) where
   }
 
   -- a part that can't be read, of an image of which the first bytes were
-  pub later_refused : (old mid new : Parts D) (seq at n : ℕ) (front bytes : List ℕ) (f : ArchiveFault) (c : CaseFacts) → HasCase (state_of old) seq c → ReadsFront g old seq front mid
+  pub later_refused : (old mid new : Parts D) (seq at n : ℕ) (front bytes : List ℕ) (f : ArchiveFault) (c : Case) → HasCase (state_of old) seq c → ReadsFront g old seq front mid
       → PartCall g mid seq at n (Err f) bytes new → LooksAt g old seq (Err f) new
   later_refused old mid new seq at n front bytes f c has reads call =
       let step : ImageStep {T = Unit {0}} (state_of old) seq (Err f) (state_of new) = subst (λ (s : ArchiveState). ImageStep {T = Unit {0}} s seq (Err f) (state_of new)) reads.state call.step in
@@ -125,7 +127,7 @@ module _ {D : Type 0} (g : disk.Ghosts D) where
 
   -- What is read is the first bytes of an image that a line may see: of the case's own where the disk is honest, and of one of that
   -- length on any disk.
-  pub front_by : (old new : Parts D) (seq : ℕ) (front : List ℕ) (c : CaseFacts) → case_at seq (state_of old).cases ≡ Some c → length front ≤ c.len → ReadsFront g old seq front new → (t : Bool) → g.is_honest old.disk ≡ t
+  pub front_by : (old new : Parts D) (seq : ℕ) (front : List ℕ) (c : Case) → case_numbered seq (state_of old).cases ≡ Some c → length front ≤ c.len → ReadsFront g old seq front new → (t : Bool) → g.is_honest old.disk ≡ t
       → (image : List ℕ) × SeesImage g old seq image new × (front ≡ take (length front) image) × (length image ≡ c.len)
   front_by old new seq front c at fits reads true e =
       let a = reads.own e in
@@ -143,7 +145,7 @@ module _ {D : Type 0} (g : disk.Ghosts D) where
       let sees : SeesImage g old seq image new = record {
         own = record {
           bytes = λ honest. absurd (false≢true (sym e ∙ honest));
-          long = λ d found. long ∙ ap (λ (x : CaseFacts). x.len) (same_Some c d (sym at ∙ found));
+          long = λ d found. long ∙ ap (λ (x : Case). x.len) (same_Some c d (sym at ∙ found));
         };
         state = reads.state;
         contents = λ honest. absurd (false≢true (sym e ∙ honest));
@@ -159,10 +161,10 @@ module _ {D : Type 0} (g : disk.Ghosts D) where
     pub fits : size ≤ room
 
   -- no more is asked for than there is
-  pub size_fits : (s t : ArchiveState) (seq size end : ℕ) → HasSize s seq size → t ≡ s → end ≤ size → (c : CaseFacts) → case_at seq t.cases ≡ Some c → end ≤ c.len
+  pub size_fits : (s t : ArchiveState) (seq size end : ℕ) → HasSize s seq size → t ≡ s → end ≤ size → (c : Case) → case_numbered seq t.cases ≡ Some c → end ≤ c.len
   size_fits s t seq size end has same within c at =
-      let found = ap (λ (x : ArchiveState). case_at seq x.cases) (sym same) ∙ at in
-      let is = ap (λ (x : CaseFacts). x.len) (same_Some has.0 c (sym has.1.1 ∙ found)) in
+      let found = ap (λ (x : ArchiveState). case_numbered seq x.cases) (sym same) ∙ at in
+      let is = ap (λ (x : Case). x.len) (same_Some has.0 c (sym has.1.1 ∙ found)) in
       omega (arith, within, is, has.2)
 
   pub read_first : (old new : Parts D) (seq size end room : ℕ) (front front' : List ℕ) → length front ≡ 0 → ReadsUpTo g old seq front end (Ok tt) front' new → length front' ≤ size → size ≤ room → FrontIsRead old seq size front' room new

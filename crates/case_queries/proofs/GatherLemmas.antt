@@ -6,11 +6,10 @@ use Rattle.std.proofs.lemmas.List.Elements.{filter-append}
 use Rattle.std.specs.List.{filter}
 use Rattle.address_space.specs.Source.{ExecutableView}
 use Rattle.disk_model.specs.declared.disk.Disk as disk
-use Rattle.intake.specs.Parts.{Parts, case_facts}
-use Rattle.intake.specs.State.{CaseFacts}
+use Rattle.intake.specs.Parts.{Parts}
 use Rattle.intake.specs.declared.faults.ArchiveFault.{ArchiveFault}
 use Rattle.intake.specs.declared.faults.ArchiveFault.TheVariants.{OutOfMemory}
-use Rattle.journal_layout.specs.Case.{case_of}
+use Rattle.journal_layout.specs.Case.{case_of, Case}
 use Rattle.journal_layout.specs.declared.entry.Entry.{Entry}
 use Rattle.case_queries.specs.Gathering.{Gathers, Wanted, is_wanted, wanted_case, wanted_of, with_executable}
 use Rattle.case_queries.specs.GatheringWords.{joined, wanted_view}
@@ -68,23 +67,18 @@ left_none [] i past = ap (map wanted_view) (drop_nil i)
 left_none (w ∷ ws) zero past = absurd (omega (arith, past))
 left_none (w ∷ ws) (suc i) past = left_none ws i (omega (arith, past))
 
-wanted_both : (b : List ℕ) (xs ys : List CaseFacts) → wanted_of b (xs ++ ys) ≡ wanted_of b xs ++ wanted_of b ys
+wanted_both : (b : List ℕ) (xs ys : List Case) → wanted_of b (xs ++ ys) ≡ wanted_of b xs ++ wanted_of b ys
 wanted_both b xs ys = ap (map wanted_case) (filter-append (is_wanted b) xs ys) ∙ map-append wanted_case (filter (is_wanted b) xs) (filter (is_wanted b) ys)
-
-facts : List Entry → List CaseFacts
-facts es = map case_facts (map case_of es)
 
 -- those that are wanted of the cases that went by, and of the next
 pub wanted_more : (b : List ℕ) (es : List Entry) (i : ℕ) (e : Entry) (old new : List Wanted) → i < length es → e ≡ get_or es i e
-    → old ≡ wanted_of b (map case_facts (map case_of (take i es))) → new ≡ old ++ wanted_of b (case_facts (case_of e) ∷ [])
-    → new ≡ wanted_of b (map case_facts (map case_of (take (i + 1) es)))
-unfolding facts
+    → old ≡ wanted_of b (map case_of (take i es)) → new ≡ old ++ wanted_of b (case_of e ∷ [])
+    → new ≡ wanted_of b (map case_of (take (i + 1) es))
 wanted_more b es i e old new within is before after =
-    let next : facts (take (i + 1) es) ≡ facts (take i es) ++ case_facts (case_of e) ∷ [] =
-    ap facts (take_more es i e within)
-    ∙ ap (map case_facts) (map-append case_of (take i es) (get_or es i e ∷ []))
-    ∙ map-append case_facts (map case_of (take i es)) (map case_of (get_or es i e ∷ []))
-    ∙ ap (λ (x : Entry). facts (take i es) ++ case_facts (case_of x) ∷ []) (sym is) in
-    after ∙ ap (λ (xs : List Wanted). xs ++ wanted_of b (case_facts (case_of e) ∷ [])) before
-    ∙ sym (wanted_both b (facts (take i es)) (case_facts (case_of e) ∷ []))
+    let next : map case_of (take (i + 1) es) ≡ map case_of (take i es) ++ case_of e ∷ [] =
+    ap (map case_of) (take_more es i e within)
+    ∙ map-append case_of (take i es) (get_or es i e ∷ [])
+    ∙ ap (λ (x : Entry). map case_of (take i es) ++ case_of x ∷ []) (sym is) in
+    after ∙ ap (λ (xs : List Wanted). xs ++ wanted_of b (case_of e ∷ [])) before
+    ∙ sym (wanted_both b (map case_of (take i es)) (case_of e ∷ []))
     ∙ ap (wanted_of b) (sym next)

@@ -6,7 +6,6 @@ use Rattle.std.specs.Prelude.{◌&&◌}
 use Rattle.std.specs.List.{filter, list_any}
 use Rattle.elf_view.specs.Sound.{IsHeaderWhole, IsSound}
 use Rattle.elf_view.specs.declared.faults.Want.TheVariants.{Core}
-use Rattle.intake.specs.State.{CaseFacts}
 use Rattle.memory_replies.specs.Memory.{has_name, mapped_files}
 use Rattle.case_queries.specs.Fronts.{IsEnough}
 use Rattle.case_queries.specs.Gathering.{is_exec, wanted_case, wanted_of}
@@ -16,6 +15,7 @@ use Rattle.image_replies.specs.Core.{core_fault_of}
 use Rattle.image_replies.specs.Reasons.{core_reason}
 use Rattle.image_replies.specs.declared.core_image.CoreFault.{CoreFault}
 use Rattle.intake.specs.Parts.{Parts}
+use Rattle.journal_layout.specs.Case.{Case}
 use Rattle.journal_layout.specs.declared.entry.Kind.{Kind}
 use Rattle.memory_replies.specs.Answers.{Answers, AnswersWith, is_done}
 use Rattle.memory_replies.specs.declared.outcome.Outcome.{Outcome}
@@ -108,6 +108,6 @@ pub fault_same : ((b : List ℕ) (n : ℕ) → IsHeaderWhole (take n b) → IsSo
 fault_same law q front size at bytes image by = enough_shows core_fault_of law front image (seen_enough q front size at bytes image by)
 
 pub wanted_same : ((b : List ℕ) (n : ℕ) → IsHeaderWhole (take n b) → IsSound Core (take n b) → mapped_files (take n b) ≡ mapped_files b) → (q : MemoryQuery) (front : List ℕ) (size at : ℕ) (bytes image : List ℕ) → IsSeenBy q front size at bytes image
-    → (cases : List CaseFacts) → wanted_of front cases ≡ wanted_of image cases
+    → (cases : List Case) → wanted_of front cases ≡ wanted_of image cases
 wanted_same law q front size at bytes image by cases =
-    ap (λ files. map wanted_case (filter (λ (c : CaseFacts). is_exec c.kind && list_any (has_name c.name) files) cases)) (enough_shows mapped_files law front image (seen_enough q front size at bytes image by))
+    ap (λ files. map wanted_case (filter (λ (c : Case). is_exec c.kind && list_any (has_name c.name) files) cases)) (enough_shows mapped_files law front image (seen_enough q front size at bytes image by))

@@ -15,8 +15,7 @@ use Rattle.address_space.specs.Whole.{AreHeldWithin, IsFrontOf}
 use Rattle.intake.specs.Contents.{Contents, image_at}
 use Rattle.intake.specs.Part.{PartCall}
 use Rattle.intake.specs.Parts.{Parts, state_of, contents_of}
-use Rattle.intake.specs.State.{ArchiveState, CaseFacts}
-use Rattle.intake.specs.Step.{case_at}
+use Rattle.intake.specs.State.{ArchiveState}
 use Rattle.intake.specs.declared.faults.ArchiveFault.{ArchiveFault}
 use Rattle.intake.specs.QuietLaws.{quiet_then}
 use Rattle.intake.specs.StayLaws.{stays_then}
@@ -31,6 +30,8 @@ use Rattle.case_queries.specs.Windows.{IsSeenBy, IsWanted, ReadsRange, SeesDump,
 use Rattle.case_queries.specs.declared.kept_image.KeptImage.{KeptImage}
 use Rattle.case_queries.specs.declared.window.Seen.{Seen}
 use Rattle.case_queries.proofs.FrontLemmas.{front_by, later_refused, next_read}
+use Rattle.journal_layout.specs.Soundness.{case_numbered}
+use Rattle.journal_layout.specs.Case.{Case}
 
 -- an image that has some first bytes and a part after them
 made : (front read : List ℕ) (p m size : ℕ) → length read ≡ m → length front ≤ size → p + m ≤ size → (0 < m → length front ≤ p) → (image : List ℕ) × (front ≡ take (length front) image) × (read ≡ take m (drop p image)) × (length image ≡ size)
@@ -181,7 +182,7 @@ module _ {D : Type 0} (g : disk.Ghosts D) where
       let sees : SeesImage g old seq x.0 new = record {
         own = record {
           bytes = λ honest. absurd (false≢true (sym e ∙ honest));
-          long = λ d found. x.3 ∙ sym has.2 ∙ ap (λ (c : CaseFacts). c.len) (same_Some has.0 d (sym has.1.1 ∙ found));
+          long = λ d found. x.3 ∙ sym has.2 ∙ ap (λ (c : Case). c.len) (same_Some has.0 d (sym has.1.1 ∙ found));
         };
         state = call.step.2 ∙ reads.state;
         contents = λ honest. absurd (false≢true (sym e ∙ honest));
@@ -282,7 +283,7 @@ module _ {D : Type 0} (g : disk.Ghosts D) where
   pub whole_front_seen : (old new : Parts D) (seq size : ℕ) (want : Want) (k : KeptImage) → HasSize (state_of old) seq size → SeesEnough g old seq want (Ok k) new → IsKept g new (Some k) → k.seq ≡ seq → k.is_whole ≡ true → SeesImage g old seq k.image.items new
   whole_front_seen old new seq size want k has seen kept at whole =
       let long = sized old new seq size seen.0 has seen.1 in
-      let found : case_at k.seq (state_of new).cases ≡ Some has.0 = ap (λ (s : ArchiveState). case_at k.seq s.cases) seen.1.state ∙ ap (λ i. case_at i (state_of old).cases) at ∙ has.1.1 in
+      let found : case_numbered k.seq (state_of new).cases ≡ Some has.0 = ap (λ (s : ArchiveState). case_numbered k.seq s.cases) seen.1.state ∙ ap (λ i. case_numbered i (state_of old).cases) at ∙ has.1.1 in
       let own = kept.1.long has.0 found in
       let same = ap length (kept.3 whole) in
       let all : k.image.items ≡ seen.0 = enough_cut want k.image.items seen.0 seen.2 ∙ take_all (length k.image.items) seen.0 (omega (arith, long, own, same, has.2)) in
@@ -291,7 +292,7 @@ module _ {D : Type 0} (g : disk.Ghosts D) where
   -- there is room for what is left
   pub kept_room : (a : Parts D) (seq size : ℕ) (k : KeptImage) → HasSize (state_of a) seq size → IsKept g a (Some k) → k.seq ≡ seq → k.is_whole ≡ false → (length k.image.items ≤ size) × (size ≤ vec_capacity k.image)
   kept_room a seq size k has kept at cut =
-      let found : case_at k.seq (state_of a).cases ≡ Some has.0 = ap (λ i. case_at i (state_of a).cases) at ∙ has.1.1 in
+      let found : case_numbered k.seq (state_of a).cases ≡ Some has.0 = ap (λ i. case_numbered i (state_of a).cases) at ∙ has.1.1 in
       let own = kept.1.long has.0 found in
       let short = front_short k.image.items kept.0 kept.2 in
       let room = kept.4 cut in

@@ -10,9 +10,11 @@ use Rattle.intake.specs.Calls.{ChangesNoCase}
 use Rattle.intake.specs.Contents.{image_at}
 use Rattle.intake.specs.Part.{PartCall}
 use Rattle.intake.specs.Parts.{Parts, state_of, contents_of}
-use Rattle.intake.specs.State.{ArchiveState, CaseFacts}
-use Rattle.intake.specs.Step.{HasCase, case_at}
+use Rattle.intake.specs.State.{ArchiveState}
+use Rattle.intake.specs.Step.{HasCase}
 use Rattle.intake.specs.declared.faults.ArchiveFault.{ArchiveFault}
+use Rattle.journal_layout.specs.Soundness.{case_numbered}
+use Rattle.journal_layout.specs.Case.{Case}
 use Rattle.journal_layout.specs.declared.entry.Kind.{Kind}
 use Rattle.script_lines.specs.declared.query.ImageQuery.{ImageQuery}
 use Rattle.script_lines.specs.declared.query.ImageQuery.TheVariants.{Header}
@@ -47,7 +49,7 @@ ReadsEnough g old seq want size (Err f) new = LooksAt g old seq (Err f) new
 
 -- a case of this number has an image of this size
 abbrev pub HasSize : ArchiveState → ℕ → ℕ → Type 0
-HasSize s seq size = (c : CaseFacts) × HasCase s seq c × (c.len ≡ size)
+HasSize s seq size = (c : Case) × HasCase s seq c × (c.len ≡ size)
 
 -- the bytes of an image up to place `end`, of which these are read
 abbrev pub ReadsUpTo : {D : Type 0} → disk.Ghosts D → Parts D → ℕ → List ℕ → ℕ → Result (Unit {0}) ArchiveFault → List ℕ → Parts D → Type 0
@@ -58,7 +60,7 @@ ReadsUpTo g old seq front end r front' new =
 pub record ReadsFront {D : Type 0} (g : disk.Ghosts D) (old : Parts D) (seq : ℕ) (front : List ℕ) (new : Parts D) : Type 0 where
   pub own : IsTrue (g.is_honest old.disk)
       → (image : List ℕ) × (image_at seq (state_of old).cases (contents_of g.seen old).images ≡ Some image) × (front ≡ take (length front) image)
-      × ((c : CaseFacts) → case_at seq (state_of old).cases ≡ Some c → length image ≡ c.len)
+      × ((c : Case) → case_numbered seq (state_of old).cases ≡ Some c → length image ≡ c.len)
   pub state : state_of new ≡ state_of old
   pub contents : IsTrue (g.is_honest old.disk) → contents_of g.seen new ≡ contents_of g.seen old
   pub quiet : OnlyReads g old.disk new.disk

@@ -3,9 +3,9 @@ use Rattle.std.specs.Prelude.{◌≡◌, ◌⊎◌, ◌&&◌, ℕ, Bool, true, f
 use Rattle.address_space.specs.Source.{ExecutableView}
 use Rattle.disk_model.specs.declared.disk.Disk as disk
 use Rattle.intake.specs.Parts.{Parts}
-use Rattle.intake.specs.State.{CaseFacts}
 use Rattle.intake.specs.declared.faults.ArchiveFault.{ArchiveFault}
 use Rattle.intake.specs.declared.faults.ArchiveFault.TheVariants.{OutOfMemory}
+use Rattle.journal_layout.specs.Case.{Case}
 use Rattle.journal_layout.specs.declared.entry.Kind.{Kind}
 use Rattle.journal_layout.specs.declared.entry.Kind.TheVariants.{Core, Exec}
 use Rattle.memory_replies.specs.Memory.{is_mapped}
@@ -16,18 +16,18 @@ is_exec Core = false
 is_exec Exec = true
 
 -- a stored executable whose name the core's NT_FILE has
-abbrev pub is_wanted : List ℕ → CaseFacts → Bool
+abbrev pub is_wanted : List ℕ → Case → Bool
 is_wanted b c = is_exec c.kind && is_mapped b c.name
 
 -- the number and the name of an executable that is read
 abbrev pub Wanted : Type 0
 Wanted = ℕ × List ℕ
 
-abbrev pub wanted_case : CaseFacts → Wanted
+abbrev pub wanted_case : Case → Wanted
 wanted_case c = (c.seq, c.name)
 
 -- those that are read for a core, in the order of the cases
-abbrev pub wanted_of : List ℕ → List CaseFacts → List Wanted
+abbrev pub wanted_of : List ℕ → List Case → List Wanted
 wanted_of b cases = map wanted_case (filter (is_wanted b) cases)
 
 -- an executable, and those behind it

@@ -20,9 +20,10 @@ use Rattle.image_replies.specs.Lines.{in_core}
 use Rattle.image_replies.specs.Reasons.{core_reason}
 use Rattle.image_replies.specs.declared.core_image.CoreFault.{CoreFault}
 use Rattle.intake.specs.Parts.{Parts, state_of}
-use Rattle.intake.specs.State.{ArchiveState, CaseFacts}
-use Rattle.intake.specs.Step.{case_at}
+use Rattle.intake.specs.State.{ArchiveState}
 use Rattle.intake.specs.declared.faults.ArchiveFault.{ArchiveFault}
+use Rattle.journal_layout.specs.Soundness.{case_numbered}
+use Rattle.journal_layout.specs.Case.{Case}
 use Rattle.journal_layout.specs.declared.entry.Kind.{Kind}
 use Rattle.journal_layout.specs.declared.entry.Kind.TheVariants.{Core, Exec}
 use Rattle.memory_replies.specs.Answers.{Answers, memory_reply}
@@ -47,14 +48,14 @@ kind_for (ask_symbol address) Exec = Ok Exec
 kind_for q Core = Ok Core
 kind_for q Exec = Err (codes "NotCore")
 
-abbrev pub kind_found : QuerySaid → Option CaseFacts → Result Kind (List ℕ)
+abbrev pub kind_found : QuerySaid → Option Case → Result Kind (List ℕ)
 kind_found q None = Err (codes "NoCase")
 kind_found q (Some c) = kind_for q c.kind
 
 -- The kind of the case that a line asks; or why it shows nothing, whatever the image: the archive is stopped, or has no such
 -- case, or it is of the other kind.
 abbrev pub kind_asked : ArchiveState → ℕ → QuerySaid → Result Kind (List ℕ)
-kind_asked s seq q = if s.stopped then Err (codes "Stopped") else kind_found q (case_at seq s.cases)
+kind_asked s seq q = if s.stopped then Err (codes "Stopped") else kind_found q (case_numbered seq s.cases)
 
 -- as what an image is read
 abbrev pub want_of : Kind → Want

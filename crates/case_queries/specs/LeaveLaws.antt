@@ -10,11 +10,13 @@ use Rattle.intake.specs.Calls.{ChangesNoCase}
 use Rattle.intake.specs.Contents.{Contents, UnmovedBytes, image_at}
 use Rattle.intake.specs.Parts.{Parts, state_of, contents_of}
 use Rattle.intake.specs.QuietLaws.{quiet_none, quiet_then}
-use Rattle.intake.specs.State.{ArchiveState, CaseFacts}
+use Rattle.intake.specs.State.{ArchiveState}
 use Rattle.intake.specs.StayLaws.{stays_as, stays_then}
-use Rattle.intake.specs.Step.{ImageStep, case_at}
+use Rattle.intake.specs.Step.{ImageStep}
 use Rattle.intake.specs.declared.faults.ArchiveFault.{ArchiveFault}
 use Rattle.intake.specs.declared.faults.ArchiveFault.TheVariants.{Stopped, NoCase, OutOfMemory, Disk}
+use Rattle.journal_layout.specs.Soundness.{case_numbered}
+use Rattle.journal_layout.specs.Case.{Case}
 use Rattle.journal_layout.specs.declared.entry.Kind.{Kind}
 use Rattle.script_lines.specs.Queries.{QuerySaid}
 use Rattle.case_queries.specs.Gathering.{Gathers, GathersAll, Wanted}
@@ -143,9 +145,9 @@ module _ {D : Type 0} (g : disk.Ghosts D) where
   own_still old new seq image leaves own = record {
     bytes = λ honest.
         let was = sym leaves.stays.honesty ∙ honest in
-        ap (λ (cs : List CaseFacts). image_at seq cs (contents_of g.seen new).images) leaves.cases
+        ap (λ (cs : List Case). image_at seq cs (contents_of g.seen new).images) leaves.cases
         ∙ ap (image_at seq (state_of old).cases) (leaves.images was) ∙ own.bytes was;
-    long = λ c at. own.long c (ap (case_at seq) (sym leaves.cases) ∙ at);
+    long = λ c at. own.long c (ap (case_numbered seq) (sym leaves.cases) ∙ at);
   }
 
 -- A line that asks an image writes no byte of the disk.

@@ -5,15 +5,15 @@ use Rattle.case_journal.specs.Viewing.{OnlyReads}
 use Rattle.intake.specs.Calls.{ImageCall, ChangesNoCase}
 use Rattle.intake.specs.Contents.{image_at}
 use Rattle.intake.specs.Parts.{Parts, state_of, contents_of}
-use Rattle.intake.specs.State.{CaseFacts}
-use Rattle.intake.specs.Step.{case_at}
 use Rattle.intake.specs.declared.faults.ArchiveFault.{ArchiveFault}
 use Rattle.case_queries.specs.declared.kept_image.KeptImage.{KeptImage}
+use Rattle.journal_layout.specs.Soundness.{case_numbered}
+use Rattle.journal_layout.specs.Case.{Case}
 
 -- These are the bytes of a live case of this number: on an honest disk those of its image, on any disk as many as it has.
 pub record AreOfCase {D : Type 0} (g : disk.Ghosts D) (a : Parts D) (seq : ℕ) (image : List ℕ) : Type 0 where
   pub bytes : IsTrue (g.is_honest a.disk) → image_at seq (state_of a).cases (contents_of g.seen a).images ≡ Some image
-  pub long : (c : CaseFacts) → case_at seq (state_of a).cases ≡ Some c → length image ≡ c.len
+  pub long : (c : Case) → case_numbered seq (state_of a).cases ≡ Some c → length image ≡ c.len
 
 -- The image of a case is seen, whether it is read now or was kept since it was: the archive shows what it showed, and a crash
 -- leaves what it left.

@@ -2,11 +2,11 @@
 ghost use Rattle.std.specs.Prelude.{◌≡◌, ◌⊎◌, ◌-◌, ◌<◌, ◌≤◌, Some, IfOk, IfSome, drop, length, take, true, false, vec_len, vec_capacity};
 ghost use Rattle.intake.specs.Part.{PartCall};
 ghost use Rattle.intake.specs.Parts.{state_of};
-ghost use Rattle.intake.specs.State.{CaseFacts};
-ghost use Rattle.intake.specs.Step.{case_at};
 ghost use Rattle.case_queries.specs.Fronts.{HasSize, IsSoundFront, ReadsEnough, ReadsUpTo, SeesEnough};
 ghost use Rattle.case_queries.specs.Keeping.{AreKept};
 ghost use Rattle.case_queries.specs.Seeing.{IsKept};
+ghost use Rattle.journal_layout.specs.Soundness.{case_numbered};
+ghost use Rattle.journal_layout.specs.Case.{Case};
 
 use crate::kept_image::{KeptImage, see_image};
 use crate::wanted::next_end;
@@ -48,7 +48,7 @@ fn read_behind<D: Disk>(
     archive: &mut Archive<D>,
 ) -> Result<(), ArchiveFault>
     requires within { at ≤ length image.old }
-    requires fits { (c : CaseFacts) → case_at seq (state_of archive.old).cases ≡ Some c → length image.old ≤ c.len }
+    requires fits { (c : Case) → case_numbered seq (state_of archive.old).cases ≡ Some c → length image.old ≤ c.len }
     ensures read { PartCall D.Disk archive.old seq at (length image.old - at) result (drop at image.new) archive.new }
     ensures before { take at image.new ≡ take at image.old }
 {
@@ -64,7 +64,7 @@ pub(crate) fn read_up_to<D: Disk>(
 ) -> Result<(), ArchiveFault>
     requires room { end ≤ vec_capacity image.old }
     requires more { vec_len image.old ≤ end }
-    requires fits { (c : CaseFacts) → case_at seq (state_of archive.old).cases ≡ Some c → end ≤ c.len }
+    requires fits { (c : Case) → case_numbered seq (state_of archive.old).cases ≡ Some c → end ≤ c.len }
     ensures read { ReadsUpTo D.Disk archive.old seq image.old.items end result image.new.items archive.new }
     ensures long { vec_len image.new ≡ end }
     ensures capacity { vec_capacity image.old ≤ vec_capacity image.new }

@@ -1,7 +1,7 @@
 // The executables that a line over memory reads beside its core.
 ghost use Rattle.std.specs.Prelude.{◌≡◌, ◌∷◌, ◌++◌, [], ℕ, List, false, map, IfOk, OnOk};
 ghost use Rattle.image_replies.specs.CoreWords.{core_bytes};
-ghost use Rattle.intake.specs.Parts.{case_facts, state_of};
+ghost use Rattle.intake.specs.Parts.{state_of};
 ghost use Rattle.journal_layout.specs.Case.{case_of};
 ghost use Rattle.memory_replies.specs.FileNameWords.{AreNamesOf};
 ghost use Rattle.memory_replies.specs.Memory.{attached_view};
@@ -67,7 +67,7 @@ fn wanted_among(
     core: &CoreImage<'_>,
     entries: &[Entry],
 ) -> Result<Vec<WantedCase>, AllocError>
-    ensures { IfOk result (λ v. map wanted_view v.items ≡ wanted_of (core_bytes core.now) (map case_facts (map case_of entries.now))) }
+    ensures { IfOk result (λ v. map wanted_view v.items ≡ wanted_of (core_bytes core.now) (map case_of entries.now)) }
 {
     let names = FileNames::of(alloc, core)?;
     let mut wanted = Vec::new(alloc);
@@ -82,7 +82,7 @@ fn add_wanted(
     entry: &Entry,
     wanted: &mut Vec<WantedCase>,
 ) -> Result<(), AllocError>
-    ensures { OnOk result ((core : List ℕ) → AreNamesOf core names.now → map wanted_view wanted.new.items ≡ map wanted_view wanted.old.items ++ wanted_of core (case_facts (case_of entry.now) ∷ [])) }
+    ensures { OnOk result ((core : List ℕ) → AreNamesOf core names.now → map wanted_view wanted.new.items ≡ map wanted_view wanted.old.items ++ wanted_of core (case_of entry.now ∷ [])) }
 {
     if is_wanted(names, entry) {
         wanted.push(WantedCase {
@@ -94,7 +94,7 @@ fn add_wanted(
 }
 
 fn is_wanted(names: &FileNames<'_>, entry: &Entry) -> bool
-    ensures { (core : List ℕ) → AreNamesOf core names.now → result ≡ is_wanted core (case_facts (case_of entry.now)) }
+    ensures { (core : List ℕ) → AreNamesOf core names.now → result ≡ is_wanted core (case_of entry.now) }
 {
     match entry.kind {
         Kind::Core => false,

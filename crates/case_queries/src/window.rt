@@ -6,14 +6,14 @@ ghost use Rattle.elf_view.specs.declared.faults.Want.TheVariants.{Core};
 ghost use Rattle.address_space.specs.Whole.{AreHeldWithin};
 ghost use Rattle.intake.specs.Part.{PartCall};
 ghost use Rattle.intake.specs.Parts.{Parts, state_of};
-ghost use Rattle.intake.specs.State.{CaseFacts};
-ghost use Rattle.intake.specs.Step.{case_at};
 ghost use Rattle.memory_replies.specs.Dump.{is_out_of_range};
 ghost use Rattle.script_lines.specs.declared.query.MemoryQuery.{MemoryQuery};
 ghost use Rattle.case_queries.specs.Fronts.{HasSize, SeesEnough};
 ghost use Rattle.case_queries.specs.Keeping.{AreKept};
 ghost use Rattle.case_queries.specs.Seeing.{IsKept};
 ghost use Rattle.case_queries.specs.Windows.{IsWanted, ReadsRange, SeesDump, SeesFor, most_for, part_at, part_bytes};
+ghost use Rattle.journal_layout.specs.Soundness.{case_numbered};
+ghost use Rattle.journal_layout.specs.Case.{Case};
 
 use crate::front::{read_up_to, see_front, size_of};
 use crate::kept_image::{KeptImage, see_image};
@@ -124,7 +124,7 @@ fn read_after<D: Disk>(
 ) -> Result<(), ArchiveFault>
     requires within { at ≤ length bytes.old }
     requires end { start + length bytes.old < 2 ^ 64 }
-    requires fits { (c : CaseFacts) → case_at seq (state_of archive.old).cases ≡ Some c → start + length bytes.old ≤ c.len }
+    requires fits { (c : Case) → case_numbered seq (state_of archive.old).cases ≡ Some c → start + length bytes.old ≤ c.len }
     ensures read { PartCall D.Disk archive.old seq (start + at) (length bytes.old - at) result (drop at bytes.new) archive.new }
     ensures before { take at bytes.new ≡ take at bytes.old }
 {

@@ -66,10 +66,10 @@ module _ {D E : Type 0} (g : disk.Ghosts D) (h : disk.Ghosts E) (one : OneWay) (
   begins : (slot : ℕ) (r : Result StreamFacts (List ℕ)) (accepted accepted' : Bool) → Begins g old slot r reply new accepted → Begins h old' slot r reply' new' accepted' → Agrees
   begins slot (Err reason) accepted accepted' (told, is, bad) (told', is', bad') = (told' ∙ sym told, held_still g h old new old' new' same is is')
   begins slot (Ok stream) accepted accepted' (r, call, told, good) (r', call', told', good') =
-      let d = begin_decided stream.name r reply told bound in
-      let d' = begin_decided stream.name r' reply' told' bound' in
+      let d = begin_decided stream.origin.name r reply told bound in
+      let d' = begin_decided stream.origin.name r' reply' told' bound' in
       let is = one.begin (state_of old) slot stream r r' (state_of new) (state_of new') call.step (subst (λ (s : ArchiveState). BeginStep s slot stream r' (state_of new')) same.state call'.step) d d' in (
-        told' ∙ ap (begin_reply stream.name) is.0 ∙ sym told,
+        told' ∙ ap (begin_reply stream.origin.name) is.0 ∙ sym told,
         holds is.1 (same_begun before before' after after' alike slot r call.bytes (subst (λ (q : Result (Unit {0}) ArchiveFault). BeginBytes before' slot q after') is.0 call'.bytes)),
       )
 

@@ -10,10 +10,11 @@ use Rattle.image_replies.specs.declared.core_image.CoreFault.{CoreFault}
 use Rattle.intake.specs.Contents.{Contents, image_at}
 use Rattle.intake.specs.OneAnswer.{IsDecided}
 use Rattle.intake.specs.Parts.{Parts, state_of, contents_of}
-use Rattle.intake.specs.State.{ArchiveState, CaseFacts}
-use Rattle.intake.specs.Step.{case_at}
+use Rattle.intake.specs.State.{ArchiveState}
 use Rattle.intake.specs.declared.faults.ArchiveFault.{ArchiveFault}
 use Rattle.intake.specs.declared.faults.ArchiveFault.TheVariants.{Stopped, NoCase, OutOfMemory, Disk}
+use Rattle.journal_layout.specs.Soundness.{case_numbered}
+use Rattle.journal_layout.specs.Case.{Case}
 use Rattle.journal_layout.specs.declared.entry.Kind.{Kind}
 use Rattle.case_queries.specs.Gathering.{Gathers, Wanted, wanted_of, with_executable}
 use Rattle.case_queries.specs.Inspecting.{Inspects, Asks, ShowsBy, ShowsBeside, ShowsCore, Told, ToldBeside, kind_asked, kind_found, reads_executables}
@@ -34,11 +35,11 @@ decided_as T U Disk x = x
 decided_as T U _ x = tt
 
 -- a case that has an image is there
-has_case : (seq : ℕ) (cases : List CaseFacts) (images : List (List ℕ)) (image : List ℕ) → image_at seq cases images ≡ Some image → case_at seq cases ≡ None → ⊥
+has_case : (seq : ℕ) (cases : List Case) (images : List (List ℕ)) (image : List ℕ) → image_at seq cases images ≡ Some image → case_numbered seq cases ≡ None → ⊥
 has_case seq [] images image is none = cc
 has_case seq (c ∷ cs) [] image is none = cc
 has_case seq (c ∷ cs) (i ∷ others) image is none =
-    (elim (c.seq == seq) as (λ t. cond t (Some i) (image_at seq cs others) ≡ Some image → cond t (Some c) (case_at seq cs) ≡ None → ⊥) [
+    (elim (c.seq == seq) as (λ t. cond t (Some i) (image_at seq cs others) ≡ Some image → cond t (Some c) (case_numbered seq cs) ≡ None → ⊥) [
       | true ↦ λ a b. cc
       | false ↦ λ a b. has_case seq cs others image a b
     ]) is none
@@ -48,7 +49,7 @@ record Unseen {D : Type 0} (g : disk.Ghosts D) (old : Parts D) (seq : ℕ) (f : 
   pub is : f ≡ NoCase
   pub state : state_of new ≡ state_of old
   pub contents : contents_of g.seen new ≡ contents_of g.seen old
-  pub none : case_at seq (state_of old).cases ≡ None
+  pub none : case_numbered seq (state_of old).cases ≡ None
 
 unseen : {D : Type 0} (g : disk.Ghosts D) (old new : Parts D) (seq : ℕ) (f : ArchiveFault) → IsTrue (g.is_honest old.disk) → (state_of old).stopped ≡ false → LooksAt g old seq (Err f) new → IsDecided {T = List ℕ} (Err f)
     → Unseen g old seq f new
@@ -71,8 +72,8 @@ module _ {D E : Type 0} (g : disk.Ghosts D) (h : disk.Ghosts E) where
   pub held_still : (old new : Parts D) (old' new' : Parts E) → HoldSame g h old old' → new ≡ old → new' ≡ old' → HoldSame g h new new'
   held_still old new old' new' same is is' = held_on old new old' new' same (ap state_of is) (ap (contents_of g.seen) is) (ap state_of is') (ap (contents_of h.seen) is')
 
-  no_such_case : (old : Parts D) (old' : Parts E) (seq : ℕ) → HoldSame g h old old' → case_at seq (state_of old').cases ≡ None → case_at seq (state_of old).cases ≡ None
-  no_such_case old old' seq same none = ap (λ (s : ArchiveState). case_at seq s.cases) (sym same.state) ∙ none
+  no_such_case : (old : Parts D) (old' : Parts E) (seq : ℕ) → HoldSame g h old old' → case_numbered seq (state_of old').cases ≡ None → case_numbered seq (state_of old).cases ≡ None
+  no_such_case old old' seq same none = ap (λ (s : ArchiveState). case_numbered seq s.cases) (sym same.state) ∙ none
 
   looks_agree : (old new : Parts D) (old' new' : Parts E) (seq : ℕ) (r r' : Result (List ℕ) ArchiveFault) → IsTrue (g.is_honest old.disk) → IsTrue (h.is_honest old'.disk) → HoldSame g h old old' → (state_of old).stopped ≡ false
       → LooksAt g old seq r new → LooksAt h old' seq r' new' → IsDecided r → IsDecided r' → (r' ≡ r) × HoldSame g h new new'
@@ -88,7 +89,7 @@ module _ {D E : Type 0} (g : disk.Ghosts D) (h : disk.Ghosts E) where
       absurd (has_case seq (state_of old).cases (contents_of g.seen old).images image (sees.own.bytes honest) (no_such_case old old' seq same u.none))
   looks_agree old new old' new' seq (Err f) (Ok image) honest honest' same runs call sees d d' =
       let u = unseen g old new seq f honest runs call d in
-      absurd (has_case seq (state_of old').cases (contents_of h.seen old').images image (sees.own.bytes honest') (ap (λ (s : ArchiveState). case_at seq s.cases) same.state ∙ u.none))
+      absurd (has_case seq (state_of old').cases (contents_of h.seen old').images image (sees.own.bytes honest') (ap (λ (s : ArchiveState). case_numbered seq s.cases) same.state ∙ u.none))
   looks_agree old new old' new' seq (Err f) (Err f') honest honest' same runs call call' d d' =
       let u = unseen g old new seq f honest runs call d in
       let u' = unseen h old' new' seq f' honest' (ap (λ (s : ArchiveState). s.stopped) same.state ∙ runs) call' d' in
@@ -161,7 +162,7 @@ module _ {D E : Type 0} (g : disk.Ghosts D) (h : disk.Ghosts E) where
   -- an archive that is asked is not stopped
   asked_runs : (s : ArchiveState) (seq : ℕ) (q : QuerySaid) (kind : Kind) → kind_asked s seq q ≡ Ok kind → s.stopped ≡ false
   asked_runs s seq q kind is =
-      ⊎_elim (λ (on : s.stopped ≡ true). absurd (let e : Err (codes "Stopped") ≡ Ok kind = sym (ap (λ (t : Bool). cond t (Err (codes "Stopped")) (kind_found q (case_at seq s.cases))) on) ∙ is in cc)) (λ off. off) (cases_Bool s.stopped)
+      ⊎_elim (λ (on : s.stopped ≡ true). absurd (let e : Err (codes "Stopped") ≡ Ok kind = sym (ap (λ (t : Bool). cond t (Err (codes "Stopped")) (kind_found q (case_numbered seq s.cases))) on) ∙ is in cc)) (λ off. off) (cases_Bool s.stopped)
 
   asks_agree : (old new : Parts D) (old' new' : Parts E) (seq : ℕ) (q : QuerySaid) (k : Result Kind (List ℕ)) (reply reply' : List ℕ) → IsTrue (g.is_honest old.disk) → IsTrue (h.is_honest old'.disk) → HoldSame g h old old'
       → kind_asked (state_of old) seq q ≡ k → Asks g old seq q k reply new → Asks h old' seq q k reply' new' → (IsFree reply → ⊥) → (IsFree reply' → ⊥) → (reply' ≡ reply) × HoldSame g h new new'

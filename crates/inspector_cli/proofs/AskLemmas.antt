@@ -8,7 +8,6 @@ use Rattle.std.specs.List.{flat_map}
 use Rattle.disk_model.specs.declared.disk.Disk as disk
 use Rattle.intake.specs.Marks.{FoundAfterAStop}
 use Rattle.intake.specs.Parts.{Parts}
-use Rattle.intake.specs.State.{CaseFacts}
 use Rattle.intake.specs.StayLaws.{stays_as}
 use Rattle.intake.specs.declared.faults.ArchiveFault.{ArchiveFault}
 use Rattle.intake.specs.declared.space.Space.{Space}
@@ -28,6 +27,7 @@ use Rattle.inspector_cli.specs.Asking.{line_streams}
 use Rattle.inspector_cli.specs.declared.session.LifeFault.TheVariants as life
 use Rattle.inspector_cli.specs.declared.session.SessionFault.TheVariants.{WriteFailed}
 use Rattle.inspector_cli.proofs.StageLemmas.{Laws, Reaches, stage_of, still, line_moves, found_after}
+use Rattle.journal_layout.specs.Case.{Case}
 
 -- the outcome of what was done, by its reply
 pub plain_outcome : (r : Result (Unit {0}) ArchiveFault) (done : Bool) → done ≡ is_ok r → IsOutcome done (plain_reply r)
@@ -49,7 +49,7 @@ free_outcome (Ok space) false is = absurd (false≢true is)
 free_outcome (Err f) true is = absurd (true≢false is)
 free_outcome (Err f) false is = (reason_of f, refl)
 
-pub list_outcome : (stopped : Bool) (version : ℕ) (cases : List CaseFacts) (done : Bool) → done ≡ not stopped → IsOutcome done (list_reply stopped version cases)
+pub list_outcome : (stopped : Bool) (version : ℕ) (cases : List Case) (done : Bool) → done ≡ not stopped → IsOutcome done (list_reply stopped version cases)
 list_outcome false version cases true is = (flat_map (case_line version) cases, refl)
 list_outcome false version cases false is = absurd (false≢true is)
 list_outcome true version cases true is = absurd (true≢false is)

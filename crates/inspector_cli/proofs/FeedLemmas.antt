@@ -45,12 +45,12 @@ module _ (old ws : List ℕ) (used : ℕ) (whole : used + length ws ≡ length o
   refilled_rest = ap (drop used) refilled_is ∙ ap (λ (n : ℕ). drop n (take used old ++ ws)) (sym front) ∙ drop-append_seam (take used old) ws
 
 -- a stream after its room was lent has taken what it had, and these stand behind it
-lent_taken : {D : Type 0} (a : Parts D) (b : List ℕ) (x : StreamParts) (ws : List ℕ) → x.len % 4096 + length ws ≡ length x.block
+lent_taken : {D : Type 0} (a : Parts D) (b : List ℕ) (x : StreamParts) (ws : List ℕ) → x.facts.len % 4096 + length ws ≡ length x.block
     → taken_in a.journal b (with_room ws x) ≡ record { bytes = (taken_in a.journal b x).bytes; free = ws }
 lent_taken a b x ws whole =
-    ap (λ (t : List ℕ). record { bytes = joined a.journal.standing.shape b x.blocks ++ t; free = drop (x.len % 4096) (refilled x.block (x.len % 4096) ws) })
-    (refilled_front x.block ws (x.len % 4096) whole)
-    ∙ ap (λ (f : List ℕ). record { bytes = (taken_in a.journal b x).bytes; free = f }) (refilled_rest x.block ws (x.len % 4096) whole)
+    ap (λ (t : List ℕ). record { bytes = joined a.journal.standing.shape b x.facts.blocks ++ t; free = drop (x.facts.len % 4096) (refilled x.block (x.facts.len % 4096) ws) })
+    (refilled_front x.block ws (x.facts.len % 4096) whole)
+    ∙ ap (λ (f : List ℕ). record { bytes = (taken_in a.journal b x).bytes; free = f }) (refilled_rest x.block ws (x.facts.len % 4096) whole)
 
 map_set : {X Y : Type 0} (f : X → Y) (xs : List X) (slot : ℕ) (x : X) → map f (slice_set xs slot x) ≡ slice_set (map f xs) slot (f x)
 map_set f [] slot x = refl
@@ -68,8 +68,8 @@ some_of f (Some x) y is = (x, refl, inside is)
     inside e = cc
 
 -- n bytes are the whole room of a stream that stands there
-fills_room : (x : StreamParts) (n : ℕ) → n ≡ length (drop (x.len % 4096) x.block) → 0 < n → x.len % 4096 + n ≡ length x.block
-fills_room x n is some = let e = length-drop (x.len % 4096) x.block in omega (arith, is, e, some)
+fills_room : (x : StreamParts) (n : ℕ) → n ≡ length (drop (x.facts.len % 4096) x.block) → 0 < n → x.facts.len % 4096 + n ≡ length x.block
+fills_room x n is some = let e = length-drop (x.facts.len % 4096) x.block in omega (arith, is, e, some)
 
 module _ {D : Type 0} (g : disk.Ghosts D) (begun a : Parts D) (slot : ℕ) (so_far ws : List ℕ) (u : Unit {0}) (taken : Takes g begun slot so_far (Ok tt) a)
     (long : length ws ≡ length (free_part (stream_at a.streams slot))) (some : 0 < length ws) where
@@ -88,7 +88,7 @@ module _ {D : Type 0} (g : disk.Ghosts D) (begun a : Parts D) (slot : ℕ) (so_f
       let at : stream_at (contents_of g.seen a).taken slot ≡ Some (record { bytes = b.0.bytes ++ so_far; free = b.1 }) =
       ap (λ (c : Contents). stream_at c.taken slot) b.3 ∙ set in
       let x = some_of (taken_in a.journal (g.seen a.disk)) (stream_at a.streams slot) _ (sym (at_mapped (taken_in a.journal (g.seen a.disk)) a.streams slot) ∙ at) in
-      let whole : x.0.len % 4096 + length ws ≡ length x.0.block = fills_room x.0 (length ws) (long ∙ ap (λ (o : Option StreamParts). length (free_part o)) x.1) some in
+      let whole : x.0.facts.len % 4096 + length ws ≡ length x.0.block = fills_room x.0 (length ws) (long ∙ ap (λ (o : Option StreamParts). length (free_part o)) x.1) some in
       let one : taken_in a.journal (g.seen a.disk) (with_room ws x.0) ≡ record { bytes = b.0.bytes ++ so_far; free = ws } =
       lent_taken a (g.seen a.disk) x.0 ws whole ∙ ap (λ (t : Taken). record { bytes = t.bytes; free = ws }) x.2 in
       let slots : (contents_of g.seen lent).taken ≡ slice_set (contents_of g.seen begun).taken slot (Some (record { bytes = b.0.bytes ++ so_far; free = ws })) =

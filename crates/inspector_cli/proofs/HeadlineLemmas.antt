@@ -10,14 +10,14 @@ use Rattle.disk_model.specs.Moments.{LeavesOnly}
 use Rattle.disk_model.specs.declared.disk.Disk as disk
 use Rattle.intake.specs.Calls.{ChangesNoCase, OpenCall}
 use Rattle.intake.specs.Contents.{Taken}
-use Rattle.intake.specs.Durable.{Durable, durable_of}
+use Rattle.intake.specs.Durable.{Durable, durable_of, found_case}
 use Rattle.intake.specs.Marks.{NothingElseIsLeft, IsRunOfMarks, IsMarkSettled, IsFoundSince}
 use Rattle.intake.specs.Parts.{Parts, state_of}
 use Rattle.intake.specs.Growth.{IsDiskFault}
 use Rattle.intake.specs.QuietLaws.{quiet_then}
 use Rattle.intake.specs.Slots.{stream_at}
-use Rattle.intake.specs.State.{CaseFacts, StreamFacts}
-use Rattle.intake.specs.Step.{DeleteStep, FinishStep, case_at}
+use Rattle.intake.specs.State.{StreamFacts}
+use Rattle.intake.specs.Step.{DeleteStep, FinishStep}
 use Rattle.intake.specs.Step as step
 use Rattle.retention.specs.Rule.{IsDecision}
 use Rattle.retention.specs.declared.Brief.{Brief}
@@ -52,6 +52,8 @@ use Rattle.inspector_cli.proofs.ToldLemmas.{EndsAs, all_told, session_of, whole_
 use Rattle.inspector_cli.proofs.KeptLemmas.{LastingLaws}
 use Rattle.inspector_cli.proofs.FoundLemmas.{Stands, answer_stands}
 use Rattle.inspector_cli.proofs.StageLemmas.{begins_stays, truncates_stays, broken_stays}
+use Rattle.journal_layout.specs.Soundness.{case_numbered}
+use Rattle.journal_layout.specs.Case.{Case}
 
 module _ {D : Type 0} (g : disk.Ghosts D) (naming : Naming) (lasts : LastingLaws g) (stays : (d : D) → IsTrue (g.is_honest d) → g.may_leave d (g.seen d)) where
   abbrev pub held : Parts D → Durable
@@ -70,11 +72,11 @@ module _ {D : Type 0} (g : disk.Ghosts D) (naming : Naming) (lasts : LastingLaws
   begun_there earlier old slot s begun runs at =
       ⊎_elim (λ stopped. absurd (false≢true (sym runs ∙ stopped))) (λ holds. sym holds ∙ ap (option_map empty_stream) at) begun
 
-  flag_there : (old : Parts D) (seq : ℕ) (c : CaseFacts) → case_at seq (state_of old).cases ≡ Some c → (flag : Bool) → c.pinned ≡ flag → HasFlag (held old) seq flag
-  flag_there old seq c at flag is = let f = is_found old.journal.standing.shape (g.seen old.disk) old.journal.standing.cases seq c at in (f.case, f.among, f.number, f.pinned ∙ is)
+  flag_there : (old : Parts D) (seq : ℕ) (c : Case) → case_numbered seq (state_of old).cases ≡ Some c → (flag : Bool) → c.pinned ≡ flag → HasFlag (held old) seq flag
+  flag_there old seq c at flag is = let f = is_found old.journal.standing.shape (g.seen old.disk) old.journal.standing.cases seq c at in (found_case old.journal.standing.shape (g.seen old.disk) c, f.0, f.1, is)
 
-  label_there : (old : Parts D) (seq : ℕ) (c : CaseFacts) → case_at seq (state_of old).cases ≡ Some c → (text : List ℕ) → c.label ≡ text → HasLabel (held old) seq text
-  label_there old seq c at text is = let f = is_found old.journal.standing.shape (g.seen old.disk) old.journal.standing.cases seq c at in (f.case, f.among, f.number, f.label ∙ is)
+  label_there : (old : Parts D) (seq : ℕ) (c : Case) → case_numbered seq (state_of old).cases ≡ Some c → (text : List ℕ) → c.label ≡ text → HasLabel (held old) seq text
+  label_there old seq c at text is = let f = is_found old.journal.standing.shape (g.seen old.disk) old.journal.standing.cases seq c at in (found_case old.journal.standing.shape (g.seen old.disk) c, f.0, f.1, is)
 
   decided : (old : Parts D) (policy : Policy) (dropped : List ℕ) (unmet : Bool) → IsDecision policy (map step.brief_of (state_of old).cases) dropped unmet → IsDecision policy (map brief_of (held old).cases) dropped unmet
   decided old policy dropped unmet decision =

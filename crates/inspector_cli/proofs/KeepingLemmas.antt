@@ -6,9 +6,9 @@ use Rattle.std.proofs.lemmas.Bool.Decides.{eqb_tells}
 use Rattle.std.specs.Prelude.{codes, IsTrue}
 use Rattle.std.specs.List.{AllByRecursion}
 use Rattle.disk_model.specs.declared.disk.Disk as disk
-use Rattle.journal_layout.specs.Folding.{is_among}
+use Rattle.journal_layout.specs.Folding.{is_among, pinned_as, labelled_as}
 use Rattle.journal_layout.specs.Soundness.{Rise}
-use Rattle.intake.specs.Durable.{Durable, FoundCase, without, flagged, labelled, with_case}
+use Rattle.intake.specs.Durable.{Durable, FoundCase, without, flagged, labelled, with_case, made_of}
 use Rattle.intake.specs.Lasting.{HasNumbers, NumbersAreAbove, number_of}
 use Rattle.intake.specs.Lives.{IsAmong}
 use Rattle.intake.specs.Marks.{IsOneOf}
@@ -35,36 +35,32 @@ module _ (k : Kept) where
   same : (x y : Durable) → y ≡ x → Holds x → Holds y
   same x y is holds = subst Holds (sym is) holds
 
-  with_case_holds : (x : Durable) (s : StreamFacts) (runs : ℕ) (image : List ℕ) → Holds x → Holds (with_case x s runs image)
-  with_case_holds x s runs image (c, among, is) = (c, among_more x.cases _ c among, is)
+  with_case_holds : (x : Durable) (s : StreamFacts) (blocks image : List ℕ) → Holds x → Holds (with_case x s blocks image)
+  with_case_holds x s blocks image (c, among, is) = (c, among_more x.cases _ c among, is)
 
   without_holds : (x : Durable) (seqs : List ℕ) → is_among seqs k.seq ≡ false → Holds x → Holds (without x seqs)
   without_holds x seqs apart (c, among, is) =
-      (c, among_filtered (λ (d : FoundCase). not (is_among seqs d.seq)) x.cases c among (ap not (ap (is_among seqs) is.number ∙ apart)), is)
+      (c, among_filtered (λ (d : FoundCase). not (is_among seqs d.case.seq)) x.cases c among (ap not (ap (is_among seqs) is.number ∙ apart)), is)
 
-  flag_set : (t flag : Bool) (c : FoundCase) → IsKeptAs k c → IsKeptAs k (cond t (record c { pinned = flag }) c)
-  flag_set true flag c is = record { number = is.number; kind = is.kind; name = is.name; pid = is.pid; signal = is.signal; time = is.time; bytes = is.bytes; labelled = is.labelled }
+  flag_set : (t flag : Bool) (c : FoundCase) → IsKeptAs k c → IsKeptAs k (record c { case = cond t (record c.case { pinned = flag }) c.case })
+  flag_set true flag c is = record { number = is.number; origin = is.origin; bytes = is.bytes; labelled = is.labelled }
   flag_set false flag c is = is
 
   flagged_holds : (x : Durable) (seq : ℕ) (flag : Bool) → Holds x → Holds (flagged x seq flag)
   flagged_holds x seq flag (c, among, is) = (
-    cond (c.seq == seq) (record c { pinned = flag }) c,
-    among_mapped (λ (d : FoundCase). cond (d.seq == seq) (record d { pinned = flag }) d) x.cases c among,
-    flag_set (c.seq == seq) flag c is,
+    made_of (pinned_as seq flag) c,
+    among_mapped (made_of (pinned_as seq flag)) x.cases c among,
+    flag_set (c.case.seq == seq) flag c is,
   )
 
   -- the label of another case, or of this one if none is named
   abbrev IsLeft : ℕ → Type 0
   IsLeft seq = (k.label ≡ None) ⊎ (seq ≡ k.seq → ⊥)
 
-  label_set : (t : Bool) (text : List ℕ) (c : FoundCase) → (t ≡ true → k.label ≡ None) → IsKeptAs k c → IsKeptAs k (cond t (record c { label = text }) c)
+  label_set : (t : Bool) (text : List ℕ) (c : FoundCase) → (t ≡ true → k.label ≡ None) → IsKeptAs k c → IsKeptAs k (record c { case = cond t (record c.case { label = text }) c.case })
   label_set true text c unnamed is = record {
     number = is.number;
-    kind = is.kind;
-    name = is.name;
-    pid = is.pid;
-    signal = is.signal;
-    time = is.time;
+    origin = is.origin;
     bytes = is.bytes;
     labelled = subst (λ (o : Option (List ℕ)). HasThisLabel o text) (sym (unnamed refl)) tt;
   }
@@ -72,15 +68,15 @@ module _ (k : Kept) where
 
   labelled_holds : (x : Durable) (seq : ℕ) (text : List ℕ) → IsLeft seq → Holds x → Holds (labelled x seq text)
   labelled_holds x seq text spared (c, among, is) = (
-    cond (c.seq == seq) (record c { label = text }) c,
-    among_mapped (λ (d : FoundCase). cond (d.seq == seq) (record d { label = text }) d) x.cases c among,
-    label_set (c.seq == seq) text c unnamed is,
+    made_of (labelled_as seq text) c,
+    among_mapped (made_of (labelled_as seq text)) x.cases c among,
+    label_set (c.case.seq == seq) text c unnamed is,
   )
     where
-      unnamed : (c.seq == seq) ≡ true → k.label ≡ None
+      unnamed : (c.case.seq == seq) ≡ true → k.label ≡ None
       unnamed hit =
           ⊎_elim (λ none. none)
-          (λ apart. ⊎_elim (λ h. absurd (apart (sym h.1 ∙ is.number))) (λ h. absurd (false≢true (sym h.0 ∙ hit))) (eqb_tells c.seq seq)) spared
+          (λ apart. ⊎_elim (λ h. absurd (apart (sym h.1 ∙ is.number))) (λ h. absurd (false≢true (sym h.0 ∙ hit))) (eqb_tells c.case.seq seq)) spared
 
   module _ (begins : Said → Option StreamFacts) where
     label_left : (seq : ℕ) (text reply : List ℕ) → (reply ≡ ok_reply) ⊎ (reply ≡ no_reply (codes "Disk")) → Spares k (label_of seq text) reply → IsLeft seq
@@ -215,7 +211,7 @@ module _ {D : Type 0} (g : disk.Ghosts D) (k : Kept) where
   module _ (asked : Option Policy) (found : Result StreamFacts (List ℕ)) (given file file' : Option (List ℕ)) (c : StoreCourse D) (is : IsStoreCourse asked found given file file' c) where
     case_stays : (stored : Option ℕ) (x y : Durable) → StoresOrNot found file file' x stored y → HoldsKept k x → HoldsKept k y
     case_stays None x y stores holds = same k x y stores holds
-    case_stays (Some n) x y stores holds = same k (with_case x (record stores.stream { len = length stores.image }) stores.runs stores.image) y stores.adds (with_case_holds k x (record stores.stream { len = length stores.image }) stores.runs stores.image holds)
+    case_stays (Some n) x y stores holds = same k (with_case x (record stores.stream { len = length stores.image }) stores.blocks stores.image) y stores.adds (with_case_holds k x (record stores.stream { len = length stores.image }) stores.blocks stores.image holds)
 
     ended_holds : IsHeldAt k c.room → IsHeldAt k c.ended
     ended_holds held =
@@ -289,21 +285,21 @@ ok_apart : (reason : List ℕ) → ok_reply ≡ no_reply reason → ⊥
 ok_apart reason is = eqb-false (first_of ok_reply) (first_of (no_reply reason)) refl (ap first_of is)
 
 -- cases have numbers of their own
-above : (last : ℕ) (xs : List FoundCase) (d : FoundCase) → Rise last (map number_of xs) → IsAmong xs d → last < d.seq
+above : (last : ℕ) (xs : List FoundCase) (d : FoundCase) → Rise last (map number_of xs) → IsAmong xs d → last < d.case.seq
 above last [] d rise among = absurd among
 above last (x ∷ xs) d rise among =
-    ⊎_elim (λ is. subst (λ (c : FoundCase). last < c.seq) (sym is) rise.0) (λ more. let later = above x.seq xs d rise.1 more in omega (arith, rise.0, later)) among
+    ⊎_elim (λ is. subst (λ (c : FoundCase). last < c.case.seq) (sym is) rise.0) (λ more. let later = above x.case.seq xs d rise.1 more in omega (arith, rise.0, later)) among
 
-only_one : (last : ℕ) (xs : List FoundCase) (c d : FoundCase) → Rise last (map number_of xs) → IsAmong xs c → IsAmong xs d → c.seq ≡ d.seq → c ≡ d
+only_one : (last : ℕ) (xs : List FoundCase) (c d : FoundCase) → Rise last (map number_of xs) → IsAmong xs c → IsAmong xs d → c.case.seq ≡ d.case.seq → c ≡ d
 only_one last [] c d rise first second is = absurd first
 only_one last (x ∷ xs) c d rise first second is =
     ⊎_elim
     (λ here.
     ⊎_elim (λ there. here ∙ sym there)
-    (λ more. (let later = above x.seq xs d rise.1 more in let number : c.seq ≡ x.seq = ap (λ (e : FoundCase). e.seq) here in absurd (omega (arith, later, number, is)))) second)
+    (λ more. (let later = above x.case.seq xs d rise.1 more in let number : c.case.seq ≡ x.case.seq = ap (λ (e : FoundCase). e.case.seq) here in absurd (omega (arith, later, number, is)))) second)
     (λ more.
-    ⊎_elim (λ there. (let later = above x.seq xs c rise.1 more in let number : d.seq ≡ x.seq = ap (λ (e : FoundCase). e.seq) there in absurd (omega (arith, later, number, is))))
-    (λ rest. only_one x.seq xs c d rise.1 more rest is) second)
+    ⊎_elim (λ there. (let later = above x.case.seq xs c rise.1 more in let number : d.case.seq ≡ x.case.seq = ap (λ (e : FoundCase). e.case.seq) there in absurd (omega (arith, later, number, is))))
+    (λ rest. only_one x.case.seq xs c d rise.1 more rest is) second)
     first
 
 module _ {D : Type 0} (g : disk.Ghosts D) (numbers : NumbersAreAbove) where
@@ -320,14 +316,14 @@ module _ {D : Type 0} (g : disk.Ghosts D) (numbers : NumbersAreAbove) where
       let none : leads.doubts ≡ [] = ⊎_elim (λ is. is) (λ would. absurd (apart would.0)) leads.doubted in
       leads.in_doubt ∙ ap (λ (ds : List Durable). ds ++ old.in_doubt) none ∙ clear
 
-  label_held : (t : Bool) (k : Kept) (text : List ℕ) (c : FoundCase) → t ≡ true → IsKeptAs k c → IsKeptAs (relabelled k text) (cond t (record c { label = text }) c)
-  label_held true k text c set is = record { number = is.number; kind = is.kind; name = is.name; pid = is.pid; signal = is.signal; time = is.time; bytes = is.bytes; labelled = refl }
+  label_held : (t : Bool) (k : Kept) (text : List ℕ) (c : FoundCase) → t ≡ true → IsKeptAs k c → IsKeptAs (relabelled k text) (record c { case = cond t (record c.case { label = text }) c.case })
+  label_held true k text c set is = record { number = is.number; origin = is.origin; bytes = is.bytes; labelled = refl }
   label_held false k text c set is = absurd (false≢true set)
 
-  label_there : (k : Kept) (text : List ℕ) (c d : FoundCase) → c ≡ d → d.label ≡ text → IsKeptAs k c → IsKeptAs (relabelled k text) d
+  label_there : (k : Kept) (text : List ℕ) (c d : FoundCase) → c ≡ d → d.case.label ≡ text → IsKeptAs k c → IsKeptAs (relabelled k text) d
   label_there k text c d same label is =
       let there : IsKeptAs k d = subst (IsKeptAs k) same is in
-      record { number = there.number; kind = there.kind; name = there.name; pid = there.pid; signal = there.signal; time = there.time; bytes = there.bytes; labelled = label }
+      record { number = there.number; origin = there.origin; bytes = there.bytes; labelled = label }
 
   label_given : (k : Kept) (text : List ℕ) (begins : Said → Option StreamFacts) (earlier : List Answer) (old new : Moment D) → LeadsOn begins earlier old (label_of k.seq text) ok_reply new → HasNumbers old.holds → HoldsKept k old.holds
       → old.in_doubt ≡ [] → HoldsKept (relabelled k text) new.holds × (new.in_doubt ≡ [])
@@ -336,9 +332,9 @@ module _ {D : Type 0} (g : disk.Ghosts D) (numbers : NumbersAreAbove) where
         (λ does.
         ⊎_elim
         (λ set. subst (HoldsKept (relabelled k text)) (sym set) (
-          cond (c.seq == k.seq) (record c { label = text }) c,
-          among_mapped (λ (d : FoundCase). cond (d.seq == k.seq) (record d { label = text }) d) old.holds.cases c among,
-          label_held (c.seq == k.seq) k text c (⊎_elim (λ h. h.0) (λ h. absurd (h.1 is.number)) (eqb_tells c.seq k.seq)) is,
+          made_of (labelled_as k.seq text) c,
+          among_mapped (made_of (labelled_as k.seq text)) old.holds.cases c among,
+          label_held (c.case.seq == k.seq) k text c (⊎_elim (λ h. h.0) (λ h. absurd (h.1 is.number)) (eqb_tells c.case.seq k.seq)) is,
         ))
         (λ stays. subst (HoldsKept (relabelled k text)) (sym stays.1) (
           stays.0.0,
@@ -366,7 +362,7 @@ module _ {D : Type 0} (g : disk.Ghosts D) (numbers : NumbersAreAbove) where
         does.5,
         refl,
         subst (HoldsKept (record { seq = old.holds.next; stream = does.0; image = does.3; label = Some [] })) (sym does.7)
-            (_, among_last old.holds.cases _, record { number = refl; kind = refl; name = refl; pid = refl; signal = refl; time = refl; bytes = refl; labelled = refl }),
+            (_, among_last old.holds.cases _, record { number = refl; origin = refl; bytes = refl; labelled = refl }),
         clear_after begins earlier old new (end_of slot) reply leads (λ no. stored_apart told (codes "Disk") (sym is ∙ no)) clear,
       )))
       (λ no. absurd (stored_apart told no.0 (sym is ∙ no.1))) leads.leads
@@ -424,7 +420,7 @@ module _ {D : Type 0} (g : disk.Ghosts D) (numbers : NumbersAreAbove) where
         a.read,
         refl,
         subst (HoldsKept (record { seq = n; stream = a.stream; image = a.image; label = Some [] })) (sym a.adds)
-            (_, among_last s.course.room.holds.cases _, record { number = sym a.number; kind = refl; name = refl; pid = refl; signal = refl; time = refl; bytes = refl; labelled = refl }),
+            (_, among_last s.course.room.holds.cases _, record { number = sym a.number; origin = refl; bytes = refl; labelled = refl }),
         s.is.in_doubt ∙ ap (λ (ds : List Durable). ds ++ s.course.room.in_doubt) none ∙ s.is.sure n stored,
       )
 

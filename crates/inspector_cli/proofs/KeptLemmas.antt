@@ -5,9 +5,9 @@ use Rattle.std.proofs.lemmas.Bool.Decides.{eqb_tells}
 use Rattle.std.specs.Prelude.{codes, ◌||◌, IsTrue}
 use Rattle.std.specs.List.{filter, flat_map, AllByRecursion}
 use Rattle.disk_model.specs.declared.disk.Disk as disk
-use Rattle.journal_layout.specs.Folding.{is_among}
+use Rattle.journal_layout.specs.Folding.{is_among, pinned_as, labelled_as}
 use Rattle.intake.specs.Calls.{ChangesNoCase}
-use Rattle.intake.specs.Durable.{Durable, FoundCase, durable_of, without, flagged, labelled, with_case}
+use Rattle.intake.specs.Durable.{Durable, FoundCase, durable_of, without, flagged, labelled, with_case, made_of}
 use Rattle.intake.specs.Lasts.{FinishLasts, DeleteLasts, PinLasts, LabelLasts, UpgradeLasts, RetireLasts, RefusalsLast}
 use Rattle.intake.specs.Lives.{IsAmong}
 use Rattle.intake.specs.Marks.{Mark, mark_of}
@@ -94,27 +94,27 @@ has_line n (seq ∷ seqs) rest among =
     (eqb_tells n seq)
 
 module _ (n : ℕ) (bytes : List ℕ) where
-  pub with_case_keeps : (x : Durable) (s : StreamFacts) (runs : ℕ) (image : List ℕ) → HasImage n bytes x → HasImage n bytes (with_case x s runs image)
-  with_case_keeps x s runs image (c, among, seq, is) = (c, among_more x.cases _ c among, seq, is)
+  pub with_case_keeps : (x : Durable) (s : StreamFacts) (blocks image : List ℕ) → HasImage n bytes x → HasImage n bytes (with_case x s blocks image)
+  with_case_keeps x s blocks image (c, among, seq, is) = (c, among_more x.cases _ c among, seq, is)
 
   without_keeps : (x : Durable) (seqs : List ℕ) → is_among seqs n ≡ false → HasImage n bytes x → HasImage n bytes (without x seqs)
   without_keeps x seqs apart (c, among, seq, is) =
-      (c, among_filtered (λ (d : FoundCase). not (is_among seqs d.seq)) x.cases c among (ap not (ap (is_among seqs) seq ∙ apart)), seq, is)
+      (c, among_filtered (λ (d : FoundCase). not (is_among seqs d.case.seq)) x.cases c among (ap not (ap (is_among seqs) seq ∙ apart)), seq, is)
 
   flagged_keeps : (x : Durable) (seq : ℕ) (flag : Bool) → HasImage n bytes x → HasImage n bytes (flagged x seq flag)
   flagged_keeps x number flag (c, among, seq, is) = (
-    cond (c.seq == number) (record c { pinned = flag }) c,
-    among_mapped (λ (d : FoundCase). cond (d.seq == number) (record d { pinned = flag }) d) x.cases c among,
-    (elim (c.seq == number) as (λ t. (cond t (record c { pinned = flag }) c).seq ≡ n) [ true ↦ seq | false ↦ seq ]),
-    (elim (c.seq == number) as (λ t. (cond t (record c { pinned = flag }) c).image ≡ bytes) [ true ↦ is | false ↦ is ]),
+    made_of (pinned_as number flag) c,
+    among_mapped (made_of (pinned_as number flag)) x.cases c among,
+    (elim (c.case.seq == number) as (λ t. (cond t (record c.case { pinned = flag }) c.case).seq ≡ n) [ true ↦ seq | false ↦ seq ]),
+    is,
   )
 
   labelled_keeps : (x : Durable) (seq : ℕ) (label : List ℕ) → HasImage n bytes x → HasImage n bytes (labelled x seq label)
   labelled_keeps x number label (c, among, seq, is) = (
-    cond (c.seq == number) (record c { label = label }) c,
-    among_mapped (λ (d : FoundCase). cond (d.seq == number) (record d { label = label }) d) x.cases c among,
-    (elim (c.seq == number) as (λ t. (cond t (record c { label = label }) c).seq ≡ n) [ true ↦ seq | false ↦ seq ]),
-    (elim (c.seq == number) as (λ t. (cond t (record c { label = label }) c).image ≡ bytes) [ true ↦ is | false ↦ is ]),
+    made_of (labelled_as number label) c,
+    among_mapped (made_of (labelled_as number label)) x.cases c among,
+    (elim (c.case.seq == number) as (λ t. (cond t (record c.case { label = label }) c.case).seq ≡ n) [ true ↦ seq | false ↦ seq ]),
+    is,
   )
 
   module _ {D : Type 0} (g : disk.Ghosts D) (lasts : LastingLaws g) (naming : Naming) where

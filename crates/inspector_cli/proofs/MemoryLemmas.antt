@@ -7,7 +7,7 @@ use Rattle.journal_layout.specs.Stands.{Stands}
 use Rattle.journal_layout.specs.declared.shape.Half.TheVariants.{A}
 use Rattle.journal_layout.specs.declared.shape.Shape.{Shape}
 use Rattle.intake.specs.Durable.{StandsFor, durable_in}
-use Rattle.intake.specs.Parts.{Parts, StreamParts, case_facts, stream_facts}
+use Rattle.intake.specs.Parts.{Parts, StreamParts, stream_facts}
 use Rattle.intake.specs.State.{ArchiveState}
 use Rattle.journal_layout.specs.Layout.{IsWithinLimits}
 use Rattle.stream_names.specs.declared.naming.Naming.{Naming}
@@ -24,7 +24,7 @@ state_from s limit streams stopped = record {
   shape = s.shape;
   version = s.version;
   limit = limit;
-  cases = map case_facts s.cases;
+  cases = s.cases;
   next = s.next;
   used = s.used;
   generation = s.generation;

@@ -33,8 +33,8 @@ retired_runs old new policy name (Err f) step free is = absurd (true≢false is)
 module _ {D : Type 0} (g : disk.Ghosts D) where
   -- over an archive without streams, where no case has the name
   begun_or_memory : (room mid : Parts D) (stream : StreamFacts) (first : List ℕ) (accepted : Bool) (r : Result (Unit {0}) ArchiveFault)
-      → (state_of room).streams ≡ replicate 8 None → (state_of room).stopped ≡ false → is_named stream.name (state_of room).cases ≡ false
-      → BeginCall g room 0 stream r mid → first ≡ begin_reply stream.name r → accepted ≡ is_ok r
+      → (state_of room).streams ≡ replicate 8 None → (state_of room).stopped ≡ false → is_named stream.origin.name (state_of room).cases ≡ false
+      → BeginCall g room 0 stream r mid → first ≡ begin_reply stream.origin.name r → accepted ≡ is_ok r
       → (accepted ≡ true) ⊎ (first ≡ no_reply (codes "OutOfMemory"))
   begun_or_memory room mid stream first accepted (Ok u) none runs free call told is = inl is
   begun_or_memory room mid stream first accepted (Err fault.OutOfMemory) none runs free call told is = inr told
@@ -46,22 +46,22 @@ module _ {D : Type 0} (g : disk.Ghosts D) where
   begun_or_memory room mid stream first accepted (Err fault.SlotBusy) none runs free call told is =
       absurd (call.step.2 (ap (λ (xs : List (Option StreamFacts)). stream_at xs 0) none))
   begun_or_memory room mid stream first accepted (Err fault.NameTaken) none runs free call told is =
-      let of_cases : is_taken (state_of room) stream.name ≡ list_any (has_name stream.name) (state_of room).streams = ap (λ (b : Bool). b || list_any (has_name stream.name) (state_of room).streams) free in
-      let of_streams : list_any (has_name stream.name) (state_of room).streams ≡ false = ap (list_any (has_name stream.name)) none in
+      let of_cases : is_taken (state_of room) stream.origin.name ≡ list_any (has_name stream.origin.name) (state_of room).streams = ap (λ (b : Bool). b || list_any (has_name stream.origin.name) (state_of room).streams) free in
+      let of_streams : list_any (has_name stream.origin.name) (state_of room).streams ≡ false = ap (list_any (has_name stream.origin.name)) none in
       absurd (true≢false (sym call.step.3 ∙ of_cases ∙ of_streams))
   begun_or_memory room mid stream first accepted (Err _) none runs free call told is = absurd call.step
 
   -- where a case has the name
-  not_begun : (room mid : Parts D) (stream : StreamFacts) (accepted : Bool) (r : Result (Unit {0}) ArchiveFault) → is_named stream.name (state_of room).cases ≡ true
+  not_begun : (room mid : Parts D) (stream : StreamFacts) (accepted : Bool) (r : Result (Unit {0}) ArchiveFault) → is_named stream.origin.name (state_of room).cases ≡ true
       → BeginCall g room 0 stream r mid → accepted ≡ is_ok r → accepted ≡ false
   not_begun room mid stream accepted (Ok u) named call is =
-      let taken : is_taken (state_of room) stream.name ≡ true = ap (λ (b : Bool). b || list_any (has_name stream.name) (state_of room).streams) named in
+      let taken : is_taken (state_of room) stream.origin.name ≡ true = ap (λ (b : Bool). b || list_any (has_name stream.origin.name) (state_of room).streams) named in
       absurd (true≢false (sym taken ∙ call.step.0.3))
   not_begun room mid stream accepted (Err f) named call is = is
 
   -- room for a stream of this name is room for that stream
   pub room_for_named : (old new : Parts D) (asked : Option Policy) (policy : Policy) (stream : StreamFacts) (told : List ℕ) (made : Bool) → asked ≡ Some policy
-      → MakesRoomNamed g old policy stream.name told new made → MakesRoomFor g old asked (Ok stream) told new made
+      → MakesRoomNamed g old policy stream.origin.name told new made → MakesRoomFor g old asked (Ok stream) told new made
   room_for_named old new asked policy stream told made is (inl kept) = record {
     policy = None;
     chosen = inr (policy, is, (kept.3, kept.4));
@@ -101,7 +101,7 @@ module _ {D : Type 0} (g : disk.Ghosts D) where
   refused_then : (old room mid : Parts D) (policy : Policy) (found : Result StreamFacts (List ℕ)) (first : List ℕ) (accepted : Bool) → room ≡ old → CannotBegin (state_of old) policy found
       → Begins g room 0 found first mid accepted → accepted ≡ false
   refused_then old room mid policy (Ok stream) first accepted same cannot begins =
-      not_begun room mid stream accepted begins.0 (ap (λ (a : Parts D). is_named stream.name (state_of a).cases) same ∙ cannot.1) begins.1 begins.3
+      not_begun room mid stream accepted begins.0 (ap (λ (a : Parts D). is_named stream.origin.name (state_of a).cases) same ∙ cannot.1) begins.1 begins.3
   refused_then old room mid policy (Err reason) first accepted same cannot begins = begins.2
 
   made_streams : (old room : Parts D) (policy : Option Policy) (told : List ℕ) (made : Bool) → MakesRoom g old policy told room made → made ≡ true → (state_of room).streams ≡ (state_of old).streams

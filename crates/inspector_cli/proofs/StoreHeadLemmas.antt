@@ -11,12 +11,12 @@ use Rattle.intake.specs.declared.faults.ArchiveFault.{ArchiveFault}
 use Rattle.intake.specs.StayLaws.{stays_as, stays_then}
 use Rattle.intake.specs.Calls.{ChangesNoCase, OpenCall, BeginCall, AbandonCall, FinishCall}
 use Rattle.intake.specs.Contents.{Contents, Taken, empty_taken}
-use Rattle.intake.specs.Durable.{Durable, durable_of, labelled, with_case}
+use Rattle.intake.specs.Durable.{Durable, durable_of, labelled, with_case, found_case}
 use Rattle.intake.specs.Guarding.{MayBeStored}
 use Rattle.intake.specs.Marks.{FoundAfterAStop, NothingElseIsLeft, IsRunOfMarks, IsMarkSettled}
 use Rattle.intake.specs.Parts.{Parts, state_of, contents_of}
 use Rattle.intake.specs.Slots.{stream_at}
-use Rattle.intake.specs.State.{ArchiveState, CaseFacts, StreamFacts}
+use Rattle.intake.specs.State.{ArchiveState, StreamFacts}
 use Rattle.intake.specs.Step.{HasCase, longer}
 use Rattle.intake.specs.Step as step
 use Rattle.retention.specs.Rule.{IsDecision}
@@ -49,6 +49,7 @@ use Rattle.inspector_cli.proofs.SlotLemmas.{some_same}
 use Rattle.inspector_cli.proofs.SafeLemmas.{are_safe, leads_on, moment, since_opening}
 use Rattle.inspector_cli.proofs.StageLemmas.{Laws, Reaches, stage_of, begins_stays, ends_moves}
 use Rattle.inspector_cli.proofs.StoreLemmas.{room_moves, label_moves}
+use Rattle.journal_layout.specs.Case.{Case}
 
 -- what stands in a slot that was set is what was put there
 set_is : {X : Type 0} (xs : List (Option X)) (slot : ℕ) (a x : X) → stream_at (slice_set xs slot (Some a)) slot ≡ Some x → x ≡ a
@@ -119,7 +120,7 @@ module _ {D : Type 0} (g : disk.Ghosts D) (lasts : LastingLaws g) where
     image = takes.0;
     read = takes.1;
     whole = takes.2;
-    runs = may.0;
+    blocks = may.0;
     number = number;
     adds =
         may.1.5
@@ -210,7 +211,7 @@ module _ {D : Type 0} (g : disk.Ghosts D) (lasts : LastingLaws g) where
       subst (λ (bs : List Brief). IsDecision policy bs dropped unmet) (briefs_are old.journal.standing.shape (g.seen old.disk) old.journal.standing.cases) decision
 
   label_set : (old new : Parts D) (seq : ℕ) (label told : List ℕ) → told ≡ ok_reply
-      → (c : CaseFacts) × HasCase (state_of old) seq c
+      → (c : Case) × HasCase (state_of old) seq c
       × (((c.label ≡ label) × (durable_of g.seen new ≡ durable_of g.seen old)) ⊎ ((c.label ≢ label) × (durable_of g.seen new ≡ labelled (durable_of g.seen old) seq label)))
       → Leads no_stream [] (label_of seq label) told (durable_of g.seen old) (durable_of g.seen new)
   label_set old new seq label told is p =
@@ -219,7 +220,7 @@ module _ {D : Type 0} (g : disk.Ghosts D) (lasts : LastingLaws g) where
         ⊎_elim
             (λ same.
             (let f = is_found old.journal.standing.shape (g.seen old.disk) old.journal.standing.cases seq p.0 p.1.1 in
-            inr ((f.case, f.among, f.number, f.label ∙ same.0), same.1)))
+            inr ((found_case old.journal.standing.shape (g.seen old.disk) p.0, f.0, f.1, same.0), same.1)))
             (λ set. inl set.1) p.2,
       )
 

@@ -8,7 +8,6 @@ use Rattle.case_journal.specs.Viewing.{OnlyReads}
 use Rattle.intake.specs.Contents.{image_at}
 use Rattle.intake.specs.Parts.{Parts, state_of, contents_of}
 use Rattle.intake.specs.Ranges.{Locates, RangesReply}
-use Rattle.intake.specs.State.{CaseFacts}
 use Rattle.intake.specs.Step.{HasCase}
 use Rattle.intake.specs.declared.faults.ArchiveFault.{ArchiveFault}
 use Rattle.intake.specs.declared.ranges.ByteRange.{ByteRange}
@@ -18,6 +17,7 @@ use Rattle.inspector_cli.specs.declared.copying.CopyFault.TheVariants as fault
 use Rattle.inspector_cli.specs.declared.copying.Halt.{Halt}
 use Rattle.inspector_cli.specs.declared.copying.Halt.TheVariants.{Disk, Output}
 use Rattle.inspector_cli.specs.Life.{OpensThen, IsOpeningRefused}
+use Rattle.journal_layout.specs.Case.{Case}
 
 -- the whole, or a front of it where a copy was ended before
 abbrev pub IsFrontOf : {E : Type 0} → Result (Unit {0}) E → List ℕ → List ℕ → Type 0
@@ -58,7 +58,7 @@ fault_of Output = fault.Output
 -- The image of a case of an archive is written to an output, or a front of it until the disk or the output failed. The disk is
 -- only read: a crash at any moment leaves what one before could have left.
 pub record CopiesCase {D : Type 0} (g : disk.Ghosts D) (seq : ℕ) (start taken : Option (List ℕ)) (count failures : ℕ) (archive : Parts D) (r : Result (Unit {0}) CopyFault) (after : D) : Type 0 where
-  pub found : CaseFacts
+  pub found : Case
   pub has : HasCase (state_of archive) seq found
   pub text : List ℕ
   pub appended : Appends start taken text

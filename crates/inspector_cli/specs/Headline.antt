@@ -10,6 +10,7 @@ use Rattle.intake.specs.Durable.{Durable, FoundCase, StandsFor, without, flagged
 use Rattle.intake.specs.Lives.{IsAmong}
 use Rattle.intake.specs.Marks.{IsOneOf}
 use Rattle.intake.specs.State.{StreamFacts}
+use Rattle.intake.specs.Step.{brief_of as brief_of_case}
 use Rattle.retention.specs.Rule.{IsDecision}
 use Rattle.retention.specs.declared.Brief.{Brief}
 use Rattle.script_streams.specs.Lines.{IsLine}
@@ -53,22 +54,22 @@ begun_in begins slot list = begun_behind begins slot None list
 
 -- the case of this number has this flag, or this label
 abbrev pub HasFlag : Durable → ℕ → Bool → Type 0
-HasFlag x seq flag = (c : FoundCase) × IsAmong x.cases c × (c.seq ≡ seq) × (c.pinned ≡ flag)
+HasFlag x seq flag = (c : FoundCase) × IsAmong x.cases c × (c.case.seq ≡ seq) × (c.case.pinned ≡ flag)
 
 abbrev pub HasLabel : Durable → ℕ → List ℕ → Type 0
-HasLabel x seq text = (c : FoundCase) × IsAmong x.cases c × (c.seq ≡ seq) × (c.label ≡ text)
+HasLabel x seq text = (c : FoundCase) × IsAmong x.cases c × (c.case.seq ≡ seq) × (c.case.label ≡ text)
 
 -- what the rule of a retirement looks at of a case
 abbrev pub brief_of : FoundCase → Brief
-brief_of c = record { seq = c.seq; time = c.time; length = c.len; pinned = c.pinned }
+brief_of c = brief_of_case c.case
 
 -- What a line that is carried out does to what the archive holds, x before it and y after it. `earlier` are the lines before it:
 -- a case is the stream that its line began, and its image is the bytes of its parts. A pin or a label that stands already changes
 -- nothing. Any other line changes no case.
 abbrev pub Does : (Said → Option StreamFacts) → List Answer → Said → List ℕ → Durable → Durable → Type 0
 Does begins earlier (end_of slot) reply x y =
-    (begun : StreamFacts) × (len : ℕ) × (runs : ℕ) × (image : List ℕ) × (begun_in begins slot earlier ≡ Some begun) × (parts_in slot earlier ≡ Some image)
-    × (reply ≡ end_reply (Ok x.next)) × (y ≡ with_case x (record begun { len = len }) runs image)
+    (begun : StreamFacts) × (len : ℕ) × (blocks : List ℕ) × (image : List ℕ) × (begun_in begins slot earlier ≡ Some begun) × (parts_in slot earlier ≡ Some image)
+    × (reply ≡ end_reply (Ok x.next)) × (y ≡ with_case x (record begun { len = len }) blocks image)
 Does begins earlier (delete_of seq) reply x y = HasFlag x seq false × (reply ≡ ok_reply) × (y ≡ without x (seq ∷ []))
 Does begins earlier (pin_of seq flag) reply x y = (reply ≡ ok_reply) × ((y ≡ flagged x seq flag) ⊎ (HasFlag x seq flag × (y ≡ x)))
 Does begins earlier (label_of seq text) reply x y = (reply ≡ ok_reply) × ((y ≡ labelled x seq text) ⊎ (HasLabel x seq text × (y ≡ x)))

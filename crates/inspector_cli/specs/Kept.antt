@@ -7,7 +7,7 @@ use Rattle.disk_model.specs.Anew.{IsMadeAnew, Restarts}
 use Rattle.disk_model.specs.declared.disk.Disk as disk
 use Rattle.intake.specs.Durable.{Durable, FoundCase, StandsFor}
 use Rattle.intake.specs.Lives.{IsAmong}
-use Rattle.intake.specs.State.{StreamFacts}
+use Rattle.intake.specs.State.{StreamFacts, origin_of}
 use Rattle.retention.specs.declared.Policy.{Policy}
 use Rattle.script_lines.specs.Said.{Said, end_of, label_of}
 use Rattle.script_streams.specs.Replies.{no_reply, ok_reply}
@@ -34,14 +34,10 @@ HasThisLabel (Some label) text = text ≡ label
 
 -- this is the case
 pub record IsKeptAs (k : Kept) (c : FoundCase) : Type 0 where
-  pub number : c.seq ≡ k.seq
-  pub kind : c.kind ≡ k.stream.kind
-  pub name : c.name ≡ k.stream.name
-  pub pid : c.pid ≡ k.stream.pid
-  pub signal : c.signal ≡ k.stream.signal
-  pub time : c.time ≡ k.stream.time
+  pub number : c.case.seq ≡ k.seq
+  pub origin : origin_of c.case ≡ k.stream.origin
   pub bytes : c.image ≡ k.image
-  pub labelled : HasThisLabel k.label c.label
+  pub labelled : HasThisLabel k.label c.case.label
 
 -- the archive holds the case
 abbrev pub HoldsKept : Kept → Durable → Type 0

@@ -24,7 +24,7 @@ use Rattle.script_lines.specs.Said.{Said, silence, bad_line, long_line, begin_ex
 abbrev pub Begins : {D : Type 0} → disk.Ghosts D → Parts D → ℕ → Result StreamFacts (List ℕ) → List ℕ → Parts D → Bool → Type 0
 Begins g old slot (Err reason) reply new accepted = (reply ≡ no_reply reason) × (new ≡ old) × (accepted ≡ false)
 Begins g old slot (Ok stream) reply new accepted =
-    (result : Result (Unit {0}) ArchiveFault) × BeginCall g old slot stream result new × (reply ≡ begin_reply stream.name result) × (accepted ≡ is_ok result)
+    (result : Result (Unit {0}) ArchiveFault) × BeginCall g old slot stream result new × (reply ≡ begin_reply stream.origin.name result) × (accepted ≡ is_ok result)
 
 -- the bytes of a stream at which the next block that it fills would find none free: m is the first multiple of 4,096 above
 -- its length for which the blocks in use, and those that it fills before m, are all that there are

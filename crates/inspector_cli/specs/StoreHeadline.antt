@@ -25,9 +25,9 @@ pub record AddsCase (found : Result StreamFacts (List ℕ)) (file file' : Option
   pub image : List ℕ
   pub read : Consumes file file' image
   pub whole : IsAtEnd file'
-  pub runs : ℕ
+  pub blocks : List ℕ
   pub number : n ≡ x.next
-  pub adds : y ≡ with_case x (record stream { len = length image }) runs image
+  pub adds : y ≡ with_case x (record stream { len = length image }) blocks image
 
 -- the case of the number that is told, or none
 abbrev pub StoresOrNot : Result StreamFacts (List ℕ) → Option (List ℕ) → Option (List ℕ) → Durable → Option ℕ → Durable → Type 0

@@ -54,7 +54,7 @@ AnOpeningIsQuiet {D} g = (limit : ℕ) (before : D) (a : Parts D) → OpenCall g
 
 -- the case of this number is there, and its image is these bytes
 abbrev pub HasImage : ℕ → List ℕ → Durable → Type 0
-HasImage n bytes x = (c : FoundCase) × IsAmong x.cases c × (c.seq ≡ n) × (c.image ≡ bytes)
+HasImage n bytes x = (c : FoundCase) × IsAmong x.cases c × (c.case.seq ≡ n) × (c.image ≡ bytes)
 
 -- neither a command from there on nor the last line takes the case away
 abbrev pub Spares : {D : Type 0} → Session D → ℕ → List Answer → Type 0

@@ -93,12 +93,12 @@ MakesRoom g old (Some policy) reply new made = (answered : Retires g old policy 
 -- No room is made for it: there is no stream, or the name is that of a case that would stay.
 abbrev pub CannotBegin : ArchiveState → Policy → Result StreamFacts (List ℕ) → Type 0
 CannotBegin s policy (Err reason) = Unit {0}
-CannotBegin s policy (Ok stream) = KeepsTheName s policy stream.name true × (is_named stream.name s.cases ≡ true)
+CannotBegin s policy (Ok stream) = KeepsTheName s policy stream.origin.name true × (is_named stream.origin.name s.cases ≡ true)
 
 -- Nothing but want of memory, or a stream that is open already, keeps the stream from beginning.
 abbrev pub MayBeginNow : ArchiveState → Result StreamFacts (List ℕ) → Type 0
 MayBeginNow s (Err reason) = ⊥
-MayBeginNow s (Ok stream) = (s.stopped ≡ false) × (is_named stream.name s.cases ≡ false)
+MayBeginNow s (Ok stream) = (s.stopped ≡ false) × (is_named stream.origin.name s.cases ≡ false)
 
 -- The policy by which room is made: the one that was asked for, or none, where the stream can't begin after it.
 abbrev pub IsChosen : ArchiveState → Option Policy → Result StreamFacts (List ℕ) → Option Policy → Type 0

@@ -65,7 +65,7 @@ taken_spared j flags a b (o ∷ rest) apart changes =
     one : (x : Option StreamParts) → AreApart flags (held_by x) → option_map (taken_in j b) x ≡ option_map (taken_in j a) x
     one None apart' = refl
     one (Some t) apart' =
-        ap (λ (y : List ℕ). Some (record { bytes = y ++ take (t.len % 4096) t.block; free = drop (t.len % 4096) t.block })) (joined_spared j.standing.shape flags a b t.blocks apart' changes)
+        ap (λ (y : List ℕ). Some (record { bytes = y ++ take (t.facts.len % 4096) t.block; free = drop (t.facts.len % 4096) t.block })) (joined_spared j.standing.shape flags a b t.facts.blocks apart' changes)
 
 closed_set : {X : Type 0} (xs : List (Option X)) (slot : ℕ) (o : Option X) → closed (set xs slot o) ≡ closed xs
 closed_set [] slot o = refl
@@ -124,7 +124,7 @@ module _ {D : Type 0} (g : disk.Ghosts D) (d d' : D) (j : Journaled) (most : ℕ
 
 -- a refused stream is gone, and a disk fault stops the archive
 pub sound_refused : {D : Type 0} (g : disk.Ghosts D) (d d' : D) (j : Journaled) (most : ℕ) (flags flags' : List Bool) (streams dropped streams' : List (Option StreamParts)) (slot : ℕ) (s : StreamParts) (b b' : Bool) (f : ArchiveFault)
-    → IsArchiveSound g d j most flags streams b → b ≡ false → stream_at streams slot ≡ Some s → dropped ≡ slice_set streams slot None → Guards g d' j → Balances flags s.blocks flags' [] → EndsStreams f dropped b' streams'
+    → IsArchiveSound g d j most flags streams b → b ≡ false → stream_at streams slot ≡ Some s → dropped ≡ slice_set streams slot None → Guards g d' j → Balances flags s.facts.blocks flags' [] → EndsStreams f dropped b' streams'
     → IsArchiveSound g d' j most flags' streams' b'
 sound_refused g d d' j most flags flags' streams dropped streams' slot s b b' fault.Disk sound on is gone keeps bal ends =
     subst (λ (t : Bool). IsArchiveSound g d' j most flags' streams' t) (sym ends.0)
@@ -139,24 +139,18 @@ same_blocks : (len n : ℕ) → len % 4096 + n ≤ 4096 → (NeedsBlock len n �
 same_blocks len zero fits no_need = let e : len ≡ len + zero = omega arith in ap (λ (k : ℕ). k / 4096) e
 same_blocks len (suc n) fits no_need = elim (cases_eq (len % 4096 + suc n) 4096) as (λ _. len / 4096 ≡ (len + suc n) / 4096) [ inl full ↦ absurd (no_need ((λ e. omega (arith, e)), full)) | inr less ↦ omega (arith, less) ]
 
-pub fine_grown : (free most : ℕ) (s s' : StreamParts) (n : ℕ) (u : Unit {0}) → IsFine most s → s.len % 4096 + n ≤ 4096 → Grows free most s n (Ok u) s' → s.len + n < 2 ^ 64 → IsFine most s'
+pub fine_grown : (free most : ℕ) (s s' : StreamParts) (n : ℕ) (u : Unit {0}) → IsFine most s → s.facts.len % 4096 + n ≤ 4096 → Grows free most s n (Ok u) s' → s.facts.len + n < 2 ^ 64 → IsFine most s'
 fine_grown free most s s' n u fine fits grows small =
     ⊎_elim
     (λ h. subst (IsFine most) (sym h.1) (record {
-      name = fine.name;
-      pid = fine.pid;
-      signal = fine.signal;
-      time = fine.time;
+      origin = fine.origin;
       small = small;
       limit = grows.0;
-      filled = fine.filled ∙ same_blocks s.len n fits h.0;
+      filled = fine.filled ∙ same_blocks s.facts.len n fits h.0;
       block = fine.block;
     }))
     (λ h. subst (IsFine most) (sym h.3) (record {
-      name = fine.name;
-      pid = fine.pid;
-      signal = fine.signal;
-      time = fine.time;
+      origin = fine.origin;
       small = small;
       limit = grows.0;
       filled = (let a = fine.filled in let w = h.0.1 in let m = h.2 in omega (arith, a, w, m));
@@ -168,10 +162,10 @@ fine_grown free most s s' n u fine fits grows small =
 fills : (len n : ℕ) → n ≢ 0 → (len + n) % 4096 ≡ 0 → len % 4096 + n ≤ 4096 → len % 4096 + n ≡ 4096
 fills len n some whole fits = omega arith
 
-states_agree : (free most : ℕ) (s s' : StreamParts) (n : ℕ) (u : Unit {0}) → Grows free most s n (Ok u) s' → stream_facts s' ≡ longer (stream_facts s) n s'.blocks
+states_agree : (free most : ℕ) (s s' : StreamParts) (n : ℕ) (u : Unit {0}) → Grows free most s n (Ok u) s' → s'.facts ≡ longer s.facts n s'.facts.blocks
 states_agree free most s s' n u grows =
     ⊎_elim
-    (λ h. ap stream_facts h.1 ∙ ap (longer (stream_facts s) n) (sym (ap (λ (x : StreamParts). x.blocks) h.1)))
+    (λ h. ap stream_facts h.1 ∙ ap (longer s.facts n) (sym (ap (λ (x : StreamParts). x.facts.blocks) h.1)))
     (λ h. ap stream_facts h.3) grows.1
 
 module _ {D : Type 0} (g : disk.Ghosts D) (d d' : D) (j : Journaled) (most : ℕ) (flags : List Bool) (streams : List (Option StreamParts)) (slot n : ℕ) (s : StreamParts) (b : Bool)
@@ -182,26 +176,26 @@ module _ {D : Type 0} (g : disk.Ghosts D) (d d' : D) (j : Journaled) (most : ℕ
   pub free_is : free_count flags + blocks_in (state_of before) ≡ j.standing.shape.data_blocks
   free_is = in_use g d j most flags streams b running
 
-  may : s.len + n ≤ most → MayGrow (state_of before) slot n (stream_facts s)
+  may : s.facts.len + n ≤ most → MayGrow (state_of before) slot n s.facts
   may short = (on, some_there streams slot s is, short)
 
-  there : NeedsBlock s.len n → 0 < free_count flags → FindsNoBlock (state_of before) (stream_facts s) n → ⊥
+  there : NeedsBlock s.facts.len n → 0 < free_count flags → FindsNoBlock (state_of before) s.facts n → ⊥
   there needs some none = (let e = none.2 in omega (arith, free_is))
 
-  not_there : NeedsBlock s.len n → free_count flags ≡ 0 → FindsNoBlock (state_of before) (stream_facts s) n
+  not_there : NeedsBlock s.facts.len n → free_count flags ≡ 0 → FindsNoBlock (state_of before) s.facts n
   not_there needs none = (needs.0, (let e = needs.1 in omega arith), (omega (arith, free_is, none)))
 
   pub put_back : (dropped streams' : List (Option StreamParts)) (s' : StreamParts) → dropped ≡ slice_set streams slot None → streams' ≡ slice_set dropped slot (Some s') → streams' ≡ slice_set streams slot (Some s')
   put_back dropped streams' s' gone put = put ∙ ap (λ (x : List (Option StreamParts)). set x slot (Some s')) gone ∙ set-set streams slot None (Some s')
 
-  pub advance_ok : (dropped streams' : List (Option StreamParts)) (s' : StreamParts) (u : Unit {0}) → dropped ≡ slice_set streams slot None → streams' ≡ slice_set dropped slot (Some s') → s.len % 4096 + n ≤ 4096
-      → Grows (free_count flags) most s n (Ok u) s' → (NeedsBlock s.len n → AddsLowest flags s.blocks s'.blocks)
+  pub advance_ok : (dropped streams' : List (Option StreamParts)) (s' : StreamParts) (u : Unit {0}) → dropped ≡ slice_set streams slot None → streams' ≡ slice_set dropped slot (Some s') → s.facts.len % 4096 + n ≤ 4096
+      → Grows (free_count flags) most s n (Ok u) s' → (NeedsBlock s.facts.len n → AddsLowest flags s.facts.blocks s'.facts.blocks)
       → AdvanceStep (state_of before) slot n (Ok u) (state_of (record { disk = d'; journal = j; limit = most; streams = streams'; stopped = b }))
   advance_ok dropped streams' s' u gone put fits grows lowest = (
-    stream_facts s,
+    s.facts,
     may grows.0,
-    (λ none. ⊎_elim (λ h. h.0 (none.0, fills s.len n none.0 none.1 fits)) (λ h. there h.0 h.1 none) grows.1),
-    s'.blocks,
+    (λ none. ⊎_elim (λ h. h.0 (none.0, fills s.facts.len n none.0 none.1 fits)) (λ h. there h.0 h.1 none) grows.1),
+    s'.facts.blocks,
     ap (λ (x : List (Option StreamParts)). state_of (record { disk = d'; journal = j; limit = most; streams = x; stopped = b })) (put_back dropped streams' s' gone put)
         ∙ state_with d d' j most streams slot (Some s') b
         ∙ ap (λ (t : StreamFacts). with_stream (state_of before) slot (Some t)) (states_agree (free_count flags) most s s' n u grows),
@@ -224,10 +218,10 @@ module _ {D : Type 0} (g : disk.Ghosts D) (d d' : D) (j : Journaled) (most : ℕ
 
   pub advance_err : (b' : Bool) (dropped streams' : List (Option StreamParts)) (s' : StreamParts) (f : ArchiveFault) → dropped ≡ slice_set streams slot None → EndsStreams f dropped b' streams' → Grows (free_count flags) most s n (Err f) s'
       → AdvanceStep (state_of before) slot n (Err f) (state_of (record { disk = d'; journal = j; limit = most; streams = streams'; stopped = b' }))
-  advance_err b' dropped streams' s' fault.TooLong gone ends grows = (stream_facts s, on, some_there streams slot s is, grows, gone_state b' dropped streams' gone ends.0 ends.1)
-  advance_err b' dropped streams' s' fault.SpaceFull gone ends grows = (stream_facts s, may grows.0, not_there grows.1 grows.2, gone_state b' dropped streams' gone ends.0 ends.1)
-  advance_err b' dropped streams' s' fault.OutOfMemory gone ends grows = (stream_facts s, may grows.0, there grows.1 grows.2, gone_state b' dropped streams' gone ends.0 ends.1)
-  advance_err b' dropped streams' s' fault.Disk gone ends grows = (stream_facts s, may grows.0, there grows.1 grows.2, halted_state b' dropped streams' gone ends.0 ends.1)
+  advance_err b' dropped streams' s' fault.TooLong gone ends grows = (s.facts, on, some_there streams slot s is, grows, gone_state b' dropped streams' gone ends.0 ends.1)
+  advance_err b' dropped streams' s' fault.SpaceFull gone ends grows = (s.facts, may grows.0, not_there grows.1 grows.2, gone_state b' dropped streams' gone ends.0 ends.1)
+  advance_err b' dropped streams' s' fault.OutOfMemory gone ends grows = (s.facts, may grows.0, there grows.1 grows.2, gone_state b' dropped streams' gone ends.0 ends.1)
+  advance_err b' dropped streams' s' fault.Disk gone ends grows = (s.facts, may grows.0, there grows.1 grows.2, halted_state b' dropped streams' gone ends.0 ends.1)
   advance_err b' dropped streams' s' _ gone ends grows = absurd grows
 
   pub not_stopped : (s' : StreamParts) (f : ArchiveFault) → Grows (free_count flags) most s n (Err f) s' → f ≡ fault.Stopped → ⊥
@@ -236,20 +230,20 @@ module _ {D : Type 0} (g : disk.Ghosts D) (d d' : D) (j : Journaled) (most : ℕ
   pub not_missing : (s' : StreamParts) (f : ArchiveFault) → Grows (free_count flags) most s n (Err f) s' → f ≡ fault.NoStream → ⊥
   not_missing s' f grows e = let x = subst (λ (h : ArchiveFault). Grows (free_count flags) most s n (Err h) s') e grows in absurd x
 
-  pub fits_in : FitsFree (stream_at streams slot) n → s.len % 4096 + n ≤ 4096
+  pub fits_in : FitsFree (stream_at streams slot) n → s.facts.len % 4096 + n ≤ 4096
   fits_in fits = let P : Option StreamParts → Type 0 = λ o. FitsFree o n in subst P is fits
 
   pub fine_of : IsFine most s
   fine_of = subst (IsFineIfOpen most) is (fine_at most streams slot running.streams_fine)
 
   pub sound_grown : (flags' : List Bool) (dropped streams' : List (Option StreamParts)) (s' : StreamParts) (u : Unit {0}) → IsArchiveSound g d j most flags streams b → dropped ≡ slice_set streams slot None → streams' ≡ slice_set dropped slot (Some s')
-      → s.len % 4096 + n ≤ 4096 → Grows (free_count flags) most s n (Ok u) s' → s.len + n < 2 ^ 64 → Guards g d' j → Balances flags s.blocks flags' s'.blocks → IsArchiveSound g d' j most flags' streams' b
+      → s.facts.len % 4096 + n ≤ 4096 → Grows (free_count flags) most s n (Ok u) s' → s.facts.len + n < 2 ^ 64 → Guards g d' j → Balances flags s.facts.blocks flags' s'.facts.blocks → IsArchiveSound g d' j most flags' streams' b
   sound_grown flags' dropped streams' s' u sound gone put fits grows small keeps bal =
       subst (λ (x : List (Option StreamParts)). IsArchiveSound g d' j most flags' x b) (sym (put_back dropped streams' s' gone put))
       (sound_with g d d' j most flags flags' streams slot (Some s) (Some s') b sound on (slot_below g d j most flags streams slot s b sound is) is keeps bal
       (fine_grown (free_count flags) most s s' n u fine_of fits grows small)
       (λ name. (let m = running.named name in
-      let e : one_if (bytes_eq s'.name name) ≡ one_if (bytes_eq s.name name) = ap (λ (t : StreamFacts). one_if (bytes_eq t.name name)) (states_agree (free_count flags) most s s' n u grows) in
+      let e : one_if (bytes_eq s'.facts.origin.name name) ≡ one_if (bytes_eq s.facts.origin.name name) = ap (λ (t : StreamFacts). one_if (bytes_eq t.origin.name name)) (states_agree (free_count flags) most s s' n u grows) in
       omega (arith, m, e))))
 
   pub advance_ok_bytes : (dropped streams' : List (Option StreamParts)) (s' : StreamParts) (u : Unit {0}) → ChangesFree j.standing.shape flags (g.seen d) (g.seen d') → dropped ≡ slice_set streams slot None → streams' ≡ slice_set dropped slot (Some s')

@@ -1,16 +1,15 @@
 -- An archive after the append of a record that is no case's.
-use Rattle.std.proofs.Common.{◌≡◌, ◌≢◌, ℕ, ◌*◌, ◌+◌, ◌≤◌, ◌==◌, Bool, true, false, cond, List, [], ◌∷◌, length, map, refl, sym, ap, ◌∙◌, subst, arith, Option, Some, Err}
+use Rattle.std.proofs.Common.{◌≡◌, ◌≢◌, ℕ, ◌*◌, ◌+◌, ◌≤◌, Bool, true, false, List, length, map, refl, sym, ap, ◌∙◌, subst, arith, Option, Err}
 use Rattle.std.specs.Prelude.{option_map}
 use mathlib.Core.Bool.{beq}
 use Rattle.disk_model.specs.Places.{SameOutside}
 use Rattle.disk_model.specs.declared.disk.Disk as disk
 use Rattle.extents.specs.FreeSet.{is_free, free_count, one_if}
 use Rattle.journal_layout.specs.Case.{Case}
-use Rattle.journal_layout.specs.Folding.{after, with_pin, with_label}
+use Rattle.journal_layout.specs.Folding.{after}
 use Rattle.journal_layout.specs.Layout.{half_length}
 use Rattle.journal_layout.specs.LiveLaws.{live_after}
 use Rattle.journal_layout.specs.Record.{Record}
-use Rattle.journal_layout.specs.Soundness.{case_numbered}
 use Rattle.journal_layout.specs.Standing.{folded_of}
 use Rattle.case_journal.specs.Append.{AppendStep, MayFollow}
 use Rattle.case_journal.specs.Journaled.{Journaled, after_append, halted}
@@ -24,41 +23,14 @@ use Rattle.intake.specs.Contents.{Taken, UnmovedBytes, without_streams}
 use Rattle.intake.specs.Ending.{EndsStreams}
 use Rattle.intake.specs.Faults.{fault_of}
 use Rattle.intake.specs.Live.{case_uses, cases_named}
-use Rattle.intake.specs.Parts.{Parts, StreamParts, state_of, case_facts, stream_facts, taken_in, contents_of}
+use Rattle.intake.specs.Parts.{Parts, StreamParts, state_of, stream_facts, taken_in, contents_of}
 use Rattle.intake.specs.Slots.{closed}
 use Rattle.intake.specs.Sound.{IsArchiveSound, case_blocks}
-use Rattle.intake.specs.State.{CaseFacts, StreamFacts}
-use Rattle.intake.specs.Step.{case_at, halted as halted_facts}
+use Rattle.intake.specs.State.{StreamFacts}
+use Rattle.intake.specs.Step.{halted as halted_facts}
 use Rattle.intake.proofs.AdvanceLemmas.{closed_map}
 use Rattle.intake.proofs.SoundLemmas.{sound_halted}
 use Rattle.intake.proofs.StoreLemmas.{images_behind, taken_behind}
-
--- a case by its number, without its blocks
-pub case_facts_at : (seq : ℕ) (cases : List Case) → case_at seq (map case_facts cases) ≡ option_map case_facts (case_numbered seq cases)
-case_facts_at seq [] = refl
-case_facts_at seq (c ∷ rest) =
-    elim (c.seq == seq) as (λ t. cond t (Some (case_facts c)) (case_at seq (map case_facts rest)) ≡ option_map case_facts (cond t (Some c) (case_numbered seq rest)))
-    [ true ↦ refl | false ↦ case_facts_at seq rest ]
-
-pub flag_cases : (seq : ℕ) (flag : Bool) (cases : List Case)
-    → map case_facts (with_pin seq flag cases) ≡ map (λ (c : CaseFacts). cond (c.seq == seq) (record c { pinned = flag }) c) (map case_facts cases)
-flag_cases seq flag [] = refl
-flag_cases seq flag (c ∷ rest) =
-    elim (c.seq == seq) as (λ t. case_facts (cond t (record c { pinned = flag }) c) ∷ map case_facts (with_pin seq flag rest)
-    ≡ cond t (record (case_facts c) { pinned = flag }) (case_facts c) ∷ map (λ (x : CaseFacts). cond (x.seq == seq) (record x { pinned = flag }) x) (map case_facts rest)) [
-      | true ↦ ap (λ (l : List CaseFacts). record (case_facts c) { pinned = flag } ∷ l) (flag_cases seq flag rest)
-      | false ↦ ap (λ (l : List CaseFacts). case_facts c ∷ l) (flag_cases seq flag rest)
-    ]
-
-pub label_cases : (seq : ℕ) (text : List ℕ) (cases : List Case)
-    → map case_facts (with_label seq text cases) ≡ map (λ (c : CaseFacts). cond (c.seq == seq) (record c { label = text }) c) (map case_facts cases)
-label_cases seq text [] = refl
-label_cases seq text (c ∷ rest) =
-    elim (c.seq == seq) as (λ t. case_facts (cond t (record c { label = text }) c) ∷ map case_facts (with_label seq text rest)
-    ≡ cond t (record (case_facts c) { label = text }) (case_facts c) ∷ map (λ (x : CaseFacts). cond (x.seq == seq) (record x { label = text }) x) (map case_facts rest)) [
-      | true ↦ ap (λ (l : List CaseFacts). record (case_facts c) { label = text } ∷ l) (label_cases seq text rest)
-      | false ↦ ap (λ (l : List CaseFacts). case_facts c ∷ l) (label_cases seq text rest)
-    ]
 
 -- a record was appended: blocks of dropped cases are free, and nothing else changes hands
 pub sound_after : {D : Type 0} (g : disk.Ghosts D) (d d' : D) (j : Journaled) (r : Record) (most : ℕ) (flags flags' : List Bool) (streams : List (Option StreamParts)) (b : Bool)

@@ -5,12 +5,12 @@ use Rattle.std.specs.Prelude.{IsTrue, option_map}
 use Rattle.std.proofs.lemmas.Bool.{cases_eq, eq-eqb, ne_eqb, false≢true}
 use Rattle.disk_model.specs.declared.disk.Disk as disk
 use Rattle.journal_layout.specs.Case.{Case}
-use Rattle.journal_layout.specs.Folding.{is_among}
+use Rattle.journal_layout.specs.Folding.{is_among, pinned_as, labelled_as}
 use Rattle.journal_layout.specs.Grammar.{WhatStandsIsLive}
 use Rattle.journal_layout.specs.Soundness.{Rise, case_numbered}
 use Rattle.intake.specs.Blocks.{image_in}
 use Rattle.intake.specs.Calls.{FinishCall}
-use Rattle.intake.specs.Durable.{Durable, FoundCase, durable_of, found_case, without, flagged, labelled}
+use Rattle.intake.specs.Durable.{Durable, FoundCase, durable_of, found_case, without, flagged, labelled, made_of}
 use Rattle.intake.specs.Lasting.{number_of}
 use Rattle.intake.specs.Making.{Call, ReplyTo, Makes, Made, AreMade, StaysOpen, archive_after, taken_over, begin_in, lend_of, advance_by, finish_of, abandon_of, delete_of, pin_of, label_of, upgrade_it, retire_by, image_of, find_case, list_cases, count_free, ask_version, ask_stopped}
 use Rattle.intake.specs.Parts.{Parts, state_of, contents_of}
@@ -25,25 +25,25 @@ use Rattle.intake.proofs.MakingLemmas.{room_durable, still_honest}
 -- the image of the case of this number
 abbrev found_image : ℕ → List FoundCase → Option (List ℕ)
 found_image seq [] = None
-found_image seq (c ∷ cs) = cond (c.seq == seq) (Some c.image) (found_image seq cs)
+found_image seq (c ∷ cs) = cond (c.case.seq == seq) (Some c.image) (found_image seq cs)
 
 -- one case more, of another number
-found_then : (seq : ℕ) (cs : List FoundCase) (c : FoundCase) → (c.seq ≡ seq → ⊥) → found_image seq (cs ++ c ∷ []) ≡ found_image seq cs
-found_then seq [] c ne = ap (λ (t : Bool). cond t (Some c.image) None) (ne_eqb c.seq seq ne)
-found_then seq (d ∷ ds) c ne = ap (cond (d.seq == seq) (Some d.image)) (found_then seq ds c ne)
+found_then : (seq : ℕ) (cs : List FoundCase) (c : FoundCase) → (c.case.seq ≡ seq → ⊥) → found_image seq (cs ++ c ∷ []) ≡ found_image seq cs
+found_then seq [] c ne = ap (λ (t : Bool). cond t (Some c.image) None) (ne_eqb c.case.seq seq ne)
+found_then seq (d ∷ ds) c ne = ap (cond (d.case.seq == seq) (Some d.image)) (found_then seq ds c ne)
 
 -- one case more, of this number, where there was none
-found_last : (seq : ℕ) (cs : List FoundCase) (c : FoundCase) → c.seq ≡ seq → found_image seq cs ≡ None → found_image seq (cs ++ c ∷ []) ≡ Some c.image
-found_last seq [] c is none = ap (λ (t : Bool). cond t (Some c.image) None) (eq-eqb c.seq seq is)
+found_last : (seq : ℕ) (cs : List FoundCase) (c : FoundCase) → c.case.seq ≡ seq → found_image seq cs ≡ None → found_image seq (cs ++ c ∷ []) ≡ Some c.image
+found_last seq [] c is none = ap (λ (t : Bool). cond t (Some c.image) None) (eq-eqb c.case.seq seq is)
 found_last seq (d ∷ ds) c is none =
-    elim (cases_eq d.seq seq) as (λ _. found_image seq ((d ∷ ds) ++ c ∷ []) ≡ Some c.image) [
-      | inl here ↦ (let e : Some d.image ≡ None = sym (ap (λ (t : Bool). cond t (Some d.image) (found_image seq ds)) (eq-eqb d.seq seq here)) ∙ none in cc)
-      | inr ne ↦ ap (λ (t : Bool). cond t (Some d.image) (found_image seq (ds ++ c ∷ []))) (ne_eqb d.seq seq ne)
-          ∙ found_last seq ds c is (sym (ap (λ (t : Bool). cond t (Some d.image) (found_image seq ds)) (ne_eqb d.seq seq ne)) ∙ none)
+    elim (cases_eq d.case.seq seq) as (λ _. found_image seq ((d ∷ ds) ++ c ∷ []) ≡ Some c.image) [
+      | inl here ↦ (let e : Some d.image ≡ None = sym (ap (λ (t : Bool). cond t (Some d.image) (found_image seq ds)) (eq-eqb d.case.seq seq here)) ∙ none in cc)
+      | inr ne ↦ ap (λ (t : Bool). cond t (Some d.image) (found_image seq (ds ++ c ∷ []))) (ne_eqb d.case.seq seq ne)
+          ∙ found_last seq ds c is (sym (ap (λ (t : Bool). cond t (Some d.image) (found_image seq ds)) (ne_eqb d.case.seq seq ne)) ∙ none)
     ]
 
 abbrev kept : List ℕ → List FoundCase → List FoundCase
-kept seqs cs = filter (λ (c : FoundCase). not (is_among seqs c.seq)) cs
+kept seqs cs = filter (λ (c : FoundCase). not (is_among seqs c.case.seq)) cs
 
 same_among : (seqs : List ℕ) (a b : ℕ) (t u : Bool) → a ≡ b → is_among seqs a ≡ t → is_among seqs b ≡ u → t ≡ u
 same_among seqs a b t u same is at = sym is ∙ ap (is_among seqs) same ∙ at
@@ -51,43 +51,38 @@ same_among seqs a b t u same is at = sym is ∙ ap (is_among seqs) same ∙ at
 -- cases that are dropped
 found_dropped : (seq : ℕ) (seqs : List ℕ) (cs : List FoundCase) → is_among seqs seq ≡ true → found_image seq (kept seqs cs) ≡ None
 found_dropped seq seqs [] among = refl
-found_dropped seq seqs (c ∷ cs) among = by_test (found_dropped seq seqs cs among) (is_among seqs c.seq) refl
+found_dropped seq seqs (c ∷ cs) among = by_test (found_dropped seq seqs cs among) (is_among seqs c.case.seq) refl
   where
-    by_test : found_image seq (kept seqs cs) ≡ None → (t : Bool) → is_among seqs c.seq ≡ t → found_image seq (kept seqs (c ∷ cs)) ≡ None
+    by_test : found_image seq (kept seqs cs) ≡ None → (t : Bool) → is_among seqs c.case.seq ≡ t → found_image seq (kept seqs (c ∷ cs)) ≡ None
     by_test more true is = ap (λ (t : Bool). found_image seq (cond (not t) (c ∷ kept seqs cs) (kept seqs cs))) is ∙ more
     by_test more false is =
         ap (λ (t : Bool). found_image seq (cond (not t) (c ∷ kept seqs cs) (kept seqs cs))) is
-        ∙ ap (λ (t : Bool). cond t (Some c.image) (found_image seq (kept seqs cs))) (ne_eqb c.seq seq (λ e. false≢true (same_among seqs c.seq seq false true e is among)))
+        ∙ ap (λ (t : Bool). cond t (Some c.image) (found_image seq (kept seqs cs))) (ne_eqb c.case.seq seq (λ e. false≢true (same_among seqs c.case.seq seq false true e is among)))
         ∙ more
 
 found_kept : (seq : ℕ) (seqs : List ℕ) (cs : List FoundCase) → is_among seqs seq ≡ false → found_image seq (kept seqs cs) ≡ found_image seq cs
 found_kept seq seqs [] among = refl
-found_kept seq seqs (c ∷ cs) among = by_test (found_kept seq seqs cs among) (is_among seqs c.seq) refl
+found_kept seq seqs (c ∷ cs) among = by_test (found_kept seq seqs cs among) (is_among seqs c.case.seq) refl
   where
-    by_test : found_image seq (kept seqs cs) ≡ found_image seq cs → (t : Bool) → is_among seqs c.seq ≡ t → found_image seq (kept seqs (c ∷ cs)) ≡ found_image seq (c ∷ cs)
+    by_test : found_image seq (kept seqs cs) ≡ found_image seq cs → (t : Bool) → is_among seqs c.case.seq ≡ t → found_image seq (kept seqs (c ∷ cs)) ≡ found_image seq (c ∷ cs)
     by_test more true is =
         ap (λ (t : Bool). found_image seq (cond (not t) (c ∷ kept seqs cs) (kept seqs cs))) is ∙ more
-        ∙ sym (ap (λ (t : Bool). cond t (Some c.image) (found_image seq cs)) (ne_eqb c.seq seq (λ e. false≢true (sym (same_among seqs c.seq seq true false e is among)))))
+        ∙ sym (ap (λ (t : Bool). cond t (Some c.image) (found_image seq cs)) (ne_eqb c.case.seq seq (λ e. false≢true (sym (same_among seqs c.case.seq seq true false e is among)))))
     by_test more false is =
         ap (λ (t : Bool). found_image seq (cond (not t) (c ∷ kept seqs cs) (kept seqs cs))) is
-        ∙ ap (cond (c.seq == seq) (Some c.image)) more
+        ∙ ap (cond (c.case.seq == seq) (Some c.image)) more
 
--- a flag that is set
-found_flagged : (seq at : ℕ) (flag : Bool) (cs : List FoundCase) → found_image seq (map (λ (c : FoundCase). cond (c.seq == at) (record c { pinned = flag }) c) cs) ≡ found_image seq cs
-found_flagged seq at flag [] = refl
-found_flagged seq at flag (c ∷ cs) =
-    elim (c.seq == at) as (λ t. found_image seq (cond t (record c { pinned = flag }) c ∷ map (λ (d : FoundCase). cond (d.seq == at) (record d { pinned = flag }) d) cs) ≡ found_image seq (c ∷ cs)) [
-      | true ↦ ap (cond (c.seq == seq) (Some c.image)) (found_flagged seq at flag cs)
-      | false ↦ ap (cond (c.seq == seq) (Some c.image)) (found_flagged seq at flag cs)
-    ]
+-- cases that keep their numbers
+found_made : (seq : ℕ) (f : Case → Case) → ((c : Case) → (f c).seq ≡ c.seq) → (cs : List FoundCase) → found_image seq (map (made_of f) cs) ≡ found_image seq cs
+found_made seq f same [] = refl
+found_made seq f same (c ∷ cs) =
+    ap (λ (k : ℕ). cond (k == seq) (Some c.image) (found_image seq (map (made_of f) cs))) (same c.case) ∙ ap (cond (c.case.seq == seq) (Some c.image)) (found_made seq f same cs)
 
-found_labelled : (seq at : ℕ) (text : List ℕ) (cs : List FoundCase) → found_image seq (map (λ (c : FoundCase). cond (c.seq == at) (record c { label = text }) c) cs) ≡ found_image seq cs
-found_labelled seq at text [] = refl
-found_labelled seq at text (c ∷ cs) =
-    elim (c.seq == at) as (λ t. found_image seq (cond t (record c { label = text }) c ∷ map (λ (d : FoundCase). cond (d.seq == at) (record d { label = text }) d) cs) ≡ found_image seq (c ∷ cs)) [
-      | true ↦ ap (cond (c.seq == seq) (Some c.image)) (found_labelled seq at text cs)
-      | false ↦ ap (cond (c.seq == seq) (Some c.image)) (found_labelled seq at text cs)
-    ]
+pin_keeps : (at : ℕ) (flag : Bool) (c : Case) → (pinned_as at flag c).seq ≡ c.seq
+pin_keeps at flag c = elim (c.seq == at) as (λ t. (cond t (record c { pinned = flag }) c).seq ≡ c.seq) [ true ↦ refl | false ↦ refl ]
+
+label_keeps : (at : ℕ) (text : List ℕ) (c : Case) → (labelled_as at text c).seq ≡ c.seq
+label_keeps at text c = elim (c.seq == at) as (λ t. (cond t (record c { label = text }) c).seq ≡ c.seq) [ true ↦ refl | false ↦ refl ]
 
 -- a number that was given, and whose case has this image or is gone
 abbrev IsOrIsGone : ℕ → List ℕ → Durable → Type 0
@@ -107,12 +102,12 @@ goes_without seq image x y seqs is was = subst (IsOrIsGone seq image) (sym is) (
     by_test false among = goes_same seq image x (without x seqs) refl (found_kept seq seqs x.cases among) was
 
 goes_flagged : (seq at : ℕ) (image : List ℕ) (flag : Bool) (x y : Durable) → y ≡ flagged x at flag → IsOrIsGone seq image x → IsOrIsGone seq image y
-goes_flagged seq at image flag x y is was = subst (IsOrIsGone seq image) (sym is) (goes_same seq image x (flagged x at flag) refl (found_flagged seq at flag x.cases) was)
+goes_flagged seq at image flag x y is was = subst (IsOrIsGone seq image) (sym is) (goes_same seq image x (flagged x at flag) refl (found_made seq (pinned_as at flag) (pin_keeps at flag) x.cases) was)
 
 goes_labelled : (seq at : ℕ) (image text : List ℕ) (x y : Durable) → y ≡ labelled x at text → IsOrIsGone seq image x → IsOrIsGone seq image y
-goes_labelled seq at image text x y is was = subst (IsOrIsGone seq image) (sym is) (goes_same seq image x (labelled x at text) refl (found_labelled seq at text x.cases) was)
+goes_labelled seq at image text x y is was = subst (IsOrIsGone seq image) (sym is) (goes_same seq image x (labelled x at text) refl (found_made seq (labelled_as at text) (label_keeps at text) x.cases) was)
 
-goes_stored : (seq : ℕ) (image : List ℕ) (x y : Durable) (c : FoundCase) → y.cases ≡ x.cases ++ c ∷ [] → y.next ≡ x.next + 1 → c.seq ≡ x.next → IsOrIsGone seq image x → IsOrIsGone seq image y
+goes_stored : (seq : ℕ) (image : List ℕ) (x y : Durable) (c : FoundCase) → y.cases ≡ x.cases ++ c ∷ [] → y.next ≡ x.next + 1 → c.case.seq ≡ x.next → IsOrIsGone seq image x → IsOrIsGone seq image y
 goes_stored seq image x y c cases next number was =
     let low = was.0 in
     let same : found_image seq y.cases ≡ found_image seq x.cases = ap (found_image seq) cases ∙ found_then seq x.cases c (λ e. omega (arith, e, number, low)) in
@@ -160,18 +155,18 @@ module _ {D : Type 0} (g : disk.Ghosts D) (counts : (d : D) (t : ℕ) (c : List 
       goes_all seq image m.archive ms (still_honest g a m.archive m.call m.reply all.0 ∙ honest) all.1 (goes_over seq image a m.archive m.call m.reply honest all.0 was)
 
 -- the numbers of the cases before the last one are below its number
-rise_below : (last : ℕ) (cs : List FoundCase) (c : FoundCase) → Rise last (map number_of (cs ++ c ∷ [])) → last < c.seq
+rise_below : (last : ℕ) (cs : List FoundCase) (c : FoundCase) → Rise last (map number_of (cs ++ c ∷ [])) → last < c.case.seq
 rise_below last [] c rise = rise.0
-rise_below last (d ∷ ds) c rise = (let first = rise.0 in omega (arith, first, rise_below d.seq ds c rise.1))
+rise_below last (d ∷ ds) c rise = (let first = rise.0 in omega (arith, first, rise_below d.case.seq ds c rise.1))
 
-none_before : (seq last : ℕ) (cs : List FoundCase) (c : FoundCase) → c.seq ≡ seq → Rise last (map number_of (cs ++ c ∷ [])) → found_image seq cs ≡ None
+none_before : (seq last : ℕ) (cs : List FoundCase) (c : FoundCase) → c.case.seq ≡ seq → Rise last (map number_of (cs ++ c ∷ [])) → found_image seq cs ≡ None
 none_before seq last [] c is rise = refl
 none_before seq last (d ∷ ds) c is rise =
-    ap (λ (t : Bool). cond t (Some d.image) (found_image seq ds)) (ne_eqb d.seq seq (λ e. omega (arith, e, is, rise_below d.seq ds c rise.1)))
-    ∙ none_before seq d.seq ds c is rise.1
+    ap (λ (t : Bool). cond t (Some d.image) (found_image seq ds)) (ne_eqb d.case.seq seq (λ e. omega (arith, e, is, rise_below d.case.seq ds c rise.1)))
+    ∙ none_before seq d.case.seq ds c is rise.1
 
 -- the image that a call of image answers
-found_numbered : (seq : ℕ) (find : Case → FoundCase) (image : Case → List ℕ) → ((c : Case) → (find c).seq ≡ c.seq) → ((c : Case) → (find c).image ≡ image c) → (cases : List Case)
+found_numbered : (seq : ℕ) (find : Case → FoundCase) (image : Case → List ℕ) → ((c : Case) → (find c).case.seq ≡ c.seq) → ((c : Case) → (find c).image ≡ image c) → (cases : List Case)
     → found_image seq (map find cases) ≡ option_map image (case_numbered seq cases)
 found_numbered seq find image number same [] = refl
 found_numbered seq find image number same (c ∷ cs) =
@@ -200,7 +195,7 @@ module _ {D : Type 0} (g : disk.Ghosts D) (counts : (d : D) (t : ℕ) (c : List 
   all_honest a (m ∷ ms) honest all = all_honest m.archive ms (still_honest g a m.archive m.call m.reply all.0 ∙ honest) all.1
 
   -- a case that was just stored has its image
-  just_stored : (last stored : Parts D) (slot seq : ℕ) (c : FoundCase) → IsTrue (g.is_honest last.disk) → FinishCall g last slot (Ok seq) stored → c.seq ≡ seq → (durable_of g.seen stored).cases ≡ (durable_of g.seen last).cases ++ c ∷ []
+  just_stored : (last stored : Parts D) (slot seq : ℕ) (c : FoundCase) → IsTrue (g.is_honest last.disk) → FinishCall g last slot (Ok seq) stored → c.case.seq ≡ seq → (durable_of g.seen stored).cases ≡ (durable_of g.seen last).cases ++ c ∷ []
       → IsOrIsGone seq c.image (durable_of g.seen stored)
   just_stored last stored slot seq c honest finish number cases =
       let real = finish.changes.disk.honesty ∙ honest in

@@ -89,43 +89,43 @@ full_free [] lt = absurd (omega arith)
 full_free (y ∷ x) lt = refl
 
 -- n bytes more of the free part, where they fill no block
-pub taken_lengthened : (j : Journaled) (a : List ℕ) (s : StreamParts) (n : ℕ) → length s.block ≡ 4096 → s.len % 4096 + n < 4096 → taken_in j a (lengthened s n) ≡ advanced n (taken_in j a s)
+pub taken_lengthened : (j : Journaled) (a : List ℕ) (s : StreamParts) (n : ℕ) → length s.block ≡ 4096 → s.facts.len % 4096 + n < 4096 → taken_in j a (lengthened s n) ≡ advanced n (taken_in j a s)
 taken_lengthened j a s n size lt =
-    let u : ℕ = s.len % 4096 in
-    let m : (s.len + n) % 4096 ≡ u + n = omega arith in
-    let bytes : joined j.standing.shape a s.blocks ++ take ((s.len + n) % 4096) s.block ≡ joined j.standing.shape a s.blocks ++ take u s.block ++ take n (drop u s.block) =
-    ap (λ (k : ℕ). joined j.standing.shape a s.blocks ++ take k s.block) m
-    ∙ ap (λ (x : List ℕ). joined j.standing.shape a s.blocks ++ x) (split_more s.block u n)
-    ∙ sym (append_assoc (joined j.standing.shape a s.blocks) (take u s.block) (take n (drop u s.block))) in
+    let u : ℕ = s.facts.len % 4096 in
+    let m : (s.facts.len + n) % 4096 ≡ u + n = omega arith in
+    let bytes : joined j.standing.shape a s.facts.blocks ++ take ((s.facts.len + n) % 4096) s.block ≡ joined j.standing.shape a s.facts.blocks ++ take u s.block ++ take n (drop u s.block) =
+    ap (λ (k : ℕ). joined j.standing.shape a s.facts.blocks ++ take k s.block) m
+    ∙ ap (λ (x : List ℕ). joined j.standing.shape a s.facts.blocks ++ x) (split_more s.block u n)
+    ∙ sym (append_assoc (joined j.standing.shape a s.facts.blocks) (take u s.block) (take n (drop u s.block))) in
     let l = length-drop (u + n) s.block in
-    let free : drop ((s.len + n) % 4096) s.block ≡ next_free (drop n (drop u s.block)) =
+    let free : drop ((s.facts.len + n) % 4096) s.block ≡ next_free (drop n (drop u s.block)) =
     ap (λ (k : ℕ). drop k s.block) m ∙ sym (full_free (drop (u + n) s.block) (omega arith)) ∙ ap next_free (rest_more s.block u n) in
-    ap (λ (x : List ℕ). record { bytes = x; free = drop ((s.len + n) % 4096) s.block }) bytes
-    ∙ ap (λ (x : List ℕ). record { bytes = joined j.standing.shape a s.blocks ++ take u s.block ++ take n (drop u s.block); free = x }) free
+    ap (λ (x : List ℕ). record { bytes = x; free = drop ((s.facts.len + n) % 4096) s.block }) bytes
+    ∙ ap (λ (x : List ℕ). record { bytes = joined j.standing.shape a s.facts.blocks ++ take u s.block ++ take n (drop u s.block); free = x }) free
 
 -- and where they do
-pub taken_refreshed : (j : Journaled) (flags : List Bool) (a b : List ℕ) (s : StreamParts) (n : ℕ) (blocks : List ℕ) → length s.block ≡ 4096 → AreHeld flags s.blocks → NeedsBlock s.len n
-    → Adds j.standing.shape flags s.blocks blocks s.block a b → taken_in j b (refreshed s n blocks) ≡ advanced n (taken_in j a s)
+pub taken_refreshed : (j : Journaled) (flags : List Bool) (a b : List ℕ) (s : StreamParts) (n : ℕ) (blocks : List ℕ) → length s.block ≡ 4096 → AreHeld flags s.facts.blocks → NeedsBlock s.facts.len n
+    → Adds j.standing.shape flags s.facts.blocks blocks s.block a b → taken_in j b (refreshed s n blocks) ≡ advanced n (taken_in j a s)
 taken_refreshed j flags a b s n blocks size held needs adds =
-    let u : ℕ = s.len % 4096 in
+    let u : ℕ = s.facts.len % 4096 in
     let full = needs.1 in
-    let m : (s.len + n) % 4096 ≡ 0 = omega arith in
+    let m : (s.facts.len + n) % 4096 ≡ 0 = omega arith in
     let l = length-drop u s.block in
     let all : take n (drop u s.block) ≡ drop u s.block = take_all n (drop u s.block) (omega arith) in
     let nothing : drop n (drop u s.block) ≡ [] = drop_all n (drop u s.block) (omega arith) in
-    let still : joined j.standing.shape b s.blocks ≡ joined j.standing.shape a s.blocks = joined_other j.standing.shape adds.block a b adds.others s.blocks (not_held flags s.blocks adds.block held adds.free) in
-    let bytes : joined j.standing.shape b blocks ++ take ((s.len + n) % 4096) zero_block ≡ joined j.standing.shape a s.blocks ++ take u s.block ++ take n (drop u s.block) =
+    let still : joined j.standing.shape b s.facts.blocks ≡ joined j.standing.shape a s.facts.blocks = joined_other j.standing.shape adds.block a b adds.others s.facts.blocks (not_held flags s.facts.blocks adds.block held adds.free) in
+    let bytes : joined j.standing.shape b blocks ++ take ((s.facts.len + n) % 4096) zero_block ≡ joined j.standing.shape a s.facts.blocks ++ take u s.block ++ take n (drop u s.block) =
     ap (λ (k : ℕ). joined j.standing.shape b blocks ++ take k zero_block) m
     ∙ append-nil (joined j.standing.shape b blocks)
     ∙ ap (joined j.standing.shape b) adds.blocks
-    ∙ flat_map-append (block_bytes j.standing.shape b) s.blocks (adds.block ∷ [])
+    ∙ flat_map-append (block_bytes j.standing.shape b) s.facts.blocks (adds.block ∷ [])
     ∙ ap (λ (x : List ℕ). x ++ (block_bytes j.standing.shape b adds.block ++ [])) still
-    ∙ ap (λ (x : List ℕ). joined j.standing.shape a s.blocks ++ x) (append-nil (block_bytes j.standing.shape b adds.block) ∙ adds.written ∙ sym (take-append-drop u s.block) ∙ ap (λ (x : List ℕ). take u s.block ++ x) (sym all))
-    ∙ sym (append_assoc (joined j.standing.shape a s.blocks) (take u s.block) (take n (drop u s.block))) in
-    let free : drop ((s.len + n) % 4096) zero_block ≡ next_free (drop n (drop u s.block)) =
+    ∙ ap (λ (x : List ℕ). joined j.standing.shape a s.facts.blocks ++ x) (append-nil (block_bytes j.standing.shape b adds.block) ∙ adds.written ∙ sym (take-append-drop u s.block) ∙ ap (λ (x : List ℕ). take u s.block ++ x) (sym all))
+    ∙ sym (append_assoc (joined j.standing.shape a s.facts.blocks) (take u s.block) (take n (drop u s.block))) in
+    let free : drop ((s.facts.len + n) % 4096) zero_block ≡ next_free (drop n (drop u s.block)) =
     ap (λ (k : ℕ). drop k zero_block) m ∙ ap next_free (sym nothing) in
-    ap (λ (x : List ℕ). record { bytes = x; free = drop ((s.len + n) % 4096) zero_block }) bytes
-    ∙ ap (λ (x : List ℕ). record { bytes = joined j.standing.shape a s.blocks ++ take u s.block ++ take n (drop u s.block); free = x }) free
+    ap (λ (x : List ℕ). record { bytes = x; free = drop ((s.facts.len + n) % 4096) zero_block }) bytes
+    ∙ ap (λ (x : List ℕ). record { bytes = joined j.standing.shape a s.facts.blocks ++ take u s.block ++ take n (drop u s.block); free = x }) free
 
 -- where a block was there, the disk's answer is that of the block
 pub block_reply : (free : ℕ) (r : Result (Unit {0}) ArchiveFault) → 0 < free → DiskReply r → BlockReply free r

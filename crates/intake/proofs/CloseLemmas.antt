@@ -41,46 +41,46 @@ take_past (a ∷ x) y u =
     ap (λ (k : ℕ). take k (a ∷ (x ++ y))) e ∙ ap (λ (z : List ℕ). a ∷ z) (take_past x y u)
 
 -- no bytes are left over
-pub closed_whole : (shape : Shape) (flags : List Bool) (a : List ℕ) (s : StreamParts) → length flags ≡ shape.data_blocks → length a ≡ disk_length shape → AreHeld flags s.blocks
-    → length s.blocks ≡ s.len / 4096 → s.len % 4096 ≡ 0 → ClosesBytes shape s s.blocks a a
+pub closed_whole : (shape : Shape) (flags : List Bool) (a : List ℕ) (s : StreamParts) → length flags ≡ shape.data_blocks → length a ≡ disk_length shape → AreHeld flags s.facts.blocks
+    → length s.facts.blocks ≡ s.facts.len / 4096 → s.facts.len % 4096 ≡ 0 → ClosesBytes shape s s.facts.blocks a a
 closed_whole shape flags a s map long are filled none =
-    let l = length_joined shape flags a s.blocks map long are in
-    take_all s.len (joined shape a s.blocks) (omega (arith, l, filled, none))
-    ∙ sym (append-nil (joined shape a s.blocks))
-    ∙ ap (λ (k : ℕ). joined shape a s.blocks ++ take k s.block) (sym none)
+    let l = length_joined shape flags a s.facts.blocks map long are in
+    take_all s.facts.len (joined shape a s.facts.blocks) (omega (arith, l, filled, none))
+    ∙ sym (append-nil (joined shape a s.facts.blocks))
+    ∙ ap (λ (k : ℕ). joined shape a s.facts.blocks ++ take k s.block) (sym none)
 
 -- the blocks joined, with one more
-joined_more : (shape : Shape) (flags : List Bool) (a b bytes : List ℕ) (s : StreamParts) (blocks : List ℕ) → AreHeld flags s.blocks → Adds shape flags s.blocks blocks bytes a b
-    → joined shape b blocks ≡ joined shape a s.blocks ++ bytes
+joined_more : (shape : Shape) (flags : List Bool) (a b bytes : List ℕ) (s : StreamParts) (blocks : List ℕ) → AreHeld flags s.facts.blocks → Adds shape flags s.facts.blocks blocks bytes a b
+    → joined shape b blocks ≡ joined shape a s.facts.blocks ++ bytes
 joined_more shape flags a b bytes s blocks are adds =
     ap (joined shape b) adds.blocks
-    ∙ flat_map-append (block_bytes shape b) s.blocks (adds.block ∷ [])
-    ∙ ap (λ (y : List ℕ). y ++ (block_bytes shape b adds.block ++ [])) (joined_other shape adds.block a b adds.others s.blocks (not_held flags s.blocks adds.block are adds.free))
-    ∙ ap (λ (y : List ℕ). joined shape a s.blocks ++ y) (append-nil (block_bytes shape b adds.block) ∙ adds.written)
+    ∙ flat_map-append (block_bytes shape b) s.facts.blocks (adds.block ∷ [])
+    ∙ ap (λ (y : List ℕ). y ++ (block_bytes shape b adds.block ++ [])) (joined_other shape adds.block a b adds.others s.facts.blocks (not_held flags s.facts.blocks adds.block are adds.free))
+    ∙ ap (λ (y : List ℕ). joined shape a s.facts.blocks ++ y) (append-nil (block_bytes shape b adds.block) ∙ adds.written)
 
 pads : (x : List ℕ) (n : ℕ) → 4096 * blocks_for (length x) - length x ≡ n → padded x ≡ x ++ replicate n 0
 pads x n is = ap (λ (k : ℕ). x ++ replicate k 0) is
 
 -- nothing is padded where no bytes are left over
-pub padded_whole : (shape : Shape) (flags : List Bool) (a : List ℕ) (s : StreamParts) → length flags ≡ shape.data_blocks → length a ≡ disk_length shape → AreHeld flags s.blocks
-    → s.len % 4096 ≡ 0 → ClosesPadded shape s s.blocks a a
+pub padded_whole : (shape : Shape) (flags : List Bool) (a : List ℕ) (s : StreamParts) → length flags ≡ shape.data_blocks → length a ≡ disk_length shape → AreHeld flags s.facts.blocks
+    → s.facts.len % 4096 ≡ 0 → ClosesPadded shape s s.facts.blocks a a
 padded_whole shape flags a s map long are none =
-    let x = joined shape a s.blocks in
-    let l = length_joined shape flags a s.blocks map long are in
-    let full : x ++ take (s.len % 4096) s.block ≡ x = ap (λ (k : ℕ). x ++ take k s.block) none ∙ append-nil x in
+    let x = joined shape a s.facts.blocks in
+    let l = length_joined shape flags a s.facts.blocks map long are in
+    let full : x ++ take (s.facts.len % 4096) s.block ≡ x = ap (λ (k : ℕ). x ++ take k s.block) none ∙ append-nil x in
     sym (ap padded full ∙ pads x 0 (omega (arith, l)) ∙ append-nil x)
 
 -- what is left over is padded with zeros
-pub padded_part : (shape : Shape) (flags : List Bool) (a b bytes : List ℕ) (s : StreamParts) (blocks : List ℕ) → length flags ≡ shape.data_blocks → length a ≡ disk_length shape → AreHeld flags s.blocks
-    → s.len % 4096 ≢ 0 → length s.block ≡ 4096 → Adds shape flags s.blocks blocks bytes a b → bytes ≡ take (s.len % 4096) s.block ++ replicate (length s.block - s.len % 4096) 0 → ClosesPadded shape s blocks a b
+pub padded_part : (shape : Shape) (flags : List Bool) (a b bytes : List ℕ) (s : StreamParts) (blocks : List ℕ) → length flags ≡ shape.data_blocks → length a ≡ disk_length shape → AreHeld flags s.facts.blocks
+    → s.facts.len % 4096 ≢ 0 → length s.block ≡ 4096 → Adds shape flags s.facts.blocks blocks bytes a b → bytes ≡ take (s.facts.len % 4096) s.block ++ replicate (length s.block - s.facts.len % 4096) 0 → ClosesPadded shape s blocks a b
 padded_part shape flags a b bytes s blocks map long are over size adds is =
-    let u = s.len % 4096 in
-    let x = joined shape a s.blocks in
+    let u = s.facts.len % 4096 in
+    let x = joined shape a s.facts.blocks in
     let t = take u s.block in
-    let l = length_joined shape flags a s.blocks map long are in
+    let l = length_joined shape flags a s.facts.blocks map long are in
     let some = length-take-le u s.block (omega (arith, size)) in
     let all = length-append x t in
-    let gap : 4096 * blocks_for (length (x ++ t)) - length (x ++ t) ≡ length s.block - u = gap_is (length s.blocks) u (length (x ++ t)) (length s.block) (omega (arith, l, some, all)) over (omega arith) size in
+    let gap : 4096 * blocks_for (length (x ++ t)) - length (x ++ t) ≡ length s.block - u = gap_is (length s.facts.blocks) u (length (x ++ t)) (length s.block) (omega (arith, l, some, all)) over (omega arith) size in
     joined_more shape flags a b bytes s blocks are adds
     ∙ ap (λ (y : List ℕ). x ++ y) is
     ∙ sym (append_assoc x t (replicate (length s.block - u) 0))
@@ -90,15 +90,15 @@ padded_part shape flags a b bytes s blocks map long are over size adds is =
     gap_is m u n size is over below long = omega arith
 
 -- the last block holds what was left over, and zeros
-pub closed_part : (shape : Shape) (flags : List Bool) (a b bytes : List ℕ) (s : StreamParts) (blocks : List ℕ) → length flags ≡ shape.data_blocks → length a ≡ disk_length shape → AreHeld flags s.blocks
-    → length s.blocks ≡ s.len / 4096 → length s.block ≡ 4096 → Adds shape flags s.blocks blocks bytes a b → bytes ≡ take (s.len % 4096) s.block ++ replicate (length s.block - s.len % 4096) 0 → ClosesBytes shape s blocks a b
+pub closed_part : (shape : Shape) (flags : List Bool) (a b bytes : List ℕ) (s : StreamParts) (blocks : List ℕ) → length flags ≡ shape.data_blocks → length a ≡ disk_length shape → AreHeld flags s.facts.blocks
+    → length s.facts.blocks ≡ s.facts.len / 4096 → length s.block ≡ 4096 → Adds shape flags s.facts.blocks blocks bytes a b → bytes ≡ take (s.facts.len % 4096) s.block ++ replicate (length s.block - s.facts.len % 4096) 0 → ClosesBytes shape s blocks a b
 closed_part shape flags a b bytes s blocks map long are filled size adds padded =
-    let u = s.len % 4096 in
-    let x = joined shape a s.blocks in
-    let l = length_joined shape flags a s.blocks map long are in
+    let u = s.facts.len % 4096 in
+    let x = joined shape a s.facts.blocks in
+    let l = length_joined shape flags a s.facts.blocks map long are in
     let all : joined shape b blocks ≡ x ++ bytes = joined_more shape flags a b bytes s blocks are adds in
-    let e : s.len ≡ length x + u = omega (arith, l, filled) in
-    ap (take s.len) all
+    let e : s.facts.len ≡ length x + u = omega (arith, l, filled) in
+    ap (take s.facts.len) all
     ∙ ap (λ (k : ℕ). take k (x ++ bytes)) e
     ∙ take_past x bytes u
     ∙ ap (λ (y : List ℕ). x ++ take u y) padded
@@ -110,12 +110,12 @@ always (Ok x) P holds = holds
 always (Err e) P holds = tt
 
 -- a stream of whole blocks is closed by a sync
-pub sealed_whole : (free : ℕ) (s : StreamParts) (r : Result (Unit {0}) ArchiveFault) → s.len % 4096 ≡ 0 → DiskReply r → ClosesStream free s r s
+pub sealed_whole : (free : ℕ) (s : StreamParts) (r : Result (Unit {0}) ArchiveFault) → s.facts.len % 4096 ≡ 0 → DiskReply r → ClosesStream free s r s
 sealed_whole free s (Ok u) none reply = inl (none, refl)
 sealed_whole free s (Err f) none reply = subst (λ (x : ArchiveFault). ClosesStream free s (Err x) s) (sym reply) (λ over. absurd (over none))
 
 -- one whose last block was written
-pub sealed_part : (free : ℕ) (s s' : StreamParts) (r : Result (Unit {0}) ArchiveFault) → s.len % 4096 ≢ 0 → 0 < free → length s'.blocks ≡ length s.blocks + 1
-    → case_from_parts s' ≡ case_from_parts (with_blocks s s'.blocks) → DiskReply r → ClosesStream free s r s'
+pub sealed_part : (free : ℕ) (s s' : StreamParts) (r : Result (Unit {0}) ArchiveFault) → s.facts.len % 4096 ≢ 0 → 0 < free → length s'.facts.blocks ≡ length s.facts.blocks + 1
+    → case_from_parts s' ≡ case_from_parts (with_blocks s s'.facts.blocks) → DiskReply r → ClosesStream free s r s'
 sealed_part free s s' (Ok u) over some more same reply = inr (over, some, more, same)
 sealed_part free s s' (Err f) over some more same reply = subst (λ (x : ArchiveFault). ClosesStream free s (Err x) s') (sym reply) (λ _. some)

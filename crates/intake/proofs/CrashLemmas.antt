@@ -109,20 +109,20 @@ module _ {D : Type 0} (g : disk.Ghosts D) (d d1 d2 : D) (j : Journaled) (runs : 
 
 -- what a stream that is stored leaves
 pub stored_is : {D : Type 0} (g : disk.Ghosts D) (d d1 : D) (j : Journaled) (s : StreamParts) (blocks : List ℕ) (c : Case) → c ≡ case_from_parts (with_blocks s blocks)
-    → image_in j.standing.shape (g.seen d1) blocks s.len ≡ (taken_in j (g.seen d) s).bytes → durable_in (g.seen d1) j.standing ≡ durable_in (g.seen d) j.standing
-    → durable_in (g.seen d1) (appended j.standing (store_of j.standing c)) ≡ with_case (durable_in (g.seen d) j.standing) (stream_facts s) (length (runs_of blocks)) (taken_in j (g.seen d) s).bytes
+    → image_in j.standing.shape (g.seen d1) blocks s.facts.len ≡ (taken_in j (g.seen d) s).bytes → durable_in (g.seen d1) j.standing ≡ durable_in (g.seen d) j.standing
+    → durable_in (g.seen d1) (appended j.standing (store_of j.standing c)) ≡ with_case (durable_in (g.seen d) j.standing) s.facts blocks (taken_in j (g.seen d) s).bytes
 stored_is g d d1 j s blocks c is image same =
     ap (λ (x : Case). durable_in (g.seen d1) (appended j.standing (store_of j.standing x))) is
     ∙ durable_stored j.standing (case_from_parts (with_blocks s blocks)) (g.seen d1)
-    ∙ ap (λ (x : List ℕ). with_case (durable_in (g.seen d1) j.standing) (stream_facts s) (length (runs_of blocks)) x) image
-    ∙ ap (λ (x : Durable). with_case x (stream_facts s) (length (runs_of blocks)) (taken_in j (g.seen d) s).bytes) same
+    ∙ ap (λ (x : List ℕ). with_case (durable_in (g.seen d1) j.standing) s.facts blocks x) image
+    ∙ ap (λ (x : Durable). with_case x s.facts blocks (taken_in j (g.seen d) s).bytes) same
 
 -- what stands in a slot, with the bytes that it took
-pub stored_doubt : {D : Type 0} (g : disk.Ghosts D) (d : D) (j : Journaled) (most : ℕ) (streams : List (Option StreamParts)) (b : Bool) (slot : ℕ) (s : StreamParts) (runs : ℕ) (y : Durable) → stream_at streams slot ≡ Some s → MayHaveRuns s.len runs
-    → y ≡ with_case (durable_in (g.seen d) j.standing) (stream_facts s) runs (taken_in j (g.seen d) s).bytes
-    → StoresIn runs (state_of (record { disk = d; journal = j; limit = most; streams = streams; stopped = b })) (contents_of g.seen (record { disk = d; journal = j; limit = most; streams = streams; stopped = b })) (durable_in (g.seen d) j.standing) slot y
-stored_doubt g d j most streams b slot s runs y is fits stored = (
-  stream_facts s,
+pub stored_doubt : {D : Type 0} (g : disk.Ghosts D) (d : D) (j : Journaled) (most : ℕ) (streams : List (Option StreamParts)) (b : Bool) (slot : ℕ) (s : StreamParts) (blocks : List ℕ) (y : Durable) → stream_at streams slot ≡ Some s → MayHaveRuns s.facts.len (length (runs_of blocks))
+    → y ≡ with_case (durable_in (g.seen d) j.standing) s.facts blocks (taken_in j (g.seen d) s).bytes
+    → StoresIn blocks (state_of (record { disk = d; journal = j; limit = most; streams = streams; stopped = b })) (contents_of g.seen (record { disk = d; journal = j; limit = most; streams = streams; stopped = b })) (durable_in (g.seen d) j.standing) slot y
+stored_doubt g d j most streams b slot s blocks y is fits stored = (
+  s.facts,
   taken_in j (g.seen d) s,
   at_map stream_facts streams slot ∙ ap (option_map stream_facts) is,
   at_map (taken_in j (g.seen d)) streams slot ∙ ap (option_map (taken_in j (g.seen d))) is,

@@ -1,7 +1,6 @@
 -- How cases are dropped.
 use Rattle.std.proofs.Common.{◌≡◌, ℕ, ◌*◌, ◌+◌, Bool, true, false, not, cond, List, [], ◌∷◌, length, map, refl, sym, ap, ◌∙◌, subst, arith, Option, Some, Result, Ok, Err}
 use Rattle.std.specs.Prelude.{option_map, nat_lt}
-use Rattle.std.specs.List.{filter}
 use Rattle.disk_model.specs.Places.{SameOutside}
 use Rattle.disk_model.specs.declared.disk.Disk as disk
 use Rattle.extents.specs.FreeSet.{one_if}
@@ -26,9 +25,9 @@ use Rattle.intake.specs.Contents.{Contents, DropBytes, images_without}
 use Rattle.intake.specs.Ending.{EndsStreams}
 use Rattle.intake.specs.Faults.{fault_of}
 use Rattle.intake.specs.Live.{case_uses, cases_named}
-use Rattle.intake.specs.Parts.{Parts, StreamParts, state_of, case_facts, contents_of, taken_in}
+use Rattle.intake.specs.Parts.{Parts, StreamParts, state_of, contents_of, taken_in}
 use Rattle.intake.specs.Sound.{IsArchiveSound, IsRunning, case_blocks}
-use Rattle.intake.specs.State.{ArchiveState, CaseFacts}
+use Rattle.intake.specs.State.{ArchiveState}
 use Rattle.intake.specs.Step.{DropStep, DeleteStep, HasCase}
 use Rattle.intake.specs.declared.faults.ArchiveFault.{ArchiveFault}
 use Rattle.intake.specs.declared.faults.ArchiveFault.TheVariants as fault
@@ -36,22 +35,12 @@ use Rattle.intake.proofs.CountLemmas.{uses_same}
 use Rattle.intake.proofs.AfterLemmas.{sound_after, same_state, halted_now, same_bytes}
 use Rattle.intake.proofs.RecordedLemmas.{record_room, record_full, state_recorded}
 
--- the cases that are left, without their blocks
-state_left : (seqs : List ℕ) (cases : List Case) → map case_facts (dropped seqs cases) ≡ filter (λ (c : CaseFacts). not (is_among seqs c.seq)) (map case_facts cases)
-state_left seqs [] = refl
-state_left seqs (c ∷ rest) =
-    elim (is_among seqs c.seq) as (λ t. map case_facts (cond (not t) (c ∷ dropped seqs rest) (dropped seqs rest))
-    ≡ cond (not t) (case_facts c ∷ filter (λ (x : CaseFacts). not (is_among seqs x.seq)) (map case_facts rest)) (filter (λ (x : CaseFacts). not (is_among seqs x.seq)) (map case_facts rest))) [
-      | true ↦ state_left seqs rest
-      | false ↦ ap (λ (l : List CaseFacts). case_facts c ∷ l) (state_left seqs rest)
-    ]
-
--- and their images
-images_left : (f : Case → List ℕ) (seqs : List ℕ) (cases : List Case) → map f (dropped seqs cases) ≡ images_without seqs (map case_facts cases) (map f cases)
+-- the images of the cases that are left
+images_left : (f : Case → List ℕ) (seqs : List ℕ) (cases : List Case) → map f (dropped seqs cases) ≡ images_without seqs cases (map f cases)
 images_left f seqs [] = refl
 images_left f seqs (c ∷ rest) =
     elim (is_among seqs c.seq) as (λ t. map f (cond (not t) (c ∷ dropped seqs rest) (dropped seqs rest))
-    ≡ cond t (images_without seqs (map case_facts rest) (map f rest)) (f c ∷ images_without seqs (map case_facts rest) (map f rest))) [
+    ≡ cond t (images_without seqs rest (map f rest)) (f c ∷ images_without seqs rest (map f rest))) [
       | true ↦ images_left f seqs rest
       | false ↦ ap (λ (l : List (List ℕ)). f c ∷ l) (images_left f seqs rest)
     ]
@@ -77,17 +66,17 @@ module _ {D : Type 0} (g : disk.Ghosts D) (d d' : D) (j j' : Journaled) (most : 
 
   pub drop_ok : (u : Unit {0}) → AppendStep j (Drop seqs) (Ok u) j' → DropStep (state_of old) seqs (Ok u) (state_of (record { disk = d'; journal = j'; limit = most; streams = streams; stopped = b }))
   drop_ok u step = (
-    record_room d d' j (Drop seqs) most streams b _ (state_left seqs j.standing.cases) step.1,
+    record_room d d' j (Drop seqs) most streams b step.1,
     ap (λ (k : Journaled). state_of (record { disk = d'; journal = k; limit = most; streams = streams; stopped = b })) step.2
-        ∙ state_recorded d d' j (Drop seqs) most streams b _ (state_left seqs j.standing.cases),
+        ∙ state_recorded d d' j (Drop seqs) most streams b,
   )
 
   pub drop_err : (jf : JournalFault) → AppendStep j (Drop seqs) (Err jf) j' → EndsStreams (fault_of jf) streams b' streams' → DropStep (state_of old) seqs (Err (fault_of jf)) (state_of new)
   drop_err journal_fault.Stopped step ends = absurd (let e : true ≡ false = sym step.0 ∙ (sound.runs on).journal in cc)
-  drop_err journal_fault.JournalFull step ends = (record_full d d' j (Drop seqs) most streams b _ (state_left seqs j.standing.cases) step.1, same_state g d d' j j' (Drop seqs) most flags streams streams' b b' on ends.0 ends.1 step.2)
+  drop_err journal_fault.JournalFull step ends = (record_full d d' j (Drop seqs) most streams b step.1, same_state g d d' j j' (Drop seqs) most flags streams streams' b b' on ends.0 ends.1 step.2)
   drop_err journal_fault.NumbersSpent step ends = absurd step
-  drop_err journal_fault.OutOfMemory step ends = (record_room d d' j (Drop seqs) most streams b _ (state_left seqs j.standing.cases) step.1, same_state g d d' j j' (Drop seqs) most flags streams streams' b b' on ends.0 ends.1 step.2)
-  drop_err journal_fault.Disk step ends = (record_room d d' j (Drop seqs) most streams b _ (state_left seqs j.standing.cases) step.1, halted_now g d d' j j' (Drop seqs) most flags streams streams' b b' on ends.0 ends.1 step.2)
+  drop_err journal_fault.OutOfMemory step ends = (record_room d d' j (Drop seqs) most streams b step.1, same_state g d d' j j' (Drop seqs) most flags streams streams' b b' on ends.0 ends.1 step.2)
+  drop_err journal_fault.Disk step ends = (record_room d d' j (Drop seqs) most streams b step.1, halted_now g d d' j j' (Drop seqs) most flags streams streams' b b' on ends.0 ends.1 step.2)
   drop_err journal_fault.OldVersion step ends = absurd step
 
   pub drop_sound_after : (flags' : List Bool) (u : Unit {0}) → MayFollow j.standing (Drop seqs) → AppendStep j (Drop seqs) (Ok u) j' → Guards g d' j' → Balances flags (used_blocks (gone seqs j.standing.cases)) flags' []
@@ -114,10 +103,10 @@ module _ {D : Type 0} (g : disk.Ghosts D) (d d' : D) (j j' : Journaled) (most : 
       ap (λ (k : Journaled). contents_of g.seen (record { disk = d'; journal = k; limit = most; streams = streams; stopped = b })) step.2
       ∙ ap (λ (x : List (List ℕ)). record { images = x; taken = map (option_map (taken_in j (g.seen d'))) streams })
       (images_left (λ (c : Case). image_in j.standing.shape (g.seen d') c.blocks c.len) seqs j.standing.cases)
-      ∙ ap (λ (x : Contents). record { images = images_without seqs (map case_facts j.standing.cases) x.images; taken = x.taken }) (same_bytes g.seen d d' j most streams b outside b)
+      ∙ ap (λ (x : Contents). record { images = images_without seqs j.standing.cases x.images; taken = x.taken }) (same_bytes g.seen d d' j most streams b outside b)
 
 -- one case is deleted
-pub delete_step : (s : ArchiveState) (seq : ℕ) (c : CaseFacts) (r : Result (Unit {0}) ArchiveFault) (after : ArchiveState) → HasCase s seq c → c.pinned ≡ false → DropStep s (seq ∷ []) r after → DeleteStep s seq r after
+pub delete_step : (s : ArchiveState) (seq : ℕ) (c : Case) (r : Result (Unit {0}) ArchiveFault) (after : ArchiveState) → HasCase s seq c → c.pinned ≡ false → DropStep s (seq ∷ []) r after → DeleteStep s seq r after
 delete_step s seq c (Ok u) after has free step = (c, has, free, step.0, step.1)
 delete_step s seq c (Err fault.JournalFull) after has free step = (c, has, free, step.0, step.1)
 delete_step s seq c (Err fault.OutOfMemory) after has free step = (c, has, free, step.0, step.1)

@@ -1,18 +1,18 @@
 -- A stream that stays open stays of the same image, whatever calls are made.
-use Rattle.std.proofs.Common.{◌≡◌, ◌≢◌, ◌<◌, ℕ, false, List, [], ◌∷◌, ◌++◌, length, arith, refl, sym, ap, ◌∙◌, ⊎_elim, inl, inr, Option, None, Some, Result, Ok, Err}
+use Rattle.std.proofs.Common.{◌≡◌, ◌≢◌, ◌<◌, ℕ, List, [], ◌∷◌, ◌++◌, length, arith, refl, sym, ap, ◌∙◌, ⊎_elim, inl, inr, Option, None, Some, Result, Ok, Err}
 use Rattle.std.specs.Prelude.{IsTrue, option_map, slice_set}
 use Rattle.std.proofs.lemmas.List.{length-map}
 use Rattle.std.proofs.lemmas.Bool.{cases_eq}
 use Rattle.disk_model.specs.declared.disk.Disk as disk
 use Rattle.intake.specs.Contents.{Contents, Taken, empty_taken}
-use Rattle.intake.specs.Durable.{Durable, FoundCase, durable_of}
+use Rattle.intake.specs.Durable.{Durable, FoundCase, durable_of, found_with}
 use Rattle.intake.specs.Lending.{with_room}
 use Rattle.intake.specs.Making.{Call, ReplyTo, Makes, Made, AreMade, StaysOpen, IsCaseOf, archive_after, taken_over, begin_in, lend_of, advance_by, finish_of, abandon_of, delete_of, pin_of, label_of, upgrade_it, retire_by, image_of, find_case, list_cases, count_free, ask_version, ask_stopped}
 use Rattle.intake.specs.Parts.{Parts, state_of, stream_facts, contents_of, taken_in}
 use Rattle.intake.specs.Room.{room_left}
 use Rattle.intake.specs.Slots.{stream_at, closed}
 use Rattle.intake.specs.State.{ArchiveState, StreamFacts}
-use Rattle.intake.specs.Step.{longer}
+use Rattle.intake.specs.Step.{longer, case_from}
 use Rattle.intake.specs.declared.faults.ArchiveFault.{ArchiveFault}
 use Rattle.intake.specs.declared.faults.ArchiveFault.TheVariants as fault
 use Rattle.intake.proofs.LastsLemmas.{finish_lasts}
@@ -189,26 +189,10 @@ module _ {D : Type 0} (g : disk.Ghosts D) where
       let lasts = finish_lasts g last new taken.3 slot seq finish in
       let same : lasts.1.1 ≡ taken.0 = some_is lasts.1.1 taken.0 (sym lasts.1.3 ∙ taken.1) in
       let told : lasts.1.0 ≡ record s { len = facts.0.len; blocks = facts.0.blocks } = some_is lasts.1.0 facts.0 (sym lasts.1.2 ∙ facts.1) ∙ facts.2 in (
-        record {
-          seq = (durable_of g.seen last).next;
-          kind = lasts.1.0.kind;
-          name = lasts.1.0.name;
-          pid = lasts.1.0.pid;
-          signal = lasts.1.0.signal;
-          time = lasts.1.0.time;
-          pinned = false;
-          len = lasts.1.0.len;
-          image = lasts.1.1.bytes;
-          runs = lasts.0;
-          label = [];
-        },
+        found_with (case_from lasts.1.0 (durable_of g.seen last).next lasts.0) lasts.1.1.bytes,
         record {
           number = sym finish.step.6;
-          kind = ap (λ (x : StreamFacts). x.kind) told;
-          name = ap (λ (x : StreamFacts). x.name) told;
-          pid = ap (λ (x : StreamFacts). x.pid) told;
-          signal = ap (λ (x : StreamFacts). x.signal) told;
-          time = ap (λ (x : StreamFacts). x.time) told;
+          origin = ap (λ (x : StreamFacts). x.origin) told;
           unpinned = refl;
           unlabelled = refl;
           image = ap (λ (x : Taken). x.bytes) same ∙ taken.2;

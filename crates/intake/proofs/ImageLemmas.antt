@@ -27,16 +27,15 @@ use Rattle.disk_model.specs.Moments.{AddsOnly}
 use Rattle.intake.specs.Durable.{StandsFor, durable_in}
 use Rattle.intake.specs.Ending.{EndsStreams}
 use Rattle.intake.specs.Guarding.{Guards}
-use Rattle.intake.specs.Parts.{Parts, StreamParts, state_of, case_facts, stream_facts, taken_in, contents_of}
+use Rattle.intake.specs.Parts.{Parts, StreamParts, state_of, stream_facts, taken_in, contents_of}
 use Rattle.intake.specs.Reading.{LieWithin, LiesIn, IsReadFault}
 use Rattle.intake.specs.Slots.{closed}
 use Rattle.intake.specs.Sound.{IsArchiveSound, case_blocks}
-use Rattle.intake.specs.State.{ArchiveState, CaseFacts, StreamFacts}
-use Rattle.intake.specs.Step.{ImageStep, HasCase, case_at, halted}
+use Rattle.intake.specs.State.{ArchiveState, StreamFacts}
+use Rattle.intake.specs.Step.{ImageStep, HasCase, halted}
 use Rattle.intake.specs.declared.faults.ArchiveFault.{ArchiveFault}
 use Rattle.intake.specs.declared.faults.ArchiveFault.TheVariants as fault
 use Rattle.intake.proofs.AdvanceLemmas.{closed_map}
-use Rattle.intake.proofs.AfterLemmas.{case_facts_at}
 use Rattle.intake.proofs.CountLemmas.{in_range}
 use Rattle.intake.proofs.RestLemmas.{stands_now}
 use Rattle.intake.proofs.SoundLemmas.{sound_halted}
@@ -70,10 +69,10 @@ case_lies limit cases next seq c live all found =
     }
 
 -- the image of a case stands where the case does
-pub image_found : (seq : ℕ) (image : Case → List ℕ) (cases : List Case) → image_at seq (map case_facts cases) (map image cases) ≡ option_map image (case_numbered seq cases)
+pub image_found : (seq : ℕ) (image : Case → List ℕ) (cases : List Case) → image_at seq cases (map image cases) ≡ option_map image (case_numbered seq cases)
 image_found seq image [] = refl
 image_found seq image (c ∷ rest) =
-    elim (c.seq == seq) as (λ t. cond t (Some (image c)) (image_at seq (map case_facts rest) (map image rest)) ≡ option_map image (cond t (Some c) (case_numbered seq rest)))
+    elim (c.seq == seq) as (λ t. cond t (Some (image c)) (image_at seq rest (map image rest)) ≡ option_map image (cond t (Some c) (case_numbered seq rest)))
     [ true ↦ refl | false ↦ image_found seq image rest ]
 
 module _ {D : Type 0} (g : disk.Ghosts D) where
@@ -158,14 +157,14 @@ module _ {D : Type 0} (seen : D → List ℕ) (d d' : D) (j : Journaled) (most :
       ∙ ap (λ (x : List (Option StreamFacts)). record (state_of old) { streams = x; stopped = true })
       (ap (map (option_map stream_facts)) same ∙ closed_map stream_facts streams)
 
-  pub has_case : (seq : ℕ) (c : Case) → b ≡ false → Some c ≡ case_numbered seq j.standing.cases → HasCase (state_of old) seq (case_facts c)
-  has_case seq c on found = (on, case_facts_at seq j.standing.cases ∙ ap (option_map case_facts) (sym found))
+  pub has_case : (seq : ℕ) (c : Case) → b ≡ false → Some c ≡ case_numbered seq j.standing.cases → HasCase (state_of old) seq c
+  has_case seq c on found = (on, sym found)
 
   -- a refusal
   pub image_refused : (T : Type 0) (seq : ℕ) (c : Case) (f : ArchiveFault) → b ≡ false → Some c ≡ case_numbered seq j.standing.cases → IsReadFault f → EndsStreams f streams b' streams'
       → ImageStep {T = T} (state_of old) seq (Err f) (state_of new)
-  image_refused T seq c fault.Disk on found may ends = (case_facts c, has_case seq c on found, state_halted ends.0 ends.1)
-  image_refused T seq c fault.OutOfMemory on found may ends = (case_facts c, has_case seq c on found, state_same (ends.0 ∙ sym on) ends.1)
+  image_refused T seq c fault.Disk on found may ends = (c, has_case seq c on found, state_halted ends.0 ends.1)
+  image_refused T seq c fault.OutOfMemory on found may ends = (c, has_case seq c on found, state_same (ends.0 ∙ sym on) ends.1)
   image_refused T seq c _ on found may ends = absurd may
 
   -- the bytes stay
@@ -201,8 +200,8 @@ module _ {D : Type 0} (seen : D → List ℕ) (d d' : D) (j : Journaled) (most :
       ∙ ap (option_map (λ (x : Case). image_in j.standing.shape (seen d) x.blocks x.len)) (sym found)
 
 -- what is as long as the case of this number has the length of each case of this number
-pub long_as : (s : ArchiveState) (seq n : ℕ) (x y : CaseFacts) → HasCase s seq x → n ≡ x.len → case_at seq s.cases ≡ Some y → n ≡ y.len
-long_as s seq n x y has is at = is ∙ ap (λ (c : CaseFacts). c.len) (inside (sym has.1 ∙ at))
+pub long_as : (s : ArchiveState) (seq n : ℕ) (x y : Case) → HasCase s seq x → n ≡ x.len → case_numbered seq s.cases ≡ Some y → n ≡ y.len
+long_as s seq n x y has is at = is ∙ ap (λ (c : Case). c.len) (inside (sym has.1 ∙ at))
   where
     inside : Some x ≡ Some y → x ≡ y
     inside e = cc

@@ -1,19 +1,17 @@
 -- Names that are still a case's once the rule has dropped what it drops.
 use Rattle.std.proofs.Common.{◌≡◌, ⊎_elim, ℕ, ◌+◌, ◌<◌, Bool, true, false, not, ◌&&◌, ◌||◌, cond, List, [], ◌∷◌, ◌++◌, length, map, take, get_or, refl, sym, ap, ◌∙◌, subst, arith, Result, Ok, Err}
 use Rattle.std.specs.Prelude.{IfOk}
-use Rattle.std.specs.List.{filter}
 use Rattle.std.specs.Str.{bytes_eq}
 use Rattle.std.proofs.lemmas.List.{get_or-map, length-map, take_more}
 use Rattle.journal_layout.specs.Case.{Case, case_of}
-use Rattle.journal_layout.specs.Folding.{is_among}
+use Rattle.journal_layout.specs.Folding.{is_among, dropped}
 use Rattle.journal_layout.specs.declared.entry.Entry.{Entry}
 use Rattle.retention.specs.Rule.{IsOneDecision}
 use Rattle.retention.specs.declared.Decision.{Decision}
 use Rattle.retention.specs.declared.Policy.{Policy}
 use Rattle.intake.specs.Contents.{Contents, UnmovedBytes}
-use Rattle.intake.specs.Parts.{case_facts}
 use Rattle.intake.specs.Retiring.{KeepsTheName, NameReply, stays_named}
-use Rattle.intake.specs.State.{ArchiveState, CaseFacts}
+use Rattle.intake.specs.State.{ArchiveState}
 use Rattle.intake.specs.Step.{RetireStep, cases_without, is_named}
 use Rattle.intake.specs.Untouched.{RefusalSpares}
 use Rattle.intake.specs.declared.faults.ArchiveFault.{ArchiveFault}
@@ -31,7 +29,7 @@ or_none false = refl
 pub one_stays : (name seqs : List ℕ) (c : Case) → stays_named name seqs (c ∷ []) ≡ (not (is_among seqs c.seq) && bytes_eq c.name name)
 one_stays name seqs c = of (not (is_among seqs c.seq))
   where
-    of : (t : Bool) → is_named name (cond t (case_facts c ∷ []) []) ≡ (t && bytes_eq c.name name)
+    of : (t : Bool) → is_named name (cond t (c ∷ []) []) ≡ (t && bytes_eq c.name name)
     of true = or_none (bytes_eq c.name name)
     of false = refl
 
@@ -40,15 +38,12 @@ pub stays_more : (name seqs : List ℕ) (cases : List Case) (c : Case) → stays
 stays_more name seqs [] c = refl
 stays_more name seqs (d ∷ ds) c = of (not (is_among seqs d.seq)) (stays_more name seqs ds c)
   where
-    kept : List Case → List CaseFacts
-    kept xs = filter (λ (x : CaseFacts). not (is_among seqs x.seq)) (map case_facts xs)
-
-    of : (t : Bool) → is_named name (kept (ds ++ c ∷ [])) ≡ (is_named name (kept ds) || stays_named name seqs (c ∷ []))
-        → is_named name (cond t (case_facts d ∷ kept (ds ++ c ∷ [])) (kept (ds ++ c ∷ [])))
-        ≡ (is_named name (cond t (case_facts d ∷ kept ds) (kept ds)) || stays_named name seqs (c ∷ []))
+    of : (t : Bool) → is_named name (dropped seqs (ds ++ c ∷ [])) ≡ (is_named name (dropped seqs ds) || stays_named name seqs (c ∷ []))
+        → is_named name (cond t (d ∷ dropped seqs (ds ++ c ∷ [])) (dropped seqs (ds ++ c ∷ [])))
+        ≡ (is_named name (cond t (d ∷ dropped seqs ds) (dropped seqs ds)) || stays_named name seqs (c ∷ []))
     of true rest =
         ap (λ (b : Bool). bytes_eq d.name name || b) rest
-        ∙ or_then (bytes_eq d.name name) (is_named name (kept ds)) (stays_named name seqs (c ∷ []))
+        ∙ or_then (bytes_eq d.name name) (is_named name (dropped seqs ds)) (stays_named name seqs (c ∷ []))
     of false rest = rest
 
 -- one entry more
@@ -62,7 +57,7 @@ stays_next name seqs entries i e within is =
     ∙ stays_more name seqs (take i cases) (case_of e)
 
 -- a case that stays was there before
-named_before : (name seqs : List ℕ) (cases : List CaseFacts) → is_named name (filter (λ (c : CaseFacts). not (is_among seqs c.seq)) cases) ≡ true → is_named name cases ≡ true
+named_before : (name seqs : List ℕ) (cases : List Case) → is_named name (dropped seqs cases) ≡ true → is_named name cases ≡ true
 named_before name seqs [] is = is
 named_before name seqs (c ∷ cs) is = of (not (is_among seqs c.seq)) (named_before name seqs cs) is
   where
@@ -70,14 +65,11 @@ named_before name seqs (c ∷ cs) is = of (not (is_among seqs c.seq)) (named_bef
     or_right true b is = refl
     or_right false b is = is
 
-    kept : List CaseFacts
-    kept = filter (λ (x : CaseFacts). not (is_among seqs x.seq)) cs
-
-    either : (a : Bool) → (is_named name kept ≡ true → is_named name cs ≡ true) → (a || is_named name kept) ≡ true → (a || is_named name cs) ≡ true
+    either : (a : Bool) → (is_named name (dropped seqs cs) ≡ true → is_named name cs ≡ true) → (a || is_named name (dropped seqs cs)) ≡ true → (a || is_named name cs) ≡ true
     either true rest is = refl
     either false rest is = rest is
 
-    of : (t : Bool) → (is_named name kept ≡ true → is_named name cs ≡ true) → is_named name (cond t (c ∷ kept) kept) ≡ true → (bytes_eq c.name name || is_named name cs) ≡ true
+    of : (t : Bool) → (is_named name (dropped seqs cs) ≡ true → is_named name cs ≡ true) → is_named name (cond t (c ∷ dropped seqs cs) (dropped seqs cs)) ≡ true → (bytes_eq c.name name || is_named name cs) ≡ true
     of true rest is = either (bytes_eq c.name name) rest is
     of false rest is = or_right (bytes_eq c.name name) (is_named name cs) (rest is)
 
@@ -85,9 +77,9 @@ pub kept_before : (s : ArchiveState) (policy : Policy) (name : List ℕ) → Kee
 kept_before s policy name kept = named_before name kept.dropped s.cases (sym kept.is)
 
 -- where no case goes, all stay
-all_left : (cases : List CaseFacts) → filter (λ (c : CaseFacts). not (is_among [] c.seq)) cases ≡ cases
+pub all_left : (cases : List Case) → dropped [] cases ≡ cases
 all_left [] = refl
-all_left (c ∷ cs) = ap (λ (xs : List CaseFacts). c ∷ xs) (all_left cs)
+all_left (c ∷ cs) = ap (λ (xs : List Case). c ∷ xs) (all_left cs)
 
 -- once the rule has dropped what it drops, the name is free where no case that stays has it
 pub retired_clear : IsOneDecision → (old new : ArchiveState) (policy : Policy) (name : List ℕ) (d : Decision) → KeepsTheName old policy name false → RetireStep old policy (Ok d) new → is_named name new.cases ≡ false

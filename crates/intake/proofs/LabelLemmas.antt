@@ -1,5 +1,5 @@
 -- How the label of a case is set.
-use Rattle.std.proofs.Common.{◌≡◌, ◌≢◌, inl, inr, ⊎_elim, ℕ, ◌*◌, ◌==◌, Bool, true, false, cond, List, [], ◌∷◌, length, map, refl, sym, ap, ◌∙◌, subst, arith, Option, Some, Result, Ok, Err}
+use Rattle.std.proofs.Common.{◌≡◌, ◌≢◌, inl, inr, ⊎_elim, ℕ, ◌*◌, Bool, true, false, List, length, map, refl, sym, ap, ◌∙◌, subst, arith, Option, Some, Result, Ok, Err}
 use Rattle.std.specs.Prelude.{option_map}
 use Rattle.std.specs.Str.{bytes_eq}
 use Rattle.std.proofs.lemmas.Bool.{false≢true}
@@ -7,7 +7,7 @@ use Rattle.std.proofs.lemmas.Slice.Eq.{bytes_eq-Decides}
 use Rattle.disk_model.specs.Places.{SameOutside}
 use Rattle.disk_model.specs.declared.disk.Disk as disk
 use Rattle.journal_layout.specs.Case.{Case}
-use Rattle.journal_layout.specs.Folding.{used_blocks, with_label}
+use Rattle.journal_layout.specs.Folding.{used_blocks, with_label, labelled_as}
 use Rattle.journal_layout.specs.Front.{is_known}
 use Rattle.journal_layout.specs.Layout.{half_length}
 use Rattle.journal_layout.specs.LiveCounts.{case_uses_same, used_length, named_labelled}
@@ -18,18 +18,17 @@ use Rattle.journal_layout.specs.Soundness.{IsLabel, case_numbered, uses as uses_
 use Rattle.journal_layout.specs.Standing.{folded_of}
 use Rattle.case_journal.specs.Append.{AppendStep, MayFollow, MayLabel, LabelStep as JournalStep}
 use Rattle.case_journal.specs.Journaled.{Journaled}
+use Rattle.intake.proofs.DurableLemmas.{held_image, images_made, label_moves_none}
 use Rattle.intake.specs.Guarding.{Guards}
 use Rattle.case_journal.specs.declared.faults.JournalFault.{JournalFault}
 use Rattle.case_journal.specs.declared.faults.JournalFault.TheVariants as journal_fault
-use Rattle.intake.specs.Blocks.{image_in}
 use Rattle.intake.specs.Ending.{EndsStreams}
 use Rattle.intake.specs.Faults.{fault_of}
 use Rattle.intake.specs.Live.{case_uses, cases_named}
-use Rattle.intake.specs.Parts.{Parts, StreamParts, state_of, case_facts, contents_of, taken_in}
+use Rattle.intake.specs.Parts.{Parts, StreamParts, state_of, contents_of, taken_in}
 use Rattle.intake.specs.Sound.{IsArchiveSound, case_blocks}
-use Rattle.intake.specs.State.{CaseFacts}
-use Rattle.intake.specs.Step.{LabelStep, HasCase, case_at}
-use Rattle.intake.proofs.AfterLemmas.{case_facts_at, label_cases, sound_after, same_state, halted_now, same_bytes}
+use Rattle.intake.specs.Step.{LabelStep, HasCase}
+use Rattle.intake.proofs.AfterLemmas.{sound_after, same_state, halted_now, same_bytes}
 use Rattle.intake.proofs.LastingLemmas.{one_or_two}
 use Rattle.intake.proofs.RecordedLemmas.{record_room, record_full, state_recorded}
 
@@ -55,12 +54,11 @@ label_append j j' seq text (Err journal_fault.Disk) two step = step.1
 label_append j j' seq text (Err journal_fault.OldVersion) two step = absurd (let one = step.1 in omega (arith, one, two))
 
 -- a case with another label is not one whose label stands already
-pub label_differs : (seq : ℕ) (text : List ℕ) (cases : List Case) (c : Case) (x : CaseFacts) → Some c ≡ case_numbered seq cases → c.label ≢ text → case_at seq (map case_facts cases) ≡ Some x → x.label ≡ text → ⊥
+pub label_differs : (seq : ℕ) (text : List ℕ) (cases : List Case) (c x : Case) → Some c ≡ case_numbered seq cases → c.label ≢ text → case_numbered seq cases ≡ Some x → x.label ≡ text → ⊥
 label_differs seq text cases c x found differs at is =
-    let same : case_facts c ≡ x = inside (ap (option_map case_facts) found ∙ sym (case_facts_at seq cases) ∙ at) in
-    differs (ap (λ (y : CaseFacts). y.label) same ∙ is)
+    differs (ap (λ (y : Case). y.label) (inside (found ∙ at)) ∙ is)
   where
-    inside : Some (case_facts c) ≡ Some x → case_facts c ≡ x
+    inside : Some c ≡ Some x → c ≡ x
     inside e = cc
 
 module _ {D : Type 0} (g : disk.Ghosts D) (d d' : D) (j j' : Journaled) (most : ℕ) (flags : List Bool) (streams streams' : List (Option StreamParts)) (b b' : Bool) (seq : ℕ) (text : List ℕ) (c : Case)
@@ -71,8 +69,8 @@ module _ {D : Type 0} (g : disk.Ghosts D) (d d' : D) (j j' : Journaled) (most : 
   abbrev new : Parts D
   new = record { disk = d'; journal = j'; limit = most; streams = streams'; stopped = b' }
 
-  has : HasCase (state_of old) seq (case_facts c)
-  has = (on, case_facts_at seq j.standing.cases ∙ ap (option_map case_facts) (sym found))
+  has : HasCase (state_of old) seq c
+  has = (on, sym found)
 
   pub label_may : IsLabel text → MayLabel j.standing seq text
   label_may label = ((c, sym found), label)
@@ -82,33 +80,33 @@ module _ {D : Type 0} (g : disk.Ghosts D) (d d' : D) (j j' : Journaled) (most : 
 
   -- version 1 keeps none
   pub label_old : j.standing.version ≡ 1 → LabelStep (state_of old) seq text (Err (fault_of journal_fault.OldVersion)) (state_of old)
-  label_old one = (case_facts c, has, one, refl)
+  label_old one = (c, has, one, refl)
 
   -- it stands already
   pub label_same : (u : Unit {0}) → j.standing.version ≡ 2 → c.label ≡ text → LabelStep (state_of old) seq text (Ok u) (state_of old)
-  label_same u two same = (case_facts c, (has, two), inl (same, refl))
+  label_same u two same = (c, (has, two), inl (same, refl))
 
   -- it is set
   pub label_ok : (u : Unit {0}) → j.standing.version ≡ 2 → c.label ≢ text → AppendStep j (Label seq text) (Ok u) j'
       → LabelStep (state_of old) seq text (Ok u) (state_of (record { disk = d'; journal = j'; limit = most; streams = streams; stopped = b }))
   label_ok u two other step = (
-    case_facts c,
+    c,
     (has, two),
     inr (
       other,
-      record_room d d' j (Label seq text) most streams b _ (label_cases seq text j.standing.cases) step.1,
+      record_room d d' j (Label seq text) most streams b step.1,
       ap (λ (k : Journaled). state_of (record { disk = d'; journal = k; limit = most; streams = streams; stopped = b })) step.2
-          ∙ state_recorded d d' j (Label seq text) most streams b _ (label_cases seq text j.standing.cases),
+          ∙ state_recorded d d' j (Label seq text) most streams b,
     ),
   )
 
   pub label_err : (jf : JournalFault) → j.standing.version ≡ 2 → c.label ≢ text → AppendStep j (Label seq text) (Err jf) j' → EndsStreams (fault_of jf) streams b' streams'
       → LabelStep (state_of old) seq text (Err (fault_of jf)) (state_of new)
   label_err journal_fault.Stopped two other step ends = absurd (let e : true ≡ false = sym step.0 ∙ (sound.runs on).journal in cc)
-  label_err journal_fault.JournalFull two other step ends = (case_facts c, (has, two), other, record_full d d' j (Label seq text) most streams b _ (label_cases seq text j.standing.cases) step.1, same_state g d d' j j' (Label seq text) most flags streams streams' b b' on ends.0 ends.1 step.2)
+  label_err journal_fault.JournalFull two other step ends = (c, (has, two), other, record_full d d' j (Label seq text) most streams b step.1, same_state g d d' j j' (Label seq text) most flags streams streams' b b' on ends.0 ends.1 step.2)
   label_err journal_fault.NumbersSpent two other step ends = absurd step
-  label_err journal_fault.OutOfMemory two other step ends = (case_facts c, (has, two), other, record_room d d' j (Label seq text) most streams b _ (label_cases seq text j.standing.cases) step.1, same_state g d d' j j' (Label seq text) most flags streams streams' b b' on ends.0 ends.1 step.2)
-  label_err journal_fault.Disk two other step ends = (case_facts c, (has, two), other, record_room d d' j (Label seq text) most streams b _ (label_cases seq text j.standing.cases) step.1, halted_now g d d' j j' (Label seq text) most flags streams streams' b b' on ends.0 ends.1 step.2)
+  label_err journal_fault.OutOfMemory two other step ends = (c, (has, two), other, record_room d d' j (Label seq text) most streams b step.1, same_state g d d' j j' (Label seq text) most flags streams streams' b b' on ends.0 ends.1 step.2)
+  label_err journal_fault.Disk two other step ends = (c, (has, two), other, record_room d d' j (Label seq text) most streams b step.1, halted_now g d d' j j' (Label seq text) most flags streams streams' b b' on ends.0 ends.1 step.2)
   label_err journal_fault.OldVersion two other step ends = absurd step
 
   pub label_sound_after : (u : Unit {0}) → IsLabel text → j.standing.version ≡ 2 → AppendStep j (Label seq text) (Ok u) j' → Guards g d' j' → IsArchiveSound g d' j' most flags streams b
@@ -124,18 +122,9 @@ module _ {D : Type 0} (g : disk.Ghosts D) (d d' : D) (j j' : Journaled) (most : 
       let e = ap length (used_labelled seq text j.standing.cases) in omega (arith, x, y, e))
       (λ name. (let n : cases_named (with_label seq text j.standing.cases) name ≡ cases_named j.standing.cases name = named_labelled seq text j.standing.cases name in omega (arith, n))))
 
-  images_labelled : (bytes : List ℕ) (cases : List Case) → map (λ (x : Case). image_in j.standing.shape bytes x.blocks x.len) (with_label seq text cases) ≡ map (λ (x : Case). image_in j.standing.shape bytes x.blocks x.len) cases
-  images_labelled bytes [] = refl
-  images_labelled bytes (x ∷ rest) =
-      elim (x.seq == seq) as (λ t. image_in j.standing.shape bytes (cond t (record x { label = text }) x).blocks (cond t (record x { label = text }) x).len ∷ map (λ (y : Case). image_in j.standing.shape bytes y.blocks y.len) (with_label seq text rest)
-      ≡ image_in j.standing.shape bytes x.blocks x.len ∷ map (λ (y : Case). image_in j.standing.shape bytes y.blocks y.len) rest) [
-        | true ↦ ap (λ (l : List (List ℕ)). image_in j.standing.shape bytes x.blocks x.len ∷ l) (images_labelled bytes rest)
-        | false ↦ ap (λ (l : List (List ℕ)). image_in j.standing.shape bytes x.blocks x.len ∷ l) (images_labelled bytes rest)
-      ]
-
   pub label_bytes : (u : Unit {0}) → AppendStep j (Label seq text) (Ok u) j' → SameOutside 4096 (2 * half_length j.standing.shape) (g.seen d) (g.seen d')
       → contents_of g.seen (record { disk = d'; journal = j'; limit = most; streams = streams; stopped = b }) ≡ contents_of g.seen old
   label_bytes u step outside =
       ap (λ (k : Journaled). contents_of g.seen (record { disk = d'; journal = k; limit = most; streams = streams; stopped = b })) step.2
-      ∙ ap (λ (x : List (List ℕ)). record { images = x; taken = map (option_map (taken_in j (g.seen d'))) streams }) (images_labelled (g.seen d') j.standing.cases)
+      ∙ ap (λ (x : List (List ℕ)). record { images = x; taken = map (option_map (taken_in j (g.seen d'))) streams }) (images_made (held_image j.standing.shape (g.seen d')) (labelled_as seq text) (label_moves_none j.standing.shape (g.seen d') seq text) j.standing.cases)
       ∙ same_bytes g.seen d d' j most streams b outside b

@@ -32,10 +32,10 @@ use Rattle.intake.specs.Lasting.{HasNumbers, HasEmptyLabel, IsWholeImage, KeepsL
 pub one_stands : (bytes : List ℕ) (x y : Durable) → StandsFor bytes x → StandsFor bytes y → x ≡ y
 one_stands bytes x y a b = sym a.is ∙ ap (durable_in bytes) (stands_once bytes a.standing b.standing a.stands b.stands) ∙ b.is
 
-found_below : (shape : Shape) (bytes : List ℕ) (next : ℕ) (cases : List Case) → All (IsWhole next) cases → All (λ (c : FoundCase). c.seq < next) (map (found_case shape bytes) cases)
-found_below shape bytes next [] each = All-nil (λ (c : FoundCase). c.seq < next)
+found_below : (shape : Shape) (bytes : List ℕ) (next : ℕ) (cases : List Case) → All (IsWhole next) cases → All (λ (c : FoundCase). c.case.seq < next) (map (found_case shape bytes) cases)
+found_below shape bytes next [] each = All-nil (λ (c : FoundCase). c.case.seq < next)
 found_below shape bytes next (c ∷ rest) each =
-    All-cons (λ (x : FoundCase). x.seq < next) (found_case shape bytes c) (map (found_case shape bytes) rest) (All-head (IsWhole next) c rest each).below
+    All-cons (λ (x : FoundCase). x.case.seq < next) (found_case shape bytes c) (map (found_case shape bytes) rest) (All-head (IsWhole next) c rest each).below
     (found_below shape bytes next rest (All-tail (IsWhole next) c rest each))
 
 found_numbers : (shape : Shape) (bytes : List ℕ) (cases : List Case) → map number_of (map (found_case shape bytes) cases) ≡ map seq_of_case cases
@@ -108,10 +108,10 @@ found_plain shape bytes [] each = All-nil HasEmptyLabel
 found_plain shape bytes (c ∷ rest) each =
     All-cons HasEmptyLabel (found_case shape bytes c) (map (found_case shape bytes) rest) (All-head HasNoLabel c rest each) (found_plain shape bytes rest (All-tail HasNoLabel c rest each))
 
-found_texts : (shape : Shape) (bytes : List ℕ) (next : ℕ) (cases : List Case) → All (IsWhole next) cases → All (λ (c : FoundCase). IsLabel c.label) (map (found_case shape bytes) cases)
-found_texts shape bytes next [] each = All-nil (λ (c : FoundCase). IsLabel c.label)
+found_texts : (shape : Shape) (bytes : List ℕ) (next : ℕ) (cases : List Case) → All (IsWhole next) cases → All (λ (c : FoundCase). IsLabel c.case.label) (map (found_case shape bytes) cases)
+found_texts shape bytes next [] each = All-nil (λ (c : FoundCase). IsLabel c.case.label)
 found_texts shape bytes next (c ∷ rest) each =
-    All-cons (λ (x : FoundCase). IsLabel x.label) (found_case shape bytes c) (map (found_case shape bytes) rest) (All-head (IsWhole next) c rest each).label
+    All-cons (λ (x : FoundCase). IsLabel x.case.label) (found_case shape bytes c) (map (found_case shape bytes) rest) (All-head (IsWhole next) c rest each).label
     (found_texts shape bytes next rest (All-tail (IsWhole next) c rest each))
 
 pub labels_kept : (bytes : List ℕ) (x : Durable) → StandsFor bytes x → KeepsLabels x

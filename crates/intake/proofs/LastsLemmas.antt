@@ -1,22 +1,22 @@
 -- What each call does to what the archive holds.
-use Rattle.std.proofs.Common.{◌≡◌, ◌≢◌, ◌⊎◌, ⊎_elim, inl, inr, ℕ, ◌+◌, ◌≤◌, ◌==◌, Bool, true, false, not, cond, List, [], ◌∷◌, ◌++◌, length, map, Result, Ok, Err, refl, sym, ap, subst, ◌∙◌}
+use Rattle.std.proofs.Common.{◌≡◌, ◌≢◌, ◌⊎◌, ⊎_elim, inl, inr, ℕ, ◌+◌, ◌≤◌, Bool, true, false, not, cond, List, [], ◌∷◌, ◌++◌, map, Result, Ok, Err, refl, sym, ap, subst, ◌∙◌}
 use Rattle.std.specs.List.{All, filter}
-use Rattle.extents.specs.Runs.{runs_of}
 use Rattle.std.specs.Prelude.{IsTrue}
 use Rattle.disk_model.specs.Moments.{AddsOnly}
 use Rattle.disk_model.specs.MomentLaws.{adds_weakened}
 use Rattle.disk_model.specs.declared.disk.Disk as disk
 use Rattle.journal_layout.specs.Case.{Case}
-use Rattle.journal_layout.specs.Folding.{is_among}
+use Rattle.journal_layout.specs.Folding.{is_among, dropped, pinned_as, labelled_as}
+use Rattle.intake.proofs.KeptNameLemmas.{all_left}
 use Rattle.intake.specs.Blocks.{image_in}
 use Rattle.intake.specs.Calls.{FinishCall, DeleteCall, PinCall, LabelCall, UpgradeCall, RetireCall}
 use Rattle.intake.specs.Contents.{Contents, images_without}
-use Rattle.intake.specs.Durable.{Durable, FoundCase, StandsFor, durable_of, durable_part, with_images, without, flagged, labelled, upgraded}
+use Rattle.intake.specs.Durable.{Durable, FoundCase, StandsFor, durable_of, durable_part, with_images, without, flagged, labelled, upgraded, found_with, made_of}
 use Rattle.intake.specs.Guarding.{Leaves, LeavesNew, MayBeStored}
 use Rattle.intake.specs.Lasting.{HasEmptyLabel}
 use Rattle.intake.specs.Lasts.{IsUpgradeOf}
-use Rattle.intake.specs.Parts.{Parts, case_facts, state_of, contents_of}
-use Rattle.intake.specs.State.{ArchiveState, CaseFacts}
+use Rattle.intake.specs.Parts.{Parts, state_of, contents_of}
+use Rattle.intake.specs.State.{ArchiveState}
 use Rattle.intake.specs.Step.{HasCase, stored, case_from, without_cases, with_flag, with_label, anew_in_two}
 use Rattle.intake.specs.declared.faults.ArchiveFault.{ArchiveFault}
 use Rattle.intake.specs.declared.faults.ArchiveFault.TheVariants as fault
@@ -26,72 +26,32 @@ use Rattle.intake.proofs.MarkLemmas.{finish_same, refused_same, delete_is, pin_i
 use Rattle.retention.specs.declared.Decision.{Decision}
 use Rattle.retention.specs.declared.Policy.{Policy}
 
-abbrev with_image : CaseFacts → List ℕ → FoundCase
-with_image c image = record {
-  seq = c.seq;
-  kind = c.kind;
-  name = c.name;
-  pid = c.pid;
-  signal = c.signal;
-  time = c.time;
-  pinned = c.pinned;
-  len = c.len;
-  image = image;
-  runs = c.runs;
-  label = c.label;
-}
-
 module _ (image : Case → List ℕ) where
   abbrev zipped : List Case → List FoundCase
-  zipped cases = with_images (map case_facts cases) (map image cases)
+  zipped cases = with_images cases (map image cases)
 
-  zipped_then : (cases : List Case) (c : CaseFacts) (t : List ℕ) → with_images (map case_facts cases ++ c ∷ []) (map image cases ++ t ∷ []) ≡ zipped cases ++ with_image c t ∷ []
+  zipped_then : (cases : List Case) (c : Case) (t : List ℕ) → with_images (cases ++ c ∷ []) (map image cases ++ t ∷ []) ≡ zipped cases ++ found_with c t ∷ []
   zipped_then [] c t = refl
-  zipped_then (d ∷ ds) c t = ap (λ (l : List FoundCase). with_image (case_facts d) (image d) ∷ l) (zipped_then ds c t)
+  zipped_then (d ∷ ds) c t = ap (λ (l : List FoundCase). found_with d (image d) ∷ l) (zipped_then ds c t)
 
   zipped_without : (seqs : List ℕ) (cases : List Case)
-      → with_images (filter (λ (c : CaseFacts). not (is_among seqs c.seq)) (map case_facts cases)) (images_without seqs (map case_facts cases) (map image cases))
-      ≡ filter (λ (c : FoundCase). not (is_among seqs c.seq)) (zipped cases)
+      → with_images (dropped seqs cases) (images_without seqs cases (map image cases))
+      ≡ filter (λ (c : FoundCase). not (is_among seqs c.case.seq)) (zipped cases)
   zipped_without seqs [] = refl
   zipped_without seqs (d ∷ ds) =
-      let cs : List CaseFacts = filter (λ (c : CaseFacts). not (is_among seqs c.seq)) (map case_facts ds) in
-      let is : List (List ℕ) = images_without seqs (map case_facts ds) (map image ds) in
-      let fs : List FoundCase = filter (λ (c : FoundCase). not (is_among seqs c.seq)) (zipped ds) in
-      elim (is_among seqs d.seq) as (λ t. with_images (cond (not t) (case_facts d ∷ cs) cs) (cond t is (image d ∷ is)) ≡ cond (not t) (with_image (case_facts d) (image d) ∷ fs) fs) [
+      let cs : List Case = dropped seqs ds in
+      let is : List (List ℕ) = images_without seqs ds (map image ds) in
+      let fs : List FoundCase = filter (λ (c : FoundCase). not (is_among seqs c.case.seq)) (zipped ds) in
+      elim (is_among seqs d.seq) as (λ t. with_images (cond (not t) (d ∷ cs) cs) (cond t is (image d ∷ is)) ≡ cond (not t) (found_with d (image d) ∷ fs) fs) [
         | true ↦ zipped_without seqs ds
-        | false ↦ ap (λ (l : List FoundCase). with_image (case_facts d) (image d) ∷ l) (zipped_without seqs ds)
+        | false ↦ ap (λ (l : List FoundCase). found_with d (image d) ∷ l) (zipped_without seqs ds)
       ]
 
-  zipped_flagged : (seq : ℕ) (flag : Bool) (cases : List Case)
-      → with_images (map (λ (c : CaseFacts). cond (c.seq == seq) (record c { pinned = flag }) c) (map case_facts cases)) (map image cases)
-      ≡ map (λ (c : FoundCase). cond (c.seq == seq) (record c { pinned = flag }) c) (zipped cases)
-  zipped_flagged seq flag [] = refl
-  zipped_flagged seq flag (d ∷ ds) =
-      let cs : List CaseFacts = map (λ (c : CaseFacts). cond (c.seq == seq) (record c { pinned = flag }) c) (map case_facts ds) in
-      let fs : List FoundCase = map (λ (c : FoundCase). cond (c.seq == seq) (record c { pinned = flag }) c) (zipped ds) in
-      elim (d.seq == seq) as (λ t. with_images (cond t (record (case_facts d) { pinned = flag }) (case_facts d) ∷ cs) (image d ∷ map image ds)
-      ≡ cond t (record (with_image (case_facts d) (image d)) { pinned = flag }) (with_image (case_facts d) (image d)) ∷ fs) [
-        | true ↦ ap (λ (l : List FoundCase). record (with_image (case_facts d) (image d)) { pinned = flag } ∷ l) (zipped_flagged seq flag ds)
-        | false ↦ ap (λ (l : List FoundCase). with_image (case_facts d) (image d) ∷ l) (zipped_flagged seq flag ds)
-      ]
-
--- the same of a label
-zipped_labelled : (image : Case → List ℕ) (seq : ℕ) (text : List ℕ) (cases : List Case)
-    → with_images (map (λ (c : CaseFacts). cond (c.seq == seq) (record c { label = text }) c) (map case_facts cases)) (map image cases)
-    ≡ map (λ (c : FoundCase). cond (c.seq == seq) (record c { label = text }) c) (zipped image cases)
-zipped_labelled image seq text [] = refl
-zipped_labelled image seq text (d ∷ ds) =
-    let cs : List CaseFacts = map (λ (c : CaseFacts). cond (c.seq == seq) (record c { label = text }) c) (map case_facts ds) in
-    let fs : List FoundCase = map (λ (c : FoundCase). cond (c.seq == seq) (record c { label = text }) c) (zipped image ds) in
-    elim (d.seq == seq) as (λ t. with_images (cond t (record (case_facts d) { label = text }) (case_facts d) ∷ cs) (image d ∷ map image ds)
-    ≡ cond t (record (with_image (case_facts d) (image d)) { label = text }) (with_image (case_facts d) (image d)) ∷ fs) [
-      | true ↦ ap (λ (l : List FoundCase). record (with_image (case_facts d) (image d)) { label = text } ∷ l) (zipped_labelled image seq text ds)
-      | false ↦ ap (λ (l : List FoundCase). with_image (case_facts d) (image d) ∷ l) (zipped_labelled image seq text ds)
-    ]
-
-none_gone : (cases : List CaseFacts) → cases ≡ filter (λ (c : CaseFacts). not (is_among [] c.seq)) cases
-none_gone [] = refl
-none_gone (c ∷ cs) = ap (λ (l : List CaseFacts). c ∷ l) (none_gone cs)
+-- a change of cases leaves their images
+zipped_made : (f : Case → Case) (cases : List Case) (images : List (List ℕ)) → with_images (map f cases) images ≡ map (made_of f) (with_images cases images)
+zipped_made f [] images = refl
+zipped_made f (c ∷ cs) [] = refl
+zipped_made f (c ∷ cs) (i ∷ is) = ap (λ (l : List FoundCase). found_with (f c) i ∷ l) (zipped_made f cs is)
 
 module _ {D : Type 0} (g : disk.Ghosts D) (old new : Parts D) (honest : IsTrue (g.is_honest old.disk)) where
   abbrev image_of : Case → List ℕ
@@ -111,8 +71,8 @@ module _ {D : Type 0} (g : disk.Ghosts D) (old new : Parts D) (honest : IsTrue (
   finish_lasts slot seq call =
       let step = call.step in
       let bytes = call.bytes honest in
-      let case : CaseFacts = case_from step.0 (state_of old).next step.1 in (
-        length (runs_of step.1),
+      let case : Case = case_from step.0 (state_of old).next step.1 in (
+        step.1,
         (
           step.0,
           bytes.0,
@@ -121,20 +81,20 @@ module _ {D : Type 0} (g : disk.Ghosts D) (old new : Parts D) (honest : IsTrue (
           step.3,
           lasts (stored (state_of old) slot step.0 step.1) _ step.7 bytes.2
               ∙ ap (λ (l : List FoundCase). record { cases = l; next = (state_of old).next + 1; version = (state_of old).version })
-              (zipped_then image_of old.journal.standing.cases case bytes.0.bytes ∙ ap (λ (l : List FoundCase). l ++ with_image case bytes.0.bytes ∷ []) found_before),
+              (zipped_then image_of old.journal.standing.cases case bytes.0.bytes ∙ ap (λ (l : List FoundCase). l ++ found_with case bytes.0.bytes ∷ []) found_before),
         ),
       )
 
   left : (seqs : List ℕ) → record { cases = with_images (without_cases (state_of old) seqs).cases (images_without seqs (state_of old).cases (contents_of g.seen old).images); next = (state_of old).next; version = (state_of old).version } ≡ without (durable_of g.seen old) seqs
   left seqs =
       ap (λ (l : List FoundCase). record { cases = l; next = (state_of old).next; version = (state_of old).version })
-      (zipped_without image_of seqs old.journal.standing.cases ∙ ap (filter (λ (c : FoundCase). not (is_among seqs c.seq))) found_before)
+      (zipped_without image_of seqs old.journal.standing.cases ∙ ap (filter (λ (c : FoundCase). not (is_among seqs c.case.seq))) found_before)
 
   pub delete_lasts : (seq : ℕ) (u : Unit {0}) → DeleteCall g old seq (Ok u) new → durable_of g.seen new ≡ without (durable_of g.seen old) (seq ∷ [])
   delete_lasts seq u call = lasts (without_cases (state_of old) (seq ∷ [])) _ call.step.4 (call.bytes honest) ∙ left (seq ∷ [])
 
   pub pin_lasts : (seq : ℕ) (flag : Bool) (u : Unit {0}) → PinCall g old seq flag (Ok u) new
-      → (c : CaseFacts) × HasCase (state_of old) seq c
+      → (c : Case) × HasCase (state_of old) seq c
       × (((c.pinned ≡ flag) × (durable_of g.seen new ≡ durable_of g.seen old)) ⊎ ((c.pinned ≢ flag) × (durable_of g.seen new ≡ flagged (durable_of g.seen old) seq flag)))
   pin_lasts seq flag u call = (call.step.0, call.step.1, told)
     where
@@ -146,12 +106,12 @@ module _ {D : Type 0} (g : disk.Ghosts D) (old new : Parts D) (honest : IsTrue (
             set.0,
             lasts (with_flag (state_of old) seq flag) (contents_of g.seen old) set.2 (call.bytes honest)
                 ∙ ap (λ (l : List FoundCase). record { cases = l; next = (state_of old).next; version = (state_of old).version })
-                (zipped_flagged image_of seq flag old.journal.standing.cases ∙ ap (map (λ (c : FoundCase). cond (c.seq == seq) (record c { pinned = flag }) c)) found_before),
+                (zipped_made (pinned_as seq flag) (state_of old).cases (contents_of g.seen old).images ∙ ap (map (made_of (pinned_as seq flag))) found_before),
           ))
           call.step.2
 
   pub label_lasts : (seq : ℕ) (text : List ℕ) (u : Unit {0}) → LabelCall g old seq text (Ok u) new
-      → (c : CaseFacts) × HasCase (state_of old) seq c
+      → (c : Case) × HasCase (state_of old) seq c
       × (((c.label ≡ text) × (durable_of g.seen new ≡ durable_of g.seen old)) ⊎ ((c.label ≢ text) × (durable_of g.seen new ≡ labelled (durable_of g.seen old) seq text)))
   label_lasts seq text u call = (call.step.0, call.step.1.0, told)
     where
@@ -163,7 +123,7 @@ module _ {D : Type 0} (g : disk.Ghosts D) (old new : Parts D) (honest : IsTrue (
             set.0,
             lasts (with_label (state_of old) seq text) (contents_of g.seen old) set.2 (call.bytes honest)
                 ∙ ap (λ (l : List FoundCase). record { cases = l; next = (state_of old).next; version = (state_of old).version })
-                (zipped_labelled image_of seq text old.journal.standing.cases ∙ ap (map (λ (c : FoundCase). cond (c.seq == seq) (record c { label = text }) c)) found_before),
+                (zipped_made (labelled_as seq text) (state_of old).cases (contents_of g.seen old).images ∙ ap (map (made_of (labelled_as seq text))) found_before),
           ))
           call.step.2
 
@@ -180,8 +140,8 @@ module _ {D : Type 0} (g : disk.Ghosts D) (old new : Parts D) (honest : IsTrue (
       (λ none. (
       let no : List ℕ = [] in
       lasts (state_of old) _ none.1 (call.bytes honest)
-      ∙ ap (λ (l : List CaseFacts). record { cases = with_images l (images_without d.dropped.items (state_of old).cases (contents_of g.seen old).images); next = (state_of old).next; version = (state_of old).version })
-      (none_gone (state_of old).cases ∙ ap (λ (seqs : List ℕ). filter (λ (c : CaseFacts). not (is_among seqs c.seq)) (state_of old).cases) (sym none.0))
+      ∙ ap (λ (l : List Case). record { cases = with_images l (images_without d.dropped.items (state_of old).cases (contents_of g.seen old).images); next = (state_of old).next; version = (state_of old).version })
+      (sym (all_left (state_of old).cases) ∙ ap (λ (seqs : List ℕ). dropped seqs (state_of old).cases) (sym none.0))
       ∙ left d.dropped.items
       ))
       (λ some. lasts (without_cases (state_of old) d.dropped.items) _ some.2 (call.bytes honest) ∙ left d.dropped.items)

@@ -23,7 +23,7 @@ use Rattle.intake.specs.Sound.{IsArchiveSound, IsRunning, IsFineIfOpen, held_by,
 -- a stream became the last case: what it held is the case's
 pub sound_stored : {D : Type 0} (g : disk.Ghosts D) (d d' : D) (j j' : Journaled) (most : ℕ) (flags flags' : List Bool) (streams streams' : List (Option StreamParts)) (slot : ℕ) (s : StreamParts) (b : Bool) (c : Case)
     → IsArchiveSound g d j most flags streams b → b ≡ false → slot < 8 → stream_at streams slot ≡ Some s → streams' ≡ slice_set streams slot None → Guards g d' j' → j' ≡ after_append j (store_of j.standing c)
-    → j.standing.next < 2 ^ 32 → Balances flags s.blocks flags' c.blocks → IsStorable j.standing.shape.data_blocks j.standing.cases c → c.name ≡ s.name
+    → j.standing.next < 2 ^ 32 → Balances flags s.facts.blocks flags' c.blocks → IsStorable j.standing.shape.data_blocks j.standing.cases c → c.name ≡ s.facts.origin.name
     → IsArchiveSound g d' j' most flags' streams' b
 sound_stored g d d' j j' most flags flags' streams streams' slot s b c sound on low is gone keeps now more bal storable called =
     subst (λ (k : Journaled). IsArchiveSound g d' k most flags' streams' b) (sym now)

@@ -118,7 +118,7 @@ take_kept (suc u) (b ∷ x) y = ap (λ (z : List ℕ). b ∷ z) (take_kept u x y
 
 with_room_bytes : {D : Type 0} (seen : D → List ℕ) (a : Parts D) (s : StreamParts) (left : List ℕ)
     → (taken_in a.journal (seen a.disk) (with_room left s)).bytes ≡ (taken_in a.journal (seen a.disk) s).bytes
-with_room_bytes seen a s left = ap (λ (x : List ℕ). joined a.journal.standing.shape (seen a.disk) s.blocks ++ x) (take_kept (s.len % 4096) s.block (left ++ drop (length left) (drop (s.len % 4096) s.block)))
+with_room_bytes seen a s left = ap (λ (x : List ℕ). joined a.journal.standing.shape (seen a.disk) s.facts.blocks ++ x) (take_kept (s.facts.len % 4096) s.block (left ++ drop (length left) (drop (s.facts.len % 4096) s.block)))
 
 -- What a call makes of a stream that is open before it and behind it.
 abbrev Keeps : Contents → Contents → ℕ → Taken → List ℕ → Type 0

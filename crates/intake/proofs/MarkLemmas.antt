@@ -1,5 +1,5 @@
 -- What is found after a stop, told by the marks of a run.
-use Rattle.std.proofs.Common.{◌≡◌, ◌⊎◌, ℕ, zero, suc, ◌<◌, ◌≤◌, Bool, true, false, not, List, [], ◌∷◌, ◌++◌, map, refl, sym, ap, subst, ◌∙◌, ⊎_elim, inl, inr, arith, Option, None, Some, Result, Ok, Err}
+use Rattle.std.proofs.Common.{◌≡◌, ◌⊎◌, ℕ, zero, suc, ◌<◌, ◌≤◌, Bool, true, false, not, List, [], ◌∷◌, ◌++◌, map, refl, sym, ap, subst, ◌∙◌, ⊎_elim, inl, inr, arith, Option, None, Some, Result, Ok, Err, length}
 use Rattle.std.proofs.lemmas.Bool.{cases_lt, false≢true}
 use Rattle.std.specs.Prelude.{IsTrue, option_map}
 use Rattle.disk_model.specs.Moments.{AddsOnly}
@@ -14,7 +14,7 @@ use Rattle.intake.specs.Guarding.{Leaves, LeavesNew, StoresIn, MayBeStored, MayB
 use Rattle.intake.specs.Marks.{Mark, IsOneOf, FindsMark, IsMarkSettled, Passes, IsRunOfMarks, last_of, FindsOne, IsFoundFrom, IsFoundSince, mark_of, doubted, LeadsToMark}
 use Rattle.intake.specs.Parts.{Parts, StreamParts, state_of, stream_facts, contents_of, taken_in}
 use Rattle.intake.specs.Slots.{stream_at}
-use Rattle.intake.specs.State.{ArchiveState, CaseFacts, StreamFacts, blocks_for}
+use Rattle.intake.specs.State.{ArchiveState, StreamFacts, blocks_for}
 use Rattle.intake.specs.Step.{MayHaveRuns, FinishStep, DeleteStep, PinStep, LabelStep, UpgradeStep, RetireStep, brief_of, stored, halted, without_cases, with_flag, with_label, anew_in_two}
 use Rattle.intake.specs.declared.faults.ArchiveFault.{ArchiveFault}
 use Rattle.intake.specs.declared.faults.ArchiveFault.TheVariants as fault
@@ -23,6 +23,8 @@ use Rattle.retention.specs.Rule.{IsDecision, holds_after, goes, seq_of}
 use Rattle.retention.specs.declared.Brief.{Brief}
 use Rattle.retention.specs.declared.Decision.{Decision}
 use Rattle.retention.specs.declared.Policy.{Policy}
+use Rattle.journal_layout.specs.Case.{Case}
+use Rattle.extents.specs.Runs.{runs_of}
 
 module _ {D : Type 0} (g : disk.Ghosts D) (only : (d : D) (c : List ℕ) → g.left_since d (g.clock d) c → g.may_leave d c) where
   first_finds : (c : List ℕ) (m : Mark D) (ns : List (Mark D)) → FindsMark c m → FindsOne c m ns
@@ -185,11 +187,11 @@ fits_or_not len runs =
     ]
 
 -- what a finish may leave is one
-one_stored : (runs : ℕ) (s : ArchiveState) (c : Contents) (old : Durable) (slot : ℕ) (x y : Durable) → StoresIn runs s c old slot x → StoresIn runs s c old slot y → y ≡ x
-one_stored runs s c old slot x y may may' =
+one_stored : (blocks : List ℕ) (s : ArchiveState) (c : Contents) (old : Durable) (slot : ℕ) (x y : Durable) → StoresIn blocks s c old slot x → StoresIn blocks s c old slot y → y ≡ x
+one_stored blocks s c old slot x y may may' =
     let stream : may'.0 ≡ may.0 = some_is may'.0 may.0 (sym may'.2 ∙ may.2) in
     let taken : may'.1 ≡ may.1 = some_is may'.1 may.1 (sym may'.3 ∙ may.3) in
-    may'.5 ∙ ap (λ (z : StreamFacts). with_case old z runs may'.1.bytes) stream ∙ ap (λ (z : Taken). with_case old may.0 runs z.bytes) taken ∙ sym may.5
+    may'.5 ∙ ap (λ (z : StreamFacts). with_case old z blocks may'.1.bytes) stream ∙ ap (λ (z : Taken). with_case old may.0 blocks z.bytes) taken ∙ sym may.5
 
 -- the rule has one answer
 no_fewer : (policy : Policy) (cases : List Brief) (a b : List ℕ) (u v : Bool) (d : IsDecision policy cases a u) (e : IsDecision policy cases b v) → d.count < e.count → ⊥
@@ -273,9 +275,9 @@ module _ {D : Type 0} (g : disk.Ghosts D) (counts : (d : D) (t : ℕ) (c : List 
   same_number : (b : ArchiveState) → state_of new ≡ b → b.next ≡ (state_of old).next → (state_of old).next ≤ (state_of new).next
   same_number b is same = let e = ap (λ (z : ArchiveState). z.next) is in omega (arith, e, same)
 
-  finish_leads_in : (slot : ℕ) (r : Result ℕ ArchiveFault) (call : FinishCall g old slot r new) → LeadsToMark ℕ g old r new (StoresIn call.runs (state_of old) (contents_of g.seen old) (durable_of g.seen old) slot)
+  finish_leads_in : (slot : ℕ) (r : Result ℕ ArchiveFault) (call : FinishCall g old slot r new) → LeadsToMark ℕ g old r new (StoresIn call.blocks (state_of old) (contents_of g.seen old) (durable_of g.seen old) slot)
   finish_leads_in slot (Ok seq) call =
-      leads_plain ℕ g counts only old new (Ok seq) (StoresIn call.runs (state_of old) (contents_of g.seen old) (durable_of g.seen old) slot) (λ is. is) call.changes (finish_number slot (Ok seq) call.step)
+      leads_plain ℕ g counts only old new (Ok seq) (StoresIn call.blocks (state_of old) (contents_of g.seen old) (durable_of g.seen old) slot) (λ is. is) call.changes (finish_number slot (Ok seq) call.step)
       (λ stopped honest. absurd (goes_on new (stored (state_of old) slot call.step.0 call.step.1) call.step.2.0 call.step.7 stopped))
   finish_leads_in slot (Err f) call =
       let same : new.stopped ≡ true → IsTrue (g.is_honest old.disk) → SameCases = λ stopped honest. finish_same slot f call.step (call.bytes honest) in
@@ -283,25 +285,25 @@ module _ {D : Type 0} (g : disk.Ghosts D) (counts : (d : D) (t : ℕ) (c : List 
       (λ is. (
       let step = subst (λ (z : ArchiveFault). FinishStep (state_of old) slot (Err z) (state_of new)) is call.step in
       let t = taken_there g.seen old slot step.0 step.1.1 in
-      let x = with_case (durable_of g.seen old) step.0 call.runs t.0.bytes in
+      let x = with_case (durable_of g.seen old) step.0 call.blocks t.0.bytes in
       ⊎_elim
       (λ fits. (
-      let may : StoresIn call.runs (state_of old) (contents_of g.seen old) (durable_of g.seen old) slot x = (step.0, t.0, step.1.1, t.1, fits, refl) in
-      leads_one ℕ g counts only old new (Err f) (StoresIn call.runs (state_of old) (contents_of g.seen old) (durable_of g.seen old) slot) x may
-      (λ y may'. one_stored call.runs (state_of old) (contents_of g.seen old) (durable_of g.seen old) slot x y may may') (omega arith) call.changes (finish_number slot (Err f) call.step) same
+      let may : StoresIn call.blocks (state_of old) (contents_of g.seen old) (durable_of g.seen old) slot x = (step.0, t.0, step.1.1, t.1, fits, refl) in
+      leads_one ℕ g counts only old new (Err f) (StoresIn call.blocks (state_of old) (contents_of g.seen old) (durable_of g.seen old) slot) x may
+      (λ y may'. one_stored call.blocks (state_of old) (contents_of g.seen old) (durable_of g.seen old) slot x y may may') (omega arith) call.changes (finish_number slot (Err f) call.step) same
       ))
-      (λ none. leads_none ℕ g counts only old new (Err f) (StoresIn call.runs (state_of old) (contents_of g.seen old) (durable_of g.seen old) slot)
-      (λ y may. none (subst (λ (z : StreamFacts). MayHaveRuns z.len call.runs) (some_is may.0 step.0 (sym may.2 ∙ step.1.1)) may.4)) call.changes (finish_number slot (Err f) call.step) same)
-      (fits_or_not step.0.len call.runs)
+      (λ none. leads_none ℕ g counts only old new (Err f) (StoresIn call.blocks (state_of old) (contents_of g.seen old) (durable_of g.seen old) slot)
+      (λ y may. none (subst (λ (z : StreamFacts). MayHaveRuns z.len (length (runs_of call.blocks))) (some_is may.0 step.0 (sym may.2 ∙ step.1.1)) may.4)) call.changes (finish_number slot (Err f) call.step) same)
+      (fits_or_not step.0.len (length (runs_of call.blocks)))
       ))
-      (λ not. leads_plain ℕ g counts only old new (Err f) (StoresIn call.runs (state_of old) (contents_of g.seen old) (durable_of g.seen old) slot) not call.changes (finish_number slot (Err f) call.step) same)
+      (λ not. leads_plain ℕ g counts only old new (Err f) (StoresIn call.blocks (state_of old) (contents_of g.seen old) (durable_of g.seen old) slot) not call.changes (finish_number slot (Err f) call.step) same)
       (disk_or_not f)
 
   pub finish_leads : (slot : ℕ) (r : Result ℕ ArchiveFault) → FinishCall g old slot r new → LeadsToMark ℕ g old r new (MayBeStored (state_of old) (contents_of g.seen old) (durable_of g.seen old) slot)
-  finish_leads slot r call = leads_weakened ℕ g old new r (stores slot call.runs) (MayBeStored (state_of old) (contents_of g.seen old) (durable_of g.seen old) slot) (λ x may. (call.runs, may)) (finish_leads_in slot r call)
+  finish_leads slot r call = leads_weakened ℕ g old new r (stores slot call.blocks) (MayBeStored (state_of old) (contents_of g.seen old) (durable_of g.seen old) slot) (λ x may. (call.blocks, may)) (finish_leads_in slot r call)
     where
-      stores : ℕ → ℕ → Durable → Type 0
-      stores slot' runs x = StoresIn runs (state_of old) (contents_of g.seen old) (durable_of g.seen old) slot' x
+      stores : ℕ → List ℕ → Durable → Type 0
+      stores slot' blocks x = StoresIn blocks (state_of old) (contents_of g.seen old) (durable_of g.seen old) slot' x
 
   -- what a refusal leaves that drops no stream but where the disk failed
   unmoved : (f : ArchiveFault) (b : ArchiveState) → durable_part b (contents_of g.seen old) ≡ durable_part (state_of old) (contents_of g.seen old) → state_of new ≡ b
@@ -360,7 +362,7 @@ module _ {D : Type 0} (g : disk.Ghosts D) (counts : (d : D) (t : ℕ) (c : List 
       → UnmovedBytes (contents_of g.seen old) f (contents_of g.seen new) → SameCases
   refused_same f is bytes =
       unmoved f is.0
-      (ap (λ (cs : List CaseFacts). record { cases = with_images cs (contents_of g.seen old).images; next = is.0.next; version = is.0.version }) is.2
+      (ap (λ (cs : List Case). record { cases = with_images cs (contents_of g.seen old).images; next = is.0.next; version = is.0.version }) is.2
       ∙ ap (λ (n : ℕ). record { cases = with_images (state_of old).cases (contents_of g.seen old).images; next = n; version = is.0.version }) is.3
       ∙ ap (λ (v : ℕ). record { cases = with_images (state_of old).cases (contents_of g.seen old).images; next = (state_of old).next; version = v }) is.4)
       is.1 bytes

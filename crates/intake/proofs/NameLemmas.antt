@@ -24,7 +24,7 @@ use Rattle.intake.specs.Lending.{slots_left, with_room}
 use Rattle.intake.specs.Room.{SlotReply}
 use Rattle.intake.specs.Slots.{stream_at}
 use Rattle.intake.specs.Sound.{is_called, streams_named}
-use Rattle.intake.specs.Step.{is_taken, has_name as is_name_in}
+use Rattle.intake.specs.Step.{is_taken, has_name as is_name_in, is_named}
 use Rattle.journal_records.specs.Taken.{has_name}
 use Rattle.case_journal.specs.Append.{StoreRefused}
 use Rattle.case_journal.specs.Journaled.{Journaled}
@@ -33,11 +33,10 @@ use Rattle.case_journal.specs.declared.faults.JournalFault.TheVariants as journa
 use Rattle.intake.specs.Closing.{Appends}
 use Rattle.intake.specs.Live.{cases_named}
 use Rattle.intake.specs.Names.{KeepsName, ForgetsName, ForgetsNames, is_one_of, items_of, name_of_case, names_gone, AreTaken}
-use Rattle.intake.specs.Parts.{Parts, StreamParts, case_facts, stream_facts, state_of}
-use Rattle.intake.specs.State.{CaseFacts}
+use Rattle.intake.specs.Parts.{Parts, StreamParts, stream_facts, state_of}
 use Rattle.intake.specs.declared.faults.ArchiveFault.{ArchiveFault}
 use Rattle.intake.proofs.ListedLemmas.{gone-append}
-use Rattle.intake.proofs.StepLemmas.{list_any-map, none_of, called_same, new_name}
+use Rattle.intake.proofs.StepLemmas.{list_any-map, none_of, new_name}
 
 one_true : (t : Bool) → 1 ≤ one_if t → t ≡ true
 one_true true some = refl
@@ -52,27 +51,26 @@ one_most true = omega arith
 one_most false = omega arith
 
 -- a name that is among some is counted
-some_of : {X Y : Type 0} (P : Y → Bool) (f : X → Y) (xs : List X) → list_any P (map f xs) ≡ true → 1 ≤ count_by (λ x. P (f x)) xs
-some_of P f [] e = absurd (let h : false ≡ true = e in cc)
-some_of P f (x ∷ xs) e = of (P (f x)) refl (some_of P f xs)
+some_of : {X : Type 0} (P : X → Bool) (xs : List X) → list_any P xs ≡ true → 1 ≤ count_by P xs
+some_of P [] e = absurd (let h : false ≡ true = e in cc)
+some_of P (x ∷ xs) e = of (P x) refl (some_of P xs)
   where
-    of : (t : Bool) → P (f x) ≡ t → (list_any P (map f xs) ≡ true → 1 ≤ count_by (λ y. P (f y)) xs) → 1 ≤ count_by (λ y. P (f y)) (x ∷ xs)
-    of true here rest = (let s = sum_by-cons (λ y. cond (P (f y)) 1 0) x xs in let h : one_if (P (f x)) ≡ 1 = ap one_if here in omega (arith, s, h))
+    of : (t : Bool) → P x ≡ t → (list_any P xs ≡ true → 1 ≤ count_by P xs) → 1 ≤ count_by P (x ∷ xs)
+    of true here rest = (let s = sum_by-cons (λ y. cond (P y) 1 0) x xs in let h : one_if (P x) ≡ 1 = ap one_if here in omega (arith, s, h))
     of false here rest =
-        let s = sum_by-cons (λ y. cond (P (f y)) 1 0) x xs in
-        let more = rest (sym (ap (λ t. t || list_any P (map f xs)) here) ∙ e) in
+        let s = sum_by-cons (λ y. cond (P y) 1 0) x xs in
+        let more = rest (sym (ap (λ t. t || list_any P xs) here) ∙ e) in
         omega (arith, s, more)
 
 -- a name that is taken is that of a case or of a stream
 some_taken : {D : Type 0} (a : Parts D) (name : List ℕ) → is_taken (state_of a) name ≡ true → 1 ≤ cases_named a.journal.standing.cases name + streams_named a.streams name
-some_taken a name e = of (list_any (λ (c : CaseFacts). bytes_eq c.name name) (map case_facts a.journal.standing.cases)) refl
+some_taken a name e = of (is_named name a.journal.standing.cases) refl
   where
-    of : (t : Bool) → list_any (λ (c : CaseFacts). bytes_eq c.name name) (map case_facts a.journal.standing.cases) ≡ t → 1 ≤ cases_named a.journal.standing.cases name + streams_named a.streams name
-    of true here = (let s = some_of (λ (c : CaseFacts). bytes_eq c.name name) case_facts a.journal.standing.cases here in omega (arith, s))
+    of : (t : Bool) → is_named name a.journal.standing.cases ≡ t → 1 ≤ cases_named a.journal.standing.cases name + streams_named a.streams name
+    of true here = (let s = some_of (λ (c : Case). bytes_eq c.name name) a.journal.standing.cases here in omega (arith, s))
     of false here =
-        let s = some_of (is_name_in name) (option_map stream_facts) a.streams (sym (ap (λ t. t || list_any (is_name_in name) (map (option_map stream_facts) a.streams)) here) ∙ e) in
-        let f = called_same name a.streams in
-        omega (arith, s, f)
+        let s = some_of (is_called name) a.streams (sym (list_any-map (is_name_in name) (option_map stream_facts) a.streams) ∙ sym (ap (λ t. t || list_any (is_name_in name) (map (option_map stream_facts) a.streams)) here) ∙ e) in
+        omega (arith, s)
 
 -- whether the set has a name, where it has those that are taken
 pub taken_is : {D : Type 0} (a : Parts D) (names : BTreeSet (ArrayVec ℕ)) (name : List ℕ) → AreTaken a.journal.standing.cases a.streams names → has_name names name ≡ is_taken (state_of a) name
@@ -97,48 +95,48 @@ slot_there streams slot s is =
 
 -- a stream is begun, and its name kept
 pub taken_begun : (cases : List Case) (streams streams' : List (Option StreamParts)) (slot : ℕ) (s : StreamParts) (a b : BTreeSet (ArrayVec ℕ)) → AreTaken cases streams a → slot < length streams → stream_at streams slot ≡ None
-    → streams' ≡ slice_set streams slot (Some s) → has_name a s.name ≡ false → KeepsName (Ok tt) s.name a b → AreTaken cases streams' b
+    → streams' ≡ slice_set streams slot (Some s) → has_name a s.facts.origin.name ≡ false → KeepsName (Ok tt) s.facts.origin.name a b → AreTaken cases streams' b
 taken_begun cases streams streams' slot s a b are below none now fresh keeps = subst (λ (x : List (Option StreamParts)). AreTaken cases x b) (sym now) each
   where
     each : AreTaken cases (slice_set streams slot (Some s)) b
-    each q = of (bytes_eq s.name q) refl
+    each q = of (bytes_eq s.facts.origin.name q) refl
       where
-        of : (t : Bool) → bytes_eq s.name q ≡ t → cases_named cases q + streams_named (slice_set streams slot (Some s)) q ≡ one_if (has_name b q)
+        of : (t : Bool) → bytes_eq s.facts.origin.name q ≡ t → cases_named cases q + streams_named (slice_set streams slot (Some s)) q ≡ one_if (has_name b q)
         of true e =
             let n = named_with streams slot None (Some s) q below none in
-            let c : one_if (bytes_eq s.name q) ≡ 1 = ap one_if e in
-            let f : one_if (has_name a q) ≡ 0 = ap one_if (ap (has_name a) (sym ((bytes_eq-Decides s.name q).0 e)) ∙ fresh) in
+            let c : one_if (bytes_eq s.facts.origin.name q) ≡ 1 = ap one_if e in
+            let f : one_if (has_name a q) ≡ 0 = ap one_if (ap (has_name a) (sym ((bytes_eq-Decides s.facts.origin.name q).0 e)) ∙ fresh) in
             let h : one_if (has_name b q) ≡ 1 = ap one_if (keeps q ∙ ap (λ t. t || has_name a q) e) in
             omega (arith, n, c, f, h, are q)
         of false e =
             let n = named_with streams slot None (Some s) q below none in
-            let c : one_if (bytes_eq s.name q) ≡ 0 = ap one_if e in
+            let c : one_if (bytes_eq s.facts.origin.name q) ≡ 0 = ap one_if e in
             let h : one_if (has_name b q) ≡ one_if (has_name a q) = ap one_if (keeps q ∙ ap (λ t. t || has_name a q) e) in
             omega (arith, n, c, h, are q)
 
 -- a stream is dropped, and its name forgotten
 pub taken_dropped : (cases : List Case) (streams streams' : List (Option StreamParts)) (slot : ℕ) (s : StreamParts) (a b : BTreeSet (ArrayVec ℕ)) → AreTaken cases streams a → stream_at streams slot ≡ Some s
-    → streams' ≡ slice_set streams slot None → ForgetsName s.name a b → AreTaken cases streams' b
+    → streams' ≡ slice_set streams slot None → ForgetsName s.facts.origin.name a b → AreTaken cases streams' b
 taken_dropped cases streams streams' slot s a b are is now forgets = subst (λ (x : List (Option StreamParts)). AreTaken cases x b) (sym now) each
   where
     each : AreTaken cases (slice_set streams slot None) b
-    each q = of (bytes_eq s.name q) refl
+    each q = of (bytes_eq s.facts.origin.name q) refl
       where
-        of : (t : Bool) → bytes_eq s.name q ≡ t → cases_named cases q + streams_named (slice_set streams slot None) q ≡ one_if (has_name b q)
+        of : (t : Bool) → bytes_eq s.facts.origin.name q ≡ t → cases_named cases q + streams_named (slice_set streams slot None) q ≡ one_if (has_name b q)
         of true e =
             let n = named_with streams slot (Some s) None q (slot_there streams slot s is) is in
-            let c : one_if (bytes_eq s.name q) ≡ 1 = ap one_if e in
+            let c : one_if (bytes_eq s.facts.origin.name q) ≡ 1 = ap one_if e in
             let h : one_if (has_name b q) ≡ 0 = ap one_if (forgets q ∙ ap (λ t. cond t false (has_name a q)) e) in
             omega (arith, n, c, h, are q, one_most (has_name a q))
         of false e =
             let n = named_with streams slot (Some s) None q (slot_there streams slot s is) is in
-            let c : one_if (bytes_eq s.name q) ≡ 0 = ap one_if e in
+            let c : one_if (bytes_eq s.facts.origin.name q) ≡ 0 = ap one_if e in
             let h : one_if (has_name b q) ≡ one_if (has_name a q) = ap one_if (forgets q ∙ ap (λ t. cond t false (has_name a q)) e) in
             omega (arith, n, c, h, are q)
 
 -- another stream of the same name stands in the slot
 pub taken_grown : (cases : List Case) (streams streams' : List (Option StreamParts)) (slot : ℕ) (s s' : StreamParts) (a : BTreeSet (ArrayVec ℕ)) → AreTaken cases streams a → stream_at streams slot ≡ Some s
-    → streams' ≡ slice_set streams slot (Some s') → s'.name ≡ s.name → AreTaken cases streams' a
+    → streams' ≡ slice_set streams slot (Some s') → s'.facts.origin.name ≡ s.facts.origin.name → AreTaken cases streams' a
 taken_grown cases streams streams' slot s s' a are is now same = subst (λ (x : List (Option StreamParts)). AreTaken cases x a) (sym now)
     (λ q. (let n = named_with streams slot (Some s) (Some s') q (slot_there streams slot s is) is in
     let e = ap (λ (n : List ℕ). one_if (bytes_eq n q)) same in
@@ -158,7 +156,7 @@ taken_lent cases streams slot b (Ok u) ws a are reply = here (stream_at streams 
 
 -- a stream became the last case
 pub taken_stored : (cases : List Case) (streams streams' : List (Option StreamParts)) (slot : ℕ) (s : StreamParts) (x : Case) (a : BTreeSet (ArrayVec ℕ)) → AreTaken cases streams a → stream_at streams slot ≡ Some s
-    → streams' ≡ slice_set streams slot None → x.name ≡ s.name → AreTaken (cases ++ x ∷ []) streams' a
+    → streams' ≡ slice_set streams slot None → x.name ≡ s.facts.origin.name → AreTaken (cases ++ x ∷ []) streams' a
 taken_stored cases streams streams' slot s x a are is now called = subst (λ (xs : List (Option StreamParts)). AreTaken (cases ++ x ∷ []) xs a) (sym now)
     (λ q. (let n = named_with streams slot (Some s) None q (slot_there streams slot s is) is in
     let m = named_stored cases x q in
@@ -186,18 +184,20 @@ taken_still f cases old new b a ends are on = subst (λ (x : List (Option Stream
 pub names_left : (seqs : List ℕ) (cases : List Case) (streams : List (Option StreamParts)) (names : List (ArrayVec ℕ)) (a b : BTreeSet (ArrayVec ℕ)) → AreTaken cases streams a → map items_of names ≡ names_gone seqs cases → ForgetsNames names a b → AreTaken (dropped seqs cases) streams b
 names_left seqs cases streams names a b are same forgets q = of (is_one_of names q) refl
   where
-    among : list_any (λ (n : List ℕ). bytes_eq n q) (map name_of_case (gone seqs cases)) ≡ is_one_of names q
-    among = ap (list_any (λ (n : List ℕ). bytes_eq n q)) (sym same) ∙ list_any-map (λ (n : List ℕ). bytes_eq n q) items_of names
+    among : is_named q (gone seqs cases) ≡ is_one_of names q
+    among =
+        sym (list_any-map (λ (n : List ℕ). bytes_eq n q) name_of_case (gone seqs cases))
+        ∙ ap (list_any (λ (n : List ℕ). bytes_eq n q)) (sym same) ∙ list_any-map (λ (n : List ℕ). bytes_eq n q) items_of names
 
     of : (t : Bool) → is_one_of names q ≡ t → cases_named (dropped seqs cases) q + streams_named streams q ≡ one_if (has_name b q)
     of true e =
         let all = named_dropped seqs cases q in
-        let some = some_of (λ (n : List ℕ). bytes_eq n q) name_of_case (gone seqs cases) (among ∙ e) in
+        let some = some_of (λ (c : Case). bytes_eq c.name q) (gone seqs cases) (among ∙ e) in
         let h : one_if (has_name b q) ≡ 0 = ap one_if (forgets q ∙ ap (λ t. cond t false (has_name a q)) e) in
         omega (arith, all, some, h, are q, one_most (has_name a q))
     of false e =
         let all = named_dropped seqs cases q in
-        let none = none_of (λ (n : List ℕ). bytes_eq n q) name_of_case (gone seqs cases) (among ∙ e) in
+        let none = none_of (λ (c : Case). bytes_eq c.name q) (gone seqs cases) (among ∙ e) in
         let h : one_if (has_name b q) ≡ one_if (has_name a q) = ap one_if (forgets q ∙ ap (λ t. cond t false (has_name a q)) e) in
         omega (arith, all, none, h, are q)
 

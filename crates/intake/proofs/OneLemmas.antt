@@ -4,6 +4,8 @@ use Rattle.std.specs.Prelude.{nat_lt, nat_eq, ◌&&◌, ◌||◌}
 use Rattle.std.specs.Str.{bytes_eq}
 use Rattle.std.proofs.lemmas.Bool.{cases_order, cases_eq, cases_Bool, lt-ltb, le-ltb, eq-eqb, ne_eqb, true≢false, false≢true, and_from, and_left, and_right, or_left, or_right, or_from, false_from_ne_true}
 use Rattle.std.proofs.lemmas.Slice.Eq.{bytes_eq-Decides}
+use Rattle.journal_layout.specs.Soundness.{case_numbered}
+use Rattle.journal_layout.specs.Case.{Case}
 use Rattle.journal_layout.specs.Layout.{half_length}
 use Rattle.retention.specs.Rule.{IsOneDecision}
 use Rattle.retention.specs.declared.Brief.{Brief}
@@ -12,8 +14,8 @@ use Rattle.retention.specs.declared.Policy.{Policy}
 use Rattle.intake.proofs.MarkLemmas.{one_unmet}
 use Rattle.intake.specs.OneAnswer.{IsDecided, IsOneAnswer, RetiresSo, decision_said}
 use Rattle.intake.specs.Slots.{stream_at}
-use Rattle.intake.specs.State.{ArchiveState, CaseFacts, StreamFacts, blocks_for, blocks_in}
-use Rattle.intake.specs.Step.{BeginStep, AbandonStep, FinishStep, DeleteStep, PinStep, LabelStep, UpgradeStep, RetireStep, HasRecordRoom, HasRoomAnew, IsFull, LacksRoomAnew, IsLowestFree, TakesLowest, FillsBlocks, is_taken, with_stream, snapshot_size, stream_size, cases_with, stored, case_at, drop_size, cases_without, without_cases, pin_size, cases_flagged, with_flag, label_size, cases_labelled, with_label, anew_in_two, brief_of, RetiresSome}
+use Rattle.intake.specs.State.{ArchiveState, StreamFacts, blocks_for, blocks_in}
+use Rattle.intake.specs.Step.{BeginStep, AbandonStep, FinishStep, DeleteStep, PinStep, LabelStep, UpgradeStep, RetireStep, HasRecordRoom, HasRoomAnew, IsFull, LacksRoomAnew, IsLowestFree, TakesLowest, FillsBlocks, is_taken, with_stream, snapshot_size, stream_size, cases_with, stored, drop_size, cases_without, without_cases, pin_size, cases_flagged, with_flag, label_size, cases_labelled, with_label, anew_in_two, brief_of, RetiresSome}
 use Rattle.intake.specs.declared.faults.ArchiveFault.{ArchiveFault}
 use Rattle.intake.specs.declared.faults.ArchiveFault.TheVariants.{Stopped, BadSlot, SlotBusy, NameTaken, NoStream, SpaceFull, NoCase, Pinned, JournalFull, NumbersSpent, OutOfMemory, Disk, OldVersion}
 
@@ -37,7 +39,7 @@ busy_at None taken some = absurd (some refl)
 busy_at (Some x) taken some = refl
 
 abbrev begin_answer : ArchiveState → ℕ → StreamFacts → Result (Unit {0}) ArchiveFault
-begin_answer s slot x = cond s.stopped (Err Stopped) (cond (nat_lt slot (length s.streams)) (begin_at (stream_at s.streams slot) (is_taken s x.name)) (Err BadSlot))
+begin_answer s slot x = cond s.stopped (Err Stopped) (cond (nat_lt slot (length s.streams)) (begin_at (stream_at s.streams slot) (is_taken s x.origin.name)) (Err BadSlot))
 
 abbrev begin_after : ArchiveState → ℕ → StreamFacts → Result (Unit {0}) ArchiveFault → ArchiveState
 begin_after s slot x (Ok u) = with_stream s slot (Some x)
@@ -47,7 +49,7 @@ begin_is : (s : ArchiveState) (slot : ℕ) (x : StreamFacts) (r : Result (Unit {
 begin_is s slot x (Ok u) new step d = (rw (step.0.0, lt-ltb slot (length s.streams) step.0.1, step.0.2, step.0.3) refl, step.1)
 begin_is s slot x (Err Stopped) new step d = (rw (step.0) refl, step.1)
 begin_is s slot x (Err BadSlot) new step d = (rw (step.0, le-ltb slot (length s.streams) step.1) refl, step.2)
-begin_is s slot x (Err SlotBusy) new step d = (rw (step.0, lt-ltb slot (length s.streams) step.1) (busy_at (stream_at s.streams slot) (is_taken s x.name) step.2), step.3)
+begin_is s slot x (Err SlotBusy) new step d = (rw (step.0, lt-ltb slot (length s.streams) step.1) (busy_at (stream_at s.streams slot) (is_taken s x.origin.name) step.2), step.3)
 begin_is s slot x (Err NameTaken) new step d = (rw (step.0, lt-ltb slot (length s.streams) step.1, step.2, step.3) refl, step.4)
 begin_is s slot x (Err OutOfMemory) new step d = absurd d
 begin_is s slot x (Err _) new step d = absurd step
@@ -79,35 +81,35 @@ pub abandon_one : (s : ArchiveState) (slot : ℕ) → IsOneAnswer (AbandonStep s
 abandon_one s slot = by_function (AbandonStep s slot) (cond s.stopped (Err Stopped) (abandon_at (stream_at s.streams slot))) (abandon_after s slot) (abandon_is s slot)
 
 -- whether a record of `size` bytes has room, behind which these cases are live
-abbrev has_room : ArchiveState → ℕ → List CaseFacts → Bool
+abbrev has_room : ArchiveState → ℕ → List Case → Bool
 has_room s size cases =
     nat_lt (s.used + size) (half_length s.shape) || (nat_lt (snapshot_size cases) (half_length s.shape) && nat_lt (s.generation + 1) (2 ^ 64))
 
-has_anew : (s : ArchiveState) (cases : List CaseFacts) → HasRoomAnew s cases → (nat_lt (snapshot_size cases) (half_length s.shape) && nat_lt (s.generation + 1) (2 ^ 64)) ≡ true
+has_anew : (s : ArchiveState) (cases : List Case) → HasRoomAnew s cases → (nat_lt (snapshot_size cases) (half_length s.shape) && nat_lt (s.generation + 1) (2 ^ 64)) ≡ true
 has_anew s cases room =
     and_from (nat_lt (snapshot_size cases) (half_length s.shape)) (nat_lt (s.generation + 1) (2 ^ 64))
     (lt-ltb (snapshot_size cases) (half_length s.shape) (let a = room.0 in omega (arith, a))) (lt-ltb (s.generation + 1) (2 ^ 64) room.1)
 
-lacks_anew : (s : ArchiveState) (cases : List CaseFacts) → LacksRoomAnew s cases → (nat_lt (snapshot_size cases) (half_length s.shape) && nat_lt (s.generation + 1) (2 ^ 64)) ≡ false
+lacks_anew : (s : ArchiveState) (cases : List Case) → LacksRoomAnew s cases → (nat_lt (snapshot_size cases) (half_length s.shape) && nat_lt (s.generation + 1) (2 ^ 64)) ≡ false
 lacks_anew s cases lacks =
     ⊎_elim
     (λ a. and_left (nat_lt (snapshot_size cases) (half_length s.shape)) (nat_lt (s.generation + 1) (2 ^ 64)) (le-ltb (snapshot_size cases) (half_length s.shape) (omega (arith, a))))
     (λ e. and_right (nat_lt (snapshot_size cases) (half_length s.shape)) (nat_lt (s.generation + 1) (2 ^ 64)) (le-ltb (s.generation + 1) (2 ^ 64) (omega (arith, e))))
     lacks
 
-room_is : (s : ArchiveState) (size : ℕ) (cases : List CaseFacts) → HasRecordRoom s size cases → has_room s size cases ≡ true
+room_is : (s : ArchiveState) (size : ℕ) (cases : List Case) → HasRecordRoom s size cases → has_room s size cases ≡ true
 room_is s size cases room =
     ⊎_elim
     (λ a. or_left (nat_lt (s.used + size) (half_length s.shape)) _ (lt-ltb (s.used + size) (half_length s.shape) (omega (arith, a))))
     (λ h. or_right (nat_lt (s.used + size) (half_length s.shape)) _ (has_anew s cases h))
     room
 
-full_is : (s : ArchiveState) (size : ℕ) (cases : List CaseFacts) → IsFull s size cases → has_room s size cases ≡ false
+full_is : (s : ArchiveState) (size : ℕ) (cases : List Case) → IsFull s size cases → has_room s size cases ≡ false
 full_is s size cases full =
     or_from (nat_lt (s.used + size) (half_length s.shape)) _ (le-ltb (s.used + size) (half_length s.shape) (let a = full.0 in omega (arith, a))) (lacks_anew s cases full.1)
 
 -- delete
-abbrev delete_at : ArchiveState → ℕ → Option CaseFacts → Result (Unit {0}) ArchiveFault
+abbrev delete_at : ArchiveState → ℕ → Option Case → Result (Unit {0}) ArchiveFault
 delete_at s seq None = Err NoCase
 delete_at s seq (Some c) = cond c.pinned (Err Pinned) (cond (has_room s (drop_size 1) (cases_without s (seq ∷ []))) (Ok tt) (Err JournalFull))
 
@@ -116,7 +118,7 @@ delete_after s seq (Ok u) = without_cases s (seq ∷ [])
 delete_after s seq (Err f) = s
 
 delete_is : (s : ArchiveState) (seq : ℕ) (r : Result (Unit {0}) ArchiveFault) (new : ArchiveState) → DeleteStep s seq r new → IsDecided r
-    → (r ≡ cond s.stopped (Err Stopped) (delete_at s seq (case_at seq s.cases))) × (new ≡ delete_after s seq r)
+    → (r ≡ cond s.stopped (Err Stopped) (delete_at s seq (case_numbered seq s.cases))) × (new ≡ delete_after s seq r)
 delete_is s seq (Ok u) new step d = (rw (step.1.0, step.1.1, step.2, room_is s (drop_size 1) (cases_without s (seq ∷ [])) step.3) refl, step.4)
 delete_is s seq (Err Stopped) new step d = (rw (step.0) refl, step.1)
 delete_is s seq (Err NoCase) new step d = (rw (step.0, step.1) refl, step.2)
@@ -127,7 +129,7 @@ delete_is s seq (Err Disk) new step d = absurd d
 delete_is s seq (Err _) new step d = absurd step
 
 pub delete_one : (s : ArchiveState) (seq : ℕ) → IsOneAnswer (DeleteStep s seq)
-delete_one s seq = by_function (DeleteStep s seq) (cond s.stopped (Err Stopped) (delete_at s seq (case_at seq s.cases))) (delete_after s seq) (delete_is s seq)
+delete_one s seq = by_function (DeleteStep s seq) (cond s.stopped (Err Stopped) (delete_at s seq (case_numbered seq s.cases))) (delete_after s seq) (delete_is s seq)
 
 -- a change that stands already, or is made: its answer and what it leaves
 abbrev set_at : Bool → Bool → Result (Unit {0}) ArchiveFault
@@ -150,20 +152,20 @@ flag_not true false ne = refl
 flag_not false true ne = refl
 flag_not false false ne = absurd (ne refl)
 
-abbrev pin_at : ArchiveState → ℕ → Bool → Option CaseFacts → Result (Unit {0}) ArchiveFault
+abbrev pin_at : ArchiveState → ℕ → Bool → Option Case → Result (Unit {0}) ArchiveFault
 pin_at s seq flag None = Err NoCase
 pin_at s seq flag (Some c) = set_at (is_flag c.pinned flag) (has_room s pin_size (cases_flagged s seq flag))
 
-abbrev pinned_at : ArchiveState → ℕ → Bool → Option CaseFacts → ArchiveState
+abbrev pinned_at : ArchiveState → ℕ → Bool → Option Case → ArchiveState
 pinned_at s seq flag None = s
 pinned_at s seq flag (Some c) = cond (is_flag c.pinned flag) s (with_flag s seq flag)
 
 abbrev pin_after : ArchiveState → ℕ → Bool → Result (Unit {0}) ArchiveFault → ArchiveState
-pin_after s seq flag (Ok u) = pinned_at s seq flag (case_at seq s.cases)
+pin_after s seq flag (Ok u) = pinned_at s seq flag (case_numbered seq s.cases)
 pin_after s seq flag (Err f) = s
 
 pin_is : (s : ArchiveState) (seq : ℕ) (flag : Bool) (r : Result (Unit {0}) ArchiveFault) (new : ArchiveState) → PinStep s seq flag r new → IsDecided r
-    → (r ≡ cond s.stopped (Err Stopped) (pin_at s seq flag (case_at seq s.cases))) × (new ≡ pin_after s seq flag r)
+    → (r ≡ cond s.stopped (Err Stopped) (pin_at s seq flag (case_numbered seq s.cases))) × (new ≡ pin_after s seq flag r)
 pin_is s seq flag (Ok u) new step d =
     ⊎_elim
     (λ h. let e = flag_is step.0.pinned flag h.0 in (rw (step.1.0, step.1.1, e) refl, rw (step.1.1, e) h.1))
@@ -177,23 +179,23 @@ pin_is s seq flag (Err Disk) new step d = absurd d
 pin_is s seq flag (Err _) new step d = absurd step
 
 pub pin_one : (s : ArchiveState) (seq : ℕ) (flag : Bool) → IsOneAnswer (PinStep s seq flag)
-pin_one s seq flag = by_function (PinStep s seq flag) (cond s.stopped (Err Stopped) (pin_at s seq flag (case_at seq s.cases))) (pin_after s seq flag) (pin_is s seq flag)
+pin_one s seq flag = by_function (PinStep s seq flag) (cond s.stopped (Err Stopped) (pin_at s seq flag (case_numbered seq s.cases))) (pin_after s seq flag) (pin_is s seq flag)
 
 -- label
-abbrev label_at : ArchiveState → ℕ → List ℕ → Option CaseFacts → Result (Unit {0}) ArchiveFault
+abbrev label_at : ArchiveState → ℕ → List ℕ → Option Case → Result (Unit {0}) ArchiveFault
 label_at s seq text None = Err NoCase
 label_at s seq text (Some c) = cond (nat_eq s.version 2) (set_at (bytes_eq c.label text) (has_room s (label_size text) (cases_labelled s seq text))) (Err OldVersion)
 
-abbrev labelled_at : ArchiveState → ℕ → List ℕ → Option CaseFacts → ArchiveState
+abbrev labelled_at : ArchiveState → ℕ → List ℕ → Option Case → ArchiveState
 labelled_at s seq text None = s
 labelled_at s seq text (Some c) = cond (bytes_eq c.label text) s (with_label s seq text)
 
 abbrev label_after : ArchiveState → ℕ → List ℕ → Result (Unit {0}) ArchiveFault → ArchiveState
-label_after s seq text (Ok u) = labelled_at s seq text (case_at seq s.cases)
+label_after s seq text (Ok u) = labelled_at s seq text (case_numbered seq s.cases)
 label_after s seq text (Err f) = s
 
 label_is : (s : ArchiveState) (seq : ℕ) (text : List ℕ) (r : Result (Unit {0}) ArchiveFault) (new : ArchiveState) → LabelStep s seq text r new → IsDecided r
-    → (r ≡ cond s.stopped (Err Stopped) (label_at s seq text (case_at seq s.cases))) × (new ≡ label_after s seq text r)
+    → (r ≡ cond s.stopped (Err Stopped) (label_at s seq text (case_numbered seq s.cases))) × (new ≡ label_after s seq text r)
 label_is s seq text (Ok u) new step d =
     ⊎_elim
     (λ h. let e = (bytes_eq-Decides step.0.label text).1 h.0 in (rw (step.1.0.0, step.1.0.1, step.1.1, e) refl, rw (step.1.0.1, e) h.1))
@@ -211,7 +213,7 @@ label_is s seq text (Err Disk) new step d = absurd d
 label_is s seq text (Err _) new step d = absurd step
 
 pub label_one : (s : ArchiveState) (seq : ℕ) (text : List ℕ) → IsOneAnswer (LabelStep s seq text)
-label_one s seq text = by_function (LabelStep s seq text) (cond s.stopped (Err Stopped) (label_at s seq text (case_at seq s.cases))) (label_after s seq text) (label_is s seq text)
+label_one s seq text = by_function (LabelStep s seq text) (cond s.stopped (Err Stopped) (label_at s seq text (case_numbered seq s.cases))) (label_after s seq text) (label_is s seq text)
 
 -- upgrade
 abbrev anew : ArchiveState → Bool

@@ -1,11 +1,11 @@
 -- How the flag of a case is set.
-use Rattle.std.proofs.Common.{◌≡◌, ◌≢◌, inl, inr, ℕ, ◌*◌, ◌+◌, ◌<◌, ◌==◌, Bool, true, false, cond, List, [], ◌∷◌, length, map, refl, sym, ap, ◌∙◌, subst, arith, Option, Some, Ok, Err}
+use Rattle.std.proofs.Common.{◌≡◌, ◌≢◌, inl, inr, ℕ, ◌*◌, ◌+◌, ◌<◌, Bool, true, false, List, length, map, refl, sym, ap, ◌∙◌, subst, arith, Option, Some, Ok, Err}
 use Rattle.std.specs.Prelude.{option_map}
 use Rattle.std.proofs.lemmas.Bool.{ltb-false}
 use Rattle.disk_model.specs.Places.{SameOutside}
 use Rattle.disk_model.specs.declared.disk.Disk as disk
 use Rattle.journal_layout.specs.Case.{Case}
-use Rattle.journal_layout.specs.Folding.{used_blocks, with_pin}
+use Rattle.journal_layout.specs.Folding.{used_blocks, with_pin, pinned_as}
 use Rattle.journal_layout.specs.Layout.{half_length}
 use Rattle.journal_layout.specs.LiveCounts.{case_uses_same, used_length, named_pinned}
 use Rattle.journal_layout.specs.LiveLaws.{used_pinned}
@@ -16,17 +16,17 @@ use Rattle.journal_layout.specs.Soundness.{case_numbered, uses as uses_in}
 use Rattle.journal_layout.specs.Standing.{folded_of}
 use Rattle.case_journal.specs.Append.{AppendStep, MayFollow}
 use Rattle.case_journal.specs.Journaled.{Journaled}
+use Rattle.intake.proofs.DurableLemmas.{held_image, images_made, pin_moves_none}
 use Rattle.intake.specs.Guarding.{Guards}
 use Rattle.case_journal.specs.declared.faults.JournalFault.{JournalFault}
 use Rattle.case_journal.specs.declared.faults.JournalFault.TheVariants as journal_fault
-use Rattle.intake.specs.Blocks.{image_in}
 use Rattle.intake.specs.Ending.{EndsStreams}
 use Rattle.intake.specs.Faults.{fault_of}
 use Rattle.intake.specs.Live.{case_uses, cases_named}
-use Rattle.intake.specs.Parts.{Parts, StreamParts, state_of, case_facts, contents_of, taken_in}
+use Rattle.intake.specs.Parts.{Parts, StreamParts, state_of, contents_of, taken_in}
 use Rattle.intake.specs.Sound.{IsArchiveSound, case_blocks}
 use Rattle.intake.specs.Step.{PinStep, HasCase}
-use Rattle.intake.proofs.AfterLemmas.{case_facts_at, flag_cases, sound_after, same_state, halted_now, same_bytes}
+use Rattle.intake.proofs.AfterLemmas.{sound_after, same_state, halted_now, same_bytes}
 use Rattle.intake.proofs.RecordedLemmas.{record_room, record_full, state_recorded}
 
 module _ {D : Type 0} (g : disk.Ghosts D) (d d' : D) (j j' : Journaled) (most : ℕ) (flags : List Bool) (streams streams' : List (Option StreamParts)) (b b' : Bool) (seq : ℕ) (flag : Bool) (c : Case)
@@ -37,8 +37,8 @@ module _ {D : Type 0} (g : disk.Ghosts D) (d d' : D) (j j' : Journaled) (most : 
   abbrev new : Parts D
   new = record { disk = d'; journal = j'; limit = most; streams = streams'; stopped = b' }
 
-  has : HasCase (state_of old) seq (case_facts c)
-  has = (on, case_facts_at seq j.standing.cases ∙ ap (option_map case_facts) (sym found))
+  has : HasCase (state_of old) seq c
+  has = (on, sym found)
 
   pub pin_may : MayFollow j.standing (Pin seq flag)
   pin_may = pin_sound j.standing.shape.data_blocks (folded_of j.standing) seq flag (sound.runs on).cases (c, sym found)
@@ -49,27 +49,27 @@ module _ {D : Type 0} (g : disk.Ghosts D) (d d' : D) (j j' : Journaled) (most : 
 
   -- it stands already
   pub pin_same : (u : Unit {0}) → c.pinned ≡ flag → PinStep (state_of old) seq flag (Ok u) (state_of old)
-  pin_same u same = (case_facts c, has, inl (same, refl))
+  pin_same u same = (c, has, inl (same, refl))
 
   -- it is set
   pub pin_ok : (u : Unit {0}) → c.pinned ≢ flag → AppendStep j (Pin seq flag) (Ok u) j' → PinStep (state_of old) seq flag (Ok u) (state_of (record { disk = d'; journal = j'; limit = most; streams = streams; stopped = b }))
   pin_ok u other step = (
-    case_facts c,
+    c,
     has,
     inr (
       other,
-      record_room d d' j (Pin seq flag) most streams b _ (flag_cases seq flag j.standing.cases) step.1,
+      record_room d d' j (Pin seq flag) most streams b step.1,
       ap (λ (k : Journaled). state_of (record { disk = d'; journal = k; limit = most; streams = streams; stopped = b })) step.2
-          ∙ state_recorded d d' j (Pin seq flag) most streams b _ (flag_cases seq flag j.standing.cases),
+          ∙ state_recorded d d' j (Pin seq flag) most streams b,
     ),
   )
 
   pub pin_err : (jf : JournalFault) → c.pinned ≢ flag → AppendStep j (Pin seq flag) (Err jf) j' → EndsStreams (fault_of jf) streams b' streams' → PinStep (state_of old) seq flag (Err (fault_of jf)) (state_of new)
   pin_err journal_fault.Stopped other step ends = absurd (let e : true ≡ false = sym step.0 ∙ (sound.runs on).journal in cc)
-  pin_err journal_fault.JournalFull other step ends = (case_facts c, has, other, record_full d d' j (Pin seq flag) most streams b _ (flag_cases seq flag j.standing.cases) step.1, same_state g d d' j j' (Pin seq flag) most flags streams streams' b b' on ends.0 ends.1 step.2)
+  pin_err journal_fault.JournalFull other step ends = (c, has, other, record_full d d' j (Pin seq flag) most streams b step.1, same_state g d d' j j' (Pin seq flag) most flags streams streams' b b' on ends.0 ends.1 step.2)
   pin_err journal_fault.NumbersSpent other step ends = absurd step
-  pin_err journal_fault.OutOfMemory other step ends = (case_facts c, has, other, record_room d d' j (Pin seq flag) most streams b _ (flag_cases seq flag j.standing.cases) step.1, same_state g d d' j j' (Pin seq flag) most flags streams streams' b b' on ends.0 ends.1 step.2)
-  pin_err journal_fault.Disk other step ends = (case_facts c, has, other, record_room d d' j (Pin seq flag) most streams b _ (flag_cases seq flag j.standing.cases) step.1, halted_now g d d' j j' (Pin seq flag) most flags streams streams' b b' on ends.0 ends.1 step.2)
+  pin_err journal_fault.OutOfMemory other step ends = (c, has, other, record_room d d' j (Pin seq flag) most streams b step.1, same_state g d d' j j' (Pin seq flag) most flags streams streams' b b' on ends.0 ends.1 step.2)
+  pin_err journal_fault.Disk other step ends = (c, has, other, record_room d d' j (Pin seq flag) most streams b step.1, halted_now g d d' j j' (Pin seq flag) most flags streams streams' b b' on ends.0 ends.1 step.2)
   pin_err journal_fault.OldVersion other step ends = absurd step
 
   pub pin_sound_after : (u : Unit {0}) → AppendStep j (Pin seq flag) (Ok u) j' → Guards g d' j' → IsArchiveSound g d' j' most flags streams b
@@ -85,18 +85,9 @@ module _ {D : Type 0} (g : disk.Ghosts D) (d d' : D) (j j' : Journaled) (most : 
       let e = ap length (used_pinned seq flag j.standing.cases) in omega (arith, x, y, e))
       (λ name. (let n : cases_named (with_pin seq flag j.standing.cases) name ≡ cases_named j.standing.cases name = named_pinned seq flag j.standing.cases name in omega (arith, n))))
 
-  images_pinned : (bytes : List ℕ) (cases : List Case) → map (λ (x : Case). image_in j.standing.shape bytes x.blocks x.len) (with_pin seq flag cases) ≡ map (λ (x : Case). image_in j.standing.shape bytes x.blocks x.len) cases
-  images_pinned bytes [] = refl
-  images_pinned bytes (x ∷ rest) =
-      elim (x.seq == seq) as (λ t. image_in j.standing.shape bytes (cond t (record x { pinned = flag }) x).blocks (cond t (record x { pinned = flag }) x).len ∷ map (λ (y : Case). image_in j.standing.shape bytes y.blocks y.len) (with_pin seq flag rest)
-      ≡ image_in j.standing.shape bytes x.blocks x.len ∷ map (λ (y : Case). image_in j.standing.shape bytes y.blocks y.len) rest) [
-        | true ↦ ap (λ (l : List (List ℕ)). image_in j.standing.shape bytes x.blocks x.len ∷ l) (images_pinned bytes rest)
-        | false ↦ ap (λ (l : List (List ℕ)). image_in j.standing.shape bytes x.blocks x.len ∷ l) (images_pinned bytes rest)
-      ]
-
   pub pin_bytes : (u : Unit {0}) → AppendStep j (Pin seq flag) (Ok u) j' → SameOutside 4096 (2 * half_length j.standing.shape) (g.seen d) (g.seen d')
       → contents_of g.seen (record { disk = d'; journal = j'; limit = most; streams = streams; stopped = b }) ≡ contents_of g.seen old
   pin_bytes u step outside =
       ap (λ (k : Journaled). contents_of g.seen (record { disk = d'; journal = k; limit = most; streams = streams; stopped = b })) step.2
-      ∙ ap (λ (x : List (List ℕ)). record { images = x; taken = map (option_map (taken_in j (g.seen d'))) streams }) (images_pinned (g.seen d') j.standing.cases)
+      ∙ ap (λ (x : List (List ℕ)). record { images = x; taken = map (option_map (taken_in j (g.seen d'))) streams }) (images_made (held_image j.standing.shape (g.seen d')) (pinned_as seq flag) (pin_moves_none j.standing.shape (g.seen d') seq flag) j.standing.cases)
       ∙ same_bytes g.seen d d' j most streams b outside b

@@ -18,7 +18,7 @@ use Rattle.journal_layout.specs.Soundness.{case_numbered}
 use Rattle.journal_layout.specs.declared.shape.Shape.{Shape}
 use Rattle.case_journal.specs.Journaled.{Journaled}
 use Rattle.intake.specs.Blocks.{block_start, block_bytes, joined}
-use Rattle.intake.specs.Parts.{StreamParts, case_facts}
+use Rattle.intake.specs.Parts.{StreamParts}
 use Rattle.intake.specs.Ranges.{CoversRuns, Locates, IsFrontOfRun, AreWithin, bytes_in}
 use Rattle.intake.specs.Reading.{LieWithin, LiesIn}
 use Rattle.intake.specs.declared.ranges.ByteRange.{ByteRange}
@@ -134,7 +134,7 @@ pub located : {D : Type 0} (g : disk.Ghosts D) (d : D) (j : Journaled) (most : �
     → g.size d ≡ disk_length j.standing.shape → (IsTrue (g.is_honest d) → length (g.seen d) ≡ g.size d)
     → Locates g (record { disk = d; journal = j; limit = most; streams = streams; stopped = b }) seq ranges
 located g d j most streams b seq c ranges on is lies covers size whole = record {
-  found = case_facts c;
+  found = c;
   has = has_case g.seen d d j most streams streams b b seq c on is;
   within = subst (λ (n : ℕ). AreWithin n ranges) (sym size) covers.within;
   count = (let enough = lies.enough in let same = ap length (blocks_of_runs c.blocks) in omega (arith, covers.count, enough, same));

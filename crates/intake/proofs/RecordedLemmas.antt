@@ -1,5 +1,5 @@
 -- The state without bytes after one record more, and whether the record has room.
-use Rattle.std.proofs.Common.{◌≡◌, inl, inr, ⊎_elim, ℕ, ◌+◌, Bool, List, [], ◌∷◌, map, refl, ap, ◌∙◌, arith, Option, cond}
+use Rattle.std.proofs.Common.{◌≡◌, inl, inr, ⊎_elim, ℕ, ◌+◌, Bool, List, [], ◌∷◌, refl, ap, arith, Option, cond}
 use Rattle.std.specs.Prelude.{sum_by}
 use Rattle.std.proofs.lemmas.List.Sums.{sum_by-cons}
 use Rattle.journal_layout.specs.Case.{Case}
@@ -10,8 +10,7 @@ use Rattle.journal_layout.specs.RoomLaws.{bytes_more, snapshot_bytes}
 use Rattle.journal_layout.specs.Standing.{folded_of}
 use Rattle.case_journal.specs.Append.{HasRoom, LacksRoom}
 use Rattle.case_journal.specs.Journaled.{Journaled, after_append}
-use Rattle.intake.specs.Parts.{Parts, StreamParts, state_of, case_facts}
-use Rattle.intake.specs.State.{CaseFacts}
+use Rattle.intake.specs.Parts.{Parts, StreamParts, state_of}
 use Rattle.intake.specs.Step.{HasRecordRoom, IsFull, label_bytes, case_size, recorded, snapshot_size}
 
 -- the record of a case's label, if it has one
@@ -20,44 +19,37 @@ label_sized seq [] = refl
 label_sized seq (b ∷ rest) = omega arith
 
 -- the records that say cases
-cases_sized : (cases : List Case) → case_bytes cases ≡ sum_by case_size (map case_facts cases)
+cases_sized : (cases : List Case) → case_bytes cases ≡ sum_by case_size cases
 cases_sized [] = refl
 cases_sized (c ∷ rest) =
     let more = bytes_more c rest in
-    let sum = sum_by-cons case_size (case_facts c) (map case_facts rest) in
-    let one : sizes (case_records c) ≡ case_size (case_facts c) = omega (arith, label_sized c.seq c.label) in
+    let sum = sum_by-cons case_size c rest in
+    let one : sizes (case_records c) ≡ case_size c = omega (arith, label_sized c.seq c.label) in
     omega (arith, more, sum, one, cases_sized rest)
 
-pub snapshot_is : (f : Folded) → snapshot_size_of f ≡ snapshot_size (map case_facts f.cases)
+pub snapshot_is : (f : Folded) → snapshot_size_of f ≡ snapshot_size f.cases
 snapshot_is f = omega (arith, snapshot_bytes f, cases_sized f.cases)
 
-module _ {D : Type 0} (d d' : D) (j : Journaled) (r : Record) (most : ℕ) (streams : List (Option StreamParts)) (b : Bool) (cases : List CaseFacts)
-    (says : map case_facts (after r (folded_of j.standing)).cases ≡ cases) where
+module _ {D : Type 0} (d d' : D) (j : Journaled) (r : Record) (most : ℕ) (streams : List (Option StreamParts)) (b : Bool) where
   abbrev old : Parts D
   old = record { disk = d; journal = j; limit = most; streams = streams; stopped = b }
 
-  anew : snapshot_size_of (after r (folded_of j.standing)) ≡ snapshot_size cases
-  anew = snapshot_is (after r (folded_of j.standing)) ∙ ap snapshot_size says
+  abbrev then : Folded
+  then = after r (folded_of j.standing)
 
-  pub record_room : HasRoom j.standing r → HasRecordRoom (state_of old) (size_of r) cases
-  record_room room = ⊎_elim (λ behind. inl behind) (λ beside. inr ((let e = anew in let short = beside.0 in omega (arith, e, short)), beside.1)) room
+  pub record_room : HasRoom j.standing r → HasRecordRoom (state_of old) (size_of r) then.cases
+  record_room room = ⊎_elim (λ behind. inl behind) (λ beside. inr ((let e = snapshot_is then in let short = beside.0 in omega (arith, e, short)), beside.1)) room
 
-  pub record_full : LacksRoom j.standing r → IsFull (state_of old) (size_of r) cases
-  record_full full = (full.0, ⊎_elim (λ long. inl (let e = anew in omega (arith, e, long))) (λ last. inr last) full.1)
+  pub record_full : LacksRoom j.standing r → IsFull (state_of old) (size_of r) then.cases
+  record_full full = (full.0, ⊎_elim (λ long. inl (let e = snapshot_is then in omega (arith, e, long))) (λ last. inr last) full.1)
 
   -- the record was appended
   pub state_recorded : state_of (record { disk = d'; journal = after_append j r; limit = most; streams = streams; stopped = b })
-      ≡ record (recorded (state_of old) (size_of r) cases) { next = (after r (folded_of j.standing)).next }
+      ≡ record (recorded (state_of old) (size_of r) then.cases) { next = then.next }
   state_recorded =
       ap (λ (n : ℕ). record (state_of old) {
-        cases = map case_facts (after r (folded_of j.standing)).cases;
-        next = (after r (folded_of j.standing)).next;
+        cases = then.cases;
+        next = then.next;
         used = cond (fits j.standing r) (j.standing.used + size_of r) n;
         generation = cond (fits j.standing r) j.standing.generation (j.standing.generation + 1);
-      }) anew
-      ∙ ap (λ (x : List CaseFacts). record (state_of old) {
-        cases = x;
-        next = (after r (folded_of j.standing)).next;
-        used = cond (fits j.standing r) (j.standing.used + size_of r) (snapshot_size cases);
-        generation = cond (fits j.standing r) j.standing.generation (j.standing.generation + 1);
-      }) says
+      }) (snapshot_is then)

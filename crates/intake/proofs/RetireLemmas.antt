@@ -16,7 +16,6 @@ use Rattle.journal_layout.specs.declared.entry.Entry.{Entry}
 use Rattle.case_journal.specs.Append.{MayFollow}
 use Rattle.case_journal.specs.Journaled.{Journaled}
 use Rattle.intake.specs.Contents.{images_without}
-use Rattle.intake.specs.Parts.{case_facts}
 use Rattle.intake.specs.Retiring.{brief_of_entry, seq_of_entry}
 use Rattle.intake.specs.State.{ArchiveState}
 use Rattle.intake.specs.Step.{DropStep, RetireStep, RetiresSome, brief_of}
@@ -44,7 +43,7 @@ seqs_same : (entries : List Entry) → map seq_of_entry entries ≡ map seq_of_c
 seqs_same [] = refl
 seqs_same (e ∷ rest) = ap (λ (l : List ℕ). e.seq ∷ l) (seqs_same rest)
 
-pub briefs_same : (entries : List Entry) → map brief_of_entry entries ≡ map brief_of (map case_facts (map case_of entries))
+pub briefs_same : (entries : List Entry) → map brief_of_entry entries ≡ map brief_of (map case_of entries)
 briefs_same [] = refl
 briefs_same (e ∷ rest) = ap (λ (l : List Brief). brief_of_entry e ∷ l) (briefs_same rest)
 
@@ -53,9 +52,9 @@ seqs_of_briefs [] = refl
 seqs_of_briefs (e ∷ rest) = ap (λ (l : List ℕ). e.seq ∷ l) (seqs_of_briefs rest)
 
 pub decision_of : (policy : Policy) (entries : List Entry) (cases : List Case) (dropped : List ℕ) (unmet : Bool) → map case_of entries ≡ cases
-    → IsDecision policy (map brief_of_entry entries) dropped unmet → IsDecision policy (map brief_of (map case_facts cases)) dropped unmet
+    → IsDecision policy (map brief_of_entry entries) dropped unmet → IsDecision policy (map brief_of cases) dropped unmet
 decision_of policy entries cases dropped unmet are decision =
-    subst (λ (bs : List Brief). IsDecision policy bs dropped unmet) (briefs_same entries ∙ ap (λ (cs : List Case). map brief_of (map case_facts cs)) are) decision
+    subst (λ (bs : List Brief). IsDecision policy bs dropped unmet) (briefs_same entries ∙ ap (map brief_of) are) decision
 
 pub entries_rise : (limit : ℕ) (entries : List Entry) (cases : List Case) (next : ℕ) → map case_of entries ≡ cases → AreLive limit cases next → IsStrictlyIncreasing (map seq_of_entry entries)
 entries_rise limit entries cases next are live =
@@ -67,33 +66,26 @@ old_free : (p x : Bool) → (not p && x) ≡ true → p ≡ false
 old_free false x e = refl
 old_free true x e = cc
 
-abbrev brief : Case → Brief
-brief c = brief_of (case_facts c)
-
 droppable : (policy : Policy) (n : ℕ) (all sub : List Case) → AllByRecursion (λ (c : Case). case_numbered c.seq all ≡ Some c) sub
-    → AllByRecursion (IsDroppable all) (map seq_of (goes policy n (map brief sub)))
+    → AllByRecursion (IsDroppable all) (map seq_of (goes policy n (map brief_of sub)))
 droppable policy n all [] each = tt
 droppable policy zero all (c ∷ rest) each =
-    elim (is_old policy (brief c)) as (λ t. is_old policy (brief c) ≡ t → AllByRecursion (IsDroppable all) (map seq_of (cond t (brief c ∷ goes policy zero (map brief rest)) (goes policy zero (map brief rest))))) [
+    elim (is_old policy (brief_of c)) as (λ t. is_old policy (brief_of c) ≡ t → AllByRecursion (IsDroppable all) (map seq_of (cond t (brief_of c ∷ goes policy zero (map brief_of rest)) (goes policy zero (map brief_of rest))))) [
       | true ↦ λ e. ((c, each.0, old_free c.pinned _ e), droppable policy zero all rest each.1)
       | false ↦ λ e. droppable policy zero all rest each.1
     ] refl
 droppable policy (suc n) all (c ∷ rest) each =
-    elim (is_old policy (brief c)) as (λ t. is_old policy (brief c) ≡ t → AllByRecursion (IsDroppable all) (map seq_of (cond t (brief c ∷ goes policy (suc n) (map brief rest))
-    (cond (is_spare policy (brief c)) (brief c ∷ goes policy n (map brief rest)) (goes policy (suc n) (map brief rest)))))) [
+    elim (is_old policy (brief_of c)) as (λ t. is_old policy (brief_of c) ≡ t → AllByRecursion (IsDroppable all) (map seq_of (cond t (brief_of c ∷ goes policy (suc n) (map brief_of rest))
+    (cond (is_spare policy (brief_of c)) (brief_of c ∷ goes policy n (map brief_of rest)) (goes policy (suc n) (map brief_of rest)))))) [
       | true ↦ λ e. ((c, each.0, old_free c.pinned _ e), droppable policy (suc n) all rest each.1)
-      | false ↦ λ e. elim (is_spare policy (brief c)) as (λ t. is_spare policy (brief c) ≡ t → AllByRecursion (IsDroppable all) (map seq_of (cond t (brief c ∷ goes policy n (map brief rest)) (goes policy (suc n) (map brief rest))))) [
+      | false ↦ λ e. elim (is_spare policy (brief_of c)) as (λ t. is_spare policy (brief_of c) ≡ t → AllByRecursion (IsDroppable all) (map seq_of (cond t (brief_of c ∷ goes policy n (map brief_of rest)) (goes policy (suc n) (map brief_of rest))))) [
         | true ↦ λ f. ((c, each.0, old_free c.pinned _ f), droppable policy n all rest each.1)
         | false ↦ λ f. droppable policy (suc n) all rest each.1
       ] refl
     ] refl
 
-briefs_of_cases : (cases : List Case) → map brief_of (map case_facts cases) ≡ map brief cases
-briefs_of_cases [] = refl
-briefs_of_cases (c ∷ rest) = ap (λ (l : List Brief). brief c ∷ l) (briefs_of_cases rest)
-
 pub retire_may : (j : Journaled) (policy : Policy) (dropped : List ℕ) (unmet : Bool) → AreLive j.standing.shape.data_blocks j.standing.cases j.standing.next
-    → IsDecision policy (map brief_of (map case_facts j.standing.cases)) dropped unmet → IsStrictlyIncreasing dropped → 0 < length dropped → MayFollow j.standing (Drop dropped)
+    → IsDecision policy (map brief_of j.standing.cases) dropped unmet → IsStrictlyIncreasing dropped → 0 < length dropped → MayFollow j.standing (Drop dropped)
 retire_may j policy dropped unmet live decision rises some =
     drop_sound j.standing.shape.data_blocks (folded_of j.standing) dropped live some
     (rise_from 0 dropped (λ _. positive dropped each some) (λ k low. (let next : k + 1 ≡ suc k = omega arith in subst (λ i. get_or dropped k 0 < get_or dropped i 0) next (rises k (omega arith)))))
@@ -109,12 +101,12 @@ retire_may j policy dropped unmet live decision rises some =
 
     each : AllByRecursion (IsDroppable j.standing.cases) dropped
     each =
-        subst (AllByRecursion (IsDroppable j.standing.cases)) (sym (decision.dropped_are ∙ ap (λ (bs : List Brief). map seq_of (goes policy decision.count bs)) (briefs_of_cases j.standing.cases)))
+        subst (AllByRecursion (IsDroppable j.standing.cases)) (sym decision.dropped_are)
         (droppable policy decision.count j.standing.cases j.standing.cases
         (found j.standing.cases (recursion_from_All (Contains j.standing.cases) j.standing.cases (All-contains_itself j.standing.cases))))
 
 pub retire_rises : (j : Journaled) (policy : Policy) (dropped : List ℕ) (unmet : Bool) → AreLive j.standing.shape.data_blocks j.standing.cases j.standing.next
-    → IsDecision policy (map brief_of (map case_facts j.standing.cases)) dropped unmet → IsStrictlyIncreasing dropped → 0 < length dropped → Rise 0 dropped
+    → IsDecision policy (map brief_of j.standing.cases) dropped unmet → IsStrictlyIncreasing dropped → 0 < length dropped → Rise 0 dropped
 retire_rises j policy dropped unmet live decision rises some = (retire_may j policy dropped unmet live decision rises some).1
 
 -- the step of a refusal
@@ -135,7 +127,7 @@ retire_err s policy dropped unmet fault.NumbersSpent after r step = absurd step
 retire_err s policy dropped unmet fault.OldVersion after r step = absurd step
 
 -- without any numbers all images stay
-pub all_stay : (f : Case → List ℕ) (cases : List Case) → images_without [] (map case_facts cases) (map f cases) ≡ map f cases
+pub all_stay : (f : Case → List ℕ) (cases : List Case) → images_without [] cases (map f cases) ≡ map f cases
 all_stay f [] = refl
 all_stay f (c ∷ rest) = ap (λ (l : List (List ℕ)). f c ∷ l) (all_stay f rest)
 
@@ -149,6 +141,6 @@ none_dropped (x ∷ xs) e = absurd (omega (arith, e))
 
 -- the numbers of those that go rise, also where none goes
 pub retired_rise : (j : Journaled) (policy : Policy) (dropped : List ℕ) (unmet : Bool) → AreLive j.standing.shape.data_blocks j.standing.cases j.standing.next
-    → IsDecision policy (map brief_of (map case_facts j.standing.cases)) dropped unmet → IsStrictlyIncreasing dropped → Rise 0 dropped
+    → IsDecision policy (map brief_of j.standing.cases) dropped unmet → IsStrictlyIncreasing dropped → Rise 0 dropped
 retired_rise j policy [] unmet live decision rises = tt
 retired_rise j policy (seq ∷ seqs) unmet live decision rises = retire_rises j policy (seq ∷ seqs) unmet live decision rises (omega arith)

@@ -79,12 +79,12 @@ module _ (slots : List Slot) (streams : List (Option StreamParts)) (slot at : �
       let all : take (length b) b ≡ b = take_all (length b) b (omega arith) in
       take_at (take (length b) b) (ws ++ drop (length ws) (drop (length b) b)) (length b) (ap length all) ∙ all
 
-  refilled_in : (b : List ℕ) (o : Option Stream) (from : ℕ) (ws : List ℕ) (t : StreamParts) → option_map (parts_of b) o ≡ Some t → from ≡ t.len % 4096
+  refilled_in : (b : List ℕ) (o : Option Stream) (from : ℕ) (ws : List ℕ) (t : StreamParts) → option_map (parts_of b) o ≡ Some t → from ≡ t.facts.len % 4096
       → option_map (parts_of (refilled b from ws)) o ≡ option_map (with_room ws) (option_map (parts_of b) o)
   refilled_in b None from ws t e low = refl
   refilled_in b (Some x) from ws t e low =
       let f : parts_of b x ≡ t = cc in
-      let g : from ≡ x.length % 4096 = low ∙ ap (λ (p : StreamParts). p.len % 4096) (sym f) in
+      let g : from ≡ x.length % 4096 = low ∙ ap (λ (p : StreamParts). p.facts.len % 4096) (sym f) in
       ap (λ (k : ℕ). Some (parts_of (refilled b k ws) x)) g
 
   still : (from : ℕ) (ws : List ℕ) → from ≡ length s.block → map parts_in (set slots at (reblocked s from ws)) ≡ streams
@@ -105,11 +105,11 @@ module _ (slots : List Slot) (streams : List (Option StreamParts)) (slot at : �
   slots_are_left (Err fault.NoStream) from ws h = still from ws h.2
   slots_are_left (Err _) from ws h = absurd h
 
-  free_in : (b : List ℕ) (o : Option Stream) (from : ℕ) (t : StreamParts) → option_map (parts_of b) o ≡ Some t → from ≡ t.len % 4096 → drop from b ≡ free_part (option_map (parts_of b) o)
+  free_in : (b : List ℕ) (o : Option Stream) (from : ℕ) (t : StreamParts) → option_map (parts_of b) o ≡ Some t → from ≡ t.facts.len % 4096 → drop from b ≡ free_part (option_map (parts_of b) o)
   free_in b None from t e low = cc
   free_in b (Some x) from t e low =
       let f : parts_of b x ≡ t = cc in
-      ap (λ (k : ℕ). drop k b) (low ∙ ap (λ (p : StreamParts). p.len % 4096) (sym f))
+      ap (λ (k : ℕ). drop k b) (low ∙ ap (λ (p : StreamParts). p.facts.len % 4096) (sym f))
 
   pub lent_is : (r : Result (Unit {0}) ArchiveFault) (from : ℕ) → IsFreeFrom stopped (nat_lt slot 8) (parts_in s) (length s.block) r from → drop from s.block ≡ room_in streams slot r
   lent_is (Ok u) from h = free_in s.block s.stream from h.2 h.3 h.4 ∙ ap free_part (sym (stands h.1))

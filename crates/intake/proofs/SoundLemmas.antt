@@ -12,21 +12,20 @@ use Rattle.disk_model.specs.declared.disk.Disk as disk
 use Rattle.extents.specs.FreeSet.{free_count, uses, one_if}
 use Rattle.case_journal.specs.Journaled.{Journaled}
 use Rattle.intake.specs.Guarding.{Guards}
-use Rattle.std.proofs.Common.{lit<, ◌^◌}
-use Rattle.journal_layout.specs.Soundness.{IsName}
+use Rattle.std.proofs.Common.{lit<}
 use Rattle.intake.specs.Balance.{AreHeld, Balances}
 use Rattle.intake.specs.Contents.{zero_block}
 use Rattle.journal_layout.specs.Live.{IsWhole}
 use Rattle.intake.specs.Live.{cases_named}
-use Rattle.intake.specs.Parts.{StreamParts, state_of, case_facts, stream_facts}
-use Rattle.intake.specs.State.{CaseFacts, blocks_for, blocks_in, filled_by}
+use Rattle.intake.specs.Parts.{StreamParts, state_of, stream_facts}
+use Rattle.intake.specs.State.{blocks_for, blocks_in, filled_by}
 use Rattle.intake.specs.Room.{HasBlock, SlotReply}
 use Rattle.intake.specs.Lending.{refilled, with_room, slots_left}
 use Rattle.intake.specs.declared.faults.ArchiveFault.{ArchiveFault}
 use Rattle.journal_layout.specs.Case.{Case}
 use Rattle.journal_layout.specs.Layout.{IsWithinLimits}
 use Rattle.intake.specs.Slots.{stream_at, closed}
-use Rattle.intake.specs.Sound.{IsArchiveSound, IsRunning, IsFine, IsFineIfOpen, held_by, stream_uses, stream_blocks, case_blocks, is_called, streams_named}
+use Rattle.intake.specs.Sound.{IsArchiveSound, IsRunning, IsFine, IsFineIfOpen, held_by, stream_uses, stream_blocks, case_blocks, is_called, streams_named, IsWritable}
 
 pub length-zero_block : length zero_block ≡ 4096
 unfolding zero_block
@@ -115,10 +114,10 @@ sound_halted g d d' j j' most flags flags' streams streams' b sound same long = 
 }
 
 -- the blocks in use, as the state without bytes counts them
-cases_count : (next : ℕ) (cases : List Case) → All (IsWhole next) cases → sum_by (λ (c : CaseFacts). blocks_for c.len) (map case_facts cases) ≡ case_blocks cases
+cases_count : (next : ℕ) (cases : List Case) → All (IsWhole next) cases → sum_by (λ (c : Case). blocks_for c.len) cases ≡ case_blocks cases
 cases_count next [] each = refl
 cases_count next (c ∷ rest) each =
-    let s = sum_by-cons (λ (x : CaseFacts). blocks_for x.len) (case_facts c) (map case_facts rest) in
+    let s = sum_by-cons (λ (x : Case). blocks_for x.len) c rest in
     let t = sum_by-cons (λ (x : Case). length x.blocks) c rest in
     let m = cases_count next rest (All-tail (IsWhole next) c rest each) in
     let e = (All-head (IsWhole next) c rest each).enough in
@@ -191,16 +190,13 @@ sound_lent g d j most flags streams slot b (Ok u) ws sound reply = here (stream_
     here (Some s) is =
         let fine : IsFine most s = subst (IsFineIfOpen most) is (fine_at most streams slot (sound.runs reply.0).streams_fine) in
         subst (λ (o : Option StreamParts). IsArchiveSound g d j most flags (slice_set streams slot (option_map (with_room ws) o)) b) (sym is)
-        (sound_with g d d j most flags flags streams slot (Some s) (Some (with_room ws s)) b sound reply.0 low is (sound.runs reply.0).keeps (nothing_moves flags s.blocks)
+        (sound_with g d d j most flags flags streams slot (Some s) (Some (with_room ws s)) b sound reply.0 low is (sound.runs reply.0).keeps (nothing_moves flags s.facts.blocks)
         (record {
-          name = fine.name;
-          pid = fine.pid;
-          signal = fine.signal;
-          time = fine.time;
+          origin = fine.origin;
           small = fine.small;
           limit = fine.limit;
           filled = fine.filled;
-          block = length-refilled s.block (s.len % 4096) ws (let e = fine.block in omega arith) ∙ fine.block;
+          block = length-refilled s.block (s.facts.len % 4096) ws (let e = fine.block in omega arith) ∙ fine.block;
         })
         (λ name. (let n = (sound.runs reply.0).named name in no_more _ _ n)))
 
@@ -211,18 +207,15 @@ slot_below g d j most flags streams slot s b sound is =
     elim (cases_lt slot 8) as (λ _. slot < 8) [ inl lt ↦ lt | inr high ↦ absurd (let e : None ≡ Some s = sym (get_or_past streams slot None (let e = sound.slots in omega arith)) ∙ is in cc) ]
 
 pub sound_dropped : {D : Type 0} (g : disk.Ghosts D) (d d' : D) (j : Journaled) (most : ℕ) (flags flags' : List Bool) (streams streams' : List (Option StreamParts)) (slot : ℕ) (s : StreamParts) (b : Bool)
-    → IsArchiveSound g d j most flags streams b → b ≡ false → stream_at streams slot ≡ Some s → streams' ≡ slice_set streams slot None → Guards g d' j → Balances flags s.blocks flags' []
+    → IsArchiveSound g d j most flags streams b → b ≡ false → stream_at streams slot ≡ Some s → streams' ≡ slice_set streams slot None → Guards g d' j → Balances flags s.facts.blocks flags' []
     → IsArchiveSound g d' j most flags' streams' b
 sound_dropped g d d' j most flags flags' streams streams' slot s b sound on is now keeps bal =
     subst (λ (x : List (Option StreamParts)). IsArchiveSound g d' j most flags' x b) (sym now)
     (sound_without g d d' j most flags flags' streams slot (Some s) b sound on (slot_below g d j most flags streams slot s b sound is) is keeps bal)
 
-pub fine_new : (most : ℕ) (s : StreamParts) → IsName s.name → s.pid < 2 ^ 32 → s.signal < 2 ^ 32 → s.time < 2 ^ 64 → s.len ≡ 0 → s.blocks ≡ [] → s.block ≡ zero_block → IsFine most s
-fine_new most s name pid signal time none no_blocks zeros = record {
-  name = name;
-  pid = pid;
-  signal = signal;
-  time = time;
+pub fine_new : (most : ℕ) (s : StreamParts) → IsWritable s.facts.origin → s.facts.len ≡ 0 → s.facts.blocks ≡ [] → s.block ≡ zero_block → IsFine most s
+fine_new most s fits none no_blocks zeros = record {
+  origin = fits;
   small = rw none (lit< tt);
   limit = rw none (omega arith);
   filled = rw (none, no_blocks) refl;

@@ -52,7 +52,7 @@ module _ (j : Journaled) (a b : List ℕ) (same : SameOutside 4096 (2 * half_len
     where
       one : (x : Option StreamParts) → option_map (taken_in j b) x ≡ option_map (taken_in j a) x
       one None = refl
-      one (Some t) = ap (λ (y : List ℕ). Some (record { bytes = y ++ take (t.len % 4096) t.block; free = drop (t.len % 4096) t.block })) (joined_behind t.blocks)
+      one (Some t) = ap (λ (y : List ℕ). Some (record { bytes = y ++ take (t.facts.len % 4096) t.block; free = drop (t.facts.len % 4096) t.block })) (joined_behind t.facts.blocks)
 
 refused_standing : (j j' : Journaled) (c : Case) (jf : JournalFault) → StoreRefused j c jf j' → j'.standing ≡ j.standing
 refused_standing j j' c journal_fault.Stopped r = ap (λ (k : Journaled). k.standing) r.1
@@ -99,7 +99,7 @@ module _ {D : Type 0} (g : disk.Ghosts D) (d d1 d2 : D) (j j' : Journaled) (most
       (λ e. never_missing appends.0 (sym appends.1 ∙ e)))
 
   pub stored_bytes : (s : StreamParts) (c : Case) (seq : ℕ) (streams' : List (Option StreamParts)) → stream_at streams slot ≡ Some s → streams' ≡ slice_set streams slot None → j' ≡ after_append j (store_of j.standing c)
-      → c.len ≡ s.len → ClosesBytes j.standing.shape s c.blocks (g.seen d) (g.seen d1)
+      → c.len ≡ s.facts.len → ClosesBytes j.standing.shape s c.blocks (g.seen d) (g.seen d1)
       → FinishBytes (contents_of g.seen old) slot (Ok seq) (contents_of g.seen (record { disk = d2; journal = j'; limit = most; streams = streams'; stopped = b' }))
   stored_bytes s c seq streams' is gone now long closes =
       let rest = behind (slice_set streams slot None) ∙ contents_moved g d d1 j most flags streams slot b b' running changes None in

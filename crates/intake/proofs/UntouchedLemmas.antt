@@ -11,14 +11,13 @@ use Rattle.case_journal.specs.declared.faults.JournalFault.TheVariants as journa
 use Rattle.intake.specs.Closing.{ClosesStream}
 use Rattle.intake.specs.Faults.{fault_of}
 use Rattle.intake.specs.Growth.{DiskReply, NeedsBlock}
-use Rattle.intake.specs.Parts.{StreamParts, case_facts, stream_facts}
+use Rattle.intake.specs.Parts.{StreamParts, stream_facts}
 use Rattle.intake.specs.Slots.{stream_at}
-use Rattle.intake.specs.State.{CaseFacts, StreamFacts}
-use Rattle.intake.specs.Step.{case_at}
+use Rattle.intake.specs.State.{StreamFacts}
 use Rattle.intake.specs.Untouched.{RefusalSpares, FinishSpares}
 use Rattle.intake.specs.declared.faults.ArchiveFault.{ArchiveFault}
 use Rattle.intake.specs.declared.faults.ArchiveFault.TheVariants as fault
-use Rattle.intake.proofs.AfterLemmas.{case_facts_at, told_same}
+use Rattle.intake.proofs.AfterLemmas.{told_same}
 use Rattle.intake.proofs.StepLemmas.{some_there}
 
 -- an answer that the disk gave
@@ -57,23 +56,22 @@ journal_answered T jf h f told is = ap (λ (k : JournalFault). let r : Result T 
 
 -- bytes that fill no block need none
 pub needs_none : (streams : List (Option StreamParts)) (slot n : ℕ) (s : StreamParts) (t : StreamFacts) → stream_at streams slot ≡ Some s → stream_at (map (option_map stream_facts) streams) slot ≡ Some t
-    → (((n ≢ 0) × ((t.len + n) % 4096 ≡ 0)) → ⊥) → NeedsBlock s.len n → ⊥
+    → (((n ≢ 0) × ((t.len + n) % 4096 ≡ 0)) → ⊥) → NeedsBlock s.facts.len n → ⊥
 needs_none streams slot n s t is at none needs =
-    let same : stream_facts s ≡ t = inside (sym (some_there streams slot s is) ∙ at) in
-    let long : s.len ≡ t.len = ap (λ (x : StreamFacts). x.len) same in
+    let same : s.facts ≡ t = inside (sym (some_there streams slot s is) ∙ at) in
+    let long : s.facts.len ≡ t.len = ap (λ (x : StreamFacts). x.len) same in
     let full = needs.1 in
     none (needs.0, omega arith)
   where
-    inside : Some (stream_facts s) ≡ Some t → stream_facts s ≡ t
+    inside : Some s.facts ≡ Some t → s.facts ≡ t
     inside e = cc
 
 -- a case with another flag is not one whose flag stands already
-pub flag_differs : (seq : ℕ) (flag : Bool) (cases : List Case) (c : Case) (x : CaseFacts) → Some c ≡ case_numbered seq cases → c.pinned ≢ flag → case_at seq (map case_facts cases) ≡ Some x → x.pinned ≡ flag → ⊥
+pub flag_differs : (seq : ℕ) (flag : Bool) (cases : List Case) (c x : Case) → Some c ≡ case_numbered seq cases → c.pinned ≢ flag → case_numbered seq cases ≡ Some x → x.pinned ≡ flag → ⊥
 flag_differs seq flag cases c x found differs at is =
-    let same : case_facts c ≡ x = inside (ap (option_map case_facts) found ∙ sym (case_facts_at seq cases) ∙ at) in
-    differs (ap (λ (y : CaseFacts). y.pinned) same ∙ is)
+    differs (ap (λ (y : Case). y.pinned) (inside (found ∙ at)) ∙ is)
   where
-    inside : Some (case_facts c) ≡ Some x → case_facts c ≡ x
+    inside : Some c ≡ Some x → c ≡ x
     inside e = cc
 
 -- a seal's refusal, but that of the disk

@@ -1,5 +1,5 @@
 -- How the cases are written anew in version 2 of the layout.
-use Rattle.std.proofs.Common.{◌≡◌, ◌⊎◌, inl, inr, ⊎_elim, ℕ, ◌*◌, ◌≤◌, Bool, true, false, List, map, refl, sym, ap, ◌∙◌, subst, arith, Option, Ok, Err}
+use Rattle.std.proofs.Common.{◌≡◌, ◌⊎◌, inl, inr, ⊎_elim, ℕ, ◌*◌, ◌≤◌, Bool, true, false, List, refl, sym, ap, ◌∙◌, subst, arith, Option, Ok, Err}
 use Rattle.std.specs.Prelude.{IsTrue}
 use Rattle.disk_model.specs.Disk.{ChangedIn}
 use Rattle.disk_model.specs.MomentLaws.{adds, weakened, both, now_too}
@@ -22,7 +22,7 @@ use Rattle.intake.specs.Durable.{Durable, StandsFor, durable_in, upgraded}
 use Rattle.intake.specs.Ending.{EndsStreams}
 use Rattle.intake.specs.Faults.{fault_of}
 use Rattle.intake.specs.Guarding.{Guards, Leaves}
-use Rattle.intake.specs.Parts.{Parts, StreamParts, state_of, case_facts, contents_of}
+use Rattle.intake.specs.Parts.{Parts, StreamParts, state_of, contents_of}
 use Rattle.intake.specs.Sound.{IsArchiveSound}
 use Rattle.intake.specs.Step.{UpgradeStep, snapshot_size, anew_in_two}
 use Rattle.intake.specs.declared.faults.ArchiveFault.{ArchiveFault}
@@ -81,7 +81,7 @@ module _ {D : Type 0} (g : disk.Ghosts D) (d d' : D) (j j' : Journaled) (most : 
   once_done = record { disk = d'; journal = j'; limit = most; streams = streams; stopped = b }
 
   -- the cases take as many bytes in both versions
-  anew : ◌≡◌ {A = ℕ} (standing_upgraded j.standing).used (snapshot_size (map case_facts j.standing.cases))
+  anew : ◌≡◌ {A = ℕ} (standing_upgraded j.standing).used (snapshot_size j.standing.cases)
   anew = snapshot_is (in_version_two (folded_of j.standing))
 
   upgraded_state : j' ≡ running (standing_upgraded j.standing) → state_of once_done ≡ anew_in_two (state_of old)

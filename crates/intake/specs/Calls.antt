@@ -5,6 +5,8 @@ use Rattle.disk_model.specs.Disk.{HasRisen}
 use Rattle.disk_model.specs.Keeping.{KeepsDisk}
 use Rattle.disk_model.specs.Moments.{AddsOnly, LeavesOnly}
 use Rattle.disk_model.specs.declared.disk.Disk as disk
+use Rattle.journal_layout.specs.Soundness.{case_numbered}
+use Rattle.journal_layout.specs.Case.{Case}
 use Rattle.journal_layout.specs.declared.faults.OpenFault.{OpenFault}
 use Rattle.journal_layout.specs.declared.faults.OpenFault.TheVariants as open_fault
 use Rattle.journal_layout.specs.Layout.{half_length}
@@ -19,9 +21,9 @@ use Rattle.intake.specs.Opened.{IsOpened, disk_in, journal_in}
 use Rattle.intake.specs.Parts.{Parts, state_of, contents_of}
 use Rattle.intake.specs.Retiring.{KeepsTheName}
 use Rattle.intake.specs.Slots.{stream_at}
-use Rattle.intake.specs.State.{CaseFacts, StreamFacts}
+use Rattle.intake.specs.State.{StreamFacts}
 use Rattle.intake.specs.Growth.{IsDiskFault}
-use Rattle.intake.specs.Step.{BeginStep, AdvanceStep, FinishStep, AbandonStep, PinStep, LabelStep, UpgradeStep, DeleteStep, RetireStep, ImageStep, IsLastGeneration, case_at, is_named, pin_size}
+use Rattle.intake.specs.Step.{BeginStep, AdvanceStep, FinishStep, AbandonStep, PinStep, LabelStep, UpgradeStep, DeleteStep, RetireStep, ImageStep, IsLastGeneration, is_named, pin_size}
 use Rattle.intake.specs.Front.{KeepsFront, KeepsSuperblock, RefusalKeepsFront}
 use Rattle.intake.specs.Untouched.{RefusalSpares, AdvanceSpares, FinishSpares, PinSpares, LabelSpares, UpgradeSpares, RetireSpares}
 use Rattle.intake.specs.declared.faults.ArchiveFault.{ArchiveFault}
@@ -98,9 +100,9 @@ pub record AbandonCall {D : Type 0} (g : disk.Ghosts D) (old : Parts D) (slot : 
 pub record FinishCall {D : Type 0} (g : disk.Ghosts D) (old : Parts D) (slot : ℕ) (r : Result ℕ ArchiveFault) (new : Parts D) : Type 0 where
   pub step : FinishStep (state_of old) slot r (state_of new)
   pub bytes : IsTrue (g.is_honest old.disk) → FinishBytes (contents_of g.seen old) slot r (contents_of g.seen new)
-  -- the runs of blocks in which the image lies, or would lie had the disk not failed
-  pub runs : ℕ
-  pub changes : Changes ℕ g old r new (StoresIn runs (state_of old) (contents_of g.seen old) (durable_of g.seen old) slot)
+  -- the blocks in which the image lies, or would lie had the disk not failed
+  pub blocks : List ℕ
+  pub changes : Changes ℕ g old r new (StoresIn blocks (state_of old) (contents_of g.seen old) (durable_of g.seen old) slot)
   -- nothing of what stood in the stream's block behind its bytes is on the disk
   pub padded : IsTrue (g.is_honest old.disk) → FinishPads g.seen old slot r new
   pub untouched : FinishSpares r old.disk new.disk
@@ -161,7 +163,7 @@ pub record ImageCall {D : Type 0} (g : disk.Ghosts D) (old : Parts D) (seq : ℕ
   pub bytes : IsTrue (g.is_honest old.disk) → ImageBytes (state_of old) (contents_of g.seen old) seq r (contents_of g.seen new)
   pub cause : HasDiskCause g old r new
   -- on any disk it has the case's length
-  pub long : IfOk r (λ image. (c : CaseFacts) → case_at seq (state_of old).cases ≡ Some c → vec_len image ≡ c.len)
+  pub long : IfOk r (λ image. (c : Case) → case_numbered seq (state_of old).cases ≡ Some c → vec_len image ≡ c.len)
   -- reads give what they gave
   pub quiet : OnlyReads g old.disk new.disk
   pub stays : ChangesNoCase g old new

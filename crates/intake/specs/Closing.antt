@@ -18,26 +18,26 @@ use Rattle.intake.specs.StreamView.{case_from_parts}
 
 -- the same stream, with these blocks
 abbrev pub with_blocks : StreamParts → List ℕ → StreamParts
-with_blocks s blocks = record s { blocks = blocks }
+with_blocks s blocks = record s { facts = record s.facts { blocks = blocks } }
 
 -- a stream is closed where `free` blocks are free: refused in the order of the faults, each under its condition
 abbrev pub ClosesStream : ℕ → StreamParts → Result (Unit {0}) ArchiveFault → StreamParts → Type 0
 ClosesStream free old (Ok u) new =
-    ((old.len % 4096 ≡ 0) × (case_from_parts new ≡ case_from_parts old))
-    ⊎ ((old.len % 4096 ≢ 0) × (0 < free) × (length new.blocks ≡ length old.blocks + 1)
-    × (case_from_parts new ≡ case_from_parts (with_blocks old new.blocks)))
-ClosesStream free old (Err SpaceFull) new = (old.len % 4096 ≢ 0) × (free ≡ 0)
-ClosesStream free old (Err OutOfMemory) new = (old.len % 4096 ≢ 0) × (0 < free)
-ClosesStream free old (Err Disk) new = (old.len % 4096 ≢ 0) → 0 < free
+    ((old.facts.len % 4096 ≡ 0) × (case_from_parts new ≡ case_from_parts old))
+    ⊎ ((old.facts.len % 4096 ≢ 0) × (0 < free) × (length new.facts.blocks ≡ length old.facts.blocks + 1)
+    × (case_from_parts new ≡ case_from_parts (with_blocks old new.facts.blocks)))
+ClosesStream free old (Err SpaceFull) new = (old.facts.len % 4096 ≢ 0) × (free ≡ 0)
+ClosesStream free old (Err OutOfMemory) new = (old.facts.len % 4096 ≢ 0) × (0 < free)
+ClosesStream free old (Err Disk) new = (old.facts.len % 4096 ≢ 0) → 0 < free
 ClosesStream free old (Err _) new = ⊥
 
 -- its blocks hold its bytes
 abbrev pub ClosesBytes : Shape → StreamParts → List ℕ → List ℕ → List ℕ → Type 0
-ClosesBytes shape old blocks a b = image_in shape b blocks old.len ≡ joined shape a old.blocks ++ take (old.len % 4096) old.block
+ClosesBytes shape old blocks a b = image_in shape b blocks old.facts.len ≡ joined shape a old.facts.blocks ++ take (old.facts.len % 4096) old.block
 
 -- its blocks joined are its bytes, and zeros to the end of the last one
 abbrev pub ClosesPadded : Shape → StreamParts → List ℕ → List ℕ → List ℕ → Type 0
-ClosesPadded shape old blocks a b = joined shape b blocks ≡ padded (joined shape a old.blocks ++ take (old.len % 4096) old.block)
+ClosesPadded shape old blocks a b = joined shape b blocks ≡ padded (joined shape a old.facts.blocks ++ take (old.facts.len % 4096) old.block)
 
 -- A finish adds its case as the last one: the case's blocks joined are the bytes that the stream took, and zeros to the end of
 -- the last one.

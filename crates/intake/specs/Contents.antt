@@ -1,9 +1,10 @@
 -- The bytes that an archive holds: an image for each case, and for each stream what it has taken and what is lent next.
 use Rattle.std.specs.Prelude.{◌≡◌, ℕ, List, [], ◌∷◌, ◌++◌, Option, None, Some, Result, Ok, Err, take, drop, replicate, slice_set, if◌then◌else◌}
 use Rattle.std.specs.Prelude.{Vec, ◌==◌}
+use Rattle.journal_layout.specs.Case.{Case}
 use Rattle.journal_layout.specs.Folding.{is_among}
 use Rattle.retention.specs.declared.Decision.{Decision}
-use Rattle.intake.specs.State.{ArchiveState, CaseFacts}
+use Rattle.intake.specs.State.{ArchiveState}
 use Rattle.intake.specs.Slots.{stream_at, closed}
 use Rattle.intake.specs.declared.faults.ArchiveFault.{ArchiveFault}
 use Rattle.intake.specs.declared.faults.ArchiveFault.TheVariants.{Stopped, NoStream, Disk}
@@ -93,7 +94,7 @@ UpgradeBytes old (Ok u) new = new ≡ old
 UpgradeBytes old (Err f) new = UnmovedBytes old f new
 
 -- the images of the cases that have none of these numbers
-abbrev pub images_without : List ℕ → List CaseFacts → List (List ℕ) → List (List ℕ)
+abbrev pub images_without : List ℕ → List Case → List (List ℕ) → List (List ℕ)
 images_without seqs [] images = []
 images_without seqs (c ∷ cases) [] = []
 images_without seqs (c ∷ cases) (image ∷ images) =
@@ -112,7 +113,7 @@ RetireBytes s old (Ok d) new = DropBytes s old d.dropped.items (Ok tt) new
 RetireBytes s old (Err f) new = UnmovedBytes old f new
 
 -- the image of the case of this number, of these cases and their images
-abbrev pub image_at : ℕ → List CaseFacts → List (List ℕ) → Option (List ℕ)
+abbrev pub image_at : ℕ → List Case → List (List ℕ) → Option (List ℕ)
 image_at seq [] images = None
 image_at seq (c ∷ cases) [] = None
 image_at seq (c ∷ cases) (image ∷ images) = if c.seq == seq then Some image else image_at seq cases images

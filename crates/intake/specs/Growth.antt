@@ -4,6 +4,7 @@ use Rattle.disk_model.specs.Places.{SameOutside}
 use Rattle.extents.specs.FreeSet.{is_free, IsLowest}
 use Rattle.journal_layout.specs.declared.shape.Shape.{Shape}
 use Rattle.case_journal.specs.Journaled.{Journaled}
+use Rattle.intake.specs.Step.{longer}
 use Rattle.intake.specs.Blocks.{block_start, block_bytes}
 use Rattle.intake.specs.Contents.{zero_block, advanced}
 use Rattle.intake.specs.Parts.{StreamParts, taken_in}
@@ -50,21 +51,21 @@ NeedsBlock len n = (n ≢ 0) × (len % 4096 + n ≡ 4096)
 
 -- the same stream with n bytes more, where they fill no block, and where they do
 abbrev pub lengthened : StreamParts → ℕ → StreamParts
-lengthened s n = record s { len = s.len + n }
+lengthened s n = record s { facts = record s.facts { len = s.facts.len + n } }
 
 abbrev pub refreshed : StreamParts → ℕ → List ℕ → StreamParts
-refreshed s n blocks = record s { len = s.len + n; blocks = blocks; block = zero_block }
+refreshed s n blocks = record { facts = longer s.facts n blocks; block = zero_block }
 
 -- a stream's growth by n bytes where `free` blocks are free: refused in the order of the faults, each under its condition
 abbrev pub Grows : ℕ → ℕ → StreamParts → ℕ → Result (Unit {0}) ArchiveFault → StreamParts → Type 0
 Grows free most old n (Ok u) new =
-    (old.len + n ≤ most)
-    × (((NeedsBlock old.len n → ⊥) × (new ≡ lengthened old n))
-    ⊎ (NeedsBlock old.len n × (0 < free) × (length new.blocks ≡ length old.blocks + 1) × (new ≡ refreshed old n new.blocks)))
-Grows free most old n (Err TooLong) new = most < old.len + n
-Grows free most old n (Err SpaceFull) new = (old.len + n ≤ most) × NeedsBlock old.len n × (free ≡ 0)
-Grows free most old n (Err OutOfMemory) new = (old.len + n ≤ most) × NeedsBlock old.len n × (0 < free)
-Grows free most old n (Err Disk) new = (old.len + n ≤ most) × NeedsBlock old.len n × (0 < free)
+    (old.facts.len + n ≤ most)
+    × (((NeedsBlock old.facts.len n → ⊥) × (new ≡ lengthened old n))
+    ⊎ (NeedsBlock old.facts.len n × (0 < free) × (length new.facts.blocks ≡ length old.facts.blocks + 1) × (new ≡ refreshed old n new.facts.blocks)))
+Grows free most old n (Err TooLong) new = most < old.facts.len + n
+Grows free most old n (Err SpaceFull) new = (old.facts.len + n ≤ most) × NeedsBlock old.facts.len n × (free ≡ 0)
+Grows free most old n (Err OutOfMemory) new = (old.facts.len + n ≤ most) × NeedsBlock old.facts.len n × (0 < free)
+Grows free most old n (Err Disk) new = (old.facts.len + n ≤ most) × NeedsBlock old.facts.len n × (0 < free)
 Grows free most old n (Err _) new = ⊥
 
 -- the bytes that it has taken then, and those that are free

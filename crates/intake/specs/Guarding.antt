@@ -1,7 +1,8 @@
 -- What a crash leaves of an archive's cases.
-use Rattle.std.specs.Prelude.{◌≡◌, ◌⊎◌, ℕ, false, true, Bool, List, Some, Result, Ok, Err, IsTrue}
+use Rattle.std.specs.Prelude.{◌≡◌, ◌⊎◌, ℕ, false, true, Bool, List, Some, Result, Ok, Err, IsTrue, length}
 use Rattle.disk_model.specs.Moments.{LeavesOnly}
 use Rattle.disk_model.specs.declared.disk.Disk as disk
+use Rattle.extents.specs.Runs.{runs_of}
 use Rattle.extents.specs.FreeSet.{is_free}
 use Rattle.case_journal.specs.Journaled.{Journaled}
 use Rattle.case_journal.specs.Keeping.{Keeps}
@@ -44,15 +45,15 @@ Leaves old r new doubt c = StandsFor c old ⊎ LeavesNew r new doubt c
 abbrev pub LeavesStored : {T : Type 0} → Result T ArchiveFault → Durable → Durable → List ℕ → Type 0
 LeavesStored r old new c = Leaves old r new (λ x. x ≡ new) c
 
--- The stream in the slot is the last case, with the bytes that it took, in `runs` runs of blocks.
-abbrev pub StoresIn : ℕ → ArchiveState → Contents → Durable → ℕ → Durable → Type 0
-StoresIn runs s c old slot x =
+-- The stream in the slot is the last case, with the bytes that it took, in these blocks.
+abbrev pub StoresIn : List ℕ → ArchiveState → Contents → Durable → ℕ → Durable → Type 0
+StoresIn blocks s c old slot x =
     (stream : StreamFacts) × (taken : Taken) × (stream_at s.streams slot ≡ Some stream) × (stream_at c.taken slot ≡ Some taken)
-    × MayHaveRuns stream.len runs × (x ≡ with_case old stream runs taken.bytes)
+    × MayHaveRuns stream.len (length (runs_of blocks)) × (x ≡ with_case old stream blocks taken.bytes)
 
--- what a finish leaves that was not answered: the same in as many runs as an image of these bytes may have
+-- what a finish leaves that was not answered: the same in blocks of as many runs as an image of these bytes may have
 abbrev pub MayBeStored : ArchiveState → Contents → Durable → ℕ → Durable → Type 0
-MayBeStored s c old slot x = (runs : ℕ) × StoresIn runs s c old slot x
+MayBeStored s c old slot x = (blocks : List ℕ) × StoresIn blocks s c old slot x
 
 -- what a retirement leaves that was not answered: the cases that go by the rule are gone
 abbrev pub MayBeRetired : ArchiveState → Policy → Durable → Durable → Type 0

@@ -8,11 +8,11 @@ use Rattle.intake.specs.Durable.{Durable, StandsFor, durable_of, without, flagge
 use Rattle.intake.specs.Guarding.{MayBeStored}
 use Rattle.intake.specs.Lasting.{HasEmptyLabel}
 use Rattle.intake.specs.Parts.{Parts, state_of, contents_of}
-use Rattle.intake.specs.State.{CaseFacts}
 use Rattle.intake.specs.Step.{HasCase}
 use Rattle.intake.specs.declared.faults.ArchiveFault.{ArchiveFault}
 use Rattle.retention.specs.declared.Decision.{Decision}
 use Rattle.retention.specs.declared.Policy.{Policy}
+use Rattle.journal_layout.specs.Case.{Case}
 
 -- a finish adds one case, the stream's, with the bytes that it took as its image
 abbrev pub FinishLasts : {D : Type 0} → disk.Ghosts D → Type 0
@@ -27,13 +27,13 @@ DeleteLasts {D} g = (old new : Parts D) (seq : ℕ) (u : Unit {0}) → IsTrue (g
 -- a pin sets the flag of the one case, and changes no other; exactly where it stands already nothing changes
 abbrev pub PinLasts : {D : Type 0} → disk.Ghosts D → Type 0
 PinLasts {D} g = (old new : Parts D) (seq : ℕ) (flag : Bool) (u : Unit {0}) → IsTrue (g.is_honest old.disk) → PinCall g old seq flag (Ok u) new
-    → (c : CaseFacts) × HasCase (state_of old) seq c
+    → (c : Case) × HasCase (state_of old) seq c
     × (((c.pinned ≡ flag) × (durable_of g.seen new ≡ durable_of g.seen old)) ⊎ ((c.pinned ≢ flag) × (durable_of g.seen new ≡ flagged (durable_of g.seen old) seq flag)))
 
 -- a label sets the label of the one case, and changes no other; exactly where it stands already nothing changes
 abbrev pub LabelLasts : {D : Type 0} → disk.Ghosts D → Type 0
 LabelLasts {D} g = (old new : Parts D) (seq : ℕ) (text : List ℕ) (u : Unit {0}) → IsTrue (g.is_honest old.disk) → LabelCall g old seq text (Ok u) new
-    → (c : CaseFacts) × HasCase (state_of old) seq c
+    → (c : Case) × HasCase (state_of old) seq c
     × (((c.label ≡ text) × (durable_of g.seen new ≡ durable_of g.seen old)) ⊎ ((c.label ≢ text) × (durable_of g.seen new ≡ labelled (durable_of g.seen old) seq text)))
 
 -- an upgrade leaves the same cases and next number in version 2; where the archive is of that version nothing changes

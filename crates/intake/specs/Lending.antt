@@ -25,7 +25,7 @@ abbrev pub LendsBlock : MutBor Slot → ℕ → Result (Unit {0}) ArchiveFault �
 LendsBlock slot from r = Lends slot_row (Array u8 0) slot r.1 (reblocked slot.now from)
 
 abbrev pub with_room : List ℕ → StreamParts → StreamParts
-with_room ws s = record s { block = refilled s.block (s.len % 4096) ws }
+with_room ws s = record s { block = refilled s.block (s.facts.len % 4096) ws }
 
 -- what stands in the slots when the loan ends, with these as the last bytes that were lent
 abbrev pub slots_left : List (Option StreamParts) → ℕ → Result (Unit {0}) ArchiveFault → List ℕ → List (Option StreamParts)

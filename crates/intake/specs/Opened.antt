@@ -1,6 +1,7 @@
 -- What an opening answers, and the cases that an archive shows.
 use Rattle.std.specs.Prelude.{◌≡◌, ℕ, false, true, List, Option, None, Result, Ok, Err, map, replicate}
 use Rattle.std.specs.Borrow.{Bor}
+use Rattle.journal_layout.specs.Soundness.{case_numbered}
 use Rattle.journal_layout.specs.declared.entry.Entry.{Entry}
 use Rattle.journal_layout.specs.declared.faults.OpenFault.{OpenFault}
 use Rattle.journal_layout.specs.Case.{case_of}
@@ -8,8 +9,8 @@ use Rattle.case_journal.specs.Journaled.{Journaled}
 use Rattle.case_journal.specs.declared.open.Opened.{Opened}
 use Rattle.intake.specs.declared.faults.ArchiveFault.{ArchiveFault}
 use Rattle.intake.specs.declared.faults.ArchiveFault.TheVariants as fault
-use Rattle.intake.specs.Parts.{Parts, StreamParts, case_facts, state_of}
-use Rattle.intake.specs.Step.{HasCase, case_at}
+use Rattle.intake.specs.Parts.{Parts, StreamParts, state_of}
+use Rattle.intake.specs.Step.{HasCase}
 
 -- the disk, whatever an opening answers
 abbrev pub disk_in : {D : Type 0} → Result (Parts D) (OpenFault × D) → D
@@ -38,7 +39,7 @@ CasesReply a (Err f) = (a.stopped ≡ true) × (f ≡ fault.Stopped)
 
 -- the case of a number, without its image
 abbrev pub CaseReply : {D : Type 0} → Parts D → ℕ → Result (Bor Entry) ArchiveFault → Type 0
-CaseReply a seq (Ok entry) = HasCase (state_of a) seq (case_facts (case_of entry.now))
+CaseReply a seq (Ok entry) = HasCase (state_of a) seq (case_of entry.now)
 CaseReply a seq (Err fault.Stopped) = a.stopped ≡ true
-CaseReply a seq (Err fault.NoCase) = (a.stopped ≡ false) × (case_at seq (state_of a).cases ≡ None)
+CaseReply a seq (Err fault.NoCase) = (a.stopped ≡ false) × (case_numbered seq (state_of a).cases ≡ None)
 CaseReply a seq (Err _) = ⊥

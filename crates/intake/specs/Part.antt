@@ -6,17 +6,19 @@ use Rattle.case_journal.specs.Viewing.{OnlyReads}
 use Rattle.intake.specs.Calls.{ChangesNoCase, HasDiskCause}
 use Rattle.intake.specs.Contents.{Contents, UnmovedBytes, image_at}
 use Rattle.intake.specs.Parts.{Parts, state_of, contents_of}
-use Rattle.intake.specs.State.{ArchiveState, CaseFacts}
-use Rattle.intake.specs.Step.{ImageStep, case_at}
+use Rattle.intake.specs.State.{ArchiveState}
+use Rattle.intake.specs.Step.{ImageStep}
 use Rattle.intake.specs.Untouched.{RefusalSpares}
 use Rattle.intake.specs.declared.faults.ArchiveFault.{ArchiveFault}
 use Rattle.intake.specs.declared.faults.ArchiveFault.TheVariants.{OutOfMemory}
+use Rattle.journal_layout.specs.Soundness.{case_numbered}
+use Rattle.journal_layout.specs.Case.{Case}
 
 -- the n bytes from place at on are those of the case's image, and no bytes change
 abbrev pub PartBytes : ArchiveState → Contents → ℕ → ℕ → ℕ → Result (Unit {0}) ArchiveFault → List ℕ → Contents → Type 0
 PartBytes s old seq at n (Ok u) into new =
     (image : List ℕ) × (image_at seq s.cases old.images ≡ Some image) × (into ≡ part image at n)
-    × ((c : CaseFacts) → case_at seq s.cases ≡ Some c → length image ≡ c.len) × (new ≡ old)
+    × ((c : Case) → case_numbered seq s.cases ≡ Some c → length image ≡ c.len) × (new ≡ old)
 PartBytes s old seq at n (Err f) into new = UnmovedBytes old f new
 
 -- image_part: n bytes of a case's image from place at on, or why they can't be read

@@ -1,24 +1,14 @@
 -- What an archive is made of, as its contracts see it.
-use Rattle.std.specs.Prelude.{ℕ, ◌%◌, Bool, List, Option, ◌++◌, map, option_map, take, drop, length}
-use Rattle.extents.specs.Runs.{runs_of}
-use Rattle.journal_layout.specs.declared.entry.Kind.{Kind}
+use Rattle.std.specs.Prelude.{ℕ, ◌%◌, Bool, List, Option, ◌++◌, map, option_map, take, drop}
 use Rattle.journal_layout.specs.Case.{Case}
 use Rattle.case_journal.specs.Journaled.{Journaled}
 use Rattle.intake.specs.Blocks.{joined, image_in}
-use Rattle.intake.specs.State.{CaseFacts, StreamFacts, ArchiveState}
+use Rattle.intake.specs.State.{StreamFacts, ArchiveState}
 use Rattle.intake.specs.Contents.{Taken, Contents}
 
--- a stream: what it is of, the blocks that it has filled, and the block that it fills
+-- a stream, with the 4,096 bytes of the block that it fills now
 pub record StreamParts : Type 0 where
-  pub kind : Kind
-  pub name : List ℕ
-  pub pid : ℕ
-  pub signal : ℕ
-  pub time : ℕ
-  -- the bytes taken so far
-  pub len : ℕ
-  pub blocks : List ℕ
-  -- the 4,096 bytes of the block that is filled now
+  pub facts : StreamFacts
   pub block : List ℕ
 
 pub record Parts (D : Type 0) : Type 0 where
@@ -29,23 +19,8 @@ pub record Parts (D : Type 0) : Type 0 where
   pub streams : List (Option StreamParts)
   pub stopped : Bool
 
-abbrev pub case_facts : Case → CaseFacts
-case_facts c = record {
-  seq = c.seq;
-  kind = c.kind;
-  name = c.name;
-  pid = c.pid;
-  signal = c.signal;
-  time = c.time;
-  pinned = c.pinned;
-  len = c.len;
-  runs = length (runs_of c.blocks);
-  blocks = c.blocks;
-  label = c.label;
-}
-
 abbrev pub stream_facts : StreamParts → StreamFacts
-stream_facts s = record { kind = s.kind; name = s.name; pid = s.pid; signal = s.signal; time = s.time; len = s.len; blocks = s.blocks }
+stream_facts s = s.facts
 
 -- the state without bytes
 abbrev pub state_of : {D : Type 0} → Parts D → ArchiveState
@@ -53,7 +28,7 @@ state_of a = record {
   shape = a.journal.standing.shape;
   version = a.journal.standing.version;
   limit = a.limit;
-  cases = map case_facts a.journal.standing.cases;
+  cases = a.journal.standing.cases;
   next = a.journal.standing.next;
   used = a.journal.standing.used;
   generation = a.journal.standing.generation;
@@ -64,8 +39,8 @@ state_of a = record {
 -- the bytes that a stream has taken, of which the disk holds these
 abbrev pub taken_in : Journaled → List ℕ → StreamParts → Taken
 taken_in j bytes s = record {
-  bytes = joined j.standing.shape bytes s.blocks ++ take (s.len % 4096) s.block;
-  free = drop (s.len % 4096) s.block;
+  bytes = joined j.standing.shape bytes s.facts.blocks ++ take (s.facts.len % 4096) s.block;
+  free = drop (s.facts.len % 4096) s.block;
 }
 
 -- the bytes of the cases and of the streams, on a disk that reads so

@@ -6,13 +6,14 @@ use Rattle.disk_model.specs.Places.{part}
 use Rattle.disk_model.specs.declared.disk.Disk as disk
 use Rattle.extents.specs.Runs.{blocks_of}
 use Rattle.extents.specs.declared.run_list.Run.{Run}
+use Rattle.journal_layout.specs.Soundness.{case_numbered}
+use Rattle.journal_layout.specs.Case.{Case}
 use Rattle.journal_layout.specs.declared.shape.Shape.{Shape}
 use Rattle.journal_layout.specs.Layout.{disk_length}
 use Rattle.intake.specs.Blocks.{block_start, joined}
 use Rattle.intake.specs.Contents.{image_at}
 use Rattle.intake.specs.Parts.{Parts, state_of, contents_of}
-use Rattle.intake.specs.State.{CaseFacts}
-use Rattle.intake.specs.Step.{HasCase, case_at}
+use Rattle.intake.specs.Step.{HasCase}
 use Rattle.intake.specs.declared.faults.ArchiveFault.{ArchiveFault}
 use Rattle.intake.specs.declared.faults.ArchiveFault.TheVariants.{Stopped, NoCase, OutOfMemory}
 use Rattle.intake.specs.declared.ranges.ByteRange.{ByteRange}
@@ -41,7 +42,7 @@ pub record CoversRuns (shape : Shape) (runs : List Run) (len : ℕ) (ranges : Li
 
 -- Where the image of a case lies: on an honest disk these bytes are the image, on any disk they are as many.
 pub record Locates {D : Type 0} (g : disk.Ghosts D) (a : Parts D) (seq : ℕ) (ranges : List ByteRange) : Type 0 where
-  pub found : CaseFacts
+  pub found : Case
   pub has : HasCase (state_of a) seq found
   pub within : AreWithin (g.size a.disk) ranges
   pub count : count_in ranges ≡ found.len
@@ -51,6 +52,6 @@ pub record Locates {D : Type 0} (g : disk.Ghosts D) (a : Parts D) (seq : ℕ) (r
 abbrev pub RangesReply : {D : Type 0} → disk.Ghosts D → Parts D → ℕ → Result (Vec ByteRange Global) ArchiveFault → Type 0
 RangesReply g a seq (Ok ranges) = Locates g a seq ranges.items
 RangesReply g a seq (Err Stopped) = a.stopped ≡ true
-RangesReply g a seq (Err NoCase) = (a.stopped ≡ false) × (case_at seq (state_of a).cases ≡ None)
-RangesReply g a seq (Err OutOfMemory) = (c : CaseFacts) × HasCase (state_of a) seq c
+RangesReply g a seq (Err NoCase) = (a.stopped ≡ false) × (case_numbered seq (state_of a).cases ≡ None)
+RangesReply g a seq (Err OutOfMemory) = (c : Case) × HasCase (state_of a) seq c
 RangesReply g a seq (Err _) = ⊥

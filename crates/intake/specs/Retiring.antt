@@ -1,28 +1,26 @@
 -- What the rule looks at of an entry, and whether a name is free once the rule has dropped what it drops.
-use Rattle.std.specs.Prelude.{◌≡◌, ℕ, Bool, true, false, not, List, map, Result, Ok, Err}
-use Rattle.std.specs.List.{filter}
-use Rattle.journal_layout.specs.Folding.{is_among}
+use Rattle.std.specs.Prelude.{◌≡◌, ℕ, Bool, true, false, List, map, Result, Ok, Err}
+use Rattle.journal_layout.specs.Folding.{dropped}
 use Rattle.journal_layout.specs.Case.{case_of}
 use Rattle.journal_layout.specs.declared.entry.Entry.{Entry}
 use Rattle.retention.specs.Rule.{IsDecision}
 use Rattle.retention.specs.declared.Brief.{Brief}
 use Rattle.retention.specs.declared.Policy.{Policy}
-use Rattle.intake.specs.Parts.{case_facts}
-use Rattle.intake.specs.State.{ArchiveState, CaseFacts}
+use Rattle.intake.specs.State.{ArchiveState}
 use Rattle.intake.specs.Step.{brief_of, cases_without, is_named}
 use Rattle.intake.specs.declared.faults.ArchiveFault.{ArchiveFault}
 use Rattle.intake.specs.declared.faults.ArchiveFault.TheVariants.{Stopped, OutOfMemory}
 use Rattle.journal_layout.specs.Case.{Case}
 
 abbrev pub brief_of_entry : Entry → Brief
-brief_of_entry e = brief_of (case_facts (case_of e))
+brief_of_entry e = brief_of (case_of e)
 
 abbrev pub seq_of_entry : Entry → ℕ
 seq_of_entry e = e.seq
 
 -- one of the cases that are not of these numbers has the name
 abbrev pub stays_named : List ℕ → List ℕ → List Case → Bool
-stays_named name seqs cases = is_named name (filter (λ (c : CaseFacts). not (is_among seqs c.seq)) (map case_facts cases))
+stays_named name seqs cases = is_named name (dropped seqs cases)
 
 -- by this decision of the rule, a case stays that has the name
 pub record KeepsTheName (s : ArchiveState) (policy : Policy) (name : List ℕ) (kept : Bool) : Type 0 where

@@ -12,7 +12,7 @@ use Rattle.intake.specs.contracts.archive.Archive.{the_row}
 -- the free part of the block that a stream fills
 abbrev pub free_part : Option StreamParts → List ℕ
 free_part None = []
-free_part (Some s) = drop (s.len % 4096) s.block
+free_part (Some s) = drop (s.facts.len % 4096) s.block
 
 -- what is lent of these slots
 abbrev pub room_in : List (Option StreamParts) → ℕ → Result (Unit {0}) ArchiveFault → List ℕ
@@ -42,11 +42,11 @@ room_left a slot r ws = record a { streams = slots_left a.streams slot r ws }
 -- n bytes are no more than the free part of this stream's block
 abbrev pub FitsFree : Option StreamParts → ℕ → Type 0
 FitsFree None n = Unit {0}
-FitsFree (Some s) n = s.len % 4096 + n ≤ 4096
+FitsFree (Some s) n = s.facts.len % 4096 + n ≤ 4096
 
 -- where the free part begins, of what stands in a slot that is there or not; at the end where nothing is lent
 abbrev pub IsFreeFrom : Bool → Bool → Option StreamParts → ℕ → Result (Unit {0}) ArchiveFault → ℕ → Type 0
-IsFreeFrom stopped there o end (Ok u) from = (stopped ≡ false) × (there ≡ true) × (s : StreamParts) × (o ≡ Some s) × (from ≡ s.len % 4096)
+IsFreeFrom stopped there o end (Ok u) from = (stopped ≡ false) × (there ≡ true) × (s : StreamParts) × (o ≡ Some s) × (from ≡ s.facts.len % 4096)
 IsFreeFrom stopped there o end (Err Stopped) from = (stopped ≡ true) × (from ≡ end)
 IsFreeFrom stopped there o end (Err NoStream) from = (stopped ≡ false) × ((there ≡ true) → (o ≡ None)) × (from ≡ end)
 IsFreeFrom stopped there o end (Err _) from = ⊥

@@ -1,24 +1,24 @@
 -- What holds of every archive: each data block is free or used once, by a case or by a stream, and no two of these have
 -- one name.
-use Rattle.std.specs.Prelude.{◌≡◌, ℕ, ◌+◌, ◌/◌, ◌^◌, ◌<◌, ◌≤◌, Bool, true, false, List, [], Option, None, Some, length, sum_by, nat_lt}
+use Rattle.std.specs.Prelude.{◌≡◌, ℕ, ◌+◌, ◌/◌, ◌^◌, ◌<◌, ◌≤◌, Bool, true, false, List, Option, None, Some, length, sum_by, nat_lt, option_map}
 use Rattle.std.specs.List.{All, count_by}
-use Rattle.std.specs.Str.{bytes_eq}
 use Rattle.disk_model.specs.declared.disk.Disk as disk
 use Rattle.extents.specs.FreeSet.{is_free, free_count, uses, one_if}
 use Rattle.journal_layout.specs.Case.{Case}
 use Rattle.journal_layout.specs.Layout.{IsWithinLimits}
 use Rattle.journal_layout.specs.Soundness.{IsName}
 use Rattle.case_journal.specs.Journaled.{Journaled}
+use Rattle.intake.specs.Step.{has_name}
+use Rattle.intake.specs.State.{blocks_by, Origin}
 use Rattle.intake.specs.Guarding.{Guards}
 use Rattle.journal_layout.specs.Live.{AreLive}
 use Rattle.intake.specs.Live.{case_uses, cases_named}
 use Rattle.intake.specs.Slots.{closed}
-use Rattle.intake.specs.Parts.{StreamParts}
+use Rattle.intake.specs.Parts.{StreamParts, stream_facts}
 
 -- the blocks of the stream in a slot
 abbrev pub held_by : Option StreamParts → List ℕ
-held_by None = []
-held_by (Some s) = s.blocks
+held_by o = blocks_by (option_map stream_facts o)
 
 -- how often the streams use block k
 abbrev pub stream_uses : List (Option StreamParts) → ℕ → ℕ
@@ -39,23 +39,26 @@ pub record LeaveFree (blocks : ℕ) (cases : List Case) (flags : List Bool) : Ty
 
 -- the stream in this slot has this name
 abbrev pub is_called : List ℕ → Option StreamParts → Bool
-is_called name None = false
-is_called name (Some s) = bytes_eq s.name name
+is_called name o = has_name name (option_map stream_facts o)
 
 -- how many of the streams have this name
 abbrev pub streams_named : List (Option StreamParts) → List ℕ → ℕ
 streams_named streams name = count_by (is_called name) streams
 
+-- what an image is of, as a record says it
+pub record IsWritable (o : Origin) : Type 0 where
+  pub name : IsName o.name
+  pub pid : o.pid < 2 ^ 32
+  pub signal : o.signal < 2 ^ 32
+  pub time : o.time < 2 ^ 64
+
 -- a stream by itself
 pub record IsFine (most : ℕ) (s : StreamParts) : Type 0 where
-  pub name : IsName s.name
-  pub pid : s.pid < 2 ^ 32
-  pub signal : s.signal < 2 ^ 32
-  pub time : s.time < 2 ^ 64
-  pub small : s.len < 2 ^ 64
-  pub limit : s.len ≤ most
+  pub origin : IsWritable s.facts.origin
+  pub small : s.facts.len < 2 ^ 64
+  pub limit : s.facts.len ≤ most
   -- the blocks that its bytes have filled, and the one that they fill
-  pub filled : length s.blocks ≡ s.len / 4096
+  pub filled : length s.facts.blocks ≡ s.facts.len / 4096
   pub block : length s.block ≡ 4096
 
 abbrev pub IsFineIfOpen : ℕ → Option StreamParts → Type 0

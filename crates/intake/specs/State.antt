@@ -1,31 +1,22 @@
 -- The state of an archive without the images' bytes: its cases, its streams, and what decides how a call is answered.
-use Rattle.std.specs.Prelude.{ℕ, ◌+◌, ◌/◌, Bool, List, [], Option, None, Some, sum_by}
+use Rattle.std.specs.Prelude.{ℕ, ◌+◌, ◌/◌, Bool, List, [], Option, None, Some, sum_by, length}
 pub use Rattle.journal_layout.specs.Soundness.{blocks_for}
+use Rattle.journal_layout.specs.Case.{Case}
 use Rattle.journal_layout.specs.declared.shape.Shape.{Shape}
 use Rattle.journal_layout.specs.declared.entry.Kind.{Kind}
+use Rattle.extents.specs.Runs.{runs_of}
 
--- a case, with the blocks in which its image lies, in order, and how many runs they are
-pub record CaseFacts : Type 0 where
-  pub seq : ℕ
+-- what an image is of
+pub record Origin : Type 0 where
   pub kind : Kind
   pub name : List ℕ
   pub pid : ℕ
   pub signal : ℕ
   pub time : ℕ
-  pub pinned : Bool
-  pub len : ℕ
-  pub runs : ℕ
-  pub blocks : List ℕ
-  -- what was noted about it: 0 to 64 bytes
-  pub label : List ℕ
 
 -- a stream on its way, with how many bytes it has taken so far, and the blocks that they have filled
 pub record StreamFacts : Type 0 where
-  pub kind : Kind
-  pub name : List ℕ
-  pub pid : ℕ
-  pub signal : ℕ
-  pub time : ℕ
+  pub origin : Origin
   pub len : ℕ
   pub blocks : List ℕ
 
@@ -36,7 +27,7 @@ pub record ArchiveState : Type 0 where
   -- the most bytes that an image may have
   pub limit : ℕ
   -- in the order of their numbers
-  pub cases : List CaseFacts
+  pub cases : List Case
   -- the number of the next case
   pub next : ℕ
   -- the bytes of the journal's taken half that are in use
@@ -59,4 +50,12 @@ filled_by (Some s) = s.len / 4096
 
 -- the blocks in use: those of the cases, and those that the streams have filled
 abbrev pub blocks_in : ArchiveState → ℕ
-blocks_in s = sum_by (λ (c : CaseFacts). blocks_for c.len) s.cases + sum_by filled_by s.streams
+blocks_in s = sum_by (λ (c : Case). blocks_for c.len) s.cases + sum_by filled_by s.streams
+
+-- in how many runs of blocks the image of a case lies
+abbrev pub runs_in : Case → ℕ
+runs_in c = length (runs_of c.blocks)
+
+-- what the image of a case is of
+abbrev pub origin_of : Case → Origin
+origin_of c = record { kind = c.kind; name = c.name; pid = c.pid; signal = c.signal; time = c.time }

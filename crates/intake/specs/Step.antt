@@ -1,35 +1,38 @@
 -- What each call does to the state without bytes, and when it is refused: relations by cases, the refusals in the order
 -- in which they are tried.
-use Rattle.std.specs.Prelude.{◌≡◌, ◌≢◌, ℕ, zero, suc, ◌+◌, ◌*◌, ◌/◌, ◌%◌, ◌^◌, ◌<◌, ◌≤◌, Bool, true, false, List, [], ◌∷◌, ◌++◌, length, Option, None, Some, Result, Ok, Err, slice_set, ◌||◌, ◌⊎◌, ◌==◌, not, map, nat_lt, sum_by, if◌then◌else◌}
-use Rattle.std.specs.List.{list_any, filter}
+use Rattle.std.specs.Prelude.{◌≡◌, ◌≢◌, ℕ, zero, suc, ◌+◌, ◌*◌, ◌/◌, ◌%◌, ◌^◌, ◌<◌, ◌≤◌, Bool, true, false, List, [], ◌∷◌, ◌++◌, length, Option, None, Some, Result, Ok, Err, slice_set, ◌||◌, ◌⊎◌, map, nat_lt, sum_by, if◌then◌else◌}
+use Rattle.std.specs.List.{list_any}
 use Rattle.std.specs.Str.{bytes_eq}
 use Rattle.extents.specs.FreeSet.{uses}
 use Rattle.extents.specs.Runs.{runs_of}
+use Rattle.journal_layout.specs.Soundness.{case_numbered}
+use Rattle.journal_layout.specs.Folding.{dropped, is_name_of, pinned_as, labelled_as}
+use Rattle.journal_layout.specs.Case.{Case}
 use Rattle.journal_layout.specs.Layout.{half_length}
 use Rattle.journal_layout.specs.Record.{rounded}
-use Rattle.journal_layout.specs.Folding.{is_among}
 use Rattle.retention.specs.Rule.{IsDecision}
 use Rattle.retention.specs.declared.Brief.{Brief}
 use Rattle.retention.specs.declared.Policy.{Policy}
 use Rattle.retention.specs.declared.Decision.{Decision}
+use Rattle.intake.specs.Live.{case_uses}
 use Rattle.intake.specs.declared.faults.ArchiveFault.{ArchiveFault}
 use Rattle.intake.specs.declared.space.Space.{Space}
 use Rattle.intake.specs.declared.faults.ArchiveFault.TheVariants.{Stopped, BadSlot, SlotBusy, NameTaken, NoStream, TooLong, SpaceFull, NoCase, Pinned, JournalFull, NumbersSpent, OutOfMemory, Disk, OldVersion}
 use Rattle.intake.specs.Slots.{stream_at, closed}
-use Rattle.intake.specs.State.{ArchiveState, CaseFacts, StreamFacts, blocks_for, blocks_in, blocks_by}
+use Rattle.intake.specs.State.{ArchiveState, StreamFacts, blocks_for, blocks_in, blocks_by, runs_in}
 
 -- the stream in this slot has this name
 abbrev pub has_name : List ℕ → Option StreamFacts → Bool
 has_name name None = false
-has_name name (Some s) = bytes_eq s.name name
+has_name name (Some s) = bytes_eq s.origin.name name
 
 -- one of the cases has the name
-abbrev pub is_named : List ℕ → List CaseFacts → Bool
-is_named name cases = list_any (λ (c : CaseFacts). bytes_eq c.name name) cases
+abbrev pub is_named : List ℕ → List Case → Bool
+is_named name cases = is_name_of cases name
 
 -- a live case or an open stream has the name
 abbrev pub is_taken : ArchiveState → List ℕ → Bool
-is_taken s name = list_any (λ (c : CaseFacts). bytes_eq c.name name) s.cases || list_any (has_name name) s.streams
+is_taken s name = is_named name s.cases || list_any (has_name name) s.streams
 
 -- the same state with this in a slot
 abbrev pub with_stream : ArchiveState → ℕ → Option StreamFacts → ArchiveState
@@ -45,19 +48,19 @@ MayBegin old slot name =
     (old.stopped ≡ false) × (slot < length old.streams) × (stream_at old.streams slot ≡ None) × (is_taken old name ≡ false)
 
 abbrev pub BeginStep : ArchiveState → ℕ → StreamFacts → Result (Unit {0}) ArchiveFault → ArchiveState → Type 0
-BeginStep old slot s (Ok u) new = MayBegin old slot s.name × (new ≡ with_stream old slot (Some s))
+BeginStep old slot s (Ok u) new = MayBegin old slot s.origin.name × (new ≡ with_stream old slot (Some s))
 BeginStep old slot s (Err Stopped) new = (old.stopped ≡ true) × (new ≡ old)
 BeginStep old slot s (Err BadSlot) new = (old.stopped ≡ false) × (length old.streams ≤ slot) × (new ≡ old)
 BeginStep old slot s (Err SlotBusy) new =
     (old.stopped ≡ false) × (slot < length old.streams) × (stream_at old.streams slot ≢ None) × (new ≡ old)
 BeginStep old slot s (Err NameTaken) new =
-    (old.stopped ≡ false) × (slot < length old.streams) × (stream_at old.streams slot ≡ None) × (is_taken old s.name ≡ true) × (new ≡ old)
-BeginStep old slot s (Err OutOfMemory) new = MayBegin old slot s.name × (new ≡ old)
+    (old.stopped ≡ false) × (slot < length old.streams) × (stream_at old.streams slot ≡ None) × (is_taken old s.origin.name ≡ true) × (new ≡ old)
+BeginStep old slot s (Err OutOfMemory) new = MayBegin old slot s.origin.name × (new ≡ old)
 BeginStep old slot s (Err _) new = ⊥
 
 -- how often the cases and the streams use block k
 abbrev pub block_uses : ArchiveState → ℕ → ℕ
-block_uses s k = sum_by (λ (c : CaseFacts). uses c.blocks k) s.cases + sum_by (λ (o : Option StreamFacts). uses (blocks_by o) k) s.streams
+block_uses s k = case_uses s.cases k + sum_by (λ (o : Option StreamFacts). uses (blocks_by o) k) s.streams
 
 -- Block k is the lowest data block that neither the archive nor one more stream, which has these blocks, uses.
 pub record IsLowestFree (s : ArchiveState) (have : List ℕ) (k : ℕ) : Type 0 where
@@ -129,21 +132,21 @@ label_bytes [] = 0
 label_bytes (b ∷ rest) = label_size (b ∷ rest)
 
 -- the bytes of the records that say a case
-abbrev pub case_size : CaseFacts → ℕ
-case_size c = record_size c.name c.runs + label_bytes c.label
+abbrev pub case_size : Case → ℕ
+case_size c = record_size c.name (runs_in c) + label_bytes c.label
 
 -- the bytes of a half of the journal that says these cases and a next number, and nothing else: its header, a record for each
 -- case, one for each label that is not empty, and one of the number
-abbrev pub snapshot_size : List CaseFacts → ℕ
+abbrev pub snapshot_size : List Case → ℕ
 snapshot_size cases = 48 + sum_by case_size cases
 
 -- these cases have room in the journal's other half, written anew, with a gate behind them, and a generation is left for it
-abbrev pub HasRoomAnew : ArchiveState → List CaseFacts → Type 0
+abbrev pub HasRoomAnew : ArchiveState → List Case → Type 0
 HasRoomAnew s cases = (snapshot_size cases + 1 ≤ half_length s.shape) × (s.generation + 1 < 2 ^ 64)
 
 -- A record of `size` bytes, behind which these cases stand, has room with the gate behind it: behind the records that are there,
 -- or in the journal's other half, where these cases are written anew and a generation is left for it.
-abbrev pub HasRecordRoom : ArchiveState → ℕ → List CaseFacts → Type 0
+abbrev pub HasRecordRoom : ArchiveState → ℕ → List Case → Type 0
 HasRecordRoom s size cases =
     (s.used + size + 1 ≤ half_length s.shape) ⊎ HasRoomAnew s cases
 
@@ -152,17 +155,17 @@ abbrev pub IsLastGeneration : ArchiveState → Type 0
 IsLastGeneration s = s.generation + 1 ≡ 2 ^ 64
 
 -- these cases have no room there
-abbrev pub LacksRoomAnew : ArchiveState → List CaseFacts → Type 0
+abbrev pub LacksRoomAnew : ArchiveState → List Case → Type 0
 LacksRoomAnew s cases = (half_length s.shape < snapshot_size cases + 1) ⊎ IsLastGeneration s
 
 -- such a record has room in neither half
-abbrev pub IsFull : ArchiveState → ℕ → List CaseFacts → Type 0
+abbrev pub IsFull : ArchiveState → ℕ → List Case → Type 0
 IsFull s size cases =
     (half_length s.shape < s.used + size + 1) × LacksRoomAnew s cases
 
 -- the same state with these cases, by a record of `size` bytes: it stands behind the others where it fits there, and else the
 -- cases stand in the other half, written anew
-abbrev pub recorded : ArchiveState → ℕ → List CaseFacts → ArchiveState
+abbrev pub recorded : ArchiveState → ℕ → List Case → ArchiveState
 recorded s size cases = record s {
   cases = cases;
   used = if nat_lt (s.used + size) (half_length s.shape) then s.used + size else snapshot_size cases;
@@ -170,28 +173,27 @@ recorded s size cases = record s {
 }
 
 -- the case that a stream becomes, in these blocks
-abbrev pub case_from : StreamFacts → ℕ → List ℕ → CaseFacts
+abbrev pub case_from : StreamFacts → ℕ → List ℕ → Case
 case_from s seq blocks = record {
   seq = seq;
-  kind = s.kind;
-  name = s.name;
-  pid = s.pid;
-  signal = s.signal;
-  time = s.time;
+  kind = s.origin.kind;
+  name = s.origin.name;
+  pid = s.origin.pid;
+  signal = s.origin.signal;
+  time = s.origin.time;
   pinned = false;
   len = s.len;
-  runs = length (runs_of blocks);
   blocks = blocks;
   label = [];
 }
 
 -- the cases with the stream as the last one
-abbrev pub cases_with : ArchiveState → StreamFacts → List ℕ → List CaseFacts
+abbrev pub cases_with : ArchiveState → StreamFacts → List ℕ → List Case
 cases_with old s blocks = old.cases ++ case_from s old.next blocks ∷ []
 
 -- the bytes of the record of that case
 abbrev pub stream_size : StreamFacts → List ℕ → ℕ
-stream_size s blocks = record_size s.name (length (runs_of blocks))
+stream_size s blocks = record_size s.origin.name (length (runs_of blocks))
 
 -- the stream becomes the last case
 abbrev pub stored : ArchiveState → ℕ → StreamFacts → List ℕ → ArchiveState
@@ -239,22 +241,17 @@ FreeReply old (Ok space) =
 FreeReply old (Err Stopped) = old.stopped ≡ true
 FreeReply old (Err _) = ⊥
 
--- the case of this number, if there is one
-abbrev pub case_at : ℕ → List CaseFacts → Option CaseFacts
-case_at seq [] = None
-case_at seq (c ∷ rest) = if c.seq == seq then Some c else case_at seq rest
-
 -- the case of this number is live
-abbrev pub HasCase : ArchiveState → ℕ → CaseFacts → Type 0
-HasCase old seq c = (old.stopped ≡ false) × (case_at seq old.cases ≡ Some c)
+abbrev pub HasCase : ArchiveState → ℕ → Case → Type 0
+HasCase old seq c = (old.stopped ≡ false) × (case_numbered seq old.cases ≡ Some c)
 
 -- the bytes of the record that drops n cases
 abbrev pub drop_size : ℕ → ℕ
 drop_size n = rounded (12 + 4 * n)
 
 -- the cases that have none of these numbers
-abbrev pub cases_without : ArchiveState → List ℕ → List CaseFacts
-cases_without old seqs = filter (λ (c : CaseFacts). not (is_among seqs c.seq)) old.cases
+abbrev pub cases_without : ArchiveState → List ℕ → List Case
+cases_without old seqs = dropped seqs old.cases
 
 -- the same state without these cases
 abbrev pub without_cases : ArchiveState → List ℕ → ArchiveState
@@ -275,14 +272,14 @@ DropStep old seqs (Err _) new = ⊥
 -- delete: the case is gone
 abbrev pub DeleteStep : ArchiveState → ℕ → Result (Unit {0}) ArchiveFault → ArchiveState → Type 0
 DeleteStep old seq (Ok u) new =
-    (c : CaseFacts) × HasCase old seq c × (c.pinned ≡ false) × HasDropRoom old (seq ∷ []) × (new ≡ without_cases old (seq ∷ []))
+    (c : Case) × HasCase old seq c × (c.pinned ≡ false) × HasDropRoom old (seq ∷ []) × (new ≡ without_cases old (seq ∷ []))
 DeleteStep old seq (Err Stopped) new = (old.stopped ≡ true) × (new ≡ old)
-DeleteStep old seq (Err NoCase) new = (old.stopped ≡ false) × (case_at seq old.cases ≡ None) × (new ≡ old)
-DeleteStep old seq (Err Pinned) new = (c : CaseFacts) × HasCase old seq c × (c.pinned ≡ true) × (new ≡ old)
+DeleteStep old seq (Err NoCase) new = (old.stopped ≡ false) × (case_numbered seq old.cases ≡ None) × (new ≡ old)
+DeleteStep old seq (Err Pinned) new = (c : Case) × HasCase old seq c × (c.pinned ≡ true) × (new ≡ old)
 DeleteStep old seq (Err JournalFull) new =
-    (c : CaseFacts) × HasCase old seq c × (c.pinned ≡ false) × IsFull old (drop_size 1) (cases_without old (seq ∷ [])) × (new ≡ old)
-DeleteStep old seq (Err OutOfMemory) new = (c : CaseFacts) × HasCase old seq c × (c.pinned ≡ false) × HasDropRoom old (seq ∷ []) × (new ≡ old)
-DeleteStep old seq (Err Disk) new = (c : CaseFacts) × HasCase old seq c × (c.pinned ≡ false) × HasDropRoom old (seq ∷ []) × (new ≡ halted old)
+    (c : Case) × HasCase old seq c × (c.pinned ≡ false) × IsFull old (drop_size 1) (cases_without old (seq ∷ [])) × (new ≡ old)
+DeleteStep old seq (Err OutOfMemory) new = (c : Case) × HasCase old seq c × (c.pinned ≡ false) × HasDropRoom old (seq ∷ []) × (new ≡ old)
+DeleteStep old seq (Err Disk) new = (c : Case) × HasCase old seq c × (c.pinned ≡ false) × HasDropRoom old (seq ∷ []) × (new ≡ halted old)
 DeleteStep old seq (Err _) new = ⊥
 
 -- the bytes of the record that pins a case
@@ -290,8 +287,8 @@ abbrev pub pin_size : ℕ
 pin_size = 16
 
 -- the cases with the flag of one set
-abbrev pub cases_flagged : ArchiveState → ℕ → Bool → List CaseFacts
-cases_flagged old seq flag = map (λ (c : CaseFacts). if c.seq == seq then record c { pinned = flag } else c) old.cases
+abbrev pub cases_flagged : ArchiveState → ℕ → Bool → List Case
+cases_flagged old seq flag = map (pinned_as seq flag) old.cases
 
 -- the same state with the flag of a case set
 abbrev pub with_flag : ArchiveState → ℕ → Bool → ArchiveState
@@ -304,19 +301,19 @@ HasPinRoom old seq flag = HasRecordRoom old pin_size (cases_flagged old seq flag
 -- pin: the flag is set; where it stands already, nothing changes
 abbrev pub PinStep : ArchiveState → ℕ → Bool → Result (Unit {0}) ArchiveFault → ArchiveState → Type 0
 PinStep old seq flag (Ok u) new =
-    (c : CaseFacts) × HasCase old seq c
+    (c : Case) × HasCase old seq c
     × (((c.pinned ≡ flag) × (new ≡ old)) ⊎ ((c.pinned ≢ flag) × HasPinRoom old seq flag × (new ≡ with_flag old seq flag)))
 PinStep old seq flag (Err Stopped) new = (old.stopped ≡ true) × (new ≡ old)
-PinStep old seq flag (Err NoCase) new = (old.stopped ≡ false) × (case_at seq old.cases ≡ None) × (new ≡ old)
+PinStep old seq flag (Err NoCase) new = (old.stopped ≡ false) × (case_numbered seq old.cases ≡ None) × (new ≡ old)
 PinStep old seq flag (Err JournalFull) new =
-    (c : CaseFacts) × HasCase old seq c × (c.pinned ≢ flag) × IsFull old pin_size (cases_flagged old seq flag) × (new ≡ old)
-PinStep old seq flag (Err OutOfMemory) new = (c : CaseFacts) × HasCase old seq c × (c.pinned ≢ flag) × HasPinRoom old seq flag × (new ≡ old)
-PinStep old seq flag (Err Disk) new = (c : CaseFacts) × HasCase old seq c × (c.pinned ≢ flag) × HasPinRoom old seq flag × (new ≡ halted old)
+    (c : Case) × HasCase old seq c × (c.pinned ≢ flag) × IsFull old pin_size (cases_flagged old seq flag) × (new ≡ old)
+PinStep old seq flag (Err OutOfMemory) new = (c : Case) × HasCase old seq c × (c.pinned ≢ flag) × HasPinRoom old seq flag × (new ≡ old)
+PinStep old seq flag (Err Disk) new = (c : Case) × HasCase old seq c × (c.pinned ≢ flag) × HasPinRoom old seq flag × (new ≡ halted old)
 PinStep old seq flag (Err _) new = ⊥
 
 -- the cases with the label of one set
-abbrev pub cases_labelled : ArchiveState → ℕ → List ℕ → List CaseFacts
-cases_labelled old seq text = map (λ (c : CaseFacts). if c.seq == seq then record c { label = text } else c) old.cases
+abbrev pub cases_labelled : ArchiveState → ℕ → List ℕ → List Case
+cases_labelled old seq text = map (labelled_as seq text) old.cases
 
 -- the same state with the label of a case set
 abbrev pub with_label : ArchiveState → ℕ → List ℕ → ArchiveState
@@ -327,22 +324,22 @@ abbrev pub HasLabelRoom : ArchiveState → ℕ → List ℕ → Type 0
 HasLabelRoom old seq text = HasRecordRoom old (label_size text) (cases_labelled old seq text)
 
 -- the case of this number is live, in an archive whose version keeps labels
-abbrev pub MayLabel : ArchiveState → ℕ → CaseFacts → Type 0
+abbrev pub MayLabel : ArchiveState → ℕ → Case → Type 0
 MayLabel old seq c = HasCase old seq c × (old.version ≡ 2)
 
 -- label: the label is set; where it stands already, nothing changes. Version 1 keeps none, not even the empty one.
 abbrev pub LabelStep : ArchiveState → ℕ → List ℕ → Result (Unit {0}) ArchiveFault → ArchiveState → Type 0
 LabelStep old seq text (Ok u) new =
-    (c : CaseFacts) × MayLabel old seq c
+    (c : Case) × MayLabel old seq c
     × (((c.label ≡ text) × (new ≡ old)) ⊎ ((c.label ≢ text) × HasLabelRoom old seq text × (new ≡ with_label old seq text)))
 LabelStep old seq text (Err Stopped) new = (old.stopped ≡ true) × (new ≡ old)
-LabelStep old seq text (Err NoCase) new = (old.stopped ≡ false) × (case_at seq old.cases ≡ None) × (new ≡ old)
-LabelStep old seq text (Err OldVersion) new = (c : CaseFacts) × HasCase old seq c × (old.version ≡ 1) × (new ≡ old)
+LabelStep old seq text (Err NoCase) new = (old.stopped ≡ false) × (case_numbered seq old.cases ≡ None) × (new ≡ old)
+LabelStep old seq text (Err OldVersion) new = (c : Case) × HasCase old seq c × (old.version ≡ 1) × (new ≡ old)
 LabelStep old seq text (Err JournalFull) new =
-    (c : CaseFacts) × MayLabel old seq c × (c.label ≢ text) × IsFull old (label_size text) (cases_labelled old seq text) × (new ≡ old)
-LabelStep old seq text (Err OutOfMemory) new = (c : CaseFacts) × MayLabel old seq c × (c.label ≢ text) × HasLabelRoom old seq text × (new ≡ old)
+    (c : Case) × MayLabel old seq c × (c.label ≢ text) × IsFull old (label_size text) (cases_labelled old seq text) × (new ≡ old)
+LabelStep old seq text (Err OutOfMemory) new = (c : Case) × MayLabel old seq c × (c.label ≢ text) × HasLabelRoom old seq text × (new ≡ old)
 LabelStep old seq text (Err Disk) new =
-    (c : CaseFacts) × MayLabel old seq c × (c.label ≢ text) × HasLabelRoom old seq text × (new ≡ halted old)
+    (c : Case) × MayLabel old seq c × (c.label ≢ text) × HasLabelRoom old seq text × (new ≡ halted old)
 LabelStep old seq text (Err _) new = ⊥
 
 -- the same cases in version 2 of the layout, written anew
@@ -371,7 +368,7 @@ VersionReply old (Err Stopped) = old.stopped ≡ true
 VersionReply old (Err _) = ⊥
 
 -- what the rule looks at of a case
-abbrev pub brief_of : CaseFacts → Brief
+abbrev pub brief_of : Case → Brief
 brief_of c = record { seq = c.seq; time = c.time; length = c.len; pinned = c.pinned }
 
 -- by the rule these cases go, and some do
@@ -395,9 +392,9 @@ RetireStep old policy (Err _) new = ⊥
 
 -- image: the bytes of a case are read; only a disk fault changes the state
 abbrev pub ImageStep : {T : Type 0} → ArchiveState → ℕ → Result T ArchiveFault → ArchiveState → Type 0
-ImageStep old seq (Ok image) new = (c : CaseFacts) × HasCase old seq c × (new ≡ old)
+ImageStep old seq (Ok image) new = (c : Case) × HasCase old seq c × (new ≡ old)
 ImageStep old seq (Err Stopped) new = (old.stopped ≡ true) × (new ≡ old)
-ImageStep old seq (Err NoCase) new = (old.stopped ≡ false) × (case_at seq old.cases ≡ None) × (new ≡ old)
-ImageStep old seq (Err OutOfMemory) new = (c : CaseFacts) × HasCase old seq c × (new ≡ old)
-ImageStep old seq (Err Disk) new = (c : CaseFacts) × HasCase old seq c × (new ≡ halted old)
+ImageStep old seq (Err NoCase) new = (old.stopped ≡ false) × (case_numbered seq old.cases ≡ None) × (new ≡ old)
+ImageStep old seq (Err OutOfMemory) new = (c : Case) × HasCase old seq c × (new ≡ old)
+ImageStep old seq (Err Disk) new = (c : Case) × HasCase old seq c × (new ≡ halted old)
 ImageStep old seq (Err _) new = ⊥

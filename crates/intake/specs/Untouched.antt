@@ -1,11 +1,12 @@
 -- Which answers leave the disk itself as it was.
 use Rattle.std.specs.Prelude.{◌≡◌, ◌≢◌, ℕ, ◌+◌, ◌%◌, Bool, List, [], Some, Result, Ok, Err}
 use Rattle.intake.specs.Slots.{stream_at}
-use Rattle.intake.specs.State.{ArchiveState, CaseFacts, StreamFacts}
+use Rattle.intake.specs.State.{ArchiveState, StreamFacts}
 use Rattle.intake.specs.Step.{HasCase}
 use Rattle.intake.specs.declared.faults.ArchiveFault.{ArchiveFault}
 use Rattle.intake.specs.declared.faults.ArchiveFault.TheVariants.{Stopped, NoStream, SpaceFull, Disk}
 use Rattle.retention.specs.declared.Decision.{Decision}
+use Rattle.journal_layout.specs.Case.{Case}
 
 -- every refusal but that of the disk
 abbrev pub RefusalSpares : {D : Type 0} {T : Type 0} → Result T ArchiveFault → D → D → Type 0
@@ -28,12 +29,12 @@ FinishSpares _ old new = Unit {0}
 
 -- pin: where the flag stands already, too
 abbrev pub PinSpares : {D : Type 0} → ArchiveState → ℕ → Bool → Result (Unit {0}) ArchiveFault → D → D → Type 0
-PinSpares s seq flag (Ok u) old new = (c : CaseFacts) → HasCase s seq c → c.pinned ≡ flag → new ≡ old
+PinSpares s seq flag (Ok u) old new = (c : Case) → HasCase s seq c → c.pinned ≡ flag → new ≡ old
 PinSpares s seq flag (Err f) old new = RefusalSpares {T = Unit {0}} (Err f) old new
 
 -- label: where the label stands already, too
 abbrev pub LabelSpares : {D : Type 0} → ArchiveState → ℕ → List ℕ → Result (Unit {0}) ArchiveFault → D → D → Type 0
-LabelSpares s seq text (Ok u) old new = (c : CaseFacts) → HasCase s seq c → c.label ≡ text → new ≡ old
+LabelSpares s seq text (Ok u) old new = (c : Case) → HasCase s seq c → c.label ≡ text → new ≡ old
 LabelSpares s seq text (Err f) old new = RefusalSpares {T = Unit {0}} (Err f) old new
 
 -- upgrade: where the archive is of version 2, too

@@ -4,6 +4,7 @@ ghost use Rattle.std.specs.Str.{bytes_eq};
 ghost use Rattle.disk_model.specs.Moments.{LeavesOnly, AddsOnly};
 ghost use Rattle.intake.specs.Durable.{Durable, StandsFor, FindsAgain, durable_of, durable_part, without, flagged, labelled, upgraded};
 ghost use Rattle.intake.specs.Guarding.{Leaves, MayBeStored, MayBeRetired};
+ghost use Rattle.journal_layout.specs.Case.{Case};
 ghost use Rattle.journal_layout.specs.Standing.{Standing};
 ghost use Rattle.journal_layout.specs.Stands.{Stands};
 ghost use Rattle.case_journal.specs.Append.{MayFollow};
@@ -13,7 +14,7 @@ ghost use Rattle.disk_model.specs.Disk.{HasRisen};
 ghost use Rattle.intake.specs.Growth.{IsDiskFault};
 ghost use Rattle.intake.specs.Ending.{EndsStreams};
 ghost use Rattle.intake.specs.Names.{items_of, names_gone};
-ghost use Rattle.journal_layout.specs.Soundness.{IsName};
+ghost use Rattle.journal_layout.specs.Soundness.{IsName, case_numbered};
 ghost use Rattle.intake.specs.Front.{KeepsSuperblock};
 ghost use Rattle.intake.specs.Untouched.{RefusalSpares};
 
@@ -83,8 +84,8 @@ impl<D: Disk> Model for Archive<D> {
 
 impl<D: Disk> Archive<D> {
     ghost use Rattle.intake.specs.Parts.{Parts, StreamParts, state_of, contents_of};
-    ghost use Rattle.intake.specs.State.{ArchiveState, CaseFacts, StreamFacts};
-    ghost use Rattle.intake.specs.Step.{RoomReply, FreeReply, VersionReply, DropStep, IsLastGeneration, case_at};
+    ghost use Rattle.intake.specs.State.{ArchiveState, StreamFacts};
+    ghost use Rattle.intake.specs.Step.{RoomReply, FreeReply, VersionReply, DropStep, IsLastGeneration};
     ghost use Rattle.intake.specs.Contents.{DropBytes};
     ghost use Rattle.intake.specs.Opened.{CaseReply, CasesReply};
     ghost use Rattle.intake.specs.Calls.{OpenCall, BeginCall, AdvanceCall, FinishCall, AbandonCall, PinCall, LabelCall, UpgradeCall, DeleteCall, RetireCall, RetireForCall, ImageCall, CloseCall, Changes};
@@ -166,11 +167,7 @@ impl<D: Disk> Archive<D> {
         requires name { IsName name.items }
         ensures { BeginCall D.Disk self.old slot
             (record {
-              kind = kind;
-              name = name.items;
-              pid = pid;
-              signal = signal;
-              time = time;
+              origin = record { kind = kind; name = name.items; pid = pid; signal = signal; time = time };
               len = 0;
               blocks = [];
             }) result self.new }
@@ -518,7 +515,7 @@ impl<D: Disk> Archive<D> {
     /// Reads the bytes of a case's image from place `at` on into all of `into`. It takes no memory. Answers, in this order:
     /// `Stopped`; `NoCase`; `Disk`. All but the last change nothing.
     pub fn image_part(&mut self, seq: u32, at: u64, into: &mut [u8]) -> Result<(), ArchiveFault>
-        requires { (c : CaseFacts) → case_at seq (state_of self.old).cases ≡ Some c → at + length into.old ≤ c.len }
+        requires { (c : Case) → case_numbered seq (state_of self.old).cases ≡ Some c → at + length into.old ≤ c.len }
         ensures { PartCall D.Disk self.old seq at (length into.old) result into.new self.new }
     {
         if self.stopped {

@@ -6,7 +6,11 @@ use Rattle.stream_names.specs.declared.names.NewStream.{NewStream}
 
 -- the stream with no bytes that is begun
 abbrev pub stream_begun : NewStream → StreamFacts
-stream_begun s = record { kind = s.kind; name = s.name.items; pid = s.pid; signal = s.signal; time = s.time; len = 0; blocks = [] }
+stream_begun s = record {
+  origin = record { kind = s.kind; name = s.name.items; pid = s.pid; signal = s.signal; time = s.time };
+  len = 0;
+  blocks = [];
+}
 
 -- the stream, or what is wrong with its name
 abbrev pub stream_found : Result NewStream (Bor (List ℕ)) → Result StreamFacts (List ℕ)

@@ -21,16 +21,12 @@ name_fault name =
 
 -- the stream of an executable, with no bytes yet
 abbrev pub new_exec : List ℕ → StreamFacts
-new_exec name = record { kind = Exec; name = name; pid = 0; signal = 0; time = 0; len = 0; blocks = [] }
+new_exec name = record { origin = record { kind = Exec; name = name; pid = 0; signal = 0; time = 0 }; len = 0; blocks = [] }
 
 -- the stream of a core, with no bytes yet
 abbrev pub new_core : ProcessSaid → List ℕ → StreamFacts
 new_core process name = record {
-  kind = Core;
-  name = name;
-  pid = process.pid;
-  signal = process.signal;
-  time = process.time;
+  origin = record { kind = Core; name = name; pid = process.pid; signal = process.signal; time = process.time };
   len = 0;
   blocks = [];
 }

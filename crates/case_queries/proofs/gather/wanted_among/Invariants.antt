@@ -1,6 +1,5 @@
 use Rattle.std.proofs.Common.{◌≡◌, take, map}
 use Rattle.image_replies.specs.CoreWords.{core_bytes}
-use Rattle.intake.specs.Parts.{case_facts}
 use Rattle.journal_layout.specs.Case.{case_of}
 use Rattle.case_queries.specs.Gathering.{wanted_of}
 use Rattle.case_queries.specs.GatheringWords.{wanted_view}
@@ -8,4 +7,4 @@ use Rattle.case_queries.proofs.gather.wanted_among.Given as goal
 
 -- those that went by and are wanted
 abbrev pub invariant-loop-entry : goal.invariant-loop-entry
-invariant-loop-entry l = map wanted_view l.wanted.items ≡ wanted_of (core_bytes l.core) (map case_facts (map case_of (take l.entry-index l.entries)))
+invariant-loop-entry l = map wanted_view l.wanted.items ≡ wanted_of (core_bytes l.core) (map case_of (take l.entry-index l.entries))

@@ -1,9 +1,10 @@
 use Rattle.std.proofs.Common.{◌≡◌, ◌∙◌, ap, sym, arith, ℕ, ◌+◌, ◌%◌, ◌<◌, List, inr, subst}
 use Rattle.journal_layout.specs.declared.shape.Shape.{Shape}
+use Rattle.intake.specs.Step.{longer}
 use Rattle.intake.specs.Contents.{zero_block}
 use Rattle.intake.specs.Growth.{Adds}
 use Rattle.intake.specs.Parts.{taken_in}
-use Rattle.intake.specs.StreamView.{parts_of}
+use Rattle.intake.specs.StreamView.{parts_of, facts_of}
 use Rattle.intake.proofs.BlockLemmas.{cleared, needed, taken_lengthened, taken_refreshed}
 use Rattle.intake.proofs.blocks.grow.Goals.{then-n-eq0-via-then-n-eq0, then-n-eq0-via-else-n-eq0+then-stream-n-lt4096}
 use Rattle.intake.proofs.blocks.grow.Goals as goal
@@ -23,11 +24,7 @@ returns-clause-step g c =
         needed c.args.stream.now.length c.args.n c.if-n-eq0.false c.if-stream-n-lt4096.false c.requires.room,
         c.in_ok-add_block.ensures.reply,
         c.in_ok-add_block.ensures.more,
-        ap (λ (x : List ℕ). record (parts_of c.args.block.now c.args.stream.now) {
-          len = c.args.stream.now.length + c.args.n;
-          blocks = c.add_block.new.runs;
-          block = x;
-        }) zeros,
+        ap (λ (x : List ℕ). record (parts_of c.args.block.now c.args.stream.now) { facts = longer (facts_of c.args.stream.now) c.args.n c.add_block.new.runs; block = x }) zeros,
       ),
     )
 
@@ -37,10 +34,6 @@ returns-clause-bytes g c honest j same =
     let adds : Adds j.standing.shape c.args.free.now c.args.stream.now.runs c.add_block.new.runs c.args.block.now (g.D.Disk.seen c.args.disk.now) (g.D.Disk.seen c.add_block.new.disk) =
     subst (λ (x : Shape). Adds x c.args.free.now c.args.stream.now.runs c.add_block.new.runs c.args.block.now (g.D.Disk.seen c.args.disk.now) (g.D.Disk.seen c.add_block.new.disk)) (sym same)
     (subst (λ (x : List ℕ). Adds c.args.shape c.args.free.now c.args.stream.now.runs c.add_block.new.runs x (g.D.Disk.seen c.args.disk.now) (g.D.Disk.seen c.add_block.new.disk)) c.bytes.ensures (c.in_ok-add_block.ensures.added honest)) in
-    ap (λ (x : List ℕ). taken_in j (g.D.Disk.seen c.add_block.new.disk) (record (parts_of c.args.block.now c.args.stream.now) {
-      len = c.args.stream.now.length + c.args.n;
-      blocks = c.add_block.new.runs;
-      block = x;
-    })) zeros
+    ap (λ (x : List ℕ). taken_in j (g.D.Disk.seen c.add_block.new.disk) (record (parts_of c.args.block.now c.args.stream.now) { facts = longer (facts_of c.args.stream.now) c.args.n c.add_block.new.runs; block = x })) zeros
     ∙ taken_refreshed j c.args.free.now (g.D.Disk.seen c.args.disk.now) (g.D.Disk.seen c.add_block.new.disk) (parts_of c.args.block.now c.args.stream.now) c.args.n c.add_block.new.runs c.requires.fine.block c.requires.held
     (needed c.args.stream.now.length c.args.n c.if-n-eq0.false c.if-stream-n-lt4096.false c.requires.room) adds

@@ -18,7 +18,7 @@ invariant_of-self-2 g c =
           sound_begun g.D.Disk c.self.inside.disk c.self.inside.journal c.self.inside.settings.limit c.self.inside.free c.self.inside.slots c.put.new.self c.args.slot _ c.self.inside.stopped
           c.self.invariant.sound c.if-self.false (omega arith) (not_open _ _ c.is_open.ensures c.if-is_open.false)
           (sym (taken_is (record { disk = c.self.inside.disk; journal = c.self.inside.journal; limit = c.self.inside.settings.limit; streams = c.self.inside.slots; stopped = c.self.inside.stopped }) c.self.inside.names c.args.name.items (c.self.invariant.taken c.if-self.false)) ∙ sym c.contains.ensures ∙ c.if-contains.false) c.put.ensures
-          (fine_new c.self.inside.settings.limit _ c.requires.name c.ranges.pid.fits c.ranges.signal.fits c.ranges.time.fits refl c.new.ensures c.in_ok-block.ensures)
+          (fine_new c.self.inside.settings.limit _ (record { name = c.requires.name; pid = c.ranges.pid.fits; signal = c.ranges.signal.fits; time = c.ranges.time.fits }) refl c.new.ensures c.in_ok-block.ensures)
           c.new.ensures;
       taken = λ on. taken_begun c.self.inside.journal.standing.cases c.self.inside.slots c.put.new.self c.args.slot _ c.self.inside.names c.keep_name.new.names (c.self.invariant.taken on) (let e = c.self.invariant.sound.slots in omega arith) (not_open _ _ c.is_open.ensures c.if-is_open.false) c.put.ensures
           (sym c.contains.ensures ∙ c.if-contains.false) c.in_ok-keep_name.ensures.names;

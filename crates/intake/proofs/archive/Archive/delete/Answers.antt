@@ -2,10 +2,8 @@ use Rattle.std.proofs.Common.{List, ℕ, [], ◌∷◌, map}
 use Rattle.intake.specs.Names.{name_of_case}
 use Rattle.intake.proofs.ListedLemmas.{gone_one}
 use Rattle.std.proofs.Common.{rules, ◌∙◌, ap, sym, refl}
-use Rattle.std.specs.Prelude.{option_map}
-use Rattle.intake.specs.Parts.{state_of, case_facts}
+use Rattle.intake.specs.Parts.{state_of}
 use Rattle.journal_layout.specs.Case.{case_of}
-use Rattle.intake.proofs.AfterLemmas.{case_facts_at}
 use Rattle.intake.proofs.DropLemmas.{delete_may, delete_step}
 use Rattle.intake.proofs.ChangeLemmas.{changes_none}
 use Rattle.intake.proofs.FrontLemmas.{same_superblock}
@@ -35,7 +33,7 @@ returns-then-self g c = record {
 
 pub returns-in_default : goal.returns-in_default
 returns-in_default g c = record {
-  step = rw (← c.self.view_is) (c.if-self.false, case_facts_at c.args.seq c.self.inside.journal.standing.cases ∙ ap (option_map case_facts) (sym c.in_default.ensures), refl);
+  step = rw (← c.self.view_is) (c.if-self.false, (sym c.in_default.ensures), refl);
   bytes = search rules;
   changes = changes_none g.D.Disk (Unit {0}) c.self.inside.disk c.self.inside.journal c.self.inside.settings.limit c.self.inside.free c.self.inside.slots c.self.inside.stopped _ _ _ c.self.invariant.sound c.self.view_is (λ fault. cc);
   full = λ honest e. absurd (cc);
@@ -46,7 +44,7 @@ returns-in_default g c = record {
 pub returns-then-entry : goal.returns-then-entry
 returns-then-entry g c = record {
   step = rw (← c.self.view_is)
-      (case_facts (case_of c.in-Some.entry.now), (c.if-self.false, case_facts_at c.args.seq c.self.inside.journal.standing.cases ∙ ap (option_map case_facts) (sym c.in-Some.ensures)), c.if-entry.true, refl);
+      ((case_of c.in-Some.entry.now), (c.if-self.false, (sym c.in-Some.ensures)), c.if-entry.true, refl);
   bytes = search rules;
   changes = changes_none g.D.Disk (Unit {0}) c.self.inside.disk c.self.inside.journal c.self.inside.settings.limit c.self.inside.free c.self.inside.slots c.self.inside.stopped _ _ _ c.self.invariant.sound c.self.view_is (λ fault. cc);
   full = λ honest e. absurd (cc);
@@ -56,8 +54,8 @@ returns-then-entry g c = record {
 
 pub returns : goal.returns
 returns g c = record {
-  step = delete_step (state_of c.args.self.now) c.args.seq (case_facts (case_of c.in-Some.entry.now)) c.drop_cases.result (state_of c.drop_cases.new.self)
-      (rw (← c.self.view_is) (c.if-self.false, case_facts_at c.args.seq c.self.inside.journal.standing.cases ∙ ap (option_map case_facts) (sym c.in-Some.ensures)))
+  step = delete_step (state_of c.args.self.now) c.args.seq (case_of c.in-Some.entry.now) c.drop_cases.result (state_of c.drop_cases.new.self)
+      (rw (← c.self.view_is) (c.if-self.false, (sym c.in-Some.ensures)))
       c.if-entry.false c.drop_cases.ensures.step;
   bytes = search rules;
   changes = c.drop_cases.ensures.changes;

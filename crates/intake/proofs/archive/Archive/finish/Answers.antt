@@ -14,8 +14,6 @@ use Rattle.journal_layout.specs.Case.{Case, case_of}
 use Rattle.journal_layout.specs.Soundness.{IsStorable}
 use Rattle.journal_layout.specs.declared.shape.Shape.{Shape}
 use Rattle.journal_layout.specs.Layout.{data_start}
-use Rattle.extents.specs.Runs.{runs_of}
-use Rattle.std.proofs.Common.{length}
 use Rattle.intake.proofs.FinishLemmas.{runs_may, seal_err, seal_not_stopped, seal_not_missing, storable, sound_not_stored, refused_step, stored_step, sound_with_case, closed_case}
 use Rattle.intake.specs.Closing.{ClosesBytes, ClosesPadded}
 use Rattle.intake.proofs.UntouchedLemmas.{seal_spares, append_spares, never_stopped}
@@ -104,7 +102,7 @@ pub returns-then-self : goal.returns-then-self
 returns-then-self g c = record {
   step = search rules;
   bytes = search rules;
-  runs = 0;
+  blocks = [];
   changes = changes_none g.D.Disk ℕ c.self.inside.disk c.self.inside.journal c.self.inside.settings.limit c.self.inside.free c.self.inside.slots c.self.inside.stopped _ _ _ c.self.invariant.sound c.self.view_is (λ fault. cc);
   padded = λ honest. tt;
   untouched = search rules;
@@ -125,7 +123,7 @@ returns-in_default g c = record {
         stopped = c.self.inside.stopped;
       }))
       (c.in_default.ensures.slots ∙ none_set c.self.inside.slots c.args.slot (sym c.in_default.ensures.stream)));
-  runs = 0;
+  blocks = [];
   changes = record { disk = record { cause = search rules; later = search rules; honesty = search rules; size = search rules }; crash = search rules; stands = search rules };
   padded = λ honest. tt;
   untouched = search rules;
@@ -154,7 +152,7 @@ returns-in-Err g c = record {
       (c.self.invariant.sound.runs c.if-self.false) c.if-self.false (sym c.in-Some.ensures.stream) (parts_of c.seal-sealed.new.block c.seal-sealed.new.stream) c.in-Err.fault c.in-Err.ensures.step)
       (seal_not_missing g.D.Disk c.self.inside.disk c.seal-sealed.new.disk c.self.inside.journal c.self.inside.settings.limit c.self.inside.free c.self.inside.slots c.args.slot (parts_of c.in-Some.block c.in-Some.stream) c.self.inside.stopped
       (c.self.invariant.sound.runs c.if-self.false) c.if-self.false (sym c.in-Some.ensures.stream) (parts_of c.seal-sealed.new.block c.seal-sealed.new.stream) c.in-Err.fault c.in-Err.ensures.step));
-  runs = 0;
+  blocks = [];
   changes = record {
     disk = record { cause = search rules; later = search rules; honesty = search rules; size = search rules };
     crash = λ honest.
@@ -195,7 +193,7 @@ returns g c = record {
       (unstored_bytes g.D.Disk c.self.inside.disk c.seal-sealed.new.disk c.append_case.new.disk c.self.inside.journal c.append_case.new.journal c.self.inside.settings.limit c.self.inside.free c.self.inside.slots c.args.slot c.self.inside.stopped c.end_streams-self-inside-in-Err-append_case.result
       (c.self.invariant.sound.runs c.if-self.false) (subst (λ (x : Shape). ChangesFree x c.self.inside.free (g.D.Disk.seen c.self.inside.disk) (g.D.Disk.seen c.seal-sealed.new.disk)) c.shape-shape.ensures (c.in_default-sealed.ensures.others real)) (c.in-Err-append_case.ensures.outside still)
       c.in-Err-append_case.fault (case_of c.into_entry-entry.result) c.take.new.self c.end_streams-self-inside-in-Err-append_case.new.slots c.in-Some.ensures.slots c.end_streams-self-inside-in-Err-append_case.ensures c.in-Err-append_case.ensures.step);
-  runs = length (runs_of c.seal-sealed.new.stream.runs);
+  blocks = c.seal-sealed.new.stream.runs;
   changes = record {
     disk = record { cause = search rules; later = search rules; honesty = search rules; size = search rules };
     crash = λ honest.
@@ -208,7 +206,7 @@ returns g c = record {
         let y : Durable = durable_in (g.D.Disk.seen c.seal-sealed.new.disk) (appended j.standing (store_of j.standing (case_of c.into_entry-entry.result))) in
         rw (← c.self.view_is)
         (unstored_adds g.D.Disk c.self.inside.disk c.seal-sealed.new.disk c.append_case.new.disk j running.journal rests real y _ _ c.in-Err-append_case.fault
-        (stored_doubt g.D.Disk c.self.inside.disk j c.self.inside.settings.limit c.self.inside.slots c.self.inside.stopped c.args.slot s (length (runs_of c.seal-sealed.new.stream.runs)) y (sym c.in-Some.ensures.stream)
+        (stored_doubt g.D.Disk c.self.inside.disk j c.self.inside.settings.limit c.self.inside.slots c.self.inside.stopped c.args.slot s c.seal-sealed.new.stream.runs y (sym c.in-Some.ensures.stream)
         (runs_may g.D.Disk c.self.inside.disk c.append_case.new.disk j c.self.inside.settings.limit c.self.inside.free c.self.inside.slots c.args.slot s c.self.inside.stopped running c.if-self.false (sym c.in-Some.ensures.stream) (parts_of c.seal-sealed.new.block c.seal-sealed.new.stream) c.in_default-sealed.field-0 c.in_default-sealed.ensures.step)
         (stored_is g.D.Disk c.self.inside.disk c.seal-sealed.new.disk j s c.seal-sealed.new.stream.runs (case_of c.into_entry-entry.result)
         (c.into_entry-entry.ensures ∙ closed_case g.D.Disk c.self.inside.disk c.append_case.new.disk j c.self.inside.settings.limit c.self.inside.free c.self.inside.slots c.args.slot s c.self.inside.stopped running c.if-self.false (sym c.in-Some.ensures.stream) (parts_of c.seal-sealed.new.block c.seal-sealed.new.stream) c.in_default-sealed.field-0 c.in_default-sealed.ensures.step)
@@ -258,7 +256,7 @@ returns-in-Ok g c = record {
       (ap (λ (x : Case). x.len) (is_case ∙ closed_case g.D.Disk c.self.inside.disk c.append_case.new.disk c.self.inside.journal c.self.inside.settings.limit c.self.inside.free c.self.inside.slots c.args.slot (parts_of c.in-Some.block c.in-Some.stream) c.self.inside.stopped (c.self.invariant.sound.runs c.if-self.false) c.if-self.false (sym c.in-Some.ensures.stream) (parts_of c.seal-sealed.new.block c.seal-sealed.new.stream) c.in_default-sealed.field-0 c.in_default-sealed.ensures.step))
       (subst (λ (x : Shape). ClosesBytes x (parts_of c.in-Some.block c.in-Some.stream) (case_of c.into_entry-entry.result).blocks (g.D.Disk.seen c.self.inside.disk) (g.D.Disk.seen c.seal-sealed.new.disk)) c.shape-shape.ensures
       (subst (λ (x : List ℕ). ClosesBytes c.shape-shape.result (parts_of c.in-Some.block c.in-Some.stream) x (g.D.Disk.seen c.self.inside.disk) (g.D.Disk.seen c.seal-sealed.new.disk)) (sym (ap (λ (x : Case). x.blocks) is_case)) (c.in_default-sealed.ensures.bytes real))));
-  runs = length (runs_of c.seal-sealed.new.stream.runs);
+  blocks = c.seal-sealed.new.stream.runs;
   changes = record {
     disk = record { cause = search rules; later = search rules; honesty = search rules; size = search rules };
     crash = λ honest.

@@ -1,15 +1,13 @@
 use Rattle.intake.proofs.NameLemmas.{taken_still}
 use Rattle.std.proofs.Common.{rules, ◌≡◌, ◌∙◌, ◌≤◌, ap, sym, refl, subst, arith, List, ℕ, Some, Err, Vec, Global}
-use Rattle.std.specs.Prelude.{option_map}
 use Rattle.journal_layout.specs.Case.{case_of}
 use Rattle.journal_layout.specs.declared.shape.Shape.{Shape}
 use Rattle.intake.specs.Blocks.{image_in}
 use Rattle.intake.specs.Contents.{UnmovedBytes}
-use Rattle.intake.specs.Parts.{Parts, state_of, case_facts, contents_of}
+use Rattle.intake.specs.Parts.{Parts, state_of, contents_of}
 use Rattle.intake.specs.Reading.{LiesIn}
 use Rattle.intake.specs.Sound.{case_blocks}
 use Rattle.intake.specs.Step.{ImageStep}
-use Rattle.intake.proofs.AfterLemmas.{case_facts_at}
 use Rattle.intake.proofs.ImageLemmas.{case_lies, read_moments, sound_read, sound_unread, has_case, image_refused, bytes_same, bytes_refused, bytes_of_case, long_as}
 use Rattle.intake.proofs.archive.Archive.image.Goals as goal
 
@@ -40,7 +38,7 @@ invariant_of-self-in-Err g c =
 
 pub returns-in_default : goal.returns-in_default
 returns-in_default g c = record {
-  step = rw (← c.self.view_is) (c.if-self.false, case_facts_at c.args.seq c.self.inside.journal.standing.cases ∙ ap (option_map case_facts) (sym c.in_default.ensures), refl);
+  step = rw (← c.self.view_is) (c.if-self.false, (sym c.in_default.ensures), refl);
   bytes = search rules;
   cause = search rules;
   long = search rules;
@@ -52,7 +50,7 @@ returns-in_default g c = record {
 pub returns-in-Ok : goal.returns-in-Ok
 returns-in-Ok g c = record {
   step = rw (← c.self.view_is) (
-    case_facts (case_of c.in-Some.stored.now),
+    (case_of c.in-Some.stored.now),
     has_case g.D.Disk.seen c.self.inside.disk c.read_image.new.disk c.self.inside.journal c.self.inside.settings.limit c.self.inside.slots c.self.inside.slots c.self.inside.stopped c.self.inside.stopped
         c.args.seq (case_of c.in-Some.stored.now) c.if-self.false c.in-Some.ensures,
     refl,
@@ -69,7 +67,7 @@ returns-in-Ok g c = record {
             (c.read_image.ensures.quiet.seen real) refl,
       );
   cause = search rules;
-  long = rw (← c.self.view_is) (λ x at. long_as (state_of (record { disk = c.self.inside.disk; journal = c.self.inside.journal; limit = c.self.inside.settings.limit; streams = c.self.inside.slots; stopped = c.self.inside.stopped })) c.args.seq _ (case_facts (case_of c.in-Some.stored.now)) x
+  long = rw (← c.self.view_is) (λ x at. long_as (state_of (record { disk = c.self.inside.disk; journal = c.self.inside.journal; limit = c.self.inside.settings.limit; streams = c.self.inside.slots; stopped = c.self.inside.stopped })) c.args.seq _ (case_of c.in-Some.stored.now) x
       (has_case g.D.Disk.seen c.self.inside.disk c.read_image.new.disk c.self.inside.journal c.self.inside.settings.limit c.self.inside.slots c.self.inside.slots c.self.inside.stopped c.self.inside.stopped
       c.args.seq (case_of c.in-Some.stored.now) c.if-self.false c.in-Some.ensures) c.in-Ok.ensures.long at);
   quiet = search rules;

@@ -1,17 +1,16 @@
-use Rattle.std.proofs.Common.{rules, ◌≡◌, ◌∙◌, ◌≤◌, ap, sym, refl, subst, arith, length, List, Some, Err}
-use Rattle.std.specs.Prelude.{option_map}
+use Rattle.std.proofs.Common.{rules, ◌≡◌, ◌∙◌, ◌≤◌, sym, refl, subst, arith, length, List, Some, Err}
 use Rattle.disk_model.specs.Places.{part}
 use Rattle.extents.specs.Runs.{blocks_of}
 use Rattle.extents.specs.declared.run_list.Run.{Run}
+use Rattle.journal_layout.specs.Soundness.{case_numbered}
 use Rattle.journal_layout.specs.Case.{case_of}
 use Rattle.journal_layout.specs.declared.shape.Shape.{Shape}
 use Rattle.intake.specs.Blocks.{image_in, joined}
 use Rattle.intake.specs.Contents.{UnmovedBytes}
-use Rattle.intake.specs.Parts.{Parts, state_of, case_facts, contents_of}
+use Rattle.intake.specs.Parts.{Parts, state_of, contents_of}
 use Rattle.intake.specs.Reading.{LieWithin}
 use Rattle.intake.specs.Sound.{case_blocks}
-use Rattle.intake.specs.Step.{ImageStep, case_at}
-use Rattle.intake.proofs.AfterLemmas.{case_facts_at}
+use Rattle.intake.specs.Step.{ImageStep}
 use Rattle.intake.proofs.ImageLemmas.{case_lies, read_moments, sound_read, sound_unread, has_case, image_refused, bytes_same, bytes_refused, bytes_of_case, long_as}
 use Rattle.intake.proofs.NameLemmas.{taken_still}
 use Rattle.intake.proofs.PartLemmas.{only_disk, not_memory, disk_spares, room_for, part_in_image, image_long}
@@ -19,7 +18,7 @@ use Rattle.intake.proofs.archive.Archive.image_part.Goals as goal
 
 pub returns-in_default : goal.returns-in_default
 returns-in_default g c = record {
-  step = rw (← c.self.view_is) (c.if-self.false, case_facts_at c.args.seq c.self.inside.journal.standing.cases ∙ ap (option_map case_facts) (sym c.in_default.ensures), refl);
+  step = rw (← c.self.view_is) (c.if-self.false, (sym c.in_default.ensures), refl);
   bytes = search rules;
   count = refl;
   never = search rules;
@@ -42,7 +41,7 @@ read_part-requires-clause-room g c =
     let running = c.self.invariant.sound.runs c.if-self.false in
     let all : case_blocks c.self.inside.journal.standing.cases ≤ c.self.inside.journal.standing.shape.data_blocks = (let t = running.total in omega (arith, t)) in
     let lies = case_lies c.self.inside.journal.standing.shape.data_blocks c.self.inside.journal.standing.cases c.self.inside.journal.standing.next c.args.seq (case_of c.in-Some.stored.now) running.cases all c.in-Some.ensures in
-    let fits = c.requires (case_facts (case_of c.in-Some.stored.now)) (subst (λ (a : Parts g.row.D.Denot). case_at c.args.seq (state_of a).cases ≡ Some (case_facts (case_of c.in-Some.stored.now))) c.self.view_is (has_case g.D.Disk.seen c.self.inside.disk c.self.inside.disk c.self.inside.journal c.self.inside.settings.limit c.self.inside.slots c.self.inside.slots c.self.inside.stopped c.self.inside.stopped c.args.seq (case_of c.in-Some.stored.now) c.if-self.false c.in-Some.ensures).1) in
+    let fits = c.requires (case_of c.in-Some.stored.now) (subst (λ (a : Parts g.row.D.Denot). case_numbered c.args.seq (state_of a).cases ≡ Some (case_of c.in-Some.stored.now)) c.self.view_is (has_case g.D.Disk.seen c.self.inside.disk c.self.inside.disk c.self.inside.journal c.self.inside.settings.limit c.self.inside.slots c.self.inside.slots c.self.inside.stopped c.self.inside.stopped c.args.seq (case_of c.in-Some.stored.now) c.if-self.false c.in-Some.ensures).1) in
     room_for c.self.inside.journal.standing.shape.data_blocks c.args.at (length c.args.into.now) c.in-Some.stored.now.length c.runs.result.now c.in-Some.stored.now.runs c.runs.ensures.shortest lies fits
 
 pub invariant_of-self : goal.invariant_of-self
@@ -68,9 +67,9 @@ returns-in-Ok g c =
     let running = c.self.invariant.sound.runs c.if-self.false in
     let all : case_blocks c.self.inside.journal.standing.cases ≤ c.self.inside.journal.standing.shape.data_blocks = (let t = running.total in omega (arith, t)) in
     let lies = case_lies c.self.inside.journal.standing.shape.data_blocks c.self.inside.journal.standing.cases c.self.inside.journal.standing.next c.args.seq (case_of c.in-Some.stored.now) running.cases all c.in-Some.ensures in
-    let fits = c.requires (case_facts (case_of c.in-Some.stored.now)) (subst (λ (a : Parts g.row.D.Denot). case_at c.args.seq (state_of a).cases ≡ Some (case_facts (case_of c.in-Some.stored.now))) c.self.view_is (has_case g.D.Disk.seen c.self.inside.disk c.self.inside.disk c.self.inside.journal c.self.inside.settings.limit c.self.inside.slots c.self.inside.slots c.self.inside.stopped c.self.inside.stopped c.args.seq (case_of c.in-Some.stored.now) c.if-self.false c.in-Some.ensures).1) in
+    let fits = c.requires (case_of c.in-Some.stored.now) (subst (λ (a : Parts g.row.D.Denot). case_numbered c.args.seq (state_of a).cases ≡ Some (case_of c.in-Some.stored.now)) c.self.view_is (has_case g.D.Disk.seen c.self.inside.disk c.self.inside.disk c.self.inside.journal c.self.inside.settings.limit c.self.inside.slots c.self.inside.slots c.self.inside.stopped c.self.inside.stopped c.args.seq (case_of c.in-Some.stored.now) c.if-self.false c.in-Some.ensures).1) in
     record {
-      step = rw (← c.self.view_is) (case_facts (case_of c.in-Some.stored.now), has_case g.D.Disk.seen c.self.inside.disk c.read_part.new.disk c.self.inside.journal c.self.inside.settings.limit c.self.inside.slots c.self.inside.slots c.self.inside.stopped c.self.inside.stopped c.args.seq (case_of c.in-Some.stored.now) c.if-self.false c.in-Some.ensures, refl);
+      step = rw (← c.self.view_is) ((case_of c.in-Some.stored.now), has_case g.D.Disk.seen c.self.inside.disk c.read_part.new.disk c.self.inside.journal c.self.inside.settings.limit c.self.inside.slots c.self.inside.slots c.self.inside.stopped c.self.inside.stopped c.args.seq (case_of c.in-Some.stored.now) c.if-self.false c.in-Some.ensures, refl);
       bytes = λ honest.
           let real = rw (← c.self.view_is) at honest in
           let whole = g.met.D.Disk.whole c.self.inside.disk real ∙ running.keeps.keeps.size in
@@ -81,7 +80,7 @@ returns-in-Ok g c =
             bytes_of_case g.D.Disk.seen c.self.inside.disk c.read_part.new.disk c.self.inside.journal c.self.inside.settings.limit c.self.inside.slots c.self.inside.slots c.self.inside.stopped c.self.inside.stopped
                 c.args.seq (case_of c.in-Some.stored.now) c.in-Some.ensures,
             read ∙ part_in_image c.self.inside.journal.standing.shape (g.D.Disk.seen c.self.inside.disk) c.args.at (length c.args.into.now) c.in-Some.stored.now.length c.runs.result.now c.in-Some.stored.now.runs c.runs.ensures.shortest fits,
-            λ x at. long_as (state_of (record { disk = c.self.inside.disk; journal = c.self.inside.journal; limit = c.self.inside.settings.limit; streams = c.self.inside.slots; stopped = c.self.inside.stopped })) c.args.seq _ (case_facts (case_of c.in-Some.stored.now)) x
+            λ x at. long_as (state_of (record { disk = c.self.inside.disk; journal = c.self.inside.journal; limit = c.self.inside.settings.limit; streams = c.self.inside.slots; stopped = c.self.inside.stopped })) c.args.seq _ (case_of c.in-Some.stored.now) x
                 (has_case g.D.Disk.seen c.self.inside.disk c.read_part.new.disk c.self.inside.journal c.self.inside.settings.limit c.self.inside.slots c.self.inside.slots c.self.inside.stopped c.self.inside.stopped c.args.seq (case_of c.in-Some.stored.now) c.if-self.false c.in-Some.ensures)
                 (image_long c.self.inside.journal.standing.shape (g.D.Disk.seen c.self.inside.disk) c.in-Some.stored.now.runs c.in-Some.stored.now.length whole lies) at,
             bytes_same g.D.Disk.seen c.self.inside.disk c.read_part.new.disk c.self.inside.journal c.self.inside.settings.limit c.self.inside.slots c.self.inside.slots c.self.inside.stopped c.self.inside.stopped

@@ -1,21 +1,18 @@
-use Rattle.std.proofs.Common.{◌∙◌, ◌≤◌, ap, sym, subst, arith, List}
-use Rattle.std.specs.Prelude.{option_map}
+use Rattle.std.proofs.Common.{◌≤◌, sym, subst, arith, List}
 use Rattle.std.proofs.lemmas.Result.{err_from_is_err_and}
 use Rattle.extents.specs.Runs.{runs_of}
 use Rattle.extents.specs.declared.run_list.Run.{Run}
 use Rattle.journal_layout.specs.Case.{case_of}
 use Rattle.journal_layout.specs.declared.shape.Shape.{Shape}
-use Rattle.intake.specs.Parts.{case_facts}
 use Rattle.intake.specs.Ranges.{CoversRuns}
 use Rattle.intake.specs.Reading.{LieWithin}
 use Rattle.intake.specs.Sound.{case_blocks}
-use Rattle.intake.proofs.AfterLemmas.{case_facts_at}
 use Rattle.intake.proofs.ImageLemmas.{case_lies, has_case}
 use Rattle.intake.proofs.RangeLemmas.{located}
 use Rattle.intake.proofs.archive.Archive.image_ranges.Goals as goal
 
 pub returns-in_default : goal.returns-in_default
-returns-in_default g c = rw (← c.self.view_is) (c.if-self.false, case_facts_at c.args.seq c.self.inside.journal.standing.cases ∙ ap (option_map case_facts) (sym c.in_default.ensures))
+returns-in_default g c = rw (← c.self.view_is) (c.if-self.false, (sym c.in_default.ensures))
 
 pub ranges_of-requires-clause-within : goal.ranges_of-requires-clause-within
 ranges_of-requires-clause-within g c =
@@ -29,7 +26,7 @@ pub returns-in_err-ranges : goal.returns-in_err-ranges
 returns-in_err-ranges g c =
     let p = err_from_is_err_and c.from_residual.result c.from_residual.ensures.1 in
     rw (p.1, p.2) (
-      case_facts (case_of c.in-Some.stored.now),
+      (case_of c.in-Some.stored.now),
       rw (← c.self.view_is) (has_case g.D.Disk.seen c.self.inside.disk c.self.inside.disk c.self.inside.journal c.self.inside.settings.limit c.self.inside.slots c.self.inside.slots c.self.inside.stopped c.self.inside.stopped
           c.args.seq (case_of c.in-Some.stored.now) c.if-self.false c.in-Some.ensures),
     )

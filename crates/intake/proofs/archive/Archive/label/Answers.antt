@@ -4,17 +4,16 @@ use Rattle.intake.specs.Names.{AreTaken}
 use Rattle.case_journal.specs.Journaled.{Journaled}
 use Rattle.intake.proofs.DropLemmas.{still_cases}
 use Rattle.intake.proofs.NameLemmas.{names_labelled, taken_still}
-use Rattle.std.proofs.Common.{rules, arith, ◌≡◌, ◌∙◌, refl, ap, sym, subst, Ok, Err}
-use Rattle.std.specs.Prelude.{option_map}
+use Rattle.std.proofs.Common.{rules, arith, ◌≡◌, ◌∙◌, refl, sym, subst, Ok, Err}
 use Rattle.intake.specs.Contents.{UnmovedBytes}
 use Rattle.intake.specs.Ending.{EndsStreams}
 use Rattle.intake.specs.Faults.{fault_of}
-use Rattle.intake.specs.Parts.{Parts, state_of, case_facts, contents_of}
+use Rattle.intake.specs.Parts.{Parts, state_of, contents_of}
 use Rattle.intake.specs.Step.{LabelStep}
 use Rattle.intake.specs.declared.faults.ArchiveFault.{ArchiveFault}
 use Rattle.journal_layout.specs.Case.{case_of}
 use Rattle.journal_layout.specs.Record.{Label}
-use Rattle.intake.proofs.AfterLemmas.{case_facts_at, sound_refusal, refusal_bytes}
+use Rattle.intake.proofs.AfterLemmas.{sound_refusal, refusal_bytes}
 use Rattle.intake.proofs.LabelLemmas.{labels_same, labels_differ, two_is, label_append, label_differs, label_may, label_old, label_same, label_ok, label_err, label_sound_after, label_bytes}
 use Rattle.intake.specs.Durable.{durable_in, labelled}
 use Rattle.intake.proofs.CrashLemmas.{record_ok, record_err}
@@ -66,7 +65,7 @@ returns-then-self g c = record {
 
 pub returns-in_default : goal.returns-in_default
 returns-in_default g c = record {
-  step = rw (← c.self.view_is) (c.if-self.false, case_facts_at c.args.seq c.self.inside.journal.standing.cases ∙ ap (option_map case_facts) (sym c.in_default.ensures), refl);
+  step = rw (← c.self.view_is) (c.if-self.false, (sym c.in_default.ensures), refl);
   bytes = search rules;
   changes = changes_none g.D.Disk (Unit {0}) c.self.inside.disk c.self.inside.journal c.self.inside.settings.limit c.self.inside.free c.self.inside.slots c.self.inside.stopped _ _ _ c.self.invariant.sound c.self.view_is (λ fault. cc);
   superblock = same_superblock g.D.Disk _ _ (search rules);

@@ -4,18 +4,17 @@ use Rattle.intake.specs.Names.{AreTaken}
 use Rattle.case_journal.specs.Journaled.{Journaled}
 use Rattle.intake.proofs.DropLemmas.{still_cases}
 use Rattle.intake.proofs.NameLemmas.{names_pinned, taken_still}
-use Rattle.std.proofs.Common.{rules, ◌≡◌, ◌∙◌, refl, ap, sym, subst, Err}
-use Rattle.std.specs.Prelude.{option_map}
+use Rattle.std.proofs.Common.{rules, ◌≡◌, refl, sym, subst, Err}
 use Rattle.intake.specs.Contents.{UnmovedBytes}
 use Rattle.intake.specs.Ending.{EndsStreams}
 use Rattle.intake.specs.Faults.{fault_of}
-use Rattle.intake.specs.Parts.{Parts, state_of, case_facts, contents_of}
+use Rattle.intake.specs.Parts.{Parts, state_of, contents_of}
 use Rattle.intake.specs.Step.{PinStep}
 use Rattle.intake.specs.declared.faults.ArchiveFault.{ArchiveFault}
 use Rattle.case_journal.specs.declared.faults.JournalFault.TheVariants as journal_fault
 use Rattle.journal_layout.specs.Case.{case_of}
 use Rattle.journal_layout.specs.Record.{Pin}
-use Rattle.intake.proofs.AfterLemmas.{case_facts_at, flags_differ, flags_same, sound_refusal, refusal_bytes}
+use Rattle.intake.proofs.AfterLemmas.{flags_differ, flags_same, sound_refusal, refusal_bytes}
 use Rattle.intake.proofs.PinLemmas.{pin_behind, pin_same, pin_ok, pin_err, pin_sound_after, pin_bytes}
 use Rattle.intake.specs.Durable.{durable_in, flagged}
 use Rattle.intake.proofs.CrashLemmas.{record_ok, record_err}
@@ -63,7 +62,7 @@ returns-then-self g c = record {
 
 pub returns-in_default : goal.returns-in_default
 returns-in_default g c = record {
-  step = rw (← c.self.view_is) (c.if-self.false, case_facts_at c.args.seq c.self.inside.journal.standing.cases ∙ ap (option_map case_facts) (sym c.in_default.ensures), refl);
+  step = rw (← c.self.view_is) (c.if-self.false, (sym c.in_default.ensures), refl);
   bytes = search rules;
   changes = changes_none g.D.Disk (Unit {0}) c.self.inside.disk c.self.inside.journal c.self.inside.settings.limit c.self.inside.free c.self.inside.slots c.self.inside.stopped _ _ _ c.self.invariant.sound c.self.view_is (λ fault. cc);
   never = λ e. absurd (cc);
