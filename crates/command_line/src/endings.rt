@@ -1,5 +1,5 @@
 // Why the program ends with a status other than 0, and how it says so.
-ghost use Rattle.std.specs.Prelude.{◌≡◌, ◌≢◌, ◌≤◌};
+ghost use Rattle.std.specs.Prelude.{◌≡◌, ◌≤◌};
 
 use archive_files::{Failure, Refusal, tell_failure};
 use clap::error::ErrorKind;
@@ -66,7 +66,7 @@ fn tell_words<O: Output, E: Output>(
     errors: &mut E,
 ) -> u8
     ensures most { result ≤ 2 }
-    ensures quiet { result ≢ 2 → errors.new ≡ errors.old }
+    ensures quiet { result ≡ 0 → errors.new ≡ errors.old }
 {
     let Ok(text) = format!(in alloc; "{error}") else {
         return tell_failure(
