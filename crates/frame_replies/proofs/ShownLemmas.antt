@@ -16,7 +16,7 @@ use Rattle.frame_replies.specs.FrameRegisters.{frame_answer, one_frame_answer, r
 use Rattle.frame_replies.specs.Processes.{of_thread, process_in, state_of}
 use Rattle.frame_replies.specs.Shown.{IsShown}
 
--- the frames that unwind finds are a first one and those behind it
+-- the frames that unwind finds are a first one and those after it
 abbrev pub Found : Type 0
 Found = (p : ProcessView) (desc : List ℕ) → (behind : List Frame) × (unwound p desc ≡ first_frame desc ∷ behind) × IsUnwoundFrom p most (first_frame desc) behind (stop_of p desc)
 

@@ -21,7 +21,7 @@ abbrev pub frame_where : Space → List ExecutableView → Frame → List ℕ
 frame_where space known f =
     if is_trampoline space f.pc then codes "signal" else where_words space.files known f.pc (looked_up f)
 
--- behind frame 0 stands what is known of the return address that its register holds
+-- after frame 0 comes what is known of the return address that its register holds
 abbrev pub return_words : ℕ → Frame → List ℕ
 return_words i f = if i == 0 then codes " ra " ++ known_words (known f.registers ra) else []
 

@@ -31,7 +31,7 @@ fn read_described<'a>(
     }))
 }
 
-/// Puts an executable behind the others, unless its headers have a fault. The error is that there is no memory.
+/// Puts an executable after the others, unless its headers have a fault. The error is that there is no memory.
 fn add<'a>(
     alloc: Global,
     list: &mut Vec<Described<'a>>,

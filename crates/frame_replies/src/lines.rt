@@ -54,7 +54,7 @@ fn tell_frame_where<O: Output>(
     }
 }
 
-/// Tells what is known of the return address register, behind frame 0.
+/// Tells what is known of the return address register, after frame 0.
 fn tell_return<O: Output>(reply: &mut Reply<'_, O>, index: u64, frame: &Frame)
     ensures { TellsText (telling O.Output reply.old reply.new) (spec.return_words index frame.now) }
 {
