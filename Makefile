@@ -1,7 +1,8 @@
 # corekeep: `make help` says what there is.
-.PHONY: help try run build check plant wrong-bodies fmt test install
+.PHONY: help try run build check plant wrong-bodies fmt test install deb
 
 PREFIX ?= /usr/local
+SYSCONFDIR ?=
 SOURCES := crates.txt $(shell find crates -path '*/out' -prune -o -type f \( -name '*.rt' -o -name '*.antt' \) -print)
 
 help:
@@ -13,7 +14,8 @@ help:
 	@echo 'make plant CRATE=name    tries wrong bodies on a copy of a crate'
 	@echo 'make wrong-bodies [CRATE=name]   tries those that are written down and left out of the gate'
 	@echo 'make fmt                 lays the sources out'
-	@echo 'make install [PREFIX=/usr/local]   installs the program, its manual page and completion for bash'
+	@echo 'make install [PREFIX=/usr/local] [SYSCONFDIR=/etc]   installs the program, manual page, completion, unit and samples'
+	@echo 'make deb                 builds the Debian package bin/corekeep_VERSION_amd64.deb'
 
 try:
 	@echo 'Building without proofs, a minute or two. Nothing of what runs here was proved.'
@@ -45,6 +47,7 @@ test:
 	./.ci/run
 
 install: bin/corekeep
-	install -D -m 755 bin/corekeep "$(DESTDIR)$(PREFIX)/bin/corekeep"
-	install -D -m 644 man/corekeep.1 "$(DESTDIR)$(PREFIX)/share/man/man1/corekeep.1"
-	install -D -m 644 completions/corekeep.bash "$(DESTDIR)$(PREFIX)/share/bash-completion/completions/corekeep"
+	@DESTDIR="$(DESTDIR)" PREFIX="$(PREFIX)" SYSCONFDIR="$(SYSCONFDIR)" scripts/install-files bin/corekeep
+
+deb: bin/corekeep
+	@scripts/make-deb bin/corekeep
