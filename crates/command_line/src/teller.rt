@@ -1,5 +1,5 @@
 // What becomes of a case that is stored, told to a log.
-use crate::examine::{Seen, look_at_case, trouble_of};
+use crate::examine::{Seen, look_at_case};
 use crate::log::{Level, Log};
 use crate::outcome_lines::{lost_line, outcome_of, stored_line};
 use archive_files::{ArchivePath, Collected, Failure, Held, StoreRequest, reason_of, store_file};
@@ -79,13 +79,12 @@ impl<'a> Teller<'a> {
         let Some(seq) = parse_case_number(number) else {
             return;
         };
-        let (seen, disk) = look_at_case(self.alloc, disk, seq);
+        let (seen, _) = look_at_case(self.alloc, disk, seq);
         let details = details_of(self.alloc, &seen);
         let line = stored_line(self.alloc, replies, number, details.text(), archive);
         self.tell(rt, Level::Info, line.text());
         if let Some(seen) = &seen {
-            let (trouble, _) = trouble_of(self.alloc, disk, seq, seen);
-            self.tell_trouble(rt, number, trouble.text());
+            self.tell_trouble(rt, number, seen.trouble(self.alloc).text());
         }
     }
 
