@@ -1,4 +1,8 @@
 // Archives, made, and taken from their files.
+ghost use Rattle.std.specs.Prelude.{◌+◌, ◌*◌, ◌≤◌, IfOk, OnErr};
+ghost use Rattle.case_journal.specs.Viewing.{OnlyReads};
+ghost use Rattle.failure_count.specs.Counts.{HasRisen};
+
 use crate::archive_path::ArchivePath;
 use crate::failures::{FileWord, Refusal};
 use crate::making::format_over;
@@ -109,7 +113,11 @@ fn settled(disk: FileDisk) -> Result<FileDisk, FileFault> {
 }
 
 // How many bytes the superblock and the journal take. 0 where there is no archive.
-fn front_of<D: Disk>(disk: &mut D) -> Result<u64, FileFault> {
+fn front_of<D: Disk>(disk: &mut D) -> Result<u64, FileFault>
+    ensures quiet { OnlyReads D.Disk disk.old disk.new }
+    ensures most { IfOk result (λ n. n ≤ 4096 * (1 + 2 * 4096)) }
+    ensures cause { OnErr result (HasRisen (D.failures disk.old) (D.failures disk.new)) }
+{
     let mut start = [0u8; 20];
     if disk.length() < BLOCK {
         return Ok(0);

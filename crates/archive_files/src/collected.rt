@@ -1,5 +1,5 @@
 // Text that is kept, and goes nowhere by itself.
-ghost use Rattle.std.specs.Prelude.{Some};
+ghost use Rattle.std.specs.Prelude.{◌≡◌, [], Some};
 
 use failure_count::after_failure;
 use script_streams::{Output, StreamFault};
@@ -13,7 +13,9 @@ pub struct Collected {
 }
 
 impl Collected {
-    pub fn new(alloc: Global) -> Collected {
+    pub fn new(alloc: Global) -> Collected
+        ensures { ⟦<Collected as Output>⟧.taken result ≡ Some [] }
+    {
         Collected {
             text: Vec::new(alloc),
             failures: 0,
@@ -21,7 +23,9 @@ impl Collected {
     }
 
     /// What it has taken.
-    pub fn text(&self) -> &[u8] {
+    pub fn text(&self) -> &[u8]
+        ensures { ⟦<Collected as Output>⟧.taken self.now ≡ Some result.now }
+    {
         &self.text
     }
 }

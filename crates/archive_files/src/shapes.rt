@@ -1,4 +1,6 @@
 // The shape of the archive on a disk, as its superblock has it.
+ghost use Rattle.case_journal.specs.Viewing.{OnlyReads};
+
 use disk_model::Disk;
 use journal_layout::Shape;
 
@@ -9,7 +11,9 @@ const BLOCK: u64 = 4096;
 const FRONT: usize = 24;
 
 /// The shape of an archive; none if there is no archive, or the disk failed.
-pub fn shape_on<D: Disk>(disk: &mut D) -> Option<Shape> {
+pub fn shape_on<D: Disk>(disk: &mut D) -> Option<Shape>
+    ensures quiet { OnlyReads D.Disk disk.old disk.new }
+{
     let mut front = [0; FRONT];
     if disk.length() < BLOCK {
         return None;
