@@ -3,3 +3,5 @@ pub mod OverDisks
 pub mod Making
 pub mod Holding
 pub mod Telling
+pub mod Looking
+pub mod Taken

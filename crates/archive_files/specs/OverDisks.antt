@@ -1,16 +1,11 @@
 -- What the program does over the archive on a disk, by the values that its words say.
-use Rattle.std.specs.Prelude.{◌≡◌, ◌⊎◌, ℕ, Bool, List, [], Option, None, Result, Ok, Err, Vec}
-use Rattle.std.specs.Global.{Global}
+use Rattle.std.specs.Prelude.{◌≡◌, ◌⊎◌, ℕ, Bool, List, [], Option, None, Result, Ok, Err}
 use Rattle.std.specs.Io.KnownBytes.{Keeps}
 use Rattle.disk_model.specs.declared.disk.Disk as disk
 use Rattle.inspector_cli.specs.Asking.{AsksAlone, as_session, line_streams}
-use Rattle.inspector_cli.specs.Copying.{CopiesImage}
-use Rattle.inspector_cli.specs.Extracting.{ReadsImage}
 use Rattle.inspector_cli.specs.Life.{LifeEnds, RunsOver, StoresOver}
 use Rattle.inspector_cli.specs.Session.{Streams}
 use Rattle.inspector_cli.specs.Storing.{label_asked}
-use Rattle.inspector_cli.specs.declared.copying.CopyFault.{CopyFault}
-use Rattle.inspector_cli.specs.declared.extract.ImageFault.{ImageFault}
 use Rattle.inspector_cli.specs.declared.session.LifeFault.{LifeFault}
 use Rattle.inspector_cli.specs.declared.session.StoreOutcome.{StoreOutcome}
 use Rattle.intake.specs.Calls.{OpenCall}
@@ -24,7 +19,7 @@ use Rattle.archive_files.specs.declared.failures.Failure.TheVariants.{Refused}
 use Rattle.archive_files.specs.declared.failures.Refusal.{Refusal}
 use Rattle.archive_files.specs.declared.failures.Refusal.TheVariants.{OutOfMemory, Open}
 use Rattle.archive_files.specs.declared.storing.StoreRequest.{StoreRequest}
-use Rattle.archive_files.specs.Told.{run_told, ask_told, store_told, copy_told, image_told}
+use Rattle.archive_files.specs.Told.{run_told, ask_told, store_told}
 
 -- A session over the archive on a disk, and how its end is told.
 abbrev pub RunsOnDisk : {D : Type 0} → disk.Ghosts D → ℕ → Naming → Streams → D → Result (Unit {0}) Failure → D → Type 0
@@ -61,7 +56,7 @@ StoresOnDisk g request t before r after =
     × LifeEnds g request.limit t before ended after (StoresOver g request.policy (stream_found request.found) (label_asked request.label) t)
     × (r ≡ store_told ended)
 
--- the same request, or without room
+-- the same request, or without its policy
 abbrev pub IsFitted : StoreRequest → StoreRequest → Type 0
 IsFitted request fitted = (fitted ≡ request) ⊎ (fitted ≡ record request { policy = None })
 
@@ -70,16 +65,6 @@ abbrev pub StoresFile : {D : Type 0} → disk.Ghosts D → StoreRequest → Opti
 StoresFile g request file taken taken' lost lost' before r after =
     IsNotBegun taken taken' lost lost' before r after
     ⊎ ((fitted : StoreRequest) × (t : Streams) × IsFitted request fitted × AreStreams file taken taken' lost lost' t × StoresOnDisk g fitted t before r after)
-
--- An image is copied out of the archive on a disk, and how that is told.
-abbrev pub CopiesOnDisk : {D : Type 0} → disk.Ghosts D → ℕ → Option (List ℕ) → Option (List ℕ) → ℕ → ℕ → D → Result (Unit {0}) Failure → D → Type 0
-CopiesOnDisk g seq taken taken' lost lost' before r after =
-    (copied : Result (Unit {0}) CopyFault) × CopiesImage g 0 seq before taken taken' lost lost' copied after × (r ≡ copy_told copied)
-
--- An image is read out of the archive on a disk, and how that is told.
-abbrev pub ReadsOnDisk : {D : Type 0} → disk.Ghosts D → ℕ → D → Result (Vec ℕ Global) Failure → D → Type 0
-ReadsOnDisk g seq before r after =
-    (read : Result (Vec ℕ Global) ImageFault) × ReadsImage g 0 seq before read after × (r ≡ image_told read)
 
 -- The archive on a disk is opened, and no more; or why it is not.
 abbrev pub LooksOnDisk : {D : Type 0} → disk.Ghosts D → ℕ → D → Result (Unit {0}) Refusal → D → Type 0

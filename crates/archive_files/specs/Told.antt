@@ -1,20 +1,13 @@
 -- How the end of what is done over a disk is told.
-use Rattle.std.specs.Prelude.{ℕ, Bool, true, false, ◌&&◌, Result, Ok, Err, is_some, if◌then◌else◌, Vec}
-use Rattle.std.specs.Global.{Global}
-use Rattle.inspector_cli.specs.declared.copying.CopyFault.{CopyFault}
-use Rattle.inspector_cli.specs.declared.copying.CopyFault.TheVariants as copy
-use Rattle.inspector_cli.specs.declared.extract.ImageFault.{ImageFault}
-use Rattle.inspector_cli.specs.declared.extract.ImageFault.TheVariants as image
+use Rattle.std.specs.Prelude.{ℕ, Bool, true, false, ◌&&◌, Result, Ok, Err, is_some, if◌then◌else◌}
 use Rattle.inspector_cli.specs.declared.session.LifeFault.{LifeFault}
 use Rattle.inspector_cli.specs.declared.session.LifeFault.TheVariants as life
-use Rattle.inspector_cli.specs.declared.session.SessionFault.TheVariants.{WriteFailed}
 use Rattle.inspector_cli.specs.declared.session.StoreOutcome.{StoreOutcome}
-use Rattle.intake.specs.declared.faults.ArchiveFault.TheVariants.{Disk}
 use Rattle.archive_files.specs.declared.archives.Access.{Access}
 use Rattle.archive_files.specs.declared.archives.Access.TheVariants.{Looking, Changing}
 use Rattle.archive_files.specs.declared.failures.Failure.{Failure}
-use Rattle.archive_files.specs.declared.failures.Failure.TheVariants.{Refused, Aside, Faulted, Told}
-use Rattle.archive_files.specs.declared.failures.Refusal.TheVariants.{Open, Call}
+use Rattle.archive_files.specs.declared.failures.Failure.TheVariants.{Refused, Faulted, Told}
+use Rattle.archive_files.specs.declared.failures.Refusal.TheVariants.{Open}
 
 -- how a fault of an opening, or of a session, is told
 abbrev pub life_failure : LifeFault → Failure
@@ -31,23 +24,10 @@ ask_told (Ok true) = Ok tt
 ask_told (Ok false) = Err Told
 ask_told (Err f) = Err (life_failure f)
 
--- what is told of a store: it is done where the case is stored, and neither its room nor its label was refused
+-- what is told of a store: it is done where the case is stored, and neither its policy nor its label was refused
 abbrev pub store_told : Result StoreOutcome LifeFault → Result (Unit {0}) Failure
-store_told (Ok outcome) = if outcome.made_room && is_some outcome.stored && outcome.labelled then Ok tt else Err Told
+store_told (Ok outcome) = if outcome.retired_first && is_some outcome.stored && outcome.labelled then Ok tt else Err Told
 store_told (Err f) = Err (life_failure f)
-
--- What is refused of an image goes to the errors, beside the image.
-abbrev pub copy_told : Result (Unit {0}) CopyFault → Result (Unit {0}) Failure
-copy_told (Ok u) = Ok tt
-copy_told (Err (copy.Open f)) = Err (Aside (Open f))
-copy_told (Err (copy.Archive f)) = Err (Aside (Call f))
-copy_told (Err copy.Disk) = Err (Aside (Call Disk))
-copy_told (Err copy.Output) = Err (Faulted WriteFailed)
-
-abbrev pub image_told : Result (Vec ℕ Global) ImageFault → Result (Vec ℕ Global) Failure
-image_told (Ok bytes) = Ok bytes
-image_told (Err (image.Open f)) = Err (Aside (Open f))
-image_told (Err (image.Archive f)) = Err (Aside (Call f))
 
 -- what is done to an archive by a line that only looks, and by any other
 abbrev pub access_by : Bool → Access

@@ -21,7 +21,7 @@ pub enum Access {
 }
 
 // How often a file is opened anew that is no longer the one of its path.
-const MOST_TRIES: u32 = 1_000_000;
+pub(crate) const MOST_TRIES: u32 = 1_000_000;
 
 // The bytes of a block, and the most blocks of a half of a journal.
 const BLOCK: u64 = 4096;
@@ -151,7 +151,7 @@ fn take_file<R: Files<File = File>>(
 }
 
 // Refuses a path that names neither a regular file nor a folder, which is refused once it is open.
-fn look_at_file<R: Files<File = File>>(rt: &R, path: &str) -> Result<(), FileFault> {
+pub(crate) fn look_at_file<R: Files<File = File>>(rt: &R, path: &str) -> Result<(), FileFault> {
     let named = fs::metadata(rt, path)?;
     if named.is_file() || named.is_dir() {
         Ok(())
@@ -189,7 +189,11 @@ fn names<R: Files<File = File>>(rt: &R, path: &str, file: &Metadata) -> bool {
     }
 }
 
-fn open_file<R: Files<File = File>>(rt: &R, path: &str, access: Access) -> Result<File, FileFault> {
+pub(crate) fn open_file<R: Files<File = File>>(
+    rt: &R,
+    path: &str,
+    access: Access,
+) -> Result<File, FileFault> {
     let mut options = File::options();
     options.read(true).write(access == Access::Changing);
     Ok(options.open(rt, path)?)

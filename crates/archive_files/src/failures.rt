@@ -7,7 +7,6 @@ ghost use Rattle.archive_files.specs.declared.failures.Refusal.{Refusal};
 ghost use Rattle.inspector_cli.specs.declared.session.SessionFault.{SessionFault};
 
 use crate::collected::Collected;
-use crate::outcomes::life_failure;
 use case_journal::FormatFault;
 use disk_model::FileFault;
 use inspector_cli::{MemoryFault, SessionFault, reason};
@@ -97,8 +96,7 @@ impl From<MemoryFault> for Failure {
         match fault {
             MemoryFault::BadShape => Failure::Refused(Refusal::BadShape),
             MemoryFault::OutOfMemory => Failure::Refused(Refusal::OutOfMemory),
-            MemoryFault::Disk => Failure::Refused(Refusal::Disk),
-            MemoryFault::Life(fault) => life_failure(fault),
+            MemoryFault::Session(fault) => Failure::Faulted(fault),
         }
     }
 }

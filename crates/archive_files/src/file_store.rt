@@ -1,13 +1,18 @@
 // A file as a case of an archive.
+ghost use Rattle.std.specs.Prelude.{◌≡◌};
+ghost use Rattle.archive_files.specs.OverDisks.{IsFitted};
+ghost use Rattle.archive_files.specs.Taken.{StoresTaken, RefusesTaken, refused_after};
+
 use crate::archive_path::ArchivePath;
 use crate::archives::{Access, take_disk};
 use crate::failures::{Failure, FileWord, Refusal};
 use crate::over_disk::look_over;
 use crate::storing::{StoreRequest, store_from};
-use disk_model::{FileDisk, FileFault};
+use disk_model::{Disk, FileDisk, FileFault};
 use script_streams::Output;
+use std::alloc::Global;
 use std::fs::File;
-use std::io::{Error, Read};
+use std::io::Read;
 use std::rt::Files;
 
 /// Stores a file, or the standard input, and hands the archive's disk on, if it was taken. The file is opened before the archive's
@@ -21,59 +26,79 @@ pub fn store_file<R: AllocGlobal + Files<File = File>, I: Read, O: Output>(
     input: &mut I,
     output: &mut O,
 ) -> (Result<(), Failure>, Option<FileDisk>) {
-    let opened = if file == "-" {
-        None
-    } else {
-        Some(File::open(rt, file))
-    };
-    let disk = match take_disk(rt, place, Access::Changing) {
-        Ok(disk) => disk,
-        Err(refusal) => return (Err(Failure::Refused(refusal)), None),
-    };
-    let (ended, disk) = match opened {
-        None => store_from(rt.alloc(), disk, request, input, output),
-        Some(Ok(file)) => store_opened(rt, disk, request, file, output),
-        Some(Err(error)) => refuse_file(rt, disk, request, error),
-    };
-    (ended, Some(disk))
+    if file == "-" {
+        let taken = take_disk(rt, place, Access::Changing);
+        return store_taken(rt.alloc(), taken, request, input, output);
+    }
+    let opened = File::open(rt, file);
+    let taken = take_disk(rt, place, Access::Changing);
+    match opened {
+        Ok(mut file) => {
+            let request = fitted_to(request, &file);
+            store_taken(rt.alloc(), taken, request, &mut file, output)
+        }
+        Err(error) => refuse_taken(rt.alloc(), taken, request.limit(), FileFault::from(error)),
+    }
 }
 
-// Stores a file that is open. No room is made for one that is too long.
-fn store_opened<R: AllocGlobal, O: Output>(
-    rt: &R,
-    disk: FileDisk,
+/// Stores what a reader gives in the archive on a disk, if that was taken, and hands the disk on; or tells why it was not.
+pub fn store_taken<D: Disk, I: Read, O: Output>(
+    alloc: Global,
+    taken: Result<D, Refusal>,
     request: StoreRequest,
-    file: File,
+    input: &mut I,
     output: &mut O,
-) -> (Result<(), Failure>, FileDisk) {
-    let mut file = file;
-    let request = if is_longer(&file, request.limit()) {
-        request.without_room()
+) -> (Result<(), Failure>, Option<D>)
+    ensures { StoresTaken D.Disk request (I.remaining input.old) (O.taken output.old) (O.taken output.new) (O.failures output.old) (O.failures output.new) taken result.0 result.1 }
+{
+    match taken {
+        Ok(disk) => {
+            let (ended, disk) = store_from(alloc, disk, request, input, output);
+            (ended, Some(disk))
+        }
+        Err(refusal) => (Err(Failure::Refused(refusal)), None),
+    }
+}
+
+/// Tells what is wrong with the archive on a disk that was taken, or why it was not; or else what is wrong with the file.
+pub fn refuse_taken<D: Disk>(
+    alloc: Global,
+    taken: Result<D, Refusal>,
+    limit: u64,
+    fault: FileFault,
+) -> (Result<(), Failure>, Option<D>)
+    ensures { RefusesTaken D.Disk limit fault taken result.0 result.1 }
+{
+    match taken {
+        Ok(disk) => {
+            let (looked, disk) = look_over(alloc, disk, limit);
+            (refused_after(looked, fault), Some(disk))
+        }
+        Err(refusal) => (Err(Failure::Refused(refusal)), None),
+    }
+}
+
+// What is told where a file is at fault, and this was found of its archive.
+fn refused_after(looked: Result<(), Refusal>, fault: FileFault) -> Result<(), Failure>
+    ensures { result ≡ refused_after looked fault }
+{
+    match looked {
+        Ok(()) => Err(Failure::Refused(Refusal::File(FileWord::File, fault))),
+        Err(refusal) => Err(Failure::Refused(refusal)),
+    }
+}
+
+// The request for a file. Nothing is retired for one that is known to be refused for its length.
+fn fitted_to(request: StoreRequest, file: &File) -> StoreRequest
+    ensures { IsFitted request result }
+{
+    let is_refused = match file.metadata() {
+        Ok(attributes) => attributes.is_file() && attributes.len() > request.limit(),
+        Err(_) => false,
+    };
+    if is_refused {
+        request.without_retiring()
     } else {
         request
-    };
-    store_from(rt.alloc(), disk, request, &mut file, output)
-}
-
-// Says what is wrong with the archive, or else with the file.
-fn refuse_file<R: AllocGlobal>(
-    rt: &R,
-    disk: FileDisk,
-    request: StoreRequest,
-    error: Error,
-) -> (Result<(), Failure>, FileDisk) {
-    let (looked, disk) = look_over(rt.alloc(), disk, request.limit());
-    let refusal = match looked {
-        Ok(()) => Refusal::File(FileWord::File, FileFault::from(error)),
-        Err(refusal) => refusal,
-    };
-    (Err(Failure::Refused(refusal)), disk)
-}
-
-// Whether a file is known to have more bytes than an image may.
-fn is_longer(file: &File, limit: u64) -> bool {
-    match file.metadata() {
-        Ok(attributes) => attributes.is_file() && attributes.len() > limit,
-        Err(_) => false,
     }
 }

@@ -2,16 +2,20 @@
 ghost use Rattle.std.specs.Prelude.{◌≡◌, ◌^◌, ◌-◌, option_map};
 ghost use Rattle.script_lines.specs.Commands.{question_said};
 ghost use Rattle.inspector_cli.specs.Session.{streams_of};
-ghost use Rattle.archive_files.specs.OverDisks.{RunsOnDisk, AnswersLine, CopiesOnDisk, ReadsOnDisk, LooksOnDisk};
+ghost use Rattle.shared_disk.specs.Looks.{shared_of};
+ghost use Rattle.unlocked_reading.specs.Copying.{CopiesUnlocked};
+ghost use Rattle.archive_files.specs.OverDisks.{RunsOnDisk, AnswersLine, LooksOnDisk};
 
 use crate::failures::{Failure, Refusal};
-use crate::outcomes::{ask_told, copy_told, image_told, run_told};
+use crate::outcomes::{ask_told, run_told};
 use disk_model::Disk;
-use inspector_cli::{Naming, Question, copy_image, open_and_ask, open_and_run, read_image};
+use inspector_cli::{Naming, Question, open_and_ask, open_and_run};
 use intake::{Archive, Settings};
 use script_streams::{Input, Output};
 use script_words::parse_case_number;
+use shared_disk::{Looked, SharedDisk};
 use std::alloc::Global;
+use unlocked_reading::{UnlockedFault, copy_unlocked};
 
 /// Opens the archive on a disk, runs a script over it, and hands the disk back.
 pub fn run_over<D: Disk, I: Input, O: Output>(
@@ -59,25 +63,16 @@ impl CaseNumber {
     }
 }
 
-/// Opens the archive on a disk, copies the image of a case to an output, and hands the disk back.
-pub fn copy_over<D: Disk, O: Output>(
+/// Copies the image of a case to an output, from a look at its archive on, while others may change the archive.
+pub fn copy_over<S: SharedDisk + Drop, O: Output>(
     alloc: Global,
-    disk: D,
+    looked: Looked<S>,
     case: CaseNumber,
     output: &mut O,
-) -> (Result<(), Failure>, D)
-    ensures { CopiesOnDisk D.Disk case.seq (O.taken output.old) (O.taken output.new) (O.failures output.old) (O.failures output.new) disk result.0 result.1 }
+) -> Result<(), UnlockedFault>
+    ensures { CopiesUnlocked S.SharedDisk (shared_of looked) case.seq (O.taken output.old) (O.taken output.new) result }
 {
-    let (copied, disk) = copy_image(alloc, disk, Settings { limit: 0 }, case.seq, output);
-    (copy_told(copied), disk)
-}
-
-/// Opens the archive on a disk, reads the image of a case, and hands the disk back.
-pub fn read_over<D: Disk>(alloc: Global, disk: D, case: CaseNumber) -> (Result<Vec<u8>, Failure>, D)
-    ensures { ReadsOnDisk D.Disk case.seq disk result.0 result.1 }
-{
-    let (read, disk) = read_image(alloc, disk, Settings { limit: 0 }, case.seq);
-    (image_told(read), disk)
+    copy_unlocked(alloc, looked, case.seq, output)
 }
 
 /// Opens the archive on a disk for the sake of what is wrong with it, and hands the disk back.

@@ -8,10 +8,11 @@ use crate::archive_path::ArchivePath;
 use crate::archives::{Access, take_disk};
 use crate::failures::{Failure, FileWord, Refusal};
 use crate::held::Held;
-use crate::over_disk::{CaseNumber, ask_over, copy_over, read_over};
+use crate::looking::{take_look, unlocked_told, was_there};
+use crate::over_disk::{CaseNumber, ask_over, copy_over};
 use crate::part_file::{begin, give_name, part_of};
 use disk_model::FileFault;
-use inspector_cli::{Question, SessionFault, write_image};
+use inspector_cli::{Question, SessionFault};
 use script_streams::{Output, WriteOutput};
 use std::fs;
 use std::fs::File;
@@ -30,39 +31,57 @@ pub fn extract<R: AllocGlobal + Files<File = File>, O: Output>(
         return Err(Failure::Aside(Refusal::BadLine));
     };
     match file {
-        None if output_is_file(rt) => copy_to(rt, place, case, output),
         None => extract_to(rt, place, case, output),
         Some(path) => extract_to_file(rt, place, case, path),
     }
 }
 
-// Whether standard output is a file, and no pipe, terminal or other device, behind which somebody may read slowly.
-fn output_is_file<R: Files<File = File>>(rt: &R) -> bool {
-    match fs::metadata(rt, "/dev/stdout") {
-        Ok(attributes) => attributes.is_file(),
-        Err(_) => false,
-    }
-}
-
-// The archive is let go before the first byte is written.
+// What is written is known to be the image once the case is found again: the status says so.
 fn extract_to<R: AllocGlobal + Files<File = File>, O: Output>(
     rt: &R,
     place: ArchivePath<'_>,
     case: CaseNumber,
     output: &mut O,
 ) -> Result<(), Failure> {
-    let taken = take_disk(rt, place, Access::Looking);
-    let disk = taken.map_err(|refusal| Failure::Aside(refusal))?;
-    let (read, disk) = read_over(rt.alloc(), disk, case);
-    drop(disk);
-    match write_image(output, &read?) {
+    copy_from(rt, place, case, output).map_err(|unfinished| unfinished.failure)
+}
+
+// A copy that did not come to its end.
+#[derive(Drop)]
+struct Unfinished {
+    failure: Failure,
+    // Whether the case is known to have been there all the time that it was read, or nothing was written.
+    is_front: bool,
+}
+
+// Copies the image of a case of the archive in a file.
+fn copy_from<R: AllocGlobal + Files<File = File>, O: Output>(
+    rt: &R,
+    place: ArchivePath<'_>,
+    case: CaseNumber,
+    output: &mut O,
+) -> Result<(), Unfinished> {
+    let looked = match take_look(rt, place) {
+        Ok(looked) => looked,
+        Err(refusal) => {
+            return Err(Unfinished {
+                failure: Failure::Aside(refusal),
+                is_front: true,
+            });
+        }
+    };
+    match copy_over(rt.alloc(), looked, case, output) {
         Ok(()) => Ok(()),
-        Err(_) => Err(Failure::Faulted(SessionFault::WriteFailed)),
+        Err(fault) => Err(Unfinished {
+            is_front: was_there(&fault),
+            failure: unlocked_told(fault),
+        }),
     }
 }
 
-// FILE has its name only once it is whole and synced. Until then it is called FILE.part. What was written stays there, whatever
-// failed after it; if nothing was written, it is removed.
+// FILE has its name only once it is whole and synced, and the case was found again. Until then it is called FILE.part. What was
+// written stays there, whatever failed after it. If nothing was written, or the case is not known to have been there all the time,
+// it is removed.
 fn extract_to_file<R: AllocGlobal + Files<File = File>>(
     rt: &R,
     place: ArchivePath<'_>,
@@ -72,7 +91,7 @@ fn extract_to_file<R: AllocGlobal + Files<File = File>>(
     let part = part_of(rt.alloc(), path).map_err(|_| Failure::Aside(Refusal::OutOfMemory))?;
     let file = begin(rt, path, &part).map_err(|fault| refused_file(fault))?;
     let mut output = WriteOutput::new(file);
-    let done = copy_to(rt, place, case, &mut output);
+    let done = copy_from(rt, place, case, &mut output);
     let why = output.fault();
     let file = output.into_inner();
     match done {
@@ -81,11 +100,11 @@ fn extract_to_file<R: AllocGlobal + Files<File = File>>(
                 .map_err(|error| Failure::Unwritten(error.kind()))?;
             give_name(rt, path, &part).map_err(|fault| refused_file(fault))
         }
-        Err(failure) => {
-            if is_empty(&file) {
+        Err(unfinished) => {
+            if is_empty(&file) || !unfinished.is_front {
                 let _ = fs::remove_file(rt, &part);
             }
-            Err(told_why(failure, why))
+            Err(told_why(unfinished.failure, why))
         }
     }
 }
@@ -101,19 +120,6 @@ fn told_why(failure: Failure, why: Option<ErrorKind>) -> Failure {
         (Failure::Faulted(SessionFault::WriteFailed), Some(kind)) => Failure::Unwritten(kind),
         (failure, _) => failure,
     }
-}
-
-// The archive is held until the last byte is written: the output is a file, which keeps nobody waiting.
-fn copy_to<R: AllocGlobal + Files<File = File>, O: Output>(
-    rt: &R,
-    place: ArchivePath<'_>,
-    case: CaseNumber,
-    output: &mut O,
-) -> Result<(), Failure> {
-    let taken = take_disk(rt, place, Access::Looking);
-    let disk = taken.map_err(|refusal| Failure::Aside(refusal))?;
-    let (copied, _) = copy_over(rt.alloc(), disk, case, output);
-    copied
 }
 
 // Whether a file is known to have no bytes.

@@ -25,7 +25,7 @@ const AHEAD: usize = 65_536;
 /// What a file is stored as.
 #[derive(Drop)]
 pub struct StoreWords {
-    /// By which room is made first, where that is asked for.
+    /// By which cases are retired first, where that is asked for.
     pub policy: Option<Policy>,
     /// The line of a script that begins the stream.
     pub begin: Vec<u8>,
@@ -33,10 +33,10 @@ pub struct StoreWords {
     pub label: Option<ArrayVec<u8, 64>>,
 }
 
-/// What is stored, and with what. Whoever holds it may leave the room out, and change nothing else.
+/// What is stored, and with what. Whoever holds it may leave the policy out, and change nothing else.
 #[derive(Drop)]
 pub struct StoreRequest {
-    // By which room is made first, if it is.
+    // By which cases are retired first, if there is one.
     policy: Option<Policy>,
     // The stream, or why there is none.
     found: Result<NewStream, &'static [u8]>,
@@ -94,8 +94,8 @@ impl StoreRequest {
         name
     }
 
-    /// No room is made for what can't be stored.
-    pub fn without_room(self) -> Self
+    /// Nothing is retired for what can't be stored.
+    pub fn without_retiring(self) -> Self
         ensures { result ≡ record self { policy = None } }
     {
         StoreRequest {
@@ -104,7 +104,7 @@ impl StoreRequest {
         }
     }
 
-    // No room is made where the first bytes of the file can't be read, or are more than an image may have.
+    // Nothing is retired where the first bytes of the file can't be read, or are more than an image may have.
     fn fitted<I: BufRead>(self, file: &mut I) -> Self
         ensures fitted { IsFitted self result }
         ensures same { Keeps (I.remaining file.old) (I.remaining file.new) }
@@ -112,7 +112,7 @@ impl StoreRequest {
         if self.policy.is_none() || begins_well(file, self.limit) {
             self
         } else {
-            self.without_room()
+            self.without_retiring()
         }
     }
 }
@@ -128,7 +128,7 @@ fn begins_well<I: BufRead>(input: &mut I, limit: u64) -> bool
 }
 
 /// Opens the archive on a disk, stores what a reader gives, and hands the disk back. The reader is read ahead: the archive takes
-/// its blocks one by one, and one call of the operating system gives many of them. Where room is to be made, the first bytes
+/// its blocks one by one, and one call of the operating system gives many of them. Where cases are to be retired, the first bytes
 /// are read before the archive is changed.
 pub fn store_from<D: Disk, I: Read, O: Output>(
     alloc: Global,
@@ -145,11 +145,11 @@ pub fn store_from<D: Disk, I: Read, O: Output>(
     let mut ahead = ahead;
     let request = request.fitted(&mut ahead);
     let mut file = ReadInput::new(ahead);
-    store_with_room(alloc, disk, request, &mut file, output)
+    store_retiring_first(alloc, disk, request, &mut file, output)
 }
 
 // Opens the archive on a disk, stores a stream in it, and hands the disk back.
-fn store_with_room<D: Disk, I: Input, O: Output>(
+fn store_retiring_first<D: Disk, I: Input, O: Output>(
     alloc: Global,
     disk: D,
     request: StoreRequest,

@@ -18,10 +18,10 @@ use Rattle.journal_snapshot.specs.Writing.{written_case, written_added}
 use Rattle.case_journal.specs.declared.faults.JournalFault.{JournalFault}
 use Rattle.case_journal.specs.declared.faults.JournalFault.TheVariants.{Stopped, JournalFull, NumbersSpent, OutOfMemory, Disk, OldVersion}
 use Rattle.case_journal.specs.Journaled.{Journaled}
-use Rattle.case_journal.specs.Append.{HasRoom, StoreRefused}
-use Rattle.case_journal.specs.Compacting.{FindsRoom, noted}
+use Rattle.case_journal.specs.Append.{RecordFits, StoreRefused}
+use Rattle.case_journal.specs.Compacting.{MeasuresSnapshot, noted}
 use Rattle.case_journal.specs.Entering.{PutStep}
-use Rattle.case_journal.specs.Putting.{HasRoomFor}
+use Rattle.case_journal.specs.Putting.{DecidesFit}
 
 -- The room of a case, whose number takes no part in it.
 module _ (s : Standing) (es : List Entry) (b : Bor Entry) (same : s.cases ≡ map case_of es) (none : b.now.label.items ≡ []) where
@@ -39,30 +39,30 @@ module _ (s : Standing) (es : List Entry) (b : Bor Entry) (same : s.cases ≡ ma
       let alike : snapshot_bytes (change.Store 0 b) es ≡ snapshot_bytes (change.Store s.next b) es = omega (arith, long 0, long s.next) in
       alike ∙ snapshot_bytes_are (change.Store s.next b) es (folded_of s) same
 
-  pub room_lacking : (size : ℕ) (f : JournalFault) → size ≡ record_size stored → nat_lt (s.used + size) (half_length s.shape) ≡ false → FindsRoom s.shape s.generation (change.Store 0 b) es (Err f) → HasRoomFor s stored (Err f)
-  room_lacking size JournalFull is unfit found =
+  pub overflow_found : (size : ℕ) (f : JournalFault) → size ≡ record_size stored → nat_lt (s.used + size) (half_length s.shape) ≡ false → MeasuresSnapshot s.shape s.generation (change.Store 0 b) es (Err f) → DecidesFit s stored (Err f)
+  overflow_found size JournalFull is unfit found =
       let low = ltb-false (s.used + size) (half_length s.shape) unfit in
       (omega (arith, low, is), ⊎_elim (λ short. inl (omega (arith, short, size_is))) (λ last. inr last) found)
-  room_lacking size Stopped is unfit found = absurd found
-  room_lacking size NumbersSpent is unfit found = absurd found
-  room_lacking size OutOfMemory is unfit found = absurd found
-  room_lacking size Disk is unfit found = absurd found
-  room_lacking size OldVersion is unfit found = absurd found
+  overflow_found size Stopped is unfit found = absurd found
+  overflow_found size NumbersSpent is unfit found = absurd found
+  overflow_found size OutOfMemory is unfit found = absurd found
+  overflow_found size Disk is unfit found = absurd found
+  overflow_found size OldVersion is unfit found = absurd found
 
-  pub room_beside_is : (m : Measure) → FindsRoom s.shape s.generation (change.Store 0 b) es (Ok m) → HasRoom s stored
-  room_beside_is m found = inr (omega (arith, found.0.0, found.0.1, size_is), found.1)
+  pub measure_snapshot_is : (m : Measure) → MeasuresSnapshot s.shape s.generation (change.Store 0 b) es (Ok m) → RecordFits s stored
+  measure_snapshot_is m found = inr (omega (arith, found.0.0, found.0.1, size_is), found.1)
 
-pub room_behind_is : (s : Standing) (r : Record) (size : ℕ) → size ≡ record_size r → nat_lt (s.used + size) (half_length s.shape) ≡ true → HasRoom s r
-room_behind_is s r size is fit = let low = ltb-true (s.used + size) (half_length s.shape) fit in inl (omega (arith, low, is))
+pub fits_after_records_is : (s : Standing) (r : Record) (size : ℕ) → size ≡ record_size r → nat_lt (s.used + size) (half_length s.shape) ≡ true → RecordFits s r
+fits_after_records_is s r size is fit = let low = ltb-true (s.used + size) (half_length s.shape) fit in inl (omega (arith, low, is))
 
 -- no room is found
-pub store_refused : (j : Journaled) (c : Case) (f : JournalFault) → j.stopped ≡ false → HasRoomFor j.standing (store_of j.standing c) (Err f) → StoreRefused j c f j
-store_refused j c JournalFull runs room = (runs, room, refl)
-store_refused j c Stopped runs room = absurd room
-store_refused j c NumbersSpent runs room = absurd room
-store_refused j c OutOfMemory runs room = absurd room
-store_refused j c Disk runs room = absurd room
-store_refused j c OldVersion runs room = absurd room
+pub store_refused : (j : Journaled) (c : Case) (f : JournalFault) → j.stopped ≡ false → DecidesFit j.standing (store_of j.standing c) (Err f) → StoreRefused j c f j
+store_refused j c JournalFull runs in_half = (runs, in_half, refl)
+store_refused j c Stopped runs in_half = absurd in_half
+store_refused j c NumbersSpent runs in_half = absurd in_half
+store_refused j c OutOfMemory runs in_half = absurd in_half
+store_refused j c Disk runs in_half = absurd in_half
+store_refused j c OldVersion runs in_half = absurd in_half
 
 -- the record is not written
 pub put_refused : (j : Journaled) (c : Case) (seq : ℕ) (f : JournalFault) → j.stopped ≡ false → j.standing.next < 2 ^ 32 → seq ≡ j.standing.next → PutStep j.standing (Store (numbered seq c)) (Err f)

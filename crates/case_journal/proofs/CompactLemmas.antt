@@ -28,9 +28,9 @@ use Rattle.journal_snapshot.specs.FillLaws.{fills_wider}
 use Rattle.journal_snapshot.specs.HalfLaws.{header_length}
 use Rattle.journal_snapshot.specs.Measuring.{AreShort, IsMeasure, snapshot_bytes}
 use Rattle.journal_snapshot.specs.Halves.{IsWrittenAs}
-use Rattle.case_journal.specs.declared.compacting.Place.{Place}
+use Rattle.case_journal.specs.declared.compacting.JournalEnd.{JournalEnd}
 use Rattle.case_journal.specs.Journaled.{Journaled}
-use Rattle.case_journal.specs.Compacting.{HasSnapshotRoom, BesideStep, FindsRoom, IsWriteAnswer}
+use Rattle.case_journal.specs.Compacting.{SnapshotFits, SnapshotStep, MeasuresSnapshot, IsWriteAnswer}
 use Rattle.case_journal.specs.declared.faults.JournalFault.{JournalFault}
 use Rattle.case_journal.specs.declared.faults.JournalFault.TheVariants.{Stopped, JournalFull, NumbersSpent, OutOfMemory, Disk, OldVersion}
 
@@ -56,7 +56,7 @@ written_as s ch es target m same place version generation next measure left know
     live = live;
     labels = labels;
     known = ap is_known (sym version) ∙ known;
-    room = omega (arith, measure.0, measure.1, snapshot_bytes_are ch es (folded_of s) same);
+    in_half = omega (arith, measure.0, measure.1, snapshot_bytes_are ch es (folded_of s) same);
     generation = left;
   };
 }
@@ -66,35 +66,35 @@ module _ (s : Standing) (ch : Change) (es : List Entry) (same : s.cases ≡ map 
   abbrev f : Folded
   f = changed ch (folded_of s)
 
-  size_is : (m : Measure) → FindsRoom s.shape s.generation ch es (Ok m) → m.used ≡ snapshot_size f
+  size_is : (m : Measure) → MeasuresSnapshot s.shape s.generation ch es (Ok m) → m.used ≡ snapshot_size f
   size_is m found = found.0.0 ∙ snapshot_bytes_are ch es (folded_of s) same
 
-  has_room : (m : Measure) → FindsRoom s.shape s.generation ch es (Ok m) → HasSnapshotRoom s f
-  has_room m found = (omega (arith, size_is m found, found.0.1), found.1)
+  fits_after : (m : Measure) → MeasuresSnapshot s.shape s.generation ch es (Ok m) → SnapshotFits s f
+  fits_after m found = (omega (arith, size_is m found, found.0.1), found.1)
 
   -- no room is found
-  pub room_refused : (e : JournalFault) → FindsRoom s.shape s.generation ch es (Err e) → BesideStep s f (Err e)
-  room_refused JournalFull found =
+  pub fit_refused : (e : JournalFault) → MeasuresSnapshot s.shape s.generation ch es (Err e) → SnapshotStep s f (Err e)
+  fit_refused JournalFull found =
       let size : snapshot_bytes ch es ≡ snapshot_size f = snapshot_bytes_are ch es (folded_of s) same in
       ⊎_elim (λ low. inl (omega (arith, low, size))) (λ last. inr last) found
-  room_refused Stopped found = absurd found
-  room_refused NumbersSpent found = absurd found
-  room_refused OutOfMemory found = absurd found
-  room_refused Disk found = absurd found
-  room_refused OldVersion found = absurd found
+  fit_refused Stopped found = absurd found
+  fit_refused NumbersSpent found = absurd found
+  fit_refused OutOfMemory found = absurd found
+  fit_refused Disk found = absurd found
+  fit_refused OldVersion found = absurd found
 
   -- the write is refused
-  pub write_refused : (e : JournalFault) (m : Measure) → FindsRoom s.shape s.generation ch es (Ok m) → IsWriteAnswer (Err e) → BesideStep s f (Err e)
-  write_refused OutOfMemory m found answer = has_room m found
-  write_refused Disk m found answer = has_room m found
+  pub write_refused : (e : JournalFault) (m : Measure) → MeasuresSnapshot s.shape s.generation ch es (Ok m) → IsWriteAnswer (Err e) → SnapshotStep s f (Err e)
+  write_refused OutOfMemory m found answer = fits_after m found
+  write_refused Disk m found answer = fits_after m found
   write_refused Stopped m found answer = absurd answer
   write_refused JournalFull m found answer = absurd answer
   write_refused NumbersSpent m found answer = absurd answer
   write_refused OldVersion m found answer = absurd answer
 
   -- it is written
-  pub write_done : (p : Place) (m : Measure) → p ≡ record { half = other_half s.half; generation = s.generation + 1; used = m.used } → FindsRoom s.shape s.generation ch es (Ok m) → BesideStep s f (Ok p)
-  write_done p m is found = (has_room m found, is ∙ ap (λ (n : ℕ). record { half = other_half s.half; generation = s.generation + 1; used = n }) (size_is m found))
+  pub write_done : (p : JournalEnd) (m : Measure) → p ≡ record { half = other_half s.half; generation = s.generation + 1; used = m.used } → MeasuresSnapshot s.shape s.generation ch es (Ok m) → SnapshotStep s f (Ok p)
+  write_done p m is found = (fits_after m found, is ∙ ap (λ (n : ℕ). record { half = other_half s.half; generation = s.generation + 1; used = n }) (size_is m found))
 
 -- a half lies in the halves
 pub in_halves : (shape : Shape) (half : Half) → (4096 ≤ half_start shape half) × (half_start shape half + half_length shape ≤ 4096 + 2 * half_length shape)
@@ -110,12 +110,12 @@ half_fills g old new shape half start is fills =
 pub anew : (raw now : Journaled) (ch : Change) (es : List Entry) (target : Target) (m : Measure) → raw ≡ now → raw.standing.cases ≡ map case_of es
     → target.start ≡ other_start now.standing → target.version ≡ (changed ch (folded_of now.standing)).version → target.generation ≡ now.standing.generation + 1
     → target.next ≡ (changed ch (folded_of now.standing)).next
-    → FindsRoom raw.standing.shape raw.standing.generation ch es (Ok m) → is_known target.version ≡ true
+    → MeasuresSnapshot raw.standing.shape raw.standing.generation ch es (Ok m) → is_known target.version ≡ true
     → AreLive now.standing.shape.data_blocks (changed ch (folded_of now.standing)).cases (changed ch (folded_of now.standing)).next
     → AreLabelled (changed ch (folded_of now.standing)).version (changed ch (folded_of now.standing)).cases
     → IsWrittenAs now.standing (changed ch (folded_of now.standing)) target ch es
 anew raw now ch es target m is same place version generation next found known live labels =
-    let found' : FindsRoom now.standing.shape now.standing.generation ch es (Ok m) = subst (λ (x : Journaled). FindsRoom x.standing.shape x.standing.generation ch es (Ok m)) is found in
+    let found' : MeasuresSnapshot now.standing.shape now.standing.generation ch es (Ok m) = subst (λ (x : Journaled). MeasuresSnapshot x.standing.shape x.standing.generation ch es (Ok m)) is found in
     written_as now.standing ch es target m (subst (λ (x : Journaled). x.standing.cases ≡ map case_of es) is same) place version generation next found'.0 found'.1 known live labels
 
 front_is : (h rest all : List ℕ) → length h ≡ 31 → all ≡ h ++ rest → part all 0 31 ≡ h

@@ -90,7 +90,7 @@ module _ (shape : Shape) (version : ℕ) (cases : List Case) (next used : ℕ) (
 pub kept_read : (shape : Shape) (cases : List Case) (version next n : ℕ) (bytes : List ℕ) → IsWithinLimits shape → is_known version ≡ true
     → AreRead shape.data_blocks bytes (nothing_yet version) (record { version = version; cases = cases; next = next }) n → 32 + n + 1 ≤ half_length shape
     → IsKept shape version cases next (32 + n)
-kept_read shape cases version next n bytes limits known read room =
+kept_read shape cases version next n bytes limits known read in_half =
     let said : Folded = record { version = version; cases = cases; next = next } in
     let live = live_read shape.data_blocks version bytes said n read in
     record {
@@ -100,5 +100,5 @@ kept_read shape cases version next n bytes limits known read room =
       labels = labelled_read shape.data_blocks version bytes said n read;
       numbers = live.numbers;
       header = omega arith;
-      gate = room;
+      gate = in_half;
     }

@@ -9,13 +9,13 @@ use Rattle.journal_layout.specs.LiveFinds.{label_sound}
 use Rattle.journal_layout.specs.Standing.{Standing, folded_of}
 use Rattle.journal_layout.specs.Stands.{Stands}
 use Rattle.journal_layout.specs.Rewriting.{upgraded}
-use Rattle.case_journal.specs.declared.compacting.Place.{Place}
+use Rattle.case_journal.specs.declared.compacting.JournalEnd.{JournalEnd}
 use Rattle.case_journal.specs.declared.faults.JournalFault.{JournalFault}
 use Rattle.case_journal.specs.declared.faults.JournalFault.TheVariants.{Stopped, JournalFull, NumbersSpent, OutOfMemory, Disk, OldVersion}
 use Rattle.case_journal.specs.Journaled.{Journaled, running}
 use Rattle.case_journal.specs.Keeping.{Keeps}
 use Rattle.case_journal.specs.Append.{MayFollow, MayLabel, AppendStep, LabelStep}
-use Rattle.case_journal.specs.Compacting.{BesideStep, UpgradeStep, anew_in_two, moved, noted}
+use Rattle.case_journal.specs.Compacting.{SnapshotStep, UpgradeStep, anew_in_two, moved, noted}
 use Rattle.case_journal.specs.Entering.{in_two}
 
 -- the record of a label that a case may get may follow, in version 2
@@ -34,7 +34,7 @@ label_appended old new seq text (Err OldVersion) two step = absurd step
 
 module _ (j : Journaled) (runs : j.stopped ≡ false) (one : j.standing.version ≡ 1) where
   -- an upgrade that is refused
-  pub upgrade_refused : (e : JournalFault) → BesideStep j.standing (anew_in_two j.standing) (Err e) → UpgradeStep j (Err e) (noted e j)
+  pub upgrade_refused : (e : JournalFault) → SnapshotStep j.standing (anew_in_two j.standing) (Err e) → UpgradeStep j (Err e) (noted e j)
   upgrade_refused JournalFull step = (runs, one, step, refl)
   upgrade_refused OutOfMemory step = (runs, one, step, refl)
   upgrade_refused Disk step = (runs, one, step, refl)
@@ -43,10 +43,10 @@ module _ (j : Journaled) (runs : j.stopped ≡ false) (one : j.standing.version 
   upgrade_refused OldVersion step = absurd step
 
   -- and one that is made
-  pub upgrade_moved : (p : Place) → BesideStep j.standing (anew_in_two j.standing) (Ok p) → in_two (moved j p) ≡ running (upgraded j.standing)
-  upgrade_moved p step = ap (λ (q : Place). in_two (moved j q)) step.1 ∙ ap (λ (t : Bool). record { standing = upgraded j.standing; stopped = t }) runs
+  pub upgrade_moved : (p : JournalEnd) → SnapshotStep j.standing (anew_in_two j.standing) (Ok p) → in_two (moved j p) ≡ running (upgraded j.standing)
+  upgrade_moved p step = ap (λ (q : JournalEnd). in_two (moved j q)) step.1 ∙ ap (λ (t : Bool). record { standing = upgraded j.standing; stopped = t }) runs
 
-  pub upgrade_made : (p : Place) (new : Journaled) → BesideStep j.standing (anew_in_two j.standing) (Ok p) → new ≡ in_two (moved j p) → UpgradeStep j (Ok tt) new
+  pub upgrade_made : (p : JournalEnd) (new : Journaled) → SnapshotStep j.standing (anew_in_two j.standing) (Ok p) → new ≡ in_two (moved j p) → UpgradeStep j (Ok tt) new
   upgrade_made p new step is = (runs, inr (one, step.0, is ∙ upgrade_moved p step))
 
 -- nothing was done

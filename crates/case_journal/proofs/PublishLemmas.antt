@@ -44,7 +44,7 @@ module _ (s : Standing) (r : Record) (gate : ℕ) (behind : List ℕ) (p : Publi
   lies : gate + 1 + length behind ≤ length d
   lies =
       let place = p.place in
-      let room = p.room in
+      let in_half = p.in_half in
       let long = p.long in
       let ends = half_ends s.shape s.half in
       let l = (limits_in d s stands).1 in
@@ -54,7 +54,7 @@ module _ (s : Standing) (r : Record) (gate : ℕ) (behind : List ℕ) (p : Publi
   pub before_gate : (c : List ℕ) → SameOutside (gate + 1) (length behind) d c → Stands c s
   before_gate c same =
       let place = p.place in
-      let room = p.room in
+      let in_half = p.in_half in
       let long = p.long in
       let wide : SameOutside gate (1 + length behind) d c = widened (gate + 1) (length behind) d c same gate (1 + length behind) (omega arith) (omega arith) in
       let there : SameOutside (gate_of s) (1 + length behind) d c = rw (← place) wide in
@@ -123,7 +123,7 @@ module _ (s : Standing) (r : Record) (gate : ℕ) (behind : List ℕ) (p : Publi
   after_gate : (c : List ℕ) → SameOutside gate 1 once c → slice_index c gate ≡ 165 → Stands c (lengthened s r)
   after_gate c same opened =
       let place = p.place in
-      let room = p.room in
+      let in_half = p.in_half in
       let long = p.long in
       stands_after s r (1 + length behind) d c stands (wide_same c same) (omega arith) (omega arith) p.sound
       (ap (λ (k : ℕ). part c k (record_size r)) (sym place) ∙ opened_gate c same opened)
@@ -132,7 +132,7 @@ module _ (s : Standing) (r : Record) (gate : ℕ) (behind : List ℕ) (p : Publi
   unopened : (c : List ℕ) → SameOutside gate 1 once c → (slice_index c gate ≡ 165 → ⊥) → Stands c s
   unopened c same closed =
       let place = p.place in
-      let room = p.room in
+      let in_half = p.in_half in
       let long = p.long in
       still_stands s (1 + length behind) d c stands (wide_same c same) (omega arith) (λ opened. closed (ap (slice_index c) place ∙ opened))
 

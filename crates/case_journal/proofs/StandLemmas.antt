@@ -15,7 +15,7 @@ use Rattle.journal_layout.specs.RowLaws.{row_same}
 use Rattle.case_journal.specs.Append.{MayFollow}
 use Rattle.journal_snapshot.specs.Holding.{SameHeaders}
 use Rattle.journal_layout.specs.FrontLaws.{front_same}
-use Rattle.journal_layout.specs.StandLaws.{stands_limits, stands_size, stands_room, HasSameFront, stands_grown}
+use Rattle.journal_layout.specs.StandLaws.{stands_limits, stands_size, stands_in_half, HasSameFront, stands_grown}
 
 -- where the next record's gate stands
 abbrev pub gate_of : Standing → ℕ
@@ -54,7 +54,7 @@ area_length b s stands =
 
 -- the gate of the next record lies in the half
 pub gate_within : (b : List ℕ) (s : Standing) → Stands b s → s.used + 1 ≤ half_length s.shape
-gate_within b s stands = stands_room b s stands
+gate_within b s stands = stands_in_half b s stands
 
 pub front_part : (b : List ℕ) (p n q : ℕ) → q ≤ n → take q (part b p n) ≡ part b p q
 front_part b p n q low =

@@ -8,17 +8,17 @@ use Rattle.journal_layout.specs.Soundness.{IsSound, IsStorable, IsLive, IsLabel}
 use Rattle.journal_layout.specs.declared.entry.Entry.{Entry}
 use Rattle.journal_layout.specs.Folding.{after}
 use Rattle.case_journal.specs.Refusing.{LeavesDisk}
-use Rattle.case_journal.specs.Compacting.{HasSnapshotRoom, LacksSnapshotRoom}
+use Rattle.case_journal.specs.Compacting.{SnapshotFits, SnapshotOverflows}
 use Rattle.case_journal.specs.Journaled.{Journaled, halted, after_append}
 use Rattle.case_journal.specs.declared.faults.JournalFault.{JournalFault}
 use Rattle.case_journal.specs.declared.faults.JournalFault.TheVariants.{Stopped, JournalFull, NumbersSpent, OutOfMemory, Disk, OldVersion}
 
 -- The record and the gate behind it fit into the taken half, or what is said with it has room in the other half.
-abbrev pub HasRoom : Standing → Record → Type 0
-HasRoom s r = (s.used + record_size r + 1 ≤ half_length s.shape) ⊎ HasSnapshotRoom s (after r (folded_of s))
+abbrev pub RecordFits : Standing → Record → Type 0
+RecordFits s r = (s.used + record_size r + 1 ≤ half_length s.shape) ⊎ SnapshotFits s (after r (folded_of s))
 
-abbrev pub LacksRoom : Standing → Record → Type 0
-LacksRoom s r = (half_length s.shape < s.used + record_size r + 1) × LacksSnapshotRoom s (after r (folded_of s))
+abbrev pub RecordOverflows : Standing → Record → Type 0
+RecordOverflows s r = (half_length s.shape < s.used + record_size r + 1) × SnapshotOverflows s (after r (folded_of s))
 
 -- the case may be stored: its record passes every check but that of its number
 abbrev pub MayStore : Standing → Case → Type 0
@@ -34,12 +34,12 @@ MayLabel s seq text = IsLive s.cases seq × IsLabel text
 
 -- A record's append: refused in the order of the faults, each under its condition.
 abbrev pub AppendStep : Journaled → Record → Result (Unit {0}) JournalFault → Journaled → Type 0
-AppendStep old r (Ok u) new = (old.stopped ≡ false) × HasRoom old.standing r × (new ≡ after_append old r)
+AppendStep old r (Ok u) new = (old.stopped ≡ false) × RecordFits old.standing r × (new ≡ after_append old r)
 AppendStep old r (Err Stopped) new = (old.stopped ≡ true) × (new ≡ old)
-AppendStep old r (Err JournalFull) new = (old.stopped ≡ false) × LacksRoom old.standing r × (new ≡ old)
+AppendStep old r (Err JournalFull) new = (old.stopped ≡ false) × RecordOverflows old.standing r × (new ≡ old)
 AppendStep old r (Err NumbersSpent) new = ⊥
-AppendStep old r (Err OutOfMemory) new = (old.stopped ≡ false) × HasRoom old.standing r × (new ≡ old)
-AppendStep old r (Err Disk) new = (old.stopped ≡ false) × HasRoom old.standing r × (new ≡ halted old)
+AppendStep old r (Err OutOfMemory) new = (old.stopped ≡ false) × RecordFits old.standing r × (new ≡ old)
+AppendStep old r (Err Disk) new = (old.stopped ≡ false) × RecordFits old.standing r × (new ≡ halted old)
 AppendStep old r (Err OldVersion) new = ⊥
 
 -- The same of a label, which version 1 of the layout does not keep.
@@ -52,18 +52,18 @@ LabelStep old seq text (Err f) new = (old.standing.version ≡ 2) × AppendStep 
 -- the same of a case, which gets the next number, where numbers are left
 abbrev pub StoreRefused : Journaled → Case → JournalFault → Journaled → Type 0
 StoreRefused old c Stopped new = (old.stopped ≡ true) × (new ≡ old)
-StoreRefused old c JournalFull new = (old.stopped ≡ false) × LacksRoom old.standing (store_of old.standing c) × (new ≡ old)
+StoreRefused old c JournalFull new = (old.stopped ≡ false) × RecordOverflows old.standing (store_of old.standing c) × (new ≡ old)
 StoreRefused old c NumbersSpent new =
-    (old.stopped ≡ false) × HasRoom old.standing (store_of old.standing c) × (old.standing.next ≡ 2 ^ 32) × (new ≡ old)
+    (old.stopped ≡ false) × RecordFits old.standing (store_of old.standing c) × (old.standing.next ≡ 2 ^ 32) × (new ≡ old)
 StoreRefused old c OutOfMemory new =
-    (old.stopped ≡ false) × HasRoom old.standing (store_of old.standing c) × (old.standing.next < 2 ^ 32) × (new ≡ old)
+    (old.stopped ≡ false) × RecordFits old.standing (store_of old.standing c) × (old.standing.next < 2 ^ 32) × (new ≡ old)
 StoreRefused old c Disk new =
-    (old.stopped ≡ false) × HasRoom old.standing (store_of old.standing c) × (old.standing.next < 2 ^ 32) × (new ≡ halted old)
+    (old.stopped ≡ false) × RecordFits old.standing (store_of old.standing c) × (old.standing.next < 2 ^ 32) × (new ≡ halted old)
 StoreRefused old c OldVersion new = ⊥
 
 abbrev pub StoreStep : Journaled → Case → Result ℕ (JournalFault × Entry) → Journaled → Type 0
 StoreStep old c (Ok seq) new =
-    (old.stopped ≡ false) × HasRoom old.standing (store_of old.standing c) × (old.standing.next < 2 ^ 32)
+    (old.stopped ≡ false) × RecordFits old.standing (store_of old.standing c) × (old.standing.next < 2 ^ 32)
     × (seq ≡ old.standing.next) × (new ≡ after_append old (store_of old.standing c))
 StoreStep old c (Err e) new = StoreRefused old c e.0 new
 

@@ -14,56 +14,56 @@ use Rattle.disk_model.specs.declared.disk.Disk as disk
 use Rattle.disk_model.specs.Moments.{LeavesOnly}
 use Rattle.journal_layout.specs.Stands.{Stands}
 use Rattle.journal_snapshot.specs.Filling.{Fills}
-use Rattle.case_journal.specs.declared.compacting.Place.{Place}
+use Rattle.case_journal.specs.declared.compacting.JournalEnd.{JournalEnd}
 use Rattle.case_journal.specs.Refusing.{LeavesDisk}
 use Rattle.case_journal.specs.Journaled.{Journaled, running, halted}
 use Rattle.case_journal.specs.declared.faults.JournalFault.{JournalFault}
 use Rattle.case_journal.specs.declared.faults.JournalFault.TheVariants.{Stopped, JournalFull, NumbersSpent, OutOfMemory, Disk, OldVersion}
 
 -- what is said goes into the other half as a snapshot with the gate behind it, and a generation is left for that half
-abbrev pub HasSnapshotRoom : Standing → Folded → Type 0
-HasSnapshotRoom s f = (snapshot_size f + 1 ≤ half_length s.shape) × (s.generation + 1 < 2 ^ 64)
+abbrev pub SnapshotFits : Standing → Folded → Type 0
+SnapshotFits s f = (snapshot_size f + 1 ≤ half_length s.shape) × (s.generation + 1 < 2 ^ 64)
 
-abbrev pub LacksSnapshotRoom : Standing → Folded → Type 0
-LacksSnapshotRoom s f = (half_length s.shape < snapshot_size f + 1) ⊎ (s.generation + 1 ≡ 2 ^ 64)
+abbrev pub SnapshotOverflows : Standing → Folded → Type 0
+SnapshotOverflows s f = (half_length s.shape < snapshot_size f + 1) ⊎ (s.generation + 1 ≡ 2 ^ 64)
 
 -- the same cases and next number, written anew
 abbrev pub compacted : Standing → Standing
 compacted s = rewritten s (folded_of s)
 
 -- the next record goes there
-abbrev pub moved : Journaled → Place → Journaled
+abbrev pub moved : Journaled → JournalEnd → Journaled
 moved j p = record j { standing = record j.standing { half = p.half; generation = p.generation; used = p.used } }
 
 -- behind a snapshot of what is said, in the other half
-abbrev pub beside : Standing → Folded → Place
-beside s f = record { half = other_half s.half; generation = s.generation + 1; used = snapshot_size f }
+abbrev pub snapshot_end : Standing → Folded → JournalEnd
+snapshot_end s f = record { half = other_half s.half; generation = s.generation + 1; used = snapshot_size f }
 
 -- The journal is written anew with what is said then: only room, memory and the disk refuse it.
-abbrev pub BesideStep : Standing → Folded → Result Place JournalFault → Type 0
-BesideStep s f (Ok p) = HasSnapshotRoom s f × (p ≡ beside s f)
-BesideStep s f (Err JournalFull) = LacksSnapshotRoom s f
-BesideStep s f (Err OutOfMemory) = HasSnapshotRoom s f
-BesideStep s f (Err Disk) = HasSnapshotRoom s f
-BesideStep s f (Err _) = ⊥
+abbrev pub SnapshotStep : Standing → Folded → Result JournalEnd JournalFault → Type 0
+SnapshotStep s f (Ok p) = SnapshotFits s f × (p ≡ snapshot_end s f)
+SnapshotStep s f (Err JournalFull) = SnapshotOverflows s f
+SnapshotStep s f (Err OutOfMemory) = SnapshotFits s f
+SnapshotStep s f (Err Disk) = SnapshotFits s f
+SnapshotStep s f (Err _) = ⊥
 
 -- all refusals but that of the disk leave it as it is
-abbrev pub PutLeaves : {D : Type 0} → Result Place JournalFault → D → D → Type 0
+abbrev pub PutLeaves : {D : Type 0} → Result JournalEnd JournalFault → D → D → Type 0
 PutLeaves (Ok p) old new = Unit {0}
 PutLeaves (Err f) old new = LeavesDisk f old new
 
 -- A compaction: refused in the order of the faults, each under its condition.
 abbrev pub CompactStep : Journaled → Result (Unit {0}) JournalFault → Journaled → Type 0
 CompactStep old (Ok u) new =
-    (old.stopped ≡ false) × HasSnapshotRoom old.standing (folded_of old.standing) × (new ≡ running (compacted old.standing))
+    (old.stopped ≡ false) × SnapshotFits old.standing (folded_of old.standing) × (new ≡ running (compacted old.standing))
 CompactStep old (Err Stopped) new = (old.stopped ≡ true) × (new ≡ old)
 CompactStep old (Err JournalFull) new =
-    (old.stopped ≡ false) × LacksSnapshotRoom old.standing (folded_of old.standing) × (new ≡ old)
+    (old.stopped ≡ false) × SnapshotOverflows old.standing (folded_of old.standing) × (new ≡ old)
 CompactStep old (Err NumbersSpent) new = ⊥
 CompactStep old (Err OutOfMemory) new =
-    (old.stopped ≡ false) × HasSnapshotRoom old.standing (folded_of old.standing) × (new ≡ old)
+    (old.stopped ≡ false) × SnapshotFits old.standing (folded_of old.standing) × (new ≡ old)
 CompactStep old (Err Disk) new =
-    (old.stopped ≡ false) × HasSnapshotRoom old.standing (folded_of old.standing) × (new ≡ halted old)
+    (old.stopped ≡ false) × SnapshotFits old.standing (folded_of old.standing) × (new ≡ halted old)
 CompactStep old (Err OldVersion) new = ⊥
 
 -- what is said, in version 2 of the layout
@@ -75,22 +75,22 @@ abbrev pub UpgradeStep : Journaled → Result (Unit {0}) JournalFault → Journa
 UpgradeStep old (Ok u) new =
     (old.stopped ≡ false)
     × (((old.standing.version ≡ 2) × (new ≡ old))
-    ⊎ ((old.standing.version ≡ 1) × HasSnapshotRoom old.standing (anew_in_two old.standing) × (new ≡ running (upgraded old.standing))))
+    ⊎ ((old.standing.version ≡ 1) × SnapshotFits old.standing (anew_in_two old.standing) × (new ≡ running (upgraded old.standing))))
 UpgradeStep old (Err Stopped) new = (old.stopped ≡ true) × (new ≡ old)
 UpgradeStep old (Err JournalFull) new =
-    (old.stopped ≡ false) × (old.standing.version ≡ 1) × LacksSnapshotRoom old.standing (anew_in_two old.standing) × (new ≡ old)
+    (old.stopped ≡ false) × (old.standing.version ≡ 1) × SnapshotOverflows old.standing (anew_in_two old.standing) × (new ≡ old)
 UpgradeStep old (Err NumbersSpent) new = ⊥
 UpgradeStep old (Err OutOfMemory) new =
-    (old.stopped ≡ false) × (old.standing.version ≡ 1) × HasSnapshotRoom old.standing (anew_in_two old.standing) × (new ≡ old)
+    (old.stopped ≡ false) × (old.standing.version ≡ 1) × SnapshotFits old.standing (anew_in_two old.standing) × (new ≡ old)
 UpgradeStep old (Err Disk) new =
-    (old.stopped ≡ false) × (old.standing.version ≡ 1) × HasSnapshotRoom old.standing (anew_in_two old.standing) × (new ≡ halted old)
+    (old.stopped ≡ false) × (old.standing.version ≡ 1) × SnapshotFits old.standing (anew_in_two old.standing) × (new ≡ halted old)
 UpgradeStep old (Err OldVersion) new = ⊥
 
 -- whether what a change makes of these entries has room in the other half, by its bytes
-abbrev pub FindsRoom : Shape → ℕ → Change → List Entry → Result Measure JournalFault → Type 0
-FindsRoom shape generation ch es (Ok m) = IsMeasure (half_length shape) ch es (Some m) × (generation + 1 < 2 ^ 64)
-FindsRoom shape generation ch es (Err JournalFull) = (half_length shape < snapshot_bytes ch es + 1) ⊎ (generation + 1 ≡ 2 ^ 64)
-FindsRoom shape generation ch es (Err _) = ⊥
+abbrev pub MeasuresSnapshot : Shape → ℕ → Change → List Entry → Result Measure JournalFault → Type 0
+MeasuresSnapshot shape generation ch es (Ok m) = IsMeasure (half_length shape) ch es (Some m) × (generation + 1 < 2 ^ 64)
+MeasuresSnapshot shape generation ch es (Err JournalFull) = (half_length shape < snapshot_bytes ch es + 1) ⊎ (generation + 1 ≡ 2 ^ 64)
+MeasuresSnapshot shape generation ch es (Err _) = ⊥
 
 -- only the memory and the disk refuse a write
 abbrev pub IsWriteAnswer : Result (Unit {0}) JournalFault → Type 0
@@ -110,7 +110,7 @@ HasHeader s version bytes = part bytes (other_start s + 1) 31 ≡ half_header ve
 
 -- What it does to the disk: a crash at any moment leaves what stood before or what is said then, and nothing is changed but
 -- the half that is not taken.
-pub record RunsBeside {D : Type 0} (g : disk.Ghosts D) (old new : D) (s : Standing) (f : Folded) : Type 0 where
+pub record RunsSnapshot {D : Type 0} (g : disk.Ghosts D) (old new : D) (s : Standing) (f : Folded) : Type 0 where
   pub moments : IsTrue (g.is_honest old) → LeavesOnly g old new (λ c. Stands c s ⊎ Stands c (rewritten s f))
   pub half : Fills g old new (other_start s) (half_length s.shape)
   pub fills : Fills g old new 4096 (2 * half_length s.shape)

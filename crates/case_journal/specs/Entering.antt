@@ -5,8 +5,8 @@ use Rattle.journal_layout.specs.Folding.{dropped, with_pin, with_label}
 use Rattle.journal_layout.specs.Record.{Record}
 use Rattle.journal_layout.specs.Rewriting.{appended}
 use Rattle.journal_layout.specs.Standing.{Standing}
-use Rattle.case_journal.specs.declared.compacting.Place.{Place}
-use Rattle.case_journal.specs.Append.{HasRoom, LacksRoom}
+use Rattle.case_journal.specs.declared.compacting.JournalEnd.{JournalEnd}
+use Rattle.case_journal.specs.Append.{RecordFits, RecordOverflows}
 use Rattle.case_journal.specs.Journaled.{Journaled}
 use Rattle.case_journal.specs.declared.faults.JournalFault.{JournalFault}
 use Rattle.case_journal.specs.declared.faults.JournalFault.TheVariants.{JournalFull, OutOfMemory, Disk}
@@ -32,13 +32,13 @@ abbrev pub in_two : Journaled → Journaled
 in_two j = record j { standing = record j.standing { version = 2 } }
 
 -- where the next record goes after this one
-abbrev pub place_after : Standing → Record → Place
+abbrev pub place_after : Standing → Record → JournalEnd
 place_after s r = record { half = (appended s r).half; generation = (appended s r).generation; used = (appended s r).used }
 
 -- the writing of a record: refused in the order of the faults, each under its condition
-abbrev pub PutStep : Standing → Record → Result Place JournalFault → Type 0
-PutStep s r (Ok p) = HasRoom s r × (p ≡ place_after s r)
-PutStep s r (Err JournalFull) = LacksRoom s r
-PutStep s r (Err OutOfMemory) = HasRoom s r
-PutStep s r (Err Disk) = HasRoom s r
+abbrev pub PutStep : Standing → Record → Result JournalEnd JournalFault → Type 0
+PutStep s r (Ok p) = RecordFits s r × (p ≡ place_after s r)
+PutStep s r (Err JournalFull) = RecordOverflows s r
+PutStep s r (Err OutOfMemory) = RecordFits s r
+PutStep s r (Err Disk) = RecordFits s r
 PutStep s r (Err _) = ⊥

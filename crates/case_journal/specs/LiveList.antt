@@ -6,4 +6,4 @@ pub record LiveList : Type 0 where
   -- in the order in which they were put
   pub entries : List Entry
   -- for how many more there is memory
-  pub room : ℕ
+  pub spare : ℕ

@@ -10,5 +10,5 @@ pub record Publishes (s : Standing) (r : Record) (gate : ℕ) (behind : List ℕ
   pub place : gate ≡ half_start s.shape s.half + s.used
   pub bytes : behind ≡ behind_gate r ++ 0 ∷ []
   pub long : length behind ≡ record_size r
-  pub room : s.used + record_size r + 1 ≤ half_length s.shape
+  pub in_half : s.used + record_size r + 1 ≤ half_length s.shape
   pub sound : MayFollow s r

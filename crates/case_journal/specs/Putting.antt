@@ -6,10 +6,10 @@ use Rattle.journal_layout.specs.Rewriting.{fits, other_start}
 use Rattle.journal_layout.specs.Record.{Record, behind_gate, record_size}
 use Rattle.journal_layout.specs.Standing.{Standing}
 use Rattle.journal_snapshot.specs.Filling.{Fills}
-use Rattle.case_journal.specs.declared.compacting.Place.{Place}
+use Rattle.case_journal.specs.declared.compacting.JournalEnd.{JournalEnd}
 use Rattle.case_journal.specs.declared.faults.JournalFault.{JournalFault}
 use Rattle.case_journal.specs.declared.faults.JournalFault.TheVariants.{JournalFull, Disk}
-use Rattle.case_journal.specs.Append.{HasRoom, LacksRoom, MayFollow}
+use Rattle.case_journal.specs.Append.{RecordFits, RecordOverflows, MayFollow}
 use Rattle.case_journal.specs.Keeping.{LeavesEither}
 
 -- These bytes are what stands behind the record's gate, and a closed gate; the record may follow those of the journal.
@@ -19,16 +19,16 @@ pub record IsPut (s : Standing) (r : Record) (behind : List ℕ) : Type 0 where
   pub sound : MayFollow s r
 
 -- a record is put behind the others: only the disk refuses it
-abbrev pub BehindStep : Standing → ℕ → Result Place JournalFault → Type 0
+abbrev pub BehindStep : Standing → ℕ → Result JournalEnd JournalFault → Type 0
 BehindStep s size (Ok p) = p ≡ record { half = s.half; generation = s.generation; used = s.used + size }
 BehindStep s size (Err Disk) = Unit {0}
 BehindStep s size (Err _) = ⊥
 
 -- whether a record has room, behind the others or in the other half
-abbrev pub HasRoomFor : Standing → Record → Result (Unit {0}) JournalFault → Type 0
-HasRoomFor s r (Ok u) = HasRoom s r
-HasRoomFor s r (Err JournalFull) = LacksRoom s r
-HasRoomFor s r (Err _) = ⊥
+abbrev pub DecidesFit : Standing → Record → Result (Unit {0}) JournalFault → Type 0
+DecidesFit s r (Ok u) = RecordFits s r
+DecidesFit s r (Err JournalFull) = RecordOverflows s r
+DecidesFit s r (Err _) = ⊥
 
 -- Where an append writes: after the records of the taken half, its gate, its bytes and the next gate; or the other half, if
 -- the record does not fit there.

@@ -18,7 +18,7 @@ ghost use Rattle.journal_snapshot.specs.Filling.{Fills};
 ghost use Rattle.journal_snapshot.specs.Holding.{Holds};
 ghost use Rattle.journal_snapshot.specs.Halves.{IsWrittenAs, half_bytes};
 ghost use Rattle.case_journal.specs.Append.{RefusalLeaves};
-ghost use Rattle.case_journal.specs.Compacting.{BesideStep, HasHeader, RunsBeside, CompactStep, FindsRoom, IsWriteAnswer, compacted, noted, moved, PutLeaves};
+ghost use Rattle.case_journal.specs.Compacting.{SnapshotStep, HasHeader, RunsSnapshot, CompactStep, MeasuresSnapshot, IsWriteAnswer, compacted, noted, moved, PutLeaves};
 ghost use Rattle.case_journal.specs.Keeping.{Keeps, LeavesOutside};
 
 use crate::{Journal, JournalFault};
@@ -29,7 +29,7 @@ use std::alloc::Global;
 
 /// Where the next record goes: the half that is taken, its generation, and the bytes of its header and records.
 #[derive(Clone, Copy)]
-pub(crate) struct Place {
+pub(crate) struct JournalEnd {
     pub(crate) half: Half,
     pub(crate) generation: u64,
     pub(crate) used: u64,
@@ -47,7 +47,7 @@ fn other_half(half: Half) -> Half
 
 /// Measures what a change makes of these cases. `JournalFull`: it does not fit into a half with the gate behind it, or no
 /// generation is left for one.
-pub(crate) fn room_beside(
+pub(crate) fn measure_snapshot(
     entries: &[Entry],
     shape: Shape,
     generation: u64,
@@ -57,7 +57,7 @@ pub(crate) fn room_beside(
     requires order { IsOrdered change.now }
     requires short { AreShort entries.now }
     requires short_added { IsShort change.now }
-    ensures { FindsRoom shape generation change.now entries.now result }
+    ensures { MeasuresSnapshot shape generation change.now entries.now result }
 {
     if generation == u64::MAX {
         return Err(JournalFault::JournalFull);
@@ -70,7 +70,7 @@ pub(crate) fn room_beside(
 
 /// Writes what a change makes of these cases into the half that is not taken, and takes it. `OutOfMemory`, before the
 /// first disk call; `Disk`. It takes as much memory as the longest record of a case has bytes.
-pub(crate) fn write_beside<D: Disk>(
+pub(crate) fn write_snapshot<D: Disk>(
     alloc: Global,
     disk: &mut D,
     target: Target,
@@ -82,7 +82,7 @@ pub(crate) fn write_beside<D: Disk>(
     requires order { IsOrdered change.now }
     requires measured { IsMeasure half change.now entries.now (Some measure) }
     requires small { half ≤ 16777216 }
-    requires room { target.start + half ≤ D.size disk.old }
+    requires in_half { target.start + half ≤ D.size disk.old }
     ensures any_moment { (s : Standing) (f : Folded) → IsWrittenAs s f target change.now entries.now
         → IsTrue (D.is_honest disk.old) → Holds D.Disk disk.old s
         → LeavesOnly D.Disk disk.old disk.new (λ c. Stands c s ⊎ Stands c (rewritten s f)) }
@@ -132,7 +132,7 @@ impl Journal {
         if self.stopped {
             return Err(JournalFault::Stopped);
         }
-        match self.put_beside(disk, &Change::Nothing, self.version, self.next) {
+        match self.put_snapshot(disk, &Change::Nothing, self.version, self.next) {
             Ok(place) => {
                 self.move_to(place);
                 Ok(())
@@ -146,13 +146,13 @@ impl Journal {
 
     // Writes what a change makes of the journal into the other half, which is taken then, in this version of the layout.
     // Answers where the next record goes.
-    pub(crate) fn put_beside<D: Disk>(
+    pub(crate) fn put_snapshot<D: Disk>(
         &self,
         disk: &mut D,
         change: &Change,
         version: u32,
         next: u64,
-    ) -> Result<Place, JournalFault>
+    ) -> Result<JournalEnd, JournalFault>
         requires keeps { Keeps D.Disk disk.old self.now }
         requires runs { self.now.stopped ≡ false }
         requires order { IsOrdered change.now }
@@ -162,18 +162,23 @@ impl Journal {
         requires next { next ≡ (changed change.now (folded_of self.now.standing)).next }
         requires live { AreLive self.now.standing.shape.data_blocks (changed change.now (folded_of self.now.standing)).cases (changed change.now (folded_of self.now.standing)).next }
         requires labels { AreLabelled (changed change.now (folded_of self.now.standing)).version (changed change.now (folded_of self.now.standing)).cases }
-        ensures step { BesideStep self.now.standing (changed change.now (folded_of self.now.standing)) result }
-        ensures run { RunsBeside D.Disk disk.old disk.new self.now.standing (changed change.now (folded_of self.now.standing)) }
+        ensures step { SnapshotStep self.now.standing (changed change.now (folded_of self.now.standing)) result }
+        ensures run { RunsSnapshot D.Disk disk.old disk.new self.now.standing (changed change.now (folded_of self.now.standing)) }
         ensures header { IsTrue (D.is_honest disk.old) → OnOk result (HasHeader self.now.standing version (D.seen disk.new)) }
         ensures holds { IsTrue (D.is_honest disk.old)
             → OnOk result (Holds D.Disk disk.new (rewritten self.now.standing (changed change.now (folded_of self.now.standing)))) }
         ensures untouched { PutLeaves result disk.old disk.new }
         ensures cause { result ≡ Err JournalFault.Disk → HasRisen (D.failures disk.old) (D.failures disk.new) }
     {
-        let measure = room_beside(self.entries.as_slice(), self.shape, self.generation, change)?;
+        let measure = measure_snapshot(
+            self.entries.as_slice(),
+            self.shape,
+            self.generation,
+            change,
+        )?;
         let target = self.target(version, next);
         let half = self.shape.half_length();
-        write_beside(
+        write_snapshot(
             self.alloc(),
             disk,
             target,
@@ -182,7 +187,7 @@ impl Journal {
             measure,
             half,
         )?;
-        Ok(Place {
+        Ok(JournalEnd {
             half: other_half(self.half),
             generation: target.generation,
             used: measure.used,
@@ -214,7 +219,7 @@ impl Journal {
     }
 
     // The next record goes there.
-    pub(crate) fn move_to(&mut self, place: Place)
+    pub(crate) fn move_to(&mut self, place: JournalEnd)
         requires header { 32 ≤ place.used }
         requires gate { place.used + 1 ≤ half_length self.old.standing.shape }
         ensures { self.new ≡ moved self.old place }

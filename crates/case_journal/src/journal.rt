@@ -15,11 +15,11 @@ ghost use Rattle.case_journal.specs.Journaled.{Journaled, halted, after_append};
 ghost use Rattle.case_journal.specs.Keeping.{Keeps, LeavesEither, LeavesOutside};
 ghost use Rattle.case_journal.specs.Append.{MayStore, MayFollow, StoreStep, AppendStep, IsStoreDiskFault, RefusalLeaves, StoreRefusalLeaves};
 ghost use Rattle.case_journal.specs.Entering.{left, repinned, PutStep};
-ghost use Rattle.case_journal.specs.Putting.{IsPut, BehindStep, HasRoomFor, RunsAppend, written_at, written_long};
+ghost use Rattle.case_journal.specs.Putting.{IsPut, BehindStep, DecidesFit, RunsAppend, written_at, written_long};
 ghost use Rattle.case_journal.specs.Compacting.{PutLeaves};
 
 use crate::JournalFault;
-use crate::compacting::{Place, room_beside};
+use crate::compacting::{JournalEnd, measure_snapshot};
 use crate::live_entries::{LiveEntries, find_entry};
 use crate::publish::publish;
 use disk_model::Disk;
@@ -111,22 +111,22 @@ impl Journal {
 
     // Whether a record of `size` bytes, and the gate behind it, go behind those that stand there.
     pub(crate) fn fits(&self, size: u64) -> bool
-        ensures room { result ≡ nat_lt (self.now.standing.used + size) (half_length self.now.standing.shape) }
+        ensures in_half { result ≡ nat_lt (self.now.standing.used + size) (half_length self.now.standing.shape) }
         ensures small { result ≡ true → size ≤ 16777216 }
     {
         size < self.shape.half_length() - self.used
     }
 
     // Whether a case has room, behind the records or in the other half. Its number is not looked at.
-    fn room_for(&self, entry: &Entry, size: u64) -> Result<(), JournalFault>
+    fn check_fit(&self, entry: &Entry, size: u64) -> Result<(), JournalFault>
         requires size { size ≡ record_size (store_of self.now.standing (case_of entry.now)) }
         requires short { length entry.now.runs ≤ 2 ^ 52 }
         requires no_label { entry.now.label.items ≡ [] }
-        ensures { HasRoomFor self.now.standing (store_of self.now.standing (case_of entry.now)) result }
+        ensures { DecidesFit self.now.standing (store_of self.now.standing (case_of entry.now)) result }
     {
         if !self.fits(size) {
             let change = Change::Store(0, entry);
-            room_beside(
+            measure_snapshot(
                 self.entries.as_slice(),
                 self.shape,
                 self.generation,
@@ -141,10 +141,10 @@ impl Journal {
         &self,
         disk: &mut D,
         behind: &[u8],
-    ) -> Result<Place, JournalFault>
+    ) -> Result<JournalEnd, JournalFault>
         requires keeps { Keeps D.Disk disk.old self.now }
         requires runs { self.now.stopped ≡ false }
-        requires room { self.now.standing.used + length behind.now + 1 ≤ half_length self.now.standing.shape }
+        requires in_half { self.now.standing.used + length behind.now + 1 ≤ half_length self.now.standing.shape }
         ensures step { BehindStep self.now.standing (length behind.now) result }
         ensures run { (r : Record) → IsPut self.now.standing r behind.now → RunsAppend D.Disk disk.old disk.new self.now.standing r }
         ensures kept { (r : Record) → IsPut self.now.standing r behind.now
@@ -153,7 +153,7 @@ impl Journal {
     {
         let gate = self.shape.half_start(self.half) + self.used;
         publish(disk, gate, behind)?;
-        Ok(Place {
+        Ok(JournalEnd {
             half: self.half,
             generation: self.generation,
             used: self.used + behind.len() as u64,
@@ -167,7 +167,7 @@ impl Journal {
         seq: u32,
         entry: &Entry,
         size: u64,
-    ) -> Result<Place, JournalFault>
+    ) -> Result<JournalEnd, JournalFault>
         requires keeps { Keeps D.Disk disk.old self.now }
         requires runs { self.now.stopped ≡ false }
         requires number { seq ≡ self.now.standing.next }
@@ -180,7 +180,7 @@ impl Journal {
         ensures cause { result ≡ Err JournalFault.Disk → HasRisen (D.failures disk.old) (D.failures disk.new) }
     {
         if !self.fits(size) {
-            return self.put_beside(
+            return self.put_snapshot(
                 disk,
                 &Change::Store(seq, entry),
                 self.version,
@@ -192,7 +192,7 @@ impl Journal {
     }
 
     // Puts the record of cases that end, or writes the journal anew without them. They are not left out yet.
-    fn put_drop<D: Disk>(&self, disk: &mut D, seqs: &[u32]) -> Result<Place, JournalFault>
+    fn put_drop<D: Disk>(&self, disk: &mut D, seqs: &[u32]) -> Result<JournalEnd, JournalFault>
         requires keeps { Keeps D.Disk disk.old self.now }
         requires runs { self.now.stopped ≡ false }
         requires sound { MayFollow self.now.standing (Drop seqs.now) }
@@ -204,7 +204,7 @@ impl Journal {
     {
         let size = drop_size(seqs);
         if !self.fits(size) {
-            return self.put_beside(disk, &Change::Drop(seqs), self.version, self.next);
+            return self.put_snapshot(disk, &Change::Drop(seqs), self.version, self.next);
         }
         let record = drop_record(self.alloc(), seqs, size)?;
         self.put_behind(disk, &record)
@@ -212,7 +212,12 @@ impl Journal {
 
     // Puts the record of a pin, or writes the journal anew with it. The flag is not set yet. Behind the records it takes no
     // memory.
-    fn put_pin<D: Disk>(&self, disk: &mut D, seq: u32, flag: bool) -> Result<Place, JournalFault>
+    fn put_pin<D: Disk>(
+        &self,
+        disk: &mut D,
+        seq: u32,
+        flag: bool,
+    ) -> Result<JournalEnd, JournalFault>
         requires keeps { Keeps D.Disk disk.old self.now }
         requires runs { self.now.stopped ≡ false }
         requires sound { MayFollow self.now.standing (Pin seq flag) }
@@ -224,7 +229,7 @@ impl Journal {
         ensures cause { result ≡ Err JournalFault.Disk → HasRisen (D.failures disk.old) (D.failures disk.new) }
     {
         if !self.fits(PIN_SIZE) {
-            return self.put_beside(disk, &Change::Pin(seq, flag), self.version, self.next);
+            return self.put_snapshot(disk, &Change::Pin(seq, flag), self.version, self.next);
         }
         self.put_behind(disk, &pin_record(seq, flag))
     }
@@ -263,7 +268,7 @@ impl Journal {
             return Err((JournalFault::Stopped, entry));
         }
         let size = store_size(&entry);
-        if let Err(fault) = self.room_for(&entry, size) {
+        if let Err(fault) = self.check_fit(&entry, size) {
             return Err((fault, entry));
         }
         if self.next > u64::from(u32::MAX) {

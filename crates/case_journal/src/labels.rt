@@ -18,7 +18,7 @@ ghost use Rattle.case_journal.specs.Journaled.{after_append};
 ghost use Rattle.case_journal.specs.Keeping.{Keeps, LeavesEither, LeavesOutside};
 ghost use Rattle.case_journal.specs.Putting.{RunsAppend, written_at, written_long};
 
-use crate::compacting::Place;
+use crate::compacting::JournalEnd;
 use crate::front::LABELS;
 use crate::{Journal, JournalFault};
 use disk_model::Disk;
@@ -113,7 +113,7 @@ impl Journal {
         disk: &mut D,
         seq: u32,
         label: &Label,
-    ) -> Result<Place, JournalFault>
+    ) -> Result<JournalEnd, JournalFault>
         requires keeps { Keeps D.Disk disk.old self.now }
         requires runs { self.now.stopped ≡ false }
         requires sound { MayFollow self.now.standing (Label seq label.now.items) }
@@ -125,7 +125,7 @@ impl Journal {
         ensures cause { result ≡ Err JournalFault.Disk → HasRisen (D.failures disk.old) (D.failures disk.new) }
     {
         if !self.fits(label_size(label.as_slice())) {
-            return self.put_beside(disk, &Change::Label(seq, label), self.version, self.next);
+            return self.put_snapshot(disk, &Change::Label(seq, label), self.version, self.next);
         }
         self.put_label_behind(disk, seq, label.as_slice())
     }
@@ -136,11 +136,11 @@ impl Journal {
         disk: &mut D,
         seq: u32,
         label: &[u8],
-    ) -> Result<Place, JournalFault>
+    ) -> Result<JournalEnd, JournalFault>
         requires keeps { Keeps D.Disk disk.old self.now }
         requires runs { self.now.stopped ≡ false }
         requires sound { MayFollow self.now.standing (Label seq label.now) }
-        requires room { fits self.now.standing (Label seq label.now) ≡ true }
+        requires in_half { fits self.now.standing (Label seq label.now) ≡ true }
         ensures step { PutStep self.now.standing (Label seq label.now) result }
         ensures run { RunsAppend D.Disk disk.old disk.new self.now.standing (Label seq label.now) }
         ensures kept { OnOk result (Keeps D.Disk disk.new (after_append self.now (Label seq label.now))) }
@@ -194,7 +194,7 @@ impl Journal {
         if self.version == LABELS {
             return Ok(());
         }
-        match self.put_beside(disk, &Change::Upgrade, LABELS, self.next) {
+        match self.put_snapshot(disk, &Change::Upgrade, LABELS, self.next) {
             Ok(place) => {
                 self.move_to(place);
                 self.take_version();

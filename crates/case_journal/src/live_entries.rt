@@ -28,7 +28,7 @@ impl Model for LiveEntries {
 
     ghost Value = { LiveList };
 
-    ghost view = { λ l. record { entries = drop l.first l.all.items; room = vec_capacity l.all - vec_len l.all } };
+    ghost view = { λ l. record { entries = drop l.first l.all.items; spare = vec_capacity l.all - vec_len l.all } };
 
     ghost invariant = { λ l. 2 * l.first ≤ length l.all.items };
 }
@@ -56,14 +56,14 @@ impl LiveEntries {
     /// Makes room for one more. `AllocError`: there was no memory for it.
     pub(crate) fn reserve(&mut self) -> Result<(), AllocError>
         ensures entries { self.new.entries ≡ self.old.entries }
-        ensures room { OnOk result (0 < self.new.room) }
+        ensures spare { OnOk result (0 < self.new.spare) }
     {
         self.all.reserve(1)
     }
 
     /// Puts an entry behind the others, where there is room for it.
     pub(crate) fn push(&mut self, entry: Entry)
-        requires { 0 < self.old.room }
+        requires { 0 < self.old.spare }
         ensures { self.new.entries ≡ self.old.entries ++ entry ∷ [] }
     {
         self.all.push(entry).unwrap();

@@ -8,12 +8,12 @@ use Rattle.disk_model.specs.declared.disk.Disk as disk
 use Rattle.intake.specs.Parts.{Parts, state_of}
 use Rattle.intake.specs.StayLaws.{stays_none}
 use Rattle.intake.specs.declared.faults.ArchiveFault.{ArchiveFault}
-use Rattle.case_queries.specs.Gathering.{Gathers, GathersAll, Wanted, wanted_of, with_executable}
-use Rattle.case_queries.specs.GatheringWords.{executable_view, gathered_view}
-use Rattle.case_queries.specs.Keeping.{StayGathered}
+use Rattle.case_queries.specs.Collecting.{Collects, CollectsAll, Wanted, wanted_of, with_executable}
+use Rattle.case_queries.specs.CollectingWords.{executable_view, collected_view}
+use Rattle.case_queries.specs.Keeping.{StayCollected}
 use Rattle.case_queries.specs.Seeing.{AreOfCase, SeesImage}
-use Rattle.case_queries.specs.declared.gather.Executable.{Executable}
-use Rattle.case_queries.specs.LeaveLaws.{Leaves, leaves_as, leaves_then, looks_leaves, gathers_leaves, all_leaves, own_still}
+use Rattle.case_queries.specs.declared.collect_executables.StoredExecutable.{StoredExecutable}
+use Rattle.case_queries.specs.LeaveLaws.{Leaves, leaves_as, leaves_then, looks_leaves, collects_leaves, all_leaves, own_still}
 use Rattle.journal_layout.specs.Case.{Case}
 
 abbrev is_given : {A B : Type 0} → Result A B → Bool
@@ -38,16 +38,16 @@ module _ {D : Type 0} (g : disk.Ghosts D) (now : Parts D) (only : (c : List ℕ)
 
   -- one more before those that are gathered again
   one_again : (old mid new : Parts D) (x : Wanted) (xs : List Wanted) (image : List ℕ) (views : List ExecutableView) (others : Result (List ExecutableView) ArchiveFault)
-      → ((list : List ExecutableView) → Gathers g mid xs (Ok list) new → Gathers g now xs (Ok list) now)
-      → SeesImage g old x.0 image mid → Leaves g new now → Gathers g mid xs others new → Ok views ≡ with_executable x.1 image others → Gathers g now (x ∷ xs) (Ok views) now
-  one_again old mid new x xs image views (Ok list) more looks leaves gathers is =
-      let behind = leaves_then g mid new now (gathers_leaves g mid new xs (Ok list) gathers) leaves in
+      → ((list : List ExecutableView) → Collects g mid xs (Ok list) new → Collects g now xs (Ok list) now)
+      → SeesImage g old x.0 image mid → Leaves g new now → Collects g mid xs others new → Ok views ≡ with_executable x.1 image others → Collects g now (x ∷ xs) (Ok views) now
+  one_again old mid new x xs image views (Ok list) more looks leaves collects is =
+      let behind = leaves_then g mid new now (collects_leaves g mid new xs (Ok list) collects) leaves in
       let all = leaves_then g old mid now (looks_leaves g old mid x.0 (Ok image) looks) behind in
-      (Ok image, now, seen_again x.0 image (own_still g old now x.0 image all looks.own), inr (Ok list, more list gathers, is))
-  one_again old mid new x xs image views (Err f) more looks leaves gathers is = absurd (given_not views f is)
+      (Ok image, now, seen_again x.0 image (own_still g old now x.0 image all looks.own), inr (Ok list, more list collects, is))
+  one_again old mid new x xs image views (Err f) more looks leaves collects is = absurd (given_not views f is)
 
-  again : (old new : Parts D) (xs : List Wanted) (views : List ExecutableView) → Leaves g new now → Gathers g old xs (Ok views) new → Gathers g now xs (Ok views) now
-  again old new [] views leaves gathers = (gathers.0, refl)
+  again : (old new : Parts D) (xs : List Wanted) (views : List ExecutableView) → Leaves g new now → Collects g old xs (Ok views) new → Collects g now xs (Ok views) now
+  again old new [] views leaves collects = (collects.0, refl)
   again old new (x ∷ xs) views leaves (Ok image, mid, looks, more) =
       ⊎_elim
       (λ short. absurd (given_not views _ short.0))
@@ -55,21 +55,21 @@ module _ {D : Type 0} (g : disk.Ghosts D) (now : Parts D) (only : (c : List ℕ)
       more
   again old new (x ∷ xs) views leaves (Err f, mid, looks, more) = absurd (given_not views f more.0)
 
-  all_again : (old : Parts D) (b : List ℕ) (views : List ExecutableView) → GathersAll g old (wanted_of b (state_of old).cases) (Ok views) now → Gathers g now (wanted_of b (state_of now).cases) (Ok views) now
+  all_again : (old : Parts D) (b : List ℕ) (views : List ExecutableView) → CollectsAll g old (wanted_of b (state_of old).cases) (Ok views) now → Collects g now (wanted_of b (state_of now).cases) (Ok views) now
   all_again old b views all =
       let leaves = all_leaves g old now (wanted_of b (state_of old).cases) (Ok views) all in
-      subst (λ (cases : List Case). Gathers g now (wanted_of b cases) (Ok views) now) (sym leaves.cases)
-      (⊎_elim (λ short. absurd (given_not views _ short.0)) (λ gathers. again old now (wanted_of b (state_of old).cases) views (leaves_as g now now refl) gathers) all)
+      subst (λ (cases : List Case). Collects g now (wanted_of b cases) (Ok views) now) (sym leaves.cases)
+      (⊎_elim (λ short. absurd (given_not views _ short.0)) (λ collects. again old now (wanted_of b (state_of old).cases) views (leaves_as g now now refl) collects) all)
 
   -- what was gathered just now may be kept
-  pub stay_gathered : (old : Parts D) (b : List ℕ) (r : Result (Vec Executable Global) ArchiveFault) → GathersAll g old (wanted_of b (state_of old).cases) (gathered_view r) now
-      → IfOk r (λ v. StayGathered g now b (Some v))
-  stay_gathered old b (Ok v) all = all_again old b (map executable_view v.items) all
-  stay_gathered old b (Err f) all = tt
+  pub stay_collected : (old : Parts D) (b : List ℕ) (r : Result (Vec StoredExecutable Global) ArchiveFault) → CollectsAll g old (wanted_of b (state_of old).cases) (collected_view r) now
+      → IfOk r (λ v. StayCollected g now b (Some v))
+  stay_collected old b (Ok v) all = all_again old b (map executable_view v.items) all
+  stay_collected old b (Err f) all = tt
 
   -- and what was gathered before may still be kept
-  pub stay_after : (old : Parts D) (b : List ℕ) (kept : Option (Vec Executable Global)) → Leaves g old now → StayGathered g old b kept → StayGathered g now b kept
+  pub stay_after : (old : Parts D) (b : List ℕ) (kept : Option (Vec StoredExecutable Global)) → Leaves g old now → StayCollected g old b kept → StayCollected g now b kept
   stay_after old b None leaves stay = tt
   stay_after old b (Some v) leaves stay =
-      subst (λ (cases : List Case). Gathers g now (wanted_of b cases) (Ok (map executable_view v.items)) now) (sym leaves.cases)
+      subst (λ (cases : List Case). Collects g now (wanted_of b cases) (Ok (map executable_view v.items)) now) (sym leaves.cases)
       (again old old (wanted_of b (state_of old).cases) (map executable_view v.items) leaves stay)

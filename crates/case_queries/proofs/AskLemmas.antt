@@ -23,9 +23,9 @@ module _ {D : Type 0} (g : disk.Ghosts D) where
   held_if a None k is held = tt
   held_if a (Some x) k is held = subst (λ (y : KeptImage). IsKept g a (Some y)) (sym is) held
 
-  pub gathered_if : (a : Parts D) (o : Option KeptImage) (k : KeptImage) → IfSome o (λ (x : KeptImage). x ≡ k) → AreKept g a (Some k) → AreKept g a o
-  gathered_if a None k is held = tt
-  gathered_if a (Some x) k is held = subst (λ (y : KeptImage). AreKept g a (Some y)) (sym is) held
+  pub collected_if : (a : Parts D) (o : Option KeptImage) (k : KeptImage) → IfSome o (λ (x : KeptImage). x ≡ k) → AreKept g a (Some k) → AreKept g a o
+  collected_if a None k is held = tt
+  collected_if a (Some x) k is held = subst (λ (y : KeptImage). AreKept g a (Some y)) (sym is) held
 
   -- a reason, and an answer, as they were told
   pub reason_told : (a : Parts D) (seq : ℕ) (q : QuerySaid) (reason : List ℕ) (k : Result Kind (List ℕ)) → Err reason ≡ k → Asks g a seq q k (no_reply reason) a

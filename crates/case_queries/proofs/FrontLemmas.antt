@@ -155,10 +155,10 @@ module _ {D : Type 0} (g : disk.Ghosts D) where
       (image, sees, sym (take-append_seam front (replicate (c.len - length front) 0)), long)
 
   -- What is read so far: it is short of the image's size, for which there is room.
-  pub record FrontIsRead (old : Parts D) (seq size : ℕ) (front : List ℕ) (room : ℕ) (now : Parts D) : Type 0 where
+  pub record FrontIsRead (old : Parts D) (seq size : ℕ) (front : List ℕ) (buffer : ℕ) (now : Parts D) : Type 0 where
     pub reads : ReadsFront g old seq front now
     pub short : length front ≤ size
-    pub fits : size ≤ room
+    pub fits : size ≤ buffer
 
   -- no more is asked for than there is
   pub size_fits : (s t : ArchiveState) (seq size end : ℕ) → HasSize s seq size → t ≡ s → end ≤ size → (c : Case) → case_numbered seq t.cases ≡ Some c → end ≤ c.len
@@ -167,17 +167,17 @@ module _ {D : Type 0} (g : disk.Ghosts D) where
       let is = ap (λ (x : Case). x.len) (same_Some has.0 c (sym has.1.1 ∙ found)) in
       omega (arith, within, is, has.2)
 
-  pub read_first : (old new : Parts D) (seq size end room : ℕ) (front front' : List ℕ) → length front ≡ 0 → ReadsUpTo g old seq front end (Ok tt) front' new → length front' ≤ size → size ≤ room → FrontIsRead old seq size front' room new
-  read_first old new seq size end room [] front' none up short fits = record {
+  pub read_first : (old new : Parts D) (seq size end buffer : ℕ) (front front' : List ℕ) → length front ≡ 0 → ReadsUpTo g old seq front end (Ok tt) front' new → length front' ≤ size → size ≤ buffer → FrontIsRead old seq size front' buffer new
+  read_first old new seq size end buffer [] front' none up short fits = record {
     reads = subst (λ x. ReadsFront g old seq x new) (sym up.2) (first_read old new seq (end - 0) up.0 up.1);
     short = short;
     fits = fits;
   }
-  read_first old new seq size end room (x ∷ xs) front' none up short fits = absurd (omega (arith, none))
+  read_first old new seq size end buffer (x ∷ xs) front' none up short fits = absurd (omega (arith, none))
 
-  pub read_next : (old mid new : Parts D) (seq size end room room' : ℕ) (front front' : List ℕ) → FrontIsRead old seq size front room mid → ReadsUpTo g mid seq front end (Ok tt) front' new → length front' ≤ size → room ≤ room'
-      → FrontIsRead old seq size front' room' new
-  read_next old mid new seq size end room room' front front' so_far up short more = record {
+  pub read_next : (old mid new : Parts D) (seq size end buffer buffer' : ℕ) (front front' : List ℕ) → FrontIsRead old seq size front buffer mid → ReadsUpTo g mid seq front end (Ok tt) front' new → length front' ≤ size → buffer ≤ buffer'
+      → FrontIsRead old seq size front' buffer' new
+  read_next old mid new seq size end buffer buffer' front front' so_far up short more = record {
     reads = subst (λ x. ReadsFront g old seq x new) (sym up.2) (next_read old mid new seq (end - length front) front up.0 so_far.reads up.1);
     short = short;
     fits = (let f = so_far.fits in omega arith);
@@ -186,9 +186,9 @@ module _ {D : Type 0} (g : disk.Ghosts D) where
   pub refused_first : (old new : Parts D) (seq size end : ℕ) (front front' : List ℕ) (f : ArchiveFault) → HasSize (state_of old) seq size → ReadsUpTo g old seq front end (Err f) front' new → LooksAt g old seq (Err f) new
   refused_first old new seq size end front front' f has up = first_refused old new seq (length front) (end - length front) up.0 f has.0 has.1 up.1
 
-  pub refused_next : (old mid new : Parts D) (seq size end room : ℕ) (front front' : List ℕ) (f : ArchiveFault) → HasSize (state_of old) seq size → FrontIsRead old seq size front room mid
+  pub refused_next : (old mid new : Parts D) (seq size end buffer : ℕ) (front front' : List ℕ) (f : ArchiveFault) → HasSize (state_of old) seq size → FrontIsRead old seq size front buffer mid
       → ReadsUpTo g mid seq front end (Err f) front' new → LooksAt g old seq (Err f) new
-  refused_next old mid new seq size end room front front' f has so_far up = later_refused old mid new seq (length front) (end - length front) front up.0 f has.0 has.1 so_far.reads up.1
+  refused_next old mid new seq size end buffer front front' f has so_far up = later_refused old mid new seq (length front) (end - length front) front up.0 f has.0 has.1 so_far.reads up.1
 
   pub read_enough : (old new : Parts D) (seq size : ℕ) (want : Want) (image : Vec ℕ Global) → HasSize (state_of old) seq size → FrontIsRead old seq size image.items (vec_capacity image) new
       → (length image.items ≡ size) ⊎ IsSoundFront want image.items → ReadsEnough g old seq want size (Ok image) new
@@ -205,7 +205,7 @@ module _ {D : Type 0} (g : disk.Ghosts D) where
   pub read_is_kept : (old new : Parts D) (seq size : ℕ) (want : Want) (k : KeptImage) → k.seq ≡ seq → (k.is_whole ≡ true → length k.image.items ≡ size) → ReadsEnough g old seq want size (Ok k.image) new → IsKept g new (Some k)
   read_is_kept old new seq size want k at whole reads =
       let own = own_still g old new seq reads.0 (looks_leaves g old new seq (Ok reads.0) reads.1) reads.1.own in
-      (reads.0, subst (λ n. AreOfCase g new n reads.0) (sym at) own, reads.2, λ is. reads.2 ∙ ap (λ n. take n reads.0) (whole is ∙ sym reads.3) ∙ take_all (length reads.0) reads.0 (omega arith), λ cut. (let long = reads.3 in let room = reads.5 in omega arith))
+      (reads.0, subst (λ n. AreOfCase g new n reads.0) (sym at) own, reads.2, λ is. reads.2 ∙ ap (λ n. take n reads.0) (whole is ∙ sym reads.3) ∙ take_all (length reads.0) reads.0 (omega arith), λ cut. (let long = reads.3 in let buffer = reads.5 in omega arith))
 
   -- the whole image, read now
   pub whole_is_kept : (old new : Parts D) (seq : ℕ) (k : KeptImage) → k.seq ≡ seq → k.is_whole ≡ true → SeesImage g old seq k.image.items new → IsKept g new (Some k)

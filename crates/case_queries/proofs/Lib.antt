@@ -1,4 +1,4 @@
-pub mod GatherLemmas
+pub mod CollectLemmas
 pub mod AskLemmas
 pub mod AgainLemmas
 pub mod ShowLemmas

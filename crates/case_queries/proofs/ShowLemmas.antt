@@ -8,7 +8,7 @@ use Rattle.elf_view.specs.Sound.{IsHeaderWhole, IsSound}
 use Rattle.elf_view.specs.declared.faults.Want.TheVariants.{Core}
 use Rattle.memory_replies.specs.Memory.{has_name, mapped_files}
 use Rattle.case_queries.specs.Fronts.{IsEnough}
-use Rattle.case_queries.specs.Gathering.{is_exec, wanted_case, wanted_of}
+use Rattle.case_queries.specs.Collecting.{is_exec, wanted_case, wanted_of}
 use Rattle.case_queries.specs.Windows.{IsSeenBy}
 use Rattle.disk_model.specs.declared.disk.Disk as disk
 use Rattle.image_replies.specs.Core.{core_fault_of}
@@ -27,7 +27,7 @@ use Rattle.script_lines.specs.declared.query.ImageQuery.TheVariants.{Header, Not
 use Rattle.script_lines.specs.declared.query.MemoryQuery.{MemoryQuery}
 use Rattle.script_lines.specs.declared.query.MemoryQuery.TheVariants.{Dump, Find, Strings, Backtrace, Unwind, Frame, Builds}
 use Rattle.script_streams.specs.Replies.{IsOutcome, no_reply, reply_of}
-use Rattle.case_queries.specs.Inspecting.{Shows, ShowsBeside, ShowsCore, answer_of}
+use Rattle.case_queries.specs.Inspecting.{Shows, ShowsWithExecutables, ShowsCore, answer_of}
 
 -- a reply of which it is known what became of it
 pub answered : (outcome : Outcome) (answer : Result (List ℕ) (List ℕ)) (reply : List ℕ) → AnswersWith outcome answer reply → Answers answer reply
@@ -61,18 +61,18 @@ module _ {D : Type 0} (g : disk.Ghosts D) (a : Parts D) (kind : Kind) (b : List 
   image_shown Files = (refl, refl)
   image_shown Maps = (refl, refl)
 
-  beside_shown : (q : MemoryQuery) (reply : List ℕ) (new : Parts D) → ShowsBeside g a kind (memory_query q) b (core_fault_of b) reply new → Shows g a kind (memory_query q) b reply new
-  beside_shown (Dump first length) reply new shows = shows
-  beside_shown (Find needle) reply new shows = shows
-  beside_shown (Strings least) reply new shows = shows
-  beside_shown (Backtrace thread) reply new shows = shows
-  beside_shown (Unwind thread) reply new shows = shows
-  beside_shown (Frame thread frame) reply new shows = shows
-  beside_shown Builds reply new shows = shows
+  with_executables_shown : (q : MemoryQuery) (reply : List ℕ) (new : Parts D) → ShowsWithExecutables g a kind (memory_query q) b (core_fault_of b) reply new → Shows g a kind (memory_query q) b reply new
+  with_executables_shown (Dump first length) reply new shows = shows
+  with_executables_shown (Find needle) reply new shows = shows
+  with_executables_shown (Strings least) reply new shows = shows
+  with_executables_shown (Backtrace thread) reply new shows = shows
+  with_executables_shown (Unwind thread) reply new shows = shows
+  with_executables_shown (Frame thread frame) reply new shows = shows
+  with_executables_shown Builds reply new shows = shows
 
   -- a core that has a fault
   pub fault_shown : (q : MemoryQuery) (fault : CoreFault) → Some fault ≡ core_fault_of b → Shows g a kind (memory_query q) b (no_reply (core_reason fault)) a
-  fault_shown q fault is = beside_shown q (no_reply (core_reason fault)) a (rw (sym is) (refl, refl))
+  fault_shown q fault is = with_executables_shown q (no_reply (core_reason fault)) a (rw (sym is) (refl, refl))
 
   -- an executable's symbol
   pub symbol_shown : (address : ℕ) (outcome : Outcome) (reply : List ℕ) → AnswersWith outcome (symbol_answer b address) reply → (outcome ≡ OutOfMemory → executable_fault b ≡ None)
@@ -83,7 +83,7 @@ module _ {D : Type 0} (g : disk.Ghosts D) (a : Parts D) (kind : Kind) (b : List 
 
   -- a core that has none, of which the first bytes show so much
   pub core_shown : (q : MemoryQuery) (front : List ℕ) (reply : List ℕ) (new : Parts D) → core_fault_of front ≡ core_fault_of b → None ≡ core_fault_of front → ShowsCore g a kind (memory_query q) b reply new → Shows g a kind (memory_query q) b reply new
-  core_shown q front reply new same none shows = beside_shown q reply new (subst (λ (o : Option CoreFault). ShowsBeside g a kind (memory_query q) b o reply new) (none ∙ same) shows)
+  core_shown q front reply new same none shows = with_executables_shown q reply new (subst (λ (o : Option CoreFault). ShowsWithExecutables g a kind (memory_query q) b o reply new) (none ∙ same) shows)
 
 -- These bytes are enough of the image.
 pub seen_enough : (q : MemoryQuery) (front : List ℕ) (size at : ℕ) (bytes image : List ℕ) → IsSeenBy q front size at bytes image → IsEnough Core front image

@@ -290,13 +290,13 @@ module _ {D : Type 0} (g : disk.Ghosts D) where
       subst (λ b. SeesImage g old seq b new) (sym all) seen.1
 
   -- there is room for what is left
-  pub kept_room : (a : Parts D) (seq size : ℕ) (k : KeptImage) → HasSize (state_of a) seq size → IsKept g a (Some k) → k.seq ≡ seq → k.is_whole ≡ false → (length k.image.items ≤ size) × (size ≤ vec_capacity k.image)
-  kept_room a seq size k has kept at cut =
+  pub kept_buffer : (a : Parts D) (seq size : ℕ) (k : KeptImage) → HasSize (state_of a) seq size → IsKept g a (Some k) → k.seq ≡ seq → k.is_whole ≡ false → (length k.image.items ≤ size) × (size ≤ vec_capacity k.image)
+  kept_buffer a seq size k has kept at cut =
       let found : case_numbered k.seq (state_of a).cases ≡ Some has.0 = ap (λ i. case_numbered i (state_of a).cases) at ∙ has.1.1 in
       let own = kept.1.long has.0 found in
       let short = front_short k.image.items kept.0 kept.2 in
-      let room = kept.4 cut in
-      (omega (arith, own, short, has.2), omega (arith, own, room, has.2))
+      let buffer = kept.4 cut in
+      (omega (arith, own, short, has.2), omega (arith, own, buffer, has.2))
 
   pub still_sized : (old new : Parts D) (seq size : ℕ) (want : Want) (k : KeptImage) → HasSize (state_of old) seq size → SeesEnough g old seq want (Ok k) new → HasSize (state_of new) seq size
   still_sized old new seq size want k has seen = subst (λ (s : ArchiveState). HasSize s seq size) (sym seen.1.state) has

@@ -35,7 +35,7 @@ use Rattle.memory_replies.specs.Texts.{strings_answer}
 use Rattle.memory_replies.specs.Symbol.{symbol_answer, executable_fault}
 use Rattle.script_lines.specs.Queries.{QuerySaid, ask_header, ask_notes, ask_threads, ask_registers, ask_process, ask_signal, ask_auxiliary_vector, ask_files, ask_maps, ask_dump, ask_find, ask_strings, ask_backtrace, ask_unwind, ask_frame, ask_builds, ask_symbol}
 use Rattle.script_streams.specs.Replies.{no_reply, reply_of}
-use Rattle.case_queries.specs.Gathering.{GathersAll, wanted_of}
+use Rattle.case_queries.specs.Collecting.{CollectsAll, wanted_of}
 use Rattle.archive_replies.specs.Reasons.{reason_of}
 use Rattle.case_queries.specs.Seeing.{LooksAt}
 
@@ -100,22 +100,22 @@ Told kind (ask_symbol address) b reply = (reply ≡ reply_of (symbol_answer b ad
 Told kind q b reply = reply ≡ reply_of (answer_of kind q b [])
 
 -- the reply where these executables are read, or one can't be
-abbrev pub ToldBeside : Kind → QuerySaid → List ℕ → Result (List ExecutableView) ArchiveFault → List ℕ → Type 0
-ToldBeside kind q b (Ok xs) reply = Answers (answer_of kind q b xs) reply
-ToldBeside kind q b (Err f) reply = reply ≡ no_reply (reason_of f)
+abbrev pub ToldWithExecutables : Kind → QuerySaid → List ℕ → Result (List ExecutableView) ArchiveFault → List ℕ → Type 0
+ToldWithExecutables kind q b (Ok xs) reply = Answers (answer_of kind q b xs) reply
+ToldWithExecutables kind q b (Err f) reply = reply ≡ no_reply (reason_of f)
 
 -- a core that has no fault, with the executables that are read beside it
 abbrev pub ShowsCore : {D : Type 0} → disk.Ghosts D → Parts D → Kind → QuerySaid → List ℕ → List ℕ → Parts D → Type 0
 ShowsCore g old kind q b reply new =
-    (r : Result (List ExecutableView) ArchiveFault) × GathersAll g old (wanted_of b (state_of old).cases) r new × ToldBeside kind q b r reply
+    (r : Result (List ExecutableView) ArchiveFault) × CollectsAll g old (wanted_of b (state_of old).cases) r new × ToldWithExecutables kind q b r reply
 
 -- the executables are read where the core has no fault
-abbrev pub ShowsBeside : {D : Type 0} → disk.Ghosts D → Parts D → Kind → QuerySaid → List ℕ → Option CoreFault → List ℕ → Parts D → Type 0
-ShowsBeside g old kind q b (Some fault) reply new = (reply ≡ no_reply (core_reason fault)) × (new ≡ old)
-ShowsBeside g old kind q b None reply new = ShowsCore g old kind q b reply new
+abbrev pub ShowsWithExecutables : {D : Type 0} → disk.Ghosts D → Parts D → Kind → QuerySaid → List ℕ → Option CoreFault → List ℕ → Parts D → Type 0
+ShowsWithExecutables g old kind q b (Some fault) reply new = (reply ≡ no_reply (core_reason fault)) × (new ≡ old)
+ShowsWithExecutables g old kind q b None reply new = ShowsCore g old kind q b reply new
 
 abbrev pub ShowsBy : {D : Type 0} → disk.Ghosts D → Parts D → Kind → QuerySaid → List ℕ → Bool → List ℕ → Parts D → Type 0
-ShowsBy g old kind q b true reply new = ShowsBeside g old kind q b (core_fault_of b) reply new
+ShowsBy g old kind q b true reply new = ShowsWithExecutables g old kind q b (core_fault_of b) reply new
 ShowsBy g old kind q b false reply new = Told kind q b reply × (new ≡ old)
 
 -- what a query shows of an image

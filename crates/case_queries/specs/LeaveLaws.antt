@@ -19,8 +19,8 @@ use Rattle.journal_layout.specs.Soundness.{case_numbered}
 use Rattle.journal_layout.specs.Case.{Case}
 use Rattle.journal_layout.specs.declared.entry.Kind.{Kind}
 use Rattle.script_lines.specs.Queries.{QuerySaid}
-use Rattle.case_queries.specs.Gathering.{Gathers, GathersAll, Wanted}
-use Rattle.case_queries.specs.Inspecting.{Asks, ShowsBy, ShowsBeside, ShowsSeen, reads_executables}
+use Rattle.case_queries.specs.Collecting.{Collects, CollectsAll, Wanted}
+use Rattle.case_queries.specs.Inspecting.{Asks, ShowsBy, ShowsWithExecutables, ShowsSeen, reads_executables}
 use Rattle.case_queries.specs.Seeing.{AreOfCase, LooksAt}
 
 -- an image that can't be read: the archive stays as it is, or is stopped
@@ -114,22 +114,22 @@ module _ {D : Type 0} (g : disk.Ghosts D) where
         (unmoved_taken (contents_of g.seen old) (contents_of g.seen new) f (looks.bytes honest));
   }
 
-  pub gathers_leaves : (old new : Parts D) (xs : List Wanted) (r : Result (List ExecutableView) ArchiveFault) → Gathers g old xs r new → Leaves g old new
-  gathers_leaves old new [] r gathers = leaves_as old new gathers.1
-  gathers_leaves old new (x ∷ xs) r (Ok image, mid, looks, more) =
+  pub collects_leaves : (old new : Parts D) (xs : List Wanted) (r : Result (List ExecutableView) ArchiveFault) → Collects g old xs r new → Leaves g old new
+  collects_leaves old new [] r collects = leaves_as old new collects.1
+  collects_leaves old new (x ∷ xs) r (Ok image, mid, looks, more) =
       leaves_then old mid new (looks_leaves old mid x.0 (Ok image) looks)
-      (⊎_elim (λ short. leaves_as mid new short.1) (λ rest. gathers_leaves mid new xs rest.0 rest.1) more)
-  gathers_leaves old new (x ∷ xs) r (Err f, mid, looks, more) = leaves_then old mid new (looks_leaves old mid x.0 (Err f) looks) (leaves_as mid new more.1)
+      (⊎_elim (λ short. leaves_as mid new short.1) (λ rest. collects_leaves mid new xs rest.0 rest.1) more)
+  collects_leaves old new (x ∷ xs) r (Err f, mid, looks, more) = leaves_then old mid new (looks_leaves old mid x.0 (Err f) looks) (leaves_as mid new more.1)
 
-  pub all_leaves : (old new : Parts D) (xs : List Wanted) (r : Result (List ExecutableView) ArchiveFault) → GathersAll g old xs r new → Leaves g old new
-  all_leaves old new xs r all = ⊎_elim (λ short. leaves_as old new short.1) (λ gathers. gathers_leaves old new xs r gathers) all
+  pub all_leaves : (old new : Parts D) (xs : List Wanted) (r : Result (List ExecutableView) ArchiveFault) → CollectsAll g old xs r new → Leaves g old new
+  all_leaves old new xs r all = ⊎_elim (λ short. leaves_as old new short.1) (λ collects. collects_leaves old new xs r collects) all
 
-  beside_leaves : (old new : Parts D) (kind : Kind) (q : QuerySaid) (b : List ℕ) (fault : Option CoreFault) (reply : List ℕ) → ShowsBeside g old kind q b fault reply new → Leaves g old new
-  beside_leaves old new kind q b (Some fault) reply shows = leaves_as old new shows.1
-  beside_leaves old new kind q b None reply shows = all_leaves old new _ shows.0 shows.1
+  with_executables_leaves : (old new : Parts D) (kind : Kind) (q : QuerySaid) (b : List ℕ) (fault : Option CoreFault) (reply : List ℕ) → ShowsWithExecutables g old kind q b fault reply new → Leaves g old new
+  with_executables_leaves old new kind q b (Some fault) reply shows = leaves_as old new shows.1
+  with_executables_leaves old new kind q b None reply shows = all_leaves old new _ shows.0 shows.1
 
   pub shows_leaves : (old new : Parts D) (kind : Kind) (q : QuerySaid) (b : List ℕ) (t : Bool) (reply : List ℕ) → ShowsBy g old kind q b t reply new → Leaves g old new
-  shows_leaves old new kind q b true reply shows = beside_leaves old new kind q b (core_fault_of b) reply shows
+  shows_leaves old new kind q b true reply shows = with_executables_leaves old new kind q b (core_fault_of b) reply shows
   shows_leaves old new kind q b false reply shows = leaves_as old new shows.1
 
   seen_leaves : (old new : Parts D) (kind : Kind) (q : QuerySaid) (r : Result (List ℕ) ArchiveFault) (reply : List ℕ) → ShowsSeen g old kind q r reply new → Leaves g old new
@@ -162,23 +162,23 @@ module _ {D : Type 0} (g : disk.Ghosts D) (only : (d : D) (c : List ℕ) → g.l
   looks_quiet old new seq (Ok image) looks = looks.quiet
   looks_quiet old new seq (Err f) looks = looks.quiet
 
-  gathers_quiet : (old new : Parts D) (xs : List Wanted) (r : Result (List ExecutableView) ArchiveFault) → Gathers g old xs r new → Quiet old new
-  gathers_quiet old new [] r gathers = quiet_as old new gathers.1
-  gathers_quiet old new (x ∷ xs) r (Ok image, mid, looks, more) =
+  collects_quiet : (old new : Parts D) (xs : List Wanted) (r : Result (List ExecutableView) ArchiveFault) → Collects g old xs r new → Quiet old new
+  collects_quiet old new [] r collects = quiet_as old new collects.1
+  collects_quiet old new (x ∷ xs) r (Ok image, mid, looks, more) =
       quiet_then g old.disk mid.disk new.disk (looks_quiet old mid x.0 (Ok image) looks)
-      (⊎_elim (λ short. quiet_as mid new short.1) (λ rest. gathers_quiet mid new xs rest.0 rest.1) more)
-  gathers_quiet old new (x ∷ xs) r (Err f, mid, looks, more) =
+      (⊎_elim (λ short. quiet_as mid new short.1) (λ rest. collects_quiet mid new xs rest.0 rest.1) more)
+  collects_quiet old new (x ∷ xs) r (Err f, mid, looks, more) =
       quiet_then g old.disk mid.disk new.disk (looks_quiet old mid x.0 (Err f) looks) (quiet_as mid new more.1)
 
-  all_quiet : (old new : Parts D) (xs : List Wanted) (r : Result (List ExecutableView) ArchiveFault) → GathersAll g old xs r new → Quiet old new
-  all_quiet old new xs r all = ⊎_elim (λ short. quiet_as old new short.1) (λ gathers. gathers_quiet old new xs r gathers) all
+  all_quiet : (old new : Parts D) (xs : List Wanted) (r : Result (List ExecutableView) ArchiveFault) → CollectsAll g old xs r new → Quiet old new
+  all_quiet old new xs r all = ⊎_elim (λ short. quiet_as old new short.1) (λ collects. collects_quiet old new xs r collects) all
 
-  beside_quiet : (old new : Parts D) (kind : Kind) (q : QuerySaid) (b : List ℕ) (fault : Option CoreFault) (reply : List ℕ) → ShowsBeside g old kind q b fault reply new → Quiet old new
-  beside_quiet old new kind q b (Some fault) reply shows = quiet_as old new shows.1
-  beside_quiet old new kind q b None reply shows = all_quiet old new _ shows.0 shows.1
+  with_executables_quiet : (old new : Parts D) (kind : Kind) (q : QuerySaid) (b : List ℕ) (fault : Option CoreFault) (reply : List ℕ) → ShowsWithExecutables g old kind q b fault reply new → Quiet old new
+  with_executables_quiet old new kind q b (Some fault) reply shows = quiet_as old new shows.1
+  with_executables_quiet old new kind q b None reply shows = all_quiet old new _ shows.0 shows.1
 
   shows_quiet : (old new : Parts D) (kind : Kind) (q : QuerySaid) (b : List ℕ) (t : Bool) (reply : List ℕ) → ShowsBy g old kind q b t reply new → Quiet old new
-  shows_quiet old new kind q b true reply shows = beside_quiet old new kind q b (core_fault_of b) reply shows
+  shows_quiet old new kind q b true reply shows = with_executables_quiet old new kind q b (core_fault_of b) reply shows
   shows_quiet old new kind q b false reply shows = quiet_as old new shows.1
 
   seen_quiet : (old new : Parts D) (kind : Kind) (q : QuerySaid) (r : Result (List ℕ) ArchiveFault) (reply : List ℕ) → ShowsSeen g old kind q r reply new → Quiet old new

@@ -1,6 +1,6 @@
 pub mod Seeing
-pub mod Gathering
-pub mod GatheringWords
+pub mod Collecting
+pub mod CollectingWords
 pub mod Keeping
 pub mod Inspecting
 pub mod LeaveLaws

@@ -37,9 +37,9 @@ image_held (Err f) = Err f
 
 -- These bytes are the image of a case of this number, or its first bytes, with room for all of it.
 abbrev pub HoldsFront : {D : Type 0} → disk.Ghosts D → Parts D → ℕ → Bool → ℕ → List ℕ → Type 0
-HoldsFront g a seq is_whole room bytes =
+HoldsFront g a seq is_whole buffer bytes =
     (image : List ℕ) × AreOfCase g a seq image × (bytes ≡ take (length bytes) image) × (is_whole ≡ true → bytes ≡ image)
-    × (is_whole ≡ false → length image ≤ room)
+    × (is_whole ≡ false → length image ≤ buffer)
 
 -- what is kept of an image is of that of its case
 abbrev pub IsKept : {D : Type 0} → disk.Ghosts D → Parts D → Option KeptImage → Type 0

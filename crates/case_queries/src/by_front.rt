@@ -65,10 +65,10 @@ pub(crate) fn answer_by_front<O: Output, D: Disk>(
     archive: &mut Archive<D>,
 ) -> bool
     requires kept { IsKept D.Disk archive.old images.old.kept }
-    requires beside { AreKept D.Disk archive.old images.old.kept }
+    requires are_kept { AreKept D.Disk archive.old images.old.kept }
     ensures answers { TellsOutcome (telling O.Output reply.old reply.new) (λ text. Asks D.Disk archive.old seq (image_query query.now) (Ok kind) text archive.new) result }
     ensures kept { IsKept D.Disk archive.new images.new.kept }
-    ensures beside { AreKept D.Disk archive.new images.new.kept }
+    ensures are_kept { AreKept D.Disk archive.new images.new.kept }
 {
     let want = front_want(kind, query);
     match see_front(images.alloc, seq, want, images.kept.take(), archive) {

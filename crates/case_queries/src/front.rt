@@ -62,7 +62,7 @@ pub(crate) fn read_up_to<D: Disk>(
     image: &mut Vec<u8>,
     archive: &mut Archive<D>,
 ) -> Result<(), ArchiveFault>
-    requires room { end ≤ vec_capacity image.old }
+    requires buffer { end ≤ vec_capacity image.old }
     requires more { vec_len image.old ≤ end }
     requires fits { (c : Case) → case_numbered seq (state_of archive.old).cases ≡ Some c → end ≤ c.len }
     ensures read { ReadsUpTo D.Disk archive.old seq image.old.items end result image.new.items archive.new }
@@ -142,10 +142,10 @@ pub(crate) fn see_front<D: Disk>(
     archive: &mut Archive<D>,
 ) -> Result<KeptImage, ArchiveFault>
     requires kept { IsKept D.Disk archive.old kept }
-    requires beside { AreKept D.Disk archive.old kept }
+    requires are_kept { AreKept D.Disk archive.old kept }
     ensures seen { SeesEnough D.Disk archive.old seq want result archive.new }
     ensures kept { IfOk result (λ k. IsKept D.Disk archive.new (Some k)) }
-    ensures beside { IfOk result (λ k. AreKept D.Disk archive.new (Some k)) }
+    ensures are_kept { IfOk result (λ k. AreKept D.Disk archive.new (Some k)) }
     ensures seq { IfOk result (λ k. k.seq ≡ seq) }
 {
     if let Some(image) = enough_of_case(seq, want, kept) {

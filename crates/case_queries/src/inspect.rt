@@ -30,10 +30,10 @@ pub fn answer_query<O: Output, D: Disk>(
     archive: &mut Archive<D>,
 ) -> bool
     requires kept { IsKept D.Disk archive.old images.old.kept }
-    requires beside { AreKept D.Disk archive.old images.old.kept }
+    requires are_kept { AreKept D.Disk archive.old images.old.kept }
     ensures answers { TellsOutcome (telling O.Output reply.old reply.new) (λ text. Inspects D.Disk archive.old seq (query_of query.now) text archive.new) result }
     ensures kept { IsKept D.Disk archive.new images.new.kept }
-    ensures beside { AreKept D.Disk archive.new images.new.kept }
+    ensures are_kept { AreKept D.Disk archive.new images.new.kept }
 {
     let kind = match kind_asked(seq, query, archive) {
         Ok(kind) => kind,
@@ -59,10 +59,10 @@ fn answer_symbol<O: Output, D: Disk>(
     archive: &mut Archive<D>,
 ) -> bool
     requires kept { IsKept D.Disk archive.old images.old.kept }
-    requires beside { AreKept D.Disk archive.old images.old.kept }
+    requires are_kept { AreKept D.Disk archive.old images.old.kept }
     ensures answers { TellsOutcome (telling O.Output reply.old reply.new) (λ text. Asks D.Disk archive.old seq (ask_symbol address) (Ok kind) text archive.new) result }
     ensures kept { IsKept D.Disk archive.new images.new.kept }
-    ensures beside { AreKept D.Disk archive.new images.new.kept }
+    ensures are_kept { AreKept D.Disk archive.new images.new.kept }
 {
     match see_image(seq, images.kept.take(), archive) {
         Ok(seen) => {

@@ -3,7 +3,7 @@ ghost use Rattle.std.specs.Prelude.{◌≡◌, Some, IfOk, IfSome, true};
 ghost use Rattle.case_queries.specs.Keeping.{AreKept};
 ghost use Rattle.case_queries.specs.Seeing.{IsKept, LooksAt, image_held};
 
-use crate::gather::Executable;
+use crate::collect_executables::StoredExecutable;
 use disk_model::Disk;
 use intake::{Archive, ArchiveFault};
 use std::alloc::Global;
@@ -25,7 +25,7 @@ pub struct KeptImage {
     pub(crate) image: Vec<u8>,
     // Whether these are all its bytes.
     pub(crate) is_whole: bool,
-    pub(crate) executables: Option<Vec<Executable>>,
+    pub(crate) executables: Option<Vec<StoredExecutable>>,
 }
 
 // The whole image of a case: the one that is kept, if it is of that case and whole. Otherwise the kept one is dropped with its
@@ -36,10 +36,10 @@ pub(crate) fn see_image<D: Disk>(
     archive: &mut Archive<D>,
 ) -> Result<KeptImage, ArchiveFault>
     requires kept { IsKept D.Disk archive.old kept }
-    requires beside { AreKept D.Disk archive.old kept }
+    requires are_kept { AreKept D.Disk archive.old kept }
     ensures seen { LooksAt D.Disk archive.old seq (image_held result) archive.new }
     ensures kept { IfOk result (λ k. IsKept D.Disk archive.new (Some k)) }
-    ensures beside { IfOk result (λ k. AreKept D.Disk archive.new (Some k)) }
+    ensures are_kept { IfOk result (λ k. AreKept D.Disk archive.new (Some k)) }
     ensures seq { IfOk result (λ k. k.seq ≡ seq) }
 {
     if let Some(image) = of_case(seq, kept) {

@@ -2,8 +2,8 @@
 #![tactic(auto)]
 
 mod by_front;
+mod collect_executables;
 mod front;
-mod gather;
 mod inspect;
 mod kept_image;
 mod memory;
@@ -11,6 +11,6 @@ mod stack;
 mod wanted;
 mod window;
 
-pub use gather::Executable;
+pub use collect_executables::StoredExecutable;
 pub use inspect::answer_query;
 pub use kept_image::{Images, KeptImage};

@@ -6,14 +6,14 @@ ghost use Rattle.script_streams.specs.Replies.{TellsOutcome, TellsReply, telling
 ghost use Rattle.memory_replies.specs.Answers.{AnswersWith, is_done};
 ghost use Rattle.memory_replies.specs.Memory.{attached_view};
 ghost use Rattle.intake.specs.Parts.{state_of};
-ghost use Rattle.case_queries.specs.Gathering.{GathersAll, wanted_of};
-ghost use Rattle.case_queries.specs.GatheringWords.{executable_view, gathered_view};
+ghost use Rattle.case_queries.specs.Collecting.{CollectsAll, wanted_of};
+ghost use Rattle.case_queries.specs.CollectingWords.{executable_view, collected_view};
 ghost use Rattle.case_queries.specs.Inspecting.{Asks, Shows, ShowsCore, answer_of};
-ghost use Rattle.case_queries.specs.Keeping.{AreKept, StayGathered};
+ghost use Rattle.case_queries.specs.Keeping.{AreKept, StayCollected};
 ghost use Rattle.case_queries.specs.Seeing.{IsKept};
 ghost use Rattle.case_queries.specs.Windows.{IsSeenBy};
 
-use crate::gather::{Executable, gather, lent};
+use crate::collect_executables::{StoredExecutable, collect_executables, lent};
 use crate::kept_image::{Images, kept_if};
 use crate::window::{lent_window, see_memory};
 use address_space::Attached;
@@ -42,10 +42,10 @@ pub(crate) fn answer_by_memory<O: Output, D: Disk>(
 ) -> bool
     requires runs { archive.old.stopped ≡ false }
     requires kept { IsKept D.Disk archive.old images.old.kept }
-    requires beside { AreKept D.Disk archive.old images.old.kept }
+    requires are_kept { AreKept D.Disk archive.old images.old.kept }
     ensures answers { TellsOutcome (telling O.Output reply.old reply.new) (λ text. Asks D.Disk archive.old seq (memory_query query.now) (Ok kind) text archive.new) result }
     ensures kept { IsKept D.Disk archive.new images.new.kept }
-    ensures beside { AreKept D.Disk archive.new images.new.kept }
+    ensures are_kept { AreKept D.Disk archive.new images.new.kept }
 {
     match see_memory(images.alloc, seq, query, images.kept.take(), archive) {
         Ok(seen) => {
@@ -78,15 +78,15 @@ fn answer_memory<O: Output, D: Disk>(
     query: &MemoryQuery,
     front: &[u8],
     window: Window<'_>,
-    kept: &mut Option<Vec<Executable>>,
+    kept: &mut Option<Vec<StoredExecutable>>,
     reply: &mut Reply<'_, O>,
     archive: &mut Archive<D>,
 ) -> Outcome
     requires runs { archive.old.stopped ≡ false }
-    requires kept { StayGathered D.Disk archive.old front.now kept.old }
+    requires kept { StayCollected D.Disk archive.old front.now kept.old }
     ensures answers { (image : List ℕ) → IsSeenBy query.now front.now window.entry.size window.entry.at window.entry.bytes.now image
         → TellsOutcome (telling O.Output reply.old reply.new) (λ text. Shows D.Disk archive.old kind (memory_query query.now) image text archive.new) (is_done result) }
-    ensures kept { StayGathered D.Disk archive.new front.now kept.new }
+    ensures kept { StayCollected D.Disk archive.new front.now kept.new }
 {
     a_sound_front_answers();
     match CoreImage::read(front) {
@@ -105,20 +105,28 @@ fn answer_core<O: Output, D: Disk>(
     query: &MemoryQuery,
     core: &CoreImage<'_>,
     window: Window<'_>,
-    kept: &mut Option<Vec<Executable>>,
+    kept: &mut Option<Vec<StoredExecutable>>,
     reply: &mut Reply<'_, O>,
     archive: &mut Archive<D>,
 ) -> Outcome
     requires runs { archive.old.stopped ≡ false }
-    requires kept { StayGathered D.Disk archive.old (core_bytes core.now) kept.old }
+    requires kept { StayCollected D.Disk archive.old (core_bytes core.now) kept.old }
     ensures answers { (image : List ℕ) → IsSeenBy query.now (core_bytes core.now) window.entry.size window.entry.at window.entry.bytes.now image
         → TellsOutcome (telling O.Output reply.old reply.new) (λ text. ShowsCore D.Disk archive.old kind (memory_query query.now) image text archive.new) (is_done result) }
-    ensures kept { StayGathered D.Disk archive.new (core_bytes core.now) kept.new }
+    ensures kept { StayCollected D.Disk archive.new (core_bytes core.now) kept.new }
 {
     a_sound_front_names_the_files();
-    match gathered(alloc, core, kept.take(), archive) {
+    match collected(alloc, core, kept.take(), archive) {
         Ok(executables) => {
-            let outcome = tell_beside(alloc, kind, query, core, window, &executables, reply);
+            let outcome = tell_with_executables(
+                alloc,
+                kind,
+                query,
+                core,
+                window,
+                &executables,
+                reply,
+            );
             *kept = Some(executables);
             outcome
         }
@@ -140,31 +148,31 @@ fn refused_by(fault: ArchiveFault) -> Outcome
 }
 
 // The executables of a core: those that are kept, or else they are read now.
-fn gathered<D: Disk>(
+fn collected<D: Disk>(
     alloc: Global,
     core: &CoreImage<'_>,
-    kept: Option<Vec<Executable>>,
+    kept: Option<Vec<StoredExecutable>>,
     archive: &mut Archive<D>,
-) -> Result<Vec<Executable>, ArchiveFault>
+) -> Result<Vec<StoredExecutable>, ArchiveFault>
     requires runs { archive.old.stopped ≡ false }
-    requires kept { StayGathered D.Disk archive.old (core_bytes core.now) kept }
-    ensures gathered { GathersAll D.Disk archive.old (wanted_of (core_bytes core.now) (state_of archive.old).cases) (gathered_view result) archive.new }
-    ensures kept { IfOk result (λ v. StayGathered D.Disk archive.new (core_bytes core.now) (Some v)) }
+    requires kept { StayCollected D.Disk archive.old (core_bytes core.now) kept }
+    ensures collected { CollectsAll D.Disk archive.old (wanted_of (core_bytes core.now) (state_of archive.old).cases) (collected_view result) archive.new }
+    ensures kept { IfOk result (λ v. StayCollected D.Disk archive.new (core_bytes core.now) (Some v)) }
 {
     match kept {
         Some(executables) => Ok(executables),
-        None => gather(alloc, core, archive),
+        None => collect_executables(alloc, core, archive),
     }
 }
 
 // Tells what a core and these executables answer. Says what became of it.
-fn tell_beside<O: Output>(
+fn tell_with_executables<O: Output>(
     alloc: Global,
     kind: Kind,
     query: &MemoryQuery,
     core: &CoreImage<'_>,
     window: Window<'_>,
-    executables: &[Executable],
+    executables: &[StoredExecutable],
     reply: &mut Reply<'_, O>,
 ) -> Outcome
     ensures { (image : List ℕ) → IsSeenBy query.now (core_bytes core.now) window.entry.size window.entry.at window.entry.bytes.now image

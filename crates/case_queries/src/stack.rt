@@ -60,7 +60,7 @@ fn read_on<D: Disk>(
     archive: &mut Archive<D>,
 ) -> Result<(), ArchiveFault>
     requires has { HasSize (state_of archive.old) seq size }
-    requires room { end ≤ vec_capacity image.old }
+    requires buffer { end ≤ vec_capacity image.old }
     requires more { vec_len image.old ≤ end }
     requires within { end ≤ size }
     ensures reads { (before : Parts D) → HasSize (state_of before) seq size → ReadsFront D.Disk before seq image.old.items archive.old
@@ -81,7 +81,7 @@ fn read_to_part<D: Disk>(
     archive: &mut Archive<D>,
 ) -> Result<(), ArchiveFault>
     requires has { HasSize (state_of archive.old) seq size }
-    requires room { size ≤ vec_capacity image.old }
+    requires buffer { size ≤ vec_capacity image.old }
     requires short { vec_len image.old ≤ size }
     requires within { stack.now.at + length stack.now.bytes.items ≤ size }
     ensures reads { (before mid : Parts D) → HasSize (state_of before) seq size → ReadsFront D.Disk before seq image.old.items mid
@@ -109,7 +109,7 @@ fn read_others<D: Disk>(
     archive: &mut Archive<D>,
 ) -> Result<Seen, ArchiveFault>
     requires has { HasSize (state_of archive.old) seq size }
-    requires room { size ≤ vec_capacity front.image }
+    requires buffer { size ≤ vec_capacity front.image }
     requires short { length front.image.items ≤ size }
     requires within { stack.now.at + length stack.now.bytes.items ≤ size }
     ensures seen { (before mid : Parts D) (query : MemoryQuery) → HasSize (state_of before) seq size → SeesEnough D.Disk before seq Core (Ok front) mid
@@ -118,7 +118,7 @@ fn read_others<D: Disk>(
     ensures kept { (before mid : Parts D) → HasSize (state_of before) seq size → SeesEnough D.Disk before seq Core (Ok front) mid
         → ReadsRange D.Disk mid seq front.image.items stack.now.at (length stack.now.bytes.items) (Ok tt) stack.now.bytes.items archive.old
         → IfOk result (λ s. IsKept D.Disk archive.new (Some s.kept)) }
-    ensures beside { IfOk result (λ s. AreKept D.Disk archive.new (Some s.kept)) }
+    ensures are_kept { IfOk result (λ s. AreKept D.Disk archive.new (Some s.kept)) }
 {
     let mut image = front.image;
     read_to_part(seq, size, stack, &mut image, archive)?;
@@ -138,27 +138,27 @@ fn read_stack<D: Disk>(
     thread: u64,
     front: KeptImage,
     range: ImageRange,
-    mut room: Vec<u8>,
+    mut buffer: Vec<u8>,
     archive: &mut Archive<D>,
 ) -> Result<Seen, ArchiveFault>
     requires has { HasSize (state_of archive.old) seq size }
     requires short { length front.image.items ≤ size }
-    requires roomy { size ≤ vec_capacity front.image }
+    requires large_enough { size ≤ vec_capacity front.image }
     requires range { (range.start ≤ range.past) × (range.past ≤ size) }
-    requires room { range.past - range.start ≤ vec_capacity room }
-    requires none { room.items ≡ [] }
+    requires buffer { range.past - range.start ≤ vec_capacity buffer }
+    requires none { buffer.items ≡ [] }
     requires kept { IsKept D.Disk archive.old (Some front) }
-    requires beside { AreKept D.Disk archive.old (Some front) }
+    requires are_kept { AreKept D.Disk archive.old (Some front) }
     ensures seen { (before : Parts D) → HasSize (state_of before) seq size → SeesEnough D.Disk before seq Core (Ok front) archive.old
         → SeesFor D.Disk before seq (Backtrace thread) result archive.new }
     ensures kept { (before : Parts D) → HasSize (state_of before) seq size → SeesEnough D.Disk before seq Core (Ok front) archive.old
         → IfOk result (λ s. IsKept D.Disk archive.new (Some s.kept)) }
-    ensures beside { IfOk result (λ s. AreKept D.Disk archive.new (Some s.kept)) }
+    ensures are_kept { IfOk result (λ s. AreKept D.Disk archive.new (Some s.kept)) }
 {
-    read_range(seq, size, &front.image, range, &mut room, archive)?;
+    read_range(seq, size, &front.image, range, &mut buffer, archive)?;
     let stack = Part {
         at: range.start,
-        bytes: room,
+        bytes: buffer,
     };
     if !shows_frames(&front.image, size as u64, &stack, thread) {
         return read_others(seq, size, front, &stack, archive);
@@ -176,24 +176,24 @@ pub(crate) fn see_stack<D: Disk>(
     size: usize,
     thread: u64,
     front: KeptImage,
-    room: Vec<u8>,
+    buffer: Vec<u8>,
     archive: &mut Archive<D>,
 ) -> Result<Seen, ArchiveFault>
     requires has { HasSize (state_of archive.old) seq size }
     requires short { length front.image.items ≤ size }
-    requires roomy { size ≤ vec_capacity front.image }
-    requires room { 1048576 ≤ vec_capacity room }
-    requires none { room.items ≡ [] }
+    requires large_enough { size ≤ vec_capacity front.image }
+    requires buffer { 1048576 ≤ vec_capacity buffer }
+    requires none { buffer.items ≡ [] }
     requires kept { IsKept D.Disk archive.old (Some front) }
-    requires beside { AreKept D.Disk archive.old (Some front) }
+    requires are_kept { AreKept D.Disk archive.old (Some front) }
     ensures seen { (before : Parts D) → HasSize (state_of before) seq size → SeesEnough D.Disk before seq Core (Ok front) archive.old
         → SeesFor D.Disk before seq (Backtrace thread) result archive.new }
     ensures kept { (before : Parts D) → HasSize (state_of before) seq size → SeesEnough D.Disk before seq Core (Ok front) archive.old
         → IfOk result (λ s. IsKept D.Disk archive.new (Some s.kept)) }
-    ensures beside { IfOk result (λ s. AreKept D.Disk archive.new (Some s.kept)) }
+    ensures are_kept { IfOk result (λ s. AreKept D.Disk archive.new (Some s.kept)) }
 {
     match wanted_stack(&front.image, size as u64, thread) {
-        Some(range) => read_stack(seq, size, thread, front, range, room, archive),
+        Some(range) => read_stack(seq, size, thread, front, range, buffer, archive),
         None => read_rest(seq, size, front, archive),
     }
 }

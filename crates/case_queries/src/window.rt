@@ -88,10 +88,10 @@ fn see_whole<D: Disk>(
     archive: &mut Archive<D>,
 ) -> Result<Seen, ArchiveFault>
     requires kept { IsKept D.Disk archive.old kept }
-    requires beside { AreKept D.Disk archive.old kept }
+    requires are_kept { AreKept D.Disk archive.old kept }
     ensures seen { (query : MemoryQuery) → SeesFor D.Disk archive.old seq query result archive.new }
     ensures kept { IfOk result (λ s. IsKept D.Disk archive.new (Some s.kept)) }
-    ensures beside { IfOk result (λ s. AreKept D.Disk archive.new (Some s.kept)) }
+    ensures are_kept { IfOk result (λ s. AreKept D.Disk archive.new (Some s.kept)) }
 {
     let kept = see_image(seq, kept, archive)?;
     Ok(all_of(kept))
@@ -142,7 +142,7 @@ pub(crate) fn read_range<D: Disk>(
 ) -> Result<(), ArchiveFault>
     requires has { HasSize (state_of archive.old) seq size }
     requires range { (range.start ≤ range.past) × (range.past ≤ size) }
-    requires room { range.past - range.start ≤ vec_capacity bytes.old }
+    requires buffer { range.past - range.start ≤ vec_capacity bytes.old }
     requires none { bytes.old.items ≡ [] }
     ensures reads { ReadsRange D.Disk archive.old seq front.now range.start (range.past - range.start) result bytes.new.items archive.new }
     ensures long { length bytes.new.items ≡ range.past - range.start }
@@ -162,27 +162,27 @@ fn read_window<D: Disk>(
     size: usize,
     front: KeptImage,
     range: ImageRange,
-    mut room: Vec<u8>,
+    mut buffer: Vec<u8>,
     archive: &mut Archive<D>,
 ) -> Result<Seen, ArchiveFault>
     requires has { HasSize (state_of archive.old) seq size }
     requires range { (range.start ≤ range.past) × (range.past ≤ size) }
-    requires room { range.past - range.start ≤ vec_capacity room }
-    requires none { room.items ≡ [] }
+    requires buffer { range.past - range.start ≤ vec_capacity buffer }
+    requires none { buffer.items ≡ [] }
     requires kept { IsKept D.Disk archive.old (Some front) }
-    requires beside { AreKept D.Disk archive.old (Some front) }
+    requires are_kept { AreKept D.Disk archive.old (Some front) }
     ensures seen { (before : Parts D) (first n : ℕ) → HasSize (state_of before) seq size → SeesEnough D.Disk before seq Core (Ok front) archive.old
         → IsWanted front.image.items size first n range.start range.past → SeesDump D.Disk before seq first n result archive.new }
     ensures kept { IfOk result (λ s. IsKept D.Disk archive.new (Some s.kept)) }
-    ensures beside { IfOk result (λ s. AreKept D.Disk archive.new (Some s.kept)) }
+    ensures are_kept { IfOk result (λ s. AreKept D.Disk archive.new (Some s.kept)) }
 {
-    read_range(seq, size, &front.image, range, &mut room, archive)?;
+    read_range(seq, size, &front.image, range, &mut buffer, archive)?;
     Ok(Seen {
         kept: front,
         size: size as u64,
         part: Some(Part {
             at: range.start,
-            bytes: room,
+            bytes: buffer,
         }),
     })
 }
@@ -196,12 +196,12 @@ pub(crate) fn read_rest<D: Disk>(
 ) -> Result<Seen, ArchiveFault>
     requires has { HasSize (state_of archive.old) seq size }
     requires short { length front.image.items ≤ size }
-    requires room { size ≤ vec_capacity front.image }
+    requires buffer { size ≤ vec_capacity front.image }
     ensures seen { (before : Parts D) (query : MemoryQuery) → HasSize (state_of before) seq size → SeesEnough D.Disk before seq Core (Ok front) archive.old
         → SeesFor D.Disk before seq query result archive.new }
     ensures kept { (before : Parts D) → HasSize (state_of before) seq size → SeesEnough D.Disk before seq Core (Ok front) archive.old
         → IfOk result (λ s. IsKept D.Disk archive.new (Some s.kept)) }
-    ensures beside { IfOk result (λ s. AreKept D.Disk archive.new (Some s.kept)) }
+    ensures are_kept { IfOk result (λ s. AreKept D.Disk archive.new (Some s.kept)) }
 {
     let mut image = front.image;
     read_up_to(seq, size, &mut image, archive)?;
@@ -220,25 +220,25 @@ fn see_range<D: Disk>(
     first: u64,
     count: u64,
     front: KeptImage,
-    room: Vec<u8>,
+    buffer: Vec<u8>,
     archive: &mut Archive<D>,
 ) -> Result<Seen, ArchiveFault>
     requires has { HasSize (state_of archive.old) seq size }
     requires cut { front.is_whole ≡ false }
     requires short { length front.image.items ≤ size }
-    requires roomy { size ≤ vec_capacity front.image }
-    requires room { 65536 ≤ vec_capacity room }
-    requires none { room.items ≡ [] }
+    requires large_enough { size ≤ vec_capacity front.image }
+    requires buffer { 65536 ≤ vec_capacity buffer }
+    requires none { buffer.items ≡ [] }
     requires kept { IsKept D.Disk archive.old (Some front) }
-    requires beside { AreKept D.Disk archive.old (Some front) }
+    requires are_kept { AreKept D.Disk archive.old (Some front) }
     ensures seen { (before : Parts D) → HasSize (state_of before) seq size → SeesEnough D.Disk before seq Core (Ok front) archive.old
         → SeesDump D.Disk before seq first count result archive.new }
     ensures kept { (before : Parts D) → HasSize (state_of before) seq size → SeesEnough D.Disk before seq Core (Ok front) archive.old
         → IfOk result (λ s. IsKept D.Disk archive.new (Some s.kept)) }
-    ensures beside { IfOk result (λ s. AreKept D.Disk archive.new (Some s.kept)) }
+    ensures are_kept { IfOk result (λ s. AreKept D.Disk archive.new (Some s.kept)) }
 {
     match wanted_range(&front.image, size as u64, first, count) {
-        Some(range) => read_window(seq, size, front, range, room, archive),
+        Some(range) => read_window(seq, size, front, range, buffer, archive),
         None => read_rest(seq, size, front, archive),
     }
 }
@@ -249,30 +249,30 @@ fn see_more<D: Disk>(
     size: usize,
     query: &MemoryQuery,
     front: KeptImage,
-    room: Vec<u8>,
+    buffer: Vec<u8>,
     archive: &mut Archive<D>,
 ) -> Result<Seen, ArchiveFault>
     requires has { HasSize (state_of archive.old) seq size }
     requires cut { front.is_whole ≡ false }
     requires short { length front.image.items ≤ size }
-    requires roomy { size ≤ vec_capacity front.image }
-    requires room { most_for query.now ≤ vec_capacity room }
-    requires none { room.items ≡ [] }
+    requires large_enough { size ≤ vec_capacity front.image }
+    requires buffer { most_for query.now ≤ vec_capacity buffer }
+    requires none { buffer.items ≡ [] }
     requires kept { IsKept D.Disk archive.old (Some front) }
-    requires beside { AreKept D.Disk archive.old (Some front) }
+    requires are_kept { AreKept D.Disk archive.old (Some front) }
     ensures seen { (before : Parts D) → HasSize (state_of before) seq size → SeesEnough D.Disk before seq Core (Ok front) archive.old
         → SeesFor D.Disk before seq query.now result archive.new }
     ensures kept { (before : Parts D) → HasSize (state_of before) seq size → SeesEnough D.Disk before seq Core (Ok front) archive.old
         → IfOk result (λ s. IsKept D.Disk archive.new (Some s.kept)) }
-    ensures beside { IfOk result (λ s. AreKept D.Disk archive.new (Some s.kept)) }
+    ensures are_kept { IfOk result (λ s. AreKept D.Disk archive.new (Some s.kept)) }
 {
     match query {
         MemoryQuery::Dump { first, length } => {
-            see_range(seq, size, *first, *length, front, room, archive)
+            see_range(seq, size, *first, *length, front, buffer, archive)
         }
         MemoryQuery::Find { .. } => read_rest(seq, size, front, archive),
         MemoryQuery::Strings { .. } => read_rest(seq, size, front, archive),
-        MemoryQuery::Backtrace { thread } => see_stack(seq, size, *thread, front, room, archive),
+        MemoryQuery::Backtrace { thread } => see_stack(seq, size, *thread, front, buffer, archive),
         MemoryQuery::Unwind { .. } => read_rest(seq, size, front, archive),
         MemoryQuery::Frame { .. } => read_rest(seq, size, front, archive),
         MemoryQuery::Builds => read_rest(seq, size, front, archive),
@@ -307,19 +307,19 @@ fn see_parts<D: Disk>(
 ) -> Result<Seen, ArchiveFault>
     requires has { HasSize (state_of archive.old) seq size }
     requires kept { IsKept D.Disk archive.old kept }
-    requires beside { AreKept D.Disk archive.old kept }
+    requires are_kept { AreKept D.Disk archive.old kept }
     ensures seen { SeesFor D.Disk archive.old seq query.now result archive.new }
     ensures kept { IfOk result (λ s. IsKept D.Disk archive.new (Some s.kept)) }
-    ensures beside { IfOk result (λ s. AreKept D.Disk archive.new (Some s.kept)) }
+    ensures are_kept { IfOk result (λ s. AreKept D.Disk archive.new (Some s.kept)) }
 {
-    let Ok(room) = Vec::with_capacity(alloc, most_for(query)) else {
+    let Ok(buffer) = Vec::with_capacity(alloc, most_for(query)) else {
         return Err(ArchiveFault::OutOfMemory);
     };
     let front = see_front(alloc, seq, Want::Core, kept, archive)?;
     if front.is_whole {
         return Ok(all_of(front));
     }
-    see_more(seq, size, query, front, room, archive)
+    see_more(seq, size, query, front, buffer, archive)
 }
 
 // Whether the first bytes of that case's image are kept.
@@ -353,10 +353,10 @@ pub(crate) fn see_memory<D: Disk>(
     archive: &mut Archive<D>,
 ) -> Result<Seen, ArchiveFault>
     requires kept { IsKept D.Disk archive.old kept }
-    requires beside { AreKept D.Disk archive.old kept }
+    requires are_kept { AreKept D.Disk archive.old kept }
     ensures seen { SeesFor D.Disk archive.old seq query.now result archive.new }
     ensures kept { IfOk result (λ s. IsKept D.Disk archive.new (Some s.kept)) }
-    ensures beside { IfOk result (λ s. AreKept D.Disk archive.new (Some s.kept)) }
+    ensures are_kept { IfOk result (λ s. AreKept D.Disk archive.new (Some s.kept)) }
 {
     if reads_all(seq, query, &kept) {
         return see_whole(seq, kept, archive);

@@ -185,7 +185,7 @@ impl<'a> Handler<'a> {
         }
     }
 
-    // By what room is made.
+    // By what cases are retired.
     fn policy<R: Clock>(&self, rt: &R) -> Option<Policy> {
         let before = match self.config.before {
             Some(age) => time_before(rt, age),

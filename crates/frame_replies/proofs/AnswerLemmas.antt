@@ -19,7 +19,7 @@ use Rattle.memory_replies.specs.declared.outcome.Outcome.TheVariants.{Done, Refu
 use Rattle.unwind.specs.Code.{ProcessView}
 use Rattle.unwind.specs.Unwinding.{unwound, stop_of}
 use Rattle.unwind.specs.Words.{executable_view, process_of}
-use Rattle.unwind.specs.declared.executable.Executable.{Executable}
+use Rattle.unwind.specs.declared.executable.UnwoundExecutable.{UnwoundExecutable}
 use Rattle.unwind.specs.declared.faults.Stop.{Stop}
 use Rattle.unwind.specs.declared.frame.Frame.{Frame}
 use Rattle.frame_replies.specs.FrameLines.{frame_line, stop_line, unwound_lines, unwound_answer, unwind_answer}
@@ -52,7 +52,7 @@ process_by : Space → List ExecutableView → ProcessView
 process_by space xs = record { space = space; executables = xs }
 
 -- the process that is told of is that of the core
-pub process_is : (b : List ℕ) (xs described : List ExecutableView) (space : AddressSpace) (executables : List Executable) → space_of space ≡ memory_of b xs
+pub process_is : (b : List ℕ) (xs described : List ExecutableView) (space : AddressSpace) (executables : List UnwoundExecutable) → space_of space ≡ memory_of b xs
     → map executable_view executables ≡ described → described ≡ filter is_attached xs → process_of space executables ≡ process_in b xs
 unfolding process_in memory_of process_by
 process_is b xs described space executables memory lent read =

@@ -10,7 +10,7 @@ use address_space::Attached;
 use call_frames::CallFrames;
 use elf_view::{Elf, Want};
 use std::alloc::{AllocError, Global};
-use unwind::Executable;
+use unwind::UnwoundExecutable;
 
 /// Reads the call frame information of an executable. `None` is one whose headers have a fault; the error is that there is no
 /// memory.
@@ -64,12 +64,12 @@ pub(crate) fn all_described<'a>(
 pub(crate) fn lent<'e, 'a>(
     alloc: Global,
     list: &'e [Described<'a>],
-) -> Result<Vec<Executable<'e, 'a>>, AllocError>
+) -> Result<Vec<UnwoundExecutable<'e, 'a>>, AllocError>
     ensures { IfOk result (λ v. map executable_view v.items ≡ map described_view list.now) }
 {
     let mut all = Vec::with_capacity(alloc, list.len())?;
     for image in list {
-        all.push(Executable {
+        all.push(UnwoundExecutable {
             path: image.path,
             elf: image.elf,
             frames: &image.frames,

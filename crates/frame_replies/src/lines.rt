@@ -19,12 +19,12 @@ use crate::refused::tell_no_memory;
 use crate::stops::tell_stop;
 use address_space::{AddressSpace, Attached};
 use image_replies::CoreImage;
-use memory_replies::{NamedImages, Outcome, space_and_images, tell_hex_word, tell_where};
+use memory_replies::{Outcome, SymbolizedExecutables, space_and_images, tell_hex_word, tell_where};
 use script_streams::{Output, Reply, tell_no, tell_ok};
 use std::alloc::Global;
 use thread_regs::{Thread, threads};
 use unwind::columns::{RA, SP};
-use unwind::{Executable, Frame, Frames, is_trampoline, the_frames_are_unwound};
+use unwind::{Frame, Frames, UnwoundExecutable, is_trampoline, the_frames_are_unwound};
 
 /// The address that is looked up for a frame: its pc if execution stood there, else the one before it.
 fn looked_up(frame: &Frame) -> Option<u64>
@@ -41,7 +41,7 @@ fn looked_up(frame: &Frame) -> Option<u64>
 fn tell_frame_where<O: Output>(
     reply: &mut Reply<'_, O>,
     space: &AddressSpace<'_>,
-    images: &NamedImages<'_>,
+    images: &SymbolizedExecutables<'_>,
     frame: &Frame,
 )
     ensures { TellsText (telling O.Output reply.old reply.new)
@@ -69,7 +69,7 @@ fn tell_return<O: Output>(reply: &mut Reply<'_, O>, index: u64, frame: &Frame)
 fn tell_line<O: Output>(
     reply: &mut Reply<'_, O>,
     space: &AddressSpace<'_>,
-    images: &NamedImages<'_>,
+    images: &SymbolizedExecutables<'_>,
     index: u64,
     frame: &Frame,
 )
@@ -90,7 +90,7 @@ fn tell_line<O: Output>(
 fn tell_lines<O: Output>(
     reply: &mut Reply<'_, O>,
     space: &AddressSpace<'_>,
-    images: &NamedImages<'_>,
+    images: &SymbolizedExecutables<'_>,
     frames: Frames<'_, '_, '_, '_>,
 )
     requires { length (frames_left frames) ≤ 1024 }
@@ -113,8 +113,8 @@ fn tell_lines<O: Output>(
 fn tell_thread<O: Output>(
     reply: &mut Reply<'_, O>,
     space: &AddressSpace<'_>,
-    executables: &[Executable<'_, '_>],
-    images: &NamedImages<'_>,
+    executables: &[UnwoundExecutable<'_, '_>],
+    images: &SymbolizedExecutables<'_>,
     thread: &Thread<'_>,
 )
     ensures { TellsText (telling O.Output reply.old reply.new)

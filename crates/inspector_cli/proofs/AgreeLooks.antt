@@ -16,8 +16,8 @@ use Rattle.intake.specs.declared.faults.ArchiveFault.TheVariants.{Stopped, NoCas
 use Rattle.journal_layout.specs.Soundness.{case_numbered}
 use Rattle.journal_layout.specs.Case.{Case}
 use Rattle.journal_layout.specs.declared.entry.Kind.{Kind}
-use Rattle.case_queries.specs.Gathering.{Gathers, Wanted, wanted_of, with_executable}
-use Rattle.case_queries.specs.Inspecting.{Inspects, Asks, ShowsBy, ShowsBeside, ShowsCore, Told, ToldBeside, kind_asked, kind_found, reads_executables}
+use Rattle.case_queries.specs.Collecting.{Collects, Wanted, wanted_of, with_executable}
+use Rattle.case_queries.specs.Inspecting.{Inspects, Asks, ShowsBy, ShowsWithExecutables, ShowsCore, Told, ToldWithExecutables, kind_asked, kind_found, reads_executables}
 use Rattle.case_queries.specs.Seeing.{LooksAt}
 use Rattle.script_lines.specs.Queries.{QuerySaid, ask_symbol}
 use Rattle.script_streams.specs.Replies.{no_reply}
@@ -102,24 +102,24 @@ module _ {D E : Type 0} (g : disk.Ghosts D) (h : disk.Ghosts E) where
   abbrev Agrees : Parts D → Parts E → Result (List ExecutableView) ArchiveFault → Result (List ExecutableView) ArchiveFault → Type 0
   Agrees new new' r r' = (r' ≡ r) × HoldSame g h new new'
 
-  gathers_agree : (xs : List Wanted) (old new : Parts D) (old' new' : Parts E) (r r' : Result (List ExecutableView) ArchiveFault) → IsTrue (g.is_honest old.disk) → IsTrue (h.is_honest old'.disk) → HoldSame g h old old' → (state_of old).stopped ≡ false
-      → Gathers g old xs r new → Gathers h old' xs r' new' → IsDecided r → IsDecided r' → Agrees new new' r r'
-  gathers_agree [] old new old' new' r r' honest honest' same runs all all' d d' = (all'.0 ∙ sym all.0, held_still old new old' new' same all.1 all'.1)
-  gathers_agree (x ∷ xs) old new old' new' r r' honest honest' same runs (Ok image, mid, sees, inl short) all' d d' = absurd (subst IsDecided short.0 d)
-  gathers_agree (x ∷ xs) old new old' new' r r' honest honest' same runs (Ok image, mid, sees, inr (others, rest, is)) (Ok image', mid', sees', inl short) d d' = absurd (subst IsDecided short.0 d')
-  gathers_agree (x ∷ xs) old new old' new' r r' honest honest' same runs (Ok image, mid, sees, inr (others, rest, is)) (Ok image', mid', sees', inr (others', rest', is')) d d' =
+  collects_agree : (xs : List Wanted) (old new : Parts D) (old' new' : Parts E) (r r' : Result (List ExecutableView) ArchiveFault) → IsTrue (g.is_honest old.disk) → IsTrue (h.is_honest old'.disk) → HoldSame g h old old' → (state_of old).stopped ≡ false
+      → Collects g old xs r new → Collects h old' xs r' new' → IsDecided r → IsDecided r' → Agrees new new' r r'
+  collects_agree [] old new old' new' r r' honest honest' same runs all all' d d' = (all'.0 ∙ sym all.0, held_still old new old' new' same all.1 all'.1)
+  collects_agree (x ∷ xs) old new old' new' r r' honest honest' same runs (Ok image, mid, sees, inl short) all' d d' = absurd (subst IsDecided short.0 d)
+  collects_agree (x ∷ xs) old new old' new' r r' honest honest' same runs (Ok image, mid, sees, inr (others, rest, is)) (Ok image', mid', sees', inl short) d d' = absurd (subst IsDecided short.0 d')
+  collects_agree (x ∷ xs) old new old' new' r r' honest honest' same runs (Ok image, mid, sees, inr (others, rest, is)) (Ok image', mid', sees', inr (others', rest', is')) d d' =
       let looks = looks_agree old mid old' mid' x.0 (Ok image) (Ok image') honest honest' same runs sees sees' tt tt in
-      let more = gathers_agree xs mid new mid' new' others others' (sees.stays.honesty ∙ honest) (sees'.stays.honesty ∙ honest') looks.1 (ap (λ (s : ArchiveState). s.stopped) sees.state ∙ runs) rest rest'
+      let more = collects_agree xs mid new mid' new' others others' (sees.stays.honesty ∙ honest) (sees'.stays.honesty ∙ honest') looks.1 (ap (λ (s : ArchiveState). s.stopped) sees.state ∙ runs) rest rest'
       (others_decided x.1 image others (subst IsDecided is d)) (others_decided x.1 image' others' (subst IsDecided is' d')) in
       let one : image' ≡ image = (let e = looks.0 in cc) in
       (is' ∙ ap (λ (i : List ℕ). with_executable x.1 i others') one ∙ ap (with_executable x.1 image) more.0 ∙ sym is, more.1)
-  gathers_agree (x ∷ xs) old new old' new' r r' honest honest' same runs (Ok image, mid, sees, inr more) (Err f', mid', call', is') d d' =
+  collects_agree (x ∷ xs) old new old' new' r r' honest honest' same runs (Ok image, mid, sees, inr more) (Err f', mid', call', is') d d' =
       let looks = looks_agree old mid old' mid' x.0 (Ok image) (Err f') honest honest' same runs sees call' tt (decided_as (List ExecutableView) (List ℕ) f' (subst IsDecided is'.0 d')) in
       absurd (let e = looks.0 in cc)
-  gathers_agree (x ∷ xs) old new old' new' r r' honest honest' same runs (Err f, mid, call, is) (Ok image', mid', sees', more') d d' =
+  collects_agree (x ∷ xs) old new old' new' r r' honest honest' same runs (Err f, mid, call, is) (Ok image', mid', sees', more') d d' =
       let looks = looks_agree old mid old' mid' x.0 (Err f) (Ok image') honest honest' same runs call sees' (decided_as (List ExecutableView) (List ℕ) f (subst IsDecided is.0 d)) tt in
       absurd (let e = looks.0 in cc)
-  gathers_agree (x ∷ xs) old new old' new' r r' honest honest' same runs (Err f, mid, call, is) (Err f', mid', call', is') d d' =
+  collects_agree (x ∷ xs) old new old' new' r r' honest honest' same runs (Err f, mid, call, is) (Err f', mid', call', is') d d' =
       let looks = looks_agree old mid old' mid' x.0 (Err f) (Err f') honest honest' same runs call call' (decided_as (List ExecutableView) (List ℕ) f (subst IsDecided is.0 d)) (decided_as (List ExecutableView) (List ℕ) f' (subst IsDecided is'.0 d')) in
       let one : f' ≡ f = (let e = looks.0 in cc) in
       (is'.0 ∙ ap (λ (y : ArchiveFault). Err y) one ∙ sym is.0, held_still mid new mid' new' looks.1 is.1 is'.1)
@@ -130,33 +130,33 @@ module _ {D E : Type 0} (g : disk.Ghosts D) (h : disk.Ghosts E) where
       ⊎_elim (λ a. ⊎_elim (λ a'. a' ∙ sym a) (λ m. absurd (bound' (inl m.0))) told') (λ m. absurd (bound (inl m.0))) told
   told_one kind _ b reply reply' told told' bound bound' = told' ∙ sym told
 
-  beside_decided : (kind : Kind) (q : QuerySaid) (b : List ℕ) (r : Result (List ExecutableView) ArchiveFault) (reply : List ℕ) → ToldBeside kind q b r reply → (IsFree reply → ⊥) → IsDecided r
-  beside_decided kind q b (Ok xs) reply told bound = tt
-  beside_decided kind q b (Err f) reply told bound = decided_as (List ℕ) (List ExecutableView) f (told_decided f reply told bound)
+  with_executables_decided : (kind : Kind) (q : QuerySaid) (b : List ℕ) (r : Result (List ExecutableView) ArchiveFault) (reply : List ℕ) → ToldWithExecutables kind q b r reply → (IsFree reply → ⊥) → IsDecided r
+  with_executables_decided kind q b (Ok xs) reply told bound = tt
+  with_executables_decided kind q b (Err f) reply told bound = decided_as (List ℕ) (List ExecutableView) f (told_decided f reply told bound)
 
-  beside_one : (kind : Kind) (q : QuerySaid) (b : List ℕ) (r : Result (List ExecutableView) ArchiveFault) (reply reply' : List ℕ) → ToldBeside kind q b r reply → ToldBeside kind q b r reply' → (IsFree reply → ⊥) → (IsFree reply' → ⊥)
+  with_executables_one : (kind : Kind) (q : QuerySaid) (b : List ℕ) (r : Result (List ExecutableView) ArchiveFault) (reply reply' : List ℕ) → ToldWithExecutables kind q b r reply → ToldWithExecutables kind q b r reply' → (IsFree reply → ⊥) → (IsFree reply' → ⊥)
       → reply' ≡ reply
-  beside_one kind q b (Ok xs) reply reply' told told' bound bound' =
+  with_executables_one kind q b (Ok xs) reply reply' told told' bound bound' =
       ⊎_elim (λ a. ⊎_elim (λ a'. a' ∙ sym a) (λ m. absurd (bound' (inl m))) told') (λ m. absurd (bound (inl m))) told
-  beside_one kind q b (Err f) reply reply' told told' bound bound' = told' ∙ sym told
+  with_executables_one kind q b (Err f) reply reply' told told' bound bound' = told' ∙ sym told
 
   module _ (old new : Parts D) (old' new' : Parts E) (kind : Kind) (q : QuerySaid) (b reply reply' : List ℕ) (honest : IsTrue (g.is_honest old.disk)) (honest' : IsTrue (h.is_honest old'.disk)) (same : HoldSame g h old old') (runs : (state_of old).stopped ≡ false)
       (bound : IsFree reply → ⊥) (bound' : IsFree reply' → ⊥) where
     core_agrees : ShowsCore g old kind q b reply new → ShowsCore h old' kind q b reply' new' → (reply' ≡ reply) × HoldSame g h new new'
-    core_agrees (r, inl short, told) shows' = absurd (subst IsDecided short.0 (beside_decided kind q b r reply told bound))
-    core_agrees (r, inr all, told) (r', inl short, told') = absurd (subst IsDecided short.0 (beside_decided kind q b r' reply' told' bound'))
+    core_agrees (r, inl short, told) shows' = absurd (subst IsDecided short.0 (with_executables_decided kind q b r reply told bound))
+    core_agrees (r, inr all, told) (r', inl short, told') = absurd (subst IsDecided short.0 (with_executables_decided kind q b r' reply' told' bound'))
     core_agrees (r, inr all, told) (r', inr all', told') =
-        let gathered = gathers_agree (wanted_of b (state_of old).cases) old new old' new' r r' honest honest' same runs all
-        (subst (λ (s : ArchiveState). Gathers h old' (wanted_of b s.cases) r' new') same.state all')
-        (beside_decided kind q b r reply told bound) (beside_decided kind q b r' reply' told' bound') in
-        (beside_one kind q b r reply reply' told (subst (λ (x : Result (List ExecutableView) ArchiveFault). ToldBeside kind q b x reply') gathered.0 told') bound bound', gathered.1)
+        let collected = collects_agree (wanted_of b (state_of old).cases) old new old' new' r r' honest honest' same runs all
+        (subst (λ (s : ArchiveState). Collects h old' (wanted_of b s.cases) r' new') same.state all')
+        (with_executables_decided kind q b r reply told bound) (with_executables_decided kind q b r' reply' told' bound') in
+        (with_executables_one kind q b r reply reply' told (subst (λ (x : Result (List ExecutableView) ArchiveFault). ToldWithExecutables kind q b x reply') collected.0 told') bound bound', collected.1)
 
-    beside_agrees : (o : Option CoreFault) → ShowsBeside g old kind q b o reply new → ShowsBeside h old' kind q b o reply' new' → (reply' ≡ reply) × HoldSame g h new new'
-    beside_agrees (Some fault) shows shows' = (shows'.0 ∙ sym shows.0, held_still old new old' new' same shows.1 shows'.1)
-    beside_agrees None shows shows' = core_agrees shows shows'
+    with_executables_agrees : (o : Option CoreFault) → ShowsWithExecutables g old kind q b o reply new → ShowsWithExecutables h old' kind q b o reply' new' → (reply' ≡ reply) × HoldSame g h new new'
+    with_executables_agrees (Some fault) shows shows' = (shows'.0 ∙ sym shows.0, held_still old new old' new' same shows.1 shows'.1)
+    with_executables_agrees None shows shows' = core_agrees shows shows'
 
     by_agrees : (t : Bool) → ShowsBy g old kind q b t reply new → ShowsBy h old' kind q b t reply' new' → (reply' ≡ reply) × HoldSame g h new new'
-    by_agrees true shows shows' = beside_agrees (core_fault_of b) shows shows'
+    by_agrees true shows shows' = with_executables_agrees (core_fault_of b) shows shows'
     by_agrees false shows shows' = (told_one kind q b reply reply' shows.0 shows'.0 bound bound', held_still old new old' new' same shows.1 shows'.1)
 
   -- an archive that is asked is not stopped

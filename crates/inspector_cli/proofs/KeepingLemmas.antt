@@ -23,7 +23,7 @@ use Rattle.inspector_cli.specs.Headline.{Moment, Line, Course, IsCrashSafe, IsCo
 use Rattle.inspector_cli.specs.Kept.{Kept, IsKeptAs, HasThisLabel, HoldsKept, FindsKept, Spares, AllSpare, Command, IsSession, IsStore, IsCommand, AStopIsTakenUp, AReopeningIsTakenUp, AreNext, StaysFound, ASessionKeepsACase, ALineStoresACase, AStoreStoresACase, AStoreKeepsACase, relabelled, ALineLabelsACase, AStoreLabelsACase}
 use Rattle.inspector_cli.specs.Session.{Streams}
 use Rattle.inspector_cli.specs.StoreHeadline.{AddsCase, StoresOrNot, TellsStored, StoreCourse, IsStoreCourse, no_stream}
-use Rattle.inspector_cli.specs.Storing.{said_room, said_label}
+use Rattle.inspector_cli.specs.Storing.{retire_line, said_label}
 use Rattle.inspector_cli.specs.Told.{Answer, HasLine, what_of, parts_in}
 use Rattle.inspector_cli.proofs.FoundLemmas.{told_once}
 use Rattle.inspector_cli.proofs.KeptLemmas.{among_more, among_last, among_filtered, among_mapped, all_append, all_mapped, one_apart, has_line}
@@ -213,21 +213,21 @@ module _ {D : Type 0} (g : disk.Ghosts D) (k : Kept) where
     case_stays None x y stores holds = same k x y stores holds
     case_stays (Some n) x y stores holds = same k (with_case x (record stores.stream { len = length stores.image }) stores.blocks stores.image) y stores.adds (with_case_holds k x (record stores.stream { len = length stores.image }) stores.blocks stores.image holds)
 
-    ended_holds : IsHeldAt k c.room → IsHeldAt k c.ended
+    ended_holds : IsHeldAt k c.retired → IsHeldAt k c.ended
     ended_holds held =
         let doubts : AllByRecursion (HoldsKept k) is.doubts =
         ⊎_elim (λ none. subst (AllByRecursion (HoldsKept k)) (sym none) tt)
-        (λ may. all_mapped is.doubts (λ z adds. case_stays (Some adds.0) c.room.holds z adds.1 held.0) may.1) is.doubted
+        (λ may. all_mapped is.doubts (λ z adds. case_stays (Some adds.0) c.retired.holds z adds.1 held.0) may.1) is.doubted
         in
-        (case_stays c.stored c.room.holds c.ended.holds is.stores held.0, subst (AllByRecursion (HoldsKept k)) (sym is.in_doubt) (all_append (HoldsKept k) is.doubts c.room.in_doubt doubts held.1))
+        (case_stays c.stored c.retired.holds c.ended.holds is.stores held.0, subst (AllByRecursion (HoldsKept k)) (sym is.in_doubt) (all_append (HoldsKept k) is.doubts c.retired.in_doubt doubts held.1))
 
     end_holds : Spares k (said_label c.stored given) c.labels → IsHeldAt k c.ended → IsHeldAt k c.end
     end_holds spares held = moment_keeps k no_stream [] c.ended c.end (said_label c.stored given) c.labels is.gives_label spares held
 
-    store_holds : Spares k (said_room c.policy) c.told → Spares k (said_label c.stored given) c.labels → IsHeldAt k c.begin
-        → AllByRecursion (IsHeldAt k) (c.room ∷ c.filled ∷ c.ended ∷ c.end ∷ [])
-    store_holds room label held =
-        let made = moment_keeps k no_stream [] c.begin c.room (said_room c.policy) c.told is.makes_room room held in
+    store_holds : Spares k (retire_line c.policy) c.told → Spares k (said_label c.stored given) c.labels → IsHeldAt k c.begin
+        → AllByRecursion (IsHeldAt k) (c.retired ∷ c.filled ∷ c.ended ∷ c.end ∷ [])
+    store_holds retired label held =
+        let made = moment_keeps k no_stream [] c.begin c.retired (retire_line c.policy) c.told is.retires_first retired held in
         let ended = ended_holds made in
         (made, ((subst (HoldsKept k) (sym is.same) made.0, subst (AllByRecursion (HoldsKept k)) (sym is.same_doubt) made.1), (ended, (end_holds label ended, tt))))
 
@@ -245,9 +245,9 @@ module _ {D : Type 0} (g : disk.Ghosts D) (k : Kept) where
   store_keeps : (c : Command D) → IsStore g k c → IsReady c.before → StaysFound g k c.after c.before
   store_keeps c s ready left since =
       let begin : IsHeldAt k s.safe.course.begin = held_surely k s.safe.course.begin (subst (HoldsKept k) (sym (s.safe.found_again ready.0.0 ready.0.1)) ready.0.2) s.safe.is.clear in
-      let all = store_holds s.asked s.found s.given s.streams.input s.streams.input' s.safe.course s.safe.is s.room s.gives begin in
+      let all = store_holds s.asked s.found s.given s.streams.input s.streams.input' s.safe.course s.safe.is s.retired s.gives begin in
       ⊎_elim (λ before. ready.1 left before)
-      (λ finds. found_since k left s.safe.course.begin (s.safe.course.room ∷ s.safe.course.filled ∷ s.safe.course.ended ∷ s.safe.course.end ∷ []) finds begin all) (s.safe.opening left since)
+      (λ finds. found_since k left s.safe.course.begin (s.safe.course.retired ∷ s.safe.course.filled ∷ s.safe.course.ended ∷ s.safe.course.end ∷ []) finds begin all) (s.safe.opening left since)
 
   command_keeps : (c : Command D) → IsCommand g k c → IsReady c.before → StaysFound g k c.after c.before
   command_keeps c is ready = ⊎_elim (λ s. session_keeps c s ready) (λ more. ⊎_elim (λ s. store_keeps c s ready) (λ r. (λ left since. ready.1 left (r.leaves left since))) more) is
@@ -411,7 +411,7 @@ module _ {D : Type 0} (g : disk.Ghosts D) (numbers : NumbersAreAbove) where
 
   pub stores_store : AStoreStoresACase g
   stores_store t asked found given before after answer s n stored =
-      let a : AddsCase found t.input t.input' s.course.room.holds n s.course.ended.holds = subst (λ (o : Option ℕ). StoresOrNot found t.input t.input' s.course.room.holds o s.course.ended.holds) stored s.is.stores in
+      let a : AddsCase found t.input t.input' s.course.retired.holds n s.course.ended.holds = subst (λ (o : Option ℕ). StoresOrNot found t.input t.input' s.course.retired.holds o s.course.ended.holds) stored s.is.stores in
       let told : s.course.reply ≡ end_reply (Ok n) = subst (λ (o : Option ℕ). TellsStored o s.course.first s.course.reply) stored s.is.tells in
       let none : s.is.doubts ≡ [] = ⊎_elim (λ is. is) (λ may. absurd (stored_apart n (codes "Disk") (sym told ∙ may.0))) s.is.doubted in (
         record { seq = n; stream = a.stream; image = a.image; label = Some [] },
@@ -420,8 +420,8 @@ module _ {D : Type 0} (g : disk.Ghosts D) (numbers : NumbersAreAbove) where
         a.read,
         refl,
         subst (HoldsKept (record { seq = n; stream = a.stream; image = a.image; label = Some [] })) (sym a.adds)
-            (_, among_last s.course.room.holds.cases _, record { number = sym a.number; origin = refl; bytes = refl; labelled = refl }),
-        s.is.in_doubt ∙ ap (λ (ds : List Durable). ds ++ s.course.room.in_doubt) none ∙ s.is.sure n stored,
+            (_, among_last s.course.retired.holds.cases _, record { number = sym a.number; origin = refl; bytes = refl; labelled = refl }),
+        s.is.in_doubt ∙ ap (λ (ds : List Durable). ds ++ s.course.retired.in_doubt) none ∙ s.is.sure n stored,
       )
 
   pub stores_keep : AStoreKeepsACase g

@@ -19,7 +19,7 @@ pub mod KeptLemmas
 pub mod FoundLemmas
 pub mod MemoryLemmas
 pub mod CopyLemmas
-pub mod RoomMadeLemmas
+pub mod RetiredLemmas
 pub mod HeadlineLemmas
 pub mod SafeLemmas
 pub mod StoreHeadLemmas

@@ -14,10 +14,9 @@ use Rattle.stream_names.specs.declared.naming.Naming.{Naming}
 use Rattle.inspector_cli.specs.declared.session.LifeFault.{LifeFault}
 use Rattle.inspector_cli.specs.declared.session.LifeFault.TheVariants.{Open, Session}
 use Rattle.inspector_cli.specs.declared.session.MemoryFault.{MemoryFault}
-use Rattle.inspector_cli.specs.declared.session.MemoryFault.TheVariants.{Life}
 use Rattle.inspector_cli.specs.Session.{Streams}
 use Rattle.inspector_cli.specs.Life.{OpensThen, LifeEnds, RunsOver}
-use Rattle.inspector_cli.specs.Memory.{OverFresh, MemoryEnds}
+use Rattle.inspector_cli.specs.Memory.{OverFresh, MemoryEnds, memory_fault}
 
 abbrev state_from : Standing → ℕ → List (Option StreamParts) → Bool → ArchiveState
 state_from s limit streams stopped = record {
@@ -49,19 +48,16 @@ over_fresh g shape limit before after Goes honest stands lives =
       goes = lives.goes;
     }
 
-pub stands_for : (bytes : List ℕ) (shape : Shape) → Stands bytes (fresh shape A 1 1) → StandsFor bytes (durable_in bytes (fresh shape A 1 1))
-stands_for bytes shape stands = record { standing = fresh shape A 1 1; stands = stands; is = refl }
-
 -- what a session from the opening on answers, as one over a fresh archive
 abbrev pub ended_as : Result (Unit {0}) LifeFault → Result (Unit {0}) MemoryFault
 ended_as (Ok u) = Ok u
-ended_as (Err f) = Err (Life f)
+ended_as (Err f) = Err (memory_fault f)
 
 module _ {D : Type 0} (g : disk.Ghosts D) (shape : Shape) (limit : ℕ) (naming : Naming) (t : Streams) (before after : D) (within : IsWithinLimits shape) (honest : IsTrue (g.is_honest before)) (stands : Stands (g.seen before) (fresh shape A 1 1)) where
   ends : (r : Result (Unit {0}) LifeFault) → LifeEnds g limit t before r after (RunsOver g naming t) → MemoryEnds g shape limit naming t (ended_as r)
   ends (Ok u) life = over_fresh g shape limit before after (RunsOver g naming t (Ok u)) honest stands life
   ends (Err (Session f)) life = over_fresh g shape limit before after (RunsOver g naming t (Err f)) honest stands life
-  ends (Err (Open f)) life = (within, life.0.kind (durable_in (g.seen before) (fresh shape A 1 1)) honest (stands_for (g.seen before) shape stands), life.1)
+  ends (Err (Open f)) life = (within, life.1)
 
   pub memory_ends : (r s : Result (Unit {0}) LifeFault) → r ≡ s → LifeEnds g limit t before r after (RunsOver g naming t) → MemoryEnds g shape limit naming t (ended_as s)
   memory_ends r s is life = ends s (subst (λ (x : Result (Unit {0}) LifeFault). LifeEnds g limit t before x after (RunsOver g naming t)) is life)

@@ -41,14 +41,14 @@ use Rattle.inspector_cli.specs.Reply.{Begins, Takes}
 use Rattle.inspector_cli.specs.Session.{Streams}
 use Rattle.inspector_cli.specs.Stages.{Stage, Moves, MayLeave, mark_at, marks_of}
 use Rattle.inspector_cli.specs.StoreHeadline.{TellsStored, AddsCase, StoresOrNot, StoreCourse, IsStoreCourse, IsTold, IsStoreSafe, StoresAreCrashSafe, BeginsEmpty, no_stream}
-use Rattle.inspector_cli.specs.Storing.{TakesFile, FileReplies, RestReplies, MakesRoom, IsChosen, LabelsCase, Stores, StoreEnds, said_room, said_label}
+use Rattle.inspector_cli.specs.Storing.{TakesFile, FileReplies, RestReplies, RetiresFirst, IsChosen, LabelsCase, Stores, StoreEnds, retire_line, said_label}
 use Rattle.inspector_cli.proofs.CaseLemmas.{is_found, briefs_are}
 use Rattle.inspector_cli.proofs.ClearLemmas.{first_apart, retire_told, retire_stops}
 use Rattle.inspector_cli.proofs.KeptLemmas.{LastingLaws}
 use Rattle.inspector_cli.proofs.SlotLemmas.{some_same}
 use Rattle.inspector_cli.proofs.SafeLemmas.{are_safe, leads_on, moment, since_opening}
 use Rattle.inspector_cli.proofs.StageLemmas.{Laws, Reaches, stage_of, begins_stays, ends_moves}
-use Rattle.inspector_cli.proofs.StoreLemmas.{room_moves, label_moves}
+use Rattle.inspector_cli.proofs.StoreLemmas.{retiring_moves, label_moves}
 use Rattle.journal_layout.specs.Case.{Case}
 
 -- what stands in a slot that was set is what was put there
@@ -66,13 +66,13 @@ none_apart n is = subst IsNone is tt
 
 module _ {D : Type 0} (g : disk.Ghosts D) (lasts : LastingLaws g) where
   -- the stream that has taken these bytes, where it had none when it began
-  module _ (room mid filled : Parts D) (stream : StreamFacts) (raw : List ℕ) (none : stream.len ≡ 0) (begun : BeginCall g room 0 stream (Ok tt) mid) (takes : Takes g mid 0 raw (Ok tt) filled) where
+  module _ (retired mid filled : Parts D) (stream : StreamFacts) (raw : List ℕ) (none : stream.len ≡ 0) (begun : BeginCall g retired 0 stream (Ok tt) mid) (takes : Takes g mid 0 raw (Ok tt) filled) where
     facts_are : (s : StreamFacts) → stream_at (state_of filled).streams 0 ≡ Some s → s ≡ record stream { len = length raw; blocks = takes.step.3 }
     facts_are s at =
-        let before : stream_at (slice_set (state_of room).streams 0 (Some stream)) 0 ≡ Some takes.step.0 =
+        let before : stream_at (slice_set (state_of retired).streams 0 (Some stream)) 0 ≡ Some takes.step.0 =
         subst (λ (b : ArchiveState). stream_at b.streams 0 ≡ Some takes.step.0) begun.step.1 takes.step.1.1
         in
-        let first : takes.step.0 ≡ stream = set_is (state_of room).streams 0 stream takes.step.0 before in
+        let first : takes.step.0 ≡ stream = set_is (state_of retired).streams 0 stream takes.step.0 before in
         let after : stream_at (slice_set (state_of mid).streams 0 (Some (longer takes.step.0 (length raw) takes.step.3))) 0 ≡ Some s =
         subst (λ (b : ArchiveState). stream_at b.streams 0 ≡ Some s) takes.step.4 at
         in
@@ -83,10 +83,10 @@ module _ {D : Type 0} (g : disk.Ghosts D) (lasts : LastingLaws g) where
     bytes_are : IsTrue (g.is_honest mid.disk) → (t : Taken) → stream_at (contents_of g.seen filled).taken 0 ≡ Some t → t.bytes ≡ raw
     bytes_are honest t at =
         let b = takes.bytes honest in
-        let before : stream_at (slice_set (contents_of g.seen room).taken 0 (Some empty_taken)) 0 ≡ Some b.0 =
+        let before : stream_at (slice_set (contents_of g.seen retired).taken 0 (Some empty_taken)) 0 ≡ Some b.0 =
         subst (λ (c : Contents). stream_at c.taken 0 ≡ Some b.0) begun.bytes b.2
         in
-        let first : b.0 ≡ empty_taken = set_is (contents_of g.seen room).taken 0 empty_taken b.0 before in
+        let first : b.0 ≡ empty_taken = set_is (contents_of g.seen retired).taken 0 empty_taken b.0 before in
         let after : stream_at (slice_set (contents_of g.seen mid).taken 0 (Some (record { bytes = b.0.bytes ++ raw; free = b.1 }))) 0 ≡ Some t =
         subst (λ (c : Contents). stream_at c.taken 0 ≡ Some t) b.3 at
         in
@@ -105,16 +105,16 @@ module _ {D : Type 0} (g : disk.Ghosts D) (lasts : LastingLaws g) where
   awake_then old mid (Ok stream) first (Ok u, call, told, accepts) = call.step.0.0
   awake_then old mid (Ok stream) first (Err f, call, told, accepts) = absurd (true≢false accepts)
 
-  -- where room was answered `no Disk` the archive is stopped
-  room_stops : (old new : Parts D) (policy : Option Policy) (told : List ℕ) (made : Bool) → MakesRoom g old policy told new made → told ≡ no_reply (codes "Disk") → (state_of new).stopped ≡ true
-  room_stops old new None told made makes is = absurd (first_apart [] refl (sym makes.0 ∙ is))
-  room_stops old new (Some policy) told made ((r, call, answered), done) is = retire_stops (state_of old) (state_of new) policy r call.step (retire_told r (sym answered ∙ is))
+  -- where the retirement was answered `no Disk` the archive is stopped
+  retiring_stops : (old new : Parts D) (policy : Option Policy) (told : List ℕ) (made : Bool) → RetiresFirst g old policy told new made → told ≡ no_reply (codes "Disk") → (state_of new).stopped ≡ true
+  retiring_stops old new None told made makes is = absurd (first_apart [] refl (sym makes.0 ∙ is))
+  retiring_stops old new (Some policy) told made ((r, call, answered), done) is = retire_stops (state_of old) (state_of new) policy r call.step (retire_told r (sym answered ∙ is))
 
   -- the case that the stream becomes
-  adds_case : (found : Result StreamFacts (List ℕ)) (file file' : Option (List ℕ)) (fails fails' : ℕ) (room mid filled : Parts D) (first : List ℕ) (x y : Durable) (n : ℕ) → BeginsEmpty found → Begins g room 0 found first mid true
+  adds_case : (found : Result StreamFacts (List ℕ)) (file file' : Option (List ℕ)) (fails fails' : ℕ) (retired mid filled : Parts D) (first : List ℕ) (x y : Durable) (n : ℕ) → BeginsEmpty found → Begins g retired 0 found first mid true
       → TakesFile g file file' fails fails' mid filled (Ok tt) → IsTrue (g.is_honest mid.disk) → x ≡ durable_of g.seen filled → n ≡ x.next
       → MayBeStored (state_of filled) (contents_of g.seen filled) (durable_of g.seen filled) 0 y → AddsCase found file file' x n y
-  adds_case (Ok stream) file file' fails fails' room mid filled first x y n none (Ok u, call, told, accepts) takes honest same number may = record {
+  adds_case (Ok stream) file file' fails fails' retired mid filled first x y n none (Ok u, call, told, accepts) takes honest same number may = record {
     stream = stream;
     begun = refl;
     image = takes.0;
@@ -125,70 +125,70 @@ module _ {D : Type 0} (g : disk.Ghosts D) (lasts : LastingLaws g) where
     adds =
         may.1.5
         ∙ ap (λ (d : Durable). with_case d may.1.0 may.0 may.1.1.bytes) (sym same)
-        ∙ ap (λ (s : StreamFacts). with_case x s may.0 may.1.1.bytes) (facts_are room mid filled stream takes.0 none call takes.3 may.1.0 may.1.2)
-        ∙ ap (λ (b : List ℕ). with_case x (record stream { len = length takes.0 }) may.0 b) (bytes_are room mid filled stream takes.0 none call takes.3 honest may.1.1 may.1.3);
+        ∙ ap (λ (s : StreamFacts). with_case x s may.0 may.1.1.bytes) (facts_are retired mid filled stream takes.0 none call takes.3 may.1.0 may.1.2)
+        ∙ ap (λ (b : List ℕ). with_case x (record stream { len = length takes.0 }) may.0 b) (bytes_are retired mid filled stream takes.0 none call takes.3 honest may.1.1 may.1.3);
   }
-  adds_case (Ok stream) file file' fails fails' room mid filled first x y n none (Err f, call, told, accepts) takes honest same number may = absurd (true≢false accepts)
-  adds_case (Err reason) file file' fails fails' room mid filled first x y n none begins takes honest same number may = absurd (true≢false begins.2)
+  adds_case (Ok stream) file file' fails fails' retired mid filled first x y n none (Err f, call, told, accepts) takes honest same number may = absurd (true≢false accepts)
+  adds_case (Err reason) file file' fails fails' retired mid filled first x y n none begins takes honest same number may = absurd (true≢false begins.2)
 
-  module _ (laws : Laws g) (found : Result StreamFacts (List ℕ)) (none : BeginsEmpty found) (file file' : Option (List ℕ)) (fails fails' : ℕ) (room : Stage D) (honest : IsTrue (g.is_honest room.archive.disk)) where
+  module _ (laws : Laws g) (found : Result StreamFacts (List ℕ)) (none : BeginsEmpty found) (file file' : Option (List ℕ)) (fails fails' : ℕ) (retired : Stage D) (honest : IsTrue (g.is_honest retired.archive.disk)) where
     -- whether the case is stored, and what is in doubt
     record Stored (filled ended : Parts D) (first rest : List ℕ) (stored : Option ℕ) : Type 0 where
-      takes : ChangesNoCase g room.archive filled
+      takes : ChangesNoCase g retired.archive filled
       more : List Durable
-      moves : Moves g (stage_of filled room.in_doubt) (end_of 0) rest (stage_of ended (more ++ room.in_doubt))
-      stores : StoresOrNot found file file' (durable_of g.seen room.archive) stored (durable_of g.seen ended)
+      moves : Moves g (stage_of filled retired.in_doubt) (end_of 0) rest (stage_of ended (more ++ retired.in_doubt))
+      stores : StoresOrNot found file file' (durable_of g.seen retired.archive) stored (durable_of g.seen ended)
       tells : TellsStored stored first rest
-      awake : (n : ℕ) → stored ≡ Some n → (state_of room.archive).stopped ≡ false
+      awake : (n : ℕ) → stored ≡ Some n → (state_of retired.archive).stopped ≡ false
       doubted :
           (moves.doubts ≡ [])
-          ⊎ ((rest ≡ no_reply (codes "Disk")) × AllByRecursion (λ (z : Durable). (n : ℕ) × AddsCase found file file' (durable_of g.seen room.archive) n z) moves.doubts)
+          ⊎ ((rest ≡ no_reply (codes "Disk")) × AllByRecursion (λ (z : Durable). (n : ℕ) × AddsCase found file file' (durable_of g.seen retired.archive) n z) moves.doubts)
 
     -- no case is stored, and the archive stays as it was
-    none_stored : (filled ended : Parts D) (first rest : List ℕ) (stored : Option ℕ) → ChangesNoCase g room.archive filled → ended ≡ filled → stored ≡ None → TellsStored None first rest → Stored filled ended first rest stored
+    none_stored : (filled ended : Parts D) (first rest : List ℕ) (stored : Option ℕ) → ChangesNoCase g retired.archive filled → ended ≡ filled → stored ≡ None → TellsStored None first rest → Stored filled ended first rest stored
     none_stored filled ended first rest stored takes same nothing tells = record {
       awake = λ n is. absurd (none_apart n (sym nothing ∙ is));
       tells = subst (λ (o : Option ℕ). TellsStored o first rest) (sym nothing) tells;
       takes = takes;
       more = [];
-      moves = record { doubts = []; in_doubt = refl; doubted = inl refl; passes = laws.stays filled ended room.in_doubt (stays_as g filled ended same) };
+      moves = record { doubts = []; in_doubt = refl; doubted = inl refl; passes = laws.stays filled ended retired.in_doubt (stays_as g filled ended same) };
       stores =
-          subst (λ (o : Option ℕ). StoresOrNot found file file' (durable_of g.seen room.archive) o (durable_of g.seen ended)) (sym nothing) (ap (durable_of g.seen) same ∙ takes.durable honest);
+          subst (λ (o : Option ℕ). StoresOrNot found file file' (durable_of g.seen retired.archive) o (durable_of g.seen ended)) (sym nothing) (ap (durable_of g.seen) same ∙ takes.durable honest);
       doubted = inl refl;
     }
 
-    all_add : (mid filled : Parts D) (first : List ℕ) → Begins g room.archive 0 found first mid true → TakesFile g file file' fails fails' mid filled (Ok tt) → IsTrue (g.is_honest mid.disk)
-        → durable_of g.seen room.archive ≡ durable_of g.seen filled → (xs : List Durable) → AllByRecursion (MayLeave g filled (end_of 0)) xs
-        → AllByRecursion (λ (z : Durable). (n : ℕ) × AddsCase found file file' (durable_of g.seen room.archive) n z) xs
+    all_add : (mid filled : Parts D) (first : List ℕ) → Begins g retired.archive 0 found first mid true → TakesFile g file file' fails fails' mid filled (Ok tt) → IsTrue (g.is_honest mid.disk)
+        → durable_of g.seen retired.archive ≡ durable_of g.seen filled → (xs : List Durable) → AllByRecursion (MayLeave g filled (end_of 0)) xs
+        → AllByRecursion (λ (z : Durable). (n : ℕ) × AddsCase found file file' (durable_of g.seen retired.archive) n z) xs
     all_add mid filled first begins takes there same [] all = tt
     all_add mid filled first begins takes there same (z ∷ zs) all = (
-      ((durable_of g.seen room.archive).next, adds_case found file file' fails fails' room.archive mid filled first (durable_of g.seen room.archive) z _ none begins takes there same refl all.0),
+      ((durable_of g.seen retired.archive).next, adds_case found file file' fails fails' retired.archive mid filled first (durable_of g.seen retired.archive) z _ none begins takes there same refl all.0),
       all_add mid filled first begins takes there same zs all.1,
     )
 
-    is_stored : (mid filled ended : Parts D) (first : List ℕ) (accepted : Bool) (rest : List ℕ) (stored : Option ℕ) → Begins g room.archive 0 found first mid accepted → ChangesNoCase g room.archive mid
+    is_stored : (mid filled ended : Parts D) (first : List ℕ) (accepted : Bool) (rest : List ℕ) (stored : Option ℕ) → Begins g retired.archive 0 found first mid accepted → ChangesNoCase g retired.archive mid
         → RestReplies g file file' fails fails' mid accepted filled rest ended stored → Stored filled ended first rest stored
     is_stored mid filled ended first false rest stored begins begun goes =
-        none_stored filled ended first rest stored (stays_then g room.archive mid filled begun (stays_as g mid filled goes.2)) (goes.4 ∙ sym goes.2) goes.5
-        (inr (goes.3, not_begun room.archive mid found first begins))
+        none_stored filled ended first rest stored (stays_then g retired.archive mid filled begun (stays_as g mid filled goes.2)) (goes.4 ∙ sym goes.2) goes.5
+        (inr (goes.3, not_begun retired.archive mid found first begins))
     is_stored mid filled ended first true rest stored begins begun (Err stop, takes, replies) =
         none_refused stop takes replies
       where
         none_refused : (stop : TakeStop) → TakesFile g file file' fails fails' mid filled (Err stop) → FileReplies g filled (Err stop) rest ended stored → Stored filled ended first rest stored
-        none_refused File takes replies = none_stored filled ended first rest stored (stays_then g room.archive mid filled begun takes.3.stays) replies.1 replies.2 (inl (codes "File", replies.0))
-        none_refused (Refused f) takes replies = none_stored filled ended first rest stored (stays_then g room.archive mid filled begun takes.2.stays) replies.1 replies.2 (inl (reason_of f, replies.0))
+        none_refused File takes replies = none_stored filled ended first rest stored (stays_then g retired.archive mid filled begun takes.3.stays) replies.1 replies.2 (inl (codes "File", replies.0))
+        none_refused (Refused f) takes replies = none_stored filled ended first rest stored (stays_then g retired.archive mid filled begun takes.2.stays) replies.1 replies.2 (inl (reason_of f, replies.0))
     is_stored mid filled ended first true rest stored begins begun (Ok u, takes, (r, call, told, is)) =
         let there : IsTrue (g.is_honest mid.disk) = begun.honesty ∙ honest in
         let here : IsTrue (g.is_honest filled.disk) = takes.3.stays.honesty ∙ there in
-        let same : durable_of g.seen room.archive ≡ durable_of g.seen filled = sym (takes.3.stays.durable there ∙ begun.durable honest) in
-        let moves = ends_moves g laws (stage_of filled room.in_doubt) ended 0 rest stored (r, call, told, is) in
+        let same : durable_of g.seen retired.archive ≡ durable_of g.seen filled = sym (takes.3.stays.durable there ∙ begun.durable honest) in
+        let moves = ends_moves g laws (stage_of filled retired.in_doubt) ended 0 rest stored (r, call, told, is) in
         record {
-          takes = stays_then g room.archive mid filled begun takes.3.stays;
+          takes = stays_then g retired.archive mid filled begun takes.3.stays;
           more = moves.0;
           moves = moves.1;
           stores = ends r call is there here same;
           tells = tells r told is;
-          awake = λ n some. awake_then room.archive mid found first begins;
+          awake = λ n some. awake_then retired.archive mid found first begins;
           doubted = ⊎_elim (λ nothing. inl nothing) (λ may. inr (may.0, all_add mid filled first begins takes there same moves.1.doubts may.1)) moves.1.doubted;
         }
       where
@@ -196,14 +196,14 @@ module _ {D : Type 0} (g : disk.Ghosts D) (lasts : LastingLaws g) where
         tells (Ok seq) told is = subst (λ (o : Option ℕ). TellsStored o first rest) (sym is) told
         tells (Err f) told is = subst (λ (o : Option ℕ). TellsStored o first rest) (sym is) (inl (reason_of f, told))
 
-        ends : (r : Result ℕ ArchiveFault) → FinishCall g filled 0 r ended → stored ≡ result_ok r → IsTrue (g.is_honest mid.disk) → IsTrue (g.is_honest filled.disk) → durable_of g.seen room.archive ≡ durable_of g.seen filled
-            → StoresOrNot found file file' (durable_of g.seen room.archive) stored (durable_of g.seen ended)
+        ends : (r : Result ℕ ArchiveFault) → FinishCall g filled 0 r ended → stored ≡ result_ok r → IsTrue (g.is_honest mid.disk) → IsTrue (g.is_honest filled.disk) → durable_of g.seen retired.archive ≡ durable_of g.seen filled
+            → StoresOrNot found file file' (durable_of g.seen retired.archive) stored (durable_of g.seen ended)
         ends (Ok seq) call is there here same =
-            let number : seq ≡ (durable_of g.seen room.archive).next = call.step.6 ∙ ap (λ (d : Durable). d.next) (sym same) in
-            subst (λ (o : Option ℕ). StoresOrNot found file file' (durable_of g.seen room.archive) o (durable_of g.seen ended)) (sym is)
-            (adds_case found file file' fails fails' room.archive mid filled first (durable_of g.seen room.archive) (durable_of g.seen ended) seq none begins takes there same number (lasts.finish filled ended 0 seq here call))
+            let number : seq ≡ (durable_of g.seen retired.archive).next = call.step.6 ∙ ap (λ (d : Durable). d.next) (sym same) in
+            subst (λ (o : Option ℕ). StoresOrNot found file file' (durable_of g.seen retired.archive) o (durable_of g.seen ended)) (sym is)
+            (adds_case found file file' fails fails' retired.archive mid filled first (durable_of g.seen retired.archive) (durable_of g.seen ended) seq none begins takes there same number (lasts.finish filled ended 0 seq here call))
         ends (Err f) call is there here same =
-            subst (λ (o : Option ℕ). StoresOrNot found file file' (durable_of g.seen room.archive) o (durable_of g.seen ended)) (sym is)
+            subst (λ (o : Option ℕ). StoresOrNot found file file' (durable_of g.seen retired.archive) o (durable_of g.seen ended)) (sym is)
             (lasts.refusals filled ended f here (inl (0, call)) ∙ sym same)
 
   decided : (old : Parts D) (policy : Policy) (dropped : List ℕ) (unmet : Bool) → IsDecision policy (map step.brief_of (state_of old).cases) dropped unmet → IsDecision policy (map brief_of (durable_of g.seen old).cases) dropped unmet
@@ -225,14 +225,14 @@ module _ {D : Type 0} (g : disk.Ghosts D) (lasts : LastingLaws g) where
       )
 
   -- a line is carried out, or refused
-  room_leads : (old new : Parts D) (policy : Option Policy) (told : List ℕ) (made : Bool) → IsTrue (g.is_honest old.disk) → MakesRoom g old policy told new made → Leads no_stream [] (said_room policy) told (durable_of g.seen old) (durable_of g.seen new)
-  room_leads old new None told made honest makes = (makes.0, ap (durable_of g.seen) makes.1)
-  room_leads old new (Some policy) told made honest ((Ok d, call, is), done) = inl (d.dropped.items, d.unmet, decided old policy d.dropped.items d.unmet call.step.1, is, lasts.retire old new policy d honest call)
-  room_leads old new (Some policy) told made honest ((Err f, call, is), done) = inr (reason_of f, is, lasts.refusals old new f honest (inr (inr (inr (inl (policy, call))))))
+  retiring_leads : (old new : Parts D) (policy : Option Policy) (told : List ℕ) (made : Bool) → IsTrue (g.is_honest old.disk) → RetiresFirst g old policy told new made → Leads no_stream [] (retire_line policy) told (durable_of g.seen old) (durable_of g.seen new)
+  retiring_leads old new None told made honest makes = (makes.0, ap (durable_of g.seen) makes.1)
+  retiring_leads old new (Some policy) told made honest ((Ok d, call, is), done) = inl (d.dropped.items, d.unmet, decided old policy d.dropped.items d.unmet call.step.1, is, lasts.retire old new policy d honest call)
+  retiring_leads old new (Some policy) told made honest ((Err f, call, is), done) = inr (reason_of f, is, lasts.refusals old new f honest (inr (inr (inr (inl (policy, call))))))
 
-  room_would : (old : Parts D) (policy : Option Policy) (x : Durable) → MayLeave g old (said_room policy) x → WouldLeave no_stream [] (said_room policy) (durable_of g.seen old) x
-  room_would old None x may = absurd may
-  room_would old (Some policy) x may = (refl, _, (may.0, may.1, decided old policy may.0 may.1 may.2.1, refl, may.3))
+  retiring_would : (old : Parts D) (policy : Option Policy) (x : Durable) → MayLeave g old (retire_line policy) x → WouldLeave no_stream [] (retire_line policy) (durable_of g.seen old) x
+  retiring_would old None x may = absurd may
+  retiring_would old (Some policy) x may = (refl, _, (may.0, may.1, decided old policy may.0 may.1 may.2.1, refl, may.3))
 
   label_leads : (old new : Parts D) (stored : Option ℕ) (label : Option (List ℕ)) (told : List ℕ) (done : Bool) → IsTrue (g.is_honest old.disk) → LabelsCase g old stored label told new done
       → Leads no_stream [] (said_label stored label) told (durable_of g.seen old) (durable_of g.seen new)
@@ -265,35 +265,35 @@ module _ {D : Type 0} (g : disk.Ghosts D) (lasts : LastingLaws g) (laws : Laws g
     there : IsTrue (g.is_honest opened.disk)
     there = opening.honesty ∙ honest
 
-    room_made : Reaches g laws first s.room (said_room s.makes_room.policy) s.told
-    room_made = room_moves g laws first s.room s.makes_room.policy s.told outcome.made_room s.makes_room.makes_room
+    retired_then : Reaches g laws first s.retired (retire_line s.retires_first.policy) s.told
+    retired_then = retiring_moves g laws first s.retired s.retires_first.policy s.told outcome.retired_first s.retires_first.retires_first
 
-    abbrev room : Stage D
-    room = stage_of s.room (room_made.0 ++ [])
+    abbrev retired : Stage D
+    retired = stage_of s.retired (retired_then.0 ++ [])
 
-    room_honest : IsTrue (g.is_honest s.room.disk)
-    room_honest = room_made.1.passes.honesty ∙ there
+    retiring_honest : IsTrue (g.is_honest s.retired.disk)
+    retiring_honest = retired_then.1.passes.honesty ∙ there
 
-    begun : ChangesNoCase g s.room s.stores.mid
-    begun = begins_stays g s.room s.stores.mid 0 found s.stores.first s.stores.accepted s.stores.begins
+    begun : ChangesNoCase g s.retired s.stores.mid
+    begun = begins_stays g s.retired s.stores.mid 0 found s.stores.first s.stores.accepted s.stores.begins
 
-    stored : Stored g lasts laws found none t.input t.input' t.fails t.fails' room room_honest s.stores.filled s.ended s.stores.first s.stores.rest outcome.stored
-    stored = is_stored g lasts laws found none t.input t.input' t.fails t.fails' room room_honest s.stores.mid s.stores.filled s.ended s.stores.first s.stores.accepted s.stores.rest outcome.stored s.stores.begins begun s.stores.goes_on
+    stored : Stored g lasts laws found none t.input t.input' t.fails t.fails' retired retiring_honest s.stores.filled s.ended s.stores.first s.stores.rest outcome.stored
+    stored = is_stored g lasts laws found none t.input t.input' t.fails t.fails' retired retiring_honest s.stores.mid s.stores.filled s.ended s.stores.first s.stores.accepted s.stores.rest outcome.stored s.stores.begins begun s.stores.goes_on
 
     -- nothing is in doubt where the archive is not stopped
-    room_clear : (state_of s.room).stopped ≡ false → room.in_doubt ≡ []
-    room_clear awake =
-        let none : room_made.1.doubts ≡ [] =
+    retiring_clear : (state_of s.retired).stopped ≡ false → retired.in_doubt ≡ []
+    retiring_clear awake =
+        let none : retired_then.1.doubts ≡ [] =
         ⊎_elim (λ is. is)
-        (λ may. absurd (false≢true (sym awake ∙ room_stops g lasts opened s.room s.makes_room.policy s.told outcome.made_room s.makes_room.makes_room may.0))) room_made.1.doubted
+        (λ may. absurd (false≢true (sym awake ∙ retiring_stops g lasts opened s.retired s.retires_first.policy s.told outcome.retired_first s.retires_first.retires_first may.0))) retired_then.1.doubted
         in
-        room_made.1.in_doubt ∙ ap (λ (ds : List Durable). ds ++ []) none
+        retired_then.1.in_doubt ∙ ap (λ (ds : List Durable). ds ++ []) none
 
     abbrev filled : Stage D
-    filled = stage_of s.stores.filled room.in_doubt
+    filled = stage_of s.stores.filled retired.in_doubt
 
     abbrev ended : Stage D
-    ended = stage_of s.ended (stored.more ++ room.in_doubt)
+    ended = stage_of s.ended (stored.more ++ retired.in_doubt)
 
     label_given : Reaches g laws ended end (said_label outcome.stored label) s.last
     label_given = label_moves g laws ended end outcome.stored label s.last outcome.labelled s.labels
@@ -302,15 +302,15 @@ module _ {D : Type 0} (g : disk.Ghosts D) (lasts : LastingLaws g) (laws : Laws g
     last = stage_of end (label_given.0 ++ ended.in_doubt)
 
     ended_honest : IsTrue (g.is_honest s.ended.disk)
-    ended_honest = stored.moves.passes.honesty ∙ (stored.takes.honesty ∙ room_honest)
+    ended_honest = stored.moves.passes.honesty ∙ (stored.takes.honesty ∙ retiring_honest)
 
     end_honest : IsTrue (g.is_honest end.disk)
     end_honest = label_given.1.passes.honesty ∙ ended_honest
 
-    run : IsRunOfMarks g (mark_at g.seen first) (marks_of g.seen (room ∷ filled ∷ ended ∷ []) last closed)
+    run : IsRunOfMarks g (mark_at g.seen first) (marks_of g.seen (retired ∷ filled ∷ ended ∷ []) last closed)
     run = (
-      room_made.1.passes,
-      (laws.stays s.room s.stores.filled room.in_doubt stored.takes, (stored.moves.passes, (label_given.1.passes, (laws.stays end closed last.in_doubt drops.stays, tt)))),
+      retired_then.1.passes,
+      (laws.stays s.retired s.stores.filled retired.in_doubt stored.takes, (stored.moves.passes, (label_given.1.passes, (laws.stays end closed last.in_doubt drops.stays, tt)))),
     )
 
     settled : IsMarkSettled g (mark_at g.seen first)
@@ -319,9 +319,9 @@ module _ {D : Type 0} (g : disk.Ghosts D) (lasts : LastingLaws g) (laws : Laws g
     abbrev course : StoreCourse D
     course = record {
       begin = moment g first;
-      policy = s.makes_room.policy;
+      policy = s.retires_first.policy;
       told = s.told;
-      room = moment g room;
+      retired = moment g retired;
       filled = moment g filled;
       first = s.stores.first;
       reply = s.stores.rest;
@@ -334,14 +334,14 @@ module _ {D : Type 0} (g : disk.Ghosts D) (lasts : LastingLaws g) (laws : Laws g
     is_course : IsStoreCourse asked found label t.input t.input' course
     is_course = record {
       clear = refl;
-      chosen = is_chosen (state_of opened) asked found s.makes_room.policy s.makes_room.chosen;
-      makes_room =
-          leads_on g no_stream [] first room (said_room s.makes_room.policy) s.told (room_leads g lasts opened s.room s.makes_room.policy s.told outcome.made_room there s.makes_room.makes_room)
-          (λ x disk may. room_would g lasts opened s.makes_room.policy x may) room_made.1;
-      same = stored.takes.durable room_honest;
+      chosen = is_chosen (state_of opened) asked found s.retires_first.policy s.retires_first.chosen;
+      retires_first =
+          leads_on g no_stream [] first retired (retire_line s.retires_first.policy) s.told (retiring_leads g lasts opened s.retired s.retires_first.policy s.told outcome.retired_first there s.retires_first.retires_first)
+          (λ x disk may. retiring_would g lasts opened s.retires_first.policy x may) retired_then.1;
+      same = stored.takes.durable retiring_honest;
       same_doubt = refl;
       stores = stored.stores;
-      sure = λ n is. room_clear (stored.awake n is);
+      sure = λ n is. retiring_clear (stored.awake n is);
       tells = stored.tells;
       doubts = stored.moves.doubts;
       in_doubt = stored.moves.in_doubt;
@@ -364,11 +364,11 @@ module _ {D : Type 0} (g : disk.Ghosts D) (lasts : LastingLaws g) (laws : Laws g
       answered = told;
       opening =
           subst
-          (λ (d : D). (left : List ℕ) → g.left_since d (g.clock before) left → g.may_leave before left ⊎ FindsSince left (moment g first) (moment g room ∷ moment g filled ∷ moment g ended ∷ moment g last ∷ [])) (sym disk)
-          (since_opening g stays last closed end_honest drops.stays nothing_else first (room ∷ filled ∷ ended ∷ []) there run before (opening.any_moment honest));
+          (λ (d : D). (left : List ℕ) → g.left_since d (g.clock before) left → g.may_leave before left ⊎ FindsSince left (moment g first) (moment g retired ∷ moment g filled ∷ moment g ended ∷ moment g last ∷ [])) (sym disk)
+          (since_opening g stays last closed end_honest drops.stays nothing_else first (retired ∷ filled ∷ ended ∷ []) there run before (opening.any_moment honest));
       safe =
-          subst (λ (d : D). AreSafe g d (moment g first) (moment g room ∷ moment g filled ∷ moment g ended ∷ moment g last ∷ [])) (sym disk)
-          (are_safe g stays last closed end_honest drops.stays first (room ∷ filled ∷ ended ∷ []) there settled run (law (mark_at g.seen first) (marks_of g.seen (room ∷ filled ∷ ended ∷ []) last closed) there settled run));
+          subst (λ (d : D). AreSafe g d (moment g first) (moment g retired ∷ moment g filled ∷ moment g ended ∷ moment g last ∷ [])) (sym disk)
+          (are_safe g stays last closed end_honest drops.stays first (retired ∷ filled ∷ ended ∷ []) there settled run (law (mark_at g.seen first) (marks_of g.seen (retired ∷ filled ∷ ended ∷ []) last closed) there settled run));
     }
 
   -- the same answer of a life

@@ -1,4 +1,4 @@
--- One stream that is stored from its own input, with room made for it first, and the label of its case.
+-- One stream that is stored from its own input, with cases retired before it, and the label of its case.
 use Rattle.std.proofs.Common.{◌≡◌, inl, ℕ, zero, suc, ◌+◌, ◌<◌, ◌≤◌, Bool, true, false, List, [], ◌∷◌, ◌++◌, length, Option, Some, None, Result, Ok, Err, is_ok, refl, sym, ap, subst, ◌∙◌, arith, length-append}
 use Rattle.std.proofs.lemmas.List.{append-nil, length-map}
 use Rattle.std.proofs.KnownBytes.{Consumes-trans}
@@ -31,7 +31,7 @@ use Rattle.inspector_cli.specs.declared.store.TakeStop.TheVariants.{File, Refuse
 use Rattle.script_streams.specs.Replies.{Telling, TellsReply}
 use Rattle.inspector_cli.specs.Stages.{Stage, mark_at, marks_of}
 use Rattle.inspector_cli.specs.Session.{Streams}
-use Rattle.inspector_cli.specs.Storing.{TakesFile, TakesMore, FileReplies, RestReplies, StoresStream, MakesRoom, MakesRoomFor, LabelsCase, Stores, said_room, said_label, StoreStages, StoreEnds}
+use Rattle.inspector_cli.specs.Storing.{TakesFile, TakesMore, FileReplies, RestReplies, StoresStream, RetiresFirst, RetiresForStream, LabelsCase, Stores, retire_line, said_label, StoreStages, StoreEnds}
 use Rattle.intake.specs.StayLaws.{stays_none, stays_as, stays_then}
 use Rattle.inspector_cli.proofs.StageLemmas.{Laws, Reaches, stage_of, ends_moves, labels_moves, retires_moves, still, begins_stays}
 use Rattle.script_streams.specs.TellLaws.{tells_then}
@@ -174,10 +174,10 @@ module _ {D : Type 0} (g : disk.Ghosts D) where
     end_reaches (Err File) reply stored ends = still g laws old new (end_of 0) reply (stays_as g old.archive new ends.1)
     end_reaches (Err (Refused fault)) reply stored ends = still g laws old new (end_of 0) reply (stays_as g old.archive new ends.1)
 
-    -- room that is made, or none
-    pub room_moves : (policy : Option Policy) (told : List ℕ) (made : Bool) → MakesRoom g old.archive policy told new made → Reaches g laws old new (said_room policy) told
-    room_moves None told made makes = still g laws old new silence told (stays_as g old.archive new makes.1)
-    room_moves (Some policy) told made makes = retires_moves g laws old new policy told makes.0
+    -- what is retired, or nothing
+    pub retiring_moves : (policy : Option Policy) (told : List ℕ) (made : Bool) → RetiresFirst g old.archive policy told new made → Reaches g laws old new (retire_line policy) told
+    retiring_moves None told made makes = still g laws old new silence told (stays_as g old.archive new makes.1)
+    retiring_moves (Some policy) told made makes = retires_moves g laws old new policy told makes.0
 
     -- the label of the case, or none
     pub label_moves : (stored : Option ℕ) (label : Option (List ℕ)) (last : List ℕ) (done : Bool) → LabelsCase g old.archive stored label last new done → Reaches g laws old new (said_label stored label) last
@@ -199,44 +199,44 @@ module _ {D : Type 0} (g : disk.Ghosts D) where
   pub stages_of : (laws : Laws g) → FoundAfterAStop g → (file file' : Option (List ℕ)) (fails fails' : ℕ) (old : Stage D) (asked : Option Policy) (found : Result StreamFacts (List ℕ)) (label : Option (List ℕ))
       (replies : List ℕ) (end : Parts D) (outcome : StoreOutcome) (new : Parts D)
       → (s : Stores g file file' fails fails' old.archive asked found label replies end outcome) → ChangesNoCase g end new
-      → (in_doubt : List Durable) × StoreStages g old s.makes_room.policy s.told s.room s.stores.filled s.stores.rest s.ended (said_label outcome.stored label) s.last (stage_of end in_doubt) new
+      → (in_doubt : List Durable) × StoreStages g old s.retires_first.policy s.told s.retired s.stores.filled s.stores.rest s.ended (said_label outcome.stored label) s.last (stage_of end in_doubt) new
   stages_of laws law file file' fails fails' old asked found label replies end outcome new s closes =
-      let r = room_moves laws old s.room s.makes_room.policy s.told outcome.made_room s.makes_room.makes_room in
+      let r = retiring_moves laws old s.retired s.retires_first.policy s.told outcome.retired_first s.retires_first.retires_first in
       let t = s.stores in
       let doubts : List Durable = r.0 ++ old.in_doubt in
       let m =
-      rest_moves laws file file' fails fails' (stage_of s.room doubts) t.mid t.filled s.ended t.accepted t.rest outcome.stored
-      (begins_stays g s.room t.mid 0 found t.first t.accepted t.begins) t.goes_on in
+      rest_moves laws file file' fails fails' (stage_of s.retired doubts) t.mid t.filled s.ended t.accepted t.rest outcome.stored
+      (begins_stays g s.retired t.mid 0 found t.first t.accepted t.begins) t.goes_on in
       let later : List Durable = m.1.0 ++ doubts in
       let l = label_moves laws (stage_of s.ended later) end outcome.stored label s.last outcome.labelled s.labels in (
         l.0 ++ later,
         record {
           in_doubt = doubts;
-          makes_room = r.1;
+          retires_first = r.1;
           takes = m.0;
           later_doubt = later;
           moves = m.1.1;
           labelled = l.1;
           found = λ honest settled.
-              law (mark_at g.seen old) (marks_of g.seen (stage_of s.room doubts ∷ stage_of t.filled doubts ∷ stage_of s.ended later ∷ []) (stage_of end (l.0 ++ later)) new) honest settled
-              (r.1.passes, (laws.stays s.room t.filled doubts m.0, (m.1.1.passes, (l.1.passes, (laws.stays end new (l.0 ++ later) closes, tt)))));
+              law (mark_at g.seen old) (marks_of g.seen (stage_of s.retired doubts ∷ stage_of t.filled doubts ∷ stage_of s.ended later ∷ []) (stage_of end (l.0 ++ later)) new) honest settled
+              (r.1.passes, (laws.stays s.retired t.filled doubts m.0, (m.1.1.passes, (l.1.passes, (laws.stays end new (l.0 ++ later) closes, tt)))));
         },
       )
 
-  -- room, the stream and its label
-  pub stores_all : (file file' : Option (List ℕ)) (fails fails' : ℕ) (o p q r : Sink) (old room ended new : Parts D) (asked : Option Policy) (found : Result StreamFacts (List ℕ)) (label : Option (List ℕ))
+  -- what is retired, the stream and its label
+  pub stores_all : (file file' : Option (List ℕ)) (fails fails' : ℕ) (o p q r : Sink) (old retired ended new : Parts D) (asked : Option Policy) (found : Result StreamFacts (List ℕ)) (label : Option (List ℕ))
       (made : Bool) (stored : Option ℕ) (labelled : Bool)
-      → TellsReply (record { before = o; after = p }) (λ text. MakesRoomFor g old asked found text room made)
-      → TellsReply (record { before = p; after = q }) (λ text. StoresStream g file file' fails fails' room found text ended stored)
+      → TellsReply (record { before = o; after = p }) (λ text. RetiresForStream g old asked found text retired made)
+      → TellsReply (record { before = p; after = q }) (λ text. StoresStream g file file' fails fails' retired found text ended stored)
       → TellsReply (record { before = q; after = r }) (λ text. LabelsCase g ended stored label text new labelled)
       → TellsReply (record { before = o; after = r })
-      (λ text. Stores g file file' fails fails' old asked found label text new (record { made_room = made; stored = stored; labelled = labelled }))
-  stores_all file file' fails fails' o p q r old room ended new asked found label made stored labelled first rest last = (
+      (λ text. Stores g file file' fails fails' old asked found label text new (record { retired_first = made; stored = stored; labelled = labelled }))
+  stores_all file file' fails fails' o p q r old retired ended new asked found label made stored labelled first rest last = (
     first.0 ++ (rest.0 ++ last.0),
     record {
       told = first.0;
-      room = room;
-      makes_room = first.1;
+      retired = retired;
+      retires_first = first.1;
       more = rest.0;
       ended = ended;
       stores = rest.1;

@@ -18,7 +18,7 @@ use Rattle.inspector_cli.specs.declared.session.StoreOutcome.{StoreOutcome}
 use Rattle.inspector_cli.specs.Headline.{Line, IsCrashSafe, answers_of, answer_of, begins_as, begun_in, last_moment}
 use Rattle.inspector_cli.specs.Session.{Streams}
 use Rattle.inspector_cli.specs.StoreHeadline.{IsStoreSafe}
-use Rattle.inspector_cli.specs.Storing.{said_room, said_label}
+use Rattle.inspector_cli.specs.Storing.{retire_line, said_label}
 use Rattle.inspector_cli.specs.Told.{Answer, MayDrop, what_of, parts_in}
 
 -- a case as it was stored: its number, its stream as it began, and its image; and its label, if one is named
@@ -73,7 +73,7 @@ pub record IsSession {D : Type 0} (g : disk.Ghosts D) (k : Kept) (c : Command D)
   pub lines : AllSpare k (answers_of safe.course)
   pub last : Spares k safe.course.last safe.course.reply
 
--- It stores a stream, and the room that it makes and the label that it gives spare the case.
+-- It stores a stream, and what it retires and the label that it gives spare the case.
 pub record IsStore {D : Type 0} (g : disk.Ghosts D) (k : Kept) (c : Command D) : Type 0 where
   pub streams : Streams
   pub asked : Option Policy
@@ -81,7 +81,7 @@ pub record IsStore {D : Type 0} (g : disk.Ghosts D) (k : Kept) (c : Command D) :
   pub given : Option (List ℕ)
   pub answer : Result StoreOutcome LifeFault
   pub safe : IsStoreSafe g streams asked found given c.before c.after answer
-  pub room : Spares k (said_room safe.course.policy) safe.course.told
+  pub retired : Spares k (retire_line safe.course.policy) safe.course.told
   pub gives : Spares k (said_label safe.course.stored given) safe.course.labels
 
 -- Its opening was refused: reads give what they gave, and a stop leaves what one before could have left.

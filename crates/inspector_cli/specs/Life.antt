@@ -52,7 +52,7 @@ abbrev pub RunsOver : {D : Type 0} → disk.Ghosts D → Naming → Streams → 
 RunsOver g naming t r opened closed =
     SessionEnds g naming t (record { archive = opened; in_doubt = [] }) closed r
 
--- the same of one stream that is stored from its own input, with room made for it first, and the label of its case
+-- the same of one stream that is stored from its own input, with cases retired before it, and the label of its case
 abbrev pub StoresOver : {D : Type 0} → disk.Ghosts D → Option Policy → Result StreamFacts (List ℕ) → Option (List ℕ) → Streams → Result StoreOutcome SessionFault → Parts D → Parts D → Type 0
 StoresOver g asked found label t r opened closed =
     StoreEnds g t (record { archive = opened; in_doubt = [] }) asked found label closed r

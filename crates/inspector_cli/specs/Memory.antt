@@ -1,15 +1,15 @@
 -- A session over an archive that was made for it, in memory.
 use Rattle.std.specs.Prelude.{◌≡◌, ◌⊎◌, ℕ, false, [], None, Result, Ok, Err, replicate, IsTrue}
 use Rattle.disk_model.specs.declared.disk.Disk as disk
-use Rattle.journal_layout.specs.declared.faults.OpenFault.TheVariants as fault
 use Rattle.journal_layout.specs.declared.shape.Shape.{Shape}
 use Rattle.journal_layout.specs.Layout.{IsWithinLimits}
 use Rattle.intake.specs.Parts.{Parts, state_of}
 use Rattle.intake.specs.State.{ArchiveState}
 use Rattle.stream_names.specs.declared.naming.Naming.{Naming}
-use Rattle.inspector_cli.specs.declared.session.LifeFault.TheVariants.{Open, Session}
+use Rattle.inspector_cli.specs.declared.session.LifeFault.{LifeFault}
+use Rattle.inspector_cli.specs.declared.session.LifeFault.TheVariants as life
 use Rattle.inspector_cli.specs.declared.session.MemoryFault.{MemoryFault}
-use Rattle.inspector_cli.specs.declared.session.MemoryFault.TheVariants.{BadShape, OutOfMemory, Disk, Life}
+use Rattle.inspector_cli.specs.declared.session.MemoryFault.TheVariants.{BadShape, OutOfMemory, Session}
 use Rattle.inspector_cli.specs.Session.{Streams}
 use Rattle.inspector_cli.specs.Life.{IsUntouched, RunsOver}
 
@@ -35,20 +35,22 @@ pub record OverFresh {D : Type 0} (g : disk.Ghosts D) (shape : Shape) (limit : �
   pub closed : Parts D
   pub goes : Goes opened closed
 
+-- what is answered where such a session did not end with its script: a disk in memory fails only for want of memory
+abbrev pub memory_fault : LifeFault → MemoryFault
+memory_fault (life.Open f) = OutOfMemory
+memory_fault (life.Session f) = Session f
+
 -- The session over it, by its answer. Where there was none, the shape is outside its limits, or there was no memory; the streams
 -- are not touched then.
 abbrev pub MemoryEnds : {D : Type 0} → disk.Ghosts D → Shape → ℕ → Naming → Streams → Result (Unit {0}) MemoryFault → Type 0
 MemoryEnds g shape limit naming t (Ok u) = OverFresh g shape limit (RunsOver g naming t (Ok u))
-MemoryEnds g shape limit naming t (Err (Life (Session f))) = OverFresh g shape limit (RunsOver g naming t (Err f))
-MemoryEnds g shape limit naming t (Err (Life (Open f))) = IsWithinLimits shape × ((f ≡ fault.Disk) ⊎ (f ≡ fault.OutOfMemory)) × IsUntouched t
+MemoryEnds g shape limit naming t (Err (Session f)) = OverFresh g shape limit (RunsOver g naming t (Err f))
 MemoryEnds g shape limit naming t (Err BadShape) = (IsWithinLimits shape → ⊥) × IsUntouched t
 MemoryEnds g shape limit naming t (Err OutOfMemory) = IsWithinLimits shape × IsUntouched t
-MemoryEnds g shape limit naming t (Err Disk) = IsWithinLimits shape × IsUntouched t
 
 -- why there is no disk for it, if there is none
 abbrev pub NoDisk : {T : Type 0} → Shape → Result T MemoryFault → Type 0
 NoDisk shape (Ok disk) = IsWithinLimits shape
-NoDisk shape (Err (Life f)) = ⊥
+NoDisk shape (Err (Session f)) = ⊥
 NoDisk shape (Err BadShape) = IsWithinLimits shape → ⊥
 NoDisk shape (Err OutOfMemory) = IsWithinLimits shape
-NoDisk shape (Err Disk) = IsWithinLimits shape

@@ -1,4 +1,4 @@
--- The headline of a store: what the archive holds when it begins, when room is made, when FILE is taken, when the case is stored,
+-- The headline of a store: what the archive holds when it begins, when cases are retired, when FILE is taken, when the case is stored,
 -- and when it has its label; and what a stop of the machine leaves of it.
 use Rattle.std.specs.Prelude.{◌≡◌, ◌⊎◌, ℕ, List, [], ◌∷◌, ◌++◌, length, Option, None, Some, Result, Ok, Err, IsTrue, codes}
 use Rattle.std.specs.List.{AllByRecursion}
@@ -16,7 +16,7 @@ use Rattle.inspector_cli.specs.declared.session.StoreOutcome.{StoreOutcome}
 use Rattle.inspector_cli.specs.Headline.{Moment, LeadsOn, AreSafe, FindsSince}
 use Rattle.inspector_cli.specs.Life.{LifeEnds, StoresOver}
 use Rattle.inspector_cli.specs.Session.{Streams}
-use Rattle.inspector_cli.specs.Storing.{said_room, said_label}
+use Rattle.inspector_cli.specs.Storing.{retire_line, said_label}
 
 -- A case is added behind x: the one that the stream was begun as, with all bytes of FILE as its image.
 pub record AddsCase (found : Result StreamFacts (List ℕ)) (file file' : Option (List ℕ)) (x : Durable) (n : ℕ) (y : Durable) : Type 0 where
@@ -34,7 +34,7 @@ abbrev pub StoresOrNot : Result StreamFacts (List ℕ) → Option (List ℕ) →
 StoresOrNot found file file' x (Some n) y = AddsCase found file file' x n y
 StoresOrNot found file file' x None y = y ≡ x
 
--- the lines that make room and give a label begin no stream
+-- the lines that retire and give a label begin no stream
 abbrev pub no_stream : Said → Option StreamFacts
 no_stream what = None
 
@@ -45,10 +45,10 @@ TellsStored None first reply = ((reason : List ℕ) × (reply ≡ no_reply reaso
 
 pub record StoreCourse (D : Type 0) : Type 0 where
   pub begin : Moment D
-  -- by which room is made, if it is, and what is told of it
+  -- by which cases are retired, if there is one, and what is told of it
   pub policy : Option Policy
   pub told : List ℕ
-  pub room : Moment D
+  pub retired : Moment D
   -- when the bytes of FILE are taken
   pub filled : Moment D
   -- the reply to the stream's beginning, and to its end
@@ -63,18 +63,18 @@ pub record StoreCourse (D : Type 0) : Type 0 where
 pub record IsStoreCourse {D : Type 0} (asked : Option Policy) (found : Result StreamFacts (List ℕ)) (label : Option (List ℕ)) (file file' : Option (List ℕ)) (c : StoreCourse D) : Type 0 where
   pub clear : c.begin.in_doubt ≡ []
   pub chosen : (c.policy ≡ asked) ⊎ (c.policy ≡ None)
-  pub makes_room : LeadsOn no_stream [] c.begin (said_room c.policy) c.told c.room
+  pub retires_first : LeadsOn no_stream [] c.begin (retire_line c.policy) c.told c.retired
   -- taking bytes changes no case
-  pub same : c.filled.holds ≡ c.room.holds
-  pub same_doubt : c.filled.in_doubt ≡ c.room.in_doubt
-  pub stores : StoresOrNot found file file' c.room.holds c.stored c.ended.holds
+  pub same : c.filled.holds ≡ c.retired.holds
+  pub same_doubt : c.filled.in_doubt ≡ c.retired.in_doubt
+  pub stores : StoresOrNot found file file' c.retired.holds c.stored c.ended.holds
   -- a case is stored only if nothing is in doubt
-  pub sure : (n : ℕ) → c.stored ≡ Some n → c.room.in_doubt ≡ []
+  pub sure : (n : ℕ) → c.stored ≡ Some n → c.retired.in_doubt ≡ []
   pub tells : TellsStored c.stored c.first c.reply
   -- only where the end is answered `no Disk` is a case in doubt
   pub doubts : List Durable
-  pub in_doubt : c.ended.in_doubt ≡ doubts ++ c.room.in_doubt
-  pub doubted : (doubts ≡ []) ⊎ ((c.reply ≡ no_reply (codes "Disk")) × AllByRecursion (λ (z : Durable). (n : ℕ) × AddsCase found file file' c.room.holds n z) doubts)
+  pub in_doubt : c.ended.in_doubt ≡ doubts ++ c.retired.in_doubt
+  pub doubted : (doubts ≡ []) ⊎ ((c.reply ≡ no_reply (codes "Disk")) × AllByRecursion (λ (z : Durable). (n : ℕ) × AddsCase found file file' c.retired.holds n z) doubts)
   pub gives_label : LeadsOn no_stream [] c.ended (said_label c.stored label) c.labels c.end
 
 -- on `Ok` all replies are written, and the outcome says whether the case is stored
@@ -96,8 +96,8 @@ pub record IsStoreSafe {D : Type 0} (g : disk.Ghosts D) (t : Streams) (asked : O
   pub answered : IsTold r course.stored unwritten
   -- a stop at any moment since the opening began leaves what one before it could have left, or what stands at a moment
   pub opening : (left : List ℕ) → g.left_since after (g.clock before) left
-      → g.may_leave before left ⊎ FindsSince left course.begin (course.room ∷ course.filled ∷ course.ended ∷ course.end ∷ [])
-  pub safe : AreSafe g after course.begin (course.room ∷ course.filled ∷ course.ended ∷ course.end ∷ [])
+      → g.may_leave before left ⊎ FindsSince left course.begin (course.retired ∷ course.filled ∷ course.ended ∷ course.end ∷ [])
+  pub safe : AreSafe g after course.begin (course.retired ∷ course.filled ∷ course.ended ∷ course.end ∷ [])
 
 -- What a store promises of stops, over an honest disk. An opening that is refused leaves what reads give, and what a stop may
 -- leave, as they were.

@@ -1,4 +1,4 @@
--- One stream that is stored from its own input, with room made for it first, and the label of its case.
+-- One stream that is stored from its own input, with cases retired before it, and the label of its case.
 use Rattle.std.specs.Prelude.{◌≡◌, ◌⊎◌, ℕ, ◌^◌, ◌<◌, ◌≤◌, ◌==◌, Bool, true, false, List, [], ◌∷◌, ◌++◌, length, Option, None, Some, Result, Ok, Err, is_ok, option_map, codes, if◌then◌else◌}
 use Rattle.arrayvec.specs.ArrayVec.{ArrayVec}
 use Rattle.script_lines.specs.Commands.{label_bytes}
@@ -84,13 +84,13 @@ pub record StoresStream {D : Type 0} (g : disk.Ghosts D) (file file' : Option (L
   pub goes_on : RestReplies g file file' fails fails' mid accepted filled rest new stored
   pub text : replies ≡ first ++ rest
 
--- Room is made by a policy: what `retire` does in a session, and whether it was answered other than `no REASON`. Where there is no
+-- Cases are retired by a policy: what `retire` does in a session, and whether it was answered other than `no REASON`. Where there is no
 -- policy nothing is done and nothing is said.
-abbrev pub MakesRoom : {D : Type 0} → disk.Ghosts D → Parts D → Option Policy → List ℕ → Parts D → Bool → Type 0
-MakesRoom g old None reply new made = (reply ≡ []) × (new ≡ old) × (made ≡ true)
-MakesRoom g old (Some policy) reply new made = (answered : Retires g old policy reply new) × (made ≡ is_ok answered.0)
+abbrev pub RetiresFirst : {D : Type 0} → disk.Ghosts D → Parts D → Option Policy → List ℕ → Parts D → Bool → Type 0
+RetiresFirst g old None reply new made = (reply ≡ []) × (new ≡ old) × (made ≡ true)
+RetiresFirst g old (Some policy) reply new made = (answered : Retires g old policy reply new) × (made ≡ is_ok answered.0)
 
--- No room is made for it: there is no stream, or the name is that of a case that would stay.
+-- Nothing is retired for it: there is no stream, or the name is that of a case that would stay.
 abbrev pub CannotBegin : ArchiveState → Policy → Result StreamFacts (List ℕ) → Type 0
 CannotBegin s policy (Err reason) = Unit {0}
 CannotBegin s policy (Ok stream) = KeepsTheName s policy stream.origin.name true × (is_named stream.origin.name s.cases ≡ true)
@@ -100,22 +100,22 @@ abbrev pub MayBeginNow : ArchiveState → Result StreamFacts (List ℕ) → Type
 MayBeginNow s (Err reason) = ⊥
 MayBeginNow s (Ok stream) = (s.stopped ≡ false) × (is_named stream.origin.name s.cases ≡ false)
 
--- The policy by which room is made: the one that was asked for, or none, where the stream can't begin after it.
+-- The policy by which cases are retired: the one that was asked for, or none, where the stream can't begin after it.
 abbrev pub IsChosen : ArchiveState → Option Policy → Result StreamFacts (List ℕ) → Option Policy → Type 0
 IsChosen s asked found None = (asked ≡ None) ⊎ ((policy : Policy) × (asked ≡ Some policy) × CannotBegin s policy found)
 IsChosen s asked found (Some policy) = asked ≡ Some policy
 
--- Room for a stream: it is made only where the stream can begin then.
-pub record MakesRoomFor {D : Type 0} (g : disk.Ghosts D) (old : Parts D) (asked : Option Policy) (found : Result StreamFacts (List ℕ)) (told : List ℕ) (new : Parts D) (made : Bool) : Type 0 where
+-- What is retired for a stream: something goes only where the stream can begin then.
+pub record RetiresForStream {D : Type 0} (g : disk.Ghosts D) (old : Parts D) (asked : Option Policy) (found : Result StreamFacts (List ℕ)) (told : List ℕ) (new : Parts D) (made : Bool) : Type 0 where
   pub policy : Option Policy
   pub chosen : IsChosen (state_of old) asked found policy
-  pub makes_room : MakesRoom g old policy told new made
-  -- where room was made, the stream may begin
+  pub retires_first : RetiresFirst g old policy told new made
+  -- where cases were retired, the stream may begin
   pub needed : (p : Policy) → policy ≡ Some p → made ≡ true → MayBeginNow (state_of new) found
 
 -- The same of a stream of this name: nothing is done where a case that stays has the name.
-abbrev pub MakesRoomNamed : {D : Type 0} → disk.Ghosts D → Parts D → Policy → List ℕ → List ℕ → Parts D → Bool → Type 0
-MakesRoomNamed g old policy name told new made =
+abbrev pub RetiresForName : {D : Type 0} → disk.Ghosts D → Parts D → Policy → List ℕ → List ℕ → Parts D → Bool → Type 0
+RetiresForName g old policy name told new made =
     ((told ≡ []) × (new ≡ old) × (made ≡ true) × KeepsTheName (state_of old) policy name true × (is_named name (state_of old).cases ≡ true))
     ⊎ ((answered : Retires g old policy told new) × (made ≡ is_ok answered.0) × (made ≡ true → ((state_of new).stopped ≡ false) × (is_named name (state_of new).cases ≡ false)))
 
@@ -130,17 +130,17 @@ LabelsCase g old None label reply new done = (reply ≡ []) × (new ≡ old) × 
 abbrev pub label_asked : Option (ArrayVec ℕ) → Option (List ℕ)
 label_asked label = option_map label_bytes label
 
--- room for a stream by a policy, the stream with its file, and then the label of its case
+-- what is retired for a stream by a policy, the stream with its file, and then the label of its case
 pub record Stores {D : Type 0} (g : disk.Ghosts D) (file file' : Option (List ℕ)) (fails fails' : ℕ) (old : Parts D) (asked : Option Policy) (found : Result StreamFacts (List ℕ)) (label : Option (List ℕ))
     (replies : List ℕ) (new : Parts D) (outcome : StoreOutcome) : Type 0 where
   pub told : List ℕ
-  -- when room is made
-  pub room : Parts D
-  pub makes_room : MakesRoomFor g old asked found told room outcome.made_room
+  -- when cases are retired
+  pub retired : Parts D
+  pub retires_first : RetiresForStream g old asked found told retired outcome.retired_first
   pub more : List ℕ
   -- when the case is stored, or the stream is refused
   pub ended : Parts D
-  pub stores : StoresStream g file file' fails fails' room found more ended outcome.stored
+  pub stores : StoresStream g file file' fails fails' retired found more ended outcome.stored
   pub last : List ℕ
   pub labels : LabelsCase g ended outcome.stored label last new outcome.labelled
   pub all : replies ≡ told ++ (more ++ last)
@@ -149,10 +149,10 @@ pub record Stores {D : Type 0} (g : disk.Ghosts D) (file file' : Option (List �
 abbrev pub IsSlotQuiet : ArchiveState → Type 0
 IsSlotQuiet s = stream_at s.streams 0 ≡ None
 
--- the line of a session that makes room by this policy, or no line
-abbrev pub said_room : Option Policy → Said
-said_room None = silence
-said_room (Some policy) = retire_by policy
+-- the line of a session that retires by this policy, or no line
+abbrev pub retire_line : Option Policy → Said
+retire_line None = silence
+retire_line (Some policy) = retire_by policy
 
 -- the line of a session that gives the case its label, or no line
 abbrev pub said_label : Option ℕ → Option (List ℕ) → Said
@@ -160,26 +160,26 @@ said_label (Some seq) (Some label) = label_of seq label
 said_label (Some seq) None = silence
 said_label None label = silence
 
--- What a stop leaves of it, told as of lines of a session: room is made, then a case is stored, and only then it gets its label. The
+-- What a stop leaves of it, told as of lines of a session: cases are retired, then a case is stored, and only then it gets its label. The
 -- stream's beginning and the file's bytes change no case, so only the end of the stream does.
-pub record StoreStages {D : Type 0} (g : disk.Ghosts D) (old : Stage D) (policy : Option Policy) (told : List ℕ) (room filled : Parts D) (reply : List ℕ) (ended : Parts D)
+pub record StoreStages {D : Type 0} (g : disk.Ghosts D) (old : Stage D) (policy : Option Policy) (told : List ℕ) (retired filled : Parts D) (reply : List ℕ) (ended : Parts D)
     (labels : Said) (last : List ℕ) (end : Stage D) (new : Parts D) : Type 0 where
-  -- what is in doubt when room is made
+  -- what is in doubt when cases are retired
   pub in_doubt : List Durable
-  pub makes_room : Moves g old (said_room policy) told (record { archive = room; in_doubt = in_doubt })
-  pub takes : ChangesNoCase g room filled
+  pub retires_first : Moves g old (retire_line policy) told (record { archive = retired; in_doubt = in_doubt })
+  pub takes : ChangesNoCase g retired filled
   -- and when the stream has ended
   pub later_doubt : List Durable
   pub moves : Moves g (record { archive = filled; in_doubt = in_doubt }) (end_of 0) reply (record { archive = ended; in_doubt = later_doubt })
   pub labelled : Moves g (record { archive = ended; in_doubt = later_doubt }) labels last end
   pub found : IsFoundAfterAStop g old
-      (record { archive = room; in_doubt = in_doubt } ∷ record { archive = filled; in_doubt = in_doubt } ∷ record { archive = ended; in_doubt = later_doubt } ∷ []) end new
+      (record { archive = retired; in_doubt = in_doubt } ∷ record { archive = filled; in_doubt = in_doubt } ∷ record { archive = ended; in_doubt = later_doubt } ∷ []) end new
 
 -- What a stop leaves of a store.
 abbrev pub StopsStore : {D : Type 0} → (g : disk.Ghosts D) → (t : Streams) → (old : Stage D) → (asked : Option Policy) → (found : Result StreamFacts (List ℕ)) → (label : Option (List ℕ))
     → (replies : List ℕ) → (end : Stage D) → (outcome : StoreOutcome) → Stores g t.input t.input' t.fails t.fails' old.archive asked found label replies end.archive outcome → Parts D → Type 0
 StopsStore g t old asked found label replies end outcome s new =
-    StoreStages g old s.makes_room.policy s.told s.room s.stores.filled s.stores.rest s.ended (said_label outcome.stored label) s.last end new
+    StoreStages g old s.retires_first.policy s.told s.retired s.stores.filled s.stores.rest s.ended (said_label outcome.stored label) s.last end new
 
 -- What came of the store, where the replies were written; or the output failed, and has a front of them. A stream that is left in
 -- slot 0 is dropped. In each case what is found after a stop is told by the stages.
@@ -195,27 +195,27 @@ StoreEnds {D} g t old asked found label new (Err WriteFailed) =
 StoreEnds g t old asked found label new (Err ReadFailed) = ⊥
 StoreEnds g t old asked found label new (Err TooManyReads) = ⊥
 
--- Nothing is retired but for a stream that is begun then. Over an archive without streams, as an opening answers it, room that
--- was made is followed by the stream that it is for; only want of memory keeps it from beginning.
-abbrev pub RoomIsForAStream : {D : Type 0} → disk.Ghosts D → Type 0
-RoomIsForAStream {D} g = (file file' : Option (List ℕ)) (fails fails' : ℕ) (old : Parts D) (asked : Option Policy) (found : Result StreamFacts (List ℕ)) (label : Option (List ℕ))
+-- Nothing is retired but for a stream that is begun then. Over an archive without streams, as an opening answers it, a retirement
+-- is followed by the stream that it is for; only want of memory keeps it from beginning.
+abbrev pub RetiresForAStreamAlone : {D : Type 0} → disk.Ghosts D → Type 0
+RetiresForAStreamAlone {D} g = (file file' : Option (List ℕ)) (fails fails' : ℕ) (old : Parts D) (asked : Option Policy) (found : Result StreamFacts (List ℕ)) (label : Option (List ℕ))
     (replies : List ℕ) (end : Parts D) (outcome : StoreOutcome) (limit : ℕ)
     → IsOpened limit old
     → (s : Stores g file file' fails fails' old asked found label replies end outcome)
-    → outcome.made_room ≡ true
-    → (s.room ≡ old) ⊎ (s.stores.accepted ≡ true) ⊎ (s.stores.first ≡ no_reply (codes "OutOfMemory"))
+    → outcome.retired_first ≡ true
+    → (s.retired ≡ old) ⊎ (s.stores.accepted ≡ true) ⊎ (s.stores.first ≡ no_reply (codes "OutOfMemory"))
 
--- Room that was asked for is left out only where the stream is refused.
-abbrev pub RoomIsLeftOutForARefusal : {D : Type 0} → disk.Ghosts D → Type 0
-RoomIsLeftOutForARefusal {D} g = (file file' : Option (List ℕ)) (fails fails' : ℕ) (old : Parts D) (asked : Option Policy) (found : Result StreamFacts (List ℕ)) (label : Option (List ℕ))
+-- A policy that was asked for is left out only where the stream is refused.
+abbrev pub RetiresUnlessRefused : {D : Type 0} → disk.Ghosts D → Type 0
+RetiresUnlessRefused {D} g = (file file' : Option (List ℕ)) (fails fails' : ℕ) (old : Parts D) (asked : Option Policy) (found : Result StreamFacts (List ℕ)) (label : Option (List ℕ))
     (replies : List ℕ) (end : Parts D) (outcome : StoreOutcome) (policy : Policy)
     → asked ≡ Some policy
     → (s : Stores g file file' fails fails' old asked found label replies end outcome)
-    → (s.makes_room.policy ≡ Some policy) ⊎ (s.stores.accepted ≡ false)
+    → (s.retires_first.policy ≡ Some policy) ⊎ (s.stores.accepted ≡ false)
 
--- Where no room is asked for, nothing is retired and nothing is told of it.
-abbrev pub NoRoomIsMadeUnasked : {D : Type 0} → disk.Ghosts D → Type 0
-NoRoomIsMadeUnasked {D} g = (file file' : Option (List ℕ)) (fails fails' : ℕ) (old : Parts D) (found : Result StreamFacts (List ℕ)) (label : Option (List ℕ))
+-- Where no policy is asked for, nothing is retired and nothing is told of it.
+abbrev pub RetiresNothingUnasked : {D : Type 0} → disk.Ghosts D → Type 0
+RetiresNothingUnasked {D} g = (file file' : Option (List ℕ)) (fails fails' : ℕ) (old : Parts D) (found : Result StreamFacts (List ℕ)) (label : Option (List ℕ))
     (replies : List ℕ) (end : Parts D) (outcome : StoreOutcome)
     → (s : Stores g file file' fails fails' old None found label replies end outcome)
-    → (s.told ≡ []) × (s.room ≡ old) × (outcome.made_room ≡ true)
+    → (s.told ≡ []) × (s.retired ≡ old) × (outcome.retired_first ≡ true)

@@ -56,10 +56,10 @@ pub(crate) fn answer_question<O: Output, D: Disk>(
     archive: &mut Archive<D>,
 ) -> bool
     requires kept { IsKept D.Disk archive.old images.old.kept }
-    requires beside { AreKept D.Disk archive.old images.old.kept }
+    requires are_kept { AreKept D.Disk archive.old images.old.kept }
     ensures answers { AnswersAsked D.Disk (telling O.Output reply.old reply.new) archive.old (question_said question) result archive.new }
     ensures kept { IsKept D.Disk archive.new images.new.kept }
-    ensures beside { AreKept D.Disk archive.new images.new.kept }
+    ensures are_kept { AreKept D.Disk archive.new images.new.kept }
 {
     match question {
         Question::Inspect { seq, query } => answer_query(seq, &query, images, reply, archive),

@@ -3,7 +3,7 @@ ghost use Rattle.inspector_cli.specs.Agreement.{LinesAgree, ScriptsAgree};
 ghost use Rattle.inspector_cli.specs.Cuts.{HasOneCut, HasACut, HasOneFront};
 ghost use Rattle.inspector_cli.specs.Headline.{SessionsAreCrashSafe};
 ghost use Rattle.inspector_cli.specs.StoreHeadline.{StoresAreCrashSafe};
-ghost use Rattle.inspector_cli.specs.Storing.{RoomIsForAStream, RoomIsLeftOutForARefusal, NoRoomIsMadeUnasked};
+ghost use Rattle.inspector_cli.specs.Storing.{RetiresForAStreamAlone, RetiresUnlessRefused, RetiresNothingUnasked};
 ghost use Rattle.inspector_cli.specs.Runs.{WholeIsARun, FrontIsARun, StagesAreClear, SessionsAreLived};
 
 use disk_model::Disk;
@@ -57,7 +57,7 @@ pub fn a_session_is_crash_safe<D: Disk>()
     sessions_are_runs::<D>();
 }
 
-/// The headline of each store from an opening on: what the archive holds when room is made, when the case is stored, and when it has
+/// The headline of each store from an opening on: what the archive holds when cases are retired, when the case is stored, and when it has
 /// its label. The case is the stream that was begun, with all bytes of FILE as its image.
 pub fn a_store_is_crash_safe<D: Disk>()
     ensures { StoresAreCrashSafe D.Disk }
@@ -68,11 +68,11 @@ pub fn a_store_is_crash_safe<D: Disk>()
     what_calls_leave::<D>();
 }
 
-/// `store_stream` retires no case in vain: over an archive as an opening answers it, room that was made is followed by the stream
-/// that it is for, and only want of memory keeps that from beginning; room that was asked for is left out only where the stream
-/// is refused. Where no room is asked for, nothing is retired.
-pub fn room_is_made_for_a_stream<D: Disk>()
-    ensures begun { RoomIsForAStream D.Disk }
-    ensures left_out { RoomIsLeftOutForARefusal D.Disk }
-    ensures unasked { NoRoomIsMadeUnasked D.Disk }
+/// `store_stream` retires no case in vain: over an archive as an opening answers it, what was retired is followed by the stream
+/// that it is for, and only want of memory keeps that from beginning; a policy that was asked for is left out only where the stream
+/// is refused. Where no policy is asked for, nothing is retired.
+pub fn retiring_is_for_a_stream<D: Disk>()
+    ensures begun { RetiresForAStreamAlone D.Disk }
+    ensures left_out { RetiresUnlessRefused D.Disk }
+    ensures unasked { RetiresNothingUnasked D.Disk }
 {}

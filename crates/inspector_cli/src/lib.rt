@@ -10,7 +10,7 @@ mod laws;
 mod life;
 mod memory_life;
 mod parts;
-mod room;
+mod retiring;
 mod run;
 mod script;
 mod session;
@@ -25,7 +25,7 @@ pub use copying::{CopyFault, copy_image};
 pub use extract::{ImageFault, read_image, write_image};
 pub use laws::{
     a_script_has_one_cut, a_session_is_crash_safe, a_store_is_crash_safe, a_text_is_one,
-    room_is_made_for_a_stream, sessions_are_runs,
+    retiring_is_for_a_stream, sessions_are_runs,
 };
 pub use life::open_and_run;
 pub use memory_life::memory_session;

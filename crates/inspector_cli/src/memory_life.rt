@@ -4,10 +4,10 @@ ghost use Rattle.journal_layout.specs.Layout.{IsWithinLimits};
 ghost use Rattle.journal_layout.specs.Standing.{fresh};
 ghost use Rattle.journal_layout.specs.Stands.{Stands};
 ghost use Rattle.inspector_cli.specs.Session.{streams_of};
-ghost use Rattle.inspector_cli.specs.Memory.{MemoryEnds, NoDisk};
+ghost use Rattle.inspector_cli.specs.Memory.{MemoryEnds, NoDisk, memory_fault};
 
 use crate::life::open_and_run;
-use crate::session::MemoryFault;
+use crate::session::{LifeFault, MemoryFault};
 use case_journal::format;
 use disk_model::{Disk, MemDisk};
 use intake::Settings;
@@ -21,9 +21,9 @@ use stream_names::Naming;
 ///
 /// # Errors
 ///
-/// `BadShape` where the shape is outside its limits; `OutOfMemory` and `Disk` where there was no memory for the disk, or for
-/// what it keeps of its writes; `Life` with `Open` where there was none to open it. No stream is touched then. `Life` with
-/// `Session` as `run_session` ends.
+/// `BadShape` if the shape is outside its limits. `OutOfMemory` if there was no memory for the disk, for what it keeps of its
+/// writes, or to open the archive: a disk in memory fails for no other reason. No stream is touched then. `Session` as
+/// `run_session` ends.
 pub fn memory_session<I: Input, O: Output>(
     alloc: Global,
     shape: Shape,
@@ -38,11 +38,21 @@ pub fn memory_session<I: Input, O: Output>(
     let (ended, _) = open_and_run(alloc, disk, settings, naming, input, output);
     match ended {
         Ok(()) => Ok(()),
-        Err(fault) => Err(MemoryFault::Life(fault)),
+        Err(fault) => Err(memory_fault(fault)),
     }
 }
 
-// The disk of a fresh archive.
+// What is answered where a session over a disk in memory did not end with its script. Such a disk fails only for want of memory.
+fn memory_fault(fault: LifeFault) -> MemoryFault
+    ensures { result ≡ memory_fault fault }
+{
+    match fault {
+        LifeFault::Open(_) => MemoryFault::OutOfMemory,
+        LifeFault::Session(fault) => MemoryFault::Session(fault),
+    }
+}
+
+// The disk of a fresh archive. Its writes fail only for want of memory.
 fn fresh_disk(alloc: Global, shape: Shape) -> Result<MemDisk, MemoryFault>
     ensures honest { IfOk result (λ d. IsTrue (⟦<MemDisk as Disk>⟧.is_honest d)) }
     ensures made { IfOk result (λ d. Stands (⟦<MemDisk as Disk>⟧.seen d) (fresh shape Half.A 1 1)) }
@@ -57,6 +67,6 @@ fn fresh_disk(alloc: Global, shape: Shape) -> Result<MemDisk, MemoryFault>
     let mut disk = disk;
     match format(&mut disk, shape) {
         Ok(()) => Ok(disk),
-        Err(_) => Err(MemoryFault::Disk),
+        Err(_) => Err(MemoryFault::OutOfMemory),
     }
 }

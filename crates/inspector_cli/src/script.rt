@@ -85,14 +85,14 @@ fn answer_command<I: Input, O: Output, D: Disk>(
     naming: &Naming,
 ) -> Result<bool, ScriptStop>
     requires kept { IsKept D.Disk archive.old images.old.kept }
-    requires beside { AreKept D.Disk archive.old images.old.kept }
+    requires are_kept { AreKept D.Disk archive.old images.old.kept }
     ensures answers { CommandEnds D.Disk naming.now
         (reading I.Input input.old input.new buffer.old buffer.new)
         (telling O.Output reply.old reply.new)
         archive.old archive.new result }
     ensures unheard { has_failed reply.old ≡ true → archive.new ≡ archive.old }
     ensures kept { IsKept D.Disk archive.new images.new.kept }
-    ensures beside { AreKept D.Disk archive.new images.new.kept }
+    ensures are_kept { AreKept D.Disk archive.new images.new.kept }
     ensures stops { Halts (I.failures input.old) (I.failures input.new) buffer.new result }
 {
     let ending = buffer.next_line(input, line, reply)?;
@@ -125,14 +125,14 @@ fn answer_line<I: Input, O: Output, D: Disk>(
     requires heard { has_failed reply.old ≡ false }
     requires line { (text : List ℕ) × KeepsLine text line.now }
     requires kept { IsKept D.Disk archive.old images.old.kept }
-    requires beside { AreKept D.Disk archive.old images.old.kept }
+    requires are_kept { AreKept D.Disk archive.old images.old.kept }
     ensures answers { (text : List ℕ) → KeepsLine text line.now
         → PartAnswers D.Disk naming.now (reading I.Input input.old input.new buffer.old buffer.new)
         (telling O.Output reply.old reply.new)
         archive.old (said text) archive.new result }
     ensures stops { Stops (I.failures input.old) (I.failures input.new) buffer.new result }
     ensures kept { IsKept D.Disk archive.new images.new.kept }
-    ensures beside { AreKept D.Disk archive.new images.new.kept }
+    ensures are_kept { AreKept D.Disk archive.new images.new.kept }
 {
     match parse_line(line) {
         Command::Part { slot, count } => {
@@ -162,11 +162,11 @@ fn answer_last<O: Output, D: Disk>(
     requires heard { has_failed reply.old ≡ false }
     requires line { (text : List ℕ) × KeepsLine text line.now }
     requires kept { IsKept D.Disk archive.old images.old.kept }
-    requires beside { AreKept D.Disk archive.old images.old.kept }
+    requires are_kept { AreKept D.Disk archive.old images.old.kept }
     ensures answers { (text : List ℕ) → KeepsLine text line.now
         → LastAnswers D.Disk naming.now (telling O.Output reply.old reply.new) archive.old (said text) archive.new }
     ensures kept { IsKept D.Disk archive.new images.new.kept }
-    ensures beside { AreKept D.Disk archive.new images.new.kept }
+    ensures are_kept { AreKept D.Disk archive.new images.new.kept }
 {
     match parse_line(line) {
         Command::Part { slot, count } => {

@@ -2,11 +2,11 @@
 use journal_layout::OpenFault;
 use thiserror::Error;
 
-/// What came of a stream that was to be stored, of the room for it, and of the label of its case.
+/// What came of a stream that was to be stored, of what was to be retired before it, and of the label of its case.
 #[derive(Clone, Copy, PartialEq, Eq, Debug)]
 pub struct StoreOutcome {
-    /// False only where room was to be made, and that was answered `no REASON`.
-    pub made_room: bool,
+    /// False only if cases were to be retired first, and that was answered `no REASON`.
+    pub retired_first: bool,
     /// The number of the case, where it is stored.
     pub stored: Option<u32>,
     /// False only where the case was to have a label, and that was answered `no REASON`.
@@ -44,13 +44,10 @@ pub enum MemoryFault {
     /// The shape is outside its limits.
     #[error("the shape is outside its limits")]
     BadShape,
-    /// There was no memory for the disk.
+    /// There was no memory for the disk, for what it keeps of its writes while the archive was made, or to open the archive.
     #[error("out of memory")]
     OutOfMemory,
-    /// The disk found no memory for what it keeps of its writes while the archive was made.
-    #[error("the disk failed while the archive was made")]
-    Disk,
-    /// The archive could not be opened, or the session ended before its script.
+    /// The session ended before its script.
     #[error(transparent)]
-    Life(LifeFault),
+    Session(SessionFault),
 }

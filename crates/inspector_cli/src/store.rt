@@ -1,4 +1,4 @@
-// One stream, stored from its own input, with room made for it first, and the label of its case.
+// One stream, stored from its own input, with cases retired before it, and the label of its case.
 ghost use Rattle.std.specs.Prelude.{◌≡◌, ℕ, true, List, [], Ok};
 ghost use Rattle.intake.specs.Durable.{Durable};
 ghost use Rattle.intake.specs.Parts.{Parts, state_of};
@@ -10,7 +10,7 @@ ghost use Rattle.inspector_cli.specs.Storing.{StoreEnds, Stores, StoresStream, R
 
 use crate::answers::{answer_end, answer_label};
 use crate::begin::answer_begin;
-use crate::room::make_room;
+use crate::retiring::retire_first;
 use crate::session::{SessionFault, StoreOutcome};
 use archive_replies::reason;
 use arrayvec::ArrayVec;
@@ -32,7 +32,7 @@ enum TakeStop {
     Refused(ArchiveFault),
 }
 
-/// Stores one stream, with room made for it first by a policy, if one is given, and gives its case this label, if one is given.
+/// Stores one stream. A policy, if one is given, is carried out before it. Gives its case this label, if one is given.
 ///
 /// - Room is made as by the line `retire` of a session, if the stream can begin then: `found` is a stream, and no case that
 ///   stays has its name. Otherwise nothing is retired, and nothing is told of it. The stream is stored whatever was answered.
@@ -70,7 +70,7 @@ pub fn store_stream<I: Input, O: Output, D: Disk>(
     Ok(outcome)
 }
 
-// Makes room, stores the stream with its file, and then gives the case its label.
+// Retires by the policy, stores the stream with its file, and then gives the case its label.
 fn answer_all<I: Input, O: Output, D: Disk>(
     policy: Option<Policy>,
     found: Result<NewStream, &'static [u8]>,
@@ -82,11 +82,11 @@ fn answer_all<I: Input, O: Output, D: Disk>(
     ensures { TellsReply (telling O.Output reply.old reply.new) (λ text. Stores D.Disk (I.remaining file.old) (I.remaining file.new) (I.failures file.old) (I.failures file.new)
         archive.old policy (stream_found found.entry) (label_asked label.now) text archive.new result) }
 {
-    let made_room = make_room(policy, &found, reply, archive);
+    let retired_first = retire_first(policy, &found, reply, archive);
     let stored = answer_store(found, file, reply, archive);
     let labelled = label_case(stored, label, reply, archive);
     StoreOutcome {
-        made_room,
+        retired_first,
         stored,
         labelled,
     }

@@ -18,7 +18,7 @@ use stream_names::NewStream;
 
 /// Opens the archive on a disk, stores one stream as `store_stream` does, and hands the disk back. Crash safety is that of
 /// `open_and_run` over the lines `retire`, `begin`, `end 0` and `label`, of which each is there that was carried out. So a machine
-/// that stops once room is made may have lost what was retired, and not have the new case; and one that stops once the case
+/// that stops once cases are retired may have lost what was retired, and not have the new case; and one that stops once the case
 /// is stored may not have its label.
 ///
 /// # Errors

@@ -33,7 +33,7 @@ use Rattle.intake.specs.declared.faults.ArchiveFault.{ArchiveFault}
 use Rattle.intake.specs.declared.faults.ArchiveFault.TheVariants as fault
 use Rattle.intake.proofs.CountLemmas.{uses_same}
 use Rattle.intake.proofs.AfterLemmas.{sound_after, same_state, halted_now, same_bytes}
-use Rattle.intake.proofs.RecordedLemmas.{record_room, record_full, state_recorded}
+use Rattle.intake.proofs.RecordedLemmas.{record_fits, record_full, state_recorded}
 
 -- the images of the cases that are left
 images_left : (f : Case → List ℕ) (seqs : List ℕ) (cases : List Case) → map f (dropped seqs cases) ≡ images_without seqs cases (map f cases)
@@ -66,7 +66,7 @@ module _ {D : Type 0} (g : disk.Ghosts D) (d d' : D) (j j' : Journaled) (most : 
 
   pub drop_ok : (u : Unit {0}) → AppendStep j (Drop seqs) (Ok u) j' → DropStep (state_of old) seqs (Ok u) (state_of (record { disk = d'; journal = j'; limit = most; streams = streams; stopped = b }))
   drop_ok u step = (
-    record_room d d' j (Drop seqs) most streams b step.1,
+    record_fits d d' j (Drop seqs) most streams b step.1,
     ap (λ (k : Journaled). state_of (record { disk = d'; journal = k; limit = most; streams = streams; stopped = b })) step.2
         ∙ state_recorded d d' j (Drop seqs) most streams b,
   )
@@ -75,8 +75,8 @@ module _ {D : Type 0} (g : disk.Ghosts D) (d d' : D) (j j' : Journaled) (most : 
   drop_err journal_fault.Stopped step ends = absurd (let e : true ≡ false = sym step.0 ∙ (sound.runs on).journal in cc)
   drop_err journal_fault.JournalFull step ends = (record_full d d' j (Drop seqs) most streams b step.1, same_state g d d' j j' (Drop seqs) most flags streams streams' b b' on ends.0 ends.1 step.2)
   drop_err journal_fault.NumbersSpent step ends = absurd step
-  drop_err journal_fault.OutOfMemory step ends = (record_room d d' j (Drop seqs) most streams b step.1, same_state g d d' j j' (Drop seqs) most flags streams streams' b b' on ends.0 ends.1 step.2)
-  drop_err journal_fault.Disk step ends = (record_room d d' j (Drop seqs) most streams b step.1, halted_now g d d' j j' (Drop seqs) most flags streams streams' b b' on ends.0 ends.1 step.2)
+  drop_err journal_fault.OutOfMemory step ends = (record_fits d d' j (Drop seqs) most streams b step.1, same_state g d d' j j' (Drop seqs) most flags streams streams' b b' on ends.0 ends.1 step.2)
+  drop_err journal_fault.Disk step ends = (record_fits d d' j (Drop seqs) most streams b step.1, halted_now g d d' j j' (Drop seqs) most flags streams streams' b b' on ends.0 ends.1 step.2)
   drop_err journal_fault.OldVersion step ends = absurd step
 
   pub drop_sound_after : (flags' : List Bool) (u : Unit {0}) → MayFollow j.standing (Drop seqs) → AppendStep j (Drop seqs) (Ok u) j' → Guards g d' j' → Balances flags (used_blocks (gone seqs j.standing.cases)) flags' []

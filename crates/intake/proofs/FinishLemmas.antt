@@ -40,7 +40,7 @@ use Rattle.intake.proofs.AdvanceLemmas.{gone_state, halted_state, free_is, sound
 use Rattle.intake.proofs.CountLemmas.{uses_same, one_if_le, in_range}
 use Rattle.intake.proofs.SoundLemmas.{slot_below, sound_halted, fine_at, part_of_sum, named_in}
 use Rattle.intake.proofs.LiveLemmas.{sound_stored}
-use Rattle.intake.proofs.RecordedLemmas.{record_room, record_full, state_recorded}
+use Rattle.intake.proofs.RecordedLemmas.{record_fits, record_full, state_recorded}
 use Rattle.intake.proofs.StepLemmas.{some_there}
 
 none_named : (P : Case → Bool) (cases : List Case) → count_by P cases ≡ 0 → list_any P cases ≡ false
@@ -172,7 +172,7 @@ module _ {D : Type 0} (g : disk.Ghosts D) (d d' : D) (j : Journaled) (most : ℕ
     s'.facts.blocks,
     may (there_is s' u closes),
     runs_may s' u closes,
-    record_room d d' j (store_of j.standing (case_from_parts (with_blocks s s'.facts.blocks))) most streams b refused.1,
+    record_fits d d' j (store_of j.standing (case_from_parts (with_blocks s s'.facts.blocks))) most streams b refused.1,
     refused.2,
     gone_with j' b' dropped streams' gone ends.0 ends.1 refused.3,
     closed_fills g d j most flags streams slot s b running is (free_count flags) s' u closes lowest,
@@ -227,7 +227,7 @@ module _ {D : Type 0} (g : disk.Ghosts D) (d d' : D) (j : Journaled) (most : ℕ
     s'.facts.blocks,
     may (there_is s' u closes),
     runs_may s' u closes,
-    record_room d d' j (store_of j.standing (case_from_parts (with_blocks s s'.facts.blocks))) most streams b a.1,
+    record_fits d d' j (store_of j.standing (case_from_parts (with_blocks s s'.facts.blocks))) most streams b a.1,
     a.2,
     a.3,
     ap (λ (k : Journaled). state_of (record { disk = d'; journal = k; limit = most; streams = streams'; stopped = b })) a.4

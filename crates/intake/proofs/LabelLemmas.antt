@@ -30,7 +30,7 @@ use Rattle.intake.specs.Sound.{IsArchiveSound, case_blocks}
 use Rattle.intake.specs.Step.{LabelStep, HasCase}
 use Rattle.intake.proofs.AfterLemmas.{sound_after, same_state, halted_now, same_bytes}
 use Rattle.intake.proofs.LastingLemmas.{one_or_two}
-use Rattle.intake.proofs.RecordedLemmas.{record_room, record_full, state_recorded}
+use Rattle.intake.proofs.RecordedLemmas.{record_fits, record_full, state_recorded}
 
 -- labels that are compared
 pub labels_same : (a b : List ℕ) → bytes_eq a b ≡ true → a ≡ b
@@ -94,7 +94,7 @@ module _ {D : Type 0} (g : disk.Ghosts D) (d d' : D) (j j' : Journaled) (most : 
     (has, two),
     inr (
       other,
-      record_room d d' j (Label seq text) most streams b step.1,
+      record_fits d d' j (Label seq text) most streams b step.1,
       ap (λ (k : Journaled). state_of (record { disk = d'; journal = k; limit = most; streams = streams; stopped = b })) step.2
           ∙ state_recorded d d' j (Label seq text) most streams b,
     ),
@@ -105,8 +105,8 @@ module _ {D : Type 0} (g : disk.Ghosts D) (d d' : D) (j j' : Journaled) (most : 
   label_err journal_fault.Stopped two other step ends = absurd (let e : true ≡ false = sym step.0 ∙ (sound.runs on).journal in cc)
   label_err journal_fault.JournalFull two other step ends = (c, (has, two), other, record_full d d' j (Label seq text) most streams b step.1, same_state g d d' j j' (Label seq text) most flags streams streams' b b' on ends.0 ends.1 step.2)
   label_err journal_fault.NumbersSpent two other step ends = absurd step
-  label_err journal_fault.OutOfMemory two other step ends = (c, (has, two), other, record_room d d' j (Label seq text) most streams b step.1, same_state g d d' j j' (Label seq text) most flags streams streams' b b' on ends.0 ends.1 step.2)
-  label_err journal_fault.Disk two other step ends = (c, (has, two), other, record_room d d' j (Label seq text) most streams b step.1, halted_now g d d' j j' (Label seq text) most flags streams streams' b b' on ends.0 ends.1 step.2)
+  label_err journal_fault.OutOfMemory two other step ends = (c, (has, two), other, record_fits d d' j (Label seq text) most streams b step.1, same_state g d d' j j' (Label seq text) most flags streams streams' b b' on ends.0 ends.1 step.2)
+  label_err journal_fault.Disk two other step ends = (c, (has, two), other, record_fits d d' j (Label seq text) most streams b step.1, halted_now g d d' j j' (Label seq text) most flags streams streams' b b' on ends.0 ends.1 step.2)
   label_err journal_fault.OldVersion two other step ends = absurd step
 
   pub label_sound_after : (u : Unit {0}) → IsLabel text → j.standing.version ≡ 2 → AppendStep j (Label seq text) (Ok u) j' → Guards g d' j' → IsArchiveSound g d' j' most flags streams b

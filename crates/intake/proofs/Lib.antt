@@ -41,3 +41,4 @@ pub mod RangeLemmas
 pub mod KeptNameLemmas
 pub mod LowestLemmas
 pub mod OneLemmas
+pub mod InTurnLemmas

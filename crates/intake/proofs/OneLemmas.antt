@@ -15,7 +15,7 @@ use Rattle.intake.proofs.MarkLemmas.{one_unmet}
 use Rattle.intake.specs.OneAnswer.{IsDecided, IsOneAnswer, RetiresSo, decision_said}
 use Rattle.intake.specs.Slots.{stream_at}
 use Rattle.intake.specs.State.{ArchiveState, StreamFacts, blocks_for, blocks_in}
-use Rattle.intake.specs.Step.{BeginStep, AbandonStep, FinishStep, DeleteStep, PinStep, LabelStep, UpgradeStep, RetireStep, HasRecordRoom, HasRoomAnew, IsFull, LacksRoomAnew, IsLowestFree, TakesLowest, FillsBlocks, is_taken, with_stream, snapshot_size, stream_size, cases_with, stored, drop_size, cases_without, without_cases, pin_size, cases_flagged, with_flag, label_size, cases_labelled, with_label, anew_in_two, brief_of, RetiresSome}
+use Rattle.intake.specs.Step.{BeginStep, AbandonStep, FinishStep, DeleteStep, PinStep, LabelStep, UpgradeStep, RetireStep, BytesFit, FitsAnew, IsFull, OverflowsAnew, IsLowestFree, TakesLowest, FillsBlocks, is_taken, with_stream, snapshot_size, stream_size, cases_with, stored, drop_size, cases_without, without_cases, pin_size, cases_flagged, with_flag, label_size, cases_labelled, with_label, anew_in_two, brief_of, RetiresSome}
 use Rattle.intake.specs.declared.faults.ArchiveFault.{ArchiveFault}
 use Rattle.intake.specs.declared.faults.ArchiveFault.TheVariants.{Stopped, BadSlot, SlotBusy, NameTaken, NoStream, SpaceFull, NoCase, Pinned, JournalFull, NumbersSpent, OutOfMemory, Disk, OldVersion}
 
@@ -81,37 +81,37 @@ pub abandon_one : (s : ArchiveState) (slot : ℕ) → IsOneAnswer (AbandonStep s
 abandon_one s slot = by_function (AbandonStep s slot) (cond s.stopped (Err Stopped) (abandon_at (stream_at s.streams slot))) (abandon_after s slot) (abandon_is s slot)
 
 -- whether a record of `size` bytes has room, behind which these cases are live
-abbrev has_room : ArchiveState → ℕ → List Case → Bool
-has_room s size cases =
+abbrev fits_somewhere : ArchiveState → ℕ → List Case → Bool
+fits_somewhere s size cases =
     nat_lt (s.used + size) (half_length s.shape) || (nat_lt (snapshot_size cases) (half_length s.shape) && nat_lt (s.generation + 1) (2 ^ 64))
 
-has_anew : (s : ArchiveState) (cases : List Case) → HasRoomAnew s cases → (nat_lt (snapshot_size cases) (half_length s.shape) && nat_lt (s.generation + 1) (2 ^ 64)) ≡ true
+has_anew : (s : ArchiveState) (cases : List Case) → FitsAnew s cases → (nat_lt (snapshot_size cases) (half_length s.shape) && nat_lt (s.generation + 1) (2 ^ 64)) ≡ true
 has_anew s cases room =
     and_from (nat_lt (snapshot_size cases) (half_length s.shape)) (nat_lt (s.generation + 1) (2 ^ 64))
     (lt-ltb (snapshot_size cases) (half_length s.shape) (let a = room.0 in omega (arith, a))) (lt-ltb (s.generation + 1) (2 ^ 64) room.1)
 
-lacks_anew : (s : ArchiveState) (cases : List Case) → LacksRoomAnew s cases → (nat_lt (snapshot_size cases) (half_length s.shape) && nat_lt (s.generation + 1) (2 ^ 64)) ≡ false
+lacks_anew : (s : ArchiveState) (cases : List Case) → OverflowsAnew s cases → (nat_lt (snapshot_size cases) (half_length s.shape) && nat_lt (s.generation + 1) (2 ^ 64)) ≡ false
 lacks_anew s cases lacks =
     ⊎_elim
     (λ a. and_left (nat_lt (snapshot_size cases) (half_length s.shape)) (nat_lt (s.generation + 1) (2 ^ 64)) (le-ltb (snapshot_size cases) (half_length s.shape) (omega (arith, a))))
     (λ e. and_right (nat_lt (snapshot_size cases) (half_length s.shape)) (nat_lt (s.generation + 1) (2 ^ 64)) (le-ltb (s.generation + 1) (2 ^ 64) (omega (arith, e))))
     lacks
 
-room_is : (s : ArchiveState) (size : ℕ) (cases : List Case) → HasRecordRoom s size cases → has_room s size cases ≡ true
-room_is s size cases room =
+fit_is : (s : ArchiveState) (size : ℕ) (cases : List Case) → BytesFit s size cases → fits_somewhere s size cases ≡ true
+fit_is s size cases room =
     ⊎_elim
     (λ a. or_left (nat_lt (s.used + size) (half_length s.shape)) _ (lt-ltb (s.used + size) (half_length s.shape) (omega (arith, a))))
     (λ h. or_right (nat_lt (s.used + size) (half_length s.shape)) _ (has_anew s cases h))
     room
 
-full_is : (s : ArchiveState) (size : ℕ) (cases : List Case) → IsFull s size cases → has_room s size cases ≡ false
+full_is : (s : ArchiveState) (size : ℕ) (cases : List Case) → IsFull s size cases → fits_somewhere s size cases ≡ false
 full_is s size cases full =
     or_from (nat_lt (s.used + size) (half_length s.shape)) _ (le-ltb (s.used + size) (half_length s.shape) (let a = full.0 in omega (arith, a))) (lacks_anew s cases full.1)
 
 -- delete
 abbrev delete_at : ArchiveState → ℕ → Option Case → Result (Unit {0}) ArchiveFault
 delete_at s seq None = Err NoCase
-delete_at s seq (Some c) = cond c.pinned (Err Pinned) (cond (has_room s (drop_size 1) (cases_without s (seq ∷ []))) (Ok tt) (Err JournalFull))
+delete_at s seq (Some c) = cond c.pinned (Err Pinned) (cond (fits_somewhere s (drop_size 1) (cases_without s (seq ∷ []))) (Ok tt) (Err JournalFull))
 
 abbrev delete_after : ArchiveState → ℕ → Result (Unit {0}) ArchiveFault → ArchiveState
 delete_after s seq (Ok u) = without_cases s (seq ∷ [])
@@ -119,7 +119,7 @@ delete_after s seq (Err f) = s
 
 delete_is : (s : ArchiveState) (seq : ℕ) (r : Result (Unit {0}) ArchiveFault) (new : ArchiveState) → DeleteStep s seq r new → IsDecided r
     → (r ≡ cond s.stopped (Err Stopped) (delete_at s seq (case_numbered seq s.cases))) × (new ≡ delete_after s seq r)
-delete_is s seq (Ok u) new step d = (rw (step.1.0, step.1.1, step.2, room_is s (drop_size 1) (cases_without s (seq ∷ [])) step.3) refl, step.4)
+delete_is s seq (Ok u) new step d = (rw (step.1.0, step.1.1, step.2, fit_is s (drop_size 1) (cases_without s (seq ∷ [])) step.3) refl, step.4)
 delete_is s seq (Err Stopped) new step d = (rw (step.0) refl, step.1)
 delete_is s seq (Err NoCase) new step d = (rw (step.0, step.1) refl, step.2)
 delete_is s seq (Err Pinned) new step d = (rw (step.1.0, step.1.1, step.2) refl, step.3)
@@ -154,7 +154,7 @@ flag_not false false ne = absurd (ne refl)
 
 abbrev pin_at : ArchiveState → ℕ → Bool → Option Case → Result (Unit {0}) ArchiveFault
 pin_at s seq flag None = Err NoCase
-pin_at s seq flag (Some c) = set_at (is_flag c.pinned flag) (has_room s pin_size (cases_flagged s seq flag))
+pin_at s seq flag (Some c) = set_at (is_flag c.pinned flag) (fits_somewhere s pin_size (cases_flagged s seq flag))
 
 abbrev pinned_at : ArchiveState → ℕ → Bool → Option Case → ArchiveState
 pinned_at s seq flag None = s
@@ -169,7 +169,7 @@ pin_is : (s : ArchiveState) (seq : ℕ) (flag : Bool) (r : Result (Unit {0}) Arc
 pin_is s seq flag (Ok u) new step d =
     ⊎_elim
     (λ h. let e = flag_is step.0.pinned flag h.0 in (rw (step.1.0, step.1.1, e) refl, rw (step.1.1, e) h.1))
-    (λ h. let e = flag_not step.0.pinned flag h.0 in (rw (step.1.0, step.1.1, e, room_is s pin_size (cases_flagged s seq flag) h.1) refl, rw (step.1.1, e) h.2))
+    (λ h. let e = flag_not step.0.pinned flag h.0 in (rw (step.1.0, step.1.1, e, fit_is s pin_size (cases_flagged s seq flag) h.1) refl, rw (step.1.1, e) h.2))
     step.2
 pin_is s seq flag (Err Stopped) new step d = (rw (step.0) refl, step.1)
 pin_is s seq flag (Err NoCase) new step d = (rw (step.0, step.1) refl, step.2)
@@ -184,7 +184,7 @@ pin_one s seq flag = by_function (PinStep s seq flag) (cond s.stopped (Err Stopp
 -- label
 abbrev label_at : ArchiveState → ℕ → List ℕ → Option Case → Result (Unit {0}) ArchiveFault
 label_at s seq text None = Err NoCase
-label_at s seq text (Some c) = cond (nat_eq s.version 2) (set_at (bytes_eq c.label text) (has_room s (label_size text) (cases_labelled s seq text))) (Err OldVersion)
+label_at s seq text (Some c) = cond (nat_eq s.version 2) (set_at (bytes_eq c.label text) (fits_somewhere s (label_size text) (cases_labelled s seq text))) (Err OldVersion)
 
 abbrev labelled_at : ArchiveState → ℕ → List ℕ → Option Case → ArchiveState
 labelled_at s seq text None = s
@@ -200,7 +200,7 @@ label_is s seq text (Ok u) new step d =
     ⊎_elim
     (λ h. let e = (bytes_eq-Decides step.0.label text).1 h.0 in (rw (step.1.0.0, step.1.0.1, step.1.1, e) refl, rw (step.1.0.1, e) h.1))
     (λ h. let e = false_from_ne_true (bytes_eq step.0.label text) (λ same. h.0 ((bytes_eq-Decides step.0.label text).0 same)) in
-    (rw (step.1.0.0, step.1.0.1, step.1.1, e, room_is s (label_size text) (cases_labelled s seq text) h.1) refl, rw (step.1.0.1, e) h.2))
+    (rw (step.1.0.0, step.1.0.1, step.1.1, e, fit_is s (label_size text) (cases_labelled s seq text) h.1) refl, rw (step.1.0.1, e) h.2))
     step.2
 label_is s seq text (Err Stopped) new step d = (rw (step.0) refl, step.1)
 label_is s seq text (Err NoCase) new step d = (rw (step.0, step.1) refl, step.2)
@@ -277,7 +277,7 @@ abbrev finish_at : ArchiveState → List ℕ → Option StreamFacts → Result �
 finish_at s blocks None = Err NoStream
 finish_at s blocks (Some x) =
     cond (lacks_block s x) (Err SpaceFull)
-    (cond (has_room s (stream_size x blocks) (cases_with s x blocks)) (cond (nat_lt s.next (2 ^ 32)) (Ok s.next) (Err NumbersSpent)) (Err JournalFull))
+    (cond (fits_somewhere s (stream_size x blocks) (cases_with s x blocks)) (cond (nat_lt s.next (2 ^ 32)) (Ok s.next) (Err NumbersSpent)) (Err JournalFull))
 
 -- these are the blocks, where the answer depends on them
 abbrev closes_at : ArchiveState → ℕ → Bool → Option StreamFacts → List ℕ → Type 0
@@ -305,7 +305,7 @@ finish_is : (s : ArchiveState) (slot : ℕ) (r : Result ℕ ArchiveFault) (new :
 finish_is s slot (Ok seq) new step d = (
   step.1,
   closes_from s slot step.0 step.1 step.2.0 step.2.1 (λ _. step.8),
-  rw (step.2.0, step.2.1, lacks_not s step.0 step.2.2, room_is s (stream_size step.0 step.1) (cases_with s step.0 step.1) step.4, lt-ltb s.next (2 ^ 32) step.5) (ap Ok step.6),
+  rw (step.2.0, step.2.1, lacks_not s step.0 step.2.2, fit_is s (stream_size step.0 step.1) (cases_with s step.0 step.1) step.4, lt-ltb s.next (2 ^ 32) step.5) (ap Ok step.6),
 )
 finish_is s slot (Err Stopped) new step d = ([], rw (step.0) tt, rw (step.0) refl)
 finish_is s slot (Err NoStream) new step d = ([], rw (step.0, step.1) tt, rw (step.0, step.1) refl)
@@ -322,7 +322,7 @@ finish_is s slot (Err JournalFull) new step d = (
 finish_is s slot (Err NumbersSpent) new step d = (
   step.1,
   closes_from s slot step.0 step.1 step.2.0 step.2.1 (λ _. step.7),
-  rw (step.2.0, step.2.1, lacks_not s step.0 step.2.2, room_is s (stream_size step.0 step.1) (cases_with s step.0 step.1) step.4, le-ltb s.next (2 ^ 32) (let e = step.5 in omega (arith, e))) refl,
+  rw (step.2.0, step.2.1, lacks_not s step.0 step.2.2, fit_is s (stream_size step.0 step.1) (cases_with s step.0 step.1) step.4, le-ltb s.next (2 ^ 32) (let e = step.5 in omega (arith, e))) refl,
 )
 finish_is s slot (Err OutOfMemory) new step d = absurd d
 finish_is s slot (Err Disk) new step d = absurd d
@@ -368,7 +368,7 @@ module _ (one : IsOneDecision) (s : ArchiveState) (policy : Policy) where
       ⊎_elim
       (λ h. some.2 (same ∙ h.0))
       (λ h. (let full' = subst (λ (l : List ℕ). IsFull s (drop_size (length l)) (cases_without s l)) same full in
-      true≢false (sym (room_is s (drop_size (length x.dropped.items)) (cases_without s x.dropped.items) h.1) ∙ full_is s (drop_size (length x.dropped.items)) (cases_without s x.dropped.items) full')))
+      true≢false (sym (fit_is s (drop_size (length x.dropped.items)) (cases_without s x.dropped.items) h.1) ∙ full_is s (drop_size (length x.dropped.items)) (cases_without s x.dropped.items) full')))
       step.2
 
   retire_pair : (d d' : Result Decision ArchiveFault) (new new' : ArchiveState) → RetireStep s policy d new → RetireStep s policy d' new' → IsDecided d → IsDecided d'

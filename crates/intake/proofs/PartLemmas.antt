@@ -165,8 +165,8 @@ pub disk_spares : {D : Type 0} (f : ArchiveFault) (old new : D) → f ≡ Disk �
 disk_spares f old new is = subst (λ (x : ArchiveFault). RefusalSpares {T = Unit {0}} (Err x) old new) (sym is) tt
 
 -- a part of an image is one of its blocks
-pub room_for : (limit at n len : ℕ) (runs : List Run) (blocks : List ℕ) → runs ≡ runs_of blocks → LiesIn limit blocks len → at + n ≤ len → at + n ≤ 4096 * length (blocks_of runs)
-room_for limit at n len runs blocks are lies within =
+pub part_fits : (limit at n len : ℕ) (runs : List Run) (blocks : List ℕ) → runs ≡ runs_of blocks → LiesIn limit blocks len → at + n ≤ len → at + n ≤ 4096 * length (blocks_of runs)
+part_fits limit at n len runs blocks are lies within =
     let enough = lies.enough in
     omega (arith, enough, within, ap length (blocks_back runs blocks are))
 

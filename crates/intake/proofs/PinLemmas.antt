@@ -27,7 +27,7 @@ use Rattle.intake.specs.Parts.{Parts, StreamParts, state_of, contents_of, taken_
 use Rattle.intake.specs.Sound.{IsArchiveSound, case_blocks}
 use Rattle.intake.specs.Step.{PinStep, HasCase}
 use Rattle.intake.proofs.AfterLemmas.{sound_after, same_state, halted_now, same_bytes}
-use Rattle.intake.proofs.RecordedLemmas.{record_room, record_full, state_recorded}
+use Rattle.intake.proofs.RecordedLemmas.{record_fits, record_full, state_recorded}
 
 module _ {D : Type 0} (g : disk.Ghosts D) (d d' : D) (j j' : Journaled) (most : ℕ) (flags : List Bool) (streams streams' : List (Option StreamParts)) (b b' : Bool) (seq : ℕ) (flag : Bool) (c : Case)
     (sound : IsArchiveSound g d j most flags streams b) (on : b ≡ false) (found : Some c ≡ case_numbered seq j.standing.cases) where
@@ -58,7 +58,7 @@ module _ {D : Type 0} (g : disk.Ghosts D) (d d' : D) (j j' : Journaled) (most : 
     has,
     inr (
       other,
-      record_room d d' j (Pin seq flag) most streams b step.1,
+      record_fits d d' j (Pin seq flag) most streams b step.1,
       ap (λ (k : Journaled). state_of (record { disk = d'; journal = k; limit = most; streams = streams; stopped = b })) step.2
           ∙ state_recorded d d' j (Pin seq flag) most streams b,
     ),
@@ -68,8 +68,8 @@ module _ {D : Type 0} (g : disk.Ghosts D) (d d' : D) (j j' : Journaled) (most : 
   pin_err journal_fault.Stopped other step ends = absurd (let e : true ≡ false = sym step.0 ∙ (sound.runs on).journal in cc)
   pin_err journal_fault.JournalFull other step ends = (c, has, other, record_full d d' j (Pin seq flag) most streams b step.1, same_state g d d' j j' (Pin seq flag) most flags streams streams' b b' on ends.0 ends.1 step.2)
   pin_err journal_fault.NumbersSpent other step ends = absurd step
-  pin_err journal_fault.OutOfMemory other step ends = (c, has, other, record_room d d' j (Pin seq flag) most streams b step.1, same_state g d d' j j' (Pin seq flag) most flags streams streams' b b' on ends.0 ends.1 step.2)
-  pin_err journal_fault.Disk other step ends = (c, has, other, record_room d d' j (Pin seq flag) most streams b step.1, halted_now g d d' j j' (Pin seq flag) most flags streams streams' b b' on ends.0 ends.1 step.2)
+  pin_err journal_fault.OutOfMemory other step ends = (c, has, other, record_fits d d' j (Pin seq flag) most streams b step.1, same_state g d d' j j' (Pin seq flag) most flags streams streams' b b' on ends.0 ends.1 step.2)
+  pin_err journal_fault.Disk other step ends = (c, has, other, record_fits d d' j (Pin seq flag) most streams b step.1, halted_now g d d' j j' (Pin seq flag) most flags streams streams' b b' on ends.0 ends.1 step.2)
   pin_err journal_fault.OldVersion other step ends = absurd step
 
   pub pin_sound_after : (u : Unit {0}) → AppendStep j (Pin seq flag) (Ok u) j' → Guards g d' j' → IsArchiveSound g d' j' most flags streams b

@@ -142,4 +142,5 @@ located g d j most streams b seq c ranges on is lies covers size whole = record 
       bytes_of_case g.seen d d j most streams streams b b seq c is
       ∙ ap (λ (x : List ℕ). Some x)
       (sym (covers.bytes (g.seen d) (whole honest ∙ size) ∙ ap (λ (bs : List ℕ). take c.len (joined j.standing.shape (g.seen d) bs)) (blocks_of_runs c.blocks)));
+  places = λ b long. covers.bytes b (long ∙ size) ∙ ap (λ (bs : List ℕ). take c.len (joined j.standing.shape b bs)) (blocks_of_runs c.blocks);
 }

@@ -6,12 +6,12 @@ use Rattle.journal_layout.specs.Case.{Case}
 use Rattle.journal_layout.specs.Folding.{Folded, after, sizes}
 use Rattle.journal_layout.specs.Record.{Record, record_size as size_of}
 use Rattle.journal_layout.specs.Rewriting.{label_records, case_records, case_bytes, fits, snapshot_size as snapshot_size_of}
-use Rattle.journal_layout.specs.RoomLaws.{bytes_more, snapshot_bytes}
+use Rattle.journal_layout.specs.FitLaws.{bytes_more, snapshot_bytes}
 use Rattle.journal_layout.specs.Standing.{folded_of}
-use Rattle.case_journal.specs.Append.{HasRoom, LacksRoom}
+use Rattle.case_journal.specs.Append.{RecordFits, RecordOverflows}
 use Rattle.case_journal.specs.Journaled.{Journaled, after_append}
 use Rattle.intake.specs.Parts.{Parts, StreamParts, state_of}
-use Rattle.intake.specs.Step.{HasRecordRoom, IsFull, label_bytes, case_size, recorded, snapshot_size}
+use Rattle.intake.specs.Step.{BytesFit, IsFull, label_bytes, case_size, recorded, snapshot_size}
 
 -- the record of a case's label, if it has one
 label_sized : (seq : ℕ) (text : List ℕ) → sizes (label_records seq text) ≡ label_bytes text
@@ -37,10 +37,10 @@ module _ {D : Type 0} (d d' : D) (j : Journaled) (r : Record) (most : ℕ) (stre
   abbrev then : Folded
   then = after r (folded_of j.standing)
 
-  pub record_room : HasRoom j.standing r → HasRecordRoom (state_of old) (size_of r) then.cases
-  record_room room = ⊎_elim (λ behind. inl behind) (λ beside. inr ((let e = snapshot_is then in let short = beside.0 in omega (arith, e, short)), beside.1)) room
+  pub record_fits : RecordFits j.standing r → BytesFit (state_of old) (size_of r) then.cases
+  record_fits room = ⊎_elim (λ behind. inl behind) (λ beside. inr ((let e = snapshot_is then in let short = beside.0 in omega (arith, e, short)), beside.1)) room
 
-  pub record_full : LacksRoom j.standing r → IsFull (state_of old) (size_of r) then.cases
+  pub record_full : RecordOverflows j.standing r → IsFull (state_of old) (size_of r) then.cases
   record_full full = (full.0, ⊎_elim (λ long. inl (let e = snapshot_is then in omega (arith, e, long))) (λ last. inr last) full.1)
 
   -- the record was appended

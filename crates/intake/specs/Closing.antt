@@ -4,7 +4,7 @@ use Rattle.journal_layout.specs.declared.shape.Shape.{Shape}
 use Rattle.journal_layout.specs.Case.{Case}
 use Rattle.journal_layout.specs.Standing.{store_of}
 use Rattle.case_journal.specs.declared.faults.JournalFault.{JournalFault}
-use Rattle.case_journal.specs.Append.{HasRoom, StoreRefused}
+use Rattle.case_journal.specs.Append.{RecordFits, StoreRefused}
 use Rattle.case_journal.specs.Journaled.{Journaled, after_append}
 use Rattle.intake.specs.Faults.{fault_of}
 use Rattle.intake.specs.declared.faults.ArchiveFault.{ArchiveFault}
@@ -50,7 +50,7 @@ FinishPads seen old slot (Err f) new = Unit {0}
 -- the record of a case is appended, or refused as the journal refuses it
 abbrev pub Appends : Journaled → Case → Result ℕ ArchiveFault → Journaled → Type 0
 Appends old c (Ok seq) new =
-    (old.stopped ≡ false) × HasRoom old.standing (store_of old.standing c) × (old.standing.next < 2 ^ 32)
+    (old.stopped ≡ false) × RecordFits old.standing (store_of old.standing c) × (old.standing.next < 2 ^ 32)
     × (seq ≡ old.standing.next) × (new ≡ after_append old (store_of old.standing c))
 Appends old c (Err f) new = (j : JournalFault) × (f ≡ fault_of j) × StoreRefused old c j new
 

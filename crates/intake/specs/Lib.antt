@@ -33,3 +33,4 @@ pub mod Lasts
 pub mod QuietLaws
 pub mod Ranges
 pub mod OneAnswer
+pub mod InTurn

@@ -10,7 +10,7 @@ use Rattle.journal_layout.specs.Soundness.{case_numbered}
 use Rattle.journal_layout.specs.Case.{Case}
 use Rattle.journal_layout.specs.declared.shape.Shape.{Shape}
 use Rattle.journal_layout.specs.Layout.{disk_length}
-use Rattle.intake.specs.Blocks.{block_start, joined}
+use Rattle.intake.specs.Blocks.{block_start, image_in, joined}
 use Rattle.intake.specs.Contents.{image_at}
 use Rattle.intake.specs.Parts.{Parts, state_of, contents_of}
 use Rattle.intake.specs.Step.{HasCase}
@@ -47,6 +47,8 @@ pub record Locates {D : Type 0} (g : disk.Ghosts D) (a : Parts D) (seq : ℕ) (r
   pub within : AreWithin (g.size a.disk) ranges
   pub count : count_in ranges ≡ found.len
   pub bytes : IsTrue (g.is_honest a.disk) → image_at seq (state_of a).cases (contents_of g.seen a).images ≡ Some (bytes_in (g.seen a.disk) ranges)
+  -- whatever bytes there are, these are the ones of the case's blocks
+  pub places : (b : List ℕ) → length b ≡ g.size a.disk → bytes_in b ranges ≡ image_in (state_of a).shape b found.blocks found.len
 
 -- the ranges of a case's image, or why there are none
 abbrev pub RangesReply : {D : Type 0} → disk.Ghosts D → Parts D → ℕ → Result (Vec ByteRange Global) ArchiveFault → Type 0

@@ -141,27 +141,27 @@ abbrev pub snapshot_size : List Case → ℕ
 snapshot_size cases = 48 + sum_by case_size cases
 
 -- these cases have room in the journal's other half, written anew, with a gate behind them, and a generation is left for it
-abbrev pub HasRoomAnew : ArchiveState → List Case → Type 0
-HasRoomAnew s cases = (snapshot_size cases + 1 ≤ half_length s.shape) × (s.generation + 1 < 2 ^ 64)
+abbrev pub FitsAnew : ArchiveState → List Case → Type 0
+FitsAnew s cases = (snapshot_size cases + 1 ≤ half_length s.shape) × (s.generation + 1 < 2 ^ 64)
 
 -- A record of `size` bytes, behind which these cases stand, has room with the gate behind it: behind the records that are there,
 -- or in the journal's other half, where these cases are written anew and a generation is left for it.
-abbrev pub HasRecordRoom : ArchiveState → ℕ → List Case → Type 0
-HasRecordRoom s size cases =
-    (s.used + size + 1 ≤ half_length s.shape) ⊎ HasRoomAnew s cases
+abbrev pub BytesFit : ArchiveState → ℕ → List Case → Type 0
+BytesFit s size cases =
+    (s.used + size + 1 ≤ half_length s.shape) ⊎ FitsAnew s cases
 
 -- the journal was written anew as often as it can be
 abbrev pub IsLastGeneration : ArchiveState → Type 0
 IsLastGeneration s = s.generation + 1 ≡ 2 ^ 64
 
 -- these cases have no room there
-abbrev pub LacksRoomAnew : ArchiveState → List Case → Type 0
-LacksRoomAnew s cases = (half_length s.shape < snapshot_size cases + 1) ⊎ IsLastGeneration s
+abbrev pub OverflowsAnew : ArchiveState → List Case → Type 0
+OverflowsAnew s cases = (half_length s.shape < snapshot_size cases + 1) ⊎ IsLastGeneration s
 
 -- such a record has room in neither half
 abbrev pub IsFull : ArchiveState → ℕ → List Case → Type 0
 IsFull s size cases =
-    (half_length s.shape < s.used + size + 1) × LacksRoomAnew s cases
+    (half_length s.shape < s.used + size + 1) × OverflowsAnew s cases
 
 -- the same state with these cases, by a record of `size` bytes: it stands behind the others where it fits there, and else the
 -- cases stand in the other half, written anew
@@ -208,7 +208,7 @@ MayFinish old slot s =
 -- finish: the stream becomes the last case. The bytes that fill no block take the lowest free one.
 abbrev pub FinishStep : ArchiveState → ℕ → Result ℕ ArchiveFault → ArchiveState → Type 0
 FinishStep old slot (Ok seq) new =
-    (s : StreamFacts) × (blocks : List ℕ) × MayFinish old slot s × MayHaveRuns s.len (length (runs_of blocks)) × HasRecordRoom old (stream_size s blocks) (cases_with old s blocks)
+    (s : StreamFacts) × (blocks : List ℕ) × MayFinish old slot s × MayHaveRuns s.len (length (runs_of blocks)) × BytesFit old (stream_size s blocks) (cases_with old s blocks)
     × (old.next < 2 ^ 32) × (seq ≡ old.next) × (new ≡ stored old slot s blocks) × FillsBlocks old slot s (blocks_for s.len) blocks
 FinishStep old slot (Err Stopped) new = (old.stopped ≡ true) × (new ≡ old)
 FinishStep old slot (Err NoStream) new = (old.stopped ≡ false) × (stream_at old.streams slot ≡ None) × (new ≡ old)
@@ -220,7 +220,7 @@ FinishStep old slot (Err JournalFull) new =
     × IsFull old (stream_size s blocks) (cases_with old s blocks) × (new ≡ with_stream old slot None)
     × FillsBlocks old slot s (blocks_for s.len) blocks
 FinishStep old slot (Err NumbersSpent) new =
-    (s : StreamFacts) × (blocks : List ℕ) × MayFinish old slot s × MayHaveRuns s.len (length (runs_of blocks)) × HasRecordRoom old (stream_size s blocks) (cases_with old s blocks)
+    (s : StreamFacts) × (blocks : List ℕ) × MayFinish old slot s × MayHaveRuns s.len (length (runs_of blocks)) × BytesFit old (stream_size s blocks) (cases_with old s blocks)
     × (old.next ≡ 2 ^ 32) × (new ≡ with_stream old slot None) × FillsBlocks old slot s (blocks_for s.len) blocks
 FinishStep old slot (Err OutOfMemory) new = (s : StreamFacts) × MayFinish old slot s × (new ≡ with_stream old slot None)
 FinishStep old slot (Err Disk) new = (s : StreamFacts) × MayFinish old slot s × (new ≡ halted old)
@@ -258,28 +258,28 @@ abbrev pub without_cases : ArchiveState → List ℕ → ArchiveState
 without_cases old seqs = recorded old (drop_size (length seqs)) (cases_without old seqs)
 
 -- the record that drops them has room
-abbrev pub HasDropRoom : ArchiveState → List ℕ → Type 0
-HasDropRoom old seqs = HasRecordRoom old (drop_size (length seqs)) (cases_without old seqs)
+abbrev pub DropFits : ArchiveState → List ℕ → Type 0
+DropFits old seqs = BytesFit old (drop_size (length seqs)) (cases_without old seqs)
 
 -- cases are dropped that may be, in an archive that runs
 abbrev pub DropStep : ArchiveState → List ℕ → Result (Unit {0}) ArchiveFault → ArchiveState → Type 0
-DropStep old seqs (Ok u) new = HasDropRoom old seqs × (new ≡ without_cases old seqs)
+DropStep old seqs (Ok u) new = DropFits old seqs × (new ≡ without_cases old seqs)
 DropStep old seqs (Err JournalFull) new = IsFull old (drop_size (length seqs)) (cases_without old seqs) × (new ≡ old)
-DropStep old seqs (Err OutOfMemory) new = HasDropRoom old seqs × (new ≡ old)
-DropStep old seqs (Err Disk) new = HasDropRoom old seqs × (new ≡ halted old)
+DropStep old seqs (Err OutOfMemory) new = DropFits old seqs × (new ≡ old)
+DropStep old seqs (Err Disk) new = DropFits old seqs × (new ≡ halted old)
 DropStep old seqs (Err _) new = ⊥
 
 -- delete: the case is gone
 abbrev pub DeleteStep : ArchiveState → ℕ → Result (Unit {0}) ArchiveFault → ArchiveState → Type 0
 DeleteStep old seq (Ok u) new =
-    (c : Case) × HasCase old seq c × (c.pinned ≡ false) × HasDropRoom old (seq ∷ []) × (new ≡ without_cases old (seq ∷ []))
+    (c : Case) × HasCase old seq c × (c.pinned ≡ false) × DropFits old (seq ∷ []) × (new ≡ without_cases old (seq ∷ []))
 DeleteStep old seq (Err Stopped) new = (old.stopped ≡ true) × (new ≡ old)
 DeleteStep old seq (Err NoCase) new = (old.stopped ≡ false) × (case_numbered seq old.cases ≡ None) × (new ≡ old)
 DeleteStep old seq (Err Pinned) new = (c : Case) × HasCase old seq c × (c.pinned ≡ true) × (new ≡ old)
 DeleteStep old seq (Err JournalFull) new =
     (c : Case) × HasCase old seq c × (c.pinned ≡ false) × IsFull old (drop_size 1) (cases_without old (seq ∷ [])) × (new ≡ old)
-DeleteStep old seq (Err OutOfMemory) new = (c : Case) × HasCase old seq c × (c.pinned ≡ false) × HasDropRoom old (seq ∷ []) × (new ≡ old)
-DeleteStep old seq (Err Disk) new = (c : Case) × HasCase old seq c × (c.pinned ≡ false) × HasDropRoom old (seq ∷ []) × (new ≡ halted old)
+DeleteStep old seq (Err OutOfMemory) new = (c : Case) × HasCase old seq c × (c.pinned ≡ false) × DropFits old (seq ∷ []) × (new ≡ old)
+DeleteStep old seq (Err Disk) new = (c : Case) × HasCase old seq c × (c.pinned ≡ false) × DropFits old (seq ∷ []) × (new ≡ halted old)
 DeleteStep old seq (Err _) new = ⊥
 
 -- the bytes of the record that pins a case
@@ -295,20 +295,20 @@ abbrev pub with_flag : ArchiveState → ℕ → Bool → ArchiveState
 with_flag old seq flag = recorded old pin_size (cases_flagged old seq flag)
 
 -- the record that sets it has room
-abbrev pub HasPinRoom : ArchiveState → ℕ → Bool → Type 0
-HasPinRoom old seq flag = HasRecordRoom old pin_size (cases_flagged old seq flag)
+abbrev pub PinFits : ArchiveState → ℕ → Bool → Type 0
+PinFits old seq flag = BytesFit old pin_size (cases_flagged old seq flag)
 
 -- pin: the flag is set; where it stands already, nothing changes
 abbrev pub PinStep : ArchiveState → ℕ → Bool → Result (Unit {0}) ArchiveFault → ArchiveState → Type 0
 PinStep old seq flag (Ok u) new =
     (c : Case) × HasCase old seq c
-    × (((c.pinned ≡ flag) × (new ≡ old)) ⊎ ((c.pinned ≢ flag) × HasPinRoom old seq flag × (new ≡ with_flag old seq flag)))
+    × (((c.pinned ≡ flag) × (new ≡ old)) ⊎ ((c.pinned ≢ flag) × PinFits old seq flag × (new ≡ with_flag old seq flag)))
 PinStep old seq flag (Err Stopped) new = (old.stopped ≡ true) × (new ≡ old)
 PinStep old seq flag (Err NoCase) new = (old.stopped ≡ false) × (case_numbered seq old.cases ≡ None) × (new ≡ old)
 PinStep old seq flag (Err JournalFull) new =
     (c : Case) × HasCase old seq c × (c.pinned ≢ flag) × IsFull old pin_size (cases_flagged old seq flag) × (new ≡ old)
-PinStep old seq flag (Err OutOfMemory) new = (c : Case) × HasCase old seq c × (c.pinned ≢ flag) × HasPinRoom old seq flag × (new ≡ old)
-PinStep old seq flag (Err Disk) new = (c : Case) × HasCase old seq c × (c.pinned ≢ flag) × HasPinRoom old seq flag × (new ≡ halted old)
+PinStep old seq flag (Err OutOfMemory) new = (c : Case) × HasCase old seq c × (c.pinned ≢ flag) × PinFits old seq flag × (new ≡ old)
+PinStep old seq flag (Err Disk) new = (c : Case) × HasCase old seq c × (c.pinned ≢ flag) × PinFits old seq flag × (new ≡ halted old)
 PinStep old seq flag (Err _) new = ⊥
 
 -- the cases with the label of one set
@@ -320,8 +320,8 @@ abbrev pub with_label : ArchiveState → ℕ → List ℕ → ArchiveState
 with_label old seq text = recorded old (label_size text) (cases_labelled old seq text)
 
 -- the record that sets it has room
-abbrev pub HasLabelRoom : ArchiveState → ℕ → List ℕ → Type 0
-HasLabelRoom old seq text = HasRecordRoom old (label_size text) (cases_labelled old seq text)
+abbrev pub LabelFits : ArchiveState → ℕ → List ℕ → Type 0
+LabelFits old seq text = BytesFit old (label_size text) (cases_labelled old seq text)
 
 -- the case of this number is live, in an archive whose version keeps labels
 abbrev pub MayLabel : ArchiveState → ℕ → Case → Type 0
@@ -331,15 +331,15 @@ MayLabel old seq c = HasCase old seq c × (old.version ≡ 2)
 abbrev pub LabelStep : ArchiveState → ℕ → List ℕ → Result (Unit {0}) ArchiveFault → ArchiveState → Type 0
 LabelStep old seq text (Ok u) new =
     (c : Case) × MayLabel old seq c
-    × (((c.label ≡ text) × (new ≡ old)) ⊎ ((c.label ≢ text) × HasLabelRoom old seq text × (new ≡ with_label old seq text)))
+    × (((c.label ≡ text) × (new ≡ old)) ⊎ ((c.label ≢ text) × LabelFits old seq text × (new ≡ with_label old seq text)))
 LabelStep old seq text (Err Stopped) new = (old.stopped ≡ true) × (new ≡ old)
 LabelStep old seq text (Err NoCase) new = (old.stopped ≡ false) × (case_numbered seq old.cases ≡ None) × (new ≡ old)
 LabelStep old seq text (Err OldVersion) new = (c : Case) × HasCase old seq c × (old.version ≡ 1) × (new ≡ old)
 LabelStep old seq text (Err JournalFull) new =
     (c : Case) × MayLabel old seq c × (c.label ≢ text) × IsFull old (label_size text) (cases_labelled old seq text) × (new ≡ old)
-LabelStep old seq text (Err OutOfMemory) new = (c : Case) × MayLabel old seq c × (c.label ≢ text) × HasLabelRoom old seq text × (new ≡ old)
+LabelStep old seq text (Err OutOfMemory) new = (c : Case) × MayLabel old seq c × (c.label ≢ text) × LabelFits old seq text × (new ≡ old)
 LabelStep old seq text (Err Disk) new =
-    (c : Case) × MayLabel old seq c × (c.label ≢ text) × HasLabelRoom old seq text × (new ≡ halted old)
+    (c : Case) × MayLabel old seq c × (c.label ≢ text) × LabelFits old seq text × (new ≡ halted old)
 LabelStep old seq text (Err _) new = ⊥
 
 -- the same cases in version 2 of the layout, written anew
@@ -354,11 +354,11 @@ MayUpgrade old = (old.stopped ≡ false) × (old.version ≡ 1)
 abbrev pub UpgradeStep : ArchiveState → Result (Unit {0}) ArchiveFault → ArchiveState → Type 0
 UpgradeStep old (Ok u) new =
     (old.stopped ≡ false)
-    × (((old.version ≡ 2) × (new ≡ old)) ⊎ ((old.version ≡ 1) × HasRoomAnew old old.cases × (new ≡ anew_in_two old)))
+    × (((old.version ≡ 2) × (new ≡ old)) ⊎ ((old.version ≡ 1) × FitsAnew old old.cases × (new ≡ anew_in_two old)))
 UpgradeStep old (Err Stopped) new = (old.stopped ≡ true) × (new ≡ old)
-UpgradeStep old (Err JournalFull) new = MayUpgrade old × LacksRoomAnew old old.cases × (new ≡ old)
-UpgradeStep old (Err OutOfMemory) new = MayUpgrade old × HasRoomAnew old old.cases × (new ≡ old)
-UpgradeStep old (Err Disk) new = MayUpgrade old × HasRoomAnew old old.cases × (new ≡ halted old)
+UpgradeStep old (Err JournalFull) new = MayUpgrade old × OverflowsAnew old old.cases × (new ≡ old)
+UpgradeStep old (Err OutOfMemory) new = MayUpgrade old × FitsAnew old old.cases × (new ≡ old)
+UpgradeStep old (Err Disk) new = MayUpgrade old × FitsAnew old old.cases × (new ≡ halted old)
 UpgradeStep old (Err _) new = ⊥
 
 -- version: that of the layout, 1 or 2
@@ -380,14 +380,14 @@ abbrev pub RetireStep : ArchiveState → Policy → Result Decision ArchiveFault
 RetireStep old policy (Ok d) new =
     (old.stopped ≡ false) × IsDecision policy (map brief_of old.cases) d.dropped.items d.unmet
     × (((d.dropped.items ≡ []) × (new ≡ old))
-    ⊎ ((d.dropped.items ≢ []) × HasDropRoom old d.dropped.items × (new ≡ without_cases old d.dropped.items)))
+    ⊎ ((d.dropped.items ≢ []) × DropFits old d.dropped.items × (new ≡ without_cases old d.dropped.items)))
 RetireStep old policy (Err Stopped) new = (old.stopped ≡ true) × (new ≡ old)
 RetireStep old policy (Err JournalFull) new =
     (dropped : List ℕ) × (unmet : Bool) × RetiresSome old policy dropped unmet
     × IsFull old (drop_size (length dropped)) (cases_without old dropped) × (new ≡ old)
 RetireStep old policy (Err OutOfMemory) new = (old.stopped ≡ false) × (new ≡ old)
 RetireStep old policy (Err Disk) new =
-    (dropped : List ℕ) × (unmet : Bool) × RetiresSome old policy dropped unmet × HasDropRoom old dropped × (new ≡ halted old)
+    (dropped : List ℕ) × (unmet : Bool) × RetiresSome old policy dropped unmet × DropFits old dropped × (new ≡ halted old)
 RetireStep old policy (Err _) new = ⊥
 
 -- image: the bytes of a case are read; only a disk fault changes the state

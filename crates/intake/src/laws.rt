@@ -1,6 +1,7 @@
 // What the definitions that the contracts cite say together. These functions do nothing.
 ghost use Rattle.std.specs.Prelude.{◌≡◌};
 ghost use Rattle.intake.specs.Durable.{durable_of, durable_part};
+ghost use Rattle.intake.specs.InTurn.{ACaseIsThereBetween, ACallLeadsOn, CallsLeadOn};
 ghost use Rattle.intake.specs.Lasting.{WhatStandsIsOne, NumbersAreAbove, ImagesAreWhole, LabelsAreOfVersionTwo, RunsAreTheFewest};
 ghost use Rattle.intake.specs.Lasts.{FinishLasts, DeleteLasts, PinLasts, LabelLasts, UpgradeLasts, RetireLasts, RefusalsLast, AnUpgradeLeavesTheCases};
 ghost use Rattle.intake.specs.Lives.{AReopeningIsAStop, KeptOverAStop, KeptOverManyStops, ACaseIsFound, NumbersStayGiven, NumbersAreGivenOnce, WhatIsClosedIsFound};
@@ -159,3 +160,17 @@ pub fn an_answer_is_one()
 {
     a_decision_is_one();
 }
+
+/// A case that is there at two times under one number was there at each time between, and its blocks had its image then, over any
+/// number of other processes, their stops and kills: no number is given twice, and no call writes a block of a case that is there.
+/// So what was read of these blocks meanwhile, with no lock, is of that image.
+pub fn a_case_is_there_between()
+    ensures { ACaseIsThereBetween }
+{}
+
+/// What an archive holds behind a call is later than what it held before it, and so is what a call would have left that a disk fault
+/// or a kill cut short: these are the times of `a_case_is_there_between`.
+pub fn calls_lead_on<D: Disk>()
+    ensures one { ACallLeadsOn D.Disk }
+    ensures many { CallsLeadOn D.Disk }
+{}

@@ -22,11 +22,11 @@ pub appended_behind : (s : Standing) (r : Record) → fits s r ≡ true → leng
 appended_behind s r e = subst (λ (t : Bool). lengthened s r ≡ placed t s r) (sym e) refl
 
 -- and else what is said then stands in the other half
-pub appended_beside : (s : Standing) (r : Record) → fits s r ≡ false → rewritten s (after r (folded_of s)) ≡ appended s r
-appended_beside s r e = subst (λ (t : Bool). rewritten s (after r (folded_of s)) ≡ placed t s r) (sym e) refl
+pub appended_by_snapshot : (s : Standing) (r : Record) → fits s r ≡ false → rewritten s (after r (folded_of s)) ≡ appended s r
+appended_by_snapshot s r e = subst (λ (t : Bool). rewritten s (after r (folded_of s)) ≡ placed t s r) (sym e) refl
 
 pub fits_true : (s : Standing) (r : Record) → s.used + record_size r + 1 ≤ half_length s.shape → fits s r ≡ true
-fits_true s r room = lt-ltb (s.used + record_size r) (half_length s.shape) (omega arith)
+fits_true s r in_half = lt-ltb (s.used + record_size r) (half_length s.shape) (omega arith)
 
 pub fits_false : (s : Standing) (r : Record) → half_length s.shape < s.used + record_size r + 1 → fits s r ≡ false
-fits_false s r room = le-ltb (s.used + record_size r) (half_length s.shape) (omega arith)
+fits_false s r in_half = le-ltb (s.used + record_size r) (half_length s.shape) (omega arith)

@@ -73,7 +73,7 @@ pub record HasHead (version : ℕ) (rest : List ℕ) : Type 0 where
   pub reserved : field rest 2 2 ≡ 0
   pub long : 16 ≤ length_at rest
   pub whole : length_at rest % 16 ≡ 0
-  pub room : length_at rest + 1 ≤ length rest
+  pub in_half : length_at rest + 1 ≤ length rest
 
 pub head_passes : (at version : ℕ) (rest : List ℕ) → HasHead version rest → first_failing at (head_checks version rest) ≡ None
 head_passes at version rest h =
@@ -85,7 +85,7 @@ head_passes at version rest h =
           not_from_true _ (eq-eqb (field rest 2 2) 0 h.reserved),
           (
             or_from _ _ (or_from _ _ (le-ltb (length_at rest) 16 h.long) (not_from_true _ (eq-eqb (length_at rest % 16) 0 h.whole)))
-                (le-ltb (length rest) (length_at rest + 1) h.room),
+                (le-ltb (length rest) (length_at rest + 1) h.in_half),
             tt,
           ),
         ),
@@ -96,8 +96,8 @@ pub head_passed : (at version : ℕ) (rest : List ℕ) → first_failing at (hea
 head_passed at version rest e =
     let h = passed at (head_checks version rest) e in
     let kinds = and_parts _ _ (not-false _ h.1.0) in
-    let room = or_parts _ _ h.1.1.1.0 in
-    let lengths = or_parts _ _ room.0 in
+    let in_half = or_parts _ _ h.1.1.1.0 in
+    let lengths = or_parts _ _ in_half.0 in
     record {
       enough = ltb-false (length rest) 17 h.0;
       some_kind = leb-true 1 (kind_at rest) kinds.0;
@@ -105,7 +105,7 @@ head_passed at version rest e =
       reserved = eqb-true (field rest 2 2) 0 (not-false _ h.1.1.0);
       long = ltb-false (length_at rest) 16 lengths.0;
       whole = eqb-true (length_at rest % 16) 0 (not-false _ lengths.1);
-      room = ltb-false (length rest) (length_at rest + 1) room.1;
+      in_half = ltb-false (length rest) (length_at rest + 1) in_half.1;
     }
 
 -- padding

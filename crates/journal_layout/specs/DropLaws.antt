@@ -117,7 +117,7 @@ module _ (seqs tail : List ℕ) where
 -- what is written is read again
 pub drop_again : (limit at : ℕ) (seqs tail : List ℕ) (f : Folded) → record_size (Drop seqs) < 2 ^ 32 → record_size (Drop seqs) + 1 ≤ length (spelling (Drop seqs) ++ tail) → IsSound limit f (Drop seqs)
     → (record_fault limit at (spelling (Drop seqs) ++ tail) f ≡ None) × (record_at (spelling (Drop seqs) ++ tail) ≡ Drop seqs)
-drop_again limit at seqs tail f small room sound =
+drop_again limit at seqs tail f small in_half sound =
     let b = spelling (Drop seqs) ++ tail in
     let few : length seqs < 2 ^ 32 = omega (arith, rounded_up (plain_size (Drop seqs))) in
     let count : seq_count_at b ≡ length seqs = tells_count seqs tail few in
@@ -126,7 +126,7 @@ drop_again limit at seqs tail f small room sound =
     let some : 0 < seq_count_at b = rw count sound.0 in
     let good : first_bad_seq f.cases 0 12 (drop_seqs b) ≡ None = ap (first_bad_seq f.cases 0 12) same ∙ seqs_pass f.cases 0 12 seqs sound.1 sound.3 in
     let padded : padding_fault at b (12 + 4 * seq_count_at b) ≡ None = ap (λ (n : ℕ). padding_fault at b (12 + 4 * n)) count ∙ tells_zeros (Drop seqs) tail at small in (
-      record_passes limit at b f (tells_head (Drop seqs) tail f.version (kind_high limit f (Drop seqs) sound) small room)
+      record_passes limit at b f (tells_head (Drop seqs) tail f.version (kind_high limit f (Drop seqs) sound) small in_half)
           (body_of limit at b f (Drop seqs) (tells_kind (Drop seqs) tail)
           ∙ none_or (first_failing at (count_checks b)) _ (count_passes at b some long)
           (none_or (option_map (damaged at named.Seq) (first_bad_seq f.cases 0 12 (drop_seqs b))) (padding_fault at b (12 + 4 * seq_count_at b))
@@ -149,7 +149,7 @@ drop_found limit at rest f are open_gate head kind e =
     let n = seq_count_at rest in
     let count : length (drop_seqs rest) ≡ n = length-seqs_at (drop 12 rest) n in
     let long : length_at rest ≡ record_size (Drop (drop_seqs rest)) = counted.1 ∙ ap (λ (k : ℕ). rounded (12 + 4 * k)) (sym count) in
-    let room = head.room in
+    let in_half = head.in_half in
     let up = rounded_up (12 + 4 * n) in
     let exact = counted.1 in (
       record {
@@ -163,7 +163,7 @@ drop_found limit at rest f are open_gate head kind e =
             (ap (λ (k : ℕ). part rest (12 + 4 * k) (rounded (12 + 4 * k) - (12 + 4 * k))) count
             ∙ zeros_found at rest (12 + 4 * n) (rounded (12 + 4 * n)) behind.1 counted.1 up (omega arith)
             ∙ ap (λ (k : ℕ). replicate (rounded (12 + 4 * k) - (12 + 4 * k)) 0) (sym count));
-        room = omega (arith, long);
+        in_half = omega (arith, long);
         sound = (rw count counted.0, good.0, seqs_small (drop 12 rest) n (drop_bytes 12 rest are), good.1);
       },
       sym long,

@@ -94,7 +94,7 @@ LabelsTakeTheirRecords =
     → snapshot_size (after (Label seq text) f) + sizes (label_records seq c.label) ≡ snapshot_size f + sizes (label_records seq text)
 
 -- the snapshot of what a drop leaves fits into the other half
-abbrev pub DropsHaveRoom : Type 0
-DropsHaveRoom =
+abbrev pub DropsFit : Type 0
+DropsFit =
     (b : List ℕ) (s : Standing) (seqs : List ℕ) → Stands b s → IsSound s.shape.data_blocks (folded_of s) (Drop seqs)
     → snapshot_size (after (Drop seqs) (folded_of s)) + 1 ≤ half_length s.shape

@@ -78,7 +78,7 @@ module _ (seq : ℕ) (text tail : List ℕ) where
 -- what is written is read again
 pub label_again : (limit at seq : ℕ) (text tail : List ℕ) (f : Folded) → record_size (Label seq text) + 1 ≤ length (spelling (Label seq text) ++ tail) → IsSound limit f (Label seq text)
     → (record_fault limit at (spelling (Label seq text) ++ tail) f ≡ None) × (record_at (spelling (Label seq text) ++ tail) ≡ Label seq text)
-label_again limit at seq text tail f room sound =
+label_again limit at seq text tail f in_half sound =
     let b = spelling (Label seq text) ++ tail in
     let short : length text ≤ 64 = sound.3.short in
     let small : record_size (Label seq text) < 2 ^ 32 = omega arith in
@@ -93,7 +93,7 @@ label_again limit at seq text tail f room sound =
       long = tells_length (Label seq text) tail small ∙ sym size;
     } in
     let padded : padding_fault at b (16 + label_length_at b) ≡ None = ap (λ (n : ℕ). padding_fault at b (16 + n)) long ∙ tells_zeros (Label seq text) tail at small in (
-      record_passes limit at b f (tells_head (Label seq text) tail f.version (kind_high limit f (Label seq text) sound) small room)
+      record_passes limit at b f (tells_head (Label seq text) tail f.version (kind_high limit f (Label seq text) sound) small in_half)
           (body_of limit at b f (Label seq text) (tells_kind (Label seq text) tail)
           ∙ none_or (first_failing at (label_checks b f)) (padding_fault at b (16 + label_length_at b)) (label_passes at b f has) padded),
       record_of b (Label seq text) (tells_kind (Label seq text) tail)
@@ -106,7 +106,7 @@ module _ (rest : List ℕ) (f : Folded) (are : AreBytes rest) (head : HasHead f.
   -- the places of the record up to its padding lie in the bytes
   within : 16 + label_length_at rest ≤ length rest
   within =
-      let room = head.room in
+      let in_half = head.in_half in
       let long = has.long in
       omega (arith, rounded_up (16 + label_length_at rest))
 
@@ -144,7 +144,7 @@ label_found limit at rest f are open_gate head kind e =
     let count = label_counted rest f are head has in
     let exact = has.long in
     let long : length_at rest ≡ record_size r = has.long ∙ ap (λ (k : ℕ). rounded (16 + k)) (sym count) in
-    let room = head.room in
+    let in_half = head.in_half in
     let up = rounded_up (16 + n) in
     let version : f.version ≡ 2 = label_version f.version (omega (arith, head.known_kind, kind)) in (
       record {
@@ -153,7 +153,7 @@ label_found limit at rest f are open_gate head kind e =
             (ap (λ (k : ℕ). part rest (16 + k) (rounded (16 + k) - (16 + k))) count
             ∙ zeros_found at rest (16 + n) (rounded (16 + n)) both.1 has.long up (omega arith)
             ∙ ap (λ (k : ℕ). replicate (rounded (16 + k) - (16 + k)) 0) (sym count));
-        room = omega (arith, long);
+        in_half = omega (arith, long);
         sound = (
           version,
           field_small rest 8 4 are,

@@ -27,7 +27,7 @@ pub mod ReadingLaws
 pub mod Record
 pub mod RecordLaws
 pub mod Rewriting
-pub mod RoomLaws
+pub mod FitLaws
 pub mod RowLaws
 pub mod RunBytesLaws
 pub mod Samples

@@ -36,10 +36,10 @@ tells_next n tail high = number_read 8 n [] (omega arith)
 -- what is written is read again
 pub next_again : (limit at n : ℕ) (tail : List ℕ) (f : Folded) → record_size (Next n) + 1 ≤ length (spelling (Next n) ++ tail) → IsSound limit f (Next n)
     → (record_fault limit at (spelling (Next n) ++ tail) f ≡ None) × (record_at (spelling (Next n) ++ tail) ≡ Next n)
-next_again limit at n tail f room sound =
+next_again limit at n tail f in_half sound =
     let b = spelling (Next n) ++ tail in
     let told = tells_next n tail sound.1 in (
-      record_passes limit at b f (tells_head (Next n) tail f.version (kind_high limit f (Next n) sound) (omega arith) room)
+      record_passes limit at b f (tells_head (Next n) tail f.version (kind_high limit f (Next n) sound) (omega arith) in_half)
           (body_of limit at b f (Next n) (tells_kind (Next n) tail)
           ∙ next_passes at b f (tells_length (Next n) tail (omega arith)) (rw told sound.0) (rw told sound.1)),
       record_of b (Next n) (tells_kind (Next n) tail) ∙ ap (λ (m : ℕ). Next m) told,
@@ -55,8 +55,8 @@ next_found limit at rest f are open_gate head kind e =
     let enough = head.enough in (
       record {
         spelled =
-            put_together f.version rest r 8 are open_gate head kind h.0 refl (sym (field_spelled 8 8 rest are (let room = head.room in let long = h.0 in omega arith))) refl;
-        room = omega (arith, head.room);
+            put_together f.version rest r 8 are open_gate head kind h.0 refl (sym (field_spelled 8 8 rest are (let in_half = head.in_half in let long = h.0 in omega arith))) refl;
+        in_half = omega (arith, head.in_half);
         sound = (h.1, h.2);
       },
       sym h.0,

@@ -16,7 +16,7 @@ use Rattle.journal_layout.specs.FoundLaws.{byte_part}
 use Rattle.journal_layout.specs.TakenLaws.{HasSameTaken, front_alone, front_switched, header_told}
 use Rattle.journal_layout.specs.Standing.{Standing}
 use Rattle.journal_layout.specs.Stands.{AreRead, records_area, front_of, Stands}
-use Rattle.journal_layout.specs.StandLaws.{stands_limits, stands_size, stands_room, stands_kept, half_lies, area_length, opened_part}
+use Rattle.journal_layout.specs.StandLaws.{stands_limits, stands_size, stands_in_half, stands_kept, half_lies, area_length, opened_part}
 use Rattle.journal_layout.specs.Rewriting.{other_half, other_start, snapshot, snapshot_size, rewritten, HoldsSnapshot, MayRewrite}
 use Rattle.journal_layout.specs.SnapshotLaws.{a_snapshot_is_read}
 
@@ -53,7 +53,7 @@ pub the_other_half_is_apart : (b c : List ℕ) (s : Standing) → Stands b s →
     → slice_index c (other_start s) ≢ 165 → Stands c s
 the_other_half_is_apart b c s stands same closed =
     stands_kept b c s (front_alone b c (front_of s) stands.front (front_stays b c s stands same) closed) same.same_length
-    (taken_same b c s stands same (s.used + 1) (stands_room b s stands)) stands
+    (taken_same b c s stands same (s.used + 1) (stands_in_half b s stands)) stands
 
 -- the gate of the other half is open, and a snapshot stands behind it
 module _ (b c : List ℕ) (s : Standing) (f : Folded) (stands : Stands b s) (may : MayRewrite s f) (holds : HoldsSnapshot s f b)
@@ -87,7 +87,7 @@ module _ (b c : List ℕ) (s : Standing) (f : Folded) (stands : Stands b s) (may
   records_spelled : take (sizes (snapshot f)) area ≡ flat_map spelling (snapshot f)
   records_spelled =
       let n = sizes (snapshot f) in
-      let room = may.room in
+      let in_half = may.in_half in
       opened_part area 0 n (flat_map spelling (snapshot f))
       (part_part c (start + 32) (half_length s.shape - 32) 0 n (omega arith)
       ∙ ap (λ (p : ℕ). part c p n) (omega arith)
@@ -97,7 +97,7 @@ module _ (b c : List ℕ) (s : Standing) (f : Folded) (stands : Stands b s) (may
   gate_behind : slice_index area (sizes (snapshot f)) ≢ 165
   gate_behind e =
       let n = sizes (snapshot f) in
-      let room = may.room in
+      let in_half = may.in_half in
       let place : slice_index area n ≡ slice_index b (start + snapshot_size f) =
       part_place c (start + 32) (half_length s.shape - 32) n 0 (omega arith)
       ∙ ap (slice_index c) (omega arith)
@@ -108,7 +108,7 @@ module _ (b c : List ℕ) (s : Standing) (f : Folded) (stands : Stands b s) (may
   records_read =
       let limits = stands_limits b s stands in
       let long = area_length c s.shape (other_half s.half) limits (stands_size b s stands ∙ sym same.same_length) in
-      let room = may.room in
+      let in_half = may.in_half in
       let n : sizes (snapshot f) ≡ snapshot_size f - 32 = omega arith in
       subst (λ (m : ℕ). AreRead s.shape.data_blocks area (nothing_yet f.version) f m) n
       (a_snapshot_is_read s.shape.data_blocks area f may.live may.labels (omega (arith, long)) records_spelled gate_behind)

@@ -40,12 +40,12 @@ tells_flag seq flag tail = refl
 -- what is written is read again
 pub pin_again : (limit at seq : ℕ) (flag : Bool) (tail : List ℕ) (f : Folded) → record_size (Pin seq flag) + 1 ≤ length (spelling (Pin seq flag) ++ tail) → IsSound limit f (Pin seq flag)
     → (record_fault limit at (spelling (Pin seq flag) ++ tail) f ≡ None) × (record_at (spelling (Pin seq flag) ++ tail) ≡ Pin seq flag)
-pin_again limit at seq flag tail f room sound =
+pin_again limit at seq flag tail f in_half sound =
     let b = spelling (Pin seq flag) ++ tail in
     let told = tells_seq seq flag tail sound.0 in
     let set = tells_flag seq flag tail in
     let live : IsLive f.cases (field b 8 4) = rw told sound.1 in (
-      record_passes limit at b f (tells_head (Pin seq flag) tail f.version (kind_high limit f (Pin seq flag) sound) (omega arith) room)
+      record_passes limit at b f (tells_head (Pin seq flag) tail f.version (kind_high limit f (Pin seq flag) sound) (omega arith) in_half)
           (body_of limit at b f (Pin seq flag) (tells_kind (Pin seq flag) tail)
           ∙ none_or (first_failing at (pin_checks b f)) (padding_fault at b 13)
           (pin_passes at b f (tells_length (Pin seq flag) tail (omega arith)) live (rw set (flag_short flag)))
@@ -72,7 +72,7 @@ pin_found limit at rest f are open_gate head kind e =
             ∙ ap (λ (l : List ℕ). number_bytes 4 (field rest 8 4) ++ l)
             (byte_part rest 12 (omega arith) ∙ ap (λ (m : ℕ). m ∷ []) (sym (flag_found (slice_index rest 12) h.2))))
             (zeros_found at rest 13 16 both.1 h.0 (omega arith) (omega arith));
-        room = omega (arith, head.room);
+        in_half = omega (arith, head.in_half);
         sound = (field_small rest 8 4 are, h.1);
       },
       sym h.0,

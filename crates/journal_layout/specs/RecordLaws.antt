@@ -20,17 +20,17 @@ use Rattle.journal_layout.specs.StoreLaws.{store_again, store_found}
 
 again_at : (limit at : ℕ) (r : Record) (tail : List ℕ) (f : Folded) → limit ≤ 16777216 → record_size r < 2 ^ 32 → record_size r + 1 ≤ length (spelling r ++ tail) → IsSound limit f r
     → (record_fault limit at (spelling r ++ tail) f ≡ None) × (record_at (spelling r ++ tail) ≡ r)
-again_at limit at (Store c) tail f low small room sound = store_again limit at c tail f low small room sound
-again_at limit at (Drop seqs) tail f low small room sound = drop_again limit at seqs tail f small room sound
-again_at limit at (Pin seq flag) tail f low small room sound = pin_again limit at seq flag tail f room sound
-again_at limit at (Next n) tail f low small room sound = next_again limit at n tail f room sound
-again_at limit at (Label seq text) tail f low small room sound = label_again limit at seq text tail f room sound
+again_at limit at (Store c) tail f low small in_half sound = store_again limit at c tail f low small in_half sound
+again_at limit at (Drop seqs) tail f low small in_half sound = drop_again limit at seqs tail f small in_half sound
+again_at limit at (Pin seq flag) tail f low small in_half sound = pin_again limit at seq flag tail f in_half sound
+again_at limit at (Next n) tail f low small in_half sound = next_again limit at n tail f in_half sound
+again_at limit at (Label seq text) tail f low small in_half sound = label_again limit at seq text tail f in_half sound
 
 -- what is written is read again
 pub record_again : (limit at : ℕ) (rest : List ℕ) (f : Folded) (r : Record) → limit ≤ 16777216 → length rest ≤ 2 ^ 32 → StandsFirst limit rest f r → IsToldBy limit at rest f r
 record_again limit at rest f r low short first =
     let same = as_spelled r rest first.spelled in
-    let room = first.room in
+    let in_half = first.in_half in
     let told = again_at limit at r (drop (record_size r) rest) f low (omega arith) (omega (arith, ap length same)) first.sound in
     subst (λ (l : List ℕ). IsToldBy limit at l f r) (sym same) (record { opened = refl; faultless = told.0; is = told.1 })
 

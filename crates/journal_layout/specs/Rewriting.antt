@@ -80,7 +80,7 @@ pub record MayRewrite (s : Standing) (f : Folded) : Type 0 where
   pub labels : AreLabelled f.version f.cases
   pub known : is_known f.version ≡ true
   -- with the gate behind the records
-  pub room : snapshot_size f + 1 ≤ half_length s.shape
+  pub in_half : snapshot_size f + 1 ≤ half_length s.shape
   -- the next one goes into its field
   pub generation : s.generation + 1 < 2 ^ 64
 

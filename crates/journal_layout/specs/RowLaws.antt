@@ -38,7 +38,7 @@ pub first_same : (limit q : ℕ) (b c : List ℕ) (f : Folded) (r : Record)
     → length c ≡ length b → record_size r ≤ q → take q c ≡ take q b → StandsFirst limit b f r → StandsFirst limit c f r
 first_same limit q b c f r long low same first = record {
   spelled = front_same (record_size r) q b c low same ∙ first.spelled;
-  room = (let enough = first.room in omega arith);
+  in_half = (let enough = first.in_half in omega arith);
   sound = first.sound;
 }
 
@@ -54,9 +54,9 @@ row_same limit q b c f (r ∷ rest) long low same row =
     )
 
 -- a row ends within its bytes, with room for a gate where there are bytes
-pub row_room : (limit : ℕ) (bytes : List ℕ) (f : Folded) (rs : List Record) → 0 < length bytes → StandInRow limit bytes f rs → sizes rs + 1 ≤ length bytes
-row_room limit bytes f [] some row = omega arith
-row_room limit bytes f (r ∷ rest) some row =
-    let enough = row.0.room in
+pub row_in_half : (limit : ℕ) (bytes : List ℕ) (f : Folded) (rs : List Record) → 0 < length bytes → StandInRow limit bytes f rs → sizes rs + 1 ≤ length bytes
+row_in_half limit bytes f [] some row = omega arith
+row_in_half limit bytes f (r ∷ rest) some row =
+    let enough = row.0.in_half in
     let len = length-drop (record_size r) bytes in
-    omega (arith, row_room limit (drop (record_size r) bytes) (after r f) rest (omega arith) row.1)
+    omega (arith, row_in_half limit (drop (record_size r) bytes) (after r f) rest (omega arith) row.1)

@@ -29,13 +29,13 @@ back_of_join n m bytes xs ys long e = sym (drop-take n m bytes) ∙ ap (drop n) 
 -- sound records that are spelled one after another stand in a row
 pub row_spelled : (limit : ℕ) (bytes : List ℕ) (f : Folded) (rs : List Record) → AreSound limit f rs → sizes rs + 1 ≤ length bytes
     → take (sizes rs) bytes ≡ flat_map spelling rs → StandInRow limit bytes f rs
-row_spelled limit bytes f [] sound room e = tt
-row_spelled limit bytes f (r ∷ rest) sound room e =
+row_spelled limit bytes f [] sound in_half e = tt
+row_spelled limit bytes f (r ∷ rest) sound in_half e =
     let n = record_size r in
     let long = length-spelling r in (
       record {
         spelled = front_of_join n (sizes rest) bytes (spelling r) (flat_map spelling rest) long e;
-        room = omega arith;
+        in_half = omega arith;
         sound = sound.0;
       },
       row_spelled limit (drop n bytes) (after r f) rest sound.1 (omega (arith, length-drop n bytes))
@@ -45,9 +45,9 @@ row_spelled limit bytes f (r ∷ rest) sound room e =
 -- and are read, where a gate behind them is not open
 pub read_spelled : (limit : ℕ) (bytes : List ℕ) (f : Folded) (rs : List Record) → AreSound limit f rs → sizes rs + 1 ≤ length bytes
     → take (sizes rs) bytes ≡ flat_map spelling rs → slice_index bytes (sizes rs) ≢ 165 → AreRead limit bytes f (replayed rs f) (sizes rs)
-read_spelled limit bytes f rs sound room e closed = record {
+read_spelled limit bytes f rs sound in_half e closed = record {
   records = rs;
-  row = row_spelled limit bytes f rs sound room e;
+  row = row_spelled limit bytes f rs sound in_half e;
   closed = closed;
   folded = refl;
   size = refl;
@@ -220,7 +220,7 @@ a_snapshot_says_all limit f live labels =
 pub a_snapshot_is_read : (limit : ℕ) (bytes : List ℕ) (f : Folded) → AreLive limit f.cases f.next → AreLabelled f.version f.cases → sizes (snapshot f) + 1 ≤ length bytes
     → take (sizes (snapshot f)) bytes ≡ flat_map spelling (snapshot f) → slice_index bytes (sizes (snapshot f)) ≢ 165
     → AreRead limit bytes (nothing_yet f.version) f (sizes (snapshot f))
-a_snapshot_is_read limit bytes f live labels room spelled closed =
+a_snapshot_is_read limit bytes f live labels in_half spelled closed =
     let all = a_snapshot_says_all limit f live labels in
     subst (λ (g : Folded). AreRead limit bytes (nothing_yet f.version) g (sizes (snapshot f))) all.1
-    (read_spelled limit bytes (nothing_yet f.version) (snapshot f) all.0 room spelled closed)
+    (read_spelled limit bytes (nothing_yet f.version) (snapshot f) all.0 in_half spelled closed)

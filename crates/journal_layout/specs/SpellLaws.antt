@@ -131,14 +131,14 @@ module _ (r : Record) (tail : List ℕ) where
   -- the checks that every record begins with pass, in a half of a version that has its kind
   pub tells_head : (version : ℕ) → record_kind r ≤ last_kind version → record_size r < 2 ^ 32 → record_size r + 1 ≤ length (spelling r ++ tail)
       → HasHead version (spelling r ++ tail)
-  tells_head version known small room = record {
+  tells_head version known small in_half = record {
     enough = omega (arith, record_some r);
     some_kind = rw tells_kind (kind_low r);
     known_kind = rw tells_kind known;
     reserved = tells_reserved;
     long = rw (tells_length small) (record_some r);
     whole = rw (tells_length small) (rounded_whole (plain_size r));
-    room = rw (tells_length small) room;
+    in_half = rw (tells_length small) in_half;
   }
 
   pub tells_zeros : (at : ℕ) → record_size r < 2 ^ 32 → padding_fault at (spelling r ++ tail) (plain_size r) ≡ None

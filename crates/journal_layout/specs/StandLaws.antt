@@ -13,14 +13,14 @@ use Rattle.journal_layout.specs.Soundness.{IsSound}
 use Rattle.journal_layout.specs.Front.{Front, front_opening}
 use Rattle.journal_layout.specs.Standing.{Standing, folded_of, fresh, lengthened}
 use Rattle.journal_layout.specs.Stands.{StandsFirst, AreRead, records_start, records_area, front_of, Stands}
-use Rattle.journal_layout.specs.RowLaws.{row_push, row_same, row_room, replayed_push, sizes_push}
+use Rattle.journal_layout.specs.RowLaws.{row_push, row_same, row_in_half, replayed_push, sizes_push}
 use Rattle.journal_layout.specs.FrontLaws.{front_limits, front_size, front_same}
 
 -- records that are read
 
 -- they end within their bytes, with room for a gate
-pub read_room : (limit : ℕ) (bytes : List ℕ) (f said : Folded) (n : ℕ) → 0 < length bytes → AreRead limit bytes f said n → n + 1 ≤ length bytes
-read_room limit bytes f said n some read = omega (arith, row_room limit bytes f read.records some read.row, read.size)
+pub read_in_half : (limit : ℕ) (bytes : List ℕ) (f said : Folded) (n : ℕ) → 0 < length bytes → AreRead limit bytes f said n → n + 1 ≤ length bytes
+read_in_half limit bytes f said n some read = omega (arith, row_in_half limit bytes f read.records some read.row, read.size)
 
 -- they depend on their bytes and the gate behind them alone
 pub read_same : (limit q : ℕ) (b c : List ℕ) (f said : Folded) (n : ℕ) → length c ≡ length b → n + 1 ≤ q → take q c ≡ take q b → AreRead limit b f said n → AreRead limit c f said n
@@ -74,13 +74,13 @@ pub stands_size : (b : List ℕ) (s : Standing) → Stands b s → disk_length s
 stands_size b s stands = front_size b (front_of s) stands.front
 
 -- its records end within its half, with room for a gate
-pub stands_room : (b : List ℕ) (s : Standing) → Stands b s → s.used + 1 ≤ half_length s.shape
-stands_room b s stands =
+pub stands_in_half : (b : List ℕ) (s : Standing) → Stands b s → s.used + 1 ≤ half_length s.shape
+stands_in_half b s stands =
     let limits = stands_limits b s stands in
     let some = limits.some_half in
     let long = area_length b s.shape s.half limits (stands_size b s stands) in
     let header = stands.header in
-    omega (arith, read_room s.shape.data_blocks (records_area b s.shape s.half) (nothing_yet s.version) (folded_of s) (s.used - 32) (omega arith) stands.records)
+    omega (arith, read_in_half s.shape.data_blocks (records_area b s.shape s.half) (nothing_yet s.version) (folded_of s) (s.used - 32) (omega arith) stands.records)
 
 -- the first bytes of the records' area are a part of its half
 area_front : (l : List ℕ) (s : Shape) (half : Half) (n : ℕ) → 32 ≤ n → n ≤ half_length s → take (n - 32) (records_area l s half) ≡ part (part l (half_start s half) n) 32 (n - 32)
@@ -108,7 +108,7 @@ pub stands_kept : (b c : List ℕ) (s : Standing) → front_opening c ≡ Ok (fr
     → part c (half_start s.shape s.half) (s.used + 1) ≡ part b (half_start s.shape s.half) (s.used + 1) → Stands b s → Stands c s
 stands_kept b c s front same used stands =
     let limits = stands_limits b s stands in
-    let room = stands_room b s stands in
+    let in_half = stands_in_half b s stands in
     let header = stands.header in
     let size = stands_size b s stands in
     let long : length (records_area c s.shape s.half) ≡ length (records_area b s.shape s.half) =
@@ -118,7 +118,7 @@ stands_kept b c s front same used stands =
       header = stands.header;
       records =
           read_same s.shape.data_blocks (s.used + 1 - 32) (records_area b s.shape s.half) (records_area c s.shape s.half) (nothing_yet s.version) (folded_of s) (s.used - 32) long
-          (omega arith) (area_same b c s.shape s.half (s.used + 1) (omega arith) room used) stands.records;
+          (omega arith) (area_same b c s.shape s.half (s.used + 1) (omega arith) in_half used) stands.records;
     }
 
 -- it depends on its front, its records and the gate behind them alone
@@ -135,9 +135,9 @@ pub stands_grown : (b c : List ℕ) (s : Standing) (r : Record) → HasSameFront
     → s.used + record_size r + 1 ≤ half_length s.shape → IsSound s.shape.data_blocks (folded_of s) r
     → part c (half_start s.shape s.half + s.used) (record_size r) ≡ spelling r → slice_index c (half_start s.shape s.half + s.used + record_size r) ≢ 165
     → Stands b s → Stands c (lengthened s r)
-stands_grown b c s r same used room sound spelled closed stands =
+stands_grown b c s r same used in_half sound spelled closed stands =
     let limits = stands_limits b s stands in
-    let within = stands_room b s stands in
+    let within = stands_in_half b s stands in
     let header = stands.header in
     let size = stands_size b s stands in
     let area = records_area c s.shape s.half in
@@ -153,7 +153,7 @@ stands_grown b c s r same used room sound spelled closed stands =
     part_place c (start + 32) (half_length s.shape - 32) (n + record_size r) 0 (omega arith) ∙ ap (slice_index c) (omega arith) in
     let first : StandsFirst s.shape.data_blocks (drop n area) (folded_of s) r = record {
       spelled = opened_part area n (record_size r) (spelling r) here;
-      room = omega (arith, length-drop n area);
+      in_half = omega (arith, length-drop n area);
       sound = sound;
     } in
     record {

@@ -15,7 +15,7 @@ use Rattle.journal_layout.specs.Standing.{Standing, folded_of}
 -- the record stands at the front of these bytes, with room for the gate behind it, and may follow those before it
 pub record StandsFirst (limit : ℕ) (bytes : List ℕ) (f : Folded) (r : Record) : Type 0 where
   pub spelled : take (record_size r) bytes ≡ spelling r
-  pub room : record_size r + 1 ≤ length bytes
+  pub in_half : record_size r + 1 ≤ length bytes
   pub sound : IsSound limit f r
 
 -- the records stand one after another at the front of these bytes

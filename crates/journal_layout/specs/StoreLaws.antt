@@ -208,7 +208,7 @@ same_case seq pid signal time len seq2 pid2 signal2 time2 len2 kind kind2 name n
 -- what is written is read again
 pub store_again : (limit at : ℕ) (c : Case) (tail : List ℕ) (f : Folded) → limit ≤ 16777216 → record_size (Store c) < 2 ^ 32 → record_size (Store c) + 1 ≤ length (spelling (Store c) ++ tail) → IsSound limit f (Store c)
     → (record_fault limit at (spelling (Store c) ++ tail) f ≡ None) × (record_at (spelling (Store c) ++ tail) ≡ Store c)
-store_again limit at c tail f low small room sound =
+store_again limit at c tail f low small in_half sound =
     let b = spelling (Store c) ++ tail in
     let rs = runs_of c.blocks in
     let fine = sound.2 in
@@ -243,7 +243,7 @@ store_again limit at c tail f low small room sound =
     } in
     let good : first_bad_run limit (used_blocks f.cases) None 48 (store_runs b) ≡ None = ap (first_bad_run limit (used_blocks f.cases) None 48) runs ∙ runs_pass limit (used_blocks f.cases) None 48 rs chain spare in
     let padded : padding_fault at b (name_place b + name_length_at b) ≡ None = ap (padding_fault at b) size ∙ tells_zeros (Store c) tail at small in (
-      record_passes limit at b f (tells_head (Store c) tail f.version (kind_high limit f (Store c) sound) small room)
+      record_passes limit at b f (tells_head (Store c) tail f.version (kind_high limit f (Store c) sound) small in_half)
           (body_of limit at b f (Store c) (tells_kind (Store c) tail)
           ∙ none_or (first_failing at (store_checks b f)) _ (facts_pass at b f facts)
           (none_or (runs_fault limit at b f) _ (none_map (damaged at named.Run) (first_bad_run limit (used_blocks f.cases) None 48 (store_runs b)) good)
@@ -259,7 +259,7 @@ module _ (rest : List ℕ) (f : Folded) (are : AreBytes rest) (head : HasHead f.
   -- the places of the record up to its padding lie in the bytes
   within : 48 + 8 * run_count_at rest + name_length_at rest ≤ length rest
   within =
-      let room = head.room in
+      let in_half = head.in_half in
       let long = facts.long in
       omega (arith, rounded_up (48 + 8 * run_count_at rest + name_length_at rest))
 
@@ -350,7 +350,7 @@ store_found limit at rest f are open_gate head kind e =
     ap (λ (l : List Run). 48 + 8 * length l + length (name_at rest)) same ∙ ap (λ (n : ℕ). 48 + 8 * n + length (name_at rest)) count ∙ ap (λ (n : ℕ). 48 + 8 * run_count_at rest + n) name_length in
     let long : length_at rest ≡ record_size (Store c) = facts.long ∙ ap rounded (sym size) in
     let n = 48 + 8 * run_count_at rest + name_length_at rest in
-    let room = head.room in
+    let in_half = head.in_half in
     let exact = facts.long in
     let up = rounded_up n in (
       record {
@@ -359,7 +359,7 @@ store_found limit at rest f are open_gate head kind e =
             (ap (λ (k : ℕ). part rest k (rounded k - k)) size
             ∙ zeros_found at rest n (rounded n) three.1 facts.long up (omega arith)
             ∙ ap (λ (k : ℕ). replicate (rounded k - k) 0) (sym size));
-        room = omega (arith, long);
+        in_half = omega (arith, long);
         sound = (
           facts.next,
           field_small rest 8 4 are,

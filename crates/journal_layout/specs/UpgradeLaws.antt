@@ -14,11 +14,11 @@ use Rattle.journal_layout.specs.OtherHalfLaws.{an_opened_half_stands}
 -- what stands may be written anew in version 2, where it has room
 pub may_upgrade : (b : List ℕ) (s : Standing) → Stands b s
     → snapshot_size (in_version_two (folded_of s)) + 1 ≤ half_length s.shape → s.generation + 1 < 2 ^ 64 → MayRewrite s (in_version_two (folded_of s))
-may_upgrade b s stands room generation = record {
+may_upgrade b s stands in_half generation = record {
   live = stands_live b s stands;
   labels = labelled_two 2 s.cases refl;
   known = refl;
-  room = room;
+  in_half = in_half;
   generation = generation;
 }
 
@@ -28,8 +28,8 @@ pub an_upgrade_says_the_same : (b c : List ℕ) (s : Standing) → Stands b s �
     → HoldsSnapshot s (in_version_two (folded_of s)) b → SameOutside (other_start s) 1 b c → slice_index c (other_start s) ≡ 165
     → Stands c (upgraded s) × ((upgraded s).version ≡ 2) × ((upgraded s).cases ≡ s.cases) × ((upgraded s).next ≡ s.next)
     × All HasNoLabel (upgraded s).cases
-an_upgrade_says_the_same b c s stands one room generation holds same opened = (
-  an_opened_half_stands b c s (in_version_two (folded_of s)) stands (may_upgrade b s stands room generation) holds same opened,
+an_upgrade_says_the_same b c s stands one in_half generation holds same opened = (
+  an_opened_half_stands b c s (in_version_two (folded_of s)) stands (may_upgrade b s stands in_half generation) holds same opened,
   refl,
   refl,
   refl,

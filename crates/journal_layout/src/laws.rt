@@ -1,5 +1,5 @@
 // What the definitions that the contracts cite say together. These functions do nothing.
-ghost use Rattle.journal_layout.specs.Grammar.{RecordsAreReadAgain, WhatIsReadStands, RecordsAreApart, OpeningsHaveOneAnswer, WhatStandsOpens, WhatStandsIsLive, WhatStandsIsLabelled, VersionOneHasNoLabels, SnapshotsSayAll, TheOtherHalfIsApart, AnOpenedHalfStands, AnUpgradeSaysTheSame, LabelsTakeTheirRecords, DropsHaveRoom};
+ghost use Rattle.journal_layout.specs.Grammar.{RecordsAreReadAgain, WhatIsReadStands, RecordsAreApart, OpeningsHaveOneAnswer, WhatStandsOpens, WhatStandsIsLive, WhatStandsIsLabelled, VersionOneHasNoLabels, SnapshotsSayAll, TheOtherHalfIsApart, AnOpenedHalfStands, AnUpgradeSaysTheSame, LabelsTakeTheirRecords, DropsFit};
 
 /// What is written is read again: where the spelling of a sound record stands, with room for a gate behind it, no check
 /// of an opening fails, at any place of any archive, and the fields that an opening reads are those of the record.
@@ -64,6 +64,6 @@ pub fn labels_take_their_records()
 {}
 
 /// The snapshot of what is left by a Drop record that may follow fits into a half: a drop is never short of bytes.
-pub fn what_a_drop_leaves_has_room()
-    ensures { DropsHaveRoom }
+pub fn what_a_drop_leaves_fits()
+    ensures { DropsFit }
 {}

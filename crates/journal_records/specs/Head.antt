@@ -10,7 +10,7 @@ use Rattle.journal_layout.specs.Reading.{length_at, name_length_at, name_place}
 pub record IsHeaded (rest : List ℕ) : Type 0 where
   pub least : 16 ≤ length_at rest
   pub whole : length_at rest % 16 ≡ 0
-  pub room : length_at rest + 1 ≤ length rest
+  pub in_half : length_at rest + 1 ≤ length rest
 
 -- the byte of a kind
 abbrev pub byte_of : RecordKind → ℕ
@@ -28,5 +28,5 @@ TellsFault fault other = ⊥
 
 -- The runs and the name lie in the record, and the name is short enough.
 pub record IsPlaced (rest : List ℕ) : Type 0 where
-  pub room : name_place rest + name_length_at rest ≤ length_at rest
+  pub in_half : name_place rest + name_length_at rest ≤ length_at rest
   pub short : name_length_at rest ≤ 128

@@ -33,7 +33,7 @@ pub record IsThrough (limit version : ℕ) (bytes : List ℕ) (used : ℕ) (c : 
   pub version_is : c.version ≡ version
   pub closed : slice_index bytes used ≢ 165
   pub kept : AreKept c
-  pub room : used + 1 ≤ length bytes
+  pub in_half : used + 1 ≤ length bytes
   pub free : length c.free ≡ limit
 
 abbrev pub ReadsAll : ℕ → ℕ → ℕ → List ℕ → Result ℕ OpenFault → Cases → Type 0

@@ -75,7 +75,7 @@ impl Cases {
     // Ends the cases whose numbers a Drop record tells.
     fn drop_cases(&mut self, rest: &[u8])
         requires kept { AreKept self.old }
-        requires room { 12 + 4 * seq_count_at rest.now ≤ length rest.now }
+        requires in_half { 12 + 4 * seq_count_at rest.now ≤ length rest.now }
         ensures { Says (after (Drop (drop_seqs rest.now)) (said_by self.old))
             (length self.old.free) self.new }
     {

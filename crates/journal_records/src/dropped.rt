@@ -51,7 +51,7 @@ fn is_bad_seq(live: &Live, last: u32, seq: u32) -> bool
 // The numbers rise, and each is that of a live case that is not pinned.
 fn check_seqs(live: &Live, rest: &[u8], at: u64) -> Result<(), OpenFault>
     requires numbered { AreNumbered 0 (2 ^ 32) live.now.entries }
-    requires room { 12 + 4 * seq_count_at rest.now ≤ length rest.now }
+    requires in_half { 12 + 4 * seq_count_at rest.now ≤ length rest.now }
     requires disk { at + length rest.now ≤ 2 ^ 63 }
     ensures { result_err result
         ≡ option_map (damaged at named.Seq) (first_bad_seq (cases_of live.now.entries) 0 12 (drop_seqs rest.now)) }
@@ -75,7 +75,7 @@ pub(crate) fn check_drop(live: &Live, rest: &[u8], at: u64) -> Result<(), OpenFa
     requires disk { at + length rest.now ≤ 2 ^ 63 }
     ensures fault { (f : Folded) → result_err result
         ≡ drop_fault at rest.now (record f { cases = cases_of live.now.entries }) }
-    ensures room { OnOk result (12 + 4 * seq_count_at rest.now ≤ length rest.now) }
+    ensures in_half { OnOk result (12 + 4 * seq_count_at rest.now ≤ length rest.now) }
 {
     check_count(rest, at)?;
     check_seqs(live, rest, at)?;

@@ -21,7 +21,7 @@ pub(crate) fn check_label(live: &Live, rest: &[u8], at: u64) -> Result<(), OpenF
     ensures fault { (f : Folded) → result_err result
         ≡ label_fault at rest.now (record f { cases = cases_of live.now.entries }) }
     ensures short { OnOk result (label_length_at rest.now ≤ 64) }
-    ensures room { OnOk result (16 + label_length_at rest.now ≤ length rest.now) }
+    ensures in_half { OnOk result (16 + label_length_at rest.now ≤ length rest.now) }
 {
     if is_missing(live, u32_at(rest, 8)) {
         return Err(damaged(at, Field::Seq, 8));
@@ -42,7 +42,7 @@ pub(crate) fn check_label(live: &Live, rest: &[u8], at: u64) -> Result<(), OpenF
 /// The label that a Label record tells.
 pub(crate) fn label_at(rest: &[u8]) -> Label
     requires short { label_length_at rest.now ≤ 64 }
-    requires room { 16 + label_length_at rest.now ≤ length rest.now }
+    requires in_half { 16 + label_length_at rest.now ≤ length rest.now }
     ensures { result.items ≡ label_at rest.now }
 {
     let length = u16_at(rest, 12) as usize;

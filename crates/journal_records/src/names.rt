@@ -21,7 +21,7 @@ pub(crate) fn name_end(rest: &[u8]) -> usize
 
 // The name that stands behind the runs.
 fn name_at(rest: &[u8]) -> Name
-    requires room { name_place rest.now + name_length_at rest.now ≤ length rest.now }
+    requires in_half { name_place rest.now + name_length_at rest.now ≤ length rest.now }
     requires short { name_length_at rest.now ≤ 128 }
     ensures { result.items ≡ name_at rest.now }
 {
@@ -32,7 +32,7 @@ fn name_at(rest: &[u8]) -> Name
 
 /// The name of a Store record, which has no NUL and is none of these. It is one of them from here on.
 pub(crate) fn take_name(names: &mut BTreeSet<Name>, rest: &[u8], at: u64) -> Result<Name, OpenFault>
-    requires room { name_place rest.now + name_length_at rest.now ≤ length rest.now }
+    requires in_half { name_place rest.now + name_length_at rest.now ≤ length rest.now }
     requires short { name_length_at rest.now ≤ 128 }
     requires disk { at + length rest.now ≤ 2 ^ 63 }
     ensures { TakesName at rest.now names.old result names.new }

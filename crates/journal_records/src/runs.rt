@@ -54,7 +54,7 @@ pub(crate) fn read_runs(
     rest: &[u8],
     at: u64,
 ) -> Result<(RunList, u64), OpenFault>
-    requires room { 48 + 8 * run_count_at rest.now ≤ length rest.now }
+    requires in_half { 48 + 8 * run_count_at rest.now ≤ length rest.now }
     requires disk { at + length rest.now ≤ 2 ^ 63 }
     requires limit { length free.old ≤ 16777216 }
     ensures taken { (used : List ℕ) → Accounts used free.old → TakesRuns at rest.now used free.old result free.new }

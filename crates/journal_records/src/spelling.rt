@@ -77,7 +77,7 @@ fn put(bytes: &mut Vec<u8>, more: &[u8])
 // Fills a record up with zeros to `size` bytes, for which there is room.
 fn fill(bytes: &mut Vec<u8>, size: u64)
     requires small { size ≤ 16777216 }
-    requires room { size ≤ vec_capacity bytes.old }
+    requires capacity_left { size ≤ vec_capacity bytes.old }
     ensures items { bytes.new.items ≡ take size bytes.old.items ++ replicate (size - vec_len bytes.old) 0 }
     ensures len { vec_len bytes.new ≡ size }
     ensures capacity { vec_capacity bytes.old ≤ vec_capacity bytes.new }
@@ -167,7 +167,7 @@ fn put_seqs(bytes: &mut Vec<u8>, seqs: &[u32])
 fn put_store(bytes: &mut Vec<u8>, seq: u32, entry: &Entry, pinned: bool, size: u64)
     requires size { size ≡ record_size (Store (case_of entry.now)) }
     requires small { size ≤ 16777216 }
-    requires room { vec_len bytes.old + plain_size (Store (case_of entry.now)) ≤ vec_capacity bytes.old + 1 }
+    requires capacity_left { vec_len bytes.old + plain_size (Store (case_of entry.now)) ≤ vec_capacity bytes.old + 1 }
     ensures items { bytes.new.items
         ≡ bytes.old.items ++ plain (Store (stored_as seq pinned (case_of entry.now))) }
     ensures capacity { vec_capacity bytes.old ≤ vec_capacity bytes.new }
@@ -234,7 +234,7 @@ pub fn spell_store(
 fn put_drop(bytes: &mut Vec<u8>, seqs: &[u32], size: u64)
     requires size { size ≡ record_size (Drop seqs.now) }
     requires small { size ≤ 16777216 }
-    requires room { vec_len bytes.old + plain_size (Drop seqs.now) ≤ vec_capacity bytes.old + 1 }
+    requires capacity_left { vec_len bytes.old + plain_size (Drop seqs.now) ≤ vec_capacity bytes.old + 1 }
     ensures items { bytes.new.items ≡ bytes.old.items ++ plain (Drop seqs.now) }
     ensures capacity { vec_capacity bytes.old ≤ vec_capacity bytes.new }
 {
@@ -273,7 +273,7 @@ fn label_facts(seq: u32, label_length: u16) -> [u8; 8]
 fn put_label(bytes: &mut Vec<u8>, seq: u32, label: &[u8], size: u64)
     requires short { length label.now ≤ 64 }
     requires size { size ≡ record_size (Label seq label.now) }
-    requires room { vec_len bytes.old + plain_size (Label seq label.now) ≤ vec_capacity bytes.old + 1 }
+    requires capacity_left { vec_len bytes.old + plain_size (Label seq label.now) ≤ vec_capacity bytes.old + 1 }
     ensures items { bytes.new.items ≡ bytes.old.items ++ plain (Label seq label.now) }
     ensures capacity { vec_capacity bytes.old ≤ vec_capacity bytes.new }
 {

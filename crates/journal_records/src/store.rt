@@ -58,7 +58,7 @@ pub(crate) fn check_facts(rest: &[u8], at: u64, next: u64) -> Result<(), OpenFau
 
 /// The check that an image has as many blocks as its length needs.
 pub(crate) fn check_image(rest: &[u8], at: u64, blocks: u64) -> Result<(), OpenFault>
-    requires room { 48 ≤ length rest.now }
+    requires in_half { 48 ≤ length rest.now }
     requires disk { at + length rest.now ≤ 2 ^ 63 }
     ensures { result_err result
         ≡ (if not (blocks == blocks_for (field rest.now 32 8)) then Some (damaged at named.ImageLength 32) else None) }
@@ -71,7 +71,7 @@ pub(crate) fn check_image(rest: &[u8], at: u64, blocks: u64) -> Result<(), OpenF
 
 /// The case that a Store record tells, with its name and its blocks, and no label.
 pub(crate) fn entry_at(rest: &[u8], name: Name, runs: RunList) -> Entry
-    requires room { 48 ≤ length rest.now }
+    requires in_half { 48 ≤ length rest.now }
     ensures { case_of result ≡ record (case_at rest.now) { name = name.items; blocks = runs } }
 {
     Entry {

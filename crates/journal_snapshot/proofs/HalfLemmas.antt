@@ -75,7 +75,7 @@ module _ (s : Standing) (f : Folded) (target : Target) (ch : Change) (es : List 
       ∙ omega (arith, header_length target.version target.generation, length-append rest (0 ∷ []), rest_length)
 
   pub bytes_within : 1 + length (half_bytes target ch es) ≤ half_length s.shape
-  bytes_within = let room = is.may.room in omega (arith, bytes_length)
+  bytes_within = let in_half = is.may.in_half in omega (arith, bytes_length)
 
   pub holds_snapshot : (b : List ℕ) → part b (target.start + 1) (length (half_bytes target ch es)) ≡ half_bytes target ch es → HoldsSnapshot s f b
   holds_snapshot b there =

@@ -27,14 +27,14 @@ case_length seq e flag (b ∷ rest) =
 
 -- with no record more
 pub grows_nothing : (m : Measure) (bytes : List ℕ) (half : ℕ) → [] ≡ bytes → m.used + 1 ≤ half → Grows m (length bytes) half (Some m)
-grows_nothing m bytes half none room = subst (λ (l : List ℕ). Grows m (length l) half (Some m)) none (omega arith, room, omega arith, omega arith, omega arith, λ n low some. low)
+grows_nothing m bytes half none in_half = subst (λ (l : List ℕ). Grows m (length l) half (Some m)) none (omega arith, in_half, omega arith, omega arith, omega arith, λ n low some. low)
 
 -- One entry more of those that are measured.
 module _ (ch : Change) (es : List Entry) (i half : ℕ) (e : Entry) (below : i < length es) (is : e ≡ get_or es i e) (old : Measure)
     (used : old.used ≡ 48 + length (written_entries ch (take i es))) where
   -- it does not fit
-  pub lacks_room : half < old.used + length (written_entry ch e) + 1 → half < snapshot_bytes ch es + 1
-  lacks_room over = omega (arith, over, used, written_within ch es i e below is)
+  pub overflows : half < old.used + length (written_entry ch e) + 1 → half < snapshot_bytes ch es + 1
+  overflows over = omega (arith, over, used, written_within ch es i e below is)
 
   module _ (new : Measure) (grows : Grows old (length (written_entry ch e)) half (Some new)) where
     pub used_more : new.used ≡ 48 + length (written_entries ch (take (i + 1) es))

@@ -15,8 +15,8 @@ use Rattle.journal_snapshot.specs.declared.target.Target.{Target}
 use Rattle.journal_snapshot.specs.Filling.{Fills}
 use Rattle.journal_snapshot.specs.FillLaws.{fills_wider, fills_then}
 use Rattle.journal_snapshot.specs.Halves.{half_bytes, IsWrittenAs}
-use Rattle.journal_snapshot.specs.Holding.{StandsBeside, IsReady}
-use Rattle.journal_snapshot.specs.HoldLaws.{filling_stands, filled_beside}
+use Rattle.journal_snapshot.specs.Holding.{StandsInOtherHalf, IsReady}
+use Rattle.journal_snapshot.specs.HoldLaws.{filling_stands, filled_in_other_half}
 use Rattle.journal_snapshot.proofs.HalfLemmas.{bytes_within, holds_snapshot}
 
 -- whatever is answered
@@ -37,19 +37,19 @@ module _ {D : Type 0} (g : disk.Ghosts D) (s : Standing) (f : Folded) (target : 
   high = omega (arith, is.place, bytes_within s f target ch es is)
 
   -- until the half is filled a crash leaves what stood before
-  pub filled_moments : (old mid new : D) → IsTrue (g.is_honest mid) → LeavesOnly g old mid (λ c. Stands c s) → StandsBeside g mid s → Fills g mid new (target.start + 1) (length (half_bytes target ch es))
+  pub filled_moments : (old mid new : D) → IsTrue (g.is_honest mid) → LeavesOnly g old mid (λ c. Stands c s) → StandsInOtherHalf g mid s → Fills g mid new (target.start + 1) (length (half_bytes target ch es))
       → LeavesOnly g old new (λ c. Stands c s ⊎ Stands c (rewritten s f))
-  filled_moments old mid new honest first beside fills =
+  filled_moments old mid new honest first snapshot_end fills =
       weakened g old new (λ c. Stands c s) (λ c. Stands c s ⊎ Stands c (rewritten s f)) (λ c stands. inl stands)
       (then_again g old mid new (λ c. Stands c s) first
-      (filling_stands s (target.start + 1) (length (half_bytes target ch es)) low high g mid new honest beside fills))
+      (filling_stands s (target.start + 1) (length (half_bytes target ch es)) low high g mid new honest snapshot_end fills))
 
   -- and then it is ready
-  pub half_ready : (mid new : D) → IsTrue (g.is_honest mid) → StandsBeside g mid s → Fills g mid new (target.start + 1) (length (half_bytes target ch es)) → g.may_leave new (g.seen new)
+  pub half_ready : (mid new : D) → IsTrue (g.is_honest mid) → StandsInOtherHalf g mid s → Fills g mid new (target.start + 1) (length (half_bytes target ch es)) → g.may_leave new (g.seen new)
       → part (g.seen new) (target.start + 1) (length (half_bytes target ch es)) ≡ half_bytes target ch es → IsSettled g new → IsReady g new s f
-  half_ready mid new honest beside fills seen there settled = record {
+  half_ready mid new honest snapshot_end fills seen there settled = record {
     settled = settled;
-    stands = (filled_beside s (target.start + 1) (length (half_bytes target ch es)) low high g mid new honest beside fills).stands (g.seen new) seen;
+    stands = (filled_in_other_half s (target.start + 1) (length (half_bytes target ch es)) low high g mid new honest snapshot_end fills).stands (g.seen new) seen;
     may = is.may;
     snapshot = holds_snapshot s f target ch es is (g.seen new) there;
   }

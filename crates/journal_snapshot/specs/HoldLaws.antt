@@ -18,7 +18,7 @@ use Rattle.journal_layout.specs.StandLaws.{stands_limits}
 use Rattle.journal_layout.specs.Rewriting.{other_half, other_start, rewritten, MayRewrite, HoldsSnapshot}
 use Rattle.journal_layout.specs.OtherHalfLaws.{the_other_half_is_apart, an_opened_half_stands}
 use Rattle.journal_snapshot.specs.Filling.{Fills}
-use Rattle.journal_snapshot.specs.Holding.{SameHeaders, Holds, StandsBeside, IsReady}
+use Rattle.journal_snapshot.specs.Holding.{SameHeaders, Holds, StandsInOtherHalf, IsReady}
 
 -- a half has its gate
 some_half : (b : List ℕ) (s : Standing) → Stands b s → 1 ≤ half_length s.shape
@@ -51,18 +51,18 @@ module _ (s : Standing) (at n : ℕ) (low : other_start s + 1 ≤ at) (high : at
   change_apart d c same stands closed =
       the_other_half_is_apart d c s stands (widened at n d c same (other_start s) (half_length s.shape) (omega arith) high) (gate_apart d c same closed)
 
-  module _ {D : Type 0} (g : disk.Ghosts D) (old new : D) (honest : IsTrue (g.is_honest old)) (beside : StandsBeside g old s) (fills : Fills g old new at n) where
+  module _ {D : Type 0} (g : disk.Ghosts D) (old new : D) (honest : IsTrue (g.is_honest old)) (snapshot_end : StandsInOtherHalf g old s) (fills : Fills g old new at n) where
     -- at each moment of a run that writes there
     pub filling_stands : LeavesOnly g old new (λ c. Stands c s)
     filling_stands =
         weakened g old new (ChangedIn at n (g.may_leave old)) (λ c. Stands c s)
-        (λ c changed. change_apart changed.0 c changed.2 (beside.stands changed.0 changed.1) (beside.closed changed.0 changed.1)) (fills.moments honest)
+        (λ c changed. change_apart changed.0 c changed.2 (snapshot_end.stands changed.0 changed.1) (snapshot_end.closed changed.0 changed.1)) (fills.moments honest)
 
     -- and after it
-    pub filled_beside : StandsBeside g new s
-    filled_beside = record {
-      stands = λ c may. let changed = fills.left honest c may in change_apart changed.0 c changed.2 (beside.stands changed.0 changed.1) (beside.closed changed.0 changed.1);
-      closed = λ c may. let changed = fills.left honest c may in gate_apart changed.0 c changed.2 (beside.closed changed.0 changed.1);
+    pub filled_in_other_half : StandsInOtherHalf g new s
+    filled_in_other_half = record {
+      stands = λ c may. let changed = fills.left honest c may in change_apart changed.0 c changed.2 (snapshot_end.stands changed.0 changed.1) (snapshot_end.closed changed.0 changed.1);
+      closed = λ c may. let changed = fills.left honest c may in gate_apart changed.0 c changed.2 (snapshot_end.closed changed.0 changed.1);
     }
 
 one_of : (l : List ℕ) → length l ≡ 1 → l ≡ get_or l 0 0 ∷ []
@@ -131,7 +131,7 @@ taken_stands g s f old new start place ready settled is within =
 
 -- the other half's gate reads closed: nothing that a crash leaves has it open
 pub reads_closed : {D : Type 0} (g : disk.Ghosts D) (s : Standing) (old new : D) → Holds g old s → ((c : List ℕ) → g.may_leave new c → g.may_leave old c)
-    → slice_index (g.seen old) (other_start s) ≢ 165 → StandsBeside g new s
+    → slice_index (g.seen old) (other_start s) ≢ 165 → StandsInOtherHalf g new s
 reads_closed g s old new holds crash closed = record {
   stands = λ c may. holds.stands c (crash c may);
   closed = λ c may. λ opened. closed (sym (same_gate s (g.seen old) c (holds.headers c (crash c may))) ∙ opened);
@@ -141,9 +141,9 @@ zero_is_closed : ◌≡◌ {A = ℕ} 0 165 → ⊥
 zero_is_closed e = omega (arith, e)
 
 -- once it is closed
-pub closed_beside : {D : Type 0} (g : disk.Ghosts D) (s : Standing) (new : D) (b : List ℕ) → Stands b s → other_start s + 1 ≤ length b → IsSettled g new
-    → g.seen new ≡ overwritten b (other_start s) (0 ∷ []) → StandsBeside g new s
-closed_beside g s new b stands within settled is =
+pub closed_in_other_half : {D : Type 0} (g : disk.Ghosts D) (s : Standing) (new : D) (b : List ℕ) → Stands b s → other_start s + 1 ≤ length b → IsSettled g new
+    → g.seen new ≡ overwritten b (other_start s) (0 ∷ []) → StandsInOtherHalf g new s
+closed_in_other_half g s new b stands within settled is =
     let now = overwritten b (other_start s) (0 ∷ []) in
     let gate : slice_index now (other_start s) ≡ 0 = written_place b (other_start s) 0 within in
     let shut : slice_index now (other_start s) ≢ 165 = λ e. zero_is_closed (sym gate ∙ e) in

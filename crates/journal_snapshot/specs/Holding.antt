@@ -23,7 +23,7 @@ pub record Holds {D : Type 0} (g : disk.Ghosts D) (d : D) (s : Standing) : Type 
 
 -- Every list that a crash now may leave stands for what the journal stands for, and the gate of its other half is not
 -- open in it, so that what else that half holds is not looked at.
-pub record StandsBeside {D : Type 0} (g : disk.Ghosts D) (d : D) (s : Standing) : Type 0 where
+pub record StandsInOtherHalf {D : Type 0} (g : disk.Ghosts D) (d : D) (s : Standing) : Type 0 where
   pub stands : (c : List ℕ) → g.may_leave d c → Stands c s
   pub closed : (c : List ℕ) → g.may_leave d c → slice_index c (other_start s) ≢ 165
 

@@ -22,7 +22,7 @@ fn write_store<D: Disk>(
 ) -> Result<u64, DiskFault>
     requires small { length (written seq entry.now pinned) ≤ 16777216 }
     requires capacity { length (written seq entry.now pinned) ≤ vec_capacity buffer.old }
-    requires room { at + length (written seq entry.now pinned) ≤ D.size disk.old }
+    requires in_half { at + length (written seq entry.now pinned) ≤ D.size disk.old }
     ensures writes { Writes D.Disk disk.old disk.new at (written seq entry.now pinned) result }
     ensures kept { vec_capacity buffer.old ≤ vec_capacity buffer.new }
     ensures cause { HasCause (D.failures disk.old) (D.failures disk.new) result }
@@ -42,7 +42,7 @@ fn write_text<D: Disk>(
 ) -> Result<u64, DiskFault>
     requires short { length label.now ≤ 64 }
     requires capacity { length (spelling (Label seq label.now)) ≤ vec_capacity buffer.old }
-    requires room { at + length (spelling (Label seq label.now)) ≤ D.size disk.old }
+    requires in_half { at + length (spelling (Label seq label.now)) ≤ D.size disk.old }
     ensures writes { Writes D.Disk disk.old disk.new at (spelling (Label seq label.now)) result }
     ensures kept { vec_capacity buffer.old ≤ vec_capacity buffer.new }
     ensures cause { HasCause (D.failures disk.old) (D.failures disk.new) result }
@@ -61,7 +61,7 @@ fn write_label<D: Disk>(
     buffer: &mut Vec<u8>,
 ) -> Result<u64, DiskFault>
     requires capacity { length (written_label seq label.now.items) ≤ vec_capacity buffer.old }
-    requires room { at + length (written_label seq label.now.items) ≤ D.size disk.old }
+    requires in_half { at + length (written_label seq label.now.items) ≤ D.size disk.old }
     ensures writes { Writes D.Disk disk.old disk.new at (written_label seq label.now.items) result }
     ensures kept { vec_capacity buffer.old ≤ vec_capacity buffer.new }
     ensures cause { HasCause (D.failures disk.old) (D.failures disk.new) result }
@@ -84,7 +84,7 @@ fn write_case<D: Disk>(
 ) -> Result<u64, DiskFault>
     requires small { length (written_case seq entry.now pinned label.now.items) ≤ 16777216 }
     requires capacity { length (written_case seq entry.now pinned label.now.items) ≤ vec_capacity buffer.old }
-    requires room { at + length (written_case seq entry.now pinned label.now.items) ≤ D.size disk.old }
+    requires in_half { at + length (written_case seq entry.now pinned label.now.items) ≤ D.size disk.old }
     ensures writes { Writes D.Disk disk.old disk.new at (written_case seq entry.now pinned label.now.items) result }
     ensures kept { vec_capacity buffer.old ≤ vec_capacity buffer.new }
     ensures cause { HasCause (D.failures disk.old) (D.failures disk.new) result }
@@ -104,7 +104,7 @@ fn write_entry<D: Disk>(
     requires order { IsOrdered change.now }
     requires small { length (written_entry change.now entry.now) ≤ 16777216 }
     requires capacity { length (written_entry change.now entry.now) ≤ vec_capacity buffer.old }
-    requires room { at + length (written_entry change.now entry.now) ≤ D.size disk.old }
+    requires in_half { at + length (written_entry change.now entry.now) ≤ D.size disk.old }
     ensures writes { Writes D.Disk disk.old disk.new at (written_entry change.now entry.now) result }
     ensures kept { vec_capacity buffer.old ≤ vec_capacity buffer.new }
     ensures cause { HasCause (D.failures disk.old) (D.failures disk.new) result }
@@ -127,7 +127,7 @@ pub(crate) fn write_entries<D: Disk>(
     requires order { IsOrdered change.now }
     requires small { AreAtMost 16777216 change.now entries.now }
     requires capacity { AreAtMost (vec_capacity buffer.old) change.now entries.now }
-    requires room { start + length (written_entries change.now entries.now) ≤ D.size disk.old }
+    requires in_half { start + length (written_entries change.now entries.now) ≤ D.size disk.old }
     ensures writes { Writes D.Disk disk.old disk.new start (written_entries change.now entries.now) result }
     ensures kept { vec_capacity buffer.old ≤ vec_capacity buffer.new }
     ensures cause { HasCause (D.failures disk.old) (D.failures disk.new) result }
@@ -148,7 +148,7 @@ pub(crate) fn write_added<D: Disk>(
 ) -> Result<u64, DiskFault>
     requires small { length (written_added change.now) ≤ 16777216 }
     requires capacity { length (written_added change.now) ≤ vec_capacity buffer.old }
-    requires room { at + length (written_added change.now) ≤ D.size disk.old }
+    requires in_half { at + length (written_added change.now) ≤ D.size disk.old }
     ensures writes { Writes D.Disk disk.old disk.new at (written_added change.now) result }
     ensures kept { vec_capacity buffer.old ≤ vec_capacity buffer.new }
     ensures cause { HasCause (D.failures disk.old) (D.failures disk.new) result }

@@ -6,7 +6,7 @@ ghost use Rattle.journal_layout.specs.Standing.{Standing};
 ghost use Rattle.journal_layout.specs.Stands.{Stands};
 ghost use Rattle.journal_layout.specs.Rewriting.{other_start};
 ghost use Rattle.journal_snapshot.specs.Filling.{Fills};
-ghost use Rattle.journal_snapshot.specs.Holding.{Holds, StandsBeside};
+ghost use Rattle.journal_snapshot.specs.Holding.{Holds, StandsInOtherHalf};
 
 use disk_model::{Disk, DiskFault, write_stable};
 use journal_records::GATE_OPEN;
@@ -18,7 +18,7 @@ pub(crate) fn close_half<D: Disk>(disk: &mut D, start: u64) -> Result<(), DiskFa
     ensures any_moment { (s : Standing) → start ≡ other_start s → IsTrue (D.is_honest disk.old)
         → Holds D.Disk disk.old s → LeavesOnly D.Disk disk.old disk.new (λ c. Stands c s) }
     ensures closed { (s : Standing) → start ≡ other_start s → IsTrue (D.is_honest disk.old)
-        → Holds D.Disk disk.old s → OnOk result (StandsBeside D.Disk disk.new s) }
+        → Holds D.Disk disk.old s → OnOk result (StandsInOtherHalf D.Disk disk.new s) }
     ensures fills { Fills D.Disk disk.old disk.new start 1 }
     ensures cause { HasCause (D.failures disk.old) (D.failures disk.new) result }
 {

@@ -52,7 +52,7 @@ fn write_half<D: Disk>(
     requires capacity { AreAtMost (vec_capacity buffer.old) change.now entries.now }
     requires small_added { length (written_added change.now) ≤ 16777216 }
     requires capacity_added { length (written_added change.now) ≤ vec_capacity buffer.old }
-    requires room { target.start + 1 + length (half_bytes target change.now entries.now) ≤ D.size disk.old }
+    requires in_half { target.start + 1 + length (half_bytes target change.now entries.now) ≤ D.size disk.old }
     ensures writes { Writes D.Disk disk.old disk.new (target.start + 1) (half_bytes target change.now entries.now) result }
     ensures cause { HasCause (D.failures disk.old) (D.failures disk.new) result }
 {
@@ -79,7 +79,7 @@ pub(crate) fn fill_half<D: Disk>(
     requires capacity { AreAtMost (vec_capacity buffer.old) change.now entries.now }
     requires small_added { length (written_added change.now) ≤ 16777216 }
     requires capacity_added { length (written_added change.now) ≤ vec_capacity buffer.old }
-    requires room { target.start + 1 + length (half_bytes target change.now entries.now) ≤ D.size disk.old }
+    requires in_half { target.start + 1 + length (half_bytes target change.now entries.now) ≤ D.size disk.old }
     ensures fills { Fills D.Disk disk.old disk.new (target.start + 1) (length (half_bytes target change.now entries.now)) }
     ensures there { IsTrue (D.is_honest disk.old) → OnOk result (part (D.seen disk.new) (target.start + 1) (length (half_bytes target change.now entries.now)) ≡ half_bytes target change.now entries.now) }
     ensures settled { IsTrue (D.is_honest disk.old) → OnOk result (IsSettled D.Disk disk.new) }

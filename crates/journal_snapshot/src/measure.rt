@@ -24,7 +24,7 @@ impl Measure {
     // With records of `size` bytes more; none where the gate behind them goes over the end of the half.
     fn with(self, size: u64, half: u64) -> Option<Measure>
         requires half { half ≤ 16777216 }
-        requires room { self.used + 1 ≤ half }
+        requires in_half { self.used + 1 ≤ half }
         ensures { Grows self size half result }
     {
         let used = self.used.checked_add(size)?;
@@ -42,7 +42,7 @@ impl Measure {
         requires order { IsOrdered change.now }
         requires short { length entry.now.runs ≤ 2 ^ 52 }
         requires half { half ≤ 16777216 }
-        requires room { self.used + 1 ≤ half }
+        requires in_half { self.used + 1 ≤ half }
         ensures { Grows self (length (written_entry change.now entry.now)) half result }
     {
         match change.flag_of(entry) {
@@ -55,7 +55,7 @@ impl Measure {
     fn with_added(self, change: &Change, half: u64) -> Option<Measure>
         requires short { IsShort change.now }
         requires half { half ≤ 16777216 }
-        requires room { self.used + 1 ≤ half }
+        requires in_half { self.used + 1 ≤ half }
         ensures { Grows self (length (written_added change.now)) half result }
     {
         match change {

@@ -35,7 +35,7 @@ pub fn rewrite<D: Disk>(
     requires capacity { AreAtMost (vec_capacity buffer.old) change.now entries.now }
     requires small_added { length (written_added change.now) ≤ 16777216 }
     requires capacity_added { length (written_added change.now) ≤ vec_capacity buffer.old }
-    requires room { target.start + 1 + length (half_bytes target change.now entries.now) ≤ D.size disk.old }
+    requires in_half { target.start + 1 + length (half_bytes target change.now entries.now) ≤ D.size disk.old }
     ensures any_moment { (s : Standing) (f : Folded) → IsWrittenAs s f target change.now entries.now → IsTrue (D.is_honest disk.old)
         → Holds D.Disk disk.old s → LeavesOnly D.Disk disk.old disk.new (λ c. Stands c s ⊎ Stands c (rewritten s f)) }
     ensures taken { (s : Standing) (f : Folded) → IsWrittenAs s f target change.now entries.now → IsTrue (D.is_honest disk.old)

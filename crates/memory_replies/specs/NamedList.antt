@@ -2,7 +2,7 @@
 use Rattle.std.specs.Prelude.{List, map}
 use Rattle.address_space.specs.Source.{ExecutableView}
 use Rattle.memory_replies.specs.NamedWords.{named_view}
-use Rattle.memory_replies.specs.declared.named_images.NamedImages.{NamedImages}
+use Rattle.memory_replies.specs.declared.symbolized_executables.SymbolizedExecutables.{SymbolizedExecutables}
 
-abbrev pub named_in : NamedImages → List ExecutableView
+abbrev pub named_in : SymbolizedExecutables → List ExecutableView
 named_in images = map named_view images.list.items

@@ -2,11 +2,11 @@
 use Rattle.address_space.specs.Source.{ExecutableView}
 use Rattle.address_space.specs.SpaceWords.{attached_view}
 use Rattle.memory_replies.specs.Places.{PlaceView}
-use Rattle.memory_replies.specs.declared.named_image.NamedImage.{NamedImage}
-use Rattle.memory_replies.specs.declared.named.Place.{Place}
+use Rattle.memory_replies.specs.declared.symbolized_executable.SymbolizedExecutable.{SymbolizedExecutable}
+use Rattle.memory_replies.specs.declared.named.Location.{Location}
 
-abbrev pub named_view : NamedImage → ExecutableView
+abbrev pub named_view : SymbolizedExecutable → ExecutableView
 named_view x = attached_view x.executable
 
-abbrev pub place_view : Place → PlaceView
+abbrev pub place_view : Location → PlaceView
 place_view p = record { name = p.name.now; distance = p.distance }

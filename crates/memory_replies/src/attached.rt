@@ -1,6 +1,9 @@
 // A core's memory, with the executables that stand for its mapped files.
-ghost use Rattle.std.specs.Prelude.{◌≡◌, ◌++◌, ◌∷◌, [], IfOk, OnOk, map};
+ghost use Rattle.std.specs.Prelude.{◌≡◌, ◌↔◌, ◌++◌, ◌∷◌, [], IfOk, IsTrue, OnOk, map};
+ghost use Rattle.address_space.specs.Disjoint.{AreDisjoint, AreFilesDisjoint};
 ghost use Rattle.address_space.specs.SpaceWords.{core_of, space_of};
+ghost use Rattle.address_space.specs.TableWords.{has_file_table, has_table};
+ghost use Rattle.elf_view.specs.Header.{segments_of};
 ghost use Rattle.image_replies.specs.CoreWords.{core_bytes};
 ghost use Rattle.memory_replies.specs.Attaching.{with_attached};
 ghost use Rattle.memory_replies.specs.Places.{known_among};
@@ -8,7 +11,7 @@ ghost use Rattle.memory_replies.specs.Memory as spec;
 ghost use Rattle.memory_replies.specs.NamedList.{named_in};
 ghost use Rattle.memory_replies.specs.NamedWords.{named_view};
 
-use crate::named_images::NamedImages;
+use crate::symbolized_executables::SymbolizedExecutables;
 use address_space::{AddressSpace, Attached};
 use elf_view::{Elf, Want};
 use image_replies::CoreImage;
@@ -39,6 +42,8 @@ pub(crate) fn plain_space<'a>(alloc: Global, core: &CoreImage<'a>) -> AddressSpa
 fn indexed_space<'a>(alloc: Global, core: &CoreImage<'a>) -> Result<AddressSpace<'a>, AllocError>
     ensures memory { IfOk result (λ space. space_of space ≡ spec.memory_of (core_bytes core.now) []) }
     ensures core { IfOk result (λ space. core_of space ≡ core_bytes core.now) }
+    ensures table { IfOk result (λ space. IsTrue (has_table space) ↔ AreDisjoint (segments_of (core_bytes core.now))) }
+    ensures files { IfOk result (λ space. IsTrue (has_file_table space) ↔ AreFilesDisjoint (spec.memory_of (core_bytes core.now) []).files) }
 {
     AddressSpace::indexed(alloc, &core.elf(), core.notes().files())
 }
@@ -66,7 +71,7 @@ pub fn space_with<'a>(
 fn attach_named<'a>(
     alloc: Global,
     space: &mut AddressSpace<'a>,
-    images: &mut NamedImages<'a>,
+    images: &mut SymbolizedExecutables<'a>,
     executable: Attached<'a>,
 ) -> Result<(), AllocError>
     ensures space { OnOk result (space_of space.new
@@ -89,13 +94,13 @@ pub fn space_and_images<'a>(
     alloc: Global,
     core: &CoreImage<'a>,
     attached: &[Attached<'a>],
-) -> Result<(AddressSpace<'a>, NamedImages<'a>), AllocError>
+) -> Result<(AddressSpace<'a>, SymbolizedExecutables<'a>), AllocError>
     ensures space { IfOk result (λ m. space_of m.0
         ≡ spec.memory_of (core_bytes core.now) (map spec.attached_view attached.now)) }
     ensures images { IfOk result (λ m. named_in m.1 ≡ known_among (map spec.attached_view attached.now)) }
 {
     let mut space = indexed_space(alloc, core)?;
-    let mut images = NamedImages::new(alloc);
+    let mut images = SymbolizedExecutables::new(alloc);
     for executable in attached {
         attach_named(alloc, &mut space, &mut images, *executable)?;
     }

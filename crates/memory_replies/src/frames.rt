@@ -18,8 +18,8 @@ ghost use Rattle.thread_regs.specs.Register.{register_in};
 use crate::attached::space_and_images;
 use crate::laws::a_sound_front_names_the_files;
 use crate::named::tell_where;
-use crate::named_images::NamedImages;
 use crate::outcome::Outcome;
+use crate::symbolized_executables::SymbolizedExecutables;
 use crate::window::Window;
 use crate::words::tell_hex_word;
 use address_space::{AddressSpace, Attached};
@@ -56,7 +56,7 @@ fn tell_return<O: Output>(reply: &mut Reply<'_, O>, ra: u64, frame: Frame)
 fn tell_frame<O: Output>(
     reply: &mut Reply<'_, O>,
     space: &AddressSpace<'_>,
-    images: &NamedImages<'_>,
+    images: &SymbolizedExecutables<'_>,
     ra: u64,
     frame: Frame,
 )
@@ -99,7 +99,7 @@ fn tell_stop<O: Output>(reply: &mut Reply<'_, O>, stop: Stop)
 fn tell_frames<O: Output>(
     reply: &mut Reply<'_, O>,
     space: &AddressSpace<'_>,
-    images: &NamedImages<'_>,
+    images: &SymbolizedExecutables<'_>,
     ra: u64,
     frames: Frames<'_, '_>,
 )
@@ -139,7 +139,7 @@ fn frames_from<'s, 'a>(
 fn tell_thread<O: Output>(
     reply: &mut Reply<'_, O>,
     space: &AddressSpace<'_>,
-    images: &NamedImages<'_>,
+    images: &SymbolizedExecutables<'_>,
     stack: Option<&[u8]>,
     thread: Thread<'_>,
 )

@@ -8,15 +8,15 @@ ghost use Rattle.memory_replies.specs.Places as spec;
 ghost use Rattle.memory_replies.specs.NamedList.{named_in};
 ghost use Rattle.memory_replies.specs.NamedWords.{named_view, place_view};
 
-use crate::named_image::NamedImage;
-use crate::named_images::NamedImages;
+use crate::symbolized_executable::SymbolizedExecutable;
+use crate::symbolized_executables::SymbolizedExecutables;
 use address_space::{AddressSpace, FileSpot};
 use script_streams::{Output, Reply};
 use symbols::vaddr_of_offset;
 
 /// A place in a function.
 #[derive(Clone, Copy, Debug)]
-pub(crate) struct Place<'a> {
+pub(crate) struct Location<'a> {
     /// The function's name.
     pub name: &'a [u8],
     /// How many bytes it is behind the function's value.
@@ -31,20 +31,24 @@ fn spot_at<'a>(space: &AddressSpace<'a>, address: u64) -> Option<FileSpot<'a>>
 }
 
 /// The function at an offset of an executable, of which a pc is `behind` bytes behind.
-fn place_in<'a>(image: &NamedImage<'a>, offset: u64, behind: u64) -> Option<Place<'a>>
+fn place_in<'a>(image: &SymbolizedExecutable<'a>, offset: u64, behind: u64) -> Option<Location<'a>>
     ensures { option_map place_view result ≡ spec.place_in behind offset (named_view image.now) }
 {
     let address = vaddr_of_offset(&image.elf, offset)?;
     let symbol = image.symbols.lookup(address)?;
     let reached = u128::from(address) + u128::from(behind);
-    Some(Place {
+    Some(Location {
         name: symbol.name,
         distance: reached.saturating_sub(u128::from(symbol.value)),
     })
 }
 
 /// The function at a place of a mapped file.
-fn place_at<'a>(images: &NamedImages<'a>, spot: FileSpot<'_>, behind: u64) -> Option<Place<'a>>
+fn place_at<'a>(
+    images: &SymbolizedExecutables<'a>,
+    spot: FileSpot<'_>,
+    behind: u64,
+) -> Option<Location<'a>>
     ensures { option_map place_view result
         ≡ spec.place_at_spot (named_in images.now) behind (spot_view spot.entry) }
 {
@@ -56,10 +60,10 @@ fn place_at<'a>(images: &NamedImages<'a>, spot: FileSpot<'_>, behind: u64) -> Op
 #[tactic(auto, unfolding(crate::specs::Places::place_of))]
 fn place_of<'a>(
     space: &AddressSpace<'_>,
-    images: &NamedImages<'a>,
+    images: &SymbolizedExecutables<'a>,
     pc: u64,
     address: Option<u64>,
-) -> Option<Place<'a>>
+) -> Option<Location<'a>>
     ensures { option_map place_view result
         ≡ spec.place_of (space_of space.now).files (named_in images.now) pc address }
 {
@@ -69,7 +73,7 @@ fn place_of<'a>(
 }
 
 /// Tells a place in a function, `NAME+h`, or `?` where it is not known.
-fn tell_place<O: Output>(reply: &mut Reply<'_, O>, place: Option<Place<'_>>)
+fn tell_place<O: Output>(reply: &mut Reply<'_, O>, place: Option<Location<'_>>)
     ensures { TellsText (telling O.Output reply.old reply.new)
         (spec.place_words (option_map place_view place.entry)) }
 {
@@ -88,7 +92,7 @@ fn tell_place<O: Output>(reply: &mut Reply<'_, O>, place: Option<Place<'_>>)
 pub fn tell_where<O: Output>(
     reply: &mut Reply<'_, O>,
     space: &AddressSpace<'_>,
-    images: &NamedImages<'_>,
+    images: &SymbolizedExecutables<'_>,
     pc: u64,
     address: Option<u64>,
 )

@@ -1,6 +1,6 @@
 // How often lines read a core, and the executables beside it.
 use crate::images;
-use crate::images::beside_executable;
+use crate::images::with_executable;
 use elf_view::sample::mapped_core;
 use std::process::Abort;
 use std::test::Fail;
@@ -9,7 +9,7 @@ use std::test::Fail;
 // lines.
 fn calls(rt: &(impl AllocGlobal + Abort), lines: &str, wanted: &str) -> Result<u64, Fail> {
     let core = mapped_core(rt.alloc())?;
-    images::calls(rt, beside_executable(rt.alloc(), &core)?, lines, wanted)
+    images::calls(rt, with_executable(rt.alloc(), &core)?, lines, wanted)
 }
 
 #[test]

@@ -39,7 +39,7 @@ pub(crate) fn stores<D: Disk>(
 }
 
 // A disk whose archive has the sample executable as its first case, and this core as its second and as its third.
-pub(crate) fn beside_executable(alloc: Global, core: &[u8]) -> Result<MemDisk, Fail> {
+pub(crate) fn with_executable(alloc: Global, core: &[u8]) -> Result<MemDisk, Fail> {
     let mut archive = opened(alloc, disk_of(alloc, 8)?, 1 << 30)?;
     let exec = executable(alloc)?;
     stores(alloc, &mut archive, "begin exec 0 /bin/cat", &exec)?;

@@ -17,6 +17,6 @@ mod kinds;
 #[cfg(test)]
 mod reasons;
 #[cfg(test)]
-mod rooms;
+mod retiring;
 #[cfg(test)]
 mod stops;

@@ -1,6 +1,6 @@
 // In what order lines over memory are refused.
 use crate::archives::{opened, tells};
-use crate::images::{beside_executable, calls, changed};
+use crate::images::{calls, changed, with_executable};
 use disk_model::{MemDisk, OneFault};
 use elf_view::sample::mapped_core;
 use std::alloc::Global;
@@ -10,7 +10,7 @@ use std::test::Fail;
 // A disk of the sample executable and two cores that map it.
 fn stored(alloc: Global) -> Result<MemDisk, Fail> {
     let core = mapped_core(alloc)?;
-    beside_executable(alloc, &core)
+    with_executable(alloc, &core)
 }
 
 // Lines, and their replies where no call of the disk fails.
@@ -85,15 +85,10 @@ fn refuses(
     reasons: &str,
 ) -> Result<(), Fail> {
     let core = changed(mapped_core(rt.alloc())?, changes);
-    let one = calls(
-        rt,
-        beside_executable(rt.alloc(), &core)?,
-        "maps 2\n",
-        reason,
-    )?;
+    let one = calls(rt, with_executable(rt.alloc(), &core)?, "maps 2\n", reason)?;
     let all = calls(
         rt,
-        beside_executable(rt.alloc(), &core)?,
+        with_executable(rt.alloc(), &core)?,
         "dump 2 0 65537\nfind 2 00\nstrings 2 1\nbt 2 1\n",
         reasons,
     )?;

@@ -6,14 +6,14 @@ use Rattle.address_space.specs.SpaceWords.{space_of}
 use Rattle.address_space.specs.declared.space.AddressSpace.{AddressSpace}
 use Rattle.unwind.specs.Code.{ProcessView, CodeView}
 use Rattle.unwind.specs.declared.code.Code.{Code}
-use Rattle.unwind.specs.declared.executable.Executable.{Executable}
+use Rattle.unwind.specs.declared.executable.UnwoundExecutable.{UnwoundExecutable}
 use Rattle.unwind.specs.declared.code.Process.{Process}
 use Rattle.unwind.specs.declared.faults.Stop.{Stop}
 
-abbrev pub executable_view : Executable → ExecutableView
+abbrev pub executable_view : UnwoundExecutable → ExecutableView
 executable_view x = record { path = x.path.now; image = image_of x.elf }
 
-abbrev pub process_of : AddressSpace → List Executable → ProcessView
+abbrev pub process_of : AddressSpace → List UnwoundExecutable → ProcessView
 process_of space executables = record { space = space_of space; executables = map executable_view executables }
 
 abbrev pub process_view : Process → ProcessView

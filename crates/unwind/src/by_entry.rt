@@ -10,7 +10,7 @@ ghost use Rattle.unwind.specs.Words.{code_view, process_view};
 
 use crate::by_call::by_stub;
 use crate::code::{Code, Process};
-use crate::executable::Executable;
+use crate::executable::UnwoundExecutable;
 use crate::faults::{RowFault, Stop};
 use crate::frame::{Callee, Frame, Registers, without};
 use crate::values::{cfa_by, is_undefined, registers_by, unknown_by, value_by};
@@ -154,7 +154,7 @@ fn by_covering(
 }
 
 /// The entry of an executable that covers an address.
-fn entry_at<'a>(executable: &Executable<'_, 'a>, address: u64) -> Result<Entry<'a>, NoEntry>
+fn entry_at<'a>(executable: &UnwoundExecutable<'_, 'a>, address: u64) -> Result<Entry<'a>, NoEntry>
     ensures { found result ≡ entry_of (image_of executable.now.elf) address }
 {
     executable.frames.find(address)

@@ -7,7 +7,7 @@ ghost use Rattle.address_space.specs.SpaceWords.{space_of};
 ghost use Rattle.unwind.specs.Code as spec;
 ghost use Rattle.unwind.specs.Words.{code_view, executable_view, process_view, viewed};
 
-use crate::executable::Executable;
+use crate::executable::UnwoundExecutable;
 use crate::faults::Stop;
 use crate::frame::Frame;
 use address_space::{AddressSpace, FileSpot};
@@ -17,18 +17,21 @@ use symbols::vaddr_of_offset;
 #[derive(Clone, Copy)]
 pub(crate) struct Process<'s, 'c, 'e, 'a> {
     pub(crate) space: &'s AddressSpace<'c>,
-    pub(crate) executables: &'s [Executable<'e, 'a>],
+    pub(crate) executables: &'s [UnwoundExecutable<'e, 'a>],
 }
 
 /// An address in the numbering of an executable.
 #[derive(Clone, Copy)]
 pub(crate) struct Code<'e, 'a> {
-    pub(crate) executable: Executable<'e, 'a>,
+    pub(crate) executable: UnwoundExecutable<'e, 'a>,
     pub(crate) address: u64,
 }
 
 /// The first executable of that path.
-fn named<'e, 'a>(executables: &[Executable<'e, 'a>], path: &[u8]) -> Option<Executable<'e, 'a>>
+fn named<'e, 'a>(
+    executables: &[UnwoundExecutable<'e, 'a>],
+    path: &[u8],
+) -> Option<UnwoundExecutable<'e, 'a>>
     ensures { option_map executable_view result ≡ find (is_named path.now) (map executable_view executables.now) }
 {
     for executable in executables {
@@ -42,7 +45,7 @@ fn named<'e, 'a>(executables: &[Executable<'e, 'a>], path: &[u8]) -> Option<Exec
 /// The address of a place in a file.
 #[tactic(auto, unfolding(crate::specs::Code::code_at))]
 fn code_at<'e, 'a>(
-    executables: &[Executable<'e, 'a>],
+    executables: &[UnwoundExecutable<'e, 'a>],
     spot: FileSpot<'_>,
 ) -> Result<Code<'e, 'a>, Stop>
     ensures { viewed code_view result ≡ spec.code_at (map executable_view executables.now) (spot_view spot.entry) }

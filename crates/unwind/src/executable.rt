@@ -9,7 +9,7 @@ use elf_view::Elf;
 
 /// An executable that stands for the mapped file of that path.
 #[derive(Clone, Copy)]
-pub struct Executable<'e, 'a> {
+pub struct UnwoundExecutable<'e, 'a> {
     /// The path.
     pub path: &'a [u8],
     /// The executable.

@@ -7,7 +7,7 @@ ghost use Rattle.unwind.specs.Words.{process_of, process_view};
 use crate::by_call::by_call;
 use crate::by_trampoline::{by_trampoline, is_trampoline};
 use crate::code::Process;
-use crate::executable::Executable;
+use crate::executable::UnwoundExecutable;
 use crate::faults::Stop;
 use crate::frame::Frame;
 use address_space::AddressSpace;
@@ -61,7 +61,7 @@ impl<'s, 'c, 'e, 'a> Frames<'s, 'c, 'e, 'a> {
     #[tactic(auto, unfolding(crate::specs::FrameWords::frames_left, crate::specs::FrameWords::stop_left, crate::specs::Unwinding::unwound, crate::specs::Unwinding::stop_of))]
     pub fn new(
         space: &'s AddressSpace<'c>,
-        executables: &'s [Executable<'e, 'a>],
+        executables: &'s [UnwoundExecutable<'e, 'a>],
         thread: &Thread<'_>,
     ) -> Frames<'s, 'c, 'e, 'a>
         ensures frames { frames_left result ≡ spec.unwound (process_of space.now executables.now) (thread_bytes thread.now) }

@@ -16,7 +16,7 @@ mod laws;
 mod values;
 
 pub use by_trampoline::is_trampoline;
-pub use executable::Executable;
+pub use executable::UnwoundExecutable;
 pub use faults::{RowFault, Stop};
 pub use frame::{Callee, Frame, Registers};
 pub use frames::Frames;

@@ -76,3 +76,27 @@ fn all_are_pinned(rt: HostRuntime) -> Result<(), Fail> {
     drops(&rt, &decision, &[], true);
     Ok(())
 }
+
+// What is decided, asked again where memory is refused.
+fn decided_again(
+    alloc: Global,
+    cases: (Brief, Brief, Brief),
+    policy: &Policy,
+) -> Result<Decision, AllocError>
+    requires second { cases.0.seq < cases.1.seq }
+    requires third { cases.1.seq < cases.2.seq }
+{
+    match decided(alloc, cases, policy) {
+        Ok(decision) => Ok(decision),
+        Err(_) => decided(alloc, cases, policy),
+    }
+}
+
+#[test]
+fn again_after_memory_was_refused(rt: HostRuntime) -> Result<(), Fail> {
+    let cases = (case(4, 1, false), case(7, 2, false), case(9, 3, true));
+    let both = decided_again(rt.alloc(), cases, &policy(Some(3), Some(29), Some(2)));
+    assert!(&rt; both.is_ok());
+    drops(&rt, &both?, &[4, 7], true);
+    Ok(())
+}

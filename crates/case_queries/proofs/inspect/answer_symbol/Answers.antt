@@ -1,7 +1,7 @@
 use Rattle.std.proofs.Common.{Ok, Err, refl}
 use Rattle.script_streams.specs.Replies.{no_reply}
 use Rattle.archive_replies.specs.Reasons.{reason_of}
-use Rattle.case_queries.proofs.AskLemmas.{held_if, gathered_if}
+use Rattle.case_queries.proofs.AskLemmas.{held_if, collected_if}
 use Rattle.case_queries.proofs.ShowLemmas.{symbol_shown, outcome_with}
 use Rattle.case_queries.proofs.inspect.answer_symbol.Goals as goal
 
@@ -13,8 +13,8 @@ returns-in-Ok-clause-answers g c =
 pub returns-in-Ok-clause-kept : goal.returns-in-Ok-clause-kept
 returns-in-Ok-clause-kept g c = held_if g.D.Disk c.see_image.new.archive c.kept_if.result c.in-Ok.seen c.kept_if.ensures c.in-Ok.ensures.kept
 
-pub returns-in-Ok-clause-beside : goal.returns-in-Ok-clause-beside
-returns-in-Ok-clause-beside g c = gathered_if g.D.Disk c.see_image.new.archive c.kept_if.result c.in-Ok.seen c.kept_if.ensures c.in-Ok.ensures.beside
+pub returns-in-Ok-clause-are_kept : goal.returns-in-Ok-clause-are_kept
+returns-in-Ok-clause-are_kept g c = collected_if g.D.Disk c.see_image.new.archive c.kept_if.result c.in-Ok.seen c.kept_if.ensures c.in-Ok.ensures.are_kept
 
 pub returns-in-Err-clause-answers : goal.returns-in-Err-clause-answers
 returns-in-Err-clause-answers g c = (

@@ -3,7 +3,7 @@ use Rattle.script_lines.specs.Queries.{memory_query}
 use Rattle.script_streams.specs.Replies.{no_reply}
 use Rattle.archive_replies.specs.Reasons.{reason_of}
 use Rattle.case_queries.specs.Windows.{part_at, part_bytes}
-use Rattle.case_queries.proofs.AskLemmas.{gathered_if, held_if, kept_still}
+use Rattle.case_queries.proofs.AskLemmas.{collected_if, held_if, kept_still}
 use Rattle.case_queries.proofs.WindowLemmas.{seen_by}
 use Rattle.case_queries.proofs.memory.answer_by_memory.Goals as goal
 
@@ -26,9 +26,9 @@ returns-in-Ok-clause-kept g c =
     held_if g.D.Disk c.answer_memory-outcome.new.archive c.kept_if.result _ c.kept_if.ensures
     (kept_still g.D.Disk c.see_memory.new.archive c.answer_memory-outcome.new.archive c.args.kind (memory_query c.args.query.now) seen.0 told.0 s.kept told.1 c.in-Ok.ensures.kept)
 
-pub returns-in-Ok-clause-beside : goal.returns-in-Ok-clause-beside
-returns-in-Ok-clause-beside g c =
-    gathered_if g.D.Disk c.answer_memory-outcome.new.archive c.kept_if.result _ c.kept_if.ensures (rw c.deref.ensures.value at c.answer_memory-outcome.ensures.kept)
+pub returns-in-Ok-clause-are_kept : goal.returns-in-Ok-clause-are_kept
+returns-in-Ok-clause-are_kept g c =
+    collected_if g.D.Disk c.answer_memory-outcome.new.archive c.kept_if.result _ c.kept_if.ensures (rw c.deref.ensures.value at c.answer_memory-outcome.ensures.kept)
 
 pub returns-in-Err-clause-answers : goal.returns-in-Err-clause-answers
 returns-in-Err-clause-answers g c = (

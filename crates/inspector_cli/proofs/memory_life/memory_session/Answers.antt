@@ -9,5 +9,5 @@ returns-in-Ok g c = record {
 
 pub returns-in-Err : goal.returns-in-Err
 returns-in-Err g c = record {
-  fresh = memory_ends _ c.args.shape c.args.settings.limit c.args.naming.now _ c.in_ok-disk.disk _ c.in_ok-disk.ensures.refused c.in_ok-disk.ensures.honest c.in_ok-disk.ensures.made _ (Err c.in-Err.fault) c.in-Err.is c.open_and_run-ended.ensures.crash_safe;
+  fresh = rw c.memory_fault.ensures (memory_ends _ c.args.shape c.args.settings.limit c.args.naming.now _ c.in_ok-disk.disk _ c.in_ok-disk.ensures.refused c.in_ok-disk.ensures.honest c.in_ok-disk.ensures.made _ (Err c.in-Err.fault) c.in-Err.is c.open_and_run-ended.ensures.crash_safe);
 }

@@ -10,7 +10,7 @@ loop-goes_on-init g c = record {
   along = λ before. begun g.D.Disk c.args.naming.now (g.I.Input.remaining c.args.input.now) c.args.buffer.now (sink g.O.Output c.args.reply.now) (stage_of c.args.archive.now before);
   failures = refl;
   kept = tt;
-  beside = tt;
+  are_kept = tt;
 }
 
 pub returns-in_err-goes_on-clause-answers : goal.returns-in_err-goes_on-clause-answers
@@ -32,7 +32,7 @@ loop-goes_on-preserved g c = record {
       (rw c.loop-goes_on-test.true at (c.loop-goes_on.invariant.along before)) c.in_ok-goes_on.goes_on c.in_ok-goes_on.ensures.answers;
   failures = c.in_ok-goes_on.ensures.stops ∙ c.loop-goes_on.invariant.failures;
   kept = c.in_ok-goes_on.ensures.kept;
-  beside = c.in_ok-goes_on.ensures.beside;
+  are_kept = c.in_ok-goes_on.ensures.are_kept;
 }
 
 pub returns-clause-answers : goal.returns-clause-answers

@@ -17,7 +17,7 @@ invariant-loop-goes_on g l = record {
       (stage_of l.initial.archive before) l.archive l.goes_on;
   failures : g.I.Input.failures l.input ≡ g.I.Input.failures l.initial.input;
   kept : IsKept g.D.Disk l.archive l.images.kept;
-  beside : AreKept g.D.Disk l.archive l.images.kept;
+  are_kept : AreKept g.D.Disk l.archive l.images.kept;
 }
 
 abbrev pub decreases-loop-goes_on : goal.decreases-loop-goes_on

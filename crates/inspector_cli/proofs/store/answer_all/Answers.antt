@@ -8,8 +8,8 @@ pub returns : goal.returns
 returns g c =
     stores_all g.D.Disk (g.I.Input.remaining c.args.file.now) (g.I.Input.remaining c.answer_store-stored.new.file)
     (g.I.Input.failures c.args.file.now) (g.I.Input.failures c.answer_store-stored.new.file)
-    (sink g.O.Output c.args.reply.now) (sink g.O.Output c.make_room-made_room.new.reply) (sink g.O.Output c.answer_store-stored.new.reply) (sink g.O.Output c.label_case-labelled.new.reply)
-    c.args.archive.now c.make_room-made_room.new.archive c.answer_store-stored.new.archive c.label_case-labelled.new.archive
+    (sink g.O.Output c.args.reply.now) (sink g.O.Output c.retire_first-retired_first.new.reply) (sink g.O.Output c.answer_store-stored.new.reply) (sink g.O.Output c.label_case-labelled.new.reply)
+    c.args.archive.now c.retire_first-retired_first.new.archive c.answer_store-stored.new.archive c.label_case-labelled.new.archive
     c.args.policy (stream_found c.args.found) (label_asked c.args.label.now)
-    c.make_room-made_room.result c.answer_store-stored.result c.label_case-labelled.result
-    c.make_room-made_room.ensures c.answer_store-stored.ensures c.label_case-labelled.ensures
+    c.retire_first-retired_first.result c.answer_store-stored.result c.label_case-labelled.result
+    c.retire_first-retired_first.ensures c.answer_store-stored.ensures c.label_case-labelled.ensures

@@ -1,4 +1,4 @@
-use Rattle.journal_layout.specs.RoomLaws.{labels_take_their_records}
+use Rattle.journal_layout.specs.FitLaws.{labels_take_their_records}
 use Rattle.journal_layout.proofs.laws.labels_take_their_records.Goals as goal
 
 pub returns : goal.returns

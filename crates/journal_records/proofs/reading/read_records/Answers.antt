@@ -16,7 +16,7 @@ loop-size-preserved c =
     let read : ReadsRecord (c.args.at + l.size) (drop l.size bytes) old (Ok ok.field-0) new =
     subst (λ (rest : List ℕ). ReadsRecord (c.args.at + l.size) rest old (Ok ok.field-0) new) (rest_of l.size bytes) ok.ensures in
     let long = length-drop l.size bytes in
-    let room = read.3.room in
+    let in_half = read.3.in_half in
     let is = read.2 in
     record {
       along = along_more (length c.args.cases.now.free) c.args.cases.now.version (c.args.at + l.size) bytes (said_by old) (said_by new) l.size ok.field-0 (λ k. (let f = c.type_inv.bytes k in omega arith)) l.invariant.along c.loop-size-test.true
@@ -24,6 +24,6 @@ loop-size-preserved c =
           read.1.says read.2;
       version = ap (λ (f : Folded). f.version) read.1.says ∙ l.invariant.version;
       kept = read.1.kept;
-      room = omega (arith, long, room, is, l.invariant.room);
+      in_half = omega (arith, long, in_half, is, l.invariant.in_half);
       free = read.1.size ∙ l.invariant.free;
     }

@@ -8,7 +8,7 @@ invariant-loop-size l = record {
   along : IsAlong (length l.initial.cases.free) l.initial.cases.version l.bytes (said_by l.cases) l.size;
   version : l.cases.version ≡ l.initial.cases.version;
   kept : AreKept l.cases;
-  room : l.size + 1 ≤ length l.bytes;
+  in_half : l.size + 1 ≤ length l.bytes;
   free : length l.cases.free ≡ length l.initial.cases.free;
 }
 

@@ -6,8 +6,8 @@ use Rattle.journal_records.proofs.SpellingLemmas.{resized_open}
 use Rattle.journal_records.proofs.spelling.spell_store.Goals as goal
 
 pub returns-in_err-reserve-clause-succeeds : goal.returns-in_err-reserve-clause-succeeds
-returns-in_err-reserve-clause-succeeds c room =
-    let ok = c.reserve.ensures.succeeds (omega (arith, room, c.short_size-size.ensures, c.clear.ensures.len, c.clear.ensures.capacity)) in
+returns-in_err-reserve-clause-succeeds c capacity_left =
+    let ok = c.reserve.ensures.succeeds (omega (arith, capacity_left, c.short_size-size.ensures, c.clear.ensures.len, c.clear.ensures.capacity)) in
     let no : false ≡ true = rw c.in_err-reserve.was at ok in
     absurd (cc)
 

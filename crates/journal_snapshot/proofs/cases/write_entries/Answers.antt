@@ -11,12 +11,12 @@ loop-entry-init g c = record {
   uncounted = refl;
 }
 
-pub write_entry-requires-clause-room : goal.write_entry-requires-clause-room
-write_entry-requires-clause-room g c =
+pub write_entry-requires-clause-in_half : goal.write_entry-requires-clause-in_half
+write_entry-requires-clause-in_half g c =
     let end = c.loop-entry.invariant.writes.end in
     let within = written_within c.args.change.now c.args.entries.now c.loop-entry.entry-index c.entry-item.result c.loop-entry-test.true c.entry-item.is in
     let size = c.loop-entry.invariant.writes.fills.size in
-    let room = c.requires.room in
+    let in_half = c.requires.in_half in
     omega arith
 
 pub returns-in_err-at-clause-writes : goal.returns-in_err-at-clause-writes

@@ -14,13 +14,13 @@ unwrap-requires g c = c.spell_store.ensures.succeeds (omega (arith, c.requires.c
 pub fill-requires : goal.fill-requires
 fill-requires g c =
     let same = c.deref.ensures.value ∙ rw c.unwrap.ensures at c.spell_store.ensures.record in
-    rw same c.requires.room
+    rw same c.requires.in_half
 
 pub overflow_add-result : goal.overflow_add-result
 overflow_add-result g c =
     let same = c.deref.ensures.value ∙ rw c.unwrap.ensures at c.spell_store.ensures.record in
     let long : c.len.result ≡ length (written c.args.seq c.args.entry.now c.args.pinned) = c.len.ensures ∙ sym c.deref.ensures.len ∙ ap length same in
-    let room = c.requires.room in
+    let in_half = c.requires.in_half in
     let addressed = g.met.D.Disk.addressed c.args.disk.now in
     omega arith
 

@@ -3,7 +3,7 @@ use Rattle.disk_model.specs.Places.{overwritten}
 use Rattle.disk_model.specs.MomentLaws.{stays, then_again}
 use Rattle.journal_layout.specs.Stands.{Stands}
 use Rattle.journal_snapshot.specs.FillLaws.{fills_of, fills_then, quiet_fills}
-use Rattle.journal_snapshot.specs.HoldLaws.{read_place, closing_moments, holds_on, reads_closed, closed_beside}
+use Rattle.journal_snapshot.specs.HoldLaws.{read_place, closing_moments, holds_on, reads_closed, closed_in_other_half}
 use Rattle.journal_snapshot.proofs.closing.close_half.Goals as goal
 
 pub returns-in_err-read_at-clause-any_moment : goal.returns-in_err-read_at-clause-any_moment
@@ -82,6 +82,6 @@ returns-in_ok-write_stable-clause-closed g c s place honest holds =
     let now = c.read_at.ensures.honesty ∙ honest in
     let kept = holds_on d s old mid (c.read_at.ensures.seen honest) (c.read_at.ensures.crash honest) holds in
     let stable = c.in_ok-write_stable.ensures.stable now in
-    closed_beside d s new (d.seen mid) (kept.stands (d.seen mid) (g.met.D.Disk.seen_may_stay mid now))
+    closed_in_other_half d s new (d.seen mid) (kept.stands (d.seen mid) (g.met.D.Disk.seen_may_stay mid now))
     (let long = g.met.D.Disk.whole mid now in let size = c.read_at.ensures.size in let within = c.requires in omega arith)
     stable.0 (stable.1 ∙ ap (λ (p : ℕ). overwritten (d.seen mid) p (0 ∷ [])) place)

@@ -32,21 +32,21 @@ pub returns-clause-any_moment : goal.returns-clause-any_moment
 returns-clause-any_moment g c s f is honest holds =
     let mid = c.close_half.ensures.fills.honesty ∙ honest in
     let now = c.fill_half.ensures.fills.honesty ∙ mid in
-    let beside = c.in_ok-close_half.ensures.closed s is.place honest holds in
+    let snapshot_end = c.in_ok-close_half.ensures.closed s is.place honest holds in
     then_again g.D.Disk c.args.disk.now c.fill_half.new.disk c.take_half.new.disk (λ b. Stands b s ⊎ Stands b (rewritten s f))
     (filled_moments g.D.Disk s f c.args.target c.args.change.now c.args.entries.now is c.args.disk.now c.close_half.new.disk c.fill_half.new.disk mid
-    (c.close_half.ensures.any_moment s is.place honest holds) beside c.fill_half.ensures.fills)
+    (c.close_half.ensures.any_moment s is.place honest holds) snapshot_end c.fill_half.ensures.fills)
     (c.take_half.ensures.any_moment s f is.place now
-    (half_ready g.D.Disk s f c.args.target c.args.change.now c.args.entries.now is c.close_half.new.disk c.fill_half.new.disk mid beside c.fill_half.ensures.fills (g.met.D.Disk.seen_may_stay c.fill_half.new.disk now)
+    (half_ready g.D.Disk s f c.args.target c.args.change.now c.args.entries.now is c.close_half.new.disk c.fill_half.new.disk mid snapshot_end c.fill_half.ensures.fills (g.met.D.Disk.seen_may_stay c.fill_half.new.disk now)
     (c.in_ok-fill_half.ensures.there mid) (c.in_ok-fill_half.ensures.settled mid)))
 
 pub returns-clause-taken : goal.returns-clause-taken
 returns-clause-taken g c s f is honest holds =
     let mid = c.close_half.ensures.fills.honesty ∙ honest in
     let now = c.fill_half.ensures.fills.honesty ∙ mid in
-    let beside = c.in_ok-close_half.ensures.closed s is.place honest holds in
+    let snapshot_end = c.in_ok-close_half.ensures.closed s is.place honest holds in
     c.take_half.ensures.taken s f is.place now
-    (half_ready g.D.Disk s f c.args.target c.args.change.now c.args.entries.now is c.close_half.new.disk c.fill_half.new.disk mid beside c.fill_half.ensures.fills (g.met.D.Disk.seen_may_stay c.fill_half.new.disk now)
+    (half_ready g.D.Disk s f c.args.target c.args.change.now c.args.entries.now is c.close_half.new.disk c.fill_half.new.disk mid snapshot_end c.fill_half.ensures.fills (g.met.D.Disk.seen_may_stay c.fill_half.new.disk now)
     (c.in_ok-fill_half.ensures.there mid) (c.in_ok-fill_half.ensures.settled mid))
 
 pub returns-clause-written : goal.returns-clause-written

@@ -10,8 +10,8 @@ use Rattle.case_journal.proofs.KeptLemmas.{kept_stored}
 use Rattle.case_journal.proofs.PutLemmas.{nothing_runs, place_lies}
 use Rattle.case_journal.proofs.journal.Journal.append_store.Goals as goal
 
-pub room_for-requires-clause-size : goal.room_for-requires-clause-size
-room_for-requires-clause-size g c = c.store_size-size.ensures c.args.self.now.standing.next
+pub check_fit-requires-clause-size : goal.check_fit-requires-clause-size
+check_fit-requires-clause-size g c = c.store_size-size.ensures c.args.self.now.standing.next
 
 pub returns-in-Err-clause-any_moment : goal.returns-in-Err-clause-any_moment
 returns-in-Err-clause-any_moment g c honest runs =

@@ -7,12 +7,12 @@ use Rattle.case_journal.specs.Journaled.{Journaled}
 use Rattle.case_journal.proofs.PutLemmas.{nothing_runs}
 use Rattle.case_journal.proofs.journal.Journal.put_drop.Goals as goal
 
-pub put_beside-requires-clause-live : goal.put_beside-requires-clause-live
-put_beside-requires-clause-live g c = live_dropped _ _ _ c.args.seqs.now (subst (λ (j : Journaled). AreLive j.standing.shape.data_blocks j.standing.cases j.standing.next) c.self.view_is c.self.invariant.live)
+pub put_snapshot-requires-clause-live : goal.put_snapshot-requires-clause-live
+put_snapshot-requires-clause-live g c = live_dropped _ _ _ c.args.seqs.now (subst (λ (j : Journaled). AreLive j.standing.shape.data_blocks j.standing.cases j.standing.next) c.self.view_is c.self.invariant.live)
 
 pub returns-in_err-record-clause-run : goal.returns-in_err-record-clause-run
 returns-in_err-record-clause-run g c = nothing_runs g.D.Disk c.args.disk.now c.args.self.now (Drop c.args.seqs.now) (g.met.D.Disk.only_now c.args.disk.now) c.requires.keeps c.requires.runs
 
-pub put_beside-requires-clause-labels : goal.put_beside-requires-clause-labels
-put_beside-requires-clause-labels g c =
+pub put_snapshot-requires-clause-labels : goal.put_snapshot-requires-clause-labels
+put_snapshot-requires-clause-labels g c =
     labelled_dropped _ c.args.seqs.now _ (subst (λ (j : Journaled). AreLabelled j.standing.version j.standing.cases) c.self.view_is c.self.invariant.labels)

@@ -5,9 +5,9 @@ use Rattle.journal_layout.specs.LabelledLaws.{labelled_two}
 use Rattle.case_journal.specs.Journaled.{Journaled}
 use Rattle.case_journal.proofs.journal.Journal.put_label.Goals as goal
 
-pub put_beside-requires-clause-live : goal.put_beside-requires-clause-live
-put_beside-requires-clause-live g c =
+pub put_snapshot-requires-clause-live : goal.put_snapshot-requires-clause-live
+put_snapshot-requires-clause-live g c =
     live_labelled _ _ _ c.args.seq c.args.label.now.items (subst (λ (j : Journaled). AreLive j.standing.shape.data_blocks j.standing.cases j.standing.next) c.self.view_is c.self.invariant.live) c.requires.sound.3
 
-pub put_beside-requires-clause-labels : goal.put_beside-requires-clause-labels
-put_beside-requires-clause-labels g c = labelled_two _ _ c.requires.sound.0
+pub put_snapshot-requires-clause-labels : goal.put_snapshot-requires-clause-labels
+put_snapshot-requires-clause-labels g c = labelled_two _ _ c.requires.sound.0

@@ -5,9 +5,9 @@ use Rattle.journal_layout.specs.LiveLaws.{live_pinned}
 use Rattle.case_journal.specs.Journaled.{Journaled}
 use Rattle.case_journal.proofs.journal.Journal.put_pin.Goals as goal
 
-pub put_beside-requires-clause-live : goal.put_beside-requires-clause-live
-put_beside-requires-clause-live g c = live_pinned _ _ _ c.args.seq c.args.flag (subst (λ (j : Journaled). AreLive j.standing.shape.data_blocks j.standing.cases j.standing.next) c.self.view_is c.self.invariant.live)
+pub put_snapshot-requires-clause-live : goal.put_snapshot-requires-clause-live
+put_snapshot-requires-clause-live g c = live_pinned _ _ _ c.args.seq c.args.flag (subst (λ (j : Journaled). AreLive j.standing.shape.data_blocks j.standing.cases j.standing.next) c.self.view_is c.self.invariant.live)
 
-pub put_beside-requires-clause-labels : goal.put_beside-requires-clause-labels
-put_beside-requires-clause-labels g c =
+pub put_snapshot-requires-clause-labels : goal.put_snapshot-requires-clause-labels
+put_snapshot-requires-clause-labels g c =
     labelled_pinned _ c.args.seq c.args.flag _ (subst (λ (j : Journaled). AreLabelled j.standing.version j.standing.cases) c.self.view_is c.self.invariant.labels)

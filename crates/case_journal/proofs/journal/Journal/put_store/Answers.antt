@@ -8,8 +8,8 @@ use Rattle.case_journal.proofs.PutLemmas.{nothing_runs}
 use Rattle.case_journal.proofs.journal.Journal.put_store.Goals as goal
 use Rattle.journal_layout.specs.Case.{case_of, numbered}
 
-pub put_beside-requires-clause-live : goal.put_beside-requires-clause-live
-put_beside-requires-clause-live g c =
+pub put_snapshot-requires-clause-live : goal.put_snapshot-requires-clause-live
+put_snapshot-requires-clause-live g c =
     let sound = c.requires.sound in
     live_stored _ _ _ (numbered c.args.seq (case_of c.args.entry.now)) (subst (λ (j : Journaled). AreLive j.standing.shape.data_blocks j.standing.cases j.standing.next) c.self.view_is c.self.invariant.live) sound.0 sound.1 sound.2
 
@@ -17,6 +17,6 @@ pub returns-in_err-record-clause-run : goal.returns-in_err-record-clause-run
 returns-in_err-record-clause-run g c =
     nothing_runs g.D.Disk c.args.disk.now c.args.self.now (Store (numbered c.args.seq (case_of c.args.entry.now))) (g.met.D.Disk.only_now c.args.disk.now) c.requires.keeps c.requires.runs
 
-pub put_beside-requires-clause-labels : goal.put_beside-requires-clause-labels
-put_beside-requires-clause-labels g c =
+pub put_snapshot-requires-clause-labels : goal.put_snapshot-requires-clause-labels
+put_snapshot-requires-clause-labels g c =
     labelled_stored _ _ (numbered c.args.seq (case_of c.args.entry.now)) (subst (λ (j : Journaled). AreLabelled j.standing.version j.standing.cases) c.self.view_is c.self.invariant.labels) c.requires.sound.2.no_label

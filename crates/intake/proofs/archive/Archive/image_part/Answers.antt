@@ -13,7 +13,7 @@ use Rattle.intake.specs.Sound.{case_blocks}
 use Rattle.intake.specs.Step.{ImageStep}
 use Rattle.intake.proofs.ImageLemmas.{case_lies, read_moments, sound_read, sound_unread, has_case, image_refused, bytes_same, bytes_refused, bytes_of_case, long_as}
 use Rattle.intake.proofs.NameLemmas.{taken_still}
-use Rattle.intake.proofs.PartLemmas.{only_disk, not_memory, disk_spares, room_for, part_in_image, image_long}
+use Rattle.intake.proofs.PartLemmas.{only_disk, not_memory, disk_spares, part_fits, part_in_image, image_long}
 use Rattle.intake.proofs.archive.Archive.image_part.Goals as goal
 
 pub returns-in_default : goal.returns-in_default
@@ -42,7 +42,7 @@ read_part-requires-clause-room g c =
     let all : case_blocks c.self.inside.journal.standing.cases ≤ c.self.inside.journal.standing.shape.data_blocks = (let t = running.total in omega (arith, t)) in
     let lies = case_lies c.self.inside.journal.standing.shape.data_blocks c.self.inside.journal.standing.cases c.self.inside.journal.standing.next c.args.seq (case_of c.in-Some.stored.now) running.cases all c.in-Some.ensures in
     let fits = c.requires (case_of c.in-Some.stored.now) (subst (λ (a : Parts g.row.D.Denot). case_numbered c.args.seq (state_of a).cases ≡ Some (case_of c.in-Some.stored.now)) c.self.view_is (has_case g.D.Disk.seen c.self.inside.disk c.self.inside.disk c.self.inside.journal c.self.inside.settings.limit c.self.inside.slots c.self.inside.slots c.self.inside.stopped c.self.inside.stopped c.args.seq (case_of c.in-Some.stored.now) c.if-self.false c.in-Some.ensures).1) in
-    room_for c.self.inside.journal.standing.shape.data_blocks c.args.at (length c.args.into.now) c.in-Some.stored.now.length c.runs.result.now c.in-Some.stored.now.runs c.runs.ensures.shortest lies fits
+    part_fits c.self.inside.journal.standing.shape.data_blocks c.args.at (length c.args.into.now) c.in-Some.stored.now.length c.runs.result.now c.in-Some.stored.now.runs c.runs.ensures.shortest lies fits
 
 pub invariant_of-self : goal.invariant_of-self
 invariant_of-self g c =

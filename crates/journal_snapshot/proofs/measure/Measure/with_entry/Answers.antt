@@ -21,4 +21,4 @@ pub returns-in-None : goal.returns-in-None
 returns-in-None c =
     let text : List ℕ = label_after c.args.change.now (case_of c.args.entry.now) in
     grows_nothing c.args.self (written_entry c.args.change.now c.args.entry.now) c.args.half
-    (ap (λ (o : Option Bool). written_flag c.args.entry.now o text) (sym c.in-None.is ∙ c.flag_of.ensures)) c.requires.room
+    (ap (λ (o : Option Bool). written_flag c.args.entry.now o text) (sym c.in-None.is ∙ c.flag_of.ensures)) c.requires.in_half

@@ -1,0 +1,37 @@
+-- How it is told that an archive could not be looked at, or that an image was not copied while others may change it.
+use Rattle.disk_model.specs.declared.file_disk.FileFault.{FileFault}
+use Rattle.disk_model.specs.declared.file_disk.FileFault.TheVariants as file
+use Rattle.inspector_cli.specs.declared.copying.CopyFault.{CopyFault}
+use Rattle.inspector_cli.specs.declared.copying.CopyFault.TheVariants as copy
+use Rattle.inspector_cli.specs.declared.session.SessionFault.TheVariants.{WriteFailed}
+use Rattle.intake.specs.declared.faults.ArchiveFault.TheVariants.{Disk, NoCase}
+use Rattle.shared_disk.specs.declared.shared.LookFault.{LookFault}
+use Rattle.shared_disk.specs.declared.shared.LookFault.TheVariants as look
+use Rattle.unlocked_reading.specs.declared.faults.UnlockedFault.{UnlockedFault}
+use Rattle.unlocked_reading.specs.declared.faults.UnlockedFault.TheVariants as unlocked
+use Rattle.archive_files.specs.declared.failures.Failure.{Failure}
+use Rattle.archive_files.specs.declared.failures.Failure.TheVariants.{Aside, Faulted}
+use Rattle.archive_files.specs.declared.failures.FileWord.TheVariants.{Archive}
+use Rattle.archive_files.specs.declared.failures.Refusal.TheVariants.{File, Open, Call}
+
+abbrev pub look_fault : LookFault → FileFault
+look_fault look.Busy = file.Busy
+look_fault look.Lock = file.Lock
+look_fault look.Read = file.Settle
+look_fault look.OutOfMemory = file.OutOfMemory
+
+-- What is refused of an image goes to the errors, beside the image.
+abbrev pub copy_told : CopyFault → Failure
+copy_told (copy.Open f) = Aside (Open f)
+copy_told (copy.Archive f) = Aside (Call f)
+copy_told copy.Disk = Aside (Call Disk)
+copy_told copy.Output = Faulted WriteFailed
+
+-- A case that is gone is told as one that was never there.
+abbrev pub unlocked_told : UnlockedFault → Failure
+unlocked_told (unlocked.Open f) = Aside (Open f)
+unlocked_told (unlocked.Archive f) = Aside (Call f)
+unlocked_told (unlocked.Copy f) = copy_told f
+unlocked_told (unlocked.Look f) = Aside (File Archive (look_fault f))
+unlocked_told (unlocked.Reopen f) = Aside (Open f)
+unlocked_told unlocked.Gone = Aside (Call NoCase)

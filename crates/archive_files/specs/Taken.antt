@@ -1,0 +1,28 @@
+-- What is done over the archive on a disk that was taken from its file, or why it was not taken.
+use Rattle.std.specs.Prelude.{◌≡◌, ℕ, List, Option, Some, None, Result, Ok, Err}
+use Rattle.disk_model.specs.declared.disk.Disk as disk
+use Rattle.disk_model.specs.declared.file_disk.FileFault.{FileFault}
+use Rattle.archive_files.specs.declared.failures.Failure.{Failure}
+use Rattle.archive_files.specs.declared.failures.Failure.TheVariants.{Refused}
+use Rattle.archive_files.specs.declared.failures.FileWord.TheVariants as word
+use Rattle.archive_files.specs.declared.failures.Refusal.{Refusal}
+use Rattle.archive_files.specs.declared.failures.Refusal.TheVariants.{File}
+use Rattle.archive_files.specs.declared.storing.StoreRequest.{StoreRequest}
+use Rattle.archive_files.specs.OverDisks.{LooksOnDisk, StoresFile}
+
+-- A file is stored in the archive on the disk that was taken, and the disk is handed on. Where none was, that is told, and the output
+-- is not touched.
+abbrev pub StoresTaken : {D : Type 0} → disk.Ghosts D → StoreRequest → Option (List ℕ) → Option (List ℕ) → Option (List ℕ) → ℕ → ℕ → Result D Refusal → Result (Unit {0}) Failure → Option D → Type 0
+StoresTaken {D} g request file taken taken' lost lost' (Ok before) r left = (after : D) × (left ≡ Some after) × StoresFile g request file taken taken' lost lost' before r after
+StoresTaken g request file taken taken' lost lost' (Err refusal) r left = (r ≡ Err (Refused refusal)) × (left ≡ None) × (taken' ≡ taken) × (lost' ≡ lost)
+
+-- what is told where a file is at fault, and this was found of its archive: what is wrong with the archive comes first
+abbrev pub refused_after : Result (Unit {0}) Refusal → FileFault → Result (Unit {0}) Failure
+refused_after (Ok u) fault = Err (Refused (File word.File fault))
+refused_after (Err refusal) fault = Err (Refused refusal)
+
+-- A file at fault is refused: the archive on the disk that was taken is opened, and no more.
+abbrev pub RefusesTaken : {D : Type 0} → disk.Ghosts D → ℕ → FileFault → Result D Refusal → Result (Unit {0}) Failure → Option D → Type 0
+RefusesTaken {D} g limit fault (Ok before) r left =
+    (after : D) × (looked : Result (Unit {0}) Refusal) × (left ≡ Some after) × LooksOnDisk g limit before looked after × (r ≡ refused_after looked fault)
+RefusesTaken g limit fault (Err refusal) r left = (r ≡ Err (Refused refusal)) × (left ≡ None)

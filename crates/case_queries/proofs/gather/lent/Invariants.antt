@@ -1,8 +1,0 @@
-use Rattle.std.proofs.Common.{◌≡◌, take, map}
-use Rattle.memory_replies.specs.Memory.{attached_view}
-use Rattle.case_queries.specs.GatheringWords.{executable_view}
-use Rattle.case_queries.proofs.gather.lent.Given as goal
-
--- those that went by
-abbrev pub invariant-loop-executable : goal.invariant-loop-executable
-invariant-loop-executable l = map attached_view l.all.items ≡ map executable_view (take l.executable-index l.executables)

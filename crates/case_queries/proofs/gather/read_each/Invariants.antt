@@ -1,8 +1,0 @@
-use Rattle.std.proofs.Common.{drop, map}
-use Rattle.case_queries.specs.GatheringWords.{executable_view, wanted_view}
-use Rattle.case_queries.proofs.GatherLemmas.{GoesOn}
-use Rattle.case_queries.proofs.gather.read_each.Given as goal
-
--- what comes of those that are left is what comes of all, behind those that are read
-abbrev pub invariant-loop-case : goal.invariant-loop-case
-invariant-loop-case g l = GoesOn g.D.Disk l.initial.archive (map wanted_view l.wanted) (map executable_view l.found.items) l.archive (map wanted_view (drop l.case-index l.wanted))

@@ -1,0 +1,52 @@
+-- The executables that a line over memory reads beside its core: those whose names the core's NT_FILE has.
+use Rattle.std.specs.Prelude.{◌≡◌, ◌⊎◌, ◌&&◌, ℕ, Bool, true, false, List, [], ◌∷◌, filter, map, Result, Ok, Err, MatchResult}
+use Rattle.address_space.specs.Source.{ExecutableView}
+use Rattle.disk_model.specs.declared.disk.Disk as disk
+use Rattle.intake.specs.Parts.{Parts}
+use Rattle.intake.specs.declared.faults.ArchiveFault.{ArchiveFault}
+use Rattle.intake.specs.declared.faults.ArchiveFault.TheVariants.{OutOfMemory}
+use Rattle.journal_layout.specs.Case.{Case}
+use Rattle.journal_layout.specs.declared.entry.Kind.{Kind}
+use Rattle.journal_layout.specs.declared.entry.Kind.TheVariants.{Core, Exec}
+use Rattle.memory_replies.specs.Memory.{is_mapped}
+use Rattle.case_queries.specs.Seeing.{LooksAt}
+
+abbrev pub is_exec : Kind → Bool
+is_exec Core = false
+is_exec Exec = true
+
+-- a stored executable whose name the core's NT_FILE has
+abbrev pub is_wanted : List ℕ → Case → Bool
+is_wanted b c = is_exec c.kind && is_mapped b c.name
+
+-- the number and the name of an executable that is read
+abbrev pub Wanted : Type 0
+Wanted = ℕ × List ℕ
+
+abbrev pub wanted_case : Case → Wanted
+wanted_case c = (c.seq, c.name)
+
+-- those that are read for a core, in the order of the cases
+abbrev pub wanted_of : List ℕ → List Case → List Wanted
+wanted_of b cases = map wanted_case (filter (is_wanted b) cases)
+
+-- an executable, and those behind it
+abbrev pub with_executable : List ℕ → List ℕ → Result (List ExecutableView) ArchiveFault → Result (List ExecutableView) ArchiveFault
+with_executable path image (Ok others) = Ok (record { path = path; image = image } ∷ others)
+with_executable path image (Err f) = Err f
+
+-- there is no memory to hold them
+abbrev pub RunsShort : {D : Type 0} → Parts D → Result (List ExecutableView) ArchiveFault → Parts D → Type 0
+RunsShort old r new = (r ≡ Err OutOfMemory) × (new ≡ old)
+
+-- They are read one after the other, to the last, or to the first that can't be read or held.
+abbrev pub Collects : {D : Type 0} → disk.Ghosts D → Parts D → List Wanted → Result (List ExecutableView) ArchiveFault → Parts D → Type 0
+Collects g old [] r new = (r ≡ Ok []) × (new ≡ old)
+Collects {D} g old (x ∷ xs) r new =
+    (one : Result (List ℕ) ArchiveFault) × (mid : Parts D) × LooksAt g old x.0 one mid
+    × MatchResult one
+    (λ image. RunsShort mid r new ⊎ ((others : Result (List ExecutableView) ArchiveFault) × Collects g mid xs others new × (r ≡ with_executable x.1 image others)))
+    (λ f. (r ≡ Err f) × (new ≡ mid))
+
+abbrev pub CollectsAll : {D : Type 0} → disk.Ghosts D → Parts D → List Wanted → Result (List ExecutableView) ArchiveFault → Parts D → Type 0
+CollectsAll g old xs r new = RunsShort old r new ⊎ Collects g old xs r new

@@ -1,0 +1,5 @@
+pub mod Meanwhile
+pub mod Steady
+pub mod SteadyLaws
+pub mod Front
+pub mod Looks

@@ -1,0 +1,12 @@
+//! A disk that others change while it is read: looked at under its lock, and read between two looks without it.
+#![tactic(auto)]
+
+mod looked;
+mod shared;
+mod shared_file;
+mod unlocked;
+
+pub use looked::Looked;
+pub use shared::{LookFault, SharedDisk};
+pub use shared_file::SharedFile;
+pub use unlocked::Unlocked;

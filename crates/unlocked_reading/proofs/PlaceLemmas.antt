@@ -1,0 +1,85 @@
+-- Several cases that are read between two looks.
+use Rattle.std.proofs.Common.{◌≡◌, ◌∙◌, ◌++◌, ◌&&◌, ℕ, Bool, true, List, [], ◌∷◌, length, refl, sym, ap, subst, Ok, IsTrue, Some}
+use Rattle.std.proofs.lemmas.Grind.{flat_map-append}
+use Rattle.std.specs.List.{AllByRecursion, list_all}
+use Rattle.disk_model.specs.Places.{part}
+use Rattle.disk_model.specs.declared.disk.Disk as disk
+use Rattle.intake.specs.Blocks.{image_in}
+use Rattle.intake.specs.Calls.{OpenCall}
+use Rattle.intake.specs.Durable.{Durable, FoundCase, StandsFor, found_case}
+use Rattle.intake.specs.InTurn.{ACaseIsThereBetween, last_state}
+use Rattle.intake.specs.Lasting.{NumbersAreAbove}
+use Rattle.intake.specs.Lives.{IsAmong}
+use Rattle.intake.specs.Parts.{Parts, state_of}
+use Rattle.intake.specs.Ranges.{Locates, bytes_in}
+use Rattle.intake.specs.declared.ranges.ByteRange.{ByteRange}
+use Rattle.journal_layout.specs.Standing.{Standing}
+use Rattle.journal_layout.specs.declared.shape.Shape.{Shape}
+use Rattle.shared_disk.specs.Meanwhile.{IsHeld}
+use Rattle.shared_disk.specs.Steady.{are_steady}
+use Rattle.shared_disk.specs.SteadyLaws.{both_first, both_second, steady_from}
+use Rattle.shared_disk.specs.declared.shared.SharedDisk as shared
+use Rattle.unlocked_reading.specs.Finding.{has_number}
+use Rattle.unlocked_reading.specs.History.{HasEach, HoldsArchive, IsNumbered}
+use Rattle.unlocked_reading.specs.Places.{CoversCases, IsSameIn, IsThere}
+use Rattle.unlocked_reading.proofs.CopyLemmas.{first_between, is_found, numbered_there, opened_holds, opened_stands, stands_for}
+
+all_then : {X : Type 0} (P : X → Type 0) (xs : List X) (y : X) → AllByRecursion P xs → P y → AllByRecursion P (xs ++ y ∷ [])
+all_then P [] y all here = (here, tt)
+all_then P (x ∷ xs) y all here = (all.0, all_then P xs y all.1 here)
+
+all_front : {X : Type 0} (P : X → Type 0) (xs : List X) (y : X) → AllByRecursion P (xs ++ y ∷ []) → AllByRecursion P xs × P y
+all_front P [] y all = (tt, all.0)
+all_front P (x ∷ xs) y all = let rest = all_front P xs y all.1 in ((all.0, rest.0), rest.1)
+
+pub covers_none : {D : Type 0} (g : disk.Ghosts D) (a : Parts D) → CoversCases g a [] []
+covers_none g a = record { there = tt; same = λ b c long same all. refl }
+
+-- one case more
+pub covers_more : {D : Type 0} (g : disk.Ghosts D) (a : Parts D) (numbers : List ℕ) (ranges : List ByteRange) (seq : ℕ) (more : List ByteRange) → CoversCases g a numbers ranges → Locates g a seq more
+    → CoversCases g a (numbers ++ seq ∷ []) (ranges ++ more)
+covers_more g a numbers ranges seq more covers locates = record {
+  there = all_then (IsThere (state_of a)) numbers seq covers.there (locates.found, locates.has);
+  same = λ b c long same all.
+      let parts = all_front (IsSameIn (state_of a) b c) numbers seq all in
+      flat_map-append (λ (r : ByteRange). part b r.start r.length) ranges more
+      ∙ ap (λ (l : List ℕ). l ++ bytes_in b more) (covers.same b c long same parts.0)
+      ∙ ap (λ (l : List ℕ). bytes_in c ranges ++ l) (locates.places b long ∙ parts.1 locates.found locates.has ∙ sym (locates.places c same))
+      ∙ sym (flat_map-append (λ (r : ByteRange). part c r.start r.length) ranges more);
+}
+
+-- all that are looked for are there
+pub each_there : {D : Type 0} (U : disk.Ghosts D) (before : D) (b : List ℕ) (x : Durable) (a : Parts D) (numbers : List ℕ) → IsTrue (U.is_honest before) → U.seen before ≡ b → OpenCall U 0 before (Ok a) → StandsFor b x
+    → list_all (has_number (state_of a)) numbers ≡ true → HasEach x numbers
+each_there U before b x a [] honest seen call stands all = tt
+each_there U before b x a (n ∷ ns) honest seen call stands all = (
+  numbered_there U before b x a n honest seen call stands (sym (both_first (has_number (state_of a) n) (list_all (has_number (state_of a)) ns) all)),
+  each_there U before b x a ns honest seen call stands (both_second (has_number (state_of a) n) (list_all (has_number (state_of a)) ns) all),
+)
+
+module _ {S : Type 0} (g : shared.Ghosts S) (s : S) (whole : IsTrue (g.is_honest s) → length (g.looked s) ≡ g.size s) (lists : (c : List ℕ) → IsTrue (g.is_honest s) → IsHeld (g.meanwhile s) c → length c ≡ g.size s)
+    (numbers : NumbersAreAbove) (law : ACaseIsThereBetween) {D : Type 0} (U : disk.Ghosts D) (first : D) (honest0 : IsTrue (g.is_honest s) → IsTrue (U.is_honest first)) (seen0 : U.seen first ≡ g.looked s) (size0 : U.size first ≡ g.size s)
+    (a : Parts D) (call : OpenCall U 0 first (Ok a)) (shape : Shape) (x : Durable) (ys : List Durable) (honest : IsTrue (g.is_honest s)) (holds : HoldsArchive g s shape x ys) where
+  -- the images of a case that is there at both looks
+  one_same : (l : List ℕ) → IsHeld (g.meanwhile s) l → (n : ℕ) → (d : FoundCase) × IsNumbered (last_state x ys) n d → IsSameIn (state_of a) l (g.looked s) n
+  one_same l held n later k has =
+      let shown = U.seen a.disk in
+      let found = is_found a.journal.standing.shape shown a.journal.standing.cases n k has.1 in
+      let c = found_case a.journal.standing.shape shown k in
+      let there : IsAmong x.cases c = subst (λ (y : Durable). IsAmong y.cases c) (opened_holds U first (g.looked s) shape x (honest0 honest) seen0 holds.first a call) found.0 in
+      let both = law x ys c later.0 (numbers (g.looked s) x (stands_for shape (g.looked s) x holds.first)) holds.turn there later.1.0 (later.1.1 ∙ sym found.1) in
+      let at = holds.each l held in
+      let same : a.journal.standing.shape ≡ shape = ap (λ (z : Standing). z.shape) (opened_stands U first (g.looked s) shape x (honest0 honest) seen0 holds.first a call) ∙ holds.first.shaped in
+      ap (λ (z : Shape). image_in z l k.blocks k.len) same
+      ∙ (both.1 at.0 shape l at.1 at.2).image
+      ∙ sym (both.1 x shape (g.looked s) (first_between x ys) holds.first).image
+      ∙ sym (ap (λ (z : Shape). image_in z (g.looked s) k.blocks k.len) same)
+
+  each_same : (l : List ℕ) → IsHeld (g.meanwhile s) l → (ns : List ℕ) → HasEach (last_state x ys) ns → AllByRecursion (IsSameIn (state_of a) l (g.looked s)) ns
+  each_same l held [] later = tt
+  each_same l held (n ∷ ns) later = (one_same l held n later.0, each_same l held ns later.1)
+
+  pub all_steady : (ns : List ℕ) (ranges : List ByteRange) → CoversCases U a ns ranges → HasEach (last_state x ys) ns → are_steady ranges (g.looked s) (g.meanwhile s) ≡ true
+  all_steady ns ranges covers later =
+      steady_from ranges (g.looked s) (g.meanwhile s)
+      (λ l held. covers.same l (g.looked s) (lists l honest held ∙ sym (call.size ∙ size0)) (whole honest ∙ sym (call.size ∙ size0)) (each_same l held ns later))

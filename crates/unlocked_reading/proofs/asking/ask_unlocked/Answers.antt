@@ -1,0 +1,57 @@
+use Rattle.std.proofs.Common.{◌≡◌, ◌∙◌, ap, subst, sym, List, ℕ, Ok, Err}
+use Rattle.std.proofs.lemmas.Result.{err_from_is_err_and}
+use Rattle.shared_disk.specs.SteadyLaws.{none_steady}
+use Rattle.unlocked_reading.specs.Asking.{LeavesAllThere}
+use Rattle.unlocked_reading.specs.History.{HasEach}
+use Rattle.intake.specs.InTurn.{last_state}
+use Rattle.script_lines.specs.Commands.{question_said}
+use Rattle.unlocked_reading.proofs.AskLemmas.{as_answered, refused_first, refused_last}
+use Rattle.unlocked_reading.proofs.CopyLemmas.{honest_with, stands_for}
+use Rattle.unlocked_reading.proofs.PlaceLemmas.{all_steady}
+use Rattle.unlocked_reading.proofs.asking.ask_unlocked.Goals as goal
+
+pub returns-in_err-places : goal.returns-in_err-places
+returns-in_err-places g c =
+    let O = g.O.Output in
+    let p = err_from_is_err_and c.from_residual.result c.from_residual.ensures.1 in
+    rw (p.1, p.2)
+    (refused_first g.S.SharedDisk _ c.args.looked.shared (question_said c.args.question) (O.taken c.args.output.now) (O.failures c.args.output.now) c.unlocked.result c.in_err-places.field-0.0 c.in_err-places.ensures)
+
+pub returns-in_err-stay-in-Ok : goal.returns-in_err-stay-in-Ok
+returns-in_err-stay-in-Ok g c =
+    let O = g.O.Output in
+    let S = g.S.SharedDisk in
+    let p = err_from_is_err_and c.from_residual-in_err-stay-in-Ok.result c.from_residual-in_err-stay-in-Ok.ensures.1 in
+    rw (p.1, p.2)
+    (refused_last S _ c.args.looked.shared (question_said c.args.question) (O.taken c.args.output.now) (O.taken c.open_and_ask-asked.new.output) (O.failures c.args.output.now) (O.failures c.open_and_ask-asked.new.output)
+    c.deref.result.now c.in_err-stay-in-Ok.field-0.0 c.in_err-stay-in-Ok.ensures)
+
+pub returns-in_ok-stay-in-Ok : goal.returns-in_ok-stay-in-Ok
+returns-in_ok-stay-in-Ok g c =
+    let O = g.O.Output in
+    let S = g.S.SharedDisk in
+    let s = c.args.looked.shared in
+    let finds = c.in_ok-places.ensures in (
+      c.unlocked-disk.result,
+      c.unlocked-disk.ensures.under,
+      as_answered _ (question_said c.args.question) (O.taken c.args.output.now) (O.taken c.open_and_ask-asked.new.output) (O.failures c.args.output.now) (O.failures c.open_and_ask-asked.new.output)
+          c.unlocked-disk.result c.open_and_ask-asked.result.1 c.open_and_ask-asked.result.0 (Ok c.in-Ok.is_done) c.open_and_ask-asked.ensures.outcome c.in-Ok.is,
+      λ shape x ys honest holds.
+          let again = subst (λ (y : _). LeavesAllThere S y c.deref.result.now (Ok c.in_ok-stay-in-Ok.field-0)) c.into_shared.ensures c.in_ok-stay-in-Ok.ensures honest in
+          let later = subst (λ (ns : List ℕ). HasEach (last_state x ys) ns) c.deref.ensures.value (again.2 (last_state x ys) (stands_for shape again.0 (last_state x ys) (holds.last again.0 again.1))) in
+          honest_with S c.unlocked-disk.result s _ c.unlocked-disk.ensures.under c.unlocked-disk.ensures.ranges honest
+          (all_steady S s (g.met.S.SharedDisk.whole s) (λ b real held. g.met.S.SharedDisk.lists s b real held) c.the_next_number_is_above.ensures c.a_case_is_there_between.ensures
+          _ c.unlocked.result
+          (λ real. honest_with S c.unlocked.result s _ c.unlocked.ensures.under (c.unlocked.ensures.ranges ∙ c.new.ensures.items) real (none_steady (S.looked s) (S.meanwhile s)))
+          (ap S.looked c.unlocked.ensures.under) (ap S.size c.unlocked.ensures.under) finds.0 finds.1 shape x ys honest holds
+          c.in_ok-places.places.numbers.items c.in_ok-places.places.ranges.items finds.2 later),
+    )
+
+pub returns-in-Err : goal.returns-in-Err
+returns-in-Err g c =
+    let O = g.O.Output in (
+      c.unlocked-disk.result,
+      c.unlocked-disk.ensures.under,
+      as_answered _ (question_said c.args.question) (O.taken c.args.output.now) (O.taken c.open_and_ask-asked.new.output) (O.failures c.args.output.now) (O.failures c.open_and_ask-asked.new.output)
+          c.unlocked-disk.result c.open_and_ask-asked.result.1 c.open_and_ask-asked.result.0 (Err c.in-Err.fault) c.open_and_ask-asked.ensures.outcome c.in-Err.is,
+    )

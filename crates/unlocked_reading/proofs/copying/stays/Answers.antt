@@ -1,0 +1,32 @@
+use Rattle.std.proofs.Common.{◌∙◌, ap, sym}
+use Rattle.shared_disk.specs.SteadyLaws.{none_steady}
+use Rattle.unlocked_reading.proofs.CopyLemmas.{honest_with, numbered_nowhere, numbered_there}
+use Rattle.unlocked_reading.proofs.copying.stays.Goals as goal
+
+pub returns-then-branch : goal.returns-then-branch
+returns-then-branch g c honest =
+    let S = g.S.SharedDisk in
+    let looks = c.in-Ok.ensures.looks in
+    let s = c.in-Ok.again.shared in
+    let finds = c.in_ok-has_case.ensures in (
+      S.looked s,
+      looks.next honest,
+      λ z stands.
+          numbered_there _ c.unlocked.result (S.looked s) z finds.0 c.args.seq
+          (honest_with S c.unlocked.result s _ c.unlocked.ensures.under (c.unlocked.ensures.ranges ∙ c.new.ensures.items) (looks.honesty ∙ honest) (none_steady (S.looked s) (S.meanwhile s)))
+          (ap S.looked c.unlocked.ensures.under) finds.1 stands (sym c.if-branch.true ∙ finds.2),
+    )
+
+pub returns : goal.returns
+returns g c honest =
+    let S = g.S.SharedDisk in
+    let looks = c.in-Ok.ensures.looks in
+    let s = c.in-Ok.again.shared in
+    let finds = c.in_ok-has_case.ensures in (
+      S.looked s,
+      looks.next honest,
+      λ z stands.
+          numbered_nowhere _ c.unlocked.result (S.looked s) z finds.0 c.args.seq
+          (honest_with S c.unlocked.result s _ c.unlocked.ensures.under (c.unlocked.ensures.ranges ∙ c.new.ensures.items) (looks.honesty ∙ honest) (none_steady (S.looked s) (S.meanwhile s)))
+          (ap S.looked c.unlocked.ensures.under) finds.1 stands finds.1.state.runs (sym c.if-branch.false ∙ finds.2),
+    )

@@ -1,0 +1,5 @@
+pub mod Finding
+pub mod History
+pub mod Copying
+pub mod Places
+pub mod Asking

@@ -1,0 +1,52 @@
+// Why what is read beside others was not read.
+use inspector_cli::{CopyFault, LifeFault};
+use intake::ArchiveFault;
+use journal_layout::OpenFault;
+use shared_disk::LookFault;
+use thiserror::Error;
+
+/// Why an image was not copied, or not whole.
+#[derive(Clone, Copy, Debug, Error)]
+pub enum UnlockedFault {
+    /// The archive could not be opened. Nothing was written.
+    #[error(transparent)]
+    Open(OpenFault),
+    /// The archive has no such case, or there was no memory. Nothing was written.
+    #[error(transparent)]
+    Archive(ArchiveFault),
+    /// The copy was not made, or not whole.
+    #[error(transparent)]
+    Copy(CopyFault),
+    /// The archive could not be looked at again, so nobody knows whether the case is there.
+    #[error(transparent)]
+    Look(LookFault),
+    /// It could be looked at again, and not opened.
+    #[error(transparent)]
+    Reopen(OpenFault),
+    /// The case was deleted while it was read. What was written may be no front of its image.
+    #[error("the case was deleted while it was read")]
+    Gone,
+}
+
+/// Why a question was not answered.
+#[derive(Clone, Copy, Debug, Error)]
+pub enum AskFault {
+    /// The archive could not be opened. Nothing was written.
+    #[error(transparent)]
+    Open(OpenFault),
+    /// The question was not answered: the output failed.
+    #[error(transparent)]
+    Life(LifeFault),
+    /// There was no memory for where the cases lie. Nothing was written.
+    #[error(transparent)]
+    Archive(ArchiveFault),
+    /// The archive could not be looked at again, so nobody knows whether the cases are there.
+    #[error(transparent)]
+    Look(LookFault),
+    /// It could be looked at again, and not opened.
+    #[error(transparent)]
+    Reopen(OpenFault),
+    /// A case that may have been read was deleted meanwhile. What was written is to be dropped.
+    #[error("a case was deleted while it was read")]
+    Gone,
+}

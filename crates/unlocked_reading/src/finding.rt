@@ -1,0 +1,50 @@
+// Where a case lies, and whether it is there.
+ghost use Rattle.std.specs.Prelude.{◌≡◌};
+ghost use Rattle.intake.specs.Parts.{state_of};
+ghost use Rattle.unlocked_reading.specs.Finding.{FindsCase, FindsPlaces, has_number};
+
+use crate::faults::UnlockedFault;
+use disk_model::Disk;
+use intake::{Archive, ByteRange, Settings};
+use std::alloc::Global;
+
+// Where the image of a case of the archive on a disk lies.
+pub(crate) fn find_places<D: Disk + Drop>(
+    alloc: Global,
+    disk: D,
+    seq: u32,
+) -> Result<Vec<ByteRange>, UnlockedFault>
+    ensures { FindsPlaces D.Disk disk seq result }
+{
+    match Archive::open(alloc, disk, Settings { limit: 0 }) {
+        Ok(archive) => match archive.image_ranges(seq) {
+            Ok(ranges) => Ok(ranges),
+            Err(fault) => Err(UnlockedFault::Archive(fault)),
+        },
+        Err((fault, _)) => Err(UnlockedFault::Open(fault)),
+    }
+}
+
+// Whether the archive on a disk has a case of this number.
+pub(crate) fn has_case<D: Disk + Drop>(
+    alloc: Global,
+    disk: D,
+    seq: u32,
+) -> Result<bool, UnlockedFault>
+    ensures { FindsCase D.Disk disk seq result }
+{
+    match Archive::open(alloc, disk, Settings { limit: 0 }) {
+        Ok(archive) => Ok(has_number(&archive, seq)),
+        Err((fault, _)) => Err(UnlockedFault::Reopen(fault)),
+    }
+}
+
+// Whether an open archive has a case of this number.
+pub(crate) fn has_number<D: Disk>(archive: &Archive<D>, seq: u32) -> bool
+    ensures { result ≡ has_number (state_of archive.now) seq }
+{
+    match archive.case(seq) {
+        Ok(_) => true,
+        Err(_) => false,
+    }
+}

@@ -1,0 +1,13 @@
+//! Archives that are read beside others that change them: the lock is held while an archive is looked at, and not while a case is
+//! read.
+#![tactic(auto)]
+
+mod asking;
+mod copying;
+mod faults;
+mod finding;
+mod places;
+
+pub use asking::ask_unlocked;
+pub use copying::copy_unlocked;
+pub use faults::{AskFault, UnlockedFault};

@@ -1,0 +1,3 @@
+pub mod Windowing
+pub mod Texting
+pub mod Memory

@@ -1,0 +1,17 @@
+-- Where bytes occur in other bytes, which stand from an address on.
+use Rattle.std.specs.Prelude.{ℕ, ◌+◌, ◌-◌, ◌==◌, ◌&&◌, if◌then◌else◌, Bool, true, false, List, [], ◌∷◌, drop, length}
+
+-- whether the needle's bytes come first
+unfoldable pub begins : List ℕ → List ℕ → Bool
+begins [] xs = true
+begins (n ∷ ns) [] = false
+begins (n ∷ ns) (x ∷ xs) = x == n && begins ns xs
+
+-- each address at which the needle occurs, in rising order: matches may overlap
+unfoldable pub places : List ℕ → ℕ → List ℕ → List ℕ
+places needle a [] = []
+places needle a (x ∷ xs) = if begins needle (x ∷ xs) then a ∷ places needle (a + 1) xs else places needle (a + 1) xs
+
+-- the last n of these bytes, or all of them
+abbrev pub last_of : ℕ → List ℕ → List ℕ
+last_of n xs = drop (length xs - n) xs

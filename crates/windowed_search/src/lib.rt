@@ -1,0 +1,14 @@
+//! The search of bytes that come window by window, in little memory.
+#![tactic(auto)]
+
+mod laws;
+mod search;
+mod text_search;
+mod within;
+
+pub use laws::{
+    a_text_ends_at_another_byte, places_are_occurrences, texts_are_those_in_memory,
+    windows_have_all_places,
+};
+pub use search::Search;
+pub use text_search::TextSearch;
