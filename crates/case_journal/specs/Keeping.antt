@@ -17,7 +17,7 @@ pub record Keeps {D : Type 0} (g : disk.Ghosts D) (d : D) (j : Journaled) : Type
   pub size : g.size d ≡ disk_length j.standing.shape
   pub holds : j.stopped ≡ false → IsTrue (g.is_honest d) → Holds g d j.standing
 
--- Before or after: what a crash at any moment of an append leaves stands for one of the two.
+-- Before or after: what a crash at any moment of an append leaves encodes one of the two.
 abbrev pub LeavesEither : {D : Type 0} → disk.Ghosts D → D → D → Standing → Record → Type 0
 LeavesEither g old new s r = LeavesOnly g old new (λ c. Stands c s ⊎ Stands c (appended s r))
 
@@ -25,7 +25,7 @@ LeavesEither g old new s r = LeavesOnly g old new (λ c. Stands c s ⊎ Stands c
 abbrev pub LeavesOutside : {D : Type 0} → disk.Ghosts D → D → D → Standing → Type 0
 LeavesOutside g old new s = LeavesOnly g old new (ChangedIn 4096 (2 * half_length s.shape) (g.may_leave old))
 
--- what is changed behind the halves leaves what the bytes stand for, and both headers
+-- a change after the halves leaves what the bytes encode, and both headers
 abbrev pub DataIsApart : Type 0
 DataIsApart =
     (s : Standing) (at n : ℕ) (b c : List ℕ) → Stands b s → SameOutside at n b c → data_start s.shape ≤ at

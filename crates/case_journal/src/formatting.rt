@@ -82,10 +82,10 @@ pub fn format<D: Disk>(disk: &mut D, shape: Shape) -> Result<(), FormatFault>
     ensures shape { (result ≡ Err FormatFault.BadShape) ↔ (is_shape_of (D.size disk.old) shape
         ≡ false) }
     ensures untouched { result ≡ Err FormatFault.BadShape → disk.new ≡ disk.old }
-    // On an honest disk, what stands there then is an archive with no case, and a crash leaves it so.
+    // On an honest disk, the bytes are then an archive with no case, and a crash leaves them so.
     ensures made { IsTrue (D.is_honest disk.old) → OnOk result (Stands (D.seen disk.new)
         (fresh shape Half.A 1 1)) }
-    // All that the layout fixes of it stands there: the superblock with zeros to its block's end, and the halves' headers.
+    // All that the layout fixes of it is there: the superblock with zeros to its block's end, and the halves' headers.
     ensures written { IsTrue (D.is_honest disk.old) → OnOk result (HasFront 165 shape (D.seen disk.new)) }
     ensures stable { IsTrue (D.is_honest disk.old) → OnOk result (IsSettled D.Disk disk.new) }
     ensures disk { KeepsDisk D.Disk disk.old disk.new (result ≡ Err FormatFault.Disk) }

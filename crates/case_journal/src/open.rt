@@ -38,7 +38,7 @@ fn settle<D: Disk>(disk: &mut D) -> Result<(), OpenFault>
     Ok(())
 }
 
-// Reads the bytes of the taken half behind its header.
+// Reads the bytes of the taken half after its header.
 fn read_records<D: Disk>(
     alloc: Global,
     disk: &mut D,
@@ -113,13 +113,13 @@ fn read_journal<D: Disk>(alloc: Global, disk: &mut D) -> Result<Opened, OpenFaul
 
 impl Journal {
     /// Opens the journal on a disk, beginning with a sync, and answers the first check of the layout that fails: where a
-    /// crash left what stands for some cases, none does. It reads each half's header, and the rest of the half that is
+    /// crash left bytes that encode some cases, none does. It reads each half's header, and the rest of the half that is
     /// taken in one read. Answers the names of the cases and the blocks that they leave free with it. `Disk`: the disk
     /// failed. `OutOfMemory`: there was no memory. Both may be met before a check.
     pub fn open<D: Disk>(alloc: Global, disk: &mut D) -> Result<Opened, OpenFault>
         // The answer is the opening of some list of bytes as long as the disk, on an honest disk of its bytes.
         ensures gives { ShowsOpening D.Disk disk.old (journal_of result) }
-        // What the disk stands for is found, and nothing but the disk and the memory refuses it.
+        // What the disk encodes is found, and nothing but the disk and the memory refuses it.
         ensures found { (s : Standing) → IsTrue (D.is_honest disk.old) → Stands (D.seen disk.old) s
             → FindsStanding (journal_of result) s }
         ensures keeps { IfOk result (λ o. Keeps D.Disk disk.new o.journal) }

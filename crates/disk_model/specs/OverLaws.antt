@@ -8,7 +8,7 @@ use Rattle.disk_model.specs.PartLaws.{part_length, part_place, part_spared}
 use Rattle.disk_model.specs.Gathering.{fronted}
 use Rattle.disk_model.specs.GatheringLaws.{over_in, over_out}
 
--- Bytes over the front of others: those that there is room for, and the others behind them.
+-- Bytes over the front of others: those that there is room for, and then the rest of the others.
 fronted_in : (y b : List ℕ) (j : ℕ) → j < length y → j < length b → get_or (fronted y b) j 0 ≡ get_or b j 0
 fronted_in y b j room below =
     let m = min (length y) (length b) in

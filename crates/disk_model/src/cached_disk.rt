@@ -8,9 +8,10 @@ use crate::{Disk, DiskFault, MemDisk, Pick};
 use failure_count::after_failure;
 use std::alloc::AllocError;
 
-/// A disk behind a cache, in memory, honest. Reads give what the cache has. One sync may be lost: its writes never reach the
-/// device, and the cache keeps them as if they had. From then on no sync succeeds, since none could tell what the device has.
-/// A file that is opened anew reads as its device again. `FileDisk` is used so; this disk is proved to keep to the disk model.
+/// A disk with a cache, in memory, honest. Reads give what the cache has. One sync may be lost: its writes never reach the
+/// device, and the cache keeps them as if they had. From then on no sync succeeds, since none could tell what the device
+/// has. A file that is opened anew reads as its device again. `FileDisk` is used so; this disk is proved to keep to the
+/// disk model.
 #[derive(Drop)]
 pub struct CachedDisk {
     disk: MemDisk,

@@ -8,10 +8,10 @@ use failure_count::after_failure;
 
 /// Which calls of a disk fail.
 pub trait Plan: Copy {
-    /// Whether the call behind so many earlier ones passes.
+    /// Whether the call after so many earlier ones passes.
     ghost passes: { Self → ℕ → Type 0 };
 
-    /// Whether the call behind `calls` earlier ones passes.
+    /// Whether the call after `calls` earlier ones passes.
     fn admits(&self, calls: u64) -> bool
         ensures { IsTrue result ↔ passes self.now calls };
 }

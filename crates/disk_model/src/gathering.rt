@@ -41,7 +41,7 @@ pub struct Gathering<D: Backing> {
     // None where writes are not gathered.
     gathered: Option<Gathered>,
     durability: Durability,
-    // How often a sync was refused behind one that failed.
+    // How often a sync was refused after one that failed.
     refused: u64,
     ghost within: { place_of gathered + length (bytes_of gathered) ≤ D.Disk.size disk },
     ghost settled: { durability ≡ Synced → IsTrue (D.Disk.is_honest disk) → Only (shown D.Disk (with_gathered disk gathered)) (MayStay D.Disk (with_gathered disk gathered)) },
@@ -156,7 +156,7 @@ impl<D: Backing> Gathering<D> {
         Ok(())
     }
 
-    // Refuses a sync behind one that failed.
+    // Refuses a sync after one that failed.
     fn refuse(&mut self) -> Result<(), DiskFault>
         ensures below { (self.new.disk ≡ self.old.disk) × (self.new.gathered ≡ self.old.gathered) }
         ensures cause { HasCause (joined (D.failures self.old.disk) self.old.refused) (joined (D.failures self.new.disk) self.new.refused) result }

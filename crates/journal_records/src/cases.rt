@@ -177,7 +177,7 @@ impl Cases {
         Ok(())
     }
 
-    // Reads what stands behind the head of a record of this kind.
+    // Reads what follows the head of a record of this kind.
     fn read_body(
         &mut self,
         alloc: Global,

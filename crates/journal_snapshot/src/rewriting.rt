@@ -20,9 +20,9 @@ use crate::{Change, Target};
 use disk_model::{Disk, DiskFault};
 use journal_layout::Entry;
 
-/// Writes what a change makes of these cases into the half that is not taken, and takes it: closes that half's gate,
-/// writes its header and records behind it and makes them stable, and opens the gate. A crash at any moment leaves what
-/// stood before or what stands after. Memory: the buffer, which has room for each record.
+/// Writes what a change makes of these cases into the half that is not taken, and takes it: closes that half's gate, writes
+/// its header and records after it and makes them stable, and opens the gate. A crash at any moment leaves what was there
+/// before or what is there after. Memory: the buffer, which has room for each record.
 pub fn rewrite<D: Disk>(
     disk: &mut D,
     target: Target,

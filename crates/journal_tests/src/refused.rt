@@ -9,7 +9,7 @@ use std::alloc::{AllocError, Global};
 use std::process::Abort;
 use std::test::Fail;
 
-/// The step is taken behind so many of the course, the second time where memory was refused: then the journal shows what it
+/// The step is taken after so many of the course, the second time where memory was refused: then the journal shows what it
 /// showed before. Answers whether it was refused.
 fn is_refused<D: Disk + Drop>(
     rt: &(impl AllocGlobal + Abort),

@@ -22,7 +22,7 @@ pub record AreToGo (policy : Policy) (cases : List Brief) (count : ℕ) (unmet :
   pub unmet_is : unmet ≡ not (holds_after policy cases count)
   pub all_where_unmet : unmet ≡ true → count ≡ spare_count policy cases
 
--- where n of the spare cases are still to go, the first case goes or not, and `after` are to go behind it
+-- where n of the spare cases are still to be deleted, the first case is deleted or not, and then `after` are still to be
 abbrev pub GoesOn : Policy → ℕ → Brief → Bool → ℕ → Type 0
 GoesOn policy n case first after =
     (others : List Brief) → goes policy n (case ∷ others)

@@ -60,7 +60,7 @@ fn most_dropped(policy: &Policy, cases: &[Brief], count: u64) -> usize {
     old.saturating_add(count as usize)
 }
 
-// Whether a case goes where `left` spare ones still do, and how many do behind it.
+// Whether the case is deleted where `left` spare ones still are to be, and how many are to be after it.
 fn goes_now(policy: &Policy, left: u64, case: &Brief) -> (bool, u64)
     ensures { GoesOn policy.now left case.now result.0 result.1 }
 {
