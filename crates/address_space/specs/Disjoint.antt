@@ -18,7 +18,7 @@ AreDisjoint segments = AllPairs (AreApart is_covering) segments
 abbrev pub AreFilesDisjoint : List FileView → Type 0
 AreFilesDisjoint files = AllPairs (AreApart is_mapping) files
 
--- addresses in a row: the first, and the one behind the last
+-- addresses in a row: the first, and the one after the last
 pub record Extent : Type 0 where
   pub start : ℕ
   pub past : ℕ

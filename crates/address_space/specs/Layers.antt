@@ -27,7 +27,7 @@ abbrev pub IsLaid : ℕ → ℕ → List Row → Type 0
 IsLaid low high [] = low ≤ high
 IsLaid low high (r ∷ rows) = (low ≤ r.start) × (0 < r.size) × IsLaid (past_of r) high rows
 
--- each is as long as can be: the address behind its last is not of its number
+-- each is as long as can be: the address after its last is not of its number
 abbrev pub IsEnded : List Row → Type 0
 IsEnded [] = ⊤
 IsEnded (r ∷ rows) = (¬ (holder rows (past_of r) ≡ Some r.number)) × IsEnded rows
@@ -72,7 +72,7 @@ abbrev pub IsHidden : List Row → List Row → ℕ → Type 0
 IsHidden over [] at = ⊤
 IsHidden over (u ∷ under) at = ceiling_of over ≤ max at u.start
 
--- The row comes next, and the two sheets that are left answer as those before, behind it.
+-- The row comes next, and the two sheets that are left answer as those before, after it.
 pub record IsTaken (over under : List Row) (at : ℕ) (r : Row) (over_left under_left : List Row) (at_left : ℕ) : Type 0 where
   pub next : IsNext (either_holder over under) at r
   pub merging : IsMerging over_left under_left at_left

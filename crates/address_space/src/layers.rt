@@ -19,7 +19,7 @@ struct Merge<'r> {
     at: u128,
 }
 
-/// The address behind the last of a row.
+/// The address after the last of a row.
 fn past(row: Row) -> u128
     ensures value { result ≡ past_of row }
     ensures small { row.size < 2 ^ 64 }
@@ -46,7 +46,7 @@ fn uncovered(rows: &[Row], at: u128) -> &[Row]
 impl<'r> Merge<'r> {
     ghost use Rattle.address_space.specs.Layers.{IsHidden, IsTaken, ceiling_of};
 
-    /// Where the first row on top begins, or behind the last of all addresses.
+    /// Where the first row on top begins, or the address after the last of all.
     fn ceiling(&self) -> u128
         ensures { result ≡ ceiling_of self.now.over.now }
     {
@@ -78,7 +78,7 @@ impl<'r> Merge<'r> {
         })
     }
 
-    /// The row that comes next, and what is left behind it.
+    /// The row that comes next, and what is left after it.
     fn next(self) -> Option<(Row, Merge<'r>)>
         requires { IsMerging self.over.now self.under.now self.at }
         ensures { MatchOption result

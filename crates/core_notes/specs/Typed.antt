@@ -74,7 +74,7 @@ next_descs first note = record {
 abbrev pub note_fault_at : ℕ → NoteField → NoteFault
 note_fault_at i f = record { index = i; «field» = f }
 
--- the first fault among notes from number i on that stand behind others
+-- the first fault among notes from number i on that follow others
 unfoldable pub first_note_fault : List NoteView → ℕ → List NoteView → Option NoteFault
 first_note_fault before i [] = None
 first_note_fault before i (note ∷ notes) =

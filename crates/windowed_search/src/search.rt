@@ -39,7 +39,7 @@ impl<'n> Search<'n> {
         }
     }
 
-    // Puts the window behind the tail.
+    // Puts the window after the tail.
     fn take_in(&mut self, window: &[u8]) -> Result<(), AllocError>
         ensures bytes { OnOk result (self.new.bytes.items ≡ self.old.tail.items ++ window.now) }
         ensures others { (self.new.needle ≡ self.old.needle) × (self.new.first ≡ self.old.first) × (self.new.tail ≡ self.old.tail) }
