@@ -70,7 +70,7 @@ static STEPS: [Step; 10] = [
     },
 ];
 
-/// The call is accepted, the second time where memory was refused: then everything stands as before, and no stream is left of
+/// The call is accepted, the second time where memory was refused: then everything is as before, and no stream is left of
 /// one that was to be stored. Answers whether it was refused.
 fn is_refused<D: Disk>(
     rt: &impl Abort,

@@ -10,7 +10,7 @@ use toml::Value;
 pub struct Config<'t> {
     /// The archive's file.
     pub archive: Option<&'t str>,
-    /// How many cases stay beside a new one.
+    /// How many cases stay, not counting a new one.
     pub keep: Option<u64>,
     /// How many bytes the images of the cases that stay have.
     pub bytes: Option<u64>,

@@ -34,7 +34,7 @@ fn tell_rights<O: Output>(reply: &mut Reply<'_, O>, flags: u32)
     reply.tell(flag_letter(flags, 1, b"x"));
 }
 
-/// Tells the address behind the last of `count` addresses from one on, which may be 2^64, and a space.
+/// Tells the address after the last of `count` addresses from one on, which may be 2^64, and a space.
 #[tactic(auto, unfolding(crate::specs::Words::hex_word))]
 fn tell_past<O: Output>(reply: &mut Reply<'_, O>, start: u64, count: u64)
     ensures { TellsText (telling O.Output reply.old reply.new) (hex_word (start + count)) }

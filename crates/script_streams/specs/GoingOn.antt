@@ -8,7 +8,7 @@ use Rattle.script_streams.specs.declared.reader.LineEnding.{LineEnding}
 use Rattle.script_streams.specs.declared.reader.LineEnding.TheVariants.{Newline, EndOfInput, NothingLeft}
 use Rattle.script_streams.specs.declared.reader.ReadStop.{ReadStop}
 
--- the line goes on by a piece, behind which a newline stood, or nothing was held any more
+-- the line goes on by a piece that a newline ended, or nothing was held any more
 abbrev pub TakesLine : List ℕ → ScriptBuffer → ScriptBuffer → KeptLine → Bool → Type 0
 TakesLine front old new kept true =
     (piece : List ℕ) × IsLine piece × KeepsLine (front ++ piece) kept

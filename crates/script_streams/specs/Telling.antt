@@ -43,7 +43,7 @@ pub record Told (start : Option (List ℕ)) (count name : ℕ) (now : Sink) (tol
   pub blamed : now.unwritten.failed ≡ true → HasRisen count now.failures
   pub same : now.name ≡ name
 
--- whatever was told before, this text was told behind it
+-- whatever was told before, this text was told after it
 abbrev pub Tells : Sink → Sink → List ℕ → Type 0
 Tells old new text =
     (start : Option (List ℕ)) (count name : ℕ) (told : List ℕ)

@@ -23,7 +23,7 @@ pub enum ReadStop {
 pub enum LineEnding {
     /// A newline, which is not of the line.
     Newline,
-    /// The end of the input, behind a byte at least.
+    /// The end of the input, after a byte at least.
     EndOfInput,
     /// The input ended before another line began.
     NothingLeft,
@@ -60,7 +60,7 @@ impl ScriptBuffer {
         ScriptBuffer::after_reads(0)
     }
 
-    /// A buffer that holds nothing, behind `reads` reads, each of which gave a byte that was used: of 2^40 that a script may
+    /// A buffer that holds nothing, after `reads` reads, each of which gave a byte that was used: of 2^40 that a script may
     /// take the others are left.
     pub fn after_reads(reads: u64) -> Self
         requires { reads ≤ 2 ^ 40 }

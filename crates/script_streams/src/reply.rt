@@ -79,7 +79,7 @@ impl<'a, O: Output> Reply<'a, O> {
         }
     }
 
-    /// Tells how each byte of a text prints, one behind the other. So a long text can be told in pieces.
+    /// Tells how each byte of a text prints, one after the other. So a long text can be told in pieces.
     pub fn tell_bytes(&mut self, text: &[u8])
         ensures { Tells (sink O.Output self.old) (sink O.Output self.new) (flat_map shown_byte text.now) }
     {
