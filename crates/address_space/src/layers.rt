@@ -1,5 +1,5 @@
-// Rows over one another: of those that have an address the first decides. They are laid out side by side, so that a
-// search among them takes a number of steps that is the logarithm of theirs.
+// Rows over one another: an address is decided by the first row that has it. They are laid out side by side, so that a
+// search among them takes logarithmic time.
 ghost use Rattle.std.specs.Prelude.{◌≡◌, ◌+◌, ◌^◌, ◌<◌, ◌≤◌, ℕ, List, ◌∷◌, None, IfOk, IfSome, MatchOption, length};
 ghost use Rattle.address_space.specs.declared.row.Row as row;
 ghost use Rattle.address_space.specs.ScanWords.{past_of};
@@ -8,7 +8,7 @@ ghost use Rattle.address_space.specs.Layers.{IsMerging, IsNext, IsNumbered, IsSh
 use crate::row::Row;
 use std::alloc::{AllocError, Global};
 
-/// Behind the last of all addresses.
+/// The address after the last of all.
 const END: u128 = 1 << 64;
 
 /// Two sheets of rows, one over the other, from an address on.
@@ -56,7 +56,7 @@ impl<'r> Merge<'r> {
         }
     }
 
-    /// The part of the first row below that shows before the first on top, if it has one.
+    /// The part of the first row below that is visible before the first on top, if there is one.
     fn shown(&self) -> Option<Row>
         requires merging { IsMerging self.now.over.now self.now.under.now self.now.at }
         requires ends { (r : row.Row) (rest : List row.Row) → self.now.under.now ≡ r ∷ rest → self.now.at < past_of r }
@@ -115,7 +115,7 @@ fn overlaid(alloc: Global, over: &[Row], under: &[Row]) -> Result<Vec<Row>, Allo
     Ok(rows)
 }
 
-/// The sheet of rows: of those that have an address the first decides.
+/// The sheet of rows: an address is decided by the first that has it.
 pub(crate) fn layered(alloc: Global, rows: &[Row]) -> Result<Vec<Row>, AllocError>
     requires { IsNumbered 0 rows.now }
     ensures sheet { IfOk result (λ v. IsSheet v.items) }

@@ -85,10 +85,10 @@ impl<'a> AddressSpace<'a> {
         }
     }
 
-    /// What `new` makes, with tables by which the segment and the file of an address are found in a number of steps that is
-    /// the logarithm of theirs. Where no two PT_LOADs have an address in common the table is that of the segments, sorted by
-    /// address. Where two have, it is a sheet: its rows are the addresses that each segment decides. So it is for the entries
-    /// of NT_FILE. The error is that there is no memory for the tables.
+    /// What `new` makes, with tables by which the segment and the file of an address are found in logarithmic time. If no
+    /// two PT_LOADs have an address in common the table is that of the segments, sorted by address. If two have, it is a
+    /// sheet: its rows are the addresses that each segment decides. The entries of NT_FILE have such tables too. The error
+    /// is that there is no memory for the tables.
     #[tactic(auto, unfolding(crate::specs::SpaceWords::space_of))]
     pub fn indexed(
         alloc: Global,

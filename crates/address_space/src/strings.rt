@@ -90,8 +90,8 @@ impl<'a> AddressSpace<'a> {
         length
     }
 
-    /// How long the text is that begins at `start`, where a cursor is that has passed its bytes at hand. If others are at
-    /// hand there, it ends where the cursor is; else it is followed on.
+    /// How long the text is that begins at `start`. The cursor has passed the text's bytes at hand. If it has other bytes
+    /// at hand, the text ends at the cursor; else it is followed on.
     fn text_len_passed(&self, start: u64, rest: &Cursor<'a>) -> u128
         requires { 0 < length rest.now.here.now
             → (start ≤ rest.now.at) × (spec.text_len (space_of self.now) start (2 ^ 64 - start) ≡ rest.now.at - start) }

@@ -56,8 +56,8 @@ fn is_not_rising(before: Option<u64>, fp: u64) -> bool
     }
 }
 
-/// Whether what comes after a frame, with that frame pointer before it, depends on the words below its own. Where it doesn't, each
-/// memory has the same there.
+/// Whether what comes after a frame, with that frame pointer before it, depends on the words below its own. If it doesn't,
+/// each memory has the same there.
 #[tactic(auto, unfolding(crate::specs::Chain::link_below, crate::specs::Chain::step))]
 pub fn needs_words(before: Option<u64>, frame: Frame) -> bool
     ensures { result ≡ false → (m p : spec.Memory) → spec.step m before frame ≡ spec.step p before frame }

@@ -106,8 +106,8 @@ fn earliest_with(span: Span, best: Option<Span>, address: u64) -> Option<Span>
 }
 
 /// The one that is first in the section, of those of the first `count` spans that cover an address. The spans are sorted by
-/// their first address, each with the greatest address that one up to it covers. It asks down from the last as far as one
-/// may cover the address.
+/// their first address, each with the greatest address that one up to it covers. It searches down from the last as far as
+/// one may cover the address.
 fn earliest_among(spans: &[Span], ends: &[u64], count: usize, address: u64) -> Option<Span>
     requires reach { ends.now ≡ spec.greatest_ends 0 spans.now }
     requires within { count ≤ length spans.now }

@@ -1,4 +1,4 @@
--- What writing a journal anew into its other half does to it, and when it is refused.
+-- What rewriting a journal into its other half does to it, and when it is refused.
 use Rattle.std.specs.Prelude.{◌≡◌, ◌⊎◌, ℕ, ◌+◌, ◌*◌, ◌^◌, ◌<◌, ◌≤◌, true, false, Result, Ok, Err, List, IsTrue, Some}
 use Rattle.journal_layout.specs.declared.entry.Entry.{Entry}
 use Rattle.journal_layout.specs.declared.shape.Shape.{Shape}
@@ -104,7 +104,7 @@ abbrev pub noted : JournalFault → Journaled → Journaled
 noted Disk j = halted j
 noted _ j = j
 
--- Behind its gate the other half has a header of this version and the next generation, with zeros where the layout has zeros.
+-- After its gate the other half has a header of this version and the next generation, with zeros where the layout has zeros.
 abbrev pub HasHeader : Standing → ℕ → List ℕ → Type 0
 HasHeader s version bytes = part bytes (other_start s + 1) 31 ≡ half_header version (s.generation + 1)
 

@@ -1,4 +1,4 @@
--- What formatting writes, and what it has made at last.
+-- What formatting writes, and what it has made in the end.
 use Rattle.std.specs.Prelude.{◌≡◌, ℕ, List, [], ◌∷◌, ◌++◌, slice_index, replicate}
 use Rattle.disk_model.specs.Places.{part}
 use Rattle.journal_layout.specs.declared.shape.Shape.{Shape}
@@ -9,7 +9,7 @@ use Rattle.journal_layout.specs.Layout.{superblock, half_header, half_start}
 unfoldable pub zeros : ℕ → List ℕ
 zeros n = replicate n 0
 
--- the superblock's block: after its gate what is looked at, and zeros to the block's end
+-- the superblock's block: the bytes after its gate that are looked at, and zeros to the block's end
 abbrev pub superblock_block : ℕ → Shape → List ℕ
 superblock_block gate s = gate ∷ superblock s ++ zeros 4072
 

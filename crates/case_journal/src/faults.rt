@@ -10,7 +10,7 @@ use thiserror::Error;
 /// Why an archive was not made.
 #[derive(Clone, Copy, Debug, PartialEq, Eq, Error)]
 pub enum FormatFault {
-    /// The shape is outside its limits, or is not the disk's. Nothing was written.
+    /// The shape is outside its limits, or is not that of the disk. Nothing was written.
     #[error("the shape is outside its limits or is not the disk's")]
     BadShape,
     /// The disk failed. Nothing is promised of it until the format is done again.

@@ -75,9 +75,9 @@ fn write_headers<D: Disk>(disk: &mut D, shape: Shape) -> Result<(), DiskFault>
     Ok(())
 }
 
-/// Makes an archive of this shape with no case on the disk. Answers `BadShape` where the shape is outside its limits or
-/// is not the disk's, and then nothing was written, and else `Disk` where the disk failed. Until it answers `Ok`,
-/// nothing is promised of the disk: it is done again. It takes no memory.
+/// Makes an archive of this shape with no case on the disk. Answers `BadShape` if the shape is outside its limits or is not
+/// that of the disk, and then nothing was written; else `Disk` if the disk failed. Until it answers `Ok`, nothing is
+/// promised of the disk: it is done again. It takes no memory.
 pub fn format<D: Disk>(disk: &mut D, shape: Shape) -> Result<(), FormatFault>
     ensures shape { (result ≡ Err FormatFault.BadShape) ↔ (is_shape_of (D.size disk.old) shape
         ≡ false) }

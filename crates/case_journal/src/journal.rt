@@ -210,8 +210,8 @@ impl Journal {
         self.put_behind(disk, &record)
     }
 
-    // Puts the record of a pin, or writes the journal anew with it. The flag is not set yet. Behind the records it takes no
-    // memory.
+    // Puts the record of a pin, or writes the journal anew with it. The flag is not set yet. It takes no memory if the
+    // record fits after the others.
     fn put_pin<D: Disk>(
         &self,
         disk: &mut D,
@@ -259,7 +259,7 @@ impl Journal {
             → LeavesOutside D.Disk disk.old disk.new self.old.standing }
         ensures others { IsTrue (D.is_honest disk.old)
             → SameOutside 4096 (2 * half_length self.old.standing.shape) (D.seen disk.old) (D.seen disk.new) }
-        // Of the two halves it writes one alone: after the records of the taken one, or in the other.
+        // It writes only one of the two halves: after the records of the taken one, or in the other.
         ensures written { self.old.stopped ≡ false
             → Fills D.Disk disk.old disk.new (written_at self.old.standing (store_of self.old.standing (case_of entry))) (written_long self.old.standing (store_of self.old.standing (case_of entry))) }
         ensures disk { KeepsDisk D.Disk disk.old disk.new (IsStoreDiskFault result) }
@@ -314,7 +314,7 @@ impl Journal {
             → LeavesOutside D.Disk disk.old disk.new self.old.standing }
         ensures others { IsTrue (D.is_honest disk.old)
             → SameOutside 4096 (2 * half_length self.old.standing.shape) (D.seen disk.old) (D.seen disk.new) }
-        // Of the two halves it writes one alone: after the records of the taken one, or in the other.
+        // It writes only one of the two halves: after the records of the taken one, or in the other.
         ensures written { self.old.stopped ≡ false
             → Fills D.Disk disk.old disk.new (written_at self.old.standing (Drop seqs.now)) (written_long self.old.standing (Drop seqs.now)) }
         ensures disk { KeepsDisk D.Disk disk.old disk.new (result ≡ Err JournalFault.Disk) }
@@ -348,7 +348,7 @@ impl Journal {
         requires keeps { Keeps D.Disk disk.old self.old }
         requires pinnable { MayFollow self.old.standing (Pin seq flag) }
         ensures step { AppendStep self.old (Pin seq flag) result self.new }
-        // Behind the records it takes no memory.
+        // It takes no memory if the record fits after the others.
         ensures never { result ≡ Err JournalFault.OutOfMemory → fits self.old.standing (Pin seq flag) ≡ false }
         ensures untouched { RefusalLeaves result disk.old disk.new }
         ensures any_moment { IsTrue (D.is_honest disk.old) → self.old.stopped ≡ false
@@ -358,7 +358,7 @@ impl Journal {
             → LeavesOutside D.Disk disk.old disk.new self.old.standing }
         ensures others { IsTrue (D.is_honest disk.old)
             → SameOutside 4096 (2 * half_length self.old.standing.shape) (D.seen disk.old) (D.seen disk.new) }
-        // Of the two halves it writes one alone: after the records of the taken one, or in the other.
+        // It writes only one of the two halves: after the records of the taken one, or in the other.
         ensures written { self.old.stopped ≡ false
             → Fills D.Disk disk.old disk.new (written_at self.old.standing (Pin seq flag)) (written_long self.old.standing (Pin seq flag)) }
         ensures disk { KeepsDisk D.Disk disk.old disk.new (result ≡ Err JournalFault.Disk) }

@@ -58,7 +58,7 @@ impl Journal {
             → LeavesOutside D.Disk disk.old disk.new self.old.standing }
         ensures others { IsTrue (D.is_honest disk.old)
             → SameOutside 4096 (2 * half_length self.old.standing.shape) (D.seen disk.old) (D.seen disk.new) }
-        // Of the two halves it writes one alone: after the records of the taken one, or in the other.
+        // It writes only one of the two halves: after the records of the taken one, or in the other.
         ensures written { self.old.stopped ≡ false
             → Fills D.Disk disk.old disk.new (written_at self.old.standing (Label seq label.now)) (written_long self.old.standing (Label seq label.now)) }
         ensures disk { KeepsDisk D.Disk disk.old disk.new (result ≡ Err JournalFault.Disk) }
@@ -160,9 +160,9 @@ impl Journal {
         self.entries.set_label(seq, label);
     }
 
-    /// Writes the cases and the number of the next one anew into the other half, as `compact` does, in version 2 of the
+    /// Rewrites the cases and the number of the next one into the other half, as `compact` does, in version 2 of the
     /// layout, which keeps labels; no case has one yet. On an archive of version 2 it does nothing. It changes no case. All
-    /// faults but `Disk` leave the journal and the disk as they are. Answers, in this order: `Stopped`; `JournalFull` where
+    /// faults but `Disk` leave the journal and the disk as they are. Answers, in this order: `Stopped`; `JournalFull` if
     /// the snapshot with the gate after it does not fit into the half, or its generation would be 2^64; `OutOfMemory`,
     /// before the first disk call; `Disk`, after which the journal is stopped.
     pub fn upgrade<D: Disk>(&mut self, disk: &mut D) -> Result<(), JournalFault>
@@ -183,7 +183,7 @@ impl Journal {
             → SameOutside 4096 (2 * half_length self.old.standing.shape) (D.seen disk.old) (D.seen disk.new) }
         // Its header is spelled with zeros where the layout has zeros.
         ensures header { IsTrue (D.is_honest disk.old) → self.old.standing.version ≡ 1 → OnOk result (HasHeader self.old.standing 2 (D.seen disk.new)) }
-        // It writes the half that is not taken, alone.
+        // It writes only the half that is not taken.
         ensures written { self.old.stopped ≡ false
             → Fills D.Disk disk.old disk.new (other_start self.old.standing) (half_length self.old.standing.shape) }
         ensures disk { KeepsDisk D.Disk disk.old disk.new (result ≡ Err JournalFault.Disk) }

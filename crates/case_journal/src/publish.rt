@@ -1,4 +1,4 @@
-// A record is made of a write after its closed gate, and then of a write of the gate.
+// A record is published by two writes: its bytes after its closed gate, and then the gate.
 ghost use Rattle.std.specs.Prelude.{◌≡◌, ◌⊎◌, ℕ, List, ◌+◌, ◌<◌, ◌≤◌, ◌∷◌, [], length, IsTrue, OnOk};
 ghost use Rattle.disk_model.specs.Places.{overwritten, SameOutside};
 ghost use Rattle.disk_model.specs.Disk.{HasCause, ChangedIn};

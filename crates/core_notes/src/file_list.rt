@@ -163,7 +163,7 @@ impl<'a> Files<'a> {
         }
     }
 
-    /// The first entry that maps an address, where there is one. It looks at no name: who wants that takes it from `maps`.
+    /// The first entry that maps an address, if there is one. It looks at no name: use `maps` for that.
     pub fn covering(&self, address: u64) -> Option<FileEntry>
         ensures { option_map entry_view result
             ≡ option_map spec.unnamed (spec.first_mapping address (spec.files_of (files_bytes self.now))) }

@@ -22,7 +22,7 @@ pub struct CachedDisk {
 }
 
 impl CachedDisk {
-    /// The cache of a disk that is stable. Behind `spared` syncs one is lost.
+    /// The cache of a disk that is stable. After `spared` syncs one is lost.
     pub fn new(disk: MemDisk, spared: u64) -> CachedDisk
         ensures honest { IsTrue (⟦<CachedDisk as Disk>⟧.is_honest result) }
         ensures size { ⟦<CachedDisk as Disk>⟧.size result ≡ ⟦<MemDisk as Disk>⟧.size disk }
@@ -55,7 +55,7 @@ impl CachedDisk {
         Ok(CachedDisk::new(device, u64::MAX))
     }
 
-    /// The bytes that the device has, now that the machine stops: of what was not synced nothing.
+    /// The bytes that the device has once the machine stops: nothing of what was not synced.
     pub fn after_stop(&self) -> Result<MemDisk, AllocError>
         ensures allowed { IfOk result (λ d. ⟦<CachedDisk as Disk>⟧.may_leave self.now (⟦<MemDisk as Disk>⟧.seen d)) }
     {

@@ -1,4 +1,4 @@
-// What the calls that were made of a file come to.
+// What the calls that were made of a file tell.
 ghost use Rattle.std.specs.Prelude.{◌≡◌, ℕ, List, ◌∷◌, length, Result, is_ok};
 ghost use Rattle.disk_model.specs.declared.disk.DiskFault.{DiskFault};
 ghost use Rattle.disk_model.specs.Backing.{IsFetched, IsPut, IsSynced};

@@ -30,8 +30,8 @@ pub(crate) enum Durability {
 /// before they are too many, and before a sync. Reads give what was gathered too. A write that the disk below refuses is
 /// told by the call that met it, which may be a later write or a sync, and what was gathered is kept to be written again.
 ///
-/// A sync with nothing written since the last one asks nothing of the disk below. Behind a sync that failed no sync succeeds:
-/// nobody knows what there is to do.
+/// A sync with nothing written since the last one asks nothing of the disk below. After a sync that failed no sync
+/// succeeds: nobody knows what there is to do.
 ///
 /// It is honest where the disk below is. What a crash may leave is what it may leave of the disk below, with any bytes in the
 /// range that is gathered.

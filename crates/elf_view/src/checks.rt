@@ -61,7 +61,7 @@ fn check_ident(image: &[u8]) -> Result<(), ElfField>
     Ok(())
 }
 
-/// Whether e_type is another than that of the wanted kind of file.
+/// Whether e_type is not that of the wanted kind of file.
 fn is_other_type(want: Want, kind: u16) -> bool
     ensures { result ≡ sound.is_other_type want kind }
 {

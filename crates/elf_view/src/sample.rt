@@ -137,7 +137,7 @@ struct SectionParts {
     entry: u64,
 }
 
-/// Section header 0, and what others begin as.
+/// Section header 0, and what the other headers are made from.
 const NO_SECTION: SectionParts = SectionParts {
     kind: 0,
     offset: 0,

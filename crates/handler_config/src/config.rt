@@ -5,7 +5,7 @@ ghost use Rattle.handler_config.specs.Config.{Says};
 use crate::values::{age_at, flag_at, natural_at, text_at};
 use toml::Value;
 
-/// What a configuration says. A key that is not there, or whose value is faulty, says nothing.
+/// What a configuration says. A key that is missing, or whose value is faulty, says nothing.
 #[derive(Clone, Copy)]
 pub struct Config<'t> {
     /// The archive's file.

@@ -7,7 +7,7 @@ use Rattle.journal_layout.specs.Folding.{after}
 use Rattle.journal_layout.specs.Standing.{Standing, folded_of, lengthened}
 use Rattle.journal_layout.specs.Rewriting.{other_half, snapshot_size, rewritten, fits, appended}
 
--- after one record more, where this says whether it follows the others
+-- after one record more, where `t` says whether it follows the others
 abbrev placed : Bool → Standing → Record → Standing
 placed t s r = record s {
   half = cond t s.half (other_half s.half);

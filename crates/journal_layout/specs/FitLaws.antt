@@ -1,5 +1,5 @@
--- Laws of the room that a snapshot takes: the records that say some cases are as long as their snapshot, but for its last
--- record, and the snapshot of what a drop leaves has room where they have.
+-- Laws of the room that a snapshot takes: the records that say some cases are as long as their snapshot without its last record, and the snapshot of what a drop leaves
+-- has room where they have.
 use Rattle.std.proofs.Common.{◌≡◌, inl, inr, ℕ, ◌+◌, ◌≤◌, Bool, true, false, not, nat_eq, ◌||◌, ◌==◌, List, [], ◌∷◌, ◌++◌, map, drop, refl, ap, ◌∙◌, arith, Some, cond}
 use Rattle.std.specs.List.{filter, flat_map, list_any}
 use Rattle.std.proofs.lemmas.Bool.{cases_eq, cond_both, eq-eqb, ne_eqb}

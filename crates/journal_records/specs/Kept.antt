@@ -1,4 +1,4 @@
--- What the working state of a reading says, and what holds of it.
+-- What the working state of a reading means, and what holds of it.
 use Rattle.std.specs.Prelude.{◌≡◌, ℕ, ◌^◌, ◌≤◌, Bool, List, length, Option, None, Result, Ok, Err}
 use Rattle.std.specs.List.{count_by}
 use Rattle.std.specs.Str.{bytes_eq}

@@ -1,4 +1,4 @@
-// The spelling of records. A buffer grows before anything is added, so that what is added has room.
+// The spelling of records. A buffer grows before anything is added, so there is room for what is added.
 ghost use Rattle.std.specs.Prelude.{◌≡◌, ℕ, ◌+◌, ◌*◌, ◌<◌, ◌≤◌, ◌^◌, ◌++◌, [], ◌∷◌, ◌-◌, length, take, replicate, IfOk, OnOk, IsOk, vec_len, vec_capacity};
 ghost use Rattle.std.specs.List.{flat_map};
 ghost use Rattle.extents.specs.Runs.{runs_of};

@@ -13,7 +13,7 @@ use journal_records::case_size;
 pub struct Measure {
     /// The bytes of the header and the records.
     pub used: u64,
-    /// The bytes of the records of a case, of which it has the most.
+    /// The bytes of the records of that case whose records are longest.
     pub largest: u64,
 }
 

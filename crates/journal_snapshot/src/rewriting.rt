@@ -41,7 +41,7 @@ pub fn rewrite<D: Disk>(
     ensures taken { (s : Standing) (f : Folded) → IsWrittenAs s f target change.now entries.now → IsTrue (D.is_honest disk.old)
         → Holds D.Disk disk.old s → OnOk result (Holds D.Disk disk.new (rewritten s f)) }
     ensures fills { Fills D.Disk disk.old disk.new target.start (1 + length (half_bytes target change.now entries.now)) }
-    // Behind the gate it writes exactly the header, the records and the next gate, with zeros where the layout has zeros.
+    // After the gate it writes exactly the header, the records and the next gate, with zeros where the layout has zeros.
     ensures written { IsTrue (D.is_honest disk.old) → OnOk result (part (D.seen disk.new) (target.start + 1) (length (half_bytes target change.now entries.now)) ≡ half_bytes target change.now entries.now) }
     ensures cause { HasCause (D.failures disk.old) (D.failures disk.new) result }
 {

@@ -68,8 +68,8 @@ fn tell_mappings<O: Output>(reply: &mut Reply<'_, O>, space: &AddressSpace<'_>)
     }
 }
 
-/// Tells the mappings of a core: `START PAST RWX FILESZ OFFSET NAME` for each PT_LOAD, in table order. It is slower
-/// where there is no memory for tables of the segments and mapped files, and no reply tells that.
+/// Tells the mappings of a core: `START PAST RWX FILESZ OFFSET NAME` for each PT_LOAD, in table order. Without memory for
+/// tables of the segments and mapped files it is slower, and no reply tells that.
 #[tactic(auto, unfolding(crate::specs::Maps::maps_answer))]
 pub fn tell_maps<O: Output>(alloc: Global, reply: &mut Reply<'_, O>, core: &CoreImage<'_>)
     ensures tells { TellsText (telling O.Output reply.old reply.new) (reply_of (spec.maps_answer (core_bytes core.now))) }

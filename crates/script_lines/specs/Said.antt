@@ -250,8 +250,7 @@ words_said (command ∷ words) = command_said command words
 abbrev pub short_line_said : List ℕ → Said
 short_line_said line = if is_plain_line line then known_or_bad (words_said (words_of line)) else bad_line
 
--- What a line says. A blank line and a comment have no reply, however long they are; any other line that is too long is
--- nothing but that.
+-- What a line says. A blank line and a comment have no reply, however long they are; any other line that is too long says only that.
 abbrev pub said : List ℕ → Said
 said line =
     if is_blank_or_comment_line line then silence

@@ -15,8 +15,8 @@ has_failed reply = reply.unwritten.failed
 abbrev pub held_text : {O : Type 0} → Reply O → List ℕ
 held_text reply = reply.unwritten.held.items
 
--- A reply and its output at one moment: what the output has taken, how many of its calls have failed, what it has not taken
--- yet, and which output it is, by the name of the reference to it.
+-- A reply and its output at one moment: what the output has taken, how many of its calls have failed, what it has not taken yet, and which output it is, by the name of
+-- the reference to it.
 pub record Sink : Type 0 where
   pub taken : Option (List ℕ)
   pub failures : ℕ

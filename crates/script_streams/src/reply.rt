@@ -18,8 +18,8 @@ const MOST_HELD: usize = 8192;
 // How many bytes are told as digits at a time.
 const HEX_ROW: usize = 16;
 
-/// The text of replies on its way to an output, which it holds while it is told. Text waits in a buffer of a fixed size. Once a
-/// write has failed no more is written, and `finish` says so: so replies are told with no look at each write.
+/// The text of replies on its way to an output, which it holds while it is told. Text waits in a buffer of a fixed size.
+/// Once a write has failed no more is written, and `finish` says so: no caller has to look at each write.
 #[derive(Drop)]
 pub struct Reply<'a, O: Output> {
     output: &'a mut O,

@@ -1,4 +1,4 @@
--- How far functions reach that are sorted by value.
+-- How far functions that are sorted by value reach.
 use Rattle.std.specs.Prelude.{ℕ, ◌+◌, ◌-◌, ◌^◌, nat_lt, min, max, Bool, false, List, [], ◌∷◌, Option, None, Some}
 use Rattle.symbols.specs.declared.functions.Function.{Function}
 

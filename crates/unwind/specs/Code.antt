@@ -13,7 +13,7 @@ pub record ProcessView : Type 0 where
   pub space : Space
   pub executables : List ExecutableView
 
--- the address that is looked up for a frame: its pc if execution was there, else, as a call is before the address that it returns to, the one before the pc
+-- the address that is looked up for a frame: its pc if execution was there; else the one before the pc, since a call is before the address that it returns to
 abbrev pub looked_up : Frame → Option ℕ
 looked_up f = if f.exact then Some f.pc else (if f.pc == 0 then None else Some (f.pc - 1))
 
