@@ -134,8 +134,8 @@ impl LiveEntries {
     }
 }
 
-// Takes out the entry at `place` of the live ones, the first `first` entries being gone. The first live one is counted as
-// gone too; for any other the rest moves up. Answers how many at the front are gone then.
+// Takes out the entry at `place` of the live ones; the first `first` entries are gone already. The first live one is counted
+// as gone too; for any other the rest moves up. Answers how many at the front are gone then.
 fn take_one(entries: &mut Vec<Entry>, first: usize, place: usize) -> usize
     requires { first + place < length entries.old.items }
     ensures left { drop result entries.new.items ≡ remove (drop first entries.old.items) place }

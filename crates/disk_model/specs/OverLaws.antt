@@ -30,7 +30,7 @@ fronted_length y b =
     let long : length (take m b) ≡ m = length-take-le m b (omega arith) in
     overwritten_length y 0 (take m b) (omega (arith, long))
 
--- a list put in the place of a part that is as long
+-- a list put in place of a part that is as long
 pub put_over : (x f : List ℕ) (at k : ℕ) → length f ≡ k → take at x ++ (f ++ drop k (drop at x)) ≡ overwritten x at f
 put_over x f at k long =
     ap (λ (z : List ℕ). take at x ++ (f ++ z)) (drop-drop k at x ∙ ap (λ (j : ℕ). drop (at + j) x) (sym long))

@@ -68,7 +68,7 @@ impl<D: Disk, P: Plan> Faulty<D, P> {
         inner
     }
 
-    // Counts a call, and tells whether it goes on to the disk within.
+    // Counts a call, and tells whether it is passed to the disk within.
     fn admits(&mut self) -> bool
         ensures verdict { IsTrue result ↔ P.passes self.old.plan self.old.calls }
         ensures calls { self.new.calls ≡ min (self.old.calls + 1) (2 ^ 64 - 1) }

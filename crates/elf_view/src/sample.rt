@@ -169,7 +169,7 @@ fn push_padding(out: &mut Vec<u8>) -> Result<(), AllocError> {
 
 /// The bytes of notes, one after the other.
 ///
-/// Refused only for want of memory.
+/// Refused only if there is no memory.
 pub fn note_bytes(alloc: Global, notes: &[NotePart<'_>]) -> Result<Vec<u8>, AllocError> {
     let mut out = Vec::new(alloc);
     for note in notes {
@@ -228,7 +228,7 @@ fn core_headers(
 /// A core: its file header, its program headers, its notes in one PT_NOTE (none where there are no notes), and the bytes of
 /// its PT_LOAD segments. From 65,535 program headers on, a section header at the end holds their number.
 ///
-/// Refused only for want of memory.
+/// Refused only if there is no memory.
 pub fn core_image(
     alloc: Global,
     notes: &[NotePart<'_>],
@@ -305,7 +305,7 @@ pub fn process() -> [u8; 136] {
 
 /// The descriptor of an NT_FILE.
 ///
-/// Refused only for want of memory.
+/// Refused only if there is no memory.
 pub fn files(alloc: Global, page: u64, parts: &[FilePart<'_>]) -> Result<Vec<u8>, AllocError> {
     let mut out = Vec::new(alloc);
     out.extend_from_slice(&(parts.len() as u64).to_le_bytes())?;
@@ -333,7 +333,7 @@ pub fn stack() -> [u8; 4096] {
 
 /// A core of one thread with a stack: 4,824 bytes.
 ///
-/// Refused only for want of memory.
+/// Refused only if there is no memory.
 pub fn stack_core(alloc: Global) -> Result<Vec<u8>, AllocError> {
     let status = status(11, 4242, &registers());
     let process = process();
@@ -409,14 +409,14 @@ fn core_with_file(
 
 /// The core with an NT_FILE that maps `/bin/cat` at 0x10000: 4,896 bytes.
 ///
-/// Refused only for want of memory.
+/// Refused only if there is no memory.
 pub fn file_core(alloc: Global) -> Result<Vec<u8>, AllocError> {
     core_with_file(alloc, 0x11000, None)
 }
 
 /// The core with two pages of `/bin/cat` at 0x10000 that were not dumped: 4,952 bytes.
 ///
-/// Refused only for want of memory.
+/// Refused only if there is no memory.
 pub fn mapped_core(alloc: Global) -> Result<Vec<u8>, AllocError> {
     let text = LoadPart {
         flags: 5,
@@ -446,7 +446,7 @@ fn symbol_table(alloc: Global, symbols: &[SymbolPart]) -> Result<Vec<u8>, AllocE
 /// An executable of one PT_LOAD, the first page of the file at 0x10000, with three sections after it: an empty one, a
 /// symbol table and its string table `names`.
 ///
-/// Refused only for want of memory.
+/// Refused only if there is no memory.
 pub fn executable_image(
     alloc: Global,
     symbols: &[SymbolPart],
@@ -490,7 +490,7 @@ pub fn executable_image(
 
 /// An executable with the functions `main` and `big`: 4,370 bytes.
 ///
-/// Refused only for want of memory.
+/// Refused only if there is no memory.
 pub fn executable(alloc: Global) -> Result<Vec<u8>, AllocError> {
     let main = SymbolPart {
         name: 1,

@@ -21,7 +21,7 @@ pub struct Measure {
 const LEAST: u64 = 48;
 
 impl Measure {
-    // With records of `size` bytes more; none where the gate after them goes over the end of the half.
+    // With records of `size` bytes more; none where the gate after them passes the end of the half.
     fn with(self, size: u64, half: u64) -> Option<Measure>
         requires half { half ≤ 16777216 }
         requires in_half { self.used + 1 ≤ half }

@@ -1,4 +1,4 @@
-//! Calls that answer for want of memory. Run as they are these tests meet no refusal; `scripts/fail-alloc journal_tests refused::`
+//! Calls that are refused memory. Run as they are these tests meet no refusal; `scripts/fail-alloc journal_tests refused::`
 //! refuses each allocation in turn, and then a test that has met one ends in an error of its own.
 use crate::bench::{Bench, Step};
 use crate::states::Course;

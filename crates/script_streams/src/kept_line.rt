@@ -77,7 +77,7 @@ impl KeptLine {
     }
 }
 
-// The first byte that is no space, of a line that goes on.
+// The first byte that is no space, of a line that continues.
 fn visible_after(so_far: Option<u8>, piece: &[u8]) -> Option<u8>
     ensures { (line : List ℕ) → so_far ≡ first_visible_of line → result ≡ first_visible_of (line ++ piece.now) }
 {

@@ -63,8 +63,7 @@ abbrev pub EachStands : ProcessView → Frame → List Frame → Type 0
 EachStands p f [] = ⊤
 EachStands p f (g ∷ gs) = StandsOn p f g × EachStands p g gs
 
--- The CFA of a frame is not below that of the frame that it called, and if it is the same the pcs differ: the stack goes on
--- upwards.
+-- The CFA of a frame is not below that of the frame that it called, and if it is the same the pcs differ: the stack continues upwards.
 abbrev pub IsAbove : Callee → Callee → Type 0
 IsAbove c d = (c.cfa ≤ d.cfa) × (c.cfa ≡ d.cfa → c.pc ≡ d.pc → ⊥)
 

@@ -29,8 +29,8 @@ pub fn each_frame_stands_on_a_rule()
         → spec.IsUnwoundFrom p n f behind stop → stands.EachStands p f behind }
 {}
 
-/// The stack goes on upwards: between two signals no CFA is below the one before, and none with the same pc is equal. It does
-/// nothing.
+/// The stack continues upwards: between two signals no CFA is below the one before, and none with the same pc is equal. It
+/// does nothing.
 pub fn the_stack_rises()
     ensures { (p : ProcessView) (desc : List ℕ) (behind : List numbers.Frame) (stop : stops.Stop)
         → spec.IsUnwoundFrom p spec.most (spec.first_frame desc) behind stop
