@@ -14,7 +14,7 @@ use Rattle.address_space.specs.Ranges.{IsAlike}
 use Rattle.address_space.proofs.Rows.{element, passes}
 use Rattle.address_space.proofs.Scanning.{first_yes, first_no}
 
--- what is found stands at its number
+-- what is found is at its number
 placed : {A : Type 0} (test : A → Bool) (i : ℕ) (xs : List A) (d : ℕ × A) → first_from test i xs ≡ Some d → (i ≤ d.0) × (slice_get xs (d.0 - i) ≡ Some d.1)
 placed test i [] d h = absurd (none-some d h)
 placed {A = A} test i (x ∷ xs) d h = elim (cases_Bool (test x)) as (λ _. (i ≤ d.0) × (slice_get (x ∷ xs) (d.0 - i) ≡ Some d.1)) [
@@ -113,7 +113,7 @@ pub items_of : {A : Type 0} (n : ℕ) (o : Option A) → option_map (λ (e : ℕ
 items_of n None = refl
 items_of n (Some x) = refl
 
--- what stands for an item that is found has the address
+-- the view of an item that is found has the address
 pub has_extent : {A X : Type 0} (f : A → Extent) (view : X → A) (xs : List A) (a : ℕ) (r : Option X) → option_map view r ≡ option_map (λ (e : ℕ × A). e.1) (first_from (λ x. is_within a (f x)) 0 xs) → IfSome r (λ x. ((f (view x)).start ≤ a) × (a < (f (view x)).past))
 has_extent f view xs a None h = tt
 has_extent {A = A} f view xs a (Some x) h = decided (first_from (λ y. is_within a (f y)) 0 xs) refl

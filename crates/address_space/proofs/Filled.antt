@@ -165,7 +165,7 @@ covered space a d h = found_passes (is_covering a) 0 space.segments d h
 above : (a : ℕ) (s : SegmentView) → is_covering a s ≡ true → s.vaddr ≤ a
 above a s h = leb-true s.vaddr a (and_parts (leb s.vaddr a) (ltb a (s.vaddr + span s)) h).0
 
--- The bytes of addresses of one place stand where those of each header do.
+-- The bytes of addresses of one place are where those of each header are.
 module _ (space : Space) (size a limit m n start past : ℕ) (all : AreHeldWithin size a limit start past space.segments) (alike : IsAlike (decider space) a limit m) (d : ℕ × SegmentView) (found : decider space a ≡ Some d) (some : 0 < n) (within : n ≤ m) where
   held_here : IsHeldWithin size a limit start past d.1
   unfolding decider

@@ -125,7 +125,7 @@ occurs_all space xs b i h = ap (λ ys. occurs space ys b) (drop_all i xs h)
 pub occurs_whole : (space : Space) (xs : List ℕ) (a : ℕ) → occurs space xs a ≡ occurs space (drop 0 xs) (a + 0)
 occurs_whole space xs a = let e : a ≡ a + 0 = omega arith in ap (occurs space xs) e
 
--- what is still to come behind some of the values at hand
+-- what is still to come after some of the values at hand
 module _ (space : Space) (test : ℕ → Bool) (c d : Cursor) (p : IsPlaced space c) (number : d.number ≡ c.number) where
   abbrev of_rest : ℕ → ℕ → List ℕ
   of_rest i n = decided_from space test i d.at n ++ ordered_from space test (i + 1) (drop (i + 1) space.segments)
@@ -170,7 +170,7 @@ pointwise_itself : (xs : List ℕ) → pointwise eqb xs xs ≡ true
 pointwise_itself [] = refl
 pointwise_itself (x ∷ xs) = and_from (eqb x x) (pointwise eqb xs xs) (eq-eqb x x refl) (pointwise_itself xs)
 
--- bytes that do not begin with the values at hand do not stand there
+-- bytes that do not begin with the values at hand do not occur there
 pub begins_otherwise : (space : Space) (needle here : List ℕ) (a : ℕ) → length here ≤ length needle → ((k : ℕ) → k < length here → value_at space (a + k) ≡ Some (get_or here k 0)) → starts_with eqb needle here ≡ false → occurs space needle a ≡ false
 begins_otherwise space needle here a room values other = elim (cases_Bool (occurs space needle a)) as (λ _. occurs space needle a ≡ false) [
   | inl holds ↦

@@ -56,12 +56,12 @@ pub laid_raised : (rows : List Row) (low raised : ℕ) → raised ≤ ceiling_of
 laid_raised [] low raised le laid = le
 laid_raised (r ∷ rows) low raised le laid = (le, laid.1, laid.2)
 
--- one more behind the others
+-- one more after the others
 pub laid_put : (rows : List Row) (low high : ℕ) (r : Row) → IsLaid low high rows → high ≤ r.start → 0 < r.size → IsLaid low (past_of r) (rows ++ r ∷ [])
 laid_put [] low high r laid from some = (omega (arith, laid, from), some, omega arith)
 laid_put (x ∷ rows) low high r laid from some = (laid.0, laid.1, laid_put rows (past_of x) high r laid.2 from some)
 
--- what one of those behind the first answers, all answer
+-- what one of those after the first answers, all answer
 pub holder_rest : (r : Row) (rows : List Row) (low high b n : ℕ) → IsLaid low high (r ∷ rows) → holder rows b ≡ Some n → holder (r ∷ rows) b ≡ Some n
 holder_rest r rows low high b n laid h = elim (cases_lt b (past_of r)) as (λ _. holder (r ∷ rows) b ≡ Some n) [
   | inl below ↦ absurd (none-some n (sym (laid_below rows (past_of r) high b laid.2 below) ∙ h))
@@ -245,7 +245,7 @@ pub record IsPut (answer : ℕ → Option ℕ) (rows : List Row) (at : ℕ) : Ty
 pub put_none : (answer : ℕ → Option ℕ) → IsPut answer [] 0
 put_none answer = record { laid = omega arith; same = λ a h. absurd (omega arith); ends = tt }
 
--- the row that comes next is put behind them
+-- the row that comes next is put after them
 pub put_next : (answer : ℕ → Option ℕ) (rows : List Row) (at : ℕ) (r : Row) → IsPut answer rows at → IsNext answer at r → IsPut answer (rows ++ r ∷ []) (past_of r)
 put_next answer rows at r put next = record {
   laid = laid_put rows 0 at r put.laid next.from next.some;
@@ -285,7 +285,7 @@ put_all answer rows at put none a = elim (cases_lt a at) as (λ _. answer a ≡ 
   | inr above ↦ none a above ∙ sym (laid_above rows 0 at a put.laid above)
 ]
 
--- nothing comes behind them
+-- nothing follows them
 pub put_sheet : (answer : ℕ → Option ℕ) (rows : List Row) (at : ℕ) → at ≤ 2 ^ 64 → IsPut answer rows at → ((a : ℕ) → at ≤ a → answer a ≡ None) → IsSheet rows × ((a : ℕ) → holder rows a ≡ answer a)
 put_sheet answer rows at fits put none =
     let all = put_all answer rows at put none in (

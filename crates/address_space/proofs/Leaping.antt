@@ -20,7 +20,7 @@ use Rattle.address_space.proofs.Layering.{laid_bounds}
 use Rattle.address_space.proofs.Ordering.{decided_number, filter_empty, number_decided, passed_over}
 use Rattle.address_space.proofs.Sheets.{laid_found, same_default}
 
--- the first row behind a place of the order
+-- the first row after a place of the order
 pub next_row : (rows : List Row) (last count : ℕ) (row : Row) → IsNonDecreasingBy key_of rows → ((k : ℕ) (r : Row) → k < count → key_of (get_or rows k r) ≤ last) → ((k : ℕ) (r : Row) → count ≤ k → k < length rows → last < key_of (get_or rows k r)) → count < length rows → get_or rows count row ≡ row → (last < key_of row) × ((s : Row) → Contains rows s → last < key_of s → key_of row ≤ key_of s)
 next_row rows last count row rising below above less is =
     let own = above count row (omega arith) less in
@@ -101,7 +101,7 @@ sheet_order answer rows order sheet moved same =
     }
 
 module _ (answer : ℕ → Option ℕ) (rows : List Row) (o : IsOrderOf answer rows) (n at : ℕ) (small : at < 2 ^ 64) (elsewhere : ¬ (answer at ≡ Some n)) where
-  -- the row of a later address comes behind
+  -- the row of a later address follows
   later_row : (b j : ℕ) (m : IsAmong rows b j) → n ≤ j → (j ≡ n → at ≤ b) → n * 2 ^ 64 + at < key_of m.row
   later_row b j m le from =
       let number = m.number in
@@ -187,7 +187,7 @@ module _ (space : Space) (rows : List Row) (o : IsOrderOf (number_of space) rows
   abbrev rest : List ℕ
   rest = ordered_from space test (n + 1) (drop (n + 1) space.segments)
 
-  -- nothing, where no row comes behind
+  -- nothing, where no row follows
   pub leap_none : ((s : Row) → Contains rows s → key_of s ≤ n * 2 ^ 64 + at) → decided_from space test n at left ++ rest ≡ []
   leap_none none =
       let never = none_later (number_of space) rows o n at small (not_number space n at elsewhere) none in
@@ -195,7 +195,7 @@ module _ (space : Space) (rows : List Row) (o : IsOrderOf (number_of space) rows
       ∙ ordered_none space test (drop (n + 1) space.segments) (n + 1) (λ j b h. not_decided space j b (never b j (omega (arith, h)) (λ e. absurd (omega (arith, h, e)))))
 
   module _ (r : Row) (first : (s : Row) → Contains rows s → n * 2 ^ 64 + at < key_of s → key_of r ≤ key_of s) where
-    -- what the segment of the next row decides, and those behind it
+    -- what the segment of the next row decides, and those after it
     pub leap_number : n < r.number → decided_from space test n at left ++ rest ≡ ordered_from space test r.number (drop r.number space.segments)
     leap_number more =
         let never = before_row (number_of space) rows o n at small (not_number space n at elsewhere) r first in

@@ -13,7 +13,7 @@ use Rattle.address_space.proofs.Extents.{numbered}
 abbrev number_of : {A : Type 0} → Option (ℕ × A) → Option ℕ
 number_of {A} o = option_map (λ (e : ℕ × A). e.0) o
 
--- one more behind those of a list
+-- one more after those of a list
 found_more : {A : Type 0} (test : A → Bool) (i : ℕ) (xs : List A) (x : A)
     → number_of (first_from test i (xs ++ x ∷ [])) ≡ option_or (number_of (first_from test i xs)) (cond (test x) (Some (i + length xs)) None)
 found_more {A = A} test i [] x =
@@ -78,7 +78,7 @@ by_number {A = A} test xs (Some d) is = numbered test xs d is ∙ ap (option_map
 found_by : {A : Type 0} (test : A → Bool) (xs : List A) (o : Option ℕ) → o ≡ number_of (first_from test 0 xs) → option_and_then (λ n. slice_get xs n) o ≡ find test xs
 found_by test xs o is = ap (option_and_then (λ n. slice_get xs n)) is ∙ by_number test xs (first_from test 0 xs) refl
 
--- what stands at the number of the first that passes is that
+-- the item at the number of the first that passes is that
 pub there_is : {A : Type 0} (test : A → Bool) (xs : List A) (o : Option ℕ) → o ≡ number_of (first_from test 0 xs) → MatchOption o (find test xs ≡ None) (λ n. slice_get xs n ≡ find test xs)
 there_is test xs None is = sym (found_by test xs None is)
 there_is test xs (Some n) is = found_by test xs (Some n) is

@@ -43,7 +43,7 @@ passed_over space test i a left m b le none at =
     let e : left ≡ m + (left - m) = omega arith in
     ap (λ n. filter p (range_with_len a n)) e ∙ filter_skip p m a (left - m) none ∙ filter_onward p (a + m) b (left - m) (λ h. sym (at h))
 
--- m addresses that are passed over, and the one behind them that is found
+-- m addresses that are passed over, and the one after them that is found
 pub found_behind : (space : Space) (test : ℕ → Bool) (i a left m b : ℕ) → m + 1 ≤ left → ((k : ℕ) → k < m → (is_decided_by space i (a + k) && test (a + k)) ≡ false) → (is_decided_by space i (a + m) && test (a + m)) ≡ true → (0 < left - (m + 1) → b ≡ a + (m + 1)) → decided_from space test i a left ≡ (a + m) ∷ decided_from space test i b (left - (m + 1))
 found_behind space test i a left m b le none one at =
     let p = λ (q : ℕ). is_decided_by space i q && test q in
@@ -106,7 +106,7 @@ span_fits xs i s all h small =
           omega (arith, is)
     ]
 
--- behind some of the values at hand
+-- after some of the values at hand
 pub placed_behind : (space : Space) (i a n b : ℕ) (here rest : List ℕ) → rest ≡ drop n here → (0 < length here - n → b ≡ a + n) → ((k : ℕ) → k < length here → value_at space (a + k) ≡ Some (get_or here k 0)) → ((k : ℕ) → k < length here → is_decided_by space i (a + k) ≡ true)
     → ((k : ℕ) → k < length rest → value_at space (b + k) ≡ Some (get_or rest k 0)) × ((k : ℕ) → k < length rest → is_decided_by space i (b + k) ≡ true)
 placed_behind space i a n b here rest is at values decided =

@@ -34,7 +34,7 @@ module _ {X : Type 0} (R : X → X → Type 0) (flips : (x y : X) → R x y → 
     | inr more ↦ flips (get_or xs j d) (get_or xs i d) (all j i d (omega arith) p)
   ]
 
-  -- where an element of the changed list stood
+  -- the place that an element of the changed list had
   came_from : (xs : List X) (a b : ℕ) → a < length xs → b < length xs → (i : ℕ) (d : X) → i < length xs → (s : ℕ) × (s < length xs) × (get_or (swap xs a b) i d ≡ get_or xs s d) × IsFrom a b i s
   came_from xs a b p q i d h =
       let moved = swapped_from_swap xs (swap xs a b) a b d p q refl in

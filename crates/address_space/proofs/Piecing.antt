@@ -1,4 +1,4 @@
--- The first of the stretches of addresses, and those behind it.
+-- The first of the stretches of addresses, and those after it.
 use Rattle.std.proofs.Common.{◌≡◌, ◌<◌, ℕ, zero, suc, ◌+◌, ◌-◌, eqb, cond, Bool, true, false, List, [], ◌∷◌, map, Option, None, Some, refl, sym, ap, subst, ◌∙◌, arith, inl, inr}
 use Rattle.std.proofs.lemmas.Bool.{and_from, eq-eqb, cond-true, cond-false, cases_lt}
 use Rattle.address_space.specs.Source.{Space, Place, nowhere, dumped, cut_off, unwritten, in_file, place_at}
@@ -30,7 +30,7 @@ unfolding stretches
 starts same a zero h = absurd (omega arith)
 starts same a (suc n) h = grown_starts same a (stretches same (a + 1) n)
 
--- an address that is not the same as the next stands by itself
+-- an address that is not the same as the next is alone
 alone : (same : ℕ → ℕ → Bool) (a b : ℕ) (xs : List (ℕ × ℕ)) → StartsAt b xs → same a b ≡ false → grown same a xs ≡ (a, 1) ∷ xs
 alone same a b [] h apart = absurd h
 alone same a b (x ∷ xs) h apart = cond-false (same a x.0) _ _ (ap (same a) h ∙ apart)
@@ -40,7 +40,7 @@ unfolding stretches
 one_alone same a zero h = refl
 one_alone same a (suc r) h = alone same a (a + 1) (stretches same (a + 1) (suc r)) (starts same (a + 1) (suc r) (omega arith)) (h (omega arith))
 
--- m + 1 addresses in a row are one stretch where each is the same as its neighbour and the last is not as the one behind
+-- m + 1 addresses in a row are one stretch where each is the same as its neighbour and the last is not as the one after
 first_stretch : (same : ℕ → ℕ → Bool) (m a r : ℕ) → ((k : ℕ) → k < m → same (a + k) (a + k + 1) ≡ true) → (0 < r → same (a + m) (a + m + 1) ≡ false) → stretches same a (suc m + r) ≡ (a, suc m) ∷ stretches same (a + suc m) r
 unfolding stretches
 first_stretch same zero a r joined ends =

@@ -23,7 +23,7 @@ passes {A = A} test i (x ∷ xs) d h = elim (cases_Bool (test x)) as (λ _. test
   | inr fails ↦ passes test (i + 1) xs d (sym (first_no test i x xs fails) ∙ h)
 ]
 
--- it stands at its number
+-- it is at its number
 numbered : {A : Type 0} (test : A → Bool) (i : ℕ) (xs : List A) (d : ℕ × A) → first_from test i xs ≡ Some d → (i ≤ d.0) × ((z : A) → get_or xs (d.0 - i) z ≡ d.1)
 numbered test i [] d h = absurd (none-some d h)
 numbered {A = A} test i (x ∷ xs) d h = elim (cases_Bool (test x)) as (λ _. (i ≤ d.0) × ((z : A) → get_or (x ∷ xs) (d.0 - i) z ≡ d.1)) [
@@ -65,7 +65,7 @@ kept_at p (y ∷ ys) x (suc k) h e t =
       | false ↦ rest
     ]
 
--- what an element stands for is among what all stand for
+-- the view of an element is among the views of all
 contains_map : {X Y : Type 0} (view : X → Y) (xs : List X) (x : X) → Contains xs x → Contains (map view xs) (view x)
 contains_map view xs x c = (c.0, rw length-map c.1, get_or-map view xs c.0 x ∙ ap view c.2)
 
@@ -80,12 +80,12 @@ pub element : {X : Type 0} (xs : List X) (n : ℕ) → n < length xs → X
 element [] n h = absurd (omega arith)
 element (x ∷ xs) n h = x
 
--- Of the items those that take addresses stand in the table, each behind the end of the one before.
+-- Of the items the table has those that take addresses, each after the end of the one before.
 module _ {A : Type 0} (low past : A → ℕ) (takes : ℕ × A → Bool) (taken : (d : ℕ × A) (b : ℕ) → has low past b d.1 ≡ true → takes d ≡ true) (ws : List A) (table : List (ℕ × A)) (moved : IsPermutation (filter takes (enumerate_from 0 ws)) table) (apart : (i j : ℕ) (d : ℕ × A) → i < j → j < length table → past (get_or table i d).1 ≤ low (get_or table j d).1) where
   abbrev answer : ℕ → Option (ℕ × A)
   answer b = first_from (has low past b) 0 ws
 
-  -- what a scan finds stands in the table
+  -- the table has what a scan finds
   found_in : (b : ℕ) (d : ℕ × A) → answer b ≡ Some d → Contains table d
   found_in b d h =
       let c = listed (has low past b) 0 ws d h in
@@ -139,7 +139,7 @@ module _ {A : Type 0} (low past : A → ℕ) (takes : ℕ × A → Bool) (taken 
       decided (Some e) h =
           absurd (true≢false (sym (passes (has low past b) 0 ws e h) ∙ All-contains (λ (d : ℕ × A). has low past b d.1 ≡ false) table e none (found_in b e h)))
 
-  -- an item that has an address stands in the table with its number
+  -- the table has an item that has an address, with its number
   stands_in : (b k : ℕ) (d : A) → k < length ws → has low past b (get_or ws k d) ≡ true → Contains table (k, get_or ws k d)
   stands_in b k d h has_it =
       let item : ℕ × A = (k, get_or ws k d) in
@@ -157,7 +157,7 @@ module _ {A : Type 0} (low past : A → ℕ) (takes : ℕ × A → Bool) (taken 
       let number : i ≡ j = ap (λ (e : ℕ × A). e.0) same in
       omega arith
 
-  -- behind the end of one there is another number
+  -- after the end of one there is another number
   other_number : (a b : ℕ) (d e : ℕ × A) → answer a ≡ Some d → answer b ≡ Some e → past d.1 ≤ b → d.0 ≡ e.0 → ⊥
   other_number a b d e h g behind_it same =
       let here = numbered (has low past a) 0 ws d h in
@@ -172,7 +172,7 @@ module _ {A : Type 0} (low past : A → ℕ) (takes : ℕ × A → Bool) (taken 
   other_behind a b d h behind_it None g = refl
   other_behind a b d h behind_it (Some e) g = ne_eqb d.0 e.0 (other_number a b d e h g behind_it)
 
-  -- how far the answer stays the same behind an address that one has
+  -- how far the answer stays the same after an address that one has
   pub held_on : (a limit m : ℕ) (d : ℕ × A) → 0 < limit → Contains table d → low d.1 ≤ a → a < past d.1 → m ≡ min limit (past d.1 - a) → (answer a ≡ Some d) × IsAlike answer a limit m
   held_on a limit m d positive c p q is =
       let here = held a d c p q in (
@@ -185,7 +185,7 @@ module _ {A : Type 0} (low past : A → ℕ) (takes : ℕ × A → Bool) (taken 
         },
       )
 
--- The same of a list whose elements stand for those in the table.
+-- The same of a list whose elements have those of the table as views.
 module _ {A X : Type 0} (low past : A → ℕ) (takes : ℕ × A → Bool) (taken : (d : ℕ × A) (b : ℕ) → has low past b d.1 ≡ true → takes d ≡ true) (each : (d : ℕ × A) → takes d ≡ true → low d.1 < past d.1) (ws : List A) (view : X → ℕ × A) (rows : List X) (moved : IsPermutation (filter takes (enumerate_from 0 ws)) (map view rows)) (apart : (i j : ℕ) (d : X) → i < j → j < length rows → past (view (get_or rows i d)).1 ≤ low (view (get_or rows j d)).1) where
   abbrev reply : ℕ → Option (ℕ × A)
   reply b = first_from (has low past b) 0 ws
@@ -196,7 +196,7 @@ module _ {A X : Type 0} (low past : A → ℕ) (takes : ℕ × A → Bool) (take
   abbrev end_of : X → ℕ
   end_of x = past (view x).1
 
-  -- what holds of the elements holds of what they stand for
+  -- what holds of the elements holds of their views
   viewed : (zs : List X) → ((i j : ℕ) (d : X) → i < j → j < length zs → end_of (get_or zs i d) ≤ first_of (get_or zs j d)) → (i j : ℕ) (d : ℕ × A) → i < j → j < length (map view zs) → past (get_or (map view zs) i d).1 ≤ low (get_or (map view zs) j d).1
   viewed [] h i j d less inside = absurd (omega arith)
   viewed (x ∷ xs) h i j d less inside =

@@ -14,7 +14,7 @@ abbrev pub IsFrom : {A : Type 0} → ℕ → Option (ℕ × A) → Type 0
 IsFrom i None = Unit {0}
 IsFrom i (Some x) = i ≤ x.0
 
--- ranges by their first address and the one behind the last
+-- ranges by their first address and the one after the last
 abbrev pub has : {A : Type 0} → (A → ℕ) → (A → ℕ) → ℕ → A → Bool
 has low past b x = leb (low x) b && ltb b (past x)
 

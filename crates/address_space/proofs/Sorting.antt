@@ -1,4 +1,4 @@
--- The table of the extents that have addresses, beside a scan of them all.
+-- The table of the extents that have addresses, compared with a scan of them all.
 use Rattle.std.proofs.Common.{◌≡◌, ◌<◌, ◌≤◌, ℕ, ◌+◌, ◌-◌, leb, ltb, true, List, map, length, get_or, None, Some, Contains, AllPairs, min, ap, subst, ◌∙◌, arith}
 use Rattle.std.specs.List.{AllAdjacentBelow, enumerate_from}
 use Rattle.std.specs.List.Sorted.{IsNonDecreasingBy, IsPermutation}

@@ -1,4 +1,4 @@
--- What the code's executables stand for.
+-- What the code's executables mean.
 use Rattle.address_space.specs.Source.{ExecutableView}
 use Rattle.address_space.specs.declared.attached.Attached.{Attached}
 

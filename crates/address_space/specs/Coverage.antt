@@ -4,7 +4,7 @@ use Rattle.std.specs.Prelude.{◌≡◌, ◌<◌, ◌≤◌, ℕ, ◌+◌, ◌-�
 use Rattle.address_space.specs.Source.{Space}
 use Rattle.address_space.specs.Occurrence.{is_text_at}
 
--- the first stretch of n addresses from a on: its neighbours are the same, and its last is not as the one behind
+-- the first stretch of n addresses from a on: its neighbours are the same, and its last is not as the one after
 pub record IsFirst (same : ℕ → ℕ → Bool) (a n : ℕ) (x : ℕ × ℕ) : Type 0 where
   pub first : x.0 ≡ a
   pub some : 0 < x.1
@@ -12,12 +12,12 @@ pub record IsFirst (same : ℕ → ℕ → Bool) (a n : ℕ) (x : ℕ × ℕ) : 
   pub joined : (k : ℕ) → k + 1 < x.1 → same (a + k) (a + k + 1) ≡ true
   pub apart : x.1 < n → same (a + x.1 - 1) (a + x.1) ≡ false
 
--- stretches, one behind the other, that are n addresses from a on
+-- stretches, one after the other, that are n addresses from a on
 abbrev pub IsPartition : (ℕ → ℕ → Bool) → ℕ → ℕ → List (ℕ × ℕ) → Type 0
 IsPartition same a n [] = n ≡ 0
 IsPartition same a n (x ∷ xs) = IsFirst same a n x × IsPartition same (a + x.1) (n - x.1) xs
 
--- m addresses from a on are a text: no byte of text stands before or behind them
+-- m addresses from a on are a text: no byte of text is right before or right after them
 pub record IsText (space : Space) (a m : ℕ) : Type 0 where
   pub some : 0 < m
   pub within : a + m ≤ 2 ^ 64

@@ -22,7 +22,7 @@ pub record IsRun (space : Space) (a limit n : ℕ) (number : Option ℕ) (bytes 
 abbrev pub WantsValue : Space → (ℕ → Bool) → Type 0
 WantsValue space test = (a : ℕ) → value_at space a ≡ None → test a ≡ false
 
--- the addresses that are still to come and pass the test: of the segment at hand, then of those behind it
+-- the addresses that are still to come and pass the test: of the segment at hand, then of those after it
 abbrev pub to_come : Space → (ℕ → Bool) → Cursor → List ℕ
 to_come space test c = decided_from space test c.number c.at c.left ++ ordered_from space test (c.number + 1) (drop (c.number + 1) space.segments)
 

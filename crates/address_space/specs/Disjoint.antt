@@ -6,7 +6,7 @@ use Rattle.elf_view.specs.Header.{SegmentView}
 use Rattle.core_notes.specs.FileList.{FileView}
 use Rattle.address_space.specs.Source.{span, is_covering, is_mapping}
 
--- no address is had by both
+-- no address is in both
 abbrev pub AreApart : {A : Type 0} → (ℕ → A → Bool) → A → A → Type 0
 AreApart has x y = (a : ℕ) → IsTrue (has a x) → ¬ IsTrue (has a y)
 
@@ -18,7 +18,7 @@ AreDisjoint segments = AllPairs (AreApart is_covering) segments
 abbrev pub AreFilesDisjoint : List FileView → Type 0
 AreFilesDisjoint files = AllPairs (AreApart is_mapping) files
 
--- addresses in a row: the first, and the one behind the last
+-- addresses in a row: the first, and the one after the last
 pub record Extent : Type 0 where
   pub start : ℕ
   pub past : ℕ

@@ -1,4 +1,4 @@
--- Rows over one another: of those that have an address, the first in the list decides it.
+-- Rows over one another: an address is decided by the first row in the list that has it.
 use Rattle.std.specs.Prelude.{◌≡◌, ◌<◌, ◌≤◌, ℕ, ◌+◌, ◌^◌, ◌&&◌, nat_le, nat_lt, max, if◌then◌else◌, Bool, List, [], ◌∷◌, Option, None, Some, ⊤}
 use Rattle.address_space.specs.ScanWords.{past_of}
 use Rattle.address_space.specs.declared.row.Row.{Row}
@@ -12,7 +12,7 @@ abbrev pub holder : List Row → ℕ → Option ℕ
 holder [] a = None
 holder (r ∷ rows) a = if has_row a r then Some r.number else holder rows a
 
--- the first of two answers that is one
+-- the first answer, or else the second
 abbrev pub or_else : Option ℕ → Option ℕ → Option ℕ
 or_else None other = other
 or_else (Some n) other = Some n
@@ -27,7 +27,7 @@ abbrev pub IsLaid : ℕ → ℕ → List Row → Type 0
 IsLaid low high [] = low ≤ high
 IsLaid low high (r ∷ rows) = (low ≤ r.start) × (0 < r.size) × IsLaid (past_of r) high rows
 
--- each is as long as can be: the address behind its last is not of its number
+-- each is as long as can be: the address after its last is not of its number
 abbrev pub IsEnded : List Row → Type 0
 IsEnded [] = ⊤
 IsEnded (r ∷ rows) = (¬ (holder rows (past_of r) ≡ Some r.number)) × IsEnded rows
@@ -58,7 +58,7 @@ pub record IsMerging (over under : List Row) (at : ℕ) : Type 0 where
   pub under_ended : IsEnded under
   pub strange : AreStrange over under
 
--- The row is what comes next from an address on.
+-- The row is the next one from an address on.
 pub record IsNext (answer : ℕ → Option ℕ) (at : ℕ) (r : Row) : Type 0 where
   pub from : at ≤ r.start
   pub some : 0 < r.size
@@ -67,12 +67,12 @@ pub record IsNext (answer : ℕ → Option ℕ) (at : ℕ) (r : Row) : Type 0 wh
   pub held : (a : ℕ) → r.start ≤ a → a < past_of r → answer a ≡ Some r.number
   pub ended : ¬ (answer (past_of r) ≡ Some r.number)
 
--- below the first row on top the first below shows nowhere
+-- before the first row on top begins, the first row below has no address from `at` on
 abbrev pub IsHidden : List Row → List Row → ℕ → Type 0
 IsHidden over [] at = ⊤
 IsHidden over (u ∷ under) at = ceiling_of over ≤ max at u.start
 
--- The row comes next, and the two sheets that are left answer as those before, behind it.
+-- The row comes next, and the two sheets that are left answer as those before, after it.
 pub record IsTaken (over under : List Row) (at : ℕ) (r : Row) (over_left under_left : List Row) (at_left : ℕ) : Type 0 where
   pub next : IsNext (either_holder over under) at r
   pub merging : IsMerging over_left under_left at_left

@@ -1,5 +1,4 @@
--- Where bytes stand in the memory of a process, and the texts in it. Addresses are listed by the number of the segment that
--- decides them and then by themselves.
+-- Where bytes occur in the memory of a process, and the texts in it. Addresses are listed by the number of the segment that decides them and then by themselves.
 use Rattle.std.specs.Prelude.{ℕ, zero, suc, ◌+◌, ◌-◌, ◌^◌, ◌==◌, ◌&&◌, ◌||◌, not, nat_le, if◌then◌else◌, Bool, true, false, List, [], ◌∷◌, ◌++◌, map, filter, Option, None, Some}
 use Rattle.std.specs.List.{range_with_len}
 use Rattle.elf_view.specs.Header.{SegmentView}
@@ -50,7 +49,7 @@ is_text_value (Some x) = is_text_byte x
 abbrev pub is_text_at : Space → ℕ → Bool
 is_text_at space a = is_text_value (value_at space a)
 
--- the address of a byte of text that no byte of text stands before
+-- the address of a byte of text that has no byte of text before it
 abbrev pub begins_text : Space → ℕ → Bool
 begins_text space a = is_text_at space a && (a == 0 || not (is_text_at space (a - 1)))
 

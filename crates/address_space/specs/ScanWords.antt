@@ -1,4 +1,4 @@
--- What the code's answers of a search through a table stand for.
+-- What the code's answers of a search through a table mean.
 use Rattle.std.specs.Prelude.{ℕ, ◌+◌}
 use Rattle.elf_view.specs.Header.{SegmentView}
 use Rattle.elf_view.specs.SegmentWords.{segment_view}
@@ -10,7 +10,7 @@ use Rattle.address_space.specs.declared.row.Row.{Row}
 abbrev pub decided_view : Decided → ℕ × SegmentView
 decided_view d = (d.number, segment_view d.segment)
 
--- the address behind the last of a row
+-- the address after the last of a row
 abbrev pub past_of : Row → ℕ
 past_of r = r.start + r.size
 

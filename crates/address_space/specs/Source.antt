@@ -1,6 +1,5 @@
--- What stands at an address of a process's memory, as its core file tells it: the bytes of PT_LOAD segments, as far as the
--- file has them (System V gABI, "Program Header"; core(5)), and the files that were mapped (core(5), NT_FILE), as far as
--- executables that stand for them are attached.
+-- What is at an address of a process's memory, as its core file tells it: the bytes of PT_LOAD segments, as far as the file has them (System V gABI, "Program Header";
+-- core(5)), and the files that were mapped (core(5), NT_FILE), as far as executables are attached for them.
 use Rattle.std.specs.Prelude.{ℕ, zero, suc, ◌+◌, ◌-◌, ◌*◌, ◌==◌, ◌&&◌, nat_lt, nat_le, if◌then◌else◌, Bool, List, [], ◌∷◌, ◌++◌, length, map, filter, slice_index, Option, None, Some, find}
 use Rattle.std.specs.Str.{bytes_eq}
 use Rattle.elf_view.specs.Header.{SegmentView}
@@ -8,7 +7,7 @@ pub use Rattle.elf_view.specs.Header.{is_load}
 use Rattle.core_notes.specs.FileList.{FileView}
 pub use Rattle.core_notes.specs.FileList.{is_mapping}
 
--- an executable that stands for the mapped file of that path: its bytes
+-- an executable that is attached for the mapped file of that path: its bytes
 pub record ExecutableView : Type 0 where
   pub path : List ℕ
   pub image : List ℕ
@@ -57,7 +56,7 @@ abbrev pub spot_of : ℕ → Option (ℕ × FileView) → Option SpotView
 spot_of a None = None
 spot_of a (Some e) = Some (spot_in a e.1)
 
--- the executable that stands for the file of that name: the first that was attached under it
+-- the executable for the file of that name: the first that was attached under it
 abbrev pub is_named : List ℕ → ExecutableView → Bool
 is_named name x = bytes_eq x.path name
 
@@ -74,7 +73,7 @@ pub data Place : Type 0 where
   cut_off : ℕ → Place
   -- the segment has no byte for it; the entry of NT_FILE that maps it
   unwritten : ℕ → Option (ℕ × FileView) → Place
-  -- so too, and its byte is in the executable that stands for the file of that entry
+  -- so too, and its byte is in the executable that is attached for the file of that entry
   in_file : ℕ → ℕ × FileView → List ℕ → Place
 
 -- an address that is mapped by that entry, where this is the executable for it

@@ -1,4 +1,4 @@
--- What the code's address space stands for.
+-- What the code's address space means.
 use Rattle.std.specs.Prelude.{ℕ, List, map, Option}
 use Rattle.elf_view.specs.Header.{segments_of}
 use Rattle.elf_view.specs.ViewWords.{image_of}

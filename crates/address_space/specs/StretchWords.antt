@@ -1,4 +1,4 @@
--- What the code's stretches stand for.
+-- What the code's stretches mean.
 use Rattle.std.specs.Prelude.{◌≡◌, ◌≤◌, ℕ, ◌+◌, ◌-◌, List, ⊤}
 use Rattle.std.specs.Option.{option_map}
 use Rattle.elf_view.specs.Field.{part}
@@ -10,7 +10,7 @@ use Rattle.address_space.specs.declared.source.StretchKind as kinds
 use Rattle.address_space.specs.declared.source.StretchKind.TheVariants as kind
 use Rattle.address_space.specs.declared.source.Stretch.{Stretch}
 
--- what an image shows of n addresses whose bytes stand there
+-- what an image shows of n addresses whose bytes it has
 abbrev pub shown_in : List ℕ → ℕ → kinds.StretchKind → Content (List ℕ)
 shown_in image n (kind.Core offset) = held (part image offset n)
 shown_in image n (kind.FromFile bytes) = from_file bytes.now
@@ -22,7 +22,7 @@ shown_in image n kind.Unmapped = unmapped
 abbrev pub piece_in : List ℕ → Stretch → PieceView
 piece_in image s = record { first = s.first; length = s.length; content = shown_in image s.length s.kind }
 
--- the bytes of n addresses that the image has stand from place `start` on and before place `past`
+-- the bytes of n addresses that the image has are from place `start` on and before place `past`
 abbrev pub IsWithin : ℕ → ℕ → ℕ → kinds.StretchKind → Type 0
 IsWithin start past n (kind.Core offset) = (start ≤ offset) × (offset + n ≤ past)
 IsWithin start past n (kind.FromFile bytes) = ⊤

@@ -1,4 +1,4 @@
--- What the code's iterator over stretches stands for.
+-- What the code's iterator over stretches means.
 use Rattle.std.specs.Prelude.{◌≡◌, ℕ, List, Option, IfSome}
 use Rattle.std.specs.Iterator.{YieldsFirstBy}
 use Rattle.elf_view.specs.Header.{segments_of}
@@ -19,7 +19,7 @@ front_of s = image_of s.space.now.elf
 abbrev pub pieces_left_in : List ℕ → Stretches → List PieceView
 pieces_left_in image s = pieces_of (space_in image (space_of s.space.now)) s.at s.left
 
--- what an image of that size has for the addresses that are still to come stands from place `start` on and before place `past`
+-- what an image of that size has for the addresses that are still to come is from place `start` on and before place `past`
 abbrev pub AreLeftWithin : ℕ → ℕ → Stretches → Type 0
 AreLeftWithin start past s = AreHeldWithin s.size s.at s.left start past (segments_of (front_of s))
 

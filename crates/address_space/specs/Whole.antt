@@ -1,4 +1,4 @@
--- The image of which a space has the first bytes, and where in it the bytes of addresses stand.
+-- The image of which a space has the first bytes, and the places in it of the bytes of addresses.
 use Rattle.std.specs.Prelude.{◌≡◌, ◌<◌, ◌≤◌, ℕ, ◌+◌, ◌-◌, true, List, length, take}
 use Rattle.std.specs.List.{AllByRecursion}
 use Rattle.elf_view.specs.Field.{part}
@@ -17,8 +17,7 @@ filled image s = record s { bytes = part image s.offset s.filesz }
 abbrev pub space_in : List ℕ → Space → Space
 space_in image space = record space { segments = segments_of image }
 
--- What an image of that size has for n addresses from `first` on, in the file range of a program header, stands from place
--- `start` on and before place `past`.
+-- What an image of that size has for n addresses from `first` on, in the file range of a program header, is from place `start` on and before place `past`.
 abbrev pub IsHeldWithin : ℕ → ℕ → ℕ → ℕ → ℕ → SegmentView → Type 0
 IsHeldWithin size first n start past s =
     (a : ℕ) → first ≤ a → a < first + n → is_covering a s ≡ true → a - s.vaddr < s.filesz → s.offset + (a - s.vaddr) < size

@@ -6,7 +6,7 @@ ghost use Rattle.address_space.specs.PathWords.{AreNumbered};
 use crate::by_path::ByPath;
 use std::alloc::{AllocError, Global};
 
-/// An executable, lent, that stands for the mapped file of that path.
+/// An executable, lent, that is attached for the mapped file of that path.
 #[derive(Clone, Copy, Debug)]
 pub struct Attached<'a> {
     /// The path.
@@ -46,7 +46,7 @@ impl<'a> Executables<'a> {
         self.list.as_slice().is_empty()
     }
 
-    /// Puts one behind the others. Where there is no memory they stay as they are.
+    /// Puts one after the others. Where there is no memory they stay as they are.
     pub(crate) fn push(&mut self, executable: Attached<'a>) -> Result<(), AllocError>
         ensures ok { OnOk result (map attached_view self.new.list.items
             ≡ map attached_view self.old.list.items ++ attached_view executable.entry ∷ []) }

@@ -1,4 +1,4 @@
-// The paths of a list, looked up in a number of steps that is the logarithm of theirs.
+// The paths of a list, looked up in logarithmic time.
 ghost use Rattle.std.specs.Prelude.{◌≡◌, ◌++◌, ◌∷◌, [], ℕ, List, MatchOption, None, OnOk, OnErr, find, length, slice_get};
 ghost use Rattle.std.specs.Option.{option_map};
 ghost use Rattle.address_space.specs.Source.{ExecutableView, first_from, is_named};
@@ -24,8 +24,8 @@ impl<'a> ByPath<'a> {
         }
     }
 
-    /// Numbers one executable more, of that path: the table of any list is that of the list with it then. Where there is no
-    /// memory it is that of the list still.
+    /// Adds one executable more, of that path. If this was the table of a list, it is then the table of that list with the
+    /// executable. Without memory it is still that of the list.
     pub fn add(&mut self, path: &'a [u8], number: usize) -> Result<(), AllocError>
         ensures ok { OnOk result ((all : List ExecutableView) (one : ExecutableView) → one.path ≡ path.entry.now
             → number ≡ length all → AreNumbered self.old all → AreNumbered self.new (all ++ one ∷ [])) }

@@ -32,7 +32,7 @@ impl<'a> Cursor<'a> {
     ghost use Rattle.address_space.specs.CursorWords.{IsPlaced, work_left};
     ghost use Rattle.address_space.specs.Source.{Space};
 
-    /// Behind the next `count` of the addresses whose values are at hand.
+    /// The cursor after the next `count` of the addresses whose values are at hand.
     pub(crate) fn passed(self, count: usize) -> Cursor<'a>
         requires { count ≤ length self.here.now }
         ensures number { result.number ≡ self.entry.number }
@@ -83,7 +83,7 @@ impl<'a> AddressSpace<'a> {
         })
     }
 
-    /// Where the segment at hand does not decide the next address: the next address that it decides or, if there is none, the
+    /// If the segment at hand does not decide the next address: the next address that it decides or, if there is none, the
     /// front of the next segment that decides any.
     #[tactic(auto, unfolding(crate::specs::Source::decider, crate::specs::SpaceWords::space_of))]
     fn leap(&self, order: &Order, cursor: Cursor<'a>) -> Option<Cursor<'a>>
@@ -113,7 +113,7 @@ impl<'a> AddressSpace<'a> {
         })
     }
 
-    /// A step of a search on, where the segment at hand has no values for the next addresses.
+    /// The next step of a search, if the segment at hand has no values for the next addresses.
     fn skipped(&self, cursor: Cursor<'a>, run: Run<'a>) -> Option<Cursor<'a>>
         requires placed { IsPlaced (space_of self.now) cursor }
         requires none { length cursor.here.now ≡ 0 }
@@ -140,7 +140,7 @@ impl<'a> AddressSpace<'a> {
         })
     }
 
-    /// A step of a search on, where no values are at hand.
+    /// The next step of a search, if no values are at hand.
     fn onward(&self, cursor: Cursor<'a>) -> Option<Cursor<'a>>
         requires placed { IsPlaced (space_of self.now) cursor }
         requires none { length cursor.here.now ≡ 0 }

@@ -148,7 +148,7 @@ fn search_on<'a>(
     }
 }
 
-/// The next match from a cursor on, and the cursor behind it.
+/// The next match from a cursor on, and the cursor after it.
 fn next_match<'a>(
     space: &AddressSpace<'a>,
     finder: &Finder,

@@ -1,5 +1,5 @@
-// Rows over one another: of those that have an address the first decides. They are laid out side by side, so that a
-// search among them takes a number of steps that is the logarithm of theirs.
+// Rows over one another: an address is decided by the first row that has it. They are laid out side by side, so that a
+// search among them takes logarithmic time.
 ghost use Rattle.std.specs.Prelude.{◌≡◌, ◌+◌, ◌^◌, ◌<◌, ◌≤◌, ℕ, List, ◌∷◌, None, IfOk, IfSome, MatchOption, length};
 ghost use Rattle.address_space.specs.declared.row.Row as row;
 ghost use Rattle.address_space.specs.ScanWords.{past_of};
@@ -8,7 +8,7 @@ ghost use Rattle.address_space.specs.Layers.{IsMerging, IsNext, IsNumbered, IsSh
 use crate::row::Row;
 use std::alloc::{AllocError, Global};
 
-/// Behind the last of all addresses.
+/// The address after the last of all.
 const END: u128 = 1 << 64;
 
 /// Two sheets of rows, one over the other, from an address on.
@@ -19,7 +19,7 @@ struct Merge<'r> {
     at: u128,
 }
 
-/// The address behind the last of a row.
+/// The address after the last of a row.
 fn past(row: Row) -> u128
     ensures value { result ≡ past_of row }
     ensures small { row.size < 2 ^ 64 }
@@ -46,7 +46,7 @@ fn uncovered(rows: &[Row], at: u128) -> &[Row]
 impl<'r> Merge<'r> {
     ghost use Rattle.address_space.specs.Layers.{IsHidden, IsTaken, ceiling_of};
 
-    /// Where the first row on top begins, or behind the last of all addresses.
+    /// Where the first row on top begins, or the address after the last of all.
     fn ceiling(&self) -> u128
         ensures { result ≡ ceiling_of self.now.over.now }
     {
@@ -56,7 +56,7 @@ impl<'r> Merge<'r> {
         }
     }
 
-    /// The part of the first row below that shows before the first on top, if it has one.
+    /// The part of the first row below that is visible before the first on top, if there is one.
     fn shown(&self) -> Option<Row>
         requires merging { IsMerging self.now.over.now self.now.under.now self.now.at }
         requires ends { (r : row.Row) (rest : List row.Row) → self.now.under.now ≡ r ∷ rest → self.now.at < past_of r }
@@ -78,7 +78,7 @@ impl<'r> Merge<'r> {
         })
     }
 
-    /// The row that comes next, and what is left behind it.
+    /// The row that comes next, and what is left after it.
     fn next(self) -> Option<(Row, Merge<'r>)>
         requires { IsMerging self.over.now self.under.now self.at }
         ensures { MatchOption result
@@ -115,7 +115,7 @@ fn overlaid(alloc: Global, over: &[Row], under: &[Row]) -> Result<Vec<Row>, Allo
     Ok(rows)
 }
 
-/// The sheet of rows: of those that have an address the first decides.
+/// The sheet of rows: an address is decided by the first that has it.
 pub(crate) fn layered(alloc: Global, rows: &[Row]) -> Result<Vec<Row>, AllocError>
     requires { IsNumbered 0 rows.now }
     ensures sheet { IfOk result (λ v. IsSheet v.items) }

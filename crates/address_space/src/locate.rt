@@ -1,4 +1,4 @@
-// How many addresses from one on are of one place, and what stands there.
+// How many addresses from one on are of one place, and what is there.
 ghost use Rattle.std.specs.Prelude.{◌≡◌, ◌+◌, ◌-◌, ◌^◌, ◌<◌, ◌≤◌, ℕ, List, Some, IfSome, length, map, min, slice_get};
 ghost use Rattle.std.specs.List.Sorted.{IsPermutation};
 ghost use Rattle.std.specs.Option.{option_map};
@@ -32,18 +32,18 @@ pub(crate) struct Located<'a> {
     pub number: Option<u64>,
     /// How many there are.
     pub length: u64,
-    /// What stands there.
+    /// What is there.
     pub kind: PieceKind<'a>,
 }
 
-/// Addresses of one place, and where in an image their bytes stand.
+/// Addresses of one place, and the place of their bytes in an image.
 #[derive(Clone, Copy, Debug)]
 pub(crate) struct Placed<'a> {
     /// The number of the segment that decides them.
     pub number: Option<u64>,
     /// How many there are.
     pub length: u64,
-    /// Where their bytes stand.
+    /// The place of their bytes.
     pub kind: StretchKind<'a>,
 }
 
@@ -54,7 +54,7 @@ pub(crate) fn held(segment: &Segment<'_>, size: u64) -> u64
     segment.filesz.min(size.saturating_sub(segment.offset))
 }
 
-/// The bytes of addresses of one place, in the image in which they stand.
+/// The bytes of addresses of one place, in the image that has them.
 fn read_in<'a>(image: &'a [u8], length: u64, kind: StretchKind<'a>) -> PieceKind<'a>
     ensures { kind_view result ≡ shown_in image.now length kind.entry }
 {
@@ -70,7 +70,7 @@ fn read_in<'a>(image: &'a [u8], length: u64, kind: StretchKind<'a>) -> PieceKind
 impl<'a> AddressSpace<'a> {
     ghost use Rattle.address_space.specs.SpaceWords.{space_of};
 
-    /// The image of the executable that stands for the file of that name.
+    /// The image of the executable that is attached for the file of that name.
     #[tactic(auto, unfolding(crate::specs::SpaceWords::space_of, crate::specs::Source::executable_named))]
     fn image_named(&self, name: &[u8]) -> Option<&'a [u8]>
         ensures { option_map (λ image. image.now) result
@@ -80,8 +80,8 @@ impl<'a> AddressSpace<'a> {
         Some(executable.image)
     }
 
-    /// What stands at addresses that the entry maps and the core has no bytes for, and how many of the `limit` are of
-    /// one place.
+    /// What is at addresses that the entry maps and the core has no bytes for, and how many of the `limit` are of one
+    /// place.
     fn locate_in_file(&self, file: FileMap<'a>, at: u64, limit: u64) -> (StretchKind<'a>, u64)
         requires some { 0 < limit }
         requires first { file.start ≤ at }
@@ -226,7 +226,7 @@ impl<'a> AddressSpace<'a> {
         }
     }
 
-    /// What stands at addresses of a segment that has no bytes for them, and how many of the `limit` are of one place.
+    /// What is at addresses of a segment that has no bytes for them, and how many of the `limit` are of one place.
     fn locate_undumped(&self, at: u64, limit: u64) -> (StretchKind<'a>, u64)
         requires { 0 < limit }
         ensures stretch { (i : ℕ) → IsStretch (λ b. source.undumped (space_of self.now) b i
@@ -243,8 +243,8 @@ impl<'a> AddressSpace<'a> {
         }
     }
 
-    /// Where in an image of `size` bytes those of addresses stand that the segment decides, and how many of the `limit` are of one
-    /// place.
+    /// The place in an image of `size` bytes of the addresses that the segment decides, and how many of the `limit` are of
+    /// one place.
     fn locate_within(
         &self,
         size: u64,
@@ -274,8 +274,8 @@ impl<'a> AddressSpace<'a> {
         (StretchKind::Core { offset }, limit.min(held - place))
     }
 
-    /// Where in an image of `size` bytes, of which the space has the first, those of addresses from `at` on stand, and how many
-    /// of the `limit` are of one place.
+    /// The place in an image of `size` bytes, of which the space has the first, of addresses from `at` on, and how many of
+    /// the `limit` are of one place.
     pub(crate) fn place(&self, size: u64, at: u64, limit: u64) -> Placed<'a>
         requires { 0 < limit }
         ensures stretch { (b : List ℕ) → IsFrontOf (image_of self.now.elf) size b
@@ -306,7 +306,7 @@ impl<'a> AddressSpace<'a> {
         }
     }
 
-    /// What stands at addresses from `at` on, and how many of the `limit` are of one place.
+    /// What is at addresses from `at` on, and how many of the `limit` are of one place.
     pub(crate) fn locate(&self, at: u64, limit: u64) -> Located<'a>
         requires { 0 < limit }
         ensures stretch { IsStretch (source.place_at (space_of self.now)) at limit result.length }

@@ -1,4 +1,4 @@
-// The rows of a sheet by their numbers: the addresses that each segment decides, one segment behind the other.
+// The rows of a sheet by their numbers: the addresses that each segment decides, one segment after the other.
 ghost use Rattle.std.specs.Prelude.{◌≡◌, ◌+◌, ◌*◌, ◌^◌, ◌<◌, ◌≤◌, ℕ, IfOk, MatchOption, Contains, length, slice_index_or};
 ghost use Rattle.std.specs.List.Sorted.{IsNonDecreasingBy, IsPermutation};
 ghost use Rattle.address_space.specs.Orders.{key_of};
@@ -35,7 +35,7 @@ impl Order {
         Ok(Order { rows: ordered })
     }
 
-    /// How many of them come before the addresses of a number behind `at`.
+    /// How many of them come before the addresses of a number after `at`.
     fn count_to(&self, number: u64, at: u64) -> usize
         ensures within { result ≤ length self.now.rows.items }
         ensures below { (k : ℕ) (r : row.Row) → k < result
@@ -48,7 +48,7 @@ impl Order {
             .partition_point(|row| key(row.number, row.start) <= last)
     }
 
-    /// The first row that begins behind the address `at` of a number: one of that number, or of the next that has any.
+    /// The first row that begins after the address `at` of a number: one of that number, or of the next that has any.
     pub(crate) fn next(&self, number: u64, at: u64) -> Option<Row>
         ensures { MatchOption result
             ((s : row.Row) → Contains self.now.rows.items s → key_of s ≤ number * 2 ^ 64 + at)

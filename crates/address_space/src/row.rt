@@ -21,7 +21,7 @@ pub(crate) struct Row {
     pub size: u64,
 }
 
-/// Puts a row behind the others, if it has addresses.
+/// Puts a row after the others, if it has addresses.
 fn add(rows: &mut Vec<Row>, row: Row) -> Result<(), AllocError>
     ensures { OnOk result (map row_view rows.new.items
         ≡ map row_view rows.old.items ++ filter takes_addresses (row_view row ∷ [])) }

@@ -1,4 +1,4 @@
-// What stands at addresses.
+// What is at addresses.
 
 /// A place in a mapped file.
 #[derive(Clone, Copy, Debug)]
@@ -9,7 +9,7 @@ pub struct FileSpot<'a> {
     pub offset: u64,
 }
 
-/// What stands at an address.
+/// What is at an address.
 #[derive(Clone, Copy, Debug)]
 pub enum Source<'a> {
     /// This byte, which the core has.
@@ -24,7 +24,7 @@ pub enum Source<'a> {
     Unmapped,
 }
 
-/// What stands at the addresses of a piece.
+/// What is at the addresses of a piece.
 #[derive(Clone, Copy, Debug)]
 pub enum PieceKind<'a> {
     /// These bytes, which the core has.
@@ -46,11 +46,11 @@ pub struct Piece<'a> {
     pub first: u64,
     /// How many there are.
     pub length: u64,
-    /// What stands there.
+    /// What is there.
     pub kind: PieceKind<'a>,
 }
 
-/// Where the bytes of addresses in a row stand.
+/// The place of the bytes of addresses in a row.
 #[derive(Clone, Copy, Debug)]
 pub enum StretchKind<'a> {
     /// In the core: the first at this place of its image, the others after it.
@@ -68,13 +68,13 @@ pub enum StretchKind<'a> {
     Unmapped,
 }
 
-/// A piece without the bytes that the core has for it: where in the core's image these stand.
+/// A piece without the bytes that the core has for it: the place of these in the core's image.
 #[derive(Clone, Copy, Debug)]
 pub struct Stretch<'a> {
     /// The first address.
     pub first: u64,
     /// How many there are.
     pub length: u64,
-    /// Where their bytes stand.
+    /// The place of their bytes.
     pub kind: StretchKind<'a>,
 }

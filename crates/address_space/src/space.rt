@@ -85,10 +85,10 @@ impl<'a> AddressSpace<'a> {
         }
     }
 
-    /// What `new` makes, with tables by which the segment and the file of an address are found in a number of steps that is
-    /// the logarithm of theirs. Where no two PT_LOADs have an address in common the table is that of the segments, sorted by
-    /// address. Where two have, it is a sheet: its rows are the addresses that each segment decides. So it is for the entries
-    /// of NT_FILE. The error is that there is no memory for the tables.
+    /// What `new` makes, with tables by which the segment and the file of an address are found in logarithmic time. If no
+    /// two PT_LOADs have an address in common the table is that of the segments, sorted by address. If two have, it is a
+    /// sheet: its rows are the addresses that each segment decides. The entries of NT_FILE have such tables too. The error
+    /// is that there is no memory for the tables.
     #[tactic(auto, unfolding(crate::specs::SpaceWords::space_of))]
     pub fn indexed(
         alloc: Global,
@@ -116,8 +116,8 @@ impl<'a> AddressSpace<'a> {
         })
     }
 
-    /// Lets an executable stand for the mapped file of that path, where the core has no bytes. Of two with one path the
-    /// first stays. Where there is no memory nothing is attached.
+    /// Attaches an executable for the mapped file of that path, where the core has no bytes. Of two with one path the first
+    /// stays. Where there is no memory nothing is attached.
     #[tactic(auto, unfolding(crate::specs::SpaceWords::space_of))]
     pub fn attach(&mut self, path: &'a [u8], elf: Elf<'a>) -> Result<(), AllocError>
         ensures ok { OnOk result (space_of self.new
@@ -133,7 +133,7 @@ impl<'a> AddressSpace<'a> {
         })
     }
 
-    /// What stands at an address. The first segment, in table order, that covers it decides.
+    /// What is at an address. The first segment, in table order, that covers it decides.
     pub fn at(&self, address: u64) -> Source<'a>
         ensures { source_view result ≡ source_at (space_of self.now) address }
     {
@@ -155,7 +155,7 @@ impl<'a> AddressSpace<'a> {
         Pieces::new(self, first, length)
     }
 
-    /// The same without the bytes that the core has: where in its image they stand. The core may be the first bytes alone of an image of
+    /// The same without the bytes that the core has: their places in its image. The core may be the first bytes alone of an image of
     /// `size` bytes. What any such image shows of a stretch is the piece of that image.
     pub fn stretches(&self, size: u64, first: u64, length: u64) -> Stretches<'_, 'a>
         requires { first + length ≤ 2 ^ 64 }

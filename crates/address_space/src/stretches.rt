@@ -1,4 +1,4 @@
-// The stretches of a range of addresses, and where in an image the bytes of a range stand.
+// The stretches of a range of addresses, and the places of a range's bytes in an image.
 ghost use Rattle.std.specs.Prelude.{◌+◌, ◌^◌, ◌≤◌};
 ghost use Rattle.elf_view.specs.Header.{segments_of};
 ghost use Rattle.elf_view.specs.SegmentWords.{segment_view, segments_left};

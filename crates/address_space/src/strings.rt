@@ -27,7 +27,7 @@ fn is_text(byte: u8) -> bool
     (32..=126).contains(&byte) || byte == 9
 }
 
-/// How many bytes of text stand at the front.
+/// How many bytes of text are at the front.
 fn text_front(bytes: &[u8]) -> usize
     ensures within { result ≤ length bytes.now }
     ensures text { (k : ℕ) → k < result → spec.is_text_byte (slice_index bytes.now k) ≡ true }
@@ -41,7 +41,7 @@ fn text_front(bytes: &[u8]) -> usize
     bytes.len()
 }
 
-/// How many other bytes stand at the front.
+/// How many other bytes are at the front.
 fn other_front(bytes: &[u8]) -> usize
     ensures within { result ≤ length bytes.now }
     ensures others { (k : ℕ) → k < result → spec.is_text_byte (slice_index bytes.now k) ≡ false }
@@ -90,8 +90,8 @@ impl<'a> AddressSpace<'a> {
         length
     }
 
-    /// How long the text is that begins at `start`, where a cursor is that has passed its bytes at hand. If others are at
-    /// hand there, it ends where the cursor is; else it is followed on.
+    /// How long the text is that begins at `start`. The cursor has passed the text's bytes at hand. If it has other bytes
+    /// at hand, the text ends at the cursor; else it is followed on.
     fn text_len_passed(&self, start: u64, rest: &Cursor<'a>) -> u128
         requires { 0 < length rest.now.here.now
             → (start ≤ rest.now.at) × (spec.text_len (space_of self.now) start (2 ^ 64 - start) ≡ rest.now.at - start) }
@@ -110,7 +110,7 @@ impl<'a> AddressSpace<'a> {
         address > 0 && self.is_text_at(address - 1)
     }
 
-    /// Looks for the first address of a text among the next addresses. The cursor is behind the text's bytes at hand then.
+    /// Looks for the first address of a text among the next addresses. The cursor is then after the text's bytes at hand.
     fn start_on(&self, cursor: Cursor<'a>) -> (Option<u64>, Cursor<'a>)
         requires placed { IsPlaced (space_of self.now) cursor }
         requires more { 0 < length cursor.here.now }
@@ -139,7 +139,7 @@ impl<'a> AddressSpace<'a> {
     }
 }
 
-/// The next address from a cursor on at which a text begins, and the cursor behind it.
+/// The next address from a cursor on at which a text begins, and the cursor after it.
 fn next_start<'a>(space: &AddressSpace<'a>, cursor: Cursor<'a>) -> Option<(u64, Cursor<'a>)>
     requires { IsPlaced (space_of space.now) cursor }
     ensures placed { IfSome result (λ r. IsPlaced (space_of space.now) r.1) }
@@ -162,7 +162,7 @@ fn next_start<'a>(space: &AddressSpace<'a>, cursor: Cursor<'a>) -> Option<(u64, 
     None
 }
 
-/// The next text of at least that length, and the cursor behind its first address.
+/// The next text of at least that length, and the cursor after its first address.
 fn next_text<'a>(
     space: &AddressSpace<'a>,
     least: u64,

@@ -88,7 +88,7 @@ impl Table {
         self.rows.partition_point(|row| row.start <= at)
     }
 
-    /// The one that has the address, if one has. Only the last of those that begin at the address or below it can.
+    /// The one that has the address, if there is one. Only the last of those that begin at the address or below it can.
     fn covering(&self, at: u64, count: usize) -> Option<Row>
         requires within { count ≤ length self.now.rows.items }
         requires below { (k : ℕ) (r : row.Row) → k < count

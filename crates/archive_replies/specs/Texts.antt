@@ -51,7 +51,7 @@ kind_name Exec = codes "exec"
 abbrev pub pin_name : Bool → List ℕ
 pin_name pinned = if pinned then codes "pinned" else codes "-"
 
--- a number and a space behind it
+-- a number, and after it a space
 abbrev pub number_word : ℕ → List ℕ
 number_word n = decimal n ++ 32 ∷ []
 

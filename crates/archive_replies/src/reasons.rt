@@ -4,7 +4,7 @@ ghost use Rattle.archive_replies.specs.Reasons.{reason_of};
 
 use intake::ArchiveFault;
 
-/// The name that a refusal is told by, as a reply has it behind `no `.
+/// The name that a refusal is told by, as a reply has it after `no `.
 pub fn reason(fault: ArchiveFault) -> &'static [u8]
     ensures { result.now ≡ reason_of fault }
 {

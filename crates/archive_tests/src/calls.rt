@@ -28,7 +28,7 @@ fn is_core(rt: &impl Abort, case: &Entry) {
     );
 }
 
-// The case of that core stands alone.
+// The case of that core is the only one.
 fn has_core<D: Disk>(rt: &impl Abort, archive: &Archive<D>) -> Result<(), Fail> {
     let cases = cases_of(archive)?;
     assert_eq!(rt; cases.len(), 1);
@@ -36,7 +36,7 @@ fn has_core<D: Disk>(rt: &impl Abort, archive: &Archive<D>) -> Result<(), Fail> 
     Ok(())
 }
 
-// The core is stored and stands.
+// The core is stored and is there.
 fn keeps_core<D: Disk>(rt: &impl Abort, archive: &mut Archive<D>) -> Result<(), Fail> {
     store_core(rt, archive)?;
     has_core(rt, archive)
@@ -94,8 +94,8 @@ static FULL: [Row; 6] = [
     (Call::Delete(1), Err(ArchiveFault::NoCase)),
 ];
 
-// The record of the next case doesn't fit behind the others, and the 63 live cases fit into the other half. So do those of the
-// pin and of the deletion behind it.
+// The record of the next case doesn't fit after the others, and the 63 live cases fit into the other half. So do those of
+// the pin and of the deletion after it.
 static ANEW: [Row; 8] = [
     (Call::Finish(0, 64), OK),
     (Call::Count(63), OK),

@@ -32,7 +32,7 @@ const CORE: Image = Image {
 // How often a case with a long name was stored and deleted before the script: the records leave no room for another.
 const TURNS: u32 = 21;
 
-// The first finish writes the journal anew into half B. What comes then fits behind it.
+// The first finish writes the journal anew into half B. What follows fits after it.
 static ANEW: [Step; 9] = [
     Step::Begin(1, CORE),
     Step::Put(1, CORE, 0, 4500),
@@ -172,7 +172,7 @@ fn turned(alloc: Global) -> Result<MemDisk, Fail> {
 pub enum Course {
     /// Eight streams in turn, on a fresh archive.
     Streams,
-    /// A store that writes a full half anew, and what comes behind it.
+    /// A store that writes a full half anew, and what follows it.
     Anew,
     /// An archive that is upgraded, and labels, on a fresh archive.
     Labels,

@@ -63,7 +63,7 @@ fn fail_store(
     Ok(archive.close().into_inner())
 }
 
-// Whether one case stands, an executable with this number, name and length.
+// Whether there is one case, an executable with this number, name and length.
 fn has_one<D: Disk>(archive: &Archive<D>, seq: u32, name: &[u8], length: u64) -> bool {
     let Ok(entries) = archive.cases() else {
         return false;
@@ -160,7 +160,7 @@ fn with_case(alloc: Global) -> Result<MemDisk, Fail> {
     Ok(archive.close())
 }
 
-// Whether case 1 stands with its image, and is followed by case 2.
+// Whether case 1 is there with its image, and is followed by case 2.
 fn has_first<D: Disk>(archive: &mut Archive<D>) -> Result<bool, Fail> {
     let stands = has_one(archive, 1, b"a", 5000) && has_image(archive, 1, 1, 5000);
     Ok(store(archive, b"n", 2, 1)? == Ok(2) && stands)

@@ -125,7 +125,7 @@ fn stopped_disk(rt: &(impl AllocGlobal + Abort), call: u64) -> Result<OneFault<M
     Ok(archive.close())
 }
 
-// Images that stand behind the fault, by the number of the case, the seed and the length.
+// Images after the fault, by the number of the case, the seed and the length.
 static KEPT: [(u32, u8, u64); 2] = [(1, 0, 8197), (2, 1, 4103)];
 
 // This call of the disk fails within the first image, and what was read before it is not given.
@@ -145,7 +145,7 @@ fn a_failing_read_stops_the_archive(rt: HostRuntime) -> Result<(), Fail> {
     Ok(())
 }
 
-// Whether the first data block of a disk holds five bytes of the image of this seed, and zeros behind them.
+// Whether the first data block of a disk holds five bytes of the image of this seed, and zeros after them.
 fn is_padded<D: Disk>(disk: &mut D, seed: u8) -> bool {
     let mut block = [0xff; 4096];
     let start = SHAPE.data_start();

@@ -1,4 +1,4 @@
-//! Calls that answer for want of memory. Run as they are these tests meet no refusal; `scripts/fail-alloc archive_tests refused::`
+//! Calls that are refused memory. Run as they are these tests meet no refusal; `scripts/fail-alloc archive_tests refused::`
 //! refuses each allocation in turn, and then a test that has met one ends in an error of its own.
 use crate::bench::{SETTINGS, SHAPE, formatted, fresh, has_image, is_image, opened};
 use crate::rows::{Call, OK, Row, answers_on, has_cases, is_free, make};
@@ -70,7 +70,7 @@ static STEPS: [Step; 10] = [
     },
 ];
 
-/// The call is accepted, the second time where memory was refused: then everything stands as before, and no stream is left of
+/// The call is accepted, the second time where memory was refused: then everything is as before, and no stream is left of
 /// one that was to be stored. Answers whether it was refused.
 fn is_refused<D: Disk>(
     rt: &impl Abort,

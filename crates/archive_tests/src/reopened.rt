@@ -1,4 +1,4 @@
-// Archives over a disk behind a cache that loses a sync. They are opened anew, others store, and the machine stops.
+// Archives over a disk with a cache that loses a sync. They are opened anew, others store, and the machine stops.
 use crate::bench::{SETTINGS, SHAPE, formatted, has_image, opened, store};
 use disk_model::{CachedDisk, Disk};
 use intake::Archive;
@@ -37,7 +37,7 @@ static FIRST: [u8; 24] = [
 
 static LATER: [u8; 3] = [31, 32, 33];
 
-// Loses the sync behind so many, opens the archive anew, stores other cases, and stops the machine.
+// Loses the sync after so many, opens the archive anew, stores other cases, and stops the machine.
 fn lose_a_sync(alloc: Global, spared: u64) -> Result<(), Fail> {
     let disk = CachedDisk::new(formatted(alloc, SHAPE)?, spared);
     let Ok(mut archive) = Archive::open(alloc, disk, SETTINGS) else {

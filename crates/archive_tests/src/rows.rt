@@ -7,7 +7,7 @@ use retention::Policy;
 use std::process::Abort;
 use std::test::Fail;
 
-/// A call, or a look at what stands. Executables are meant, whose bytes are told by a seed.
+/// A call, or a look at the cases. Executables are meant, whose bytes are told by a seed.
 #[derive(Clone, Copy)]
 pub enum Call {
     /// A stream begins in the slot, with this name.
@@ -38,7 +38,7 @@ pub enum Call {
     Image(u32, u8, u64),
     /// These are the numbers and the pins of the cases.
     Cases(&'static [(u32, bool)]),
-    /// So many cases stand.
+    /// There are so many cases.
     Count(usize),
 }
 
@@ -100,7 +100,7 @@ pub fn has_cases<D: Disk>(archive: &Archive<D>, cases: &[(u32, bool)]) -> bool {
     true
 }
 
-// Whether `count` cases stand.
+// Whether there are `count` cases.
 fn has_count<D: Disk>(archive: &Archive<D>, count: usize) -> bool {
     match archive.cases() {
         Ok(entries) => entries.len() == count,

@@ -2,7 +2,7 @@ use extents::{Run, RunList};
 use std::process::Abort;
 use std::test::Fail;
 
-// Appends four runs, of which the second goes on where the first ends.
+// Appends four runs, of which the second continues where the first ends.
 fn append_four(list: &mut RunList) -> Result<(), Fail> {
     list.append(Run { start: 1, count: 1 })?;
     list.append(Run { start: 2, count: 3 })?;

@@ -174,7 +174,7 @@ static SCRIPT: [Step; 46] = [
     Step::Delete(2),
     Step::Put(7, H, 4000, 4500),
     Step::Finish(5, 4),
-    // Three cases stand, and two are to stay: the oldest one that is not pinned goes.
+    // There are three cases, and two are to stay: the oldest one that is not pinned is deleted.
     Step::Retire(
         Policy {
             keep: Some(2),
@@ -209,7 +209,7 @@ static SCRIPT: [Step; 46] = [
     Step::Delete(5),
     Step::Finish(0, 9),
     Step::Read(7, H),
-    // 16,889 bytes stand; without the oldest one that is not pinned they are 12,389.
+    // There are 16,889 bytes; without the oldest one that is not pinned they are 12,389.
     Step::Retire(
         Policy {
             keep: None,

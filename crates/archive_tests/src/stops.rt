@@ -15,7 +15,7 @@ use std::test::Fail;
 // Of what was written since the last sync nothing is left, or its first bytes, or all of it.
 static CUT: [Pick; 3] = [Pick::Nothing, Pick::FirstHalf, Pick::Whole];
 
-// In its place stand the bytes of open gates, or others.
+// In its place are the bytes of open gates, or others.
 static FILLED: [Pick; 2] = [Pick::Fill(0xa5), Pick::Fill(0x37)];
 
 // Begins the stream of an image.

@@ -1,4 +1,4 @@
--- One frame and those behind it.
+-- One frame and those after it.
 use Rattle.std.proofs.Common.{◌≡◌, ◌≤◌, ◌+◌, ◌-◌, ◌%◌, ℕ, zero, suc, Bool, true, false, not, eqb, List, [], ◌∷◌, Option, Some, None, Result, Ok, Err, refl, sym, ap, subst, ◌∙◌, arith}
 use Rattle.std.specs.Prelude.{is_none}
 use Rattle.std.proofs.lemmas.Bool.{eq-eqb}
@@ -82,7 +82,7 @@ pub limited : (m : Memory) (before : Option ℕ) (f g : Frame) → f.index ≡ 1
 limited m before f g last h =
     limited_by (is_not_rising before f.fp) (eqb f.fp 0) (not (eqb (f.fp % 8) 0)) (is_none (link_below m f.fp)) (eqb f.index 1023) (eq-eqb f.index 1023 last) (next_called m before f g h).0
 
--- the frames behind a frame are those behind its caller
+-- the frames after a frame are those after its caller
 behind_last : (m : Memory) (before : Option ℕ) (f : Frame) (r : Result Frame Stop) → f.index ≡ 1023 → step m before f ≡ r → [] ≡ frames_behind (rest_from m (Some f.fp)) r
 behind_last m before f (Ok g) last is = absurd (limited m before f g last is)
 behind_last m before f (Err stop) last is = refl

@@ -1,4 +1,4 @@
--- Where two memories agree at each frame of a stack, it has the same frames in both.
+-- If two memories agree at each frame of a stack, the stack has the same frames in both.
 use Rattle.std.proofs.Common.{◌≡◌, ℕ, zero, suc, ◌+◌, [], ◌∷◌, Option, None, Some, Result, Ok, Err, refl, ap, ◌∙◌}
 use Rattle.std.specs.Prelude.{◌==◌, ◌%◌, not, is_none}
 use Rattle.backtrace.specs.Agreeing.{AgreeAt}

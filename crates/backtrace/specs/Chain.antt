@@ -1,5 +1,5 @@
--- Chains of frames (RISC-V ELF psABI, "Frame Pointer Convention"): a frame pointer is the stack pointer at the entry of its
--- procedure. The return address stands at 8 below it, the caller's frame pointer at 16 below, and the stack grows down.
+-- Chains of frames (RISC-V ELF psABI, "Frame Pointer Convention"): a frame pointer is the stack pointer at the entry of its procedure. The return address is at 8 below
+-- it, the caller's frame pointer at 16 below, and the stack grows down.
 use Rattle.std.specs.Prelude.{◌≡◌, ℕ, zero, suc, ◌+◌, ◌-◌, ◌%◌, ◌==◌, ◌&&◌, not, nat_lt, nat_le, if◌then◌else◌, Bool, false, List, [], ◌∷◌, Option, None, Some, is_none, Result, Ok, Err}
 use Rattle.backtrace.specs.declared.frames.Frame.{Frame}
 use Rattle.backtrace.specs.declared.frames.Stop.{Stop}
@@ -23,7 +23,7 @@ abbrev pub is_not_rising : Option ℕ → ℕ → Bool
 is_not_rising None fp = false
 is_not_rising (Some before) fp = not (fp == 0) && nat_le fp before
 
--- the reasons why no frame comes behind one, in order, each with whether it holds
+-- the reasons why no frame comes after one, in order, each with whether it holds
 abbrev pub reasons : Memory → Option ℕ → Frame → List (Bool × Stop)
 reasons m before f =
     (is_not_rising before f.fp, NotRising)
@@ -49,13 +49,12 @@ led_to i (Some words) = Some (record { index = i; pc = words.0; fp = words.1 })
 abbrev pub caller : Memory → Frame → Option Frame
 caller m f = led_to (f.index + 1) (link_below m f.fp)
 
--- The frames behind a frame with that frame pointer before it: the last frame of all has a reason to be it, no other has
--- one, and behind each other comes its caller.
+-- The frames after a frame with that frame pointer before it: the last frame of all has a reason to be it, no other has one, and each other is followed by its caller.
 abbrev pub IsChainFrom : Memory → Option ℕ → Frame → List Frame → Stop → Type 0
 IsChainFrom m before f [] stop = stop_at m before f ≡ Some stop
 IsChainFrom m before f (g ∷ fs) stop = (stop_at m before f ≡ None) × (caller m f ≡ Some g) × IsChainFrom m (Some f.fp) g fs stop
 
--- what comes behind a frame: its caller, or the reason why there is none
+-- what follows a frame: its caller, or the reason why there is none
 abbrev pub step_by : Option Stop → Option Frame → Result Frame Stop
 step_by (Some stop) next = Err stop
 step_by None (Some next) = Ok next

@@ -1,4 +1,4 @@
--- What the code's iterator over frames stands for.
+-- What the code's iterator over frames means.
 use Rattle.std.specs.Prelude.{◌≡◌, ℕ, ◌-◌, List, Option}
 use Rattle.std.specs.Iterator.{YieldsFirst}
 use Rattle.backtrace.specs.Chain.{Memory, frames_behind, frames_from, stop_behind, stop_from}
@@ -7,7 +7,7 @@ use Rattle.backtrace.specs.declared.frames.Frame.{Frame}
 use Rattle.backtrace.specs.declared.frames.Frames.{Frames}
 use Rattle.backtrace.specs.declared.frames.Stop.{Stop}
 
--- a frame and those behind it, as far as number 1,023
+-- a frame and those after it, as far as number 1,023
 abbrev pub rest_from : Memory → Option ℕ → Frame → List Frame
 rest_from m before f = frames_from m (1023 - f.index) before f
 

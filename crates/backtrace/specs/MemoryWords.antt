@@ -12,7 +12,7 @@ use Rattle.backtrace.specs.declared.words.Words.TheVariants.{Space, Stack}
 abbrev pub memory_of : AddressSpace → Memory
 memory_of space a = word_at (space_of space) a 8
 
--- the words of bytes that stand at addresses in a row, from `first` on
+-- the words of bytes that are at addresses in a row, from `first` on
 unfoldable pub words_in : ℕ → List ℕ → Memory
 words_in first bytes a = if nat_le first a && nat_le (a + 8) (first + length bytes) then Some (field bytes (a - first) 8) else None
 

@@ -14,7 +14,7 @@ const LAST: u64 = 1023;
 /// A frame of a stack.
 #[derive(Clone, Copy, Debug, PartialEq, Eq)]
 pub struct Frame {
-    /// Its number, 0 where execution stands.
+    /// Its number. Frame 0 is where execution stopped.
     pub index: u64,
     /// The pc in frame 0, else the return address into this frame.
     pub pc: u64,
@@ -56,8 +56,8 @@ fn is_not_rising(before: Option<u64>, fp: u64) -> bool
     }
 }
 
-/// Whether what comes after a frame, with that frame pointer before it, depends on the words below its own. Where it doesn't, each
-/// memory has the same there.
+/// Whether what comes after a frame, with that frame pointer before it, depends on the words below its own. If it doesn't,
+/// each memory has the same there.
 #[tactic(auto, unfolding(crate::specs::Chain::link_below, crate::specs::Chain::step))]
 pub fn needs_words(before: Option<u64>, frame: Frame) -> bool
     ensures { result ≡ false → (m p : spec.Memory) → spec.step m before frame ≡ spec.step p before frame }
@@ -81,7 +81,7 @@ fn link_below(words: &Words<'_, '_>, fp: u64) -> Option<(u64, u64)>
     Some((pc, link))
 }
 
-/// The frame behind one, or the first reason why there is none.
+/// The frame after one, or the first reason why there is none.
 #[tactic(auto, unfolding(crate::specs::Chain::step))]
 fn step(words: &Words<'_, '_>, before: Option<u64>, frame: Frame) -> Result<Frame, Stop>
     requires { frame.index ≤ 1023 }

@@ -1,4 +1,4 @@
--- What the code's note stands for.
+-- What the code's note means.
 use Rattle.build_ids.specs.Notes.{NoteView}
 use Rattle.build_ids.specs.declared.notes.Note.{Note}
 

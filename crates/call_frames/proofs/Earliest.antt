@@ -10,11 +10,11 @@ use Rattle.std.specs.List.{AllByRecursion}
 use Rattle.call_frames.specs.Covering.{is_covering, earlier, earliest}
 use Rattle.call_frames.specs.declared.spans.Span.{Span}
 
--- none of those that cover v stands before s
+-- none of those that cover v precedes s
 abbrev NoneBefore : ℕ → Span → Span → Type 0
 NoneBefore v s o = is_covering v o ≡ true → o.spot.index < s.spot.index → ⊥
 
--- s is one of the spans and covers v, and none that covers v stands before it
+-- s is one of the spans and covers v, and none that covers v precedes it
 pub record IsEarliest (v : ℕ) (ss : List Span) (s : Span) : Type 0 where
   pub among : Contains ss s
   pub covering : is_covering v s ≡ true

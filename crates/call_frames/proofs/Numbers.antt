@@ -1,4 +1,4 @@
--- The ULEB128 that is read is the one whose bytes stand there.
+-- The ULEB128 that is read is the one whose bytes are there.
 use Rattle.std.proofs.Common.{◌≡◌, ◌<◌, ◌≤◌, ◌+◌, ◌-◌, ◌^◌, ℕ, Bool, true, false, cond, ltb, List, ◌++◌, Option, Some, None, length, get_or, take, drop, refl, ap, ◌∙◌, sym, arith}
 use Rattle.std.proofs.lemmas.Bool.{ltb-true, ltb-false, lt-ltb, le-ltb}
 use Rattle.std.proofs.lemmas.Option.{same_Some}

@@ -1,4 +1,4 @@
--- The FDEs of a table stand in the order of their numbers, and each is read again at its spot.
+-- The FDEs of a table are in the order of their numbers, and each is read again at its spot.
 use Rattle.std.proofs.Common.{◌≡◌, ◌≤◌, ◌+◌, ◌-◌, ℕ, zero, suc, Bool, true, false, cond, List, [], ◌∷◌, map, find, Option, Some, None, Result, Ok, Err, drop, ltb, refl, sym, ap, subst, ◌∙◌, arith}
 use Rattle.std.proofs.lemmas.Bool.{lt-ltb}
 use Rattle.std.specs.List.{AllByRecursion}
@@ -14,7 +14,7 @@ use Rattle.call_frames.specs.declared.spans.Span.{Span}
 use Rattle.call_frames.specs.declared.spots.Spot.{Spot}
 use Rattle.call_frames.proofs.Earliest.{Rising}
 
--- the spot at which an FDE stands
+-- the spot of an FDE
 abbrev pub spot_of : EntryView → Spot
 spot_of e = record { index = e.index; place = e.place }
 

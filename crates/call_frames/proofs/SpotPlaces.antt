@@ -59,7 +59,7 @@ spots_next b rest i p n is h size =
     ∙ ap (λ r. first ∷ spots_past 0 (i + 1) (p + entry_len rest) r) (ap (drop (entry_len rest)) is ∙ drop-drop (entry_len rest) p b)
     ∙ ap (λ k. first ∷ spots_past 0 (i + 1) (p + k) (drop (p + k) b)) (sym size)
 
--- something is left if an entry stands
+-- something is left if there is an entry
 pub some_left : (rest : List ℕ) → is_end rest ≡ false → 0 < length rest
 unfolding is_end
 some_left [] h = absurd (false≢true (sym h))

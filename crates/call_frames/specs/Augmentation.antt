@@ -65,8 +65,7 @@ letter_size x bytes =
 abbrev pub encoding_with : ℕ → List ℕ → ℕ → ℕ
 encoding_with x bytes e = if x == 82 then slice_index bytes 0 else e
 
--- The data of the letters stand one after another; what is left of them is passed over. The encoding of the FDEs'
--- pointers is that of R, if it is one of the letters.
+-- The data of the letters follow one another; what is left of them is passed over. The encoding of the FDEs' pointers is that of R, if it is one of the letters.
 unfoldable pub encoding_among : ℕ → List ℕ → List ℕ → Option ℕ
 encoding_among e [] bytes = Some e
 encoding_among e (x ∷ xs) bytes =

@@ -20,7 +20,7 @@ span_of e = record { begin = e.begin; range = e.range; spot = record { index = e
 abbrev pub is_covering : ℕ → Span → Bool
 is_covering v s = nat_le s.begin v && nat_lt v (s.begin + s.range)
 
--- the one of two that stands first in the section
+-- the one of two that is first in the section
 abbrev pub earlier : Span → Option Span → Option Span
 earlier s None = Some s
 earlier s (Some o) = if nat_lt s.spot.index o.spot.index then Some s else Some o
@@ -29,7 +29,7 @@ earlier s (Some o) = if nat_lt s.spot.index o.spot.index then Some s else Some o
 abbrev pub earliest_with : ℕ → Span → Option Span → Option Span
 earliest_with v s best = if is_covering v s then earlier s best else best
 
--- the one that stands first in the section, of those that cover v
+-- the one that is first in the section, of those that cover v
 abbrev pub earliest : ℕ → List Span → Option Span
 earliest v [] = None
 earliest v (s ∷ ss) = earliest_with v s (earliest v ss)

@@ -1,4 +1,4 @@
--- What the code's call frame information stands for.
+-- What the code's call frame information means.
 use Rattle.std.specs.Prelude.{Result, Ok, Err}
 use Rattle.call_frames.specs.Entry.{TableView, EntryView}
 use Rattle.call_frames.specs.EntryWords.{table_view, entry_view}

@@ -19,8 +19,7 @@ pub record IsUnsigned (bytes : List ℕ) (n : ℕ) (rest : List ℕ) : Type 0 wh
   pub number : groups text ≡ n
   pub small : n < 2 ^ 64
 
--- The entries of a table from place p on, the first of which has number i. There is none if the walk ends; else one
--- stands there, and the others are those from its end on.
+-- The entries of a table from place p on, the first of which has number i. There is none if the walk ends; else one is there, and the others are those from its end on.
 abbrev pub IsWalk : List ℕ → ℕ → ℕ → List Spot → Type 0
 IsWalk bytes p i [] = is_end (drop p bytes) ≡ true
 IsWalk bytes p i (s ∷ ss) =

@@ -1,4 +1,4 @@
--- Where the call frame information of an image stands (LSB Core, "Exception Frames" and "The .eh_frame_hdr section").
+-- Where an image has its call frame information (LSB Core, "Exception Frames" and "The .eh_frame_hdr section").
 use Rattle.std.specs.Prelude.{ℕ, ◌+◌, ◌-◌, ◌%◌, ◌^◌, ◌==◌, ◌&&◌, nat_eq, nat_lt, nat_le, if◌then◌else◌, Bool, List, [], ◌∷◌, drop, find, codes, Option, None, unwrap_or}
 use Rattle.std.specs.Option.{option_map, option_and_then, option_or}
 use Rattle.std.specs.List.{starts_with}

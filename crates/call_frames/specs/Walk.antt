@@ -6,7 +6,7 @@ use Rattle.call_frames.specs.declared.faults.CfiFault.{CfiFault}
 use Rattle.call_frames.specs.declared.faults.CfiField.{CfiField}
 use Rattle.call_frames.specs.declared.spots.Spot.{Spot}
 
--- no entry stands at the front of what is left: nothing is left, or a length of 0
+-- no entry is at the front of what is left: nothing is left, or a length of 0
 unfoldable pub is_end : List ℕ → Bool
 is_end rest = length rest == 0 || (nat_le 4 (length rest) && told_length rest == 0)
 

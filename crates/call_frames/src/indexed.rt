@@ -24,7 +24,7 @@ pub(crate) struct Indexed<'a> {
     ghost whole: { ∥ IsPermutation (map spec.span_of (walk.entries_of (table_view table))) spans.items ∥₁ },
     /// They are sorted by their first address.
     ghost ordered: { IsNonDecreasingBy (λ (s : numbers.Span). s.begin) spans.items },
-    /// Beside each stands the greatest address that one up to it covers.
+    /// For each, the greatest address that one up to it covers.
     ghost reach: { ends.items ≡ spec.greatest_ends 0 spans.items },
     /// The fault is the first of the table.
     ghost first: { fault ≡ walk.first_fault (table_view table) },

@@ -10,14 +10,14 @@ use crate::spots::Spot;
 use crate::walk::Entries;
 use std::alloc::{AllocError, Global};
 
-/// Where an FDE stands, and what it describes.
+/// The spot of an FDE, and what it describes.
 #[derive(Clone, Copy, Debug)]
 pub(crate) struct Span {
     /// The first address that it describes.
     pub(crate) begin: u64,
     /// How many addresses it describes.
     pub(crate) range: u64,
-    /// Where it stands in its section.
+    /// Its spot in its section.
     pub(crate) spot: Spot,
 }
 
@@ -84,7 +84,7 @@ fn is_covering(span: Span, address: u64) -> bool
     span.begin <= address && address - span.begin < span.range
 }
 
-/// The one of two that stands first in the section.
+/// The one of two that is first in the section.
 fn earlier(one: Span, other: Option<Span>) -> Option<Span>
     ensures { result ≡ spec.earlier one other }
 {
@@ -105,9 +105,9 @@ fn earliest_with(span: Span, best: Option<Span>, address: u64) -> Option<Span>
     }
 }
 
-/// The one that stands first in the section, of those of the first `count` spans that cover an address. The spans are
-/// sorted by their first address, each with the greatest address that one up to it covers. It asks down from the last as
-/// far as one may cover the address.
+/// The one that is first in the section, of those of the first `count` spans that cover an address. The spans are sorted by
+/// their first address, each with the greatest address that one up to it covers. It searches down from the last as far as
+/// one may cover the address.
 fn earliest_among(spans: &[Span], ends: &[u64], count: usize, address: u64) -> Option<Span>
     requires reach { ends.now ≡ spec.greatest_ends 0 spans.now }
     requires within { count ≤ length spans.now }
@@ -125,7 +125,7 @@ fn earliest_among(spans: &[Span], ends: &[u64], count: usize, address: u64) -> O
     best
 }
 
-/// The one that stands first in the section, of the spans that cover an address.
+/// The one that is first in the section, of the spans that cover an address.
 pub(crate) fn earliest(spans: &[Span], ends: &[u64], address: u64) -> Option<Span>
     requires ordered { IsNonDecreasingBy (λ s. s.begin) spans.now }
     requires reach { ends.now ≡ spec.greatest_ends 0 spans.now }

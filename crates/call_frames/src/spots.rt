@@ -1,4 +1,4 @@
-// Where the entries of a table stand.
+// The spots of the entries of a table.
 ghost use Rattle.std.specs.Prelude.{◌≡◌, ◌≤◌, ◌<◌, length};
 ghost use Rattle.call_frames.specs.Entry as entries;
 ghost use Rattle.call_frames.specs.Walk as spec;
@@ -6,7 +6,7 @@ ghost use Rattle.call_frames.specs.Walk as spec;
 use crate::entries::rest_at;
 use elf_view::u32_at;
 
-/// Where an entry stands in its table.
+/// Where an entry is in its table.
 #[derive(Clone, Copy, Debug)]
 pub(crate) struct Spot {
     /// Its number, from 0 on.
@@ -51,7 +51,7 @@ fn entry_len(rest: &[u8]) -> usize
     }
 }
 
-/// Whether no entry stands at the front.
+/// Whether no entry is at the front.
 #[tactic(auto, unfolding(crate::specs::Walk::is_end))]
 fn is_end(rest: &[u8]) -> bool
     ensures { result ≡ spec.is_end rest.now }

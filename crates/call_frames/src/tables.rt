@@ -1,4 +1,4 @@
-// Where the call frame information of an image stands.
+// Where an image has its call frame information.
 ghost use Rattle.std.specs.Prelude.{◌≡◌, find};
 ghost use Rattle.std.specs.Option.{option_map};
 ghost use Rattle.elf_view.specs.Header.{segments_of};

@@ -122,7 +122,7 @@ front_is : (h rest all : List ℕ) → length h ≡ 31 → all ≡ h ++ rest →
 unfolding part
 front_is h rest all long is = ap (λ (l : List ℕ). take 31 l) is ∙ ap (λ (n : ℕ). take n (h ++ rest)) (sym long) ∙ take-append_seam h rest
 
--- the header stands at the front of what is written
+-- the header is at the front of what is written
 pub header_there : (b : List ℕ) (p version generation : ℕ) (xs ys zs : List ℕ) → part b p (length (((half_header version generation ++ xs) ++ ys) ++ zs)) ≡ ((half_header version generation ++ xs) ++ ys) ++ zs
     → part b p 31 ≡ half_header version generation
 header_there b p version generation xs ys zs there =

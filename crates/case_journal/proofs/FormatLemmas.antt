@@ -130,7 +130,7 @@ last_gate = refl
 gate_at : (s : Shape) (b : List ℕ) → part b (half_start s A) 33 ≡ 165 ∷ half_header 1 1 ++ 0 ∷ [] → slice_index b (half_start s A + 32) ≡ 0
 gate_at s b is = sym (part_place b (half_start s A) 33 32 0 (omega arith)) ∙ ap (λ (l : List ℕ). get_or l 32 0) is ∙ last_gate
 
--- these parts stand for an archive with no case
+-- these parts encode an archive with no case
 empty_stands : (s : Shape) (b : List ℕ) → IsWithinLimits s → length b ≡ disk_length s → part b 0 24 ≡ 165 ∷ superblock s
     → part b (half_start s A) 33 ≡ 165 ∷ half_header 1 1 ++ 0 ∷ [] → slice_index b (half_start s B) ≡ 0 → Stands b (fresh s A 1 1)
 empty_stands s b limits long sb first second =
@@ -165,7 +165,7 @@ opened_front s b new limits long front is =
     behind_closed : part b 1 4095 ≡ superblock s ++ zeros 4072
     behind_closed = tail_of (part b 0 1) (part b 1 4095) (superblock s ++ zeros 4072) (sym (part_split b 0 1 4095) ∙ front.superblock) (part_length b 0 1 (let some = limits.some_half in omega arith))
 
--- so the bytes stand for an archive with no case
+-- so the bytes encode an archive with no case
 pub front_stands : (s : Shape) (b : List ℕ) → IsWithinLimits s → length b ≡ disk_length s → HasFront 165 s b → Stands b (fresh s A 1 1)
 front_stands s b limits long front =
     empty_stands s b limits long

@@ -71,7 +71,7 @@ module _ (shape : Shape) (version : ℕ) (cases : List Case) (next used : ℕ) (
       of true e known = eqb-true version 1 e
       of false e known = absurd (both_ways (version == 2) other known)
 
-  -- a case more, behind which the next record goes elsewhere
+  -- a case more, after which the next record goes elsewhere
   pub kept_stored : (c : Case) (after : List Case) (later : ℕ) → 32 ≤ later → later + 1 ≤ half_length shape → c.seq ≡ next → IsSound shape.data_blocks (record { version = version; cases = cases; next = next }) (Store c)
       → after ≡ cases ++ c ∷ [] → IsKept shape version after (next + 1) later
   kept_stored c after later header gate number sound is =

@@ -100,7 +100,7 @@ module _ {D : Type 0} (g : disk.Ghosts D) where
     is = λ honest. view.is (subst IsTrue (sym quiet.honesty) honest) ∙ quiet.seen honest;
   }
 
-  -- what stands is found
+  -- what the bytes encode is found
   pub finds_by : (d : D) (r : Result Journaled OpenFault) (s : Standing) → IsTrue (g.is_honest d) → ShowsOpening g d r → Stands (g.seen d) s → FindsStanding r s
   finds_by d r s honest shows stands = found r shows.gives
     where

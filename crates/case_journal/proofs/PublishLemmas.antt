@@ -1,4 +1,4 @@
--- What a disk stands for while a record is published.
+-- What a disk encodes while a record is published.
 use Rattle.std.proofs.Common.{◌≡◌, ◌≢◌, ◌⊎◌, inl, inr, ⊎_elim, ℕ, ◌+◌, ◌-◌, ◌≤◌, List, [], ◌∷◌, ◌++◌, length, take, get_or, slice_index, refl, sym, ap, ◌∙◌, arith, Result, Ok, Err, OnOk}
 use Rattle.std.proofs.lemmas.List.{length-append, take_at, get_or_at}
 use Rattle.std.proofs.lemmas.Bool.{cases_eq}
@@ -50,7 +50,7 @@ module _ (s : Standing) (r : Record) (gate : ℕ) (behind : List ℕ) (p : Publi
       let l = (limits_in d s stands).1 in
       omega arith
 
-  -- while the bytes behind the gate are written
+  -- while the bytes after the gate are written
   pub before_gate : (c : List ℕ) → SameOutside (gate + 1) (length behind) d c → Stands c s
   before_gate c same =
       let place = p.place in
@@ -70,7 +70,7 @@ module _ (s : Standing) (r : Record) (gate : ℕ) (behind : List ℕ) (p : Publi
   first_length : length behind ≡ length (behind_gate r) + 1
   first_length = ap length p.bytes ∙ length-append (behind_gate r) (0 ∷ [])
 
-  -- the record's bytes behind its gate
+  -- the record's bytes after its gate
   behind_part : (c : List ℕ) → SameOutside gate 1 once c → part c (gate + 1) (length (behind_gate r)) ≡ behind_gate r
   behind_part c same =
       let first = first_length in
@@ -83,7 +83,7 @@ module _ (s : Standing) (r : Record) (gate : ℕ) (behind : List ℕ) (p : Publi
       ∙ ap (take (length (behind_gate r))) p.bytes
       ∙ take_at (behind_gate r) (0 ∷ []) (length (behind_gate r)) refl
 
-  -- the gate behind it
+  -- the gate after it
   next_gate : (c : List ℕ) → SameOutside gate 1 once c → slice_index c (gate + record_size r) ≡ 0
   next_gate c same =
       let first = first_length in

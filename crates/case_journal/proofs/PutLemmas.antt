@@ -1,4 +1,4 @@
--- A record that is put, behind the others or in the other half, and what an append makes of a journal then.
+-- A record that is put, after the others or in the other half, and what an append makes of a journal then.
 use Rattle.std.proofs.Common.{◌≡◌, ◌⊎◌, inl, inr, ⊎_elim, cond, ◌+◌, ◌*◌, ◌<◌, ◌≤◌, ◌^◌, ◌∙◌, ℕ, Bool, true, false, List, IsTrue, Result, Ok, Err, OnOk, IfOk, length, refl, sym, ap, subst, arith}
 use Rattle.std.proofs.lemmas.Bool.{ltb-true, ltb-false, false≢true}
 use Rattle.disk_model.specs.Moments.{LeavesOnly, IsSettled}
@@ -51,7 +51,7 @@ module _ (s : Standing) (r : Record) where
   snapshot_put (Err NumbersSpent) e step = absurd step
   snapshot_put (Err OldVersion) e step = absurd step
 
-  -- it is put behind the others
+  -- it is put after the others
   pub behind_put : (n : ℕ) (res : Result JournalEnd JournalFault) → fits s r ≡ true → n ≡ record_size r → BehindStep s n res → PutStep s r res
   behind_put n (Ok p) e is step =
       (inl (within e), step ∙ ap (λ (k : ℕ). record { half = s.half; generation = s.generation; used = s.used + k }) is ∙ behind_place s r e)
@@ -97,7 +97,7 @@ module _ (s : Standing) (r : Record) where
       record { size = size; holds = λ on honest. subst (Holds g new) (appended_by_snapshot s r e) (holds (sym honesty ∙ honest)) }
   kept_in_other_half g old new (Err f) e size honesty holds = tt
 
--- the next record goes behind a header then
+-- the next record goes after a header then
 pub put_lies : (s : Standing) (r : Record) (res : Result JournalEnd JournalFault) → 32 ≤ s.used → PutStep s r res → IfOk res (λ (p : JournalEnd). 32 ≤ p.used)
 put_lies s r (Ok p) header step = (place_lies s r p header step.0 step.1).0
 put_lies s r (Err f) header step = tt
@@ -152,7 +152,7 @@ full_by_generation g d j seqs keeps runs honest may sound Disk step is = absurd 
 full_by_generation g d j seqs keeps runs honest may sound OldVersion step is = absurd step
 
 module _ (s : Standing) (r : Record) {D : Type 0} (g : disk.Ghosts D) (old new : D) where
-  -- a record behind the others
+  -- a record after the others
   pub behind_moments : fits s r ≡ true → LeavesOnly g old new (λ c. Stands c s ⊎ Stands c (lengthened s r)) → LeavesEither g old new s r
   behind_moments e moments = subst (λ (x : Standing). LeavesOnly g old new (λ c. Stands c s ⊎ Stands c x)) (appended_behind s r e) moments
 
@@ -166,7 +166,7 @@ module _ (s : Standing) (r : Record) {D : Type 0} (g : disk.Ghosts D) (old new :
     });
   }
 
--- bytes that may be put behind the others
+-- bytes that may be put after the others
 pub publishes : (s : Standing) (r : Record) (gate : ℕ) (behind : List ℕ) → gate ≡ half_start s.shape s.half + s.used → s.used + length behind + 1 ≤ half_length s.shape → IsPut s r behind → Publishes s r gate behind
 publishes s r gate behind place in_half put = record { place = place; bytes = put.bytes; long = put.long; in_half = omega (arith, in_half, put.long); sound = put.sound }
 

@@ -1,4 +1,4 @@
--- What a list of bytes stands for depends on a few parts of it: how it stays the same, and how it grows by a record.
+-- What a list of bytes encodes depends on a few parts of it: how it stays the same, and how it grows by a record.
 use Rattle.std.proofs.Common.{◌≡◌, ◌≢◌, ℕ, ◌+◌, ◌-◌, ◌<◌, ◌≤◌, List, length, take, drop, slice_index, sym, ap, ◌∙◌, subst, arith}
 use Rattle.std.proofs.lemmas.List.{take-take}
 use Rattle.disk_model.specs.Places.{part, SameOutside}
@@ -17,7 +17,7 @@ use Rattle.journal_snapshot.specs.Holding.{SameHeaders}
 use Rattle.journal_layout.specs.FrontLaws.{front_same}
 use Rattle.journal_layout.specs.StandLaws.{stands_limits, stands_size, stands_in_half, HasSameFront, stands_grown}
 
--- where the next record's gate stands
+-- the place of the next record's gate
 abbrev pub gate_of : Standing → ℕ
 gate_of s = half_start s.shape s.half + s.used
 
@@ -29,7 +29,7 @@ pub half_ends : (shape : Shape) (half : Half) → half_start shape half + half_l
 half_ends shape A = omega arith
 half_ends shape B = omega arith
 
--- what is changed in the taken half behind its header leaves both headers
+-- what is changed in the taken half after its header leaves both headers
 pub headers_stay : (shape : Shape) (half : Half) (at n : ℕ) (d c : List ℕ) → IsWithinLimits shape → SameOutside at n d c
     → half_start shape half + 32 ≤ at → at + n ≤ half_start shape half + half_length shape → SameHeaders shape d c
 headers_stay shape A at n d c limits same low high = let some = limits.some_half in record {
@@ -72,7 +72,7 @@ front_stays s n d c header within same =
 pub area_place : (b : List ℕ) (s : Standing) (k : ℕ) → k < half_length s.shape - 32 → slice_index (records_area b s.shape s.half) k ≡ slice_index b (records_start s.shape s.half + k)
 area_place b s k below = part_place b (records_start s.shape s.half) (half_length s.shape - 32) k 0 below
 
--- a disk that stands so still does where only the half from the next gate on is changed, and that gate is not open
+-- a disk that encodes this still does where only the half from the next gate on is changed, and that gate is not open
 pub still_stands : (s : Standing) (n : ℕ) (d c : List ℕ) → Stands d s → SameOutside (gate_of s) n d c → s.used + n ≤ half_length s.shape
     → slice_index c (gate_of s) ≢ 165 → Stands c s
 still_stands s n d c stands same within closed =
@@ -103,7 +103,7 @@ still_stands s n d c stands same within closed =
       };
     }
 
--- it stands for one record more where that is spelled from the next gate on, with a gate behind it that is not open
+-- it encodes one record more where that is spelled from the next gate on, with a gate after it that is not open
 pub stands_after : (s : Standing) (r : Record) (n : ℕ) (d c : List ℕ) → Stands d s → SameOutside (gate_of s) n d c → s.used + n ≤ half_length s.shape
     → record_size r + 1 ≤ n → MayFollow s r → part c (gate_of s) (record_size r) ≡ spelling r → slice_index c (gate_of s + record_size r) ≢ 165
     → Stands c (lengthened s r)
@@ -120,7 +120,7 @@ stands_after s r n d c stands same within fits sound spelled closed =
     } in
     stands_grown d c s r front (part_before (gate_of s) n d c same (half_start s.shape s.half) s.used (omega arith)) (omega arith) sound spelled closed stands
 
--- a change of the data blocks leaves what a disk stands for, and both headers
+-- a change of the data blocks leaves what a disk encodes, and both headers
 pub data_apart : (s : Standing) (at n : ℕ) (d c : List ℕ) → Stands d s → SameOutside at n d c → data_start s.shape ≤ at → Stands c s × SameHeaders s.shape d c
 data_apart s at n d c stands same low =
     let l = limits_in d s stands in

@@ -13,7 +13,7 @@ use Rattle.case_journal.specs.Journaled.{Journaled, halted, after_append}
 use Rattle.case_journal.specs.declared.faults.JournalFault.{JournalFault}
 use Rattle.case_journal.specs.declared.faults.JournalFault.TheVariants.{Stopped, JournalFull, NumbersSpent, OutOfMemory, Disk, OldVersion}
 
--- The record and the gate behind it fit into the taken half, or what is said with it has room in the other half.
+-- The record and the gate after it fit into the taken half, or what the journal says with the record has room in the other half.
 abbrev pub RecordFits : Standing → Record → Type 0
 RecordFits s r = (s.used + record_size r + 1 ≤ half_length s.shape) ⊎ SnapshotFits s (after r (folded_of s))
 
@@ -24,7 +24,7 @@ RecordOverflows s r = (half_length s.shape < s.used + record_size r + 1) × Snap
 abbrev pub MayStore : Standing → Case → Type 0
 MayStore s c = IsStorable s.shape.data_blocks s.cases c
 
--- the record may stand behind those that stand there
+-- the record may come after those that are there
 abbrev pub MayFollow : Standing → Record → Type 0
 MayFollow s r = IsSound s.shape.data_blocks (folded_of s) r
 

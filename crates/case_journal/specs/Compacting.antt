@@ -1,4 +1,4 @@
--- What writing a journal anew into its other half does to it, and when it is refused.
+-- What rewriting a journal into its other half does to it, and when it is refused.
 use Rattle.std.specs.Prelude.{◌≡◌, ◌⊎◌, ℕ, ◌+◌, ◌*◌, ◌^◌, ◌<◌, ◌≤◌, true, false, Result, Ok, Err, List, IsTrue, Some}
 use Rattle.journal_layout.specs.declared.entry.Entry.{Entry}
 use Rattle.journal_layout.specs.declared.shape.Shape.{Shape}
@@ -20,7 +20,7 @@ use Rattle.case_journal.specs.Journaled.{Journaled, running, halted}
 use Rattle.case_journal.specs.declared.faults.JournalFault.{JournalFault}
 use Rattle.case_journal.specs.declared.faults.JournalFault.TheVariants.{Stopped, JournalFull, NumbersSpent, OutOfMemory, Disk, OldVersion}
 
--- what is said goes into the other half as a snapshot with the gate behind it, and a generation is left for that half
+-- the other half takes what is said as a snapshot with the gate after it, and a generation is left for that half
 abbrev pub SnapshotFits : Standing → Folded → Type 0
 SnapshotFits s f = (snapshot_size f + 1 ≤ half_length s.shape) × (s.generation + 1 < 2 ^ 64)
 
@@ -35,7 +35,7 @@ compacted s = rewritten s (folded_of s)
 abbrev pub moved : Journaled → JournalEnd → Journaled
 moved j p = record j { standing = record j.standing { half = p.half; generation = p.generation; used = p.used } }
 
--- behind a snapshot of what is said, in the other half
+-- after a snapshot of what is said, in the other half
 abbrev pub snapshot_end : Standing → Folded → JournalEnd
 snapshot_end s f = record { half = other_half s.half; generation = s.generation + 1; used = snapshot_size f }
 
@@ -104,12 +104,11 @@ abbrev pub noted : JournalFault → Journaled → Journaled
 noted Disk j = halted j
 noted _ j = j
 
--- Behind its gate the other half has a header of this version and the next generation, with zeros where the layout has zeros.
+-- After its gate the other half has a header of this version and the next generation, with zeros where the layout has zeros.
 abbrev pub HasHeader : Standing → ℕ → List ℕ → Type 0
 HasHeader s version bytes = part bytes (other_start s + 1) 31 ≡ half_header version (s.generation + 1)
 
--- What it does to the disk: a crash at any moment leaves what stood before or what is said then, and nothing is changed but
--- the half that is not taken.
+-- What it does to the disk: a crash at any moment leaves what was there before or what is said then, and nothing is changed but the half that is not taken.
 pub record RunsSnapshot {D : Type 0} (g : disk.Ghosts D) (old new : D) (s : Standing) (f : Folded) : Type 0 where
   pub moments : IsTrue (g.is_honest old) → LeavesOnly g old new (λ c. Stands c s ⊎ Stands c (rewritten s f))
   pub half : Fills g old new (other_start s) (half_length s.shape)

@@ -1,4 +1,4 @@
--- What formatting writes, and what it has made at last.
+-- What formatting writes, and what it has made in the end.
 use Rattle.std.specs.Prelude.{◌≡◌, ℕ, List, [], ◌∷◌, ◌++◌, slice_index, replicate}
 use Rattle.disk_model.specs.Places.{part}
 use Rattle.journal_layout.specs.declared.shape.Shape.{Shape}
@@ -9,17 +9,16 @@ use Rattle.journal_layout.specs.Layout.{superblock, half_header, half_start}
 unfoldable pub zeros : ℕ → List ℕ
 zeros n = replicate n 0
 
--- the superblock's block: behind its gate what is looked at, and zeros to the block's end
+-- the superblock's block: the bytes after its gate that are looked at, and zeros to the block's end
 abbrev pub superblock_block : ℕ → Shape → List ℕ
 superblock_block gate s = gate ∷ superblock s ++ zeros 4072
 
--- The halves' headers: of the first, of version 1 and generation 1, with an open gate and the closed gate of its first record
--- behind it; of the second the closed gate.
+-- The halves' headers: of the first, of version 1 and generation 1, with an open gate, and after it the closed gate of its first record; of the second the closed gate.
 pub record HasHalves (s : Shape) (b : List ℕ) : Type 0 where
   pub first : part b (half_start s A) 33 ≡ 165 ∷ half_header 1 1 ++ 0 ∷ []
   pub second : slice_index b (half_start s B) ≡ 0
 
--- the same with the superblock's block behind a gate
+-- the same with the superblock's block after a gate
 pub record HasFront (gate : ℕ) (s : Shape) (b : List ℕ) : Type 0 where
   pub superblock : part b 0 4096 ≡ superblock_block gate s
   pub halves : HasHalves s b

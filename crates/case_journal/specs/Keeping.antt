@@ -12,20 +12,20 @@ use Rattle.journal_layout.specs.Stands.{Stands}
 use Rattle.journal_snapshot.specs.Holding.{SameHeaders, Holds}
 use Rattle.case_journal.specs.Journaled.{Journaled}
 
--- The disk is that of the journal. A journal that a disk fault has stopped knows nothing of it but its size.
+-- The disk is that of the journal. Of a journal that a disk fault has stopped only the disk's size is known.
 pub record Keeps {D : Type 0} (g : disk.Ghosts D) (d : D) (j : Journaled) : Type 0 where
   pub size : g.size d ≡ disk_length j.standing.shape
   pub holds : j.stopped ≡ false → IsTrue (g.is_honest d) → Holds g d j.standing
 
--- Before or after: what a crash at any moment of an append leaves stands for one of the two.
+-- Before or after: a crash at any moment of an append leaves bytes that encode one of the two.
 abbrev pub LeavesEither : {D : Type 0} → disk.Ghosts D → D → D → Standing → Record → Type 0
 LeavesEither g old new s r = LeavesOnly g old new (λ c. Stands c s ⊎ Stands c (appended s r))
 
--- what a crash at any moment leaves is what one before could have left, but for bytes of the two halves
+-- a crash at any moment leaves what one before could have left, but for bytes of the two halves
 abbrev pub LeavesOutside : {D : Type 0} → disk.Ghosts D → D → D → Standing → Type 0
 LeavesOutside g old new s = LeavesOnly g old new (ChangedIn 4096 (2 * half_length s.shape) (g.may_leave old))
 
--- what is changed behind the halves leaves what the bytes stand for, and both headers
+-- a change after the halves leaves what the bytes encode, and both headers
 abbrev pub DataIsApart : Type 0
 DataIsApart =
     (s : Standing) (at n : ℕ) (b c : List ℕ) → Stands b s → SameOutside at n b c → data_start s.shape ≤ at

@@ -5,5 +5,5 @@ use Rattle.journal_layout.specs.declared.entry.Entry.{Entry}
 pub record LiveList : Type 0 where
   -- in the order in which they were put
   pub entries : List Entry
-  -- for how many more there is memory
+  -- how many more there is memory for
   pub spare : ℕ

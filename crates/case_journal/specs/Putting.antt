@@ -1,4 +1,4 @@
--- A record as bytes that are to be put behind those of a journal.
+-- A record as bytes that are to be put after those of a journal.
 use Rattle.std.specs.Prelude.{◌≡◌, ℕ, ◌+◌, ◌*◌, ◌≤◌, List, [], ◌∷◌, ◌++◌, length, IsTrue, Result, Ok, Err, if◌then◌else◌}
 use Rattle.disk_model.specs.declared.disk.Disk as disk
 use Rattle.journal_layout.specs.Layout.{half_start, half_length}
@@ -12,19 +12,19 @@ use Rattle.case_journal.specs.declared.faults.JournalFault.TheVariants.{JournalF
 use Rattle.case_journal.specs.Append.{RecordFits, RecordOverflows, MayFollow}
 use Rattle.case_journal.specs.Keeping.{LeavesEither}
 
--- These bytes are what stands behind the record's gate, and a closed gate; the record may follow those of the journal.
+-- These bytes are what follows the record's gate, and a closed gate; the record may follow those of the journal.
 pub record IsPut (s : Standing) (r : Record) (behind : List ℕ) : Type 0 where
   pub bytes : behind ≡ behind_gate r ++ 0 ∷ []
   pub long : length behind ≡ record_size r
   pub sound : MayFollow s r
 
--- a record is put behind the others: only the disk refuses it
+-- a record is put after the others: only the disk refuses it
 abbrev pub BehindStep : Standing → ℕ → Result JournalEnd JournalFault → Type 0
 BehindStep s size (Ok p) = p ≡ record { half = s.half; generation = s.generation; used = s.used + size }
 BehindStep s size (Err Disk) = Unit {0}
 BehindStep s size (Err _) = ⊥
 
--- whether a record has room, behind the others or in the other half
+-- whether a record has room, after the others or in the other half
 abbrev pub DecidesFit : Standing → Record → Result (Unit {0}) JournalFault → Type 0
 DecidesFit s r (Ok u) = RecordFits s r
 DecidesFit s r (Err JournalFull) = RecordOverflows s r
@@ -38,8 +38,8 @@ written_at s r = if fits s r then half_start s.shape s.half + s.used else other_
 abbrev pub written_long : Standing → Record → ℕ
 written_long s r = if fits s r then 1 + record_size r else half_length s.shape
 
--- What an append does to the disk: a crash at any moment leaves what stood before or what stands after, and nothing is
--- changed but the halves, of which it writes one alone.
+-- What an append does to the disk: a crash at any moment leaves what was there before or what is there after it, and nothing is changed but the halves, of which it
+-- writes one alone.
 pub record RunsAppend {D : Type 0} (g : disk.Ghosts D) (old new : D) (s : Standing) (r : Record) : Type 0 where
   pub moments : IsTrue (g.is_honest old) → LeavesEither g old new s r
   pub half : Fills g old new (written_at s r) (written_long s r)

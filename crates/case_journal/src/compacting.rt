@@ -45,7 +45,7 @@ fn other_half(half: Half) -> Half
     }
 }
 
-/// Measures what a change makes of these cases. `JournalFull`: it does not fit into a half with the gate behind it, or no
+/// Measures what a change makes of these cases. `JournalFull`: it does not fit into a half with the gate after it, or no
 /// generation is left for one.
 pub(crate) fn measure_snapshot(
     entries: &[Entry],
@@ -102,18 +102,18 @@ pub(crate) fn write_snapshot<D: Disk>(
 }
 
 impl Journal {
-    /// Writes the cases and the number of the next one anew into the other half, which is taken then: a snapshot of them,
+    /// Rewrites the cases and the number of the next one into the other half, which is taken then: a snapshot of them,
     /// without the records that say nothing any more. It changes no case. All faults but `Disk` leave the journal and the
-    /// disk as they are. Answers, in this order: `Stopped`; `JournalFull` where the snapshot with the gate behind it does
-    /// not fit into the half, or its generation would be 2^64; `OutOfMemory`, before the first disk call; `Disk`, after
-    /// which the journal is stopped. It takes as much memory as the longest record of a case has bytes.
+    /// disk as they are. Answers, in this order: `Stopped`; `JournalFull` if the snapshot with the gate after it does not
+    /// fit into the half, or its generation would be 2^64; `OutOfMemory`, before the first disk call; `Disk`, after which
+    /// the journal is stopped. It takes as much memory as the longest record of a case has bytes.
     pub fn compact<D: Disk>(&mut self, disk: &mut D) -> Result<(), JournalFault>
         requires keeps { Keeps D.Disk disk.old self.old }
         ensures step { CompactStep self.old result self.new }
         // A refusal leaves the disk as it is, unless the disk failed.
         ensures untouched { RefusalLeaves result disk.old disk.new }
-        // What a crash at any moment since the start leaves stands for the same cases and next number, in the one half or
-        // in the other.
+        // Crash-safe at every moment: a crash since the start leaves bytes that encode the same cases and next number, in
+        // the one half or in the other.
         ensures any_moment { IsTrue (D.is_honest disk.old) → self.old.stopped ≡ false
             → LeavesOnly D.Disk disk.old disk.new (λ c. Stands c self.old.standing ⊎ Stands c (compacted self.old.standing)) }
         ensures keeps { Keeps D.Disk disk.new self.new }
@@ -124,7 +124,7 @@ impl Journal {
             → SameOutside 4096 (2 * half_length self.old.standing.shape) (D.seen disk.old) (D.seen disk.new) }
         // Its header is spelled with zeros where the layout has zeros.
         ensures header { IsTrue (D.is_honest disk.old) → OnOk result (HasHeader self.old.standing self.old.standing.version (D.seen disk.new)) }
-        // It writes the half that is not taken, alone.
+        // It writes only the half that is not taken.
         ensures written { self.old.stopped ≡ false
             → Fills D.Disk disk.old disk.new (other_start self.old.standing) (half_length self.old.standing.shape) }
         ensures disk { KeepsDisk D.Disk disk.old disk.new (result ≡ Err JournalFault.Disk) }

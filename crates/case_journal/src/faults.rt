@@ -10,7 +10,7 @@ use thiserror::Error;
 /// Why an archive was not made.
 #[derive(Clone, Copy, Debug, PartialEq, Eq, Error)]
 pub enum FormatFault {
-    /// The shape is outside its limits, or is not the disk's. Nothing was written.
+    /// The shape is outside its limits, or is not that of the disk. Nothing was written.
     #[error("the shape is outside its limits or is not the disk's")]
     BadShape,
     /// The disk failed. Nothing is promised of it until the format is done again.
@@ -18,13 +18,13 @@ pub enum FormatFault {
     Disk,
 }
 
-/// Why a record was not appended. They are checked in this order, `OldVersion` right behind `Stopped`.
+/// Why a record was not appended. They are checked in this order, `OldVersion` right after `Stopped`.
 #[derive(Clone, Copy, Debug, PartialEq, Eq, Error)]
 pub enum JournalFault {
     /// A disk fault has stopped the journal until it is opened again.
     #[error("stopped by a disk fault")]
     Stopped,
-    /// The record and the gate behind it do not fit into the half.
+    /// The record and the gate after it do not fit into the half.
     #[error("the journal is full")]
     JournalFull,
     /// All case numbers are given.
@@ -33,7 +33,7 @@ pub enum JournalFault {
     /// There was no memory.
     #[error("out of memory")]
     OutOfMemory,
-    /// The disk failed. The record may stand on it or not, and the journal is stopped.
+    /// The disk failed. The record may be on it or not, and the journal is stopped.
     #[error("the disk failed")]
     Disk,
     /// The archive is of version 1 of the layout, which keeps no labels.

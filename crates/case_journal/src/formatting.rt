@@ -75,17 +75,17 @@ fn write_headers<D: Disk>(disk: &mut D, shape: Shape) -> Result<(), DiskFault>
     Ok(())
 }
 
-/// Makes an archive of this shape with no case on the disk. Answers `BadShape` where the shape is outside its limits or
-/// is not the disk's, and then nothing was written, and else `Disk` where the disk failed. Until it answers `Ok`,
-/// nothing is promised of the disk: it is done again. It takes no memory.
+/// Makes an archive of this shape with no case on the disk. Answers `BadShape` if the shape is outside its limits or is not
+/// that of the disk, and then nothing was written; else `Disk` if the disk failed. Until it answers `Ok`, nothing is
+/// promised of the disk: it is done again. It takes no memory.
 pub fn format<D: Disk>(disk: &mut D, shape: Shape) -> Result<(), FormatFault>
     ensures shape { (result ≡ Err FormatFault.BadShape) ↔ (is_shape_of (D.size disk.old) shape
         ≡ false) }
     ensures untouched { result ≡ Err FormatFault.BadShape → disk.new ≡ disk.old }
-    // On an honest disk, what stands there then is an archive with no case, and a crash leaves it so.
+    // On an honest disk, the bytes are then an archive with no case, and a crash leaves them so.
     ensures made { IsTrue (D.is_honest disk.old) → OnOk result (Stands (D.seen disk.new)
         (fresh shape Half.A 1 1)) }
-    // All that the layout fixes of it stands there: the superblock with zeros to its block's end, and the halves' headers.
+    // All that the layout fixes of it is there: the superblock with zeros to its block's end, and the halves' headers.
     ensures written { IsTrue (D.is_honest disk.old) → OnOk result (HasFront 165 shape (D.seen disk.new)) }
     ensures stable { IsTrue (D.is_honest disk.old) → OnOk result (IsSettled D.Disk disk.new) }
     ensures disk { KeepsDisk D.Disk disk.old disk.new (result ≡ Err FormatFault.Disk) }

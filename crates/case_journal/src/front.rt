@@ -26,7 +26,7 @@ fn is_known(version: u32) -> bool
     version == VERSION || version == LABELS
 }
 
-// The superblock's gate is open, and the layout's name stands behind it.
+// The superblock's gate is open, and the layout's name follows it.
 fn is_archive(bytes: &[u8]) -> bool
     requires { 24 ≤ length bytes.now }
     ensures { result ≡ is_archive bytes.now }
@@ -34,7 +34,7 @@ fn is_archive(bytes: &[u8]) -> bool
     bytes[0] == GATE_OPEN && bytes[8..].starts_with(MAGIC)
 }
 
-// The shape that stands in a superblock.
+// The shape that a superblock gives.
 fn shape_at(bytes: &[u8]) -> Shape
     requires { 24 ≤ length bytes.now }
     ensures { result ≡ shape_at bytes.now }

@@ -30,7 +30,7 @@ use std::alloc::Global;
 use std::marker::Model;
 
 /// The journal of an open archive: its cases, the number of the next one, and where the next record goes. Contracts see
-/// what it stands for.
+/// what it encodes.
 #[derive(Drop)]
 pub struct Journal {
     pub(crate) shape: Shape,
@@ -109,7 +109,7 @@ impl Journal {
         self.shape
     }
 
-    // Whether a record of `size` bytes, and the gate behind it, go behind those that stand there.
+    // Whether a record of `size` bytes, and the gate after it, fit after those that are there.
     pub(crate) fn fits(&self, size: u64) -> bool
         ensures in_half { result ≡ nat_lt (self.now.standing.used + size) (half_length self.now.standing.shape) }
         ensures small { result ≡ true → size ≤ 16777216 }
@@ -117,7 +117,7 @@ impl Journal {
         size < self.shape.half_length() - self.used
     }
 
-    // Whether a case has room, behind the records or in the other half. Its number is not looked at.
+    // Whether a case has room, after the records or in the other half. Its number is not looked at.
     fn check_fit(&self, entry: &Entry, size: u64) -> Result<(), JournalFault>
         requires size { size ≡ record_size (store_of self.now.standing (case_of entry.now)) }
         requires short { length entry.now.runs ≤ 2 ^ 52 }
@@ -136,7 +136,7 @@ impl Journal {
         Ok(())
     }
 
-    // Puts a record behind those that stand there, whatever record it is. Answers where the next one goes.
+    // Puts a record after those that are there, whatever record it is. Answers where the next one goes.
     pub(crate) fn put_behind<D: Disk>(
         &self,
         disk: &mut D,
@@ -210,8 +210,8 @@ impl Journal {
         self.put_behind(disk, &record)
     }
 
-    // Puts the record of a pin, or writes the journal anew with it. The flag is not set yet. Behind the records it takes no
-    // memory.
+    // Puts the record of a pin, or writes the journal anew with it. The flag is not set yet. It takes no memory if the
+    // record fits after the others.
     fn put_pin<D: Disk>(
         &self,
         disk: &mut D,
@@ -249,17 +249,17 @@ impl Journal {
         ensures handed_back { IfErr result (λ e. e.1 ≡ entry) }
         // A refusal leaves the disk as it is, unless the disk failed.
         ensures untouched { StoreRefusalLeaves result disk.old disk.new }
-        // What a crash at any moment since the start leaves stands for the cases before or after.
+        // Crash-safe at every moment: a crash since the start leaves bytes that encode the cases before or after.
         ensures any_moment { IsTrue (D.is_honest disk.old) → self.old.stopped ≡ false
             → LeavesEither D.Disk disk.old disk.new self.old.standing (store_of self.old.standing (case_of entry)) }
-        // Now it leaves what stands for those that the journal shows, unless it is stopped.
+        // Then it leaves bytes that encode those that the journal shows, unless it is stopped.
         ensures keeps { Keeps D.Disk disk.new self.new }
         // No byte outside the two halves is changed.
         ensures outside { IsTrue (D.is_honest disk.old)
             → LeavesOutside D.Disk disk.old disk.new self.old.standing }
         ensures others { IsTrue (D.is_honest disk.old)
             → SameOutside 4096 (2 * half_length self.old.standing.shape) (D.seen disk.old) (D.seen disk.new) }
-        // Of the two halves it writes one alone: after the records of the taken one, or in the other.
+        // It writes only one of the two halves: after the records of the taken one, or in the other.
         ensures written { self.old.stopped ≡ false
             → Fills D.Disk disk.old disk.new (written_at self.old.standing (store_of self.old.standing (case_of entry))) (written_long self.old.standing (store_of self.old.standing (case_of entry))) }
         ensures disk { KeepsDisk D.Disk disk.old disk.new (IsStoreDiskFault result) }
@@ -297,7 +297,7 @@ impl Journal {
     }
 
     /// Appends the Drop record of cases, which are then gone. All faults but `Disk` leave the journal and the disk as they
-    /// are. Answers, in this order: `Stopped`; `JournalFull` where the record does not fit behind the others and no
+    /// are. Answers, in this order: `Stopped`; `JournalFull` where the record does not fit after the others and no
     /// generation is left for the other half; `OutOfMemory`; `Disk`, after which the journal is stopped.
     pub fn append_drop<D: Disk>(&mut self, disk: &mut D, seqs: &[u32]) -> Result<(), JournalFault>
         requires keeps { Keeps D.Disk disk.old self.old }
@@ -314,7 +314,7 @@ impl Journal {
             → LeavesOutside D.Disk disk.old disk.new self.old.standing }
         ensures others { IsTrue (D.is_honest disk.old)
             → SameOutside 4096 (2 * half_length self.old.standing.shape) (D.seen disk.old) (D.seen disk.new) }
-        // Of the two halves it writes one alone: after the records of the taken one, or in the other.
+        // It writes only one of the two halves: after the records of the taken one, or in the other.
         ensures written { self.old.stopped ≡ false
             → Fills D.Disk disk.old disk.new (written_at self.old.standing (Drop seqs.now)) (written_long self.old.standing (Drop seqs.now)) }
         ensures disk { KeepsDisk D.Disk disk.old disk.new (result ≡ Err JournalFault.Disk) }
@@ -337,7 +337,7 @@ impl Journal {
 
     /// Appends the Pin record of a live case, which is then pinned or not. All faults but `Disk` leave the journal and the
     /// disk as they are. Answers, in this order: `Stopped`; `JournalFull` where neither the record nor the cases, written anew into the
-    /// other half, have room; `OutOfMemory`, where the record does not fit behind the others alone; `Disk`, after which
+    /// other half, have room; `OutOfMemory`, where the record does not fit after the others alone; `Disk`, after which
     /// the journal is stopped.
     pub fn append_pin<D: Disk>(
         &mut self,
@@ -348,7 +348,7 @@ impl Journal {
         requires keeps { Keeps D.Disk disk.old self.old }
         requires pinnable { MayFollow self.old.standing (Pin seq flag) }
         ensures step { AppendStep self.old (Pin seq flag) result self.new }
-        // Behind the records it takes no memory.
+        // It takes no memory if the record fits after the others.
         ensures never { result ≡ Err JournalFault.OutOfMemory → fits self.old.standing (Pin seq flag) ≡ false }
         ensures untouched { RefusalLeaves result disk.old disk.new }
         ensures any_moment { IsTrue (D.is_honest disk.old) → self.old.stopped ≡ false
@@ -358,7 +358,7 @@ impl Journal {
             → LeavesOutside D.Disk disk.old disk.new self.old.standing }
         ensures others { IsTrue (D.is_honest disk.old)
             → SameOutside 4096 (2 * half_length self.old.standing.shape) (D.seen disk.old) (D.seen disk.new) }
-        // Of the two halves it writes one alone: after the records of the taken one, or in the other.
+        // It writes only one of the two halves: after the records of the taken one, or in the other.
         ensures written { self.old.stopped ≡ false
             → Fills D.Disk disk.old disk.new (written_at self.old.standing (Pin seq flag)) (written_long self.old.standing (Pin seq flag)) }
         ensures disk { KeepsDisk D.Disk disk.old disk.new (result ≡ Err JournalFault.Disk) }

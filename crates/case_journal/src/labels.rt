@@ -50,7 +50,7 @@ impl Journal {
         ensures step { LabelStep self.old seq label.now result self.new }
         // A refusal leaves the disk as it is, unless the disk failed.
         ensures untouched { RefusalLeaves result disk.old disk.new }
-        // What a crash at any moment since the start leaves stands for the cases before or after.
+        // Crash-safe at every moment: a crash since the start leaves bytes that encode the cases before or after.
         ensures any_moment { IsTrue (D.is_honest disk.old) → self.old.stopped ≡ false
             → LeavesEither D.Disk disk.old disk.new self.old.standing (Label seq label.now) }
         ensures keeps { Keeps D.Disk disk.new self.new }
@@ -58,7 +58,7 @@ impl Journal {
             → LeavesOutside D.Disk disk.old disk.new self.old.standing }
         ensures others { IsTrue (D.is_honest disk.old)
             → SameOutside 4096 (2 * half_length self.old.standing.shape) (D.seen disk.old) (D.seen disk.new) }
-        // Of the two halves it writes one alone: after the records of the taken one, or in the other.
+        // It writes only one of the two halves: after the records of the taken one, or in the other.
         ensures written { self.old.stopped ≡ false
             → Fills D.Disk disk.old disk.new (written_at self.old.standing (Label seq label.now)) (written_long self.old.standing (Label seq label.now)) }
         ensures disk { KeepsDisk D.Disk disk.old disk.new (result ≡ Err JournalFault.Disk) }
@@ -130,7 +130,7 @@ impl Journal {
         self.put_label_behind(disk, seq, label.as_slice())
     }
 
-    // Puts the record of a label behind the others, where it fits.
+    // Puts the record of a label after the others, where it fits.
     fn put_label_behind<D: Disk>(
         &self,
         disk: &mut D,
@@ -160,10 +160,10 @@ impl Journal {
         self.entries.set_label(seq, label);
     }
 
-    /// Writes the cases and the number of the next one anew into the other half, as `compact` does, in version 2 of the
+    /// Rewrites the cases and the number of the next one into the other half, as `compact` does, in version 2 of the
     /// layout, which keeps labels; no case has one yet. On an archive of version 2 it does nothing. It changes no case. All
-    /// faults but `Disk` leave the journal and the disk as they are. Answers, in this order: `Stopped`; `JournalFull` where
-    /// the snapshot with the gate behind it does not fit into the half, or its generation would be 2^64; `OutOfMemory`,
+    /// faults but `Disk` leave the journal and the disk as they are. Answers, in this order: `Stopped`; `JournalFull` if
+    /// the snapshot with the gate after it does not fit into the half, or its generation would be 2^64; `OutOfMemory`,
     /// before the first disk call; `Disk`, after which the journal is stopped.
     pub fn upgrade<D: Disk>(&mut self, disk: &mut D) -> Result<(), JournalFault>
         requires keeps { Keeps D.Disk disk.old self.old }
@@ -172,8 +172,8 @@ impl Journal {
         ensures nothing { self.old.standing.version ≡ 2 → disk.new ≡ disk.old }
         // A refusal leaves the disk as it is, unless the disk failed.
         ensures untouched { RefusalLeaves result disk.old disk.new }
-        // What a crash at any moment since the start leaves stands for the same cases and next number, in the one version
-        // or in the other.
+        // Crash-safe at every moment: a crash since the start leaves bytes that encode the same cases and next number, in
+        // the one version or in the other.
         ensures any_moment { IsTrue (D.is_honest disk.old) → self.old.stopped ≡ false
             → LeavesOnly D.Disk disk.old disk.new (λ c. Stands c self.old.standing ⊎ Stands c (upgraded self.old.standing)) }
         ensures keeps { Keeps D.Disk disk.new self.new }
@@ -183,7 +183,7 @@ impl Journal {
             → SameOutside 4096 (2 * half_length self.old.standing.shape) (D.seen disk.old) (D.seen disk.new) }
         // Its header is spelled with zeros where the layout has zeros.
         ensures header { IsTrue (D.is_honest disk.old) → self.old.standing.version ≡ 1 → OnOk result (HasHeader self.old.standing 2 (D.seen disk.new)) }
-        // It writes the half that is not taken, alone.
+        // It writes only the half that is not taken.
         ensures written { self.old.stopped ≡ false
             → Fills D.Disk disk.old disk.new (other_start self.old.standing) (half_length self.old.standing.shape) }
         ensures disk { KeepsDisk D.Disk disk.old disk.new (result ≡ Err JournalFault.Disk) }

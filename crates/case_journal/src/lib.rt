@@ -1,5 +1,5 @@
-//! The journal of an archive: gated records of cases in two halves of a disk. It is made by `format`, opened by
-//! `Journal::open`, and grows by appends, each of which a crash leaves undone or done.
+//! The journal of an archive: gated records of cases in two halves of a disk. `format` makes it, `Journal::open` opens it,
+//! and it grows by appends. A crash leaves each append undone or done.
 #![tactic(auto)]
 
 mod compacting;

@@ -1,4 +1,4 @@
-// The entries of the live cases. The oldest case is the one that goes most often: it is counted as gone, and nothing is moved.
+// The entries of the live cases. The oldest case is deleted most often: it is counted as gone, and nothing is moved.
 ghost use Rattle.std.specs.Prelude.{◌≡◌, ◌+◌, ◌*◌, ◌<◌, ◌≤◌, ◌++◌, ◌∷◌, [], drop, length, map, IfSome, OnOk, None, option_map};
 ghost use Rattle.std.specs.List.{HoldsAt, remove};
 ghost use Rattle.journal_layout.specs.declared.entry.Entry.{Entry};
@@ -12,11 +12,11 @@ use journal_snapshot::is_listed;
 use std::alloc::{AllocError, Global};
 use std::marker::Model;
 
-/// The entries of the live cases, in the order in which they were put. Contracts see them as a list, and for how many
-/// more there is memory.
+/// The entries of the live cases, in the order in which they were put. Contracts see them as a list, with the number of
+/// further ones that there is memory for.
 #[derive(Drop)]
 pub(crate) struct LiveEntries {
-    // The live ones stand behind those that are gone.
+    // The live ones are after those that are gone.
     all: Vec<Entry>,
     // How many at the front are gone, never more than the live ones.
     first: usize,
@@ -61,7 +61,7 @@ impl LiveEntries {
         self.all.reserve(1)
     }
 
-    /// Puts an entry behind the others, where there is room for it.
+    /// Puts an entry after the others, where there is room for it.
     pub(crate) fn push(&mut self, entry: Entry)
         requires { 0 < self.old.spare }
         ensures { self.new.entries ≡ self.old.entries ++ entry ∷ [] }
@@ -134,8 +134,8 @@ impl LiveEntries {
     }
 }
 
-// Takes out the entry at a place behind the first ones, which are gone. Where it is next to them it is counted as gone
-// too; behind any other the rest moves up. Answers how many at the front are gone then.
+// Takes out the entry at `place` of the live ones; the first `first` entries are gone already. The first live one is counted
+// as gone too; for any other the rest moves up. Answers how many at the front are gone then.
 fn take_one(entries: &mut Vec<Entry>, first: usize, place: usize) -> usize
     requires { first + place < length entries.old.items }
     ensures left { drop result entries.new.items ≡ remove (drop first entries.old.items) place }
@@ -148,8 +148,8 @@ fn take_one(entries: &mut Vec<Entry>, first: usize, place: usize) -> usize
     first + 1
 }
 
-// Lets the entries at the front that are gone go, where they are more than those behind them. Answers how many are gone
-// there then.
+// Removes the entries at the front that are gone, if they are more than those after them. Answers how many at the front are
+// gone then.
 fn forget_if_many(entries: &mut Vec<Entry>, gone: usize) -> usize
     requires { gone ≤ length entries.old.items }
     ensures left { drop result entries.new.items ≡ drop gone entries.old.items }
@@ -162,7 +162,7 @@ fn forget_if_many(entries: &mut Vec<Entry>, gone: usize) -> usize
     0
 }
 
-// Lets the first `count` entries go.
+// Removes the first `count` entries.
 fn forget_first(entries: &mut Vec<Entry>, count: usize)
     requires { count ≤ length entries.old.items }
     ensures { entries.new.items ≡ drop count entries.old.items }
@@ -178,7 +178,7 @@ fn keep_unlisted(entries: &mut Vec<Entry>, seqs: &[u32])
     entries.retain(|entry| !is_listed(seqs, entry.seq));
 }
 
-// Where the entry of this number stands among entries whose numbers rise.
+// The place of the entry of this number among entries whose numbers rise.
 fn place_of(entries: &[Entry], seq: u32) -> Option<usize>
     requires { Rise 0 (map seq_of_case (map case_of entries.now)) }
     ensures found { IfSome result (λ place. (place < length entries.now) × HoldsAt (λ (e : Entry). e.seq ≡ seq) entries.now place) }

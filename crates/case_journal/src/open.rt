@@ -38,7 +38,7 @@ fn settle<D: Disk>(disk: &mut D) -> Result<(), OpenFault>
     Ok(())
 }
 
-// Reads the bytes of the taken half behind its header.
+// Reads the bytes of the taken half after its header.
 fn read_records<D: Disk>(
     alloc: Global,
     disk: &mut D,
@@ -112,18 +112,18 @@ fn read_journal<D: Disk>(alloc: Global, disk: &mut D) -> Result<Opened, OpenFaul
 }
 
 impl Journal {
-    /// Opens the journal on a disk, beginning with a sync, and answers the first check of the layout that fails: where a
-    /// crash left what stands for some cases, none does. It reads each half's header, and the rest of the half that is
-    /// taken in one read. Answers the names of the cases and the blocks that they leave free with it. `Disk`: the disk
-    /// failed. `OutOfMemory`: there was no memory. Both may be met before a check.
+    /// Opens the journal on a disk, beginning with a sync. It answers the first check of the layout that fails; none fails
+    /// if a crash left bytes that encode some cases. It reads each half's header, and the rest of the half that is taken in
+    /// one read. It also answers the names of the cases and the blocks that they leave free. `Disk`: the disk failed.
+    /// `OutOfMemory`: there was no memory. Both may come before a check.
     pub fn open<D: Disk>(alloc: Global, disk: &mut D) -> Result<Opened, OpenFault>
         // The answer is the opening of some list of bytes as long as the disk, on an honest disk of its bytes.
         ensures gives { ShowsOpening D.Disk disk.old (journal_of result) }
-        // What the disk stands for is found, and nothing but the disk and the memory refuses it.
+        // What the disk encodes is found, and nothing but the disk and the memory refuses it.
         ensures found { (s : Standing) → IsTrue (D.is_honest disk.old) → Stands (D.seen disk.old) s
             → FindsStanding (journal_of result) s }
         ensures keeps { IfOk result (λ o. Keeps D.Disk disk.new o.journal) }
-        // What the cases of any archive are like: their numbers rise, no block is used twice, and so on.
+        // What holds of the cases of any archive: their numbers rise, no block is used twice, and so on.
         ensures live { IfOk result (λ o. AreLive o.journal.standing.shape.data_blocks o.journal.standing.cases o.journal.standing.next) }
         // Version 2 of the layout keeps labels, and no other.
         ensures labels { IfOk result (λ o. AreLabelled o.journal.standing.version o.journal.standing.cases) }
@@ -131,11 +131,11 @@ impl Journal {
         // The set has the names of the cases, and the map the data blocks that none of them has.
         ensures names { IfOk result (λ o. AreNames o.journal.standing.cases o.names) }
         ensures free { IfOk result (λ o. IsSpareMap o.journal.standing.shape.data_blocks o.journal.standing.cases o.free) }
-        // A crash meanwhile leaves what one before could have left.
+        // A crash during the call leaves what one before it could have left.
         ensures any_moment { IsTrue (D.is_honest disk.old)
             → LeavesOnly D.Disk disk.old disk.new (D.may_leave disk.old) }
         ensures seen { IsTrue (D.is_honest disk.old) → D.seen disk.new ≡ D.seen disk.old }
-        // From then on one leaves what reads give.
+        // After it a crash leaves what reads give.
         ensures settled { IsTrue (D.is_honest disk.old) → OnOk result (IsSettled D.Disk disk.new) }
         ensures disk { KeepsDisk D.Disk disk.old disk.new (result ≡ Err OpenFault.Disk) }
     {

@@ -1,4 +1,4 @@
-// A record is made of a write behind its closed gate, and then of a write of the gate.
+// A record is published by two writes: its bytes after its closed gate, and then the gate.
 ghost use Rattle.std.specs.Prelude.{◌≡◌, ◌⊎◌, ℕ, List, ◌+◌, ◌<◌, ◌≤◌, ◌∷◌, [], length, IsTrue, OnOk};
 ghost use Rattle.disk_model.specs.Places.{overwritten, SameOutside};
 ghost use Rattle.disk_model.specs.Disk.{HasCause, ChangedIn};
@@ -11,9 +11,9 @@ ghost use Rattle.case_journal.specs.Publishing.{Publishes};
 use disk_model::{Disk, DiskFault, write_stable};
 use journal_records::GATE_OPEN;
 
-/// Publishes a record whose closed gate stands at `gate`: writes what stands behind the gate and makes it stable, and
-/// then opens the gate by a write of its own. On an honest disk a crash at any moment leaves what stands for the cases
-/// before or after, whatever the disk stood for; once it has answered `Ok`, what stands for those after.
+/// Publishes a record whose closed gate is at `gate`: writes what follows the gate and makes it stable, and then opens the
+/// gate by a write of its own. On an honest disk a crash at any moment leaves bytes that encode the cases before or after,
+/// whatever the disk encoded; once it has answered `Ok`, bytes that encode those after.
 pub(crate) fn publish<D: Disk>(disk: &mut D, gate: u64, behind: &[u8]) -> Result<(), DiskFault>
     requires { gate + 1 + length behind.now ≤ D.size disk.old }
     ensures any_moment { (s : Standing) (r : Record) → Publishes s r gate behind.now

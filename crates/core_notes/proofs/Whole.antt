@@ -46,7 +46,7 @@ abbrev is_fine : (List ℕ → Option NoteField) → Option (List ℕ) → Bool
 is_fine fault None = true
 is_fine fault (Some d) = is_none (fault d)
 
--- of notes that stand behind others, the first of a type has no fault, unless one of the others is of it
+-- of notes that follow others, the first of a type has no fault, unless one of the others is of it
 abbrev is_first_fine : (List ℕ → Option NoteField) → ℕ → List NoteView → List NoteView → Bool
 is_first_fine fault kind before notes = is_some (first_desc kind before) || is_fine fault (first_desc kind notes)
 
@@ -69,7 +69,7 @@ first_grows fault kind before notes n =
     first_step fault (is_typed kind n) n (first_desc kind before) (find (is_typed kind) notes)
     ∙ ap (λ o. is_fresh_fine fault kind before n && (is_some o || is_fine fault (first_desc kind notes))) (sym (first_desc-push kind before n))
 
--- no note that is looked at has a fault, of those that stand behind others
+-- no note that is looked at has a fault, of those that follow others
 abbrev are_fine : List NoteView → List NoteView → Bool
 are_fine before notes =
     list_all is_status_whole notes

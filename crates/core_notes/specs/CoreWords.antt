@@ -1,4 +1,4 @@
--- What the code's view of a core's notes, and an iterator over its threads' states, stand for.
+-- What the code's view of a core's notes, and an iterator over its threads' states, mean.
 use Rattle.std.specs.Prelude.{ℕ, List}
 use Rattle.elf_view.specs.NoteList.{NoteView}
 use Rattle.elf_view.specs.NoteWords.{notes_left}

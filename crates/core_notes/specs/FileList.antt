@@ -1,4 +1,4 @@
--- NT_FILE (core(5)): a count and a page size; for each mapped file its first address, the address behind the last and its
+-- NT_FILE (core(5)): a count and a page size; for each mapped file its first address, the address after the last and its
 -- place in the file in pages; then the names in the same order, each ended by a NUL.
 use Rattle.std.specs.Prelude.{ℕ, zero, suc, ◌+◌, ◌-◌, ◌*◌, ◌^◌, ◌&&◌, not, nat_lt, nat_le, if◌then◌else◌, Bool, List, [], ◌∷◌, length, drop, find, Option, None, Some}
 use Rattle.std.specs.List.{range_with_len, after_first, list_all, enumerate_from}

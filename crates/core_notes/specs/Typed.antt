@@ -62,7 +62,7 @@ fault_after first note =
 abbrev pub desc_if : ℕ → NoteView → Option (List ℕ)
 desc_if kind note = if is_typed kind note then Some note.desc else None
 
--- the first descriptors once a note has gone by
+-- the first descriptors once one more note is seen
 abbrev pub next_descs : FirstDescs → NoteView → FirstDescs
 next_descs first note = record {
   psinfo = option_or first.psinfo (desc_if 3 note);
@@ -74,7 +74,7 @@ next_descs first note = record {
 abbrev pub note_fault_at : ℕ → NoteField → NoteFault
 note_fault_at i f = record { index = i; «field» = f }
 
--- the first fault among notes from number i on that stand behind others
+-- the first fault among notes from number i on that follow others
 unfoldable pub first_note_fault : List NoteView → ℕ → List NoteView → Option NoteFault
 first_note_fault before i [] = None
 first_note_fault before i (note ∷ notes) =

@@ -14,7 +14,7 @@ const PRSTATUS_SIZE: usize = 376;
 
 const PRPSINFO_SIZE: usize = 136;
 
-/// NT_PRSTATUS. `DescSize` where it has not 376 bytes.
+/// NT_PRSTATUS. `DescSize` if it does not have 376 bytes.
 pub fn status<'a>(note: &Note<'a>) -> Result<crate::thread_state::Status<'a>, NoteField>
     ensures fault { result_err result ≡ spec.status_fault note.now.desc.now }
     ensures desc { IfOk result (λ s. bytes.status_bytes s ≡ note.now.desc.now) }
@@ -25,7 +25,7 @@ pub fn status<'a>(note: &Note<'a>) -> Result<crate::thread_state::Status<'a>, No
     Ok(crate::thread_state::Status::new(note.desc))
 }
 
-/// NT_PRPSINFO. `DescSize` where it has not 136 bytes.
+/// NT_PRPSINFO. `DescSize` if it does not have 136 bytes.
 pub fn psinfo<'a>(note: &Note<'a>) -> Result<crate::process_info::PsInfo<'a>, NoteField>
     ensures fault { result_err result ≡ spec.psinfo_fault note.now.desc.now }
     ensures desc { IfOk result (λ p. bytes.psinfo_bytes p ≡ note.now.desc.now) }

@@ -15,9 +15,9 @@ use memchr::memchr_iter;
 pub struct FileMap<'a> {
     /// The first address.
     pub start: u64,
-    /// The address behind the last.
+    /// The address after the last.
     pub past: u64,
-    /// Where the first byte stands in the file, in bytes.
+    /// The place of the first byte in the file, in bytes.
     pub offset: u64,
     /// The file's name.
     pub name: &'a [u8],
@@ -34,9 +34,9 @@ pub struct FileEntry {
     pub number: u64,
     /// The first address.
     pub start: u64,
-    /// The address behind the last.
+    /// The address after the last.
     pub past: u64,
-    /// Where the first byte stands in the file, in bytes.
+    /// The place of the first byte in the file, in bytes.
     pub offset: u64,
     /// It does not end before it starts.
     pub ghost ordered: { start ≤ past },
@@ -65,7 +65,7 @@ pub struct FileMaps<'a> {
     ghost sound: { IsTrue (list_all (spec.is_entry_sound desc.now) (range_with_len index left)) },
 }
 
-/// The bytes before the first NUL, and those behind it.
+/// The bytes before the first NUL, and those after it.
 fn split_name(names: &[u8]) -> (&[u8], &[u8])
     ensures name { result.0.now ≡ text_before_nul names.now }
     ensures others { result.1.now ≡ after_first (is_byte 0) names.now }
@@ -163,7 +163,7 @@ impl<'a> Files<'a> {
         }
     }
 
-    /// The first entry that maps an address, where there is one. It looks at no name: who wants that takes it from `maps`.
+    /// The first entry that maps an address, if there is one. It looks at no name: use `maps` for that.
     pub fn covering(&self, address: u64) -> Option<FileEntry>
         ensures { option_map entry_view result
             ≡ option_map spec.unnamed (spec.first_mapping address (spec.files_of (files_bytes self.now))) }

@@ -1,4 +1,4 @@
-// The first note of each type, as the notes go by.
+// The first note of each type, note by note.
 ghost use Rattle.std.specs.Prelude.{◌≡◌, ◌&&◌, IfOk, Some, is_none};
 ghost use Rattle.std.specs.Option.{option_map, option_or};
 ghost use Rattle.std.specs.Result.{result_err};
@@ -55,7 +55,7 @@ fn check_status(note: &Note<'_>) -> Result<(), NoteField>
     Ok(())
 }
 
-/// The first process, once a note has gone by.
+/// The first process, once one more note is seen.
 fn next_psinfo<'a>(
     first: Option<PsInfo<'a>>,
     note: &Note<'a>,
@@ -72,7 +72,7 @@ fn next_psinfo<'a>(
     Ok(Some(descriptors::psinfo(note)?))
 }
 
-/// The first auxiliary vector, once a note has gone by.
+/// The first auxiliary vector, once one more note is seen.
 fn next_auxv<'a>(first: Option<Auxv<'a>>, note: &Note<'a>) -> Result<Option<Auxv<'a>>, NoteField>
     ensures fault { result_err result
         ≡ typed.fault_if (typed.is_typed 6 (note_view note.now) && is_none (option_map bytes.auxv_bytes first.entry))
@@ -86,7 +86,7 @@ fn next_auxv<'a>(first: Option<Auxv<'a>>, note: &Note<'a>) -> Result<Option<Auxv
     Ok(Some(descriptors::auxv(note)?))
 }
 
-/// The first signal, once a note has gone by.
+/// The first signal, once one more note is seen.
 fn next_siginfo<'a>(
     first: Option<SigInfo<'a>>,
     note: &Note<'a>,
@@ -103,7 +103,7 @@ fn next_siginfo<'a>(
     Ok(Some(descriptors::siginfo(note)?))
 }
 
-/// The first list of mapped files, once a note has gone by.
+/// The first list of mapped files, once one more note is seen.
 fn next_files<'a>(first: Option<Files<'a>>, note: &Note<'a>) -> Result<Option<Files<'a>>, NoteField>
     ensures fault { result_err result
         ≡ typed.fault_if (typed.is_typed 0x46494c45 (note_view note.now) && is_none (option_map files_bytes first.entry))
@@ -118,7 +118,7 @@ fn next_files<'a>(first: Option<Files<'a>>, note: &Note<'a>) -> Result<Option<Fi
 }
 
 impl<'a> FirstNotes<'a> {
-    /// What is first once a note has gone by.
+    /// The first notes, once one more note is seen.
     fn after(&self, note: &Note<'a>) -> Result<FirstNotes<'a>, NoteField>
         ensures fault { result_err result ≡ typed.fault_after (first_view self.now) (note_view note.now) }
         ensures next { IfOk result (λ next. first_view next

@@ -46,7 +46,7 @@ impl<'a> SigInfo<'a> {
         u32_at(self.desc, 0).cast_signed()
     }
 
-    /// The errno. Here it stands before the code.
+    /// The errno. Here it is before the code.
     pub fn si_errno(&self) -> i32
         ensures { result ≡ spec.si_errno (siginfo_bytes self.now) }
     {

@@ -28,7 +28,7 @@ impl<'a> Status<'a> {
         u32_at(self.desc, 0).cast_signed()
     }
 
-    /// The signal's code. Here it stands before the errno.
+    /// The signal's code. Here it is before the errno.
     pub fn si_code(&self) -> i32
         ensures { result ≡ spec.status_code (status_bytes self.now) }
     {

@@ -47,7 +47,7 @@ crashed_writes pick h [] writes = refl
 crashed_writes pick h (Wrote at from ∷ notes) writes = crashed_writes pick (after h (Wrote at from)) notes writes.1
 crashed_writes pick h (Synced ∷ notes) writes = absurd writes.0
 
--- the notes up to the last sync are whole, and of the writes behind it stands what the crash leaves
+-- the notes up to the last sync are whole, and of the writes after it there is what the crash leaves
 pub crashed_is : (pick : Pick) (first : List ℕ) (notes : List Note) (k : ℕ) → held first (take k notes) ≡ stable (held first (take k notes)).now → AllWrites (drop k notes)
     → replayed pick (replayed Whole first (take k notes)) (drop k notes) ≡ crashed pick (held first notes)
 crashed_is pick first notes k is_stable writes =

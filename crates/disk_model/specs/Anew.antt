@@ -9,9 +9,9 @@ pub record Restarts {D : Type 0} (g : disk.Ghosts D) (left : List ℕ) (d : D) :
   pub seen : g.seen d ≡ left
   pub settled : Only left (g.may_leave d)
 
--- A disk that is made anew from the file of another one, which may have failed. The operating system may keep in memory what
--- the device never got. So before anything builds on the file, what reads give is made durable, or read from the device. Reads
--- give one of the lists that a crash at the other disk's end could leave, and until something is written a crash leaves that.
+-- A disk that is made anew from the file of another one, which may have failed. The operating system may keep in memory what the device never got. So before anything
+-- builds on the file, what reads give is made durable, or read from the device. Reads give one of the lists that a crash could leave at the end of the other disk, and
+-- until something is written a crash leaves that.
 pub record IsMadeAnew {D : Type 0} (g : disk.Ghosts D) (old new : D) : Type 0 where
   pub left : List ℕ
   pub may : g.may_leave old left

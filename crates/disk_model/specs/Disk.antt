@@ -20,7 +20,7 @@ pub record Elapses {D : Type 0} (clock : D → ℕ) (may_leave : D → List ℕ 
   pub later : clock old ≤ clock new
   pub nothing_else : (t : ℕ) (c : List ℕ) → t ≤ clock old → left_since new t c → left_since old t c ⊎ may_leave new c
   pub keeps : (t : ℕ) (c : List ℕ) → t ≤ clock old → left_since old t c → left_since new t c
-  -- where the clock stands still, a crash leaves nothing new
+  -- where the clock does not move, a crash leaves nothing new
   pub still : clock new ≡ clock old → (c : List ℕ) → may_leave new c → may_leave old c
 
 -- A failure that is answered was counted, once; where none is answered, none was counted.

@@ -21,7 +21,7 @@ same_everywhere at b c same = same_all at 0 b c same refl
 pub nothing_over : (l : List ℕ) (at : ℕ) → at ≤ length l → overwritten l at [] ≡ l
 nothing_over l at within = same_everywhere at l (overwritten l at []) (overwritten_outside l at [] (omega (arith, within)))
 
--- what stands in the range and outside it
+-- the bytes in the range and outside it
 pub over_in : (l : List ℕ) (at : ℕ) (b : List ℕ) (k : ℕ) → at + length b ≤ length l → at ≤ k → k < at + length b → get_or (overwritten l at b) k 0 ≡ get_or b (k - at) 0
 over_in l at b k within low high =
     let e : at + (k - at) ≡ k = omega (arith, low) in
@@ -85,7 +85,7 @@ module _ (l : List ℕ) (at : ℕ) (a b : List ℕ) (within : at + length a + le
             ]
       ]
 
-  -- bytes written behind others, and all of them written at once
+  -- bytes written right after others, and all of them written at once
   pub over_twice : overwritten (overwritten l at a) (at + length a) b ≡ overwritten l at (a ++ b)
   over_twice =
       ext_get_or 0 (overwritten once (at + length a) b) (overwritten l at (a ++ b))
@@ -362,7 +362,7 @@ module _ {D : Type 0} (g : disk.Ghosts D) where
           size = refl;
         }
 
-    -- Bytes were gathered behind others.
+    -- Bytes were gathered right after others.
     pub taken_more : (d : D) {T E : Type 0} (done : T) (at : ℕ) (a b : List ℕ) → at + length a + length b ≤ g.size d → length a < 2 ^ 64 → IsTaken g {E = E} (Ok done) (at + length a) b (laden d at a) (laden d at (a ++ b))
     taken_more d done at a b fits few =
         let all : length (a ++ b) ≡ length a + length b = length-append a b in
@@ -414,7 +414,7 @@ module _ {D : Type 0} (g : disk.Ghosts D) where
         (subst (λ (q : ℕ). IsTaken g {E = E} (Ok done) q from (laden d at (x ∷ a)) (laden d at ((x ∷ a) ++ from))) (ap (λ (q : ℕ). q + length (x ∷ a)) (sym same) ∙ placed)
         (taken_more d done at (x ∷ a) from (omega (arith, fits, placed, same)) few))
 
-    -- Bytes were gathered, behind others or as the first.
+    -- Bytes were gathered, right after others or as the first.
     pub gathered_behind : (d : D) {T E : Type 0} (done : T) (at : ℕ) (a : List ℕ) (place p : ℕ) (from new : List ℕ) → new ≡ a ++ from → place + length a ≡ p → (0 < length a → place ≡ at)
         → at + length a ≤ g.size d → p + length from ≤ g.size d → length a < 2 ^ 64 → IsTaken g {E = E} (Ok done) p from (laden d at a) (laden d place new)
     gathered_behind d {E} done at a place p from new is placed stays within fits few =

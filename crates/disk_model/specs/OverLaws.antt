@@ -8,7 +8,7 @@ use Rattle.disk_model.specs.PartLaws.{part_length, part_place, part_spared}
 use Rattle.disk_model.specs.Gathering.{fronted}
 use Rattle.disk_model.specs.GatheringLaws.{over_in, over_out}
 
--- Bytes over the front of others: those that there is room for, and the others behind them.
+-- Bytes over the front of others: those that there is room for, and then the rest of the others.
 fronted_in : (y b : List ℕ) (j : ℕ) → j < length y → j < length b → get_or (fronted y b) j 0 ≡ get_or b j 0
 fronted_in y b j room below =
     let m = min (length y) (length b) in
@@ -30,7 +30,7 @@ fronted_length y b =
     let long : length (take m b) ≡ m = length-take-le m b (omega arith) in
     overwritten_length y 0 (take m b) (omega (arith, long))
 
--- a list put in the place of a part that is as long
+-- a list put in place of a part that is as long
 pub put_over : (x f : List ℕ) (at k : ℕ) → length f ≡ k → take at x ++ (f ++ drop k (drop at x)) ≡ overwritten x at f
 put_over x f at k long =
     ap (λ (z : List ℕ). take at x ++ (f ++ z)) (drop-drop k at x ∙ ap (λ (j : ℕ). drop (at + j) x) (sym long))

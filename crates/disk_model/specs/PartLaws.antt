@@ -27,7 +27,7 @@ pub part_place : (b : List ℕ) (p n k d : ℕ) → k < n → get_or (part b p n
 unfolding part
 part_place b p n k d below = get_or-take n (drop p b) k d below ∙ get_or-drop p b k d
 
--- a part is a front of it and what comes behind
+-- a part is a front of it and what comes after
 pub part_split : (b : List ℕ) (p n m : ℕ) → part b p (n + m) ≡ part b p n ++ part b (p + n) m
 unfolding part
 part_split b p n m = take-add n m (drop p b) ∙ ap (λ (l : List ℕ). take n (drop p b) ++ take m l) (drop-drop n p b)

@@ -4,8 +4,8 @@ ghost use Rattle.disk_model.specs.Backing.{IsFetched, IsPut};
 
 use crate::{Disk, DiskFault};
 
-/// A disk that another one stands on (`Gathering`). On an honest one no read and no write takes a list away from those that
-/// a crash may leave, and after a write that succeeded a crash may leave any bytes in its range, until a sync succeeds.
+/// A disk under another one (`Gathering`). On an honest one no read and no write takes a list away from those that a crash
+/// may leave. After a write that succeeded a crash may leave any bytes in its range, until a sync succeeds.
 pub trait Backing: Disk {
     /// Reads the bytes from place `at` on into all of `into`. Answers `Read` where the disk failed.
     fn fetch(&mut self, at: u64, into: &mut [u8]) -> Result<(), DiskFault>

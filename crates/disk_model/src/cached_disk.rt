@@ -8,9 +8,10 @@ use crate::{Disk, DiskFault, MemDisk, Pick};
 use failure_count::after_failure;
 use std::alloc::AllocError;
 
-/// A disk behind a cache, in memory, honest. Reads give what the cache has. One sync may be lost: its writes never reach the
-/// device, and the cache keeps them as if they had. From then on no sync succeeds, since none could tell what the device has.
-/// A file that is opened anew reads as its device again. `FileDisk` is used so; this disk is proved to keep to the disk model.
+/// A disk with a cache, in memory, honest. Reads give what the cache has. One sync may be lost: its writes never reach the
+/// device, and the cache keeps them as if they had. From then on no sync succeeds, since none could tell what the device
+/// has. A file that is opened anew reads as its device again. `FileDisk` is used so; this disk is proved to keep to the
+/// disk model.
 #[derive(Drop)]
 pub struct CachedDisk {
     disk: MemDisk,
@@ -21,7 +22,7 @@ pub struct CachedDisk {
 }
 
 impl CachedDisk {
-    /// The cache of a disk that is stable. Behind `spared` syncs one is lost.
+    /// The cache of a disk that is stable. After `spared` syncs one is lost.
     pub fn new(disk: MemDisk, spared: u64) -> CachedDisk
         ensures honest { IsTrue (⟦<CachedDisk as Disk>⟧.is_honest result) }
         ensures size { ⟦<CachedDisk as Disk>⟧.size result ≡ ⟦<MemDisk as Disk>⟧.size disk }
@@ -54,7 +55,7 @@ impl CachedDisk {
         Ok(CachedDisk::new(device, u64::MAX))
     }
 
-    /// The bytes that the device has, now that the machine stops: of what was not synced nothing.
+    /// The bytes that the device has once the machine stops: nothing of what was not synced.
     pub fn after_stop(&self) -> Result<MemDisk, AllocError>
         ensures allowed { IfOk result (λ d. ⟦<CachedDisk as Disk>⟧.may_leave self.now (⟦<MemDisk as Disk>⟧.seen d)) }
     {

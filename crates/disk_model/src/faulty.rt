@@ -8,10 +8,10 @@ use failure_count::after_failure;
 
 /// Which calls of a disk fail.
 pub trait Plan: Copy {
-    /// Whether the call behind so many earlier ones passes.
+    /// Whether the call after so many earlier ones passes.
     ghost passes: { Self → ℕ → Type 0 };
 
-    /// Whether the call behind `calls` earlier ones passes.
+    /// Whether the call after `calls` earlier ones passes.
     fn admits(&self, calls: u64) -> bool
         ensures { IsTrue result ↔ passes self.now calls };
 }
@@ -68,7 +68,7 @@ impl<D: Disk, P: Plan> Faulty<D, P> {
         inner
     }
 
-    // Counts a call, and tells whether it goes on to the disk within.
+    // Counts a call, and tells whether it is passed to the disk within.
     fn admits(&mut self) -> bool
         ensures verdict { IsTrue result ↔ P.passes self.old.plan self.old.calls }
         ensures calls { self.new.calls ≡ min (self.old.calls + 1) (2 ^ 64 - 1) }

@@ -170,9 +170,9 @@ impl FileDisk {
         FileDisk::holding(file, None)
     }
 
-    /// Writes the first `length` bytes of the file again, as they read, and makes them durable. So the device has what reads
-    /// give of them, also where an earlier process failed to write them. Bytes that the device has already are written over by
-    /// themselves.
+    /// Writes the first `length` bytes of the file again, as they read, and makes them durable. So the device has what
+    /// reads give of them, even if an earlier process failed to write them. Bytes that the device has already are
+    /// overwritten by themselves.
     pub fn write_again(&mut self, length: u64) -> Result<(), FileFault>
         ensures uncounted { ⟦<FileDisk as Disk>⟧.failures self.new ≡ ⟦<FileDisk as Disk>⟧.failures self.old }
     {

@@ -11,7 +11,7 @@ use std::alloc::{AllocError, Global};
 // The most bytes that are gathered.
 const MOST: usize = 1_048_576;
 
-/// The bytes that are to be written to a disk from one place on. An archive writes its blocks one behind the other: so one
+/// The bytes that are to be written to a disk from one place on. An archive writes its blocks one after the other, so one
 /// call of the operating system takes many of them.
 #[derive(Drop)]
 pub(crate) struct Gathered {
@@ -34,7 +34,7 @@ impl Gathered {
     }
 
     /// Takes bytes that are to be written from place `at` on. Those that were gathered are written before, where these do
-    /// not adjoin them or have no room behind them; bytes that have no room at all are written now.
+    /// not adjoin them or have no room after them; bytes that have no room at all are written now.
     pub(crate) fn write<D: Backing>(
         &mut self,
         disk: &mut D,
@@ -75,7 +75,7 @@ impl Gathered {
         Ok(())
     }
 
-    // Gathers these bytes where they adjoin the others and have room behind them. Says whether they do.
+    // Gathers these bytes where they adjoin the others and have room after them. Says whether they do.
     fn takes(&mut self, at: u64, from: &[u8]) -> bool
         ensures taken { OnTrue result (self.new.bytes.items ≡ self.old.bytes.items ++ from.now) }
         ensures placed { OnTrue result (self.new.at + length self.old.bytes.items ≡ at) }

@@ -30,8 +30,8 @@ pub(crate) enum Durability {
 /// before they are too many, and before a sync. Reads give what was gathered too. A write that the disk below refuses is
 /// told by the call that met it, which may be a later write or a sync, and what was gathered is kept to be written again.
 ///
-/// A sync with nothing written since the last one asks nothing of the disk below. Behind a sync that failed no sync succeeds:
-/// nobody knows what there is to do.
+/// A sync with nothing written since the last one asks nothing of the disk below. After a sync that failed no sync
+/// succeeds: nobody knows what there is to do.
 ///
 /// It is honest where the disk below is. What a crash may leave is what it may leave of the disk below, with any bytes in the
 /// range that is gathered.
@@ -41,7 +41,7 @@ pub struct Gathering<D: Backing> {
     // None where writes are not gathered.
     gathered: Option<Gathered>,
     durability: Durability,
-    // How often a sync was refused behind one that failed.
+    // How often a sync was refused after one that failed.
     refused: u64,
     ghost within: { place_of gathered + length (bytes_of gathered) ≤ D.Disk.size disk },
     ghost settled: { durability ≡ Synced → IsTrue (D.Disk.is_honest disk) → Only (shown D.Disk (with_gathered disk gathered)) (MayStay D.Disk (with_gathered disk gathered)) },
@@ -156,7 +156,7 @@ impl<D: Backing> Gathering<D> {
         Ok(())
     }
 
-    // Refuses a sync behind one that failed.
+    // Refuses a sync after one that failed.
     fn refuse(&mut self) -> Result<(), DiskFault>
         ensures below { (self.new.disk ≡ self.old.disk) × (self.new.gathered ≡ self.old.gathered) }
         ensures cause { HasCause (joined (D.failures self.old.disk) self.old.refused) (joined (D.failures self.new.disk) self.new.refused) result }

@@ -106,7 +106,7 @@ fn prepare_write(alloc: Global, notes: &mut Vec<Note>, from: &[u8]) -> Result<Ve
     Vec::from_slice(alloc, from)
 }
 
-// Puts these bytes in the place of those from place `at` on.
+// Puts these bytes in place of those from place `at` on.
 pub(crate) fn overwrite(bytes: &mut [u8], at: usize, from: &[u8])
     requires { at + length from.now ≤ length bytes.old }
     ensures { bytes.new ≡ overwritten bytes.old at from.now }

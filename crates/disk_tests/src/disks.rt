@@ -200,7 +200,7 @@ fn one_fault_fails_one_call(rt: HostRuntime) -> Result<(), Fail> {
     Ok(())
 }
 
-// Behind a lost sync the cache has what the device never got, until the file is opened anew.
+// After a lost sync the cache has what the device never got, until the file is opened anew.
 #[test]
 fn a_lost_sync_is_seen_when_the_file_is_opened_anew(rt: HostRuntime) -> Result<(), Fail> {
     let mut disk = CachedDisk::new(MemDisk::new(rt.alloc(), 4)?, 1);

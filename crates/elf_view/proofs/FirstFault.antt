@@ -67,7 +67,7 @@ sound_notes b h =
     let behind_header = (none_of_either (header_fault Core b) (option_or (segment_fault Core b) (note_fault Core b)) (no_fault Core b h)).1 in
     notes_pass 0 (all_rests (segments_of b)) (none_of_either (segment_fault Core b) (note_fault Core b) behind_header).1
 
--- a check that is passed, and those behind it
+-- a check that is passed, and those after it
 pub passed : (t : Bool) (f : ElfField) (others : Option ElfField) → is_none (cond t (Some f) others) ≡ true → (t ≡ false) × (is_none others ≡ true)
 passed true f others h = absurd (false≢true h)
 passed false f others h = (refl, h)

@@ -36,7 +36,7 @@ cut a b xs = sym (take-append-drop b (drop a xs)) ∙ ap (λ rest. part xs a b +
 length_part : (a b : ℕ) (xs : List ℕ) → a + b ≤ length xs → length (part xs a b) ≡ b
 length_part a b xs h = length-take-le b (drop a xs) (omega (arith, length-drop a xs))
 
--- what stands behind a front of known length
+-- what follows a front of known length
 part_at : (xs ys zs : List ℕ) (a b : ℕ) → length xs ≡ a → length ys ≡ b → part (xs ++ (ys ++ zs)) a b ≡ ys
 part_at xs ys zs a b ha hb = ap (take b) (drop_at xs (ys ++ zs) a ha) ∙ take_at ys zs b hb
 
@@ -45,7 +45,7 @@ take-add a b xs =
     let le : a ≤ a + b = omega arith in
     sym (take-append-drop a (take (a + b) xs)) ∙ ap (λ front. front ++ drop a (take (a + b) xs)) (take-take a (a + b) xs le) ∙ ap (λ back. take a xs ++ back) (drop-take a b xs)
 
--- sizes and type, name, padding and descriptor, one behind the other
+-- sizes and type, name, padding and descriptor, one after the other
 four_parts : (bytes : List ℕ) (n g at d : ℕ) → at ≡ 12 + n + g → take (at + d) bytes ≡ take 12 bytes ++ (part bytes 12 n ++ (part bytes (12 + n) g ++ part bytes at d))
 four_parts bytes n g at d e =
     take-add at d bytes
@@ -81,7 +81,7 @@ spells_first bytes whole =
       shown = refl;
     }
 
--- A note that passes its checks, and then a note list of what is left behind it.
+-- A note that passes its checks, and then a note list of what is left after it.
 note_then : (bytes : List ℕ) (notes : List NoteView) → is_note_whole bytes ≡ true → IsNoteList (drop (note_len bytes) bytes) notes → (drop (note_len bytes) bytes ≡ [] → notes ≡ []) → IsNoteList bytes (note_at bytes ∷ notes)
 unfolding note_len note_at
 note_then bytes notes whole rest ends =
@@ -137,7 +137,7 @@ same_note a b name kind desc =
     let by_desc : (let r : NoteView = record { name = b.name; kind = b.kind; desc = a.desc } in r) ≡ b = ap (λ n. record { name = b.name; kind = b.kind; desc = n }) desc in
     by_name ∙ by_kind ∙ by_desc
 
--- what stands at the front of bytes that begin with the text of a note
+-- what is at the front of bytes that begin with the text of a note
 pub record BeginsWith (bytes text : List ℕ) (note : NoteView) : Type 0 where
   pub len : length text ≡ desc_at bytes + n_descsz bytes
   pub desc_len : length note.desc ≡ n_descsz bytes
@@ -195,7 +195,7 @@ next_at bytes text note more is spells =
     let pad = ap padded desc in
     omega (arith, size, desc, pad)
 
--- the behind of a note with all its padding, and of one with less
+-- what is after a note with all its padding, and after one with less
 behind_whole : (bytes text gap rest : List ℕ) (note : NoteView) → bytes ≡ text ++ (gap ++ rest) → SpellsNote text note → length note.desc + length gap ≡ padded (length note.desc) → drop (note_len bytes) bytes ≡ rest
 behind_whole bytes text gap rest note is spells full =
     let next = next_at bytes text note (gap ++ rest) is spells in

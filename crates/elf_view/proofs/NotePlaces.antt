@@ -19,7 +19,7 @@ pub note_len_above : (bytes : List ℕ) → 12 ≤ note_len bytes
 unfolding note_len
 note_len_above bytes = omega arith
 
--- behind the first note stand those of the rest
+-- after the first note come those of the rest
 pub rests_step : (bytes : List ℕ) → 0 < length bytes → note_rests bytes ≡ bytes ∷ note_rests (drop (note_len bytes) bytes)
 unfolding rests_past
 rests_step [] h = absurd (omega arith)
@@ -45,7 +45,7 @@ rests_pass segments others s bytes is same empty = rests_first segments others s
 pub left_none : (rest : List ℕ) (segments : List SegmentView) → length rest ≡ 0 → rests_left rest segments ≡ all_rests segments
 left_none rest segments empty = ap (λ rests. rests ++ all_rests segments) (rests_none rest empty)
 
--- the first note that is left, and those behind it
+-- the first note that is left, and those after it
 pub left_step : (bytes : List ℕ) (segments : List SegmentView) → 0 < length bytes → rests_left bytes segments ≡ bytes ∷ rests_left (drop (note_len bytes) bytes) segments
 left_step bytes segments h = ap (λ rests. rests ++ all_rests segments) (rests_step bytes h)
 
@@ -56,7 +56,7 @@ whole_head bytes h =
     let q = or_parts _ _ p.0 in
     ltb-false _ _ q.0
 
--- what is left, where the notes are whole: the first has its 12 bytes, and those behind it are whole
+-- what is left, where the notes are whole: the first has its 12 bytes, and those after it are whole
 pub left_head : (bytes : List ℕ) (segments : List SegmentView) (rests : List (List ℕ)) → rests ≡ rests_left bytes segments → 0 < length bytes → AreNotesWhole rests → 12 ≤ length bytes
 left_head bytes segments rests is h whole =
     let all : AreNotesWhole (bytes ∷ rests_left (drop (note_len bytes) bytes) segments) = subst AreNotesWhole (is ∙ left_step bytes segments h) whole in

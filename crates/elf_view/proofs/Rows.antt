@@ -89,7 +89,7 @@ none_from (Some x) h = absurd (false≢true h)
 pub sound_is : (want : Want) (b : List ℕ) → IsSound want b ↔ (first_fault want b ≡ None)
 sound_is want b = (λ sound. none_from (first_fault want b) (no_fault want b sound), λ none. sound_from want b (sym none))
 
--- a fault behind a row that passes
+-- a fault after a row that passes
 place_behind : (f fault : ElfFault) (rows : List Row) → ((k : ℕ) × IsFirstFailing rows fault k) → (k : ℕ) × IsFirstFailing ((false, f) ∷ rows) fault k
 place_behind f fault rows p = (suc p.0, (p.1.0, before))
   where

@@ -37,8 +37,7 @@ e_shentsize b = field b 58 2
 abbrev pub e_shnum : List ℕ → ℕ
 e_shnum b = field b 60 2
 
--- The number of program headers: where it does not fit e_phnum, that is PN_XNUM (0xffff), and the number stands in
--- sh_info of section header 0, taken as it stands.
+-- The number of program headers: where it does not fit e_phnum, that is PN_XNUM (0xffff), and the number is in sh_info of section header 0, taken as it is.
 unfoldable pub segment_count : List ℕ → ℕ
 segment_count b = if e_phnum b == 65535 then field b (e_shoff b + 44) 4 else e_phnum b
 
@@ -68,7 +67,7 @@ segment_from b p = record {
 abbrev pub is_load : SegmentView → Bool
 is_load s = s.kind == 1
 
--- the address behind its last, p_vaddr + p_memsz, which may be 2^64
+-- the address after its last, p_vaddr + p_memsz, which may be 2^64
 abbrev pub memory_past : SegmentView → ℕ
 memory_past s = s.vaddr + s.memsz
 

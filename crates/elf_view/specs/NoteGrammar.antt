@@ -18,7 +18,7 @@ pub record SpellsNote (text : List ℕ) (note : NoteView) : Type 0 where
   pub gap_len : length name + length gap ≡ padded (length name)
   pub shown : without_closing_nul name ≡ note.name
 
--- Nothing; or a note with all its padding behind the descriptor, and then a note list; or a last note with less.
+-- Nothing; or a note with all its padding after the descriptor, and then a note list; or a last note with less.
 abbrev pub IsNoteList : List ℕ → List NoteView → Type 0
 IsNoteList bytes [] = bytes ≡ []
 IsNoteList bytes (note ∷ notes) =

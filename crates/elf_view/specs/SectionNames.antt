@@ -16,8 +16,7 @@ e_shstrndx b = field b 62 2
 abbrev pub nth_section : List ℕ → ℕ → SectionView
 nth_section b i = section_from b (e_shoff b + 64 * i)
 
--- The number of the section that holds the names: if it does not fit e_shstrndx, that is SHN_XINDEX (0xffff), and the
--- number stands in sh_link of section header 0.
+-- The number of the section that holds the names: if it does not fit e_shstrndx, that is SHN_XINDEX (0xffff), and the number is in sh_link of section header 0.
 unfoldable pub names_number : List ℕ → ℕ
 names_number b = if e_shstrndx b == 65535 then (nth_section b 0).link else e_shstrndx b
 
@@ -26,7 +25,7 @@ unfoldable pub names_among : List ℕ → ℕ → Option (List ℕ)
 names_among b count =
     if not (names_number b == 0) && nat_lt (names_number b) count then (nth_section b (names_number b)).bytes else None
 
--- at place p of the names stands the name, and after it a NUL
+-- the names have the name at place p, and after it a NUL
 abbrev pub stands_at : List ℕ → ℕ → List ℕ → Bool
 stands_at names p name =
     bytes_eq (part names p (length name)) name && bytes_eq (part names (p + length name) 1) (0 ∷ [])

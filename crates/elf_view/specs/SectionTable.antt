@@ -39,8 +39,7 @@ section_from b p = record {
   bytes = whole_part b (field b (p + 24) 8) (field b (p + 32) 8);
 }
 
--- The number of sections that the headers tell: where it does not fit e_shnum, that is 0, and the number stands in
--- sh_size of section header 0.
+-- The number of sections that the headers tell: where it does not fit e_shnum, that is 0, and the number is in sh_size of section header 0.
 unfoldable pub told_sections : List ℕ → ℕ
 told_sections b = if e_shnum b == 0 then field b (e_shoff b + 32) 8 else e_shnum b
 

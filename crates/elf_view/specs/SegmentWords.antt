@@ -1,4 +1,4 @@
--- What the code's segments, and an iterator over them, stand for.
+-- What the code's segments, and an iterator over them, mean.
 use Rattle.std.specs.Prelude.{List}
 use Rattle.elf_view.specs.Header.{SegmentView, segments_between}
 use Rattle.elf_view.specs.declared.program_headers.Segment.{Segment}

@@ -146,8 +146,7 @@ IsFirstFailing rows fault k =
 abbrev pub is_passed : Check → Bool
 is_passed check = not check.0
 
--- What the checks of the header leave to be relied on: the file header is there, at PN_XNUM section header 0 is, and
--- so is the table of program headers.
+-- What a passed header gives: the file header is there, at PN_XNUM section header 0 is, and so is the table of program headers.
 pub record IsHeaderWhole (b : List ℕ) : Type 0 where
   pub header : 64 ≤ length b
   pub section_zero : e_phnum b ≡ 65535 → e_shoff b + 64 ≤ length b

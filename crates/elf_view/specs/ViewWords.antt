@@ -1,4 +1,4 @@
--- What the code's view of an image stands for.
+-- What the code's view of an image means.
 use Rattle.std.specs.Prelude.{ℕ, List, [], map}
 use Rattle.elf_view.specs.Header.{e_type, e_entry, e_flags, segment_count, segments_of}
 use Rattle.elf_view.specs.NoteList.{NoteView, note_at, all_rests}

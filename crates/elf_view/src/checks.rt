@@ -61,7 +61,7 @@ fn check_ident(image: &[u8]) -> Result<(), ElfField>
     Ok(())
 }
 
-/// Whether e_type is another than that of the wanted kind of file.
+/// Whether e_type is not that of the wanted kind of file.
 fn is_other_type(want: Want, kind: u16) -> bool
     ensures { result ≡ sound.is_other_type want kind }
 {
@@ -193,7 +193,7 @@ fn check_segments(image: &[u8], want: Want) -> Result<(), ElfFault>
     Ok(())
 }
 
-/// The checks of the note at the front of the bytes. What is left behind it is answered.
+/// The checks of the note at the front of the bytes. It answers what is left after it.
 #[tactic(auto, unfolding(crate::specs::NoteList::note_len))]
 fn check_note(bytes: &[u8]) -> Result<&[u8], ElfField>
     ensures fault { result_err result ≡ sound.first_failing (sound.note_checks bytes.now) }
@@ -213,8 +213,8 @@ fn check_note(bytes: &[u8]) -> Result<&[u8], ElfField>
     Ok(behind_first(bytes))
 }
 
-/// The checks of the notes in a segment's bytes, the first of which has number `index`. The number behind
-/// the last is answered.
+/// The checks of the notes in a segment's bytes, the first of which has number `index`. It answers the number after the
+/// last.
 fn check_note_list(bytes: &[u8], index: u64) -> Result<u64, ElfFault>
     ensures { (others : List (List ℕ)) → MatchResult result
         (λ next. sound.first_fault_among sound.note_checks index (notes.note_rests bytes.now ++ others)

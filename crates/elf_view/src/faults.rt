@@ -18,7 +18,7 @@ pub enum Want {
 pub enum ElfField {
     /// The image has fewer than 64 bytes.
     Length,
-    /// Its first four bytes are others than 0x7f, E, L, F.
+    /// Its first four bytes are not 0x7f, E, L, F.
     Magic,
     /// EI_CLASS is not ELFCLASS64.
     EiClass,

@@ -32,8 +32,8 @@ pub fn the_fault_is_the_first()
         → first_fault want b ≡ Some fault }
 {}
 
-/// An image is sound exactly where it has no fault, and in whatever order the rows of its table stand: only which fault
-/// is told hangs on the order. It does nothing.
+/// An image is sound exactly where it has no fault, whatever the order of its table's rows. Only which fault is told
+/// depends on the order. It does nothing.
 pub fn soundness_has_no_order()
     ensures accepted { (want : Want) (b : List ℕ) → IsSound want b ↔ (first_fault want b ≡ None) }
     ensures order { (want : Want) (b : List ℕ) (rows : List Row) → IsPermutation (table_rows want b) rows

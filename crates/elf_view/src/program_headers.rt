@@ -70,7 +70,7 @@ impl<'a> Segment<'a> {
         self.kind == PT_LOAD
     }
 
-    /// The address behind its last in memory, p_vaddr + p_memsz. That of a PT_LOAD of an accepted image is at most 2^64.
+    /// The address after its last in memory, p_vaddr + p_memsz. That of a PT_LOAD of an accepted image is at most 2^64.
     pub fn past(&self) -> u128
         ensures { result ≡ spec.memory_past (segment_view self.now) }
     {
@@ -84,7 +84,7 @@ impl<'a> Segment<'a> {
         self.vaddr <= address && u128::from(address) < self.past()
     }
 
-    /// The bytes in which its notes stand: none where it is no PT_NOTE.
+    /// The bytes of its notes: none where it is no PT_NOTE.
     #[tactic(auto, unfolding(crate::specs::NoteList::rests_past))]
     pub(crate) fn note_bytes(&self) -> &'a [u8]
         ensures { note_rests result.now ≡ segment_rests (segment_view self.now) }

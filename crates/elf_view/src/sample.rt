@@ -3,7 +3,7 @@
 use byteorder::{ByteOrder, LittleEndian};
 use std::alloc::{AllocError, Global};
 
-/// A note to be written, with a NUL behind its name and both paddings.
+/// A note to be written, with a NUL after its name and both paddings.
 #[derive(Clone, Copy, Debug)]
 pub struct NotePart<'a> {
     /// Its name, without the NUL.
@@ -32,9 +32,9 @@ pub struct LoadPart<'a> {
 pub struct FilePart<'a> {
     /// The first address.
     pub start: u64,
-    /// The address behind the last.
+    /// The address after the last.
     pub end: u64,
-    /// Where the first byte stands in the file, in pages.
+    /// The place of the first byte in the file, in pages.
     pub offset: u64,
     /// The file's name, without the NUL.
     pub name: &'a [u8],
@@ -66,7 +66,7 @@ pub const NT_FILE: u32 = 0x4649_4c45;
 /// n_type of the signal that was met.
 pub const NT_SIGINFO: u32 = 0x5349_4749;
 
-/// Where the section headers of a made executable stand.
+/// The place of the section headers of a made executable.
 const SECTIONS_AT: u64 = 0x1000;
 
 /// What a file header tells.
@@ -79,7 +79,7 @@ struct FileParts {
     sections: u16,
 }
 
-/// A file header; the program headers stand behind it.
+/// A file header; the program headers follow it.
 fn file_header(parts: FileParts) -> [u8; 64] {
     let section_size = if parts.sections == 0 { 0 } else { 64 };
     let mut header = [0u8; 64];
@@ -137,7 +137,7 @@ struct SectionParts {
     entry: u64,
 }
 
-/// Section header 0, and what others begin as.
+/// Section header 0, and what the other headers are made from.
 const NO_SECTION: SectionParts = SectionParts {
     kind: 0,
     offset: 0,
@@ -167,9 +167,9 @@ fn push_padding(out: &mut Vec<u8>) -> Result<(), AllocError> {
     Ok(())
 }
 
-/// The bytes of notes, one behind the other.
+/// The bytes of notes, one after the other.
 ///
-/// Refused only for want of memory.
+/// Refused only if there is no memory.
 pub fn note_bytes(alloc: Global, notes: &[NotePart<'_>]) -> Result<Vec<u8>, AllocError> {
     let mut out = Vec::new(alloc);
     for note in notes {
@@ -225,11 +225,10 @@ fn core_headers(
     Ok((out, offset))
 }
 
-/// A core: its file header, its program headers, its notes in one PT_NOTE (none where there are no notes),
-/// and the bytes of its PT_LOAD segments. From 65,535 program headers on their number stands in a section
-/// header at the end.
+/// A core: its file header, its program headers, its notes in one PT_NOTE (none where there are no notes), and the bytes of
+/// its PT_LOAD segments. From 65,535 program headers on, a section header at the end holds their number.
 ///
-/// Refused only for want of memory.
+/// Refused only if there is no memory.
 pub fn core_image(
     alloc: Global,
     notes: &[NotePart<'_>],
@@ -306,7 +305,7 @@ pub fn process() -> [u8; 136] {
 
 /// The descriptor of an NT_FILE.
 ///
-/// Refused only for want of memory.
+/// Refused only if there is no memory.
 pub fn files(alloc: Global, page: u64, parts: &[FilePart<'_>]) -> Result<Vec<u8>, AllocError> {
     let mut out = Vec::new(alloc);
     out.extend_from_slice(&(parts.len() as u64).to_le_bytes())?;
@@ -334,7 +333,7 @@ pub fn stack() -> [u8; 4096] {
 
 /// A core of one thread with a stack: 4,824 bytes.
 ///
-/// Refused only for want of memory.
+/// Refused only if there is no memory.
 pub fn stack_core(alloc: Global) -> Result<Vec<u8>, AllocError> {
     let status = status(11, 4242, &registers());
     let process = process();
@@ -363,7 +362,7 @@ pub fn stack_core(alloc: Global) -> Result<Vec<u8>, AllocError> {
     )
 }
 
-/// The same core with an NT_FILE of one entry, and more PT_LOAD segments behind the stack.
+/// The same core with an NT_FILE of one entry, and more PT_LOAD segments after the stack.
 fn core_with_file(
     alloc: Global,
     end: u64,
@@ -410,14 +409,14 @@ fn core_with_file(
 
 /// The core with an NT_FILE that maps `/bin/cat` at 0x10000: 4,896 bytes.
 ///
-/// Refused only for want of memory.
+/// Refused only if there is no memory.
 pub fn file_core(alloc: Global) -> Result<Vec<u8>, AllocError> {
     core_with_file(alloc, 0x11000, None)
 }
 
 /// The core with two pages of `/bin/cat` at 0x10000 that were not dumped: 4,952 bytes.
 ///
-/// Refused only for want of memory.
+/// Refused only if there is no memory.
 pub fn mapped_core(alloc: Global) -> Result<Vec<u8>, AllocError> {
     let text = LoadPart {
         flags: 5,
@@ -444,10 +443,10 @@ fn symbol_table(alloc: Global, symbols: &[SymbolPart]) -> Result<Vec<u8>, AllocE
     Ok(out)
 }
 
-/// An executable of one PT_LOAD, the first page of the file at 0x10000, with three sections behind it: an empty one, a
+/// An executable of one PT_LOAD, the first page of the file at 0x10000, with three sections after it: an empty one, a
 /// symbol table and its string table `names`.
 ///
-/// Refused only for want of memory.
+/// Refused only if there is no memory.
 pub fn executable_image(
     alloc: Global,
     symbols: &[SymbolPart],
@@ -491,7 +490,7 @@ pub fn executable_image(
 
 /// An executable with the functions `main` and `big`: 4,370 bytes.
 ///
-/// Refused only for want of memory.
+/// Refused only if there is no memory.
 pub fn executable(alloc: Global) -> Result<Vec<u8>, AllocError> {
     let main = SymbolPart {
         name: 1,

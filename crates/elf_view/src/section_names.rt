@@ -15,7 +15,7 @@ const SHT_NOBITS: u32 = 8;
 /// The flag of a section whose bytes are compressed.
 const SHF_COMPRESSED: u64 = 0x800;
 
-/// e_shstrndx if the number of the section of the names stands in section header 0.
+/// e_shstrndx if section header 0 holds the number of the section of the names.
 const SHN_XINDEX: u16 = 0xffff;
 
 /// Section `i` of `count`.
@@ -64,7 +64,7 @@ fn section_names(image: &[u8], count: u64) -> Option<&[u8]>
     nth_section(image, count, number).bytes
 }
 
-/// Whether a name stands at place `at` of the names, and a NUL after it.
+/// Whether the names have a name at place `at`, and a NUL after it.
 fn stands_at(names: &[u8], at: u32, name: &[u8]) -> bool
     ensures { result ≡ spec.stands_at names.now at name.now }
 {

@@ -22,7 +22,7 @@ pub struct Header {
     pub entry: u64,
     /// e_flags.
     pub flags: u32,
-    /// The number of program headers: e_phnum, or what stands in its place at PN_XNUM.
+    /// The number of program headers: e_phnum, or the number that replaces it at PN_XNUM.
     pub segments: u64,
 }
 

@@ -56,7 +56,7 @@ pub push_from : (first : Run) (front : List Run) (last r : Run) → AreApartFrom
 push_from first [] last r h is_run apart = (h.0, h.1, (h.2, apart, is_run))
 push_from first (s ∷ front) last r h is_run apart = (h.0, h.1, push_from s front last r h.2 is_run apart)
 
--- a run behind the last one that it does not adjoin
+-- a run after the last one that it does not adjoin
 pub apart_push : (front : List Run) (last r : Run) → AreApart (front ++ last ∷ []) → IsRun r → last.start + last.count ≢ r.start → AreApart ((front ++ last ∷ []) ++ r ∷ [])
 apart_push [] last r h is_run apart = (h, apart, is_run)
 apart_push (s ∷ front) last r h is_run apart = push_from s front last r h is_run apart
@@ -106,7 +106,7 @@ pub shortest : (rs : List Run) → AreApart rs → runs_of (blocks_of rs) ≡ rs
 shortest [] h = refl
 shortest (r ∷ rest) h = shortest_from r rest h
 
--- what stands behind a run
+-- what is after a run
 pub get-past : (xs ys : List ℕ) (n i : ℕ) → length xs ≡ n → n ≤ i → slice_get (xs ++ ys) i ≡ slice_get ys (i - n)
 get-past [] ys n i e le = let z : i ≡ i - n = omega (arith, e) in ap (slice_get ys) z
 get-past (x ∷ xs) ys n zero e le = absurd (omega (arith, e))
@@ -174,7 +174,7 @@ module _ (rs : List Run) (n : ℕ) (len : n ≡ length rs) (last : Run) where
       ∙ ap (λ k. blocks_of (take (n - 1) rs ++ last ∷ []) ++ range_with_len k run.count) adjoins
       ∙ ap (λ xs. blocks_of xs ++ run_blocks run) (sym (split_at_last some is))
 
-  -- a run behind it that it does not adjoin
+  -- a run after it that it does not adjoin
   pub apart_pushed : AreApart rs → 0 < n → last ≡ get_or rs (n - 1) last → (run : Run) → IsRun run → last.start + last.count ≢ run.start → AreApart (rs ++ run ∷ [])
   apart_pushed apart some is run is_run apart_from =
       let P : List Run → Type 0 = AreApart in

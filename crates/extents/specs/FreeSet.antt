@@ -14,7 +14,7 @@ is_free flags k = slice_index_or flags k false
 abbrev pub free_count : List Bool → ℕ
 free_count flags = count_by (λ free. free) flags
 
--- how often block k stands in a list of blocks
+-- how often a list of blocks has block k
 abbrev pub uses : List ℕ → ℕ → ℕ
 uses blocks k = count_by (λ b. nat_eq b k) blocks
 

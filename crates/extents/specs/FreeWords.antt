@@ -38,7 +38,7 @@ pub record IsFirstNotZero (words : List ℕ) (from place : ℕ) : Type 0 where
   pub zeros : (k : ℕ) → from ≤ k → k < place → slice_index words k ≡ 0
   pub not_zero : place < length words → 0 < slice_index words place
 
--- The bits of the first `count` blocks of a run are set, and the one behind them is not, or there is none in the run.
+-- The bits of the first `count` blocks of a run are set, and the one after them is not, or there is none in the run.
 pub record IsFreeStart (words : List ℕ) (run : Run) (count : ℕ) : Type 0 where
   pub at_most : count ≤ run.count
   pub free : (k : ℕ) → run.start ≤ k → k < run.start + count → bit_of words k ≡ 1

@@ -12,7 +12,7 @@ abbrev pub blocks_of : List Run → List ℕ
 blocks_of [] = []
 blocks_of (r ∷ rest) = run_blocks r ++ blocks_of rest
 
--- a block before a list of runs: it joins the first one where it stands right before it
+-- a block before a list of runs: it joins the first one where it is right before it
 abbrev pub with_first : ℕ → List Run → List Run
 with_first b [] = record { start = b; count = 1 } ∷ []
 with_first b (r ∷ rest) =

@@ -1,11 +1,11 @@
 -- A count of failures that is kept in 64 bits.
 use Rattle.std.specs.Prelude.{◌≡◌, ℕ, ◌+◌, ◌-◌, ◌^◌, ◌<◌, ◌≤◌, min, max}
 
--- the count rose; one that stands at the greatest number of 64 bits, or above it, is taken as risen
+-- the count rose; one that is at the greatest number of 64 bits, or above it, counts as risen
 abbrev pub HasRisen : ℕ → ℕ → Type 0
 HasRisen old new = (old ≤ new) × (old < 2 ^ 64 - 1 → old < new)
 
--- the count behind one failure more: it stands still at the greatest number of 64 bits, or above it
+-- the count after one more failure; at the greatest number of 64 bits, or above it, it stays
 abbrev pub next_count : ℕ → ℕ
 next_count count = max count (min (count + 1) (2 ^ 64 - 1))
 

@@ -3,7 +3,7 @@
 
 ghost use Rattle.failure_count.specs.Counts.{HasRisen, IsNextCount};
 
-/// The count behind one more failure. It stands still at the greatest number of 64 bits.
+/// The count after one more failure. At the greatest number of 64 bits it stays.
 pub fn after_failure(count: u64) -> u64
     ensures risen { HasRisen count result }
     ensures next { IsNextCount count result }

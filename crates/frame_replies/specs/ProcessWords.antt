@@ -1,4 +1,4 @@
--- What the code's executables stand for.
+-- What the code's executables mean.
 use Rattle.std.specs.Prelude.{if◌then◌else◌, Option, None, Some}
 use Rattle.elf_view.specs.ViewWords.{image_of}
 use Rattle.address_space.specs.Source.{ExecutableView}

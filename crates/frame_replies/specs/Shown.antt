@@ -12,8 +12,8 @@ use Rattle.frame_replies.specs.FrameLines.{frame_line, stop_line}
 use Rattle.frame_replies.specs.FrameRegisters.{frame_answer, registers_of}
 use Rattle.frame_replies.specs.Processes.{process_in}
 
--- The lines are those of a frame with the thread's registers and of the frames after it, and of why these end. Each frame after
--- the first stands on a rule. What is told of the registers of the frame of a number is of the one in that place.
+-- The lines are those of a frame with the thread's registers and of the frames after it, and of why these end. Each frame after the first follows by a rule. What is told
+-- of the registers of the frame of a number is of the one in that place.
 pub record IsShown (b : List ℕ) (executables : List ExecutableView) (t : ℕ) (lines desc : List ℕ) (behind : List Frame) (stop : Stop) : Type 0 where
   pub told : lines ≡ numbered_lines (frame_line (memory_of b executables) (known_among executables)) 0 (first_frame desc ∷ behind) ++ stop_line stop
   pub unwound : IsUnwoundFrom (process_in b executables) most (first_frame desc) behind stop

@@ -1,4 +1,4 @@
-// The executables that stand for mapped files, with their call frame information.
+// The executables that are attached for mapped files, with their call frame information.
 ghost use Rattle.std.specs.Prelude.{◌≡◌, ◌++◌, ◌∷◌, [], IfOk, OnOk, filter, map};
 ghost use Rattle.std.specs.Option.{option_map};
 ghost use Rattle.memory_replies.specs.Memory.{attached_view, is_attached};

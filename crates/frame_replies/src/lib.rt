@@ -1,6 +1,6 @@
 //! The answers to the lines of a script that ask for frames by call frame information: slices in, text out.
 //!
-//! A core is a [`image_replies::CoreImage`], and the executables that stand for its mapped files are handed over as
+//! A core is a [`image_replies::CoreImage`], and the executables for its mapped files are handed over as
 //! [`address_space::Attached`] images, as for the lines of memory_replies.
 #![tactic(auto)]
 

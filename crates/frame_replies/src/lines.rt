@@ -26,7 +26,7 @@ use thread_regs::{Thread, threads};
 use unwind::columns::{RA, SP};
 use unwind::{Frame, Frames, UnwoundExecutable, is_trampoline, the_frames_are_unwound};
 
-/// The address that is looked up for a frame: its pc if execution stood there, else the one before it.
+/// The address that is looked up for a frame: its pc if execution was there, else the one before it.
 fn looked_up(frame: &Frame) -> Option<u64>
     ensures { result ≡ looked_up_in frame.now }
 {
@@ -129,12 +129,12 @@ fn tell_thread<O: Output>(
     );
 }
 
-/// Tells the frames of a core's thread by call frame information, by its number among the threads: `0 PC WHERE sp h ra h`, then
-/// `I PC WHERE sp h` for each other, and `stop REASON`. WHERE is `signal` at the code to which a signal handler returns, else
-/// `NAME+h` by the symbols of the executable that stands for the mapped file, or `?`. A value that is not known is `?`. A core
-/// with fewer threads is answered by `no NoThread`. Says what became of it.
+/// Tells the frames of a core's thread by call frame information, by its number among the threads: `0 PC WHERE sp h ra h`,
+/// then `I PC WHERE sp h` for each other, and `stop REASON`. WHERE is `signal` at the code to which a signal handler
+/// returns, else `NAME+h` by the symbols of the executable that is attached for the mapped file, or `?`. A value that is
+/// not known is `?`. A core with fewer threads is answered by `no NoThread`. Says what became of it.
 ///
-/// The address that is looked up for a frame is its pc if execution stood there, else the one before it.
+/// The address that is looked up for a frame is its pc if execution was there, else the one before it.
 pub fn tell_unwind<O: Output>(
     alloc: Global,
     reply: &mut Reply<'_, O>,

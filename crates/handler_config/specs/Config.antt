@@ -1,4 +1,4 @@
--- What a configuration says. A key that is not there, or whose value is faulty, says nothing.
+-- What a configuration says. A key that is missing, or whose value is faulty, says nothing.
 use Rattle.std.specs.Prelude.{◌≡◌}
 use Rattle.std.specs.Option.{option_copied}
 use Rattle.toml.specs.Data.{Data}

@@ -5,12 +5,12 @@ ghost use Rattle.handler_config.specs.Config.{Says};
 use crate::values::{age_at, flag_at, natural_at, text_at};
 use toml::Value;
 
-/// What a configuration says. A key that is not there, or whose value is faulty, says nothing.
+/// What a configuration says. A key that is missing, or whose value is faulty, says nothing.
 #[derive(Clone, Copy)]
 pub struct Config<'t> {
     /// The archive's file.
     pub archive: Option<&'t str>,
-    /// How many cases stay beside a new one.
+    /// How many cases stay, not counting a new one.
     pub keep: Option<u64>,
     /// How many bytes the images of the cases that stay have.
     pub bytes: Option<u64>,

@@ -11,7 +11,7 @@ use toml::Value;
 pub enum Key {
     /// The archive's file: a text.
     Archive,
-    /// How many cases stay beside a new one: a number.
+    /// How many cases stay, not counting a new one: a number.
     Keep,
     /// How many bytes the images of the cases that stay have: a number.
     Bytes,

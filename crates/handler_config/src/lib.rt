@@ -1,4 +1,4 @@
-//! What a handler of core files goes by: the keys and values of its configuration, a TOML document.
+//! What controls a handler of core files: the keys and values of its configuration, a TOML document.
 //!
 //! [`Config::of`] reads the keys that a document has. [`entry_fault`] says what is wrong with one of them.
 #![tactic(auto)]

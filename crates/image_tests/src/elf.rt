@@ -146,7 +146,7 @@ fn has_symbols(rt: &impl Abort, elf: &Elf<'_>) -> Result<(), Fail> {
     Ok(())
 }
 
-/// The bytes of the section of names, behind which there is none.
+/// The bytes of the section of names, after which there is none.
 fn has_names(rt: &impl Abort, elf: &Elf<'_>) -> Result<(), Fail> {
     let names = elf
         .section(2)
@@ -203,7 +203,7 @@ fn cut_has_no_bytes(rt: &impl Abort, image: &[u8]) -> Result<(), Fail> {
     Ok(())
 }
 
-/// A section behind the first is told from its own header, where that is as long as it must be.
+/// A section after the first is told from its own header, where that is as long as it must be.
 fn sizes_are_looked_at(rt: &(impl AllocGlobal + Abort), image: &[u8]) -> Result<(), Fail> {
     let sized = patched(rt.alloc(), image, 58, &[63, 0])?;
     assert_eq!(rt; fault_of_section(&sized, 9), Some(SectionFault::EShentsize));

@@ -98,7 +98,7 @@ fn has_thread(rt: &impl Abort, notes: &CoreNotes<'_>) -> Result<(), Fail> {
     Ok(())
 }
 
-/// No thread behind it.
+/// No thread after it.
 fn has_no_other(rt: &impl Abort, notes: &CoreNotes<'_>) {
     assert!(rt; threads(notes).thread(1).is_none());
     assert!(rt; threads(notes).thread(u64::MAX).is_none());
@@ -120,7 +120,7 @@ fn registers_are_their_words(rt: HostRuntime) -> Result<(), Fail> {
     names_are_known(&rt)
 }
 
-/// A leader, and 10,000 threads behind it.
+/// A leader, and 10,000 threads after it.
 fn has_threads(rt: &impl Abort, notes: &CoreNotes<'_>) {
     let mut count = 0u64;
     for thread in threads(notes) {
@@ -131,7 +131,7 @@ fn has_threads(rt: &impl Abort, notes: &CoreNotes<'_>) {
     assert_eq!(rt; count, 10001);
 }
 
-/// A core of a leader, and 10,000 threads behind it.
+/// A core of a leader, and 10,000 threads after it.
 fn many_threads(alloc: Global) -> Result<Vec<u8>, AllocError> {
     let first = status(11, 1, &registers());
     let second = status(0, -2, &registers());
@@ -149,7 +149,7 @@ fn many_threads(alloc: Global) -> Result<Vec<u8>, AllocError> {
     core_image(alloc, &parts, &[])
 }
 
-/// The last of them, and none behind it.
+/// The last of them, and none after it.
 fn has_last(rt: &impl Abort, notes: &CoreNotes<'_>) {
     assert_eq!(rt; threads(notes).thread(10000).map(|t| t.signal()), Some(0));
     assert!(rt; threads(notes).thread(10001).is_none());

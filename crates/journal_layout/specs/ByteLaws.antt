@@ -31,7 +31,7 @@ pub number_read : (w n : ℕ) (rest : List ℕ) → n < 256 ^ w → field (numbe
 unfolding number_bytes
 number_read w n rest small = little_number-reads_back w n rest small
 
--- a field of what stands from some place on
+-- a field of the bytes from some place on
 pub field-drop : (b : List ℕ) (p i w : ℕ) → field (drop p b) i w ≡ field b (p + i) w
 field-drop b p i zero = refl
 field-drop b p i (suc w) =

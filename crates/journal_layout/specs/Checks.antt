@@ -30,7 +30,7 @@ abbrev pub first_failing : ℕ → List Check → Option OpenFault
 first_failing at [] = None
 first_failing at (check ∷ checks) = if check.0 then Some (damaged at check.2 check.1) else first_failing at checks
 
--- where the first of these bytes that is not zero stands, the first of them standing at this place
+-- the place of the first of these bytes that is not zero, the first of them being at this place
 abbrev pub first_set : ℕ → List ℕ → Option ℕ
 first_set place [] = None
 first_set place (b ∷ rest) = if b == 0 then first_set (place + 1) rest else Some place
@@ -39,7 +39,7 @@ first_set place (b ∷ rest) = if b == 0 then first_set (place + 1) rest else So
 abbrev pub padding_fault : ℕ → List ℕ → ℕ → Option OpenFault
 padding_fault at rest from = option_map (damaged at named.Padding) (first_set from (part rest from (length_at rest - from)))
 
--- The length is that of a record, and the record and the gate behind it lie in the half.
+-- The length is that of a record, and the record and the gate after it lie in the half.
 abbrev pub is_bad_length : List ℕ → Bool
 is_bad_length rest = nat_lt (length_at rest) 16 || not (length_at rest % 16 == 0) || nat_lt (length rest) (length_at rest + 1)
 
@@ -76,7 +76,7 @@ abbrev pub is_bad_run : ℕ → List ℕ → Option ℕ → Run → Bool
 is_bad_run limit used end r =
     r.count == 0 || nat_lt limit (r.start + r.count) || is_adjoining end r || is_overlapping used r
 
--- where the first faulty run stands, the first run standing at this place behind a run that ends there
+-- the place of the first faulty run, the first run being at this place, after a run that ends there
 abbrev pub first_bad_run : ℕ → List ℕ → Option ℕ → ℕ → List Run → Option ℕ
 first_bad_run limit used end place [] = None
 first_bad_run limit used end place (r ∷ rest) =
@@ -91,7 +91,7 @@ abbrev pub block_count : List Run → ℕ
 block_count [] = 0
 block_count (r ∷ rest) = r.count + block_count rest
 
--- Store, behind its runs
+-- Store, after its runs
 abbrev pub name_checks : List ℕ → Folded → List Check
 name_checks rest f =
     (not (block_count (store_runs rest) == blocks_for (field rest 32 8)), 32, named.ImageLength)
@@ -114,8 +114,7 @@ abbrev pub is_kept : Option Case → Bool
 is_kept None = true
 is_kept (Some c) = c.pinned
 
--- where the first faulty number stands, the first of them standing at this place behind the number `last`: not greater
--- than that, of no live case, or of one that is pinned
+-- the place of the first faulty number, the first of them being at this place, after the number `last`: not greater than that, of no live case, or of one that is pinned
 abbrev pub first_bad_seq : List Case → ℕ → ℕ → List ℕ → Option ℕ
 first_bad_seq cases last place [] = None
 first_bad_seq cases last place (seq ∷ rest) =
@@ -157,7 +156,7 @@ label_checks rest f =
 abbrev pub label_fault : ℕ → List ℕ → Folded → Option OpenFault
 label_fault at rest f = option_or (first_failing at (label_checks rest f)) (padding_fault at rest (16 + label_length_at rest))
 
--- by the record's kind; a byte that stands for none is at fault itself
+-- by the record's kind; a byte of no kind is at fault itself
 abbrev pub body_fault : ℕ → ℕ → List ℕ → Folded → Option OpenFault
 body_fault limit at rest f =
     by_kind (kind_at rest)

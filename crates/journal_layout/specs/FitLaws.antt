@@ -1,5 +1,5 @@
--- Laws of the room that a snapshot takes: the records that say some cases are as long as their snapshot, but for its last
--- record, and the snapshot of what a drop leaves has room where they have.
+-- Laws of the room that a snapshot takes: the records that say some cases are as long as their snapshot without its last record, and the snapshot of what a drop leaves
+-- has room where they have.
 use Rattle.std.proofs.Common.{◌≡◌, inl, inr, ℕ, ◌+◌, ◌≤◌, Bool, true, false, not, nat_eq, ◌||◌, ◌==◌, List, [], ◌∷◌, ◌++◌, map, drop, refl, ap, ◌∙◌, arith, Some, cond}
 use Rattle.std.specs.List.{filter, flat_map, list_any}
 use Rattle.std.proofs.lemmas.Bool.{cases_eq, cond_both, eq-eqb, ne_eqb}
@@ -31,7 +31,7 @@ snapshot_bytes f = omega (arith, sizes-append (flat_map case_records f.cases) (N
 pub bytes_more : (c : Case) (rest : List Case) → case_bytes (c ∷ rest) ≡ sizes (case_records c) + case_bytes rest
 bytes_more c rest = sizes-append (case_records c) (flat_map case_records rest)
 
--- of a case behind others
+-- of a case after others
 pub bytes_push : (cases : List Case) (c : Case) → case_bytes (cases ++ c ∷ []) ≡ case_bytes cases + sizes (case_records c)
 bytes_push [] c = omega (arith, bytes_more c [])
 bytes_push (d ∷ rest) c = omega (arith, bytes_more d (rest ++ c ∷ []), bytes_more d rest, bytes_push rest c)
@@ -115,7 +115,7 @@ bytes_replayed limit bytes (r ∷ rest) f live row =
     let sound = row.0.sound in
     omega (arith, bytes_after limit r f live sound, bytes_replayed limit (drop (record_size r) bytes) rest (after r f) (live_after limit f r live sound) row.1)
 
--- what stands has them in its taken half
+-- what a disk encodes has them in its taken half
 pub stands_bytes : (b : List ℕ) (s : Standing) → Stands b s → 32 + case_bytes s.cases ≤ s.used
 stands_bytes b s stands =
     let read = stands.records in

@@ -15,7 +15,7 @@ use Rattle.journal_layout.specs.Layout.{field, magic, disk_length, half_start}
 abbrev pub is_open_at : List ℕ → ℕ → Bool
 is_open_at b p = slice_index b p == 165
 
--- the superblock's gate is open, and the layout's name stands behind it
+-- the superblock's gate is open, and the layout's name follows it
 abbrev pub is_archive : List ℕ → Bool
 is_archive b = is_open_at b 0 && starts_with nat_eq (drop 8 b) magic
 
@@ -89,7 +89,7 @@ halves_opening b (Ok s) =
     headers_opening s (header_of_half s b A) (header_of_half s b B) (taken_half s (header_of_half s b A) (header_of_half s b B))
 halves_opening b (Err f) = Err f
 
--- what stands before the records of a disk with these bytes
+-- what precedes the records of a disk with these bytes
 abbrev pub front_opening : List ℕ → Result Front OpenFault
 front_opening b =
     if nat_lt (length b) 4096 then Err NotAnArchive else halves_opening b (shape_opening (length b) (part b 0 24))

@@ -43,11 +43,11 @@ RecordsAreApart =
 abbrev pub OpeningsHaveOneAnswer : Type 0
 OpeningsHaveOneAnswer = (b : List ℕ) (x y : Result Standing OpenFault) → Opening b x → Opening b y → x ≡ y
 
--- and what stands opens as that and nothing else
+-- and what the bytes encode opens as that and nothing else
 abbrev pub WhatStandsOpens : Type 0
 WhatStandsOpens = (b : List ℕ) (s : Standing) (x : Result Standing OpenFault) → Stands b s → Opening b x → x ≡ Ok s
 
--- what stands has live cases of which all holds that always does
+-- what the bytes encode has live cases, of which all holds that always does
 abbrev pub WhatStandsIsLive : Type 0
 WhatStandsIsLive = (b : List ℕ) (s : Standing) → Stands b s → AreLive s.shape.data_blocks s.cases s.next
 
@@ -59,7 +59,7 @@ WhatStandsIsLabelled = (b : List ℕ) (s : Standing) → Stands b s → AreLabel
 abbrev pub VersionOneHasNoLabels : Type 0
 VersionOneHasNoLabels = (b : List ℕ) (s : Standing) → Stands b s → s.version ≡ 1 → All HasNoLabel s.cases
 
--- the records of live cases are sound one behind the other, and say exactly these cases and this next number
+-- the records of live cases are sound one after the other, and say exactly these cases and this next number
 abbrev pub SnapshotsSayAll : Type 0
 SnapshotsSayAll =
     (limit : ℕ) (f : Folded) → AreLive limit f.cases f.next → AreLabelled f.version f.cases
@@ -71,14 +71,14 @@ TheOtherHalfIsApart =
     (b c : List ℕ) (s : Standing) → Stands b s → SameOutside (other_start s) (half_length s.shape) b c → slice_index c (other_start s) ≢ 165
     → Stands c s
 
--- and once it is opened over a snapshot, that stands
+-- and once it is opened over a snapshot, the bytes encode that
 abbrev pub AnOpenedHalfStands : Type 0
 AnOpenedHalfStands =
     (b c : List ℕ) (s : Standing) (f : Folded) → Stands b s → MayRewrite s f → HoldsSnapshot s f b → SameOutside (other_start s) 1 b c
     → slice_index c (other_start s) ≡ 165 → Stands c (rewritten s f)
 
--- The snapshot of what stands in version 1 may be written anew in version 2, where it has room. Once the other half is opened
--- over it, the same cases and the same next number stand, and still no case has a label.
+-- The snapshot of what is encoded in version 1 may be written anew in version 2, where it has room. Once the other half is opened over it, the bytes encode the same
+-- cases and the same next number, and still no case has a label.
 abbrev pub AnUpgradeSaysTheSame : Type 0
 AnUpgradeSaysTheSame =
     (b c : List ℕ) (s : Standing) → Stands b s → s.version ≡ 1

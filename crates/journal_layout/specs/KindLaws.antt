@@ -1,4 +1,4 @@
--- Laws of the kinds of records: what is chosen by the byte of a kind, and which bytes stand for one.
+-- Laws of the kinds of records: what is chosen by the byte of a kind, and which bytes are one.
 use Rattle.std.proofs.Common.{◌≡◌, ℕ, zero, suc, ◌≤◌, ◌==◌, Bool, true, false, cond, List, [], slice_index, refl, ap, arith, Some}
 use Rattle.std.proofs.lemmas.Bool.{eqb-true}
 use Rattle.journal_layout.specs.declared.faults.Field.TheVariants as named

@@ -47,7 +47,7 @@ label_passed at rest f e =
       long = sym (eqb-true (rounded (16 + label_length_at rest)) (length_at rest) (not-false _ h.1.1.1.0));
     }
 
--- What the spelling of a Label with anything behind it tells.
+-- What the spelling of a Label with anything after it tells.
 module _ (seq : ℕ) (text tail : List ℕ) where
   abbrev zeros : List ℕ
   zeros = replicate (record_size (Label seq text) - plain_size (Label seq text)) 0

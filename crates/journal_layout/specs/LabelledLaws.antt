@@ -43,7 +43,7 @@ labelled_pinned version seq flag cases labels other =
 pub labelled_two : (version : ℕ) (cases : List Case) → version ≡ 2 → AreLabelled version cases
 labelled_two version cases is other = absurd (other is)
 
--- it holds behind a sound record, if it held before it
+-- it holds after a sound record, if it held before it
 pub labelled_after : (limit : ℕ) (f : Folded) (r : Record) → AreLabelled f.version f.cases → IsSound limit f r → AreLabelled (after r f).version (after r f).cases
 labelled_after limit f (Store c) labels sound = labelled_stored f.version f.cases c labels sound.2.no_label
 labelled_after limit f (Drop seqs) labels sound = labelled_dropped f.version seqs f.cases labels
@@ -51,7 +51,7 @@ labelled_after limit f (Pin seq flag) labels sound = labelled_pinned f.version s
 labelled_after limit f (Next n) labels sound = labels
 labelled_after limit f (Label seq text) labels sound = labelled_two f.version (after (Label seq text) f).cases sound.0
 
--- it holds behind a row of records
+-- it holds after a row of records
 pub labelled_row : (limit : ℕ) (bytes : List ℕ) (f : Folded) (rs : List Record) → AreLabelled f.version f.cases → StandInRow limit bytes f rs
     → AreLabelled (replayed rs f).version (replayed rs f).cases
 labelled_row limit bytes f [] labels row = labels
@@ -62,7 +62,7 @@ pub labelled_read : (limit version : ℕ) (bytes : List ℕ) (said : Folded) (n 
 labelled_read limit version bytes said n read =
     subst (λ (g : Folded). AreLabelled g.version g.cases) read.folded (labelled_row limit bytes (nothing_yet version) read.records (labelled_none version) read.row)
 
--- it holds of what a disk stands for
+-- it holds of what a disk encodes
 pub stands_labelled : (b : List ℕ) (s : Standing) → Stands b s → AreLabelled s.version s.cases
 stands_labelled b s stands = labelled_read s.shape.data_blocks s.version (records_area b s.shape s.half) (folded_of s) (s.used - 32) stands.records
 

@@ -37,14 +37,14 @@ half_start s B = 4096 * (1 + s.half_blocks)
 abbrev pub data_start : Shape → ℕ
 data_start s = 4096 * (1 + 2 * s.half_blocks)
 
--- the name of the layout, which stands at byte 8
+-- the name of the layout, which is at byte 8
 abbrev pub magic : List ℕ
 magic = codes "COREKEEP"
 
--- the superblock's bytes that are looked at, behind its gate
+-- the superblock's bytes that are looked at, after its gate
 unfoldable pub superblock : Shape → List ℕ
 superblock s = replicate 7 0 ++ magic ++ number_bytes 4 s.half_blocks ++ number_bytes 4 s.data_blocks
 
--- a half's header behind its gate: version, generation and zeros, 31 bytes
+-- a half's header after its gate: version, generation and zeros, 31 bytes
 unfoldable pub half_header : ℕ → ℕ → List ℕ
 half_header version generation = replicate 3 0 ++ number_bytes 4 version ++ number_bytes 8 generation ++ replicate 16 0

@@ -140,7 +140,7 @@ named_labelled seq text cases name = named_changed (labelled_as seq text) (label
 
 -- live cases
 
--- no block is used twice, and none behind the data blocks at all
+-- no block is used twice, and none after the data blocks at all
 pub live_apart : (limit : ℕ) (cases : List Case) (next : ℕ) → AreLive limit cases next
     → (k : ℕ) → sum_by (λ (c : Case). count_by (λ (b : ℕ). nat_eq b k) c.blocks) cases ≤ cond (nat_lt k limit) 1 0
 live_apart limit cases next live k =
@@ -208,7 +208,7 @@ spare_from_counts limit cases blocks apart k some = by (case_uses_same k cases) 
           | inr high ↦ absurd (omega (arith, rw (le-ltb k limit high) at h))
         ]
 
--- and spare blocks beside live cases use each data block once at most
+-- and spare blocks together with live cases use each data block once at most
 pub spare_counts : (limit : ℕ) (cases : List Case) (next : ℕ) (blocks : List ℕ) → AreLive limit cases next → AreSpare limit (used_blocks cases) blocks
     → (k : ℕ) → sum_by (λ (c : Case). count_by (λ (b : ℕ). nat_eq b k) c.blocks) cases + count_by (λ (b : ℕ). nat_eq b k) blocks ≤ cond (nat_lt k limit) 1 0
 spare_counts limit cases next blocks live spare k =
@@ -266,7 +266,7 @@ used_enough limit cases next live = by cases (recursion_from_All (IsWhole next) 
         ∙ ap (λ (n : ℕ). blocks_for c.len + n) (by rest each.1)
         ∙ sym (sum_by-cons (λ (d : Case). blocks_for d.len) c rest)
 
--- a list in which no number stands twice
+-- a list that has no number twice
 distinct_head : (b : ℕ) (rest : List ℕ) → uses b rest ≡ 0 → AllByRecursion (λ (y : ℕ). nat_eq b y ≡ false) rest
 distinct_head b [] none = tt
 distinct_head b (y ∷ rest) none =

@@ -21,7 +21,7 @@ pub rise_lower : (low last : ℕ) (seqs : List ℕ) → low ≤ last → Rise la
 rise_lower low last [] under rise = tt
 rise_lower low last (seq ∷ rest) under rise = (omega (arith, rise.0), rise.1)
 
--- a case behind them
+-- a case after them
 rise_push : (last : ℕ) (cases : List Case) (c : Case) → Rise last (map seq_of_case cases) → last < c.seq
     → AllByRecursion (λ (d : Case). d.seq < c.seq) cases → Rise last (map seq_of_case (cases ++ c ∷ []))
 rise_push last [] c rise above each = (above, tt)
@@ -316,7 +316,7 @@ live_later limit cases next later live from high = record {
   different = live.different;
 }
 
--- it holds behind a sound record, if it held before it
+-- it holds after a sound record, if it held before it
 pub live_after : (limit : ℕ) (f : Folded) (r : Record) → AreLive limit f.cases f.next → IsSound limit f r → AreLive limit (after r f).cases (after r f).next
 live_after limit f (Store c) live sound = live_stored limit f.cases f.next c live sound.0 sound.1 sound.2
 live_after limit f (Drop seqs) live sound = live_dropped limit f.cases f.next seqs live
@@ -324,7 +324,7 @@ live_after limit f (Pin seq flag) live sound = live_pinned limit f.cases f.next 
 live_after limit f (Next n) live sound = live_later limit f.cases f.next n live sound.0 sound.1
 live_after limit f (Label seq text) live sound = live_labelled limit f.cases f.next seq text live sound.3
 
--- it holds behind a row of records
+-- it holds after a row of records
 pub live_row : (limit : ℕ) (bytes : List ℕ) (f : Folded) (rs : List Record) → AreLive limit f.cases f.next → StandInRow limit bytes f rs
     → AreLive limit (replayed rs f).cases (replayed rs f).next
 live_row limit bytes f [] live row = live
@@ -335,6 +335,6 @@ pub live_read : (limit version : ℕ) (bytes : List ℕ) (said : Folded) (n : �
 live_read limit version bytes said n read =
     subst (λ (g : Folded). AreLive limit g.cases g.next) read.folded (live_row limit bytes (nothing_yet version) read.records (live_none limit) read.row)
 
--- it holds of what a disk stands for
+-- it holds of what a disk encodes
 pub stands_live : (b : List ℕ) (s : Standing) → Stands b s → AreLive s.shape.data_blocks s.cases s.next
 stands_live b s stands = live_read s.shape.data_blocks s.version (records_area b s.shape s.half) (folded_of s) (s.used - 32) stands.records

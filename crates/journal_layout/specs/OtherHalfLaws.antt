@@ -1,5 +1,5 @@
--- Laws of the half that is not taken: what stands does so whatever is written there while its gate is not open, and once
--- it is opened over a snapshot, that stands in its place.
+-- Laws of the half that is not taken: whatever is written there while its gate is not open, the bytes encode the same; once it is opened over a snapshot, they encode
+-- that.
 use Rattle.std.proofs.Common.{◌≡◌, ◌≢◌, ◌⊎◌, inl, inr, ℕ, ◌+◌, ◌-◌, ◌≤◌, List, [], ◌∷◌, ◌++◌, length, take, slice_index, sym, ap, ◌∙◌, subst, arith, Ok}
 use Rattle.std.specs.List.{flat_map}
 use Rattle.disk_model.specs.Places.{part, SameOutside}
@@ -48,14 +48,14 @@ module _ (b c : List ℕ) (s : Standing) (stands : Stands b s) (same : SameOutsi
         taken = taken_same 32 (omega arith);
       }
 
--- What stands does so whatever is written into the other half, while its gate is not open.
+-- Whatever is written into the other half while its gate is not open, the bytes encode the same.
 pub the_other_half_is_apart : (b c : List ℕ) (s : Standing) → Stands b s → SameOutside (other_start s) (half_length s.shape) b c
     → slice_index c (other_start s) ≢ 165 → Stands c s
 the_other_half_is_apart b c s stands same closed =
     stands_kept b c s (front_alone b c (front_of s) stands.front (front_stays b c s stands same) closed) same.same_length
     (taken_same b c s stands same (s.used + 1) (stands_in_half b s stands)) stands
 
--- the gate of the other half is open, and a snapshot stands behind it
+-- the gate of the other half is open, and a snapshot follows it
 module _ (b c : List ℕ) (s : Standing) (f : Folded) (stands : Stands b s) (may : MayRewrite s f) (holds : HoldsSnapshot s f b)
     (same : SameOutside (other_start s) 1 b c) (opened : slice_index c (other_start s) ≡ 165) where
   abbrev start : ℕ
@@ -113,7 +113,7 @@ module _ (b c : List ℕ) (s : Standing) (f : Folded) (stands : Stands b s) (may
       subst (λ (m : ℕ). AreRead s.shape.data_blocks area (nothing_yet f.version) f m) n
       (a_snapshot_is_read s.shape.data_blocks area f may.live may.labels (omega (arith, long)) records_spelled gate_behind)
 
--- Once the gate of the other half is open over a snapshot, that stands in the place of what stood.
+-- Once the gate of the other half is open over a snapshot, the bytes encode that in place of what they encoded.
 pub an_opened_half_stands : (b c : List ℕ) (s : Standing) (f : Folded) → Stands b s → MayRewrite s f → HoldsSnapshot s f b
     → SameOutside (other_start s) 1 b c → slice_index c (other_start s) ≡ 165 → Stands c (rewritten s f)
 an_opened_half_stands b c s f stands may holds same opened = record {

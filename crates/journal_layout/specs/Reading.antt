@@ -16,8 +16,7 @@ kind_at rest = slice_index rest 1
 abbrev pub length_at : List ℕ → ℕ
 length_at rest = field rest 4 4
 
--- The choice by the byte of a kind: one for each kind of record, in the order of their bytes, and the last for a byte that
--- stands for no kind.
+-- The choice by the byte of a kind: one for each kind of record, in the order of their bytes, and the last for a byte of no kind.
 abbrev pub by_kind : {X : Type 0} → ℕ → X → X → X → X → X → X → X
 by_kind kind store drop pin next label none =
     if kind == 1 then store
@@ -34,7 +33,7 @@ name_length_at rest = field rest 14 2
 abbrev pub run_count_at : List ℕ → ℕ
 run_count_at rest = field rest 40 4
 
--- the n runs that stand at the front of these bytes
+-- the n runs at the front of these bytes
 abbrev pub runs_at : List ℕ → ℕ → List Run
 runs_at bytes zero = []
 runs_at bytes (suc n) = record { start = field bytes 0 4; count = field bytes 4 4 } ∷ runs_at (drop 8 bytes) n
@@ -42,7 +41,7 @@ runs_at bytes (suc n) = record { start = field bytes 0 4; count = field bytes 4 
 abbrev pub store_runs : List ℕ → List Run
 store_runs rest = runs_at (drop 48 rest) (run_count_at rest)
 
--- where the name begins, behind the runs
+-- where the name begins, after the runs
 abbrev pub name_place : List ℕ → ℕ
 name_place rest = 48 + 8 * run_count_at rest
 
@@ -67,7 +66,7 @@ case_at rest = record {
   label = [];
 }
 
--- the n numbers of cases that stand at the front of these bytes
+-- the n numbers of cases at the front of these bytes
 abbrev pub seqs_at : List ℕ → ℕ → List ℕ
 seqs_at bytes zero = []
 seqs_at bytes (suc n) = field bytes 0 4 ∷ seqs_at (drop 4 bytes) n
@@ -86,7 +85,7 @@ label_length_at rest = field rest 12 2
 abbrev pub label_at : List ℕ → List ℕ
 label_at rest = part rest 16 (label_length_at rest)
 
--- the record, or one that is never sound where the byte stands for no kind
+-- the record, or one that is never sound where the byte is of no kind
 unfoldable pub record_at : List ℕ → Record
 record_at rest =
     by_kind (kind_at rest)

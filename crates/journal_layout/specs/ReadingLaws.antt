@@ -16,11 +16,11 @@ use Rattle.journal_layout.specs.Stands.{StandsFirst, StandInRow, AreRead, AreFau
 use Rattle.journal_layout.specs.FrontLaws.{front_limits}
 use Rattle.journal_layout.specs.RecordLaws.{record_again, one_record, opened_first}
 
--- no record stands at the front of these bytes
+-- no record is at the front of these bytes
 abbrev pub NoRecord : ℕ → List ℕ → Folded → Type 0
 NoRecord limit bytes f = (r : Record) → StandsFirst limit bytes f r → ⊥
 
--- none does behind a gate that is closed
+-- none is after a gate that is closed
 closed_stops : (limit n : ℕ) (bytes : List ℕ) (f : Folded) → slice_index bytes n ≢ 165 → NoRecord limit (drop n bytes) f
 closed_stops limit n bytes f closed r first =
     let e : n + 0 ≡ n = omega arith in
@@ -30,7 +30,7 @@ closed_stops limit n bytes f closed r first =
 faulty_stops : (limit at : ℕ) (bytes : List ℕ) (f : Folded) (fault : OpenFault) → limit ≤ 16777216 → length bytes ≤ 2 ^ 32 → record_fault limit at bytes f ≡ Some fault → NoRecord limit bytes f
 faulty_stops limit at bytes f fault low short e r first = let none = (record_again limit at bytes f r low short first).faultless in cc
 
--- bytes begin with one row of records, up to where none stands
+-- bytes begin with one row of records, up to where there is none
 pub one_row : (limit : ℕ) (bytes : List ℕ) (f : Folded) (rs ss : List Record) → limit ≤ 16777216 → length bytes ≤ 2 ^ 32
     → StandInRow limit bytes f rs → NoRecord limit (drop (sizes rs) bytes) (replayed rs f)
     → StandInRow limit bytes f ss → NoRecord limit (drop (sizes ss) bytes) (replayed ss f) → rs ≡ ss
@@ -126,7 +126,7 @@ same_standing : (shape shape2 : Shape) (half half2 : Half) (version version2 gen
     (record { shape = shape2; half = half2; version = version2; generation = generation2; cases = cases2; next = next2; used = used2 })
 same_standing shape shape2 half half2 version version2 generation generation2 next next2 used used2 cases cases2 a b c d e f g = cc
 
--- bytes stand for one archive
+-- bytes encode one archive
 pub stands_once : (b : List ℕ) (s u : Standing) → Stands b s → Stands b u → s ≡ u
 stands_once b s u one two =
     let e : front_of s ≡ front_of u = same_ok (front_opening b) (front_of s) (front_of u) one.front two.front in
@@ -139,7 +139,7 @@ stands_once b s u one two =
     (ap (λ (t : Front). t.shape) e) (ap (λ (t : Front). t.half) e) (ap (λ (t : Front). t.version) e) (ap (λ (t : Front). t.generation) e)
     (ap (λ (t : Folded). t.cases) said.0) (ap (λ (t : Folded). t.next) said.0) used
 
--- what stands isn't refused
+-- what the bytes encode isn't refused
 pub stands_or_refused : (b : List ℕ) (s : Standing) (fault : OpenFault) → Stands b s → IsRefused b fault → ⊥
 stands_or_refused b s fault stands (inl e) = ok_or_err (front_opening b) (front_of s) fault stands.front e
 stands_or_refused b s fault stands (inr w) =
@@ -162,6 +162,6 @@ one_opening b (Ok s) (Err d) one two = absurd (stands_or_refused b s d one two)
 one_opening b (Err e) (Ok u) one two = absurd (stands_or_refused b u e two one)
 one_opening b (Err e) (Err d) one two = ap (λ (t : OpenFault). Err t) (refused_once b e d one two)
 
--- what stands opens as that
+-- what the bytes encode opens as that
 pub stands_opens : (b : List ℕ) (s : Standing) (x : Result Standing OpenFault) → Stands b s → Opening b x → x ≡ Ok s
 stands_opens b s x stands opening = one_opening b x (Ok s) opening stands

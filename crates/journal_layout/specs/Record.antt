@@ -25,7 +25,7 @@ pub data Record : Type 0 where
 abbrev pub rounded : ℕ → ℕ
 rounded n = (n + 15) / 16 * 16
 
--- the byte that stands for a kind of image
+-- the byte of a kind of image
 abbrev pub kind_byte : Kind → ℕ
 kind_byte Core = 1
 kind_byte Exec = 2
@@ -58,7 +58,7 @@ plain_size (Label seq text) = 16 + length text
 abbrev pub record_size : Record → ℕ
 record_size r = rounded (plain_size r)
 
--- the byte that stands for a kind of record
+-- the byte of a kind of record
 abbrev pub record_kind : Record → ℕ
 record_kind (Store c) = 1
 record_kind (Drop seqs) = 2
@@ -66,7 +66,7 @@ record_kind (Pin seq flag) = 3
 record_kind (Next n) = 4
 record_kind (Label seq text) = 5
 
--- what stands from place 8 of a record on
+-- a record's bytes from place 8 on
 unfoldable pub body : Record → List ℕ
 body (Store c) = store_facts c ++ flat_map run_bytes (runs_of c.blocks) ++ c.name
 body (Drop seqs) = number_bytes 4 (length seqs) ++ flat_map seq_bytes seqs
@@ -74,11 +74,11 @@ body (Pin seq flag) = number_bytes 4 seq ++ flag_byte flag ∷ []
 body (Next n) = number_bytes 8 n
 body (Label seq text) = number_bytes 4 seq ++ number_bytes 2 (length text) ++ replicate 2 0 ++ text
 
--- a record behind its gate, without its padding
+-- a record after its gate, without its padding
 unfoldable pub plain : Record → List ℕ
 plain r = (record_kind r ∷ 0 ∷ 0 ∷ []) ++ number_bytes 4 (record_size r) ++ body r
 
--- a record behind its gate
+-- a record after its gate
 unfoldable pub behind_gate : Record → List ℕ
 behind_gate r = plain r ++ replicate (record_size r - plain_size r) 0
 

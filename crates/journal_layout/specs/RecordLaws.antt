@@ -34,7 +34,7 @@ record_again limit at rest f r low short first =
     let told = again_at limit at r (drop (record_size r) rest) f low (omega arith) (omega (arith, ap length same)) first.sound in
     subst (λ (l : List ℕ). IsToldBy limit at l f r) (sym same) (record { opened = refl; faultless = told.0; is = told.1 })
 
--- this record stands at the front and is as long as the bytes say
+-- this record is at the front and is as long as the bytes say
 abbrev pub IsFoundAs : ℕ → List ℕ → Folded → Record → Type 0
 IsFoundAs limit rest f r = StandsFirst limit rest f r × (record_size r ≡ length_at rest)
 
@@ -47,7 +47,7 @@ found_at limit at rest f (Pin seq flag) are opened head kind e = pin_found limit
 found_at limit at rest f (Next n) are opened head kind e = next_found limit at rest f are opened head kind e
 found_at limit at rest f (Label seq text) are opened head kind e = label_found limit at rest f are opened head kind e
 
--- what is read is a record that stands there, as long as it says
+-- what is read is a record that is there, as long as it says
 pub record_told : (limit at : ℕ) (rest : List ℕ) (f : Folded) → AreBytes rest → slice_index rest 0 ≡ 165 → record_fault limit at rest f ≡ None → IsFoundAs limit rest f (record_at rest)
 record_told limit at rest f are opened e =
     let parts = record_passed limit at rest f e in
@@ -68,6 +68,6 @@ pub one_record : (limit : ℕ) (bytes : List ℕ) (f g : Folded) (r s : Record) 
 one_record limit bytes f g r s low short first second =
     sym (record_again limit 0 bytes f r low short first).is ∙ (record_again limit 0 bytes g s low short second).is
 
--- where a record stands its gate is open
+-- where a record is, its gate is open
 pub opened_first : (limit : ℕ) (bytes : List ℕ) (f : Folded) (r : Record) → StandsFirst limit bytes f r → slice_index bytes 0 ≡ 165
 opened_first limit bytes f r first = ap (λ (l : List ℕ). slice_index l 0) (as_spelled r bytes first.spelled)

@@ -43,7 +43,7 @@ case_bytes cases = sizes (flat_map case_records cases)
 abbrev pub snapshot_size : Folded → ℕ
 snapshot_size f = 32 + sizes (snapshot f)
 
--- each record may stand behind those before it
+-- each record may follow those before it
 abbrev pub AreSound : ℕ → Folded → List Record → Type 0
 AreSound limit f [] = Unit {0}
 AreSound limit f (r ∷ rest) = IsSound limit f r × AreSound limit (after r f) rest
@@ -67,8 +67,7 @@ in_version_two f = record f { version = 2 }
 abbrev pub upgraded : Standing → Standing
 upgraded s = rewritten s (in_version_two (folded_of s))
 
--- The other half of these bytes holds the records behind a header of the next generation, and a gate behind them that is
--- not open. Its own gate is not looked at.
+-- The other half of these bytes holds the records after a header of the next generation, and after them a gate that is not open. Its own gate is not looked at.
 pub record HoldsSnapshot (s : Standing) (f : Folded) (b : List ℕ) : Type 0 where
   pub header : part b (other_start s + 1) 31 ≡ half_header f.version (s.generation + 1)
   pub records : part b (other_start s + 32) (sizes (snapshot f)) ≡ flat_map spelling (snapshot f)
@@ -79,17 +78,16 @@ pub record MayRewrite (s : Standing) (f : Folded) : Type 0 where
   pub live : AreLive s.shape.data_blocks f.cases f.next
   pub labels : AreLabelled f.version f.cases
   pub known : is_known f.version ≡ true
-  -- with the gate behind the records
+  -- with the gate after the records
   pub in_half : snapshot_size f + 1 ≤ half_length s.shape
   -- the next one goes into its field
   pub generation : s.generation + 1 < 2 ^ 64
 
--- the record, and the gate behind it, go behind those of the taken half
+-- the record, and the gate after it, fit after those of the taken half
 abbrev pub fits : Standing → Record → Bool
 fits s r = nat_lt (s.used + record_size r) (half_length s.shape)
 
--- After one record more: behind the others where it fits there, and else in the other half, with all that is said then
--- written anew.
+-- After one record more: after the others where it fits there, and else in the other half, with all that is said then written anew.
 abbrev pub appended : Standing → Record → Standing
 appended s r = record s {
   half = if fits s r then s.half else other_half s.half;

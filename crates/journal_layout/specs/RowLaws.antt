@@ -14,7 +14,7 @@ pub sizes_push : (rs : List Record) (r : Record) → sizes (rs ++ r ∷ []) ≡ 
 sizes_push [] r = omega arith
 sizes_push (s ∷ rest) r = omega (arith, sizes_push rest r)
 
--- a record behind a row makes it longer
+-- a record after a row makes it longer
 pub row_push : (limit : ℕ) (bytes : List ℕ) (f : Folded) (rs : List Record) (r : Record)
     → StandInRow limit bytes f rs → StandsFirst limit (drop (sizes rs) bytes) (replayed rs f) r → StandInRow limit bytes f (rs ++ r ∷ [])
 row_push limit bytes f [] r row last = (last, tt)
@@ -26,7 +26,7 @@ row_push limit bytes f (s ∷ rest) r row last =
 front_same : (n q : ℕ) (b c : List ℕ) → n ≤ q → take q c ≡ take q b → take n c ≡ take n b
 front_same n q b c low same = sym (take-take n q c low) ∙ ap (take n) same ∙ take-take n q b low
 
--- what stands behind them
+-- what follows them
 rest_same : (n q : ℕ) (b c : List ℕ) → n ≤ q → take q c ≡ take q b → take (q - n) (drop n c) ≡ take (q - n) (drop n b)
 rest_same n q b c low same =
     let e : q ≡ n + (q - n) = omega arith in

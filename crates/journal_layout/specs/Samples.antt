@@ -1,5 +1,4 @@
--- Three records byte by byte, as they stand on a disk: their spelling, and that they are read as what they are. And what a
--- snapshot of the first one's case is.
+-- Three records byte by byte, as a disk has them: their spelling, and that they are read as what they are. And what a snapshot of the first one's case is.
 use Rattle.std.proofs.Common.{◌≡◌, ℕ, List, [], ◌∷◌, ◌++◌, refl, false, None, Some}
 use Rattle.disk_model.specs.Places.{part}
 use Rattle.journal_layout.specs.declared.entry.Kind.TheVariants.{Exec}
@@ -96,7 +95,7 @@ kind_six : record_fault 4 8304 (label_bytes 6 2 ++ 0 ∷ []) (stored 2) ≡ Some
 unfolding record_fault part
 kind_six = refl
 
--- a snapshot has it behind the case
+-- a snapshot has it after the case
 labelled_said : snapshot (record { version = 2; cases = record sample { label = 0x61 ∷ 0x62 ∷ [] } ∷ []; next = 2 })
     ≡ Store sample ∷ Label 1 (0x61 ∷ 0x62 ∷ []) ∷ Next 2 ∷ []
 labelled_said = refl

@@ -18,7 +18,7 @@ use Rattle.journal_layout.specs.Rewriting.{label_records, case_records, snapshot
 
 -- bytes that hold sound records
 
--- bytes that begin with a join begin with its first list, and behind that with its second
+-- bytes that begin with a join begin with its first list, and after that with its second
 front_of_join : (n m : ℕ) (bytes xs ys : List ℕ) → length xs ≡ n → take (n + m) bytes ≡ xs ++ ys → take n bytes ≡ xs
 front_of_join n m bytes xs ys long e =
     sym (take-take n (n + m) bytes (omega arith)) ∙ ap (take n) e ∙ take_at xs ys n long
@@ -26,7 +26,7 @@ front_of_join n m bytes xs ys long e =
 back_of_join : (n m : ℕ) (bytes xs ys : List ℕ) → length xs ≡ n → take (n + m) bytes ≡ xs ++ ys → take m (drop n bytes) ≡ ys
 back_of_join n m bytes xs ys long e = sym (drop-take n m bytes) ∙ ap (drop n) e ∙ drop_at xs ys n long
 
--- sound records that are spelled one after another stand in a row
+-- sound records that are spelled one after another are in a row
 pub row_spelled : (limit : ℕ) (bytes : List ℕ) (f : Folded) (rs : List Record) → AreSound limit f rs → sizes rs + 1 ≤ length bytes
     → take (sizes rs) bytes ≡ flat_map spelling rs → StandInRow limit bytes f rs
 row_spelled limit bytes f [] sound in_half e = tt
@@ -42,7 +42,7 @@ row_spelled limit bytes f (r ∷ rest) sound in_half e =
           (back_of_join n (sizes rest) bytes (spelling r) (flat_map spelling rest) long e),
     )
 
--- and are read, where a gate behind them is not open
+-- and are read, where a gate after them is not open
 pub read_spelled : (limit : ℕ) (bytes : List ℕ) (f : Folded) (rs : List Record) → AreSound limit f rs → sizes rs + 1 ≤ length bytes
     → take (sizes rs) bytes ≡ flat_map spelling rs → slice_index bytes (sizes rs) ≢ 165 → AreRead limit bytes f (replayed rs f) (sizes rs)
 read_spelled limit bytes f rs sound in_half e closed = record {
@@ -72,7 +72,7 @@ record MayFollow (limit version next last : ℕ) (done rest : List Case) : Type 
 abbrev told : ℕ → List Case → ℕ → Folded
 told version cases next = record { version = version; cases = cases; next = next }
 
--- a case behind others of other numbers
+-- a case after others of other numbers
 
 -- it is found by its number
 last_found : (c : Case) (done : List Case) → AllByRecursion (λ (d : Case). d.seq ≢ c.seq) done → case_numbered c.seq (done ++ c ∷ []) ≡ Some c
@@ -136,7 +136,7 @@ module _ (limit version next last : ℕ) (c : Case) (done rest : List Case) (may
         subst IsLabel is whole.label,
       )
 
-  -- the records of the case are sound, and say it behind the others
+  -- the records of the case are sound, and say it after the others
   case_said : (more : List Record) (text : List ℕ) → c.label ≡ text
       → (AreSound limit (told version (done ++ c ∷ []) (c.seq + 1)) more → AreSound limit (told version done (last + 1)) (Store (unlabelled c) ∷ (label_records c.seq text ++ more)))
       × (replayed (Store (unlabelled c) ∷ (label_records c.seq text ++ more)) (told version done (last + 1)) ≡ replayed more (told version (done ++ c ∷ []) (c.seq + 1)))
@@ -177,7 +177,7 @@ module _ (limit version next last : ℕ) (c : Case) (done rest : List Case) (may
     new = new_behind rest may.different.0 may.new.1;
   }
 
--- the records of those that are left are sound, and say them behind the others
+-- the records of those that are left are sound, and say them after the others
 follow : (limit version next last : ℕ) (done rest : List Case) → MayFollow limit version next last done rest
     → AreSound limit (told version done (last + 1)) (flat_map case_records rest ++ Next next ∷ [])
     × (replayed (flat_map case_records rest ++ Next next ∷ []) (told version done (last + 1)) ≡ told version (done ++ rest) next)
@@ -216,7 +216,7 @@ a_snapshot_says_all limit f live labels =
     none [] = tt
     none (c ∷ l) = (refl, none l)
 
--- bytes that hold them, and a gate behind them that is not open, are read as these cases
+-- bytes that hold them, and a gate after them that is not open, are read as these cases
 pub a_snapshot_is_read : (limit : ℕ) (bytes : List ℕ) (f : Folded) → AreLive limit f.cases f.next → AreLabelled f.version f.cases → sizes (snapshot f) + 1 ≤ length bytes
     → take (sizes (snapshot f)) bytes ≡ flat_map spelling (snapshot f) → slice_index bytes (sizes (snapshot f)) ≢ 165
     → AreRead limit bytes (nothing_yet f.version) f (sizes (snapshot f))

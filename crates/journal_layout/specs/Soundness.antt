@@ -6,12 +6,12 @@ use Rattle.journal_layout.specs.Case.{Case}
 use Rattle.journal_layout.specs.Record.{Record, Store, Drop, Pin, Next, Label}
 use Rattle.journal_layout.specs.Folding.{Folded, used_blocks, is_name_of}
 
--- how often a number stands in a list
+-- how often a list has a number
 abbrev pub uses : ℕ → List ℕ → ℕ
 uses k [] = 0
 uses k (b ∷ rest) = (if b == k then 1 else 0) + uses k rest
 
--- the blocks are among the first data ones, each stands once, and none is among these
+-- the blocks are among the first data ones, each is there once, and none is among these
 abbrev pub AreSpare : ℕ → List ℕ → List ℕ → Type 0
 AreSpare limit used blocks = (k : ℕ) → 0 < uses k blocks → (k < limit) × (uses k blocks ≡ 1) × (uses k used ≡ 0)
 
@@ -31,7 +31,7 @@ pub record IsLabel (text : List ℕ) : Type 0 where
   pub short : length text ≤ 64
   pub bytes : AreBytes text
 
--- The greatest byte that stands for a kind of record in a half of this version: labels came with version 2.
+-- The greatest byte of a kind of record in a half of this version: labels came with version 2.
 abbrev pub last_kind : ℕ → ℕ
 last_kind version = if version == 2 then 5 else 4
 
@@ -66,7 +66,7 @@ abbrev pub Rise : ℕ → List ℕ → Type 0
 Rise last [] = Unit {0}
 Rise last (seq ∷ rest) = (last < seq) × Rise seq rest
 
--- the record may stand where the records before it say this
+-- the record may follow where the records before it say this
 abbrev pub IsSound : ℕ → Folded → Record → Type 0
 IsSound limit f (Store c) = (f.next ≤ c.seq) × (c.seq < 2 ^ 32) × IsStorable limit f.cases c
 IsSound limit f (Drop seqs) = (0 < length seqs) × Rise 0 seqs × AllByRecursion (λ (seq : ℕ). seq < 2 ^ 32) seqs × AllByRecursion (IsDroppable f.cases) seqs

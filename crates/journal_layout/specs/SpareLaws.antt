@@ -9,7 +9,7 @@ use Rattle.journal_layout.specs.Soundness.{uses, AreSpare}
 use Rattle.journal_layout.specs.Checks.{is_adjoining, is_overlapping, is_bad_run, first_bad_run}
 use Rattle.journal_layout.specs.ChainLaws.{AreInChain}
 
--- how often a number stands in a join and in a run
+-- how often a join and a run have a number
 pub uses-append : (k : ℕ) (xs ys : List ℕ) → uses k (xs ++ ys) ≡ uses k xs + uses k ys
 uses-append k [] ys = omega arith
 uses-append k (x ∷ xs) ys = omega (arith, uses-append k xs ys)
@@ -33,7 +33,7 @@ uses_within k a (suc n) low high =
     after : (a ≡ k → ⊥) → a + 1 ≤ k
     after other = omega (arith, other)
 
--- a number that stands in a run lies in it
+-- a number of a run lies in it
 pub run_holds : (k a n : ℕ) → 0 < uses k (range_with_len a n) → (a ≤ k) × (k < a + n)
 run_holds k a n some =
     elim (cases_lt k a) as (λ _. (a ≤ k) × (k < a + n)) [
@@ -89,7 +89,7 @@ apart_passes used (x ∷ xs) each =
     more : (k : ℕ) → 0 < uses k xs → 0 < uses k (x ∷ xs)
     more k some = omega arith
 
--- spare blocks that stand in runs lie below the limit
+-- spare blocks of runs lie below the limit
 pub run_within : (limit : ℕ) (used : List ℕ) (r : Run) (rest : List Run) → 1 ≤ r.count → AreSpare limit used (blocks_of (r ∷ rest)) → r.start + r.count ≤ limit
 run_within limit used r rest some spare =
     let k = r.start + r.count - 1 in
@@ -97,7 +97,7 @@ run_within limit used r rest some spare =
     let below : k < limit = (spare k (omega (arith, uses-append k (run_blocks r) (blocks_of rest)))).0 in
     omega arith
 
--- spare blocks stay spare behind the first run
+-- spare blocks stay spare after the first run
 pub spare_rest : (limit : ℕ) (used : List ℕ) (r : Run) (rest : List Run) → AreSpare limit used (blocks_of (r ∷ rest)) → AreSpare limit (used ++ run_blocks r) (blocks_of rest)
 spare_rest limit used r rest spare k some =
     let whole = uses-append k (run_blocks r) (blocks_of rest) in
@@ -116,7 +116,7 @@ runs_pass limit used end place (r ∷ rest) chain spare =
     or_from _ _ (or_from _ _ (or_from _ _ (ne_eqb r.count 0 (λ e. absurd (omega (arith, e, chain.0)))) (le-ltb limit (r.start + r.count) within)) chain.1) apart in
     rw fine (runs_pass limit (used ++ run_blocks r) (Some (r.start + r.count)) (place + 8) rest chain.2 (spare_rest limit used r rest spare))
 
--- blocks of a run and spare ones behind it
+-- blocks of a run and spare ones after it
 spare_more : (limit : ℕ) (used : List ℕ) (r : Run) (rest : List Run) → r.start + r.count ≤ limit → is_overlapping used r ≡ false
     → AreSpare limit (used ++ run_blocks r) (blocks_of rest) → AreSpare limit used (blocks_of (r ∷ rest))
 spare_more limit used r rest within apart spare k some =

@@ -96,7 +96,7 @@ pub spelling_unlabelled : (c : Case) → spelling (Store (unlabelled c)) ≡ spe
 unfolding behind_gate plain body store_facts
 spelling_unlabelled c = refl
 
--- What a spelling with anything behind it tells.
+-- What a spelling with anything after it tells.
 module _ (r : Record) (tail : List ℕ) where
   abbrev spelled : List ℕ
   spelled = spelling r ++ tail

@@ -1,4 +1,4 @@
--- Laws of what a disk stands for: its limits, on which bytes it depends, and one record more.
+-- Laws of what a disk encodes: its limits, on which bytes it depends, and one record more.
 use Rattle.std.proofs.Common.{◌≡◌, ◌≢◌, ℕ, ◌+◌, ◌-◌, ◌<◌, ◌≤◌, List, [], ◌∷◌, ◌++◌, length, take, drop, slice_index, refl, sym, ap, ◌∙◌, subst, arith, Ok}
 use Rattle.std.proofs.lemmas.List.{get_or-take, length-drop, take-take}
 use Rattle.disk_model.specs.Places.{part}
@@ -22,7 +22,7 @@ use Rattle.journal_layout.specs.FrontLaws.{front_limits, front_size, front_same}
 pub read_in_half : (limit : ℕ) (bytes : List ℕ) (f said : Folded) (n : ℕ) → 0 < length bytes → AreRead limit bytes f said n → n + 1 ≤ length bytes
 read_in_half limit bytes f said n some read = omega (arith, row_in_half limit bytes f read.records some read.row, read.size)
 
--- they depend on their bytes and the gate behind them alone
+-- they depend on their bytes and the gate after them alone
 pub read_same : (limit q : ℕ) (b c : List ℕ) (f said : Folded) (n : ℕ) → length c ≡ length b → n + 1 ≤ q → take q c ≡ take q b → AreRead limit b f said n → AreRead limit c f said n
 read_same limit q b c f said n long low same read =
     let size = read.size in
@@ -36,7 +36,7 @@ read_same limit q b c f said n long low same read =
       size = read.size;
     }
 
--- one record more behind the same bytes, and a closed gate
+-- one record more after the same bytes, and a closed gate
 pub read_grown : (limit : ℕ) (b c : List ℕ) (f said : Folded) (n : ℕ) (r : Record) → length c ≡ length b → take n c ≡ take n b → AreRead limit b f said n
     → StandsFirst limit (drop n c) said r → slice_index c (n + record_size r) ≢ 165 → AreRead limit c f (after r said) (n + record_size r)
 read_grown limit b c f said n r long same read first closed =
@@ -54,13 +54,13 @@ read_grown limit b c f said n r long same read first closed =
       size = whole;
     }
 
--- a disk that stands for something
+-- a disk that encodes something
 
 pub half_lies : (s : Shape) (half : Half) → IsWithinLimits s → half_start s half + half_length s ≤ disk_length s
 half_lies s A limits = let some = limits.some_data in omega arith
 half_lies s B limits = let some = limits.some_data in omega arith
 
--- the bytes behind a half's header
+-- the bytes after a half's header
 pub area_length : (b : List ℕ) (s : Shape) (half : Half) → IsWithinLimits s → disk_length s ≡ length b → length (records_area b s half) ≡ half_length s - 32
 area_length b s half limits size =
     let some = limits.some_half in
@@ -103,7 +103,7 @@ pub record HasSameFront (s : Shape) (b c : List ℕ) : Type 0 where
 same_opening : (b c : List ℕ) (t : Front) → HasSameFront t.shape b c → front_opening b ≡ Ok t → front_opening c ≡ Ok t
 same_opening b c t same e = front_same b c t e same.long same.superblock same.first same.second
 
--- behind a front that opens so, it depends on its records and the gate behind them alone
+-- after a front that opens so, it depends on its records and the gate after them alone
 pub stands_kept : (b c : List ℕ) (s : Standing) → front_opening c ≡ Ok (front_of s) → length c ≡ length b
     → part c (half_start s.shape s.half) (s.used + 1) ≡ part b (half_start s.shape s.half) (s.used + 1) → Stands b s → Stands c s
 stands_kept b c s front same used stands =
@@ -121,7 +121,7 @@ stands_kept b c s front same used stands =
           (omega arith) (area_same b c s.shape s.half (s.used + 1) (omega arith) in_half used) stands.records;
     }
 
--- it depends on its front, its records and the gate behind them alone
+-- it depends on its front, its records and the gate after them alone
 pub stands_same : (b c : List ℕ) (s : Standing) → HasSameFront s.shape b c → part c (half_start s.shape s.half) (s.used + 1) ≡ part b (half_start s.shape s.half) (s.used + 1)
     → Stands b s → Stands c s
 stands_same b c s same used stands = stands_kept b c s (same_opening b c (front_of s) same stands.front) same.long used stands
@@ -130,7 +130,7 @@ pub opened_part : (l : List ℕ) (p m : ℕ) (x : List ℕ) → part l p m ≡ x
 unfolding part
 opened_part l p m x e = e
 
--- one record more behind those that it has, and a closed gate
+-- one record more after those that it has, and a closed gate
 pub stands_grown : (b c : List ℕ) (s : Standing) (r : Record) → HasSameFront s.shape b c → part c (half_start s.shape s.half) s.used ≡ part b (half_start s.shape s.half) s.used
     → s.used + record_size r + 1 ≤ half_length s.shape → IsSound s.shape.data_blocks (folded_of s) r
     → part c (half_start s.shape s.half + s.used) (record_size r) ≡ spelling r → slice_index c (half_start s.shape s.half + s.used + record_size r) ≢ 165
@@ -165,7 +165,7 @@ stands_grown b c s r same used in_half sound spelled closed stands =
           (area_same b c s.shape s.half s.used header (omega arith) used) stands.records first (λ e. closed (sym behind ∙ e)));
     }
 
--- a front with a closed gate behind the header stands for no case
+-- a front with a closed gate after the header encodes no case
 pub stands_fresh : (b : List ℕ) (t : Front) → front_opening b ≡ Ok t → slice_index b (half_start t.shape t.half + 32) ≢ 165 → Stands b (fresh t.shape t.half t.version t.generation)
 stands_fresh b t front closed =
     let limits = front_limits b t front in

@@ -1,4 +1,4 @@
--- What the journal of an archive stands for.
+-- What the journal of an archive encodes.
 use Rattle.std.specs.Prelude.{ℕ, ◌+◌, [], List}
 use Rattle.journal_layout.specs.declared.shape.Shape.{Shape}
 use Rattle.journal_layout.specs.declared.shape.Half.{Half}
@@ -28,7 +28,7 @@ abbrev pub fresh : Shape → Half → ℕ → ℕ → Standing
 fresh shape half version generation =
     record { shape = shape; half = half; version = version; generation = generation; cases = []; next = 1; used = 32 }
 
--- after one record more behind the others
+-- after one record more after the others
 abbrev pub lengthened : Standing → Record → Standing
 lengthened s r = record s {
   cases = (after r (folded_of s)).cases;

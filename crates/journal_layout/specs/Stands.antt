@@ -1,4 +1,4 @@
--- What the bytes of a disk stand for, and what an opening answers of them.
+-- What the bytes of a disk encode, and what an opening answers of them.
 use Rattle.std.specs.Prelude.{◌≡◌, ◌≢◌, ◌⊎◌, ℕ, ◌+◌, ◌-◌, ◌≤◌, List, [], ◌∷◌, length, take, drop, slice_index, Some, Result, Ok, Err}
 use Rattle.disk_model.specs.Places.{part}
 use Rattle.journal_layout.specs.declared.shape.Shape.{Shape}
@@ -12,13 +12,13 @@ use Rattle.journal_layout.specs.Checks.{record_fault}
 use Rattle.journal_layout.specs.Front.{Front, front_opening}
 use Rattle.journal_layout.specs.Standing.{Standing, folded_of}
 
--- the record stands at the front of these bytes, with room for the gate behind it, and may follow those before it
+-- the record is at the front of these bytes, with room for the gate after it, and may follow those before it
 pub record StandsFirst (limit : ℕ) (bytes : List ℕ) (f : Folded) (r : Record) : Type 0 where
   pub spelled : take (record_size r) bytes ≡ spelling r
   pub in_half : record_size r + 1 ≤ length bytes
   pub sound : IsSound limit f r
 
--- the records stand one after another at the front of these bytes
+-- the records are one after another at the front of these bytes
 abbrev pub StandInRow : ℕ → List ℕ → Folded → List Record → Type 0
 StandInRow limit bytes f [] = Unit {0}
 StandInRow limit bytes f (r ∷ rest) = StandsFirst limit bytes f r × StandInRow limit (drop (record_size r) bytes) (after r f) rest
@@ -31,14 +31,14 @@ pub record AreRead (limit : ℕ) (bytes : List ℕ) (f said : Folded) (used : �
   pub folded : replayed records f ≡ said
   pub size : sizes records ≡ used
 
--- These bytes are records in a row, and then a faulty one behind an open gate. The first byte is at this place of the disk.
+-- These bytes are records in a row, and then a faulty one after an open gate. The first byte is at this place of the disk.
 pub record AreFaulty (limit at : ℕ) (bytes : List ℕ) (f : Folded) (fault : OpenFault) : Type 0 where
   pub records : List Record
   pub row : StandInRow limit bytes f records
   pub opened : slice_index bytes (sizes records) ≡ 165
   pub found : record_fault limit (at + sizes records) (drop (sizes records) bytes) (replayed records f) ≡ Some fault
 
--- the bytes of a half behind its header
+-- the bytes of a half after its header
 abbrev pub records_start : Shape → Half → ℕ
 records_start s half = half_start s half + 32
 

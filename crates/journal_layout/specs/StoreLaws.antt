@@ -91,7 +91,7 @@ nul_passed (b ∷ rest) e =
     let h = or_parts (nat_eq 0 b) (list_any (nat_eq 0) rest) e in
     ((λ s. eqb-false 0 b h.0 (sym s)), nul_passed rest h.1)
 
--- what the checks behind the runs tell
+-- what the checks after the runs tell
 record HasName (rest : List ℕ) (f : Folded) : Type 0 where
   pub enough : block_count (store_runs rest) ≡ blocks_for (field rest 32 8)
   pub no_nul : is_among (name_at rest) 0 ≡ false
@@ -125,7 +125,7 @@ kind_known Exec = inr refl
 kind_found : (n : ℕ) → (n ≡ 1) ⊎ (n ≡ 2) → kind_byte (kind_of_byte n) ≡ n
 kind_found n h = ⊎_elim (λ e. ap (λ (m : ℕ). kind_byte (kind_of_byte m)) e ∙ sym e) (λ e. ap (λ (m : ℕ). kind_byte (kind_of_byte m)) e ∙ sym e) h
 
--- What the spelling of a Store with anything behind it tells.
+-- What the spelling of a Store with anything after it tells.
 module _ (c : Case) (tail : List ℕ) where
   abbrev zeros : List ℕ
   zeros = replicate (record_size (Store c) - plain_size (Store c)) 0

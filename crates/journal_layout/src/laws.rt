@@ -1,8 +1,8 @@
 // What the definitions that the contracts cite say together. These functions do nothing.
 ghost use Rattle.journal_layout.specs.Grammar.{RecordsAreReadAgain, WhatIsReadStands, RecordsAreApart, OpeningsHaveOneAnswer, WhatStandsOpens, WhatStandsIsLive, WhatStandsIsLabelled, VersionOneHasNoLabels, SnapshotsSayAll, TheOtherHalfIsApart, AnOpenedHalfStands, AnUpgradeSaysTheSame, LabelsTakeTheirRecords, DropsFit};
 
-/// What is written is read again: where the spelling of a sound record stands, with room for a gate behind it, no check
-/// of an opening fails, at any place of any archive, and the fields that an opening reads are those of the record.
+/// What is written is read again: where the spelling of a sound record is followed by room for a gate, no check of an
+/// opening fails, at any place of any archive, and the fields that an opening reads are those of the record.
 pub fn records_are_read_again()
     ensures { RecordsAreReadAgain }
 {}
@@ -18,14 +18,14 @@ pub fn no_record_begins_another()
     ensures { RecordsAreApart }
 {}
 
-/// An opening has one answer: bytes stand for one archive at most, are refused for one fault at most, and never both.
+/// An opening has one answer: bytes encode one archive at most, are refused for one fault at most, and never both.
 pub fn an_opening_has_one_answer()
     ensures one { OpeningsHaveOneAnswer }
     ensures stands { WhatStandsOpens }
 {}
 
-/// The cases of what stands go together: their numbers rise, from 1 at least, and are below the next one, no block is in
-/// two of them or twice in one, all blocks are data blocks and as many as the bytes need, and no two have one name.
+/// The cases of an archive go together: their numbers rise, from 1 at least, and are below the next one, no block is in two
+/// of them or twice in one, all blocks are data blocks and as many as the bytes need, and no two have one name.
 pub fn live_cases_are_sound()
     ensures { WhatStandsIsLive }
 {}
@@ -36,23 +36,23 @@ pub fn labels_are_of_version_two()
     ensures none { VersionOneHasNoLabels }
 {}
 
-/// A snapshot says all: its records, one Store record for each live case in the order of their numbers, its Label record
-/// behind it where it has a label, and one Next record, are sound one behind the other from the first of a half on, and
-/// say exactly these cases and this next number.
+/// A snapshot says all: its records are one Store record for each live case in the order of their numbers, followed by its
+/// Label record where it has a label, and then one Next record. They are sound one after the other from the first of a half
+/// on, and say exactly these cases and this next number.
 pub fn a_snapshot_says_all()
     ensures { SnapshotsSayAll }
 {}
 
-/// The half that is not taken is apart: while its gate is not open, a disk stands for what it stood for, whatever is
-/// written there. Once that gate is opened over a header of the next generation and a snapshot with a gate behind it that
-/// is not open, the disk stands for what the snapshot says, with that half taken.
+/// The half that is not taken is apart: while its gate is not open, a disk encodes what it encoded, whatever is written
+/// there. Once that gate is opened over a header of the next generation and a snapshot, with a gate after it that is not
+/// open, the disk encodes what the snapshot says, with that half taken.
 pub fn the_other_half_is_apart()
     ensures closed { TheOtherHalfIsApart }
     ensures opened { AnOpenedHalfStands }
 {}
 
-/// An upgrade says the same: what stands in version 1, written anew in version 2 into the half that is not taken, stands
-/// with the same cases and the same next number once that half's gate is opened, and no case has a label.
+/// An upgrade says the same: what is encoded in version 1 is written anew in version 2 into the half that is not taken.
+/// Once that half's gate is opened, the bytes encode the same cases and the same next number, and no case has a label.
 pub fn an_upgrade_says_the_same()
     ensures { AnUpgradeSaysTheSame }
 {}

@@ -10,7 +10,7 @@ use Rattle.journal_layout.specs.Reading.{seqs_at, runs_at}
 use Rattle.journal_layout.specs.Record.{rounded}
 use Rattle.journal_layout.specs.Checks.{first_set}
 
--- a number in the bytes behind place p
+-- a number in the bytes after place p
 from_dropped : (i p w : ℕ) (bytes : List ℕ) → little_from i w (drop p bytes) ≡ little_from (p + i) w bytes
 from_dropped i p zero bytes = refl
 from_dropped i p (suc w) bytes =
@@ -21,7 +21,7 @@ from_dropped i p (suc w) bytes =
 pub field_dropped : (i p w : ℕ) (bytes : List ℕ) → field (drop p bytes) i w ≡ field bytes (p + i) w
 field_dropped i p w bytes = from_dropped i p w bytes
 
--- the first of some numbers, and those behind it
+-- the first of some numbers, and those after it
 pub seqs_step : (p n : ℕ) (bytes : List ℕ) → 0 < n → seqs_at (drop p bytes) n ≡ field bytes p 4 ∷ seqs_at (drop (p + 4) bytes) (n - 1)
 seqs_step p zero bytes some = absurd (omega arith)
 seqs_step p (suc n) bytes some =
@@ -31,7 +31,7 @@ seqs_step p (suc n) bytes some =
     ∙ ap (λ (bs : List ℕ). field bytes p 4 ∷ seqs_at bs n) (drop-drop 4 p bytes)
     ∙ ap (λ k. field bytes p 4 ∷ seqs_at (drop (p + 4) bytes) k) (sym e)
 
--- the run that stands at place p
+-- the run at place p
 abbrev pub run_at : List ℕ → ℕ → Run
 run_at bytes p = record { start = field bytes p 4; count = field bytes (p + 4) 4 }
 
@@ -51,7 +51,7 @@ runs_step p (suc n) bytes some =
 pub rounded_no_less : (n : ℕ) → n ≤ rounded n
 rounded_no_less n = omega arith
 
--- the first byte of a part, and those behind it
+-- the first byte of a part, and those after it
 pub part_step : (p n : ℕ) (bytes : List ℕ) → p < length bytes → part bytes p (suc n) ≡ get_or bytes p 0 ∷ part bytes (p + 1) n
 unfolding part
 part_step p n bytes within =

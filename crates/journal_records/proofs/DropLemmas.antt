@@ -8,7 +8,7 @@ use Rattle.journal_layout.specs.Soundness.{case_numbered}
 use Rattle.journal_layout.specs.Checks.{first_bad_seq, is_kept}
 use Rattle.journal_records.proofs.ByteLemmas.{seqs_step}
 
--- the number may not stand behind the number `last`
+-- the number may not follow the number `last`
 abbrev pub is_bad : List Case → ℕ → ℕ → Bool
 is_bad cases last seq = nat_le seq last || is_kept (case_numbered seq cases)
 
@@ -23,7 +23,7 @@ seq_good cases last p n rest some good =
     ap (first_bad_seq cases last p) (seqs_step p n rest some)
     ∙ ap (λ t. cond t (Some p) (first_bad_seq cases (field rest p 4) (p + 4) (seqs_at (drop (p + 4) rest) (n - 1)))) good
 
--- the place and the count of those behind the index
+-- the place and the count of those after the index
 pub seqs_next : (cases : List Case) (last index count : ℕ) (rest : List ℕ)
     → first_bad_seq cases last (12 + 4 * index + 4) (seqs_at (drop (12 + 4 * index + 4) rest) (count - index - 1))
     ≡ first_bad_seq cases last (12 + 4 * (index + 1)) (seqs_at (drop (12 + 4 * (index + 1)) rest) (count - (index + 1)))
@@ -39,7 +39,7 @@ seqs_all cases last count rest = (let e : count - 0 ≡ count = omega arith in a
 pub seqs_end : (cases : List Case) (last p count index : ℕ) (rest : List ℕ) → count ≤ index → first_bad_seq cases last p (seqs_at (drop p rest) (count - index)) ≡ None
 seqs_end cases last p count index rest past = (let e : count - index ≡ 0 = omega arith in ap (λ n. first_bad_seq cases last p (seqs_at (drop p rest) n)) e)
 
--- the number at an index, and those behind it
+-- the number at an index, and those after it
 pub seqs_here : (index count : ℕ) (rest : List ℕ) → index < count
     → seqs_at (drop (12 + 4 * index) rest) (count - index) ≡ field rest (12 + 4 * index) 4 ∷ seqs_at (drop (12 + 4 * (index + 1)) rest) (count - (index + 1))
 seqs_here index count rest below =

@@ -116,7 +116,7 @@ below_of k n is =
       | inr past ↦ (let no : nat_lt k n ≡ false = le-ltb k n past in absurd (let e : true ≡ false = sym is ∙ no in cc))
     ]
 
--- how the flags stand at a block that some list uses, which is part of all that are in use
+-- what the flags are at a block that some list uses, which is part of all that are in use
 in_use : (used : List ℕ) (old : List Bool) (k m : ℕ) → Accounts used old → m ≤ uses k used → 0 < m → (k < length old) × (is_free old k ≡ false) × (m ≤ 1)
 in_use used old k m accounts part some =
     let all = accounts k in

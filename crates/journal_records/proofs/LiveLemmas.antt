@@ -47,7 +47,7 @@ numbered_found low high s (e ∷ es) are =
       | inr other ↦ rw (test_other s e.0 other, ne_eqb e.1.seq s (λ f. other (sym number ∙ f))) (numbered_found (e.0 + 1) high s es are.2)
     ]
 
--- the numbers end behind where they begin
+-- the numbers end after where they begin
 pub numbered_ends : (low high : ℕ) (es : List (ℕ × Entry)) → AreNumbered low high es → low ≤ high
 numbered_ends low high [] are = are
 numbered_ends low high (e ∷ es) are = (let rest = numbered_ends (e.0 + 1) high es are.2 in let first : low ≤ e.0 = are.0 in omega arith)

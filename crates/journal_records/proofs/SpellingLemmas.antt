@@ -4,11 +4,11 @@ use Rattle.std.proofs.lemmas.List.{replicate-append-replicate, take_all}
 use Rattle.journal_layout.specs.Record.{Record, plain, plain_size, behind_gate, record_size, spelling}
 use Rattle.journal_layout.specs.SpellLaws.{length-plain}
 
--- padding and the closed gate behind it
+-- padding and the closed gate after it
 padded : (n : ℕ) (z : List ℕ) → z ≡ 0 ∷ [] → replicate n 0 ++ z ≡ replicate (n + 1) 0
 padded n z is = ap (λ xs. replicate n 0 ++ xs) is ∙ replicate-append-replicate n 1 0
 
--- a record's bytes without its padding, filled up with zeros to its size, are the record behind its gate and a closed gate
+-- a record's bytes without its padding, filled up with zeros to its size, are the record after its gate and a closed gate
 filled : (r : Record) (n : ℕ) → n ≡ length (plain r) → plain r ++ replicate (record_size r - n) 0 ≡ behind_gate r ++ 0 ∷ []
 unfolding behind_gate
 filled r n is =

@@ -6,7 +6,7 @@ use Rattle.journal_records.specs.declared.kind.RecordKind.{RecordKind}
 use Rattle.journal_records.specs.declared.kind.RecordKind.TheVariants.{Store, Drop, Pin, Next, Label}
 use Rattle.journal_layout.specs.Reading.{length_at, name_length_at, name_place}
 
--- The record has a length, with which it and the gate behind it lie in these bytes.
+-- The record has a length, with which it and the gate after it lie in these bytes.
 pub record IsHeaded (rest : List ℕ) : Type 0 where
   pub least : 16 ≤ length_at rest
   pub whole : length_at rest % 16 ≡ 0

@@ -1,4 +1,4 @@
--- What the working state of a reading says, and what holds of it.
+-- What the working state of a reading means, and what holds of it.
 use Rattle.std.specs.Prelude.{◌≡◌, ℕ, ◌^◌, ◌≤◌, Bool, List, length, Option, None, Result, Ok, Err}
 use Rattle.std.specs.List.{count_by}
 use Rattle.std.specs.Str.{bytes_eq}
@@ -33,7 +33,7 @@ pub record IsSpareMap (blocks : ℕ) (cases : List Case) (flags : List Bool) : T
   pub size : length flags ≡ blocks
   pub accounts : Accounts (used_blocks cases) flags
 
--- The entries stand under their numbers, all below the next one. The names are those of the entries, each of one entry,
+-- The entries are under their numbers, all below the next one. The names are those of the entries, each of one entry,
 -- and each block is either one of an entry's, or free.
 pub record AreKept (c : Cases) : Type 0 where
   pub numbered : AreNumbered 0 c.next c.live.entries

@@ -9,7 +9,7 @@ abbrev pub cases_of : List (ℕ × Entry) → List Case
 cases_of [] = []
 cases_of (e ∷ es) = case_of e.1 ∷ cases_of es
 
--- Each entry stands under its own number. The numbers rise, the first of them at `low` at least, and stay below `high`.
+-- Each entry is under its own number. The numbers rise, the first of them at `low` at least, and stay below `high`.
 abbrev pub AreNumbered : ℕ → ℕ → List (ℕ × Entry) → Type 0
 AreNumbered low high [] = low ≤ high
 AreNumbered low high (e ∷ es) = (low ≤ e.0) × (e.1.seq ≡ e.0) × AreNumbered (e.0 + 1) high es

@@ -14,7 +14,7 @@ use Rattle.journal_records.specs.Kept.{said_by, AreKept}
 abbrev pub said_of : ℕ → Replayed → Folded
 said_of version r = record { version = version; cases = map case_of r.entries.items; next = r.next }
 
--- what an error tells of these bytes of a half of this version, which stand at this place of the disk
+-- what an error tells of these bytes of a half of this version, which are at this place of the disk
 abbrev pub TellsFaulty : ℕ → ℕ → ℕ → List ℕ → OpenFault → Type 0
 TellsFaulty limit version at bytes (Damaged place which) = AreFaulty limit at bytes (nothing_yet version) (Damaged place which)
 TellsFaulty limit version at bytes OutOfMemory = Unit {0}

@@ -21,7 +21,7 @@ use Rattle.journal_records.specs.Head.{TellsFault}
 abbrev pub Accounts : List ℕ → List Bool → Type 0
 Accounts used flags = (k : ℕ) → uses k used + one_if (is_free flags k) ≡ one_if (nat_lt k (length flags))
 
--- whether a run behind one that ends there was taken, and the flags then
+-- whether a run after one that ends there was taken, and the flags then
 abbrev pub TakesRun : List ℕ → List Bool → Option ℕ → Run → Bool → List Bool → Type 0
 TakesRun used old end run true new = (is_bad_run (length old) used end run ≡ false) × Accounts (used ++ run_blocks run) new
 TakesRun used old end run false new = is_bad_run (length old) used end run ≡ true

@@ -42,7 +42,7 @@ pub(crate) struct Cases {
 }
 
 impl Cases {
-    /// Before the first record of a half of this version, on an archive of this number of data blocks.
+    /// The state before the first record of a half of this version, in an archive with this number of data blocks.
     /// `OutOfMemory`: there was no memory.
     pub fn new(alloc: Global, version: u32, data_blocks: u32) -> Result<Cases, OpenFault>
         requires { data_blocks ≤ 16777216 }
@@ -177,7 +177,7 @@ impl Cases {
         Ok(())
     }
 
-    // Reads what stands behind the head of a record of this kind.
+    // Reads what follows the head of a record of this kind.
     fn read_body(
         &mut self,
         alloc: Global,

@@ -40,7 +40,7 @@ fn is_kept(live: &Live, seq: u32) -> bool
     }
 }
 
-// Whether this number may not stand behind the number `last` in a Drop record.
+// Whether this number may not follow the number `last` in a Drop record.
 fn is_bad_seq(live: &Live, last: u32, seq: u32) -> bool
     requires { AreNumbered 0 (2 ^ 32) live.now.entries }
     ensures { result ≡ (nat_le seq last || is_kept (case_numbered seq (cases_of live.now.entries))) }

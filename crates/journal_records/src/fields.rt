@@ -31,7 +31,7 @@ pub(crate) fn u64_at(bytes: &[u8], place: usize) -> u64
     LittleEndian::read_u64(&bytes[place..])
 }
 
-/// The fault of the field that stands at `place` of the record whose gate is at byte `at` of the disk.
+/// The fault of the field at `place` of the record whose gate is at byte `at` of the disk.
 pub(crate) fn damaged(at: u64, field: Field, place: usize) -> OpenFault
     requires { at + place < 2 ^ 64 }
     ensures { result ≡ damaged at field place }

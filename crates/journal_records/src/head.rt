@@ -9,8 +9,8 @@ use crate::kind::{RecordKind, kind_of};
 use crate::{damaged, u16_at, u32_at};
 use journal_layout::{Field, OpenFault};
 
-/// The checks of a record's head: 17 bytes are left, the kind is one of this version's, the two bytes behind it are zeros,
-/// and the length is that of a record which lies in the half with the gate behind it. Tells the kind.
+/// The checks of a record's head: 17 bytes are left, the kind is one of this version's, the two bytes after it are zeros,
+/// and the length is that of a record which lies in the half with the gate after it. Tells the kind.
 pub(crate) fn check_head(version: u32, rest: &[u8], at: u64) -> Result<RecordKind, OpenFault>
     requires { at + length rest.now ≤ 2 ^ 63 }
     ensures fault { result_err result ≡ first_failing at (head_checks version rest.now) }

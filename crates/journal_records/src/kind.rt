@@ -5,7 +5,7 @@ ghost use Rattle.std.specs.Option.{is_none};
 ghost use Rattle.journal_layout.specs.Soundness.{last_kind};
 ghost use Rattle.journal_records.specs.Head.{byte_of};
 
-/// What a record tells, by the byte behind its gate.
+/// What a record tells, by the byte after its gate.
 #[derive(Clone, Copy)]
 pub(crate) enum RecordKind {
     /// A case begins.
@@ -20,7 +20,7 @@ pub(crate) enum RecordKind {
     Label,
 }
 
-/// The kind that a byte stands for in a half of this version, if it stands for one.
+/// The kind of a byte in a half of this version, if it has one.
 pub(crate) fn kind_of(version: u32, byte: u8) -> Option<RecordKind>
     ensures known { is_none result ≡ not (nat_le 1 byte && nat_le byte (last_kind version)) }
     ensures kind { IfSome result (λ kind. byte_of kind ≡ byte) }

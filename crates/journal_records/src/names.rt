@@ -19,7 +19,7 @@ pub(crate) fn name_end(rest: &[u8]) -> usize
     48 + 8 * u32_at(rest, 40) as usize + u16_at(rest, 14) as usize
 }
 
-// The name that stands behind the runs.
+// The name that follows the runs.
 fn name_at(rest: &[u8]) -> Name
     requires in_half { name_place rest.now + name_length_at rest.now ≤ length rest.now }
     requires short { name_length_at rest.now ≤ 128 }

@@ -9,7 +9,7 @@ ghost use Rattle.journal_records.specs.Head.{IsHeaded};
 use crate::{damaged, u32_at};
 use journal_layout::{Field, OpenFault};
 
-// Where the first of the bytes from `place` to `end` that is not zero stands.
+// The place of the first of the bytes from `place` to `end` that is not zero.
 fn first_set(rest: &[u8], place: usize, end: usize) -> Option<usize>
     requires order { place ≤ end }
     requires within { end ≤ length rest.now }

@@ -25,7 +25,7 @@ pub struct Replayed {
     pub free: FreeMap,
     /// The number of the next case, 1 to 2^32.
     pub next: u64,
-    /// The bytes of the records. The gate behind them is not open.
+    /// The bytes of the records. The gate after them is not open.
     pub size: u64,
 }
 
@@ -51,7 +51,7 @@ fn entries_of(alloc: Global, live: Live) -> Result<Vec<Entry>, AllocError>
     live.into_values().collect(alloc)
 }
 
-/// Reads the records of a half. `bytes` are the bytes of the half behind its header, and `at` is their place on the disk,
+/// Reads the records of a half. `bytes` are the bytes of the half after its header, and `at` is their place on the disk,
 /// in bytes; `version` is that of its layout, and `data_blocks` the number of the archive's data blocks.
 ///
 /// `Damaged`: this field is the first that is wrong. `OutOfMemory`: there was no memory. There is no other error.

@@ -11,7 +11,7 @@ use extents::{FreeMap, Run, RunList};
 use journal_layout::{Field, OpenFault};
 use std::alloc::Global;
 
-// The run that stands at `place`.
+// The run at `place`.
 fn run_at(rest: &[u8], place: usize) -> Run
     requires { place + 8 ≤ length rest.now }
     ensures { result ≡ record { start = field rest.now place 4; count = field rest.now (place + 4) 4 } }
@@ -32,7 +32,7 @@ fn is_adjoining(end: Option<u32>, run: Run) -> bool
     }
 }
 
-// Marks the blocks of a run behind one that ends at `end`, unless there is something wrong with it.
+// Marks the blocks of a run after one that ends at `end`, unless there is something wrong with it.
 fn take_run(free: &mut FreeMap, end: Option<u32>, run: Run) -> bool
     ensures taken { (used : List ℕ) → Accounts used free.old → TakesRun used free.old end run result free.new }
     ensures within { OnTrue result ((1 ≤ run.count) × (run.start + run.count ≤ length free.old)) }

@@ -1,4 +1,4 @@
-// The spelling of records. A buffer grows before anything is added, so that what is added has room.
+// The spelling of records. A buffer grows before anything is added, so there is room for what is added.
 ghost use Rattle.std.specs.Prelude.{◌≡◌, ℕ, ◌+◌, ◌*◌, ◌<◌, ◌≤◌, ◌^◌, ◌++◌, [], ◌∷◌, ◌-◌, length, take, replicate, IfOk, OnOk, IsOk, vec_len, vec_capacity};
 ghost use Rattle.std.specs.List.{flat_map};
 ghost use Rattle.extents.specs.Runs.{runs_of};
@@ -85,7 +85,7 @@ fn fill(bytes: &mut Vec<u8>, size: u64)
     bytes.resize(size as usize, 0).unwrap();
 }
 
-// What stands behind the gate of a record of this kind and size, up to its body.
+// What follows the gate of a record of this kind and size, up to its body.
 #[tactic(auto, unfolding(journal_layout::specs::Layout::number_bytes))]
 fn head(kind: u8, size: u32) -> [u8; 7]
     ensures bytes { result ≡ (kind ∷ 0 ∷ 0 ∷ []) ++ number_bytes 4 size }
@@ -162,7 +162,7 @@ fn put_seqs(bytes: &mut Vec<u8>, seqs: &[u32])
     }
 }
 
-// Adds a Store record behind its gate, without its padding.
+// Adds a Store record after its gate, without its padding.
 #[tactic(auto, unfolding(journal_layout::specs::Record::plain, journal_layout::specs::Record::body))]
 fn put_store(bytes: &mut Vec<u8>, seq: u32, entry: &Entry, pinned: bool, size: u64)
     requires size { size ≡ record_size (Store (case_of entry.now)) }
@@ -178,7 +178,7 @@ fn put_store(bytes: &mut Vec<u8>, seq: u32, entry: &Entry, pinned: bool, size: u
     put(bytes, entry.name.as_slice());
 }
 
-/// A Store record behind its gate, and the closed gate after it: as many bytes as the record has.
+/// A Store record without its gate, and the closed gate after it: as many bytes as the record has.
 pub fn store_record(
     alloc: Global,
     seq: u32,
@@ -229,7 +229,7 @@ pub fn spell_store(
     Ok(())
 }
 
-// Adds a Drop record behind its gate, without its padding.
+// Adds a Drop record after its gate, without its padding.
 #[tactic(auto, unfolding(journal_layout::specs::Record::plain, journal_layout::specs::Record::body, journal_layout::specs::Record::seq_bytes))]
 fn put_drop(bytes: &mut Vec<u8>, seqs: &[u32], size: u64)
     requires size { size ≡ record_size (Drop seqs.now) }
@@ -243,7 +243,7 @@ fn put_drop(bytes: &mut Vec<u8>, seqs: &[u32], size: u64)
     put_seqs(bytes, seqs);
 }
 
-/// A Drop record behind its gate, and the closed gate after it.
+/// A Drop record without its gate, and the closed gate after it.
 pub fn drop_record(alloc: Global, seqs: &[u32], size: u64) -> Result<Vec<u8>, AllocError>
     requires size { size ≡ record_size (Drop seqs.now) }
     requires small { size ≤ 16777216 }
@@ -268,7 +268,7 @@ fn label_facts(seq: u32, label_length: u16) -> [u8; 8]
     bytes
 }
 
-// Adds a Label record behind its gate, without its padding.
+// Adds a Label record after its gate, without its padding.
 #[tactic(auto, unfolding(journal_layout::specs::Record::plain, journal_layout::specs::Record::body))]
 fn put_label(bytes: &mut Vec<u8>, seq: u32, label: &[u8], size: u64)
     requires short { length label.now ≤ 64 }
@@ -282,7 +282,7 @@ fn put_label(bytes: &mut Vec<u8>, seq: u32, label: &[u8], size: u64)
     put(bytes, label);
 }
 
-/// A Label record behind its gate, and the closed gate after it.
+/// A Label record without its gate, and the closed gate after it.
 pub fn label_record(alloc: Global, seq: u32, label: &[u8], size: u64) -> Result<Vec<u8>, AllocError>
     requires short { length label.now ≤ 64 }
     requires size { size ≡ record_size (Label seq label.now) }
@@ -316,7 +316,7 @@ pub fn spell_label(bytes: &mut Vec<u8>, seq: u32, label: &[u8]) -> Result<(), Al
 /// The bytes of a Pin record.
 pub const PIN_SIZE: u64 = 16;
 
-/// A Pin record behind its gate, and the closed gate after it. It takes no memory.
+/// A Pin record without its gate, and the closed gate after it. It takes no memory.
 #[tactic(auto, unfolding(journal_layout::specs::Record::behind_gate, journal_layout::specs::Record::plain, journal_layout::specs::Record::body, journal_layout::specs::Layout::number_bytes))]
 pub fn pin_record(seq: u32, flag: bool) -> [u8; 16]
     ensures record { result ≡ behind_gate (Pin seq flag) ++ 0 ∷ [] }
@@ -330,7 +330,7 @@ pub fn pin_record(seq: u32, flag: bool) -> [u8; 16]
     bytes
 }
 
-/// A Next record, its gate open, and the closed gate behind it. It takes no memory.
+/// A Next record, its gate open, and the closed gate after it. It takes no memory.
 #[tactic(auto, unfolding(journal_layout::specs::Record::behind_gate, journal_layout::specs::Record::plain, journal_layout::specs::Record::body, journal_layout::specs::Layout::number_bytes))]
 pub fn next_record(next: u64) -> [u8; 17]
     ensures record { result ≡ spelling (Next next) ++ 0 ∷ [] }

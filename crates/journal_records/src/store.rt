@@ -15,7 +15,7 @@ use crate::{damaged, rounded, u16_at, u32_at, u64_at};
 use extents::RunList;
 use journal_layout::{Entry, Field, Kind, Label, Name, OpenFault};
 
-// Whether the length is not that of the runs and the name. It is where a record is too short for their numbers.
+// Whether the length is not that of the runs and the name: true also if the record is too short to hold their numbers.
 fn is_bad_count(rest: &[u8]) -> bool
     requires { IsHeaded rest.now }
     ensures { result ≡ not (rounded (48 + 8 * run_count_at rest.now + name_length_at rest.now) == length_at rest.now) }

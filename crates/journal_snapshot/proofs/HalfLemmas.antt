@@ -21,7 +21,7 @@ use Rattle.journal_snapshot.specs.HalfLaws.{header_length}
 use Rattle.journal_snapshot.specs.HoldLaws.{read_place}
 use Rattle.journal_snapshot.specs.ChangeLaws.{spelled, spelled_both, spelled_staying, spelled_added, sizes_spelled}
 
--- the front of a part, and what stands behind it
+-- the front of a part, and what follows it
 part_front : (b : List ℕ) (p : ℕ) (xs ys : List ℕ) → part b p (length (xs ++ ys)) ≡ xs ++ ys → part b p (length xs) ≡ xs
 part_front b p xs ys is =
     let e : p + 0 ≡ p = omega arith in

@@ -24,7 +24,7 @@ pub on_ok : {T E : Type 0} (r : Result T E) (P : Type 0) → P → OnOk r P
 on_ok (Ok x) P is = is
 on_ok (Err e) P is = tt
 
--- the gate, and then what stands behind it
+-- the gate, and then what follows it
 pub half_filled : {D : Type 0} (g : disk.Ghosts D) (old mid new : D) (start n : ℕ) → Fills g old mid start 1 → Fills g mid new (start + 1) n → Fills g old new start (1 + n)
 half_filled g old mid new start n first second =
     fills_then g start (1 + n) old mid new (fills_wider g start 1 start (1 + n) old mid (omega arith) (omega arith) first) (fills_wider g (start + 1) n start (1 + n) mid new (omega arith) (omega arith) second)
@@ -36,7 +36,7 @@ module _ {D : Type 0} (g : disk.Ghosts D) (s : Standing) (f : Folded) (target : 
   high : target.start + 1 + length (half_bytes target ch es) ≤ other_start s + half_length s.shape
   high = omega (arith, is.place, bytes_within s f target ch es is)
 
-  -- until the half is filled a crash leaves what stood before
+  -- until the half is filled a crash leaves what was there before
   pub filled_moments : (old mid new : D) → IsTrue (g.is_honest mid) → LeavesOnly g old mid (λ c. Stands c s) → StandsInOtherHalf g mid s → Fills g mid new (target.start + 1) (length (half_bytes target ch es))
       → LeavesOnly g old new (λ c. Stands c s ⊎ Stands c (rewritten s f))
   filled_moments old mid new honest first snapshot_end fills =

@@ -1,4 +1,4 @@
--- What becomes of the cases of a journal by a change.
+-- What a change makes of the cases of a journal.
 use Rattle.std.specs.Prelude.{ℕ, ◌+◌, Bool, List, [], ◌∷◌, if◌then◌else◌, ◌==◌, Option, Some, None}
 use Rattle.std.specs.List.{flat_map}
 use Rattle.journal_layout.specs.Case.{Case, case_of, numbered}
@@ -18,7 +18,7 @@ changed (change.Pin seq flag) f = after (Pin seq flag) f
 changed (change.Label seq label) f = after (Label seq label.now.items) f
 changed change.Upgrade f = in_version_two f
 
--- the numbers of those that go rise
+-- the numbers of those that end rise
 abbrev pub IsOrdered : Change → Type 0
 IsOrdered (change.Drop seqs) = Rise 0 seqs.now
 IsOrdered _ = Unit {0}

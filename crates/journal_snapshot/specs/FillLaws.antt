@@ -47,7 +47,7 @@ module _ {D : Type 0} (g : disk.Ghosts D) (at n : ℕ) where
     size = fills.size;
   }
 
--- what stands there once more bytes are written behind those that stand there
+-- what is there once more bytes are written after those that are there
 pub part_grown : (b c : List ℕ) (p n m : ℕ) (xs ys : List ℕ) → SameOutside (p + n) m b c → part b p n ≡ xs → part c (p + n) m ≡ ys → part c p (n + m) ≡ xs ++ ys
 part_grown b c p n m xs ys same first second =
     part_split c p n m

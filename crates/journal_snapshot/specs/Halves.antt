@@ -1,4 +1,4 @@
--- What stands in a half behind its gate, once a journal is written anew into it.
+-- What a half holds after its gate, once a journal is written anew into it.
 use Rattle.std.specs.Prelude.{◌≡◌, ℕ, ◌+◌, List, [], ◌∷◌, ◌++◌, map}
 use Rattle.journal_layout.specs.declared.entry.Entry.{Entry}
 use Rattle.journal_layout.specs.Layout.{half_header}
@@ -12,7 +12,7 @@ use Rattle.journal_snapshot.specs.declared.target.Target.{Target}
 use Rattle.journal_snapshot.specs.Changing.{staying, added}
 use Rattle.journal_snapshot.specs.Writing.{written_entries, written_added}
 
--- the header behind the gate, the records of the cases, that of the next number, and a closed gate
+-- the header after the gate, the records of the cases, that of the next number, and a closed gate
 abbrev pub half_bytes : Target → Change → List Entry → List ℕ
 half_bytes target ch es = ((half_header target.version target.generation ++ written_entries ch es) ++ written_added ch) ++ (spelling (Next target.next) ++ 0 ∷ [])
 

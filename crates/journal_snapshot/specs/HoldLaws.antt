@@ -1,4 +1,4 @@
--- What a disk stands for while the other half of its journal is written.
+-- What a disk encodes while the other half of its journal is written.
 use Rattle.std.proofs.Common.{◌≡◌, ◌≢◌, ◌⊎◌, inl, inr, ⊎_elim, ℕ, ◌+◌, ◌≤◌, List, [], ◌∷◌, length, get_or, slice_index, IsTrue, Result, Ok, Err, OnOk, refl, sym, ap, ◌∙◌, subst, arith}
 use Rattle.std.proofs.lemmas.Bool.{cases_eq}
 use Rattle.disk_model.specs.Disk.{ChangedIn}
@@ -42,7 +42,7 @@ same_gate s b c same =
     ∙ ap (λ (l : List ℕ). get_or l 0 0) (other_header s b c same)
     ∙ part_place b (other_start s) 32 0 0 (omega arith) ∙ ap (slice_index b) e
 
--- a change behind the gate of the other half, which is not open, leaves what stands
+-- a change after the gate of the other half, which is not open, leaves what is encoded
 module _ (s : Standing) (at n : ℕ) (low : other_start s + 1 ≤ at) (high : at + n ≤ other_start s + half_length s.shape) where
   pub gate_apart : (d c : List ℕ) → SameOutside at n d c → slice_index d (other_start s) ≢ 165 → slice_index c (other_start s) ≢ 165
   gate_apart d c same closed opened = closed (sym (place_before at n d c same (other_start s) 0 (omega arith)) ∙ opened)
@@ -107,7 +107,7 @@ pub on_ok : {T E : Type 0} → (r : Result T E) (P Q : Type 0) → (P → Q) →
 on_ok (Ok x) P Q implies p = implies p
 on_ok (Err e) P Q implies p = p
 
--- a byte that is written stands there
+-- a byte that is written is there
 pub written_place : (b : List ℕ) (at x : ℕ) → at + 1 ≤ length b → slice_index (overwritten b at (x ∷ [])) at ≡ x
 written_place b at x within =
     let e : at + 0 ≡ at = omega arith in
@@ -153,7 +153,7 @@ closed_in_other_half g s new b stands within settled is =
       closed = λ c may. subst (λ (x : List ℕ). slice_index x (other_start s) ≢ 165) (sym (settled c may ∙ is)) shut;
     }
 
--- a byte that is read is the one that stands there
+-- a byte that is read is the one that is there
 pub read_place : (b : List ℕ) (at : ℕ) (bytes : List ℕ) → bytes ≡ part b at 1 → slice_index bytes 0 ≡ slice_index b at
 read_place b at bytes is =
     let e : at + 0 ≡ at = omega arith in

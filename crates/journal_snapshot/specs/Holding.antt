@@ -16,19 +16,17 @@ pub record SameHeaders (s : Shape) (b c : List ℕ) : Type 0 where
   pub first : part c (half_start s A) 32 ≡ part b (half_start s A) 32
   pub second : part c (half_start s B) 32 ≡ part b (half_start s B) 32
 
--- Every list that a crash now may leave stands for what the journal stands for, and has the headers that reads give.
+-- Every list that a crash now may leave encodes the journal, and has the headers that reads give.
 pub record Holds {D : Type 0} (g : disk.Ghosts D) (d : D) (s : Standing) : Type 0 where
   pub stands : (c : List ℕ) → g.may_leave d c → Stands c s
   pub headers : (c : List ℕ) → g.may_leave d c → SameHeaders s.shape (g.seen d) c
 
--- Every list that a crash now may leave stands for what the journal stands for, and the gate of its other half is not
--- open in it, so that what else that half holds is not looked at.
+-- Every list that a crash now may leave encodes the journal, and the gate of its other half is not open in it, so that what else that half holds is not looked at.
 pub record StandsInOtherHalf {D : Type 0} (g : disk.Ghosts D) (d : D) (s : Standing) : Type 0 where
   pub stands : (c : List ℕ) → g.may_leave d c → Stands c s
   pub closed : (c : List ℕ) → g.may_leave d c → slice_index c (other_start s) ≢ 165
 
--- A crash leaves what reads give: what the journal stands for, with all of a half that says this behind the other gate,
--- which is not open.
+-- A crash leaves what reads give: it encodes the journal, and a half holds all that says this after the other gate, which is not open.
 pub record IsReady {D : Type 0} (g : disk.Ghosts D) (d : D) (s : Standing) (f : Folded) : Type 0 where
   pub settled : IsSettled g d
   pub stands : Stands (g.seen d) s

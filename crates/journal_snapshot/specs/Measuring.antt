@@ -23,7 +23,7 @@ snapshot_bytes ch es = 48 + length (written_entries ch es) + length (written_add
 abbrev pub IsLeast : ℕ → Change → List Entry → Type 0
 IsLeast largest ch es = (n : ℕ) → AreAtMost n ch es → length (written_added ch) ≤ n → largest ≤ n
 
--- They fit into a half of `half` bytes with the gate behind them, and the longest records of a case are as long as that;
+-- They fit into a half of `half` bytes with the gate after them, and the longest records of a case are as long as that;
 -- or they don't.
 abbrev pub IsMeasure : ℕ → Change → List Entry → Option Measure → Type 0
 IsMeasure half ch es (Some m) =

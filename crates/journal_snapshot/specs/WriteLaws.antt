@@ -1,4 +1,4 @@
--- How writes behind one another are put together.
+-- How writes one after another are put together.
 use Rattle.std.proofs.Common.{◌≡◌, ◌∙◌, ◌+◌, ◌≤◌, ◌++◌, ℕ, List, [], length, IsTrue, subst, sym, ap, arith, length-append, Result, Ok, Err}
 use Rattle.std.specs.Result.{IsErr}
 use Rattle.disk_model.specs.Places.{part}
@@ -17,7 +17,7 @@ module _ {D : Type 0} (g : disk.Ghosts D) where
   pub writes_nothing : (old : D) (at : ℕ) → ((c : List ℕ) → g.left_since old (g.clock old) c → g.may_leave old c) → Writes g old old at [] (Ok at)
   writes_nothing old at only_now = record { fills = fills_nothing g at 0 old only_now; there = λ honest. part_nothing (g.seen old) at; end = omega arith }
 
-  -- two runs in ranges behind one another
+  -- two runs in ranges one after the other
   pub fills_both : (at n m : ℕ) (old mid new : D) → Fills g old mid at n → Fills g mid new (at + n) m → Fills g old new at (n + m)
   fills_both at n m old mid new first second =
       fills_then g at (n + m) old mid new (fills_wider g at n at (n + m) old mid (omega arith) (omega arith) first) (fills_wider g (at + n) m at (n + m) mid new (omega arith) (omega arith) second)

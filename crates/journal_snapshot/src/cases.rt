@@ -72,7 +72,7 @@ fn write_label<D: Disk>(
     write_text(disk, at, seq, label.as_slice(), buffer)
 }
 
-// Writes the records of a case: its Store record, and that of its label behind it.
+// Writes the records of a case: its Store record, and that of its label after it.
 fn write_case<D: Disk>(
     disk: &mut D,
     at: u64,

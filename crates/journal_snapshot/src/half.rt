@@ -1,4 +1,4 @@
-// All that stands in a half behind its gate, written in order.
+// All that a half holds after its gate, written in order.
 ghost use Rattle.std.specs.Prelude.{◌≡◌, ◌+◌, ◌≤◌, ◌++◌, ◌∷◌, [], length, vec_capacity, IsTrue, OnOk};
 ghost use Rattle.disk_model.specs.Disk.{HasCause};
 ghost use Rattle.disk_model.specs.Places.{part};
@@ -17,7 +17,7 @@ use disk_model::{Disk, DiskFault};
 use journal_layout::Entry;
 use journal_records::next_record;
 
-// A half's header behind its gate.
+// A half's header without its gate.
 #[tactic(auto, unfolding(journal_layout::specs::Layout::half_header, journal_layout::specs::Layout::number_bytes))]
 fn header(version: u32, generation: u64) -> [u8; 31]
     ensures bytes { result ≡ half_header version generation }
@@ -39,7 +39,7 @@ fn write_bytes<D: Disk>(disk: &mut D, at: u64, bytes: &[u8]) -> Result<u64, Disk
     Ok(at + bytes.len() as u64)
 }
 
-// Writes the header behind the gate, a record for each case, and one of the next number with a closed gate behind it.
+// Writes the header after the gate, a record for each case, and one of the next number with a closed gate after it.
 fn write_half<D: Disk>(
     disk: &mut D,
     target: Target,

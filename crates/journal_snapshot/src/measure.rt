@@ -13,7 +13,7 @@ use journal_records::case_size;
 pub struct Measure {
     /// The bytes of the header and the records.
     pub used: u64,
-    /// The bytes of the records of a case, of which it has the most.
+    /// The bytes of the records of that case whose records are longest.
     pub largest: u64,
 }
 
@@ -21,7 +21,7 @@ pub struct Measure {
 const LEAST: u64 = 48;
 
 impl Measure {
-    // With records of `size` bytes more; none where the gate behind them goes over the end of the half.
+    // With records of `size` bytes more; none where the gate after them passes the end of the half.
     fn with(self, size: u64, half: u64) -> Option<Measure>
         requires half { half ≤ 16777216 }
         requires in_half { self.used + 1 ≤ half }
@@ -69,8 +69,8 @@ impl Measure {
     }
 }
 
-/// Measures what a change makes of these cases; none where it does not fit into a half of `half` bytes with the gate
-/// behind it.
+/// Measures what a change makes of these cases; none where it does not fit into a half of `half` bytes with the gate after
+/// it.
 pub fn measured(entries: &[Entry], change: &Change, half: u64) -> Option<Measure>
     requires order { IsOrdered change.now }
     requires short { AreShort entries.now }

@@ -20,9 +20,9 @@ use crate::{Change, Target};
 use disk_model::{Disk, DiskFault};
 use journal_layout::Entry;
 
-/// Writes what a change makes of these cases into the half that is not taken, and takes it: closes that half's gate,
-/// writes its header and records behind it and makes them stable, and opens the gate. A crash at any moment leaves what
-/// stood before or what stands after. Memory: the buffer, which has room for each record.
+/// Writes what a change makes of these cases into the half that is not taken, and takes it: closes that half's gate, writes
+/// its header and records after it and makes them stable, and opens the gate. A crash at any moment leaves what was there
+/// before or what is there after. Memory: the buffer, which has room for each record.
 pub fn rewrite<D: Disk>(
     disk: &mut D,
     target: Target,
@@ -41,7 +41,7 @@ pub fn rewrite<D: Disk>(
     ensures taken { (s : Standing) (f : Folded) → IsWrittenAs s f target change.now entries.now → IsTrue (D.is_honest disk.old)
         → Holds D.Disk disk.old s → OnOk result (Holds D.Disk disk.new (rewritten s f)) }
     ensures fills { Fills D.Disk disk.old disk.new target.start (1 + length (half_bytes target change.now entries.now)) }
-    // Behind the gate it writes exactly the header, the records and the next gate, with zeros where the layout has zeros.
+    // After the gate it writes exactly the header, the records and the next gate, with zeros where the layout has zeros.
     ensures written { IsTrue (D.is_honest disk.old) → OnOk result (part (D.seen disk.new) (target.start + 1) (length (half_bytes target change.now entries.now)) ≡ half_bytes target change.now entries.now) }
     ensures cause { HasCause (D.failures disk.old) (D.failures disk.new) result }
 {

@@ -13,7 +13,7 @@ use disk_model::{Disk, DiskFault, write_stable};
 use journal_records::GATE_OPEN;
 
 /// Opens the gate of the half that begins at `start`, by one write that is made stable. Where that half is ready, a crash
-/// meanwhile leaves what stands for what stood before or for what the half says, and after `Ok` the latter.
+/// meanwhile leaves bytes that encode what was encoded before or what the half says, and after `Ok` the latter.
 pub(crate) fn take_half<D: Disk>(disk: &mut D, start: u64) -> Result<(), DiskFault>
     requires { start + 1 ≤ D.size disk.old }
     ensures any_moment { (s : Standing) (f : Folded) → start ≡ other_start s → IsTrue (D.is_honest disk.old)

@@ -35,7 +35,7 @@ pub fn holds(rt: &impl Abort, bytes: &[u8], at: usize, wanted: &[u8]) {
     assert_eq!(rt; found, Some(wanted), "at {at}");
 }
 
-// The superblock's front and half A's header; the first record, a closed gate behind it, and half B's.
+// The superblock's front and half A's header; the first record, a closed gate after it, and half B's.
 static BYTES: [(usize, &[u8]); 7] = [
     (0, &[0xa5, 0, 0, 0, 0, 0, 0, 0]),
     (8, b"COREKEEP"),

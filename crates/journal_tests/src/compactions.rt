@@ -7,7 +7,7 @@ use disk_model::{Disk, Fuse, MemDisk};
 use std::process::Abort;
 use std::test::Fail;
 
-// Half B's header with the second generation, the record of the next number 1, and a closed gate behind it.
+// Half B's header with the second generation, the record of the next number 1, and a closed gate after it.
 static ANEW: [(usize, &[u8]); 3] = [
     (8192, &[0xa5, 0, 0, 0, 1, 0, 0, 0, 2, 0, 0, 0, 0, 0, 0, 0]),
     (8224, &[0xa5, 4, 0, 0, 16, 0, 0, 0, 1, 0, 0, 0, 0, 0, 0, 0]),
@@ -95,7 +95,7 @@ fn room_is_made(rt: HostRuntime) -> Result<(), Fail> {
 // Half A's header with the third generation.
 const THIRD: [u8; 16] = [0xa5, 0, 0, 0, 1, 0, 0, 0, 3, 0, 0, 0, 0, 0, 0, 0];
 
-// Where a record has no room behind the others, the cases have it in the other half, as long as there are not too many.
+// Where a record has no room after the others, the other half takes the cases, as long as there are not too many.
 #[test]
 fn a_full_half_goes_on_in_the_other(rt: HostRuntime) -> Result<(), Fail> {
     let mut bench = filled(rt.alloc())?;

@@ -31,7 +31,7 @@ fn is_failed(rt: &(impl AllocGlobal + Abort), call: u64) -> Result<bool, Fail> {
     Ok(true)
 }
 
-// The same where the disk stops behind so many calls.
+// The same where the disk stops after so many calls.
 fn is_stopped(rt: &(impl AllocGlobal + Abort), limit: u64) -> Result<bool, Fail> {
     let mut disk = Fuse::new(MemDisk::new(rt.alloc(), 28_672)?, limit);
     let made = format(&mut disk, SHAPE);

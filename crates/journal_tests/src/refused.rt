@@ -1,4 +1,4 @@
-//! Calls that answer for want of memory. Run as they are these tests meet no refusal; `scripts/fail-alloc journal_tests refused::`
+//! Calls that are refused memory. Run as they are these tests meet no refusal; `scripts/fail-alloc journal_tests refused::`
 //! refuses each allocation in turn, and then a test that has met one ends in an error of its own.
 use crate::bench::{Bench, Step};
 use crate::states::Course;
@@ -9,7 +9,7 @@ use std::alloc::{AllocError, Global};
 use std::process::Abort;
 use std::test::Fail;
 
-/// The step is taken behind so many of the course, the second time where memory was refused: then the journal shows what it
+/// The step is taken after so many of the course, the second time where memory was refused: then the journal shows what it
 /// showed before. Answers whether it was refused.
 fn is_refused<D: Disk + Drop>(
     rt: &(impl AllocGlobal + Abort),

@@ -126,7 +126,7 @@ pub fn are_cases(entries: &[Entry], cases: &[(u32, &[u8], bool)]) -> bool {
     true
 }
 
-// Appends to a full half: a store, a pin and an end that write the journal anew, and a store that fits behind the records.
+// Appends to a full half: a store, a pin and an end that write the journal anew, and a store that fits after the records.
 static FULL_SCRIPT: [Step; 4] = [
     Step::Store(b"n64"),
     Step::Pin(3, true),

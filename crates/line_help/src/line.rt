@@ -12,6 +12,6 @@ pub struct LineHelp {
     pub reply: &'static str,
     /// Its words as an example.
     pub example: &'static str,
-    /// The reasons for which it is refused, beside BadLine.
+    /// The reasons for which it is refused, apart from BadLine.
     pub reasons: &'static str,
 }

@@ -107,7 +107,7 @@ stands : (space : Space) (a : ℕ) → Stands space a (place_at space a)
 unfolding place_at
 stands space a = placed_stands space a (decider space a) refl
 
--- one byte and those behind it
+-- one byte and those after it
 part_more : (b : List ℕ) (k m : ℕ) → k < length b → part b k (m + 1) ≡ get_or b k 0 ∷ part b (k + 1) m
 part_more b k m h =
     let more : m + 1 ≡ suc m = omega arith in

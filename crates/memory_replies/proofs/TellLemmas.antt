@@ -1,4 +1,4 @@
--- One text told behind the other.
+-- One text told after the other.
 use Rattle.std.proofs.Common.{◌≡◌, ℕ, List, [], ◌++◌, sym, append_assoc, ap, refl, ◌∙◌}
 use Rattle.std.proofs.lemmas.List.{append-nil}
 use Rattle.script_streams.specs.TellLaws.{tells_then, tells_as, tells_nothing}

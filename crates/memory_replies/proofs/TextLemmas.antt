@@ -13,7 +13,7 @@ use Rattle.memory_replies.specs.Texts.{content_bytes, strings_answer, text_line,
 use Rattle.memory_replies.proofs.PieceLemmas.{piece_bytes, pieces_are}
 use Rattle.memory_replies.proofs.ValueLemmas.{no_values, values_step}
 
--- the values of addresses, and those of the addresses behind them
+-- the values of addresses, and those of the addresses after them
 values_split : (space : Space) (m a n : ℕ) → values_between space a (m + n) ≡ values_between space a m ++ values_between space (a + m) n
 values_split space zero a n =
     let all : 0 + n ≡ n = omega arith in

@@ -8,7 +8,7 @@ one_first : (o : Option ℕ) (xs : List ℕ) → cons_option o xs ≡ value_list
 one_first None xs = refl
 one_first (Some x) xs = refl
 
--- the first value, and those behind it
+-- the first value, and those after it
 pub values_step : (space : Space) (a n : ℕ) → values_between space a (suc n) ≡ value_list (value_at space a) ++ values_between space (a + 1) n
 unfolding values_between
 values_step space a n = one_first (value_at space a) (filter_map (value_at space) (range_with_len (a + 1) n))

@@ -21,7 +21,7 @@ use Rattle.memory_replies.specs.Words.{hex_word}
 abbrev pub looked_up : Frame → Option ℕ
 looked_up f = if f.index == 0 then Some f.pc else (if f.pc == 0 then None else Some (f.pc - 1))
 
--- behind frame 0 stands the return address that its register holds
+-- frame 0 is followed by the return address that its register holds
 abbrev pub return_words : ℕ → Frame → List ℕ
 return_words ra f = if f.index == 0 then codes " ra " ++ hexadecimal ra else []
 

@@ -9,11 +9,11 @@ use Rattle.address_space.specs.Pieces.{PieceView, pieces_of}
 use Rattle.memory_replies.specs.Memory.{memory_of}
 use Rattle.memory_replies.specs.Words.{hex_word, spot_words}
 
--- row i of bytes that stand from address a on: its address, a word, and the 16 bytes from place 16 i on, or those that are left
+-- row i of bytes that begin at address a: its address, a word, and the 16 bytes from place 16 i on, or those that are left
 abbrev pub row_line : List ℕ → ℕ → List ℕ → ℕ → List ℕ
 row_line word a bytes i = hex_word (a + 16 * i) ++ (word ++ (hex_of (part bytes (16 * i) 16) ++ 10 ∷ []))
 
--- the rows of bytes that stand from address a on
+-- the rows of bytes that begin at address a
 unfoldable pub row_lines : List ℕ → ℕ → List ℕ → List ℕ
 row_lines word a bytes = flat_map (row_line word a bytes) (range_with_len 0 ((length bytes + 15) / 16))
 

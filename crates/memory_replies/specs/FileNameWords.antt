@@ -1,4 +1,4 @@
--- What the code's names of mapped files stand for.
+-- What the code's names of mapped files mean.
 use Rattle.std.specs.Prelude.{◌≡◌, ℕ, Bool, List}
 use Rattle.std.specs.Borrow.{Bor}
 use Rattle.std.specs.BTreeSet.{BTreeSet, contains_by}

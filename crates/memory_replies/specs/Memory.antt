@@ -1,4 +1,4 @@
--- The memory of a core's process, with the executables that stand for its mapped files.
+-- The memory of a core's process, with the executables that are attached for its mapped files.
 use Rattle.std.specs.Prelude.{ℕ, Bool, List, [], filter, Option, None, Some, is_none}
 use Rattle.std.specs.List.{list_any}
 use Rattle.std.specs.Str.{bytes_eq}

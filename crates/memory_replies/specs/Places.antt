@@ -1,4 +1,4 @@
--- Where a pc is: in which function, by the symbols of the executables that stand for mapped files.
+-- Where a pc is: in which function, by the symbols of the executables that are attached for mapped files.
 use Rattle.std.specs.Prelude.{ℕ, ◌+◌, ◌-◌, if◌then◌else◌, Bool, List, ◌++◌, filter, find, Option, None, Some, is_none, codes}
 use Rattle.std.specs.Option.{option_and_then, option_map}
 use Rattle.script_words.specs.Printing.{shown, hexadecimal}
@@ -8,12 +8,12 @@ use Rattle.symbols.specs.Names.{SymbolView, symbol_in}
 use Rattle.symbols.specs.Offsets.{address_of}
 use Rattle.memory_replies.specs.Symbol.{executable_fault}
 
--- where a pc is: how far behind the value of a function
+-- where a pc is: how far after the value of a function
 pub record PlaceView : Type 0 where
   pub name : List ℕ
   pub distance : ℕ
 
--- how far the pc, which is d behind the address that was looked up, is behind the function's value
+-- how far the pc, which is d after the address that was looked up, is after the function's value
 abbrev pub place_by : ℕ → ℕ → SymbolView → PlaceView
 place_by d v s = record { name = s.name; distance = v + d - s.value }
 

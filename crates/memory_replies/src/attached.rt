@@ -1,4 +1,4 @@
-// A core's memory, with the executables that stand for its mapped files.
+// A core's memory, with the executables that are attached for its mapped files.
 ghost use Rattle.std.specs.Prelude.{◌≡◌, ◌↔◌, ◌++◌, ◌∷◌, [], IfOk, IsTrue, OnOk, map};
 ghost use Rattle.address_space.specs.Disjoint.{AreDisjoint, AreFilesDisjoint};
 ghost use Rattle.address_space.specs.SpaceWords.{core_of, space_of};

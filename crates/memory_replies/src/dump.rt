@@ -35,7 +35,7 @@ const MOST_SHOWN: u64 = 65536;
 /// How many bytes a row has.
 const ROW: u64 = 16;
 
-/// Tells the address of row `i` of bytes that stand from an address on, and a space.
+/// Tells the address of row `i` of bytes that begin at an address, and a space.
 #[tactic(auto, unfolding(crate::specs::Words::hex_word))]
 fn tell_row_address<O: Output>(reply: &mut Reply<'_, O>, first: u64, i: u64)
     ensures { TellsText (telling O.Output reply.old reply.new) (hex_word (first + 16 * i)) }
@@ -44,7 +44,7 @@ fn tell_row_address<O: Output>(reply: &mut Reply<'_, O>, first: u64, i: u64)
     reply.tell(b" ");
 }
 
-/// Tells row `i` of bytes that stand from an address on.
+/// Tells row `i` of bytes that begin at an address.
 fn tell_row<O: Output>(reply: &mut Reply<'_, O>, word: &[u8], first: u64, bytes: &[u8], i: u64)
     requires { 16 * i < 2 ^ 64 }
     ensures { TellsText (telling O.Output reply.old reply.new)
@@ -56,7 +56,7 @@ fn tell_row<O: Output>(reply: &mut Reply<'_, O>, word: &[u8], first: u64, bytes:
     reply.tell(b"\n");
 }
 
-/// Tells bytes that stand from an address on, 16 a row, with a word in each.
+/// Tells bytes that begin at an address, 16 a row, with a word in each.
 #[tactic(auto, unfolding(crate::specs::Dump::row_lines))]
 fn tell_rows<O: Output>(reply: &mut Reply<'_, O>, word: &[u8], first: u64, bytes: &[u8])
     ensures { TellsText (telling O.Output reply.old reply.new)
@@ -142,13 +142,13 @@ pub fn is_out_of_range(first: u64, length: u64) -> bool
     length > MOST_SHOWN || u128::from(first) + u128::from(length) > 1 << 64
 }
 
-/// Tells what stands at `length` addresses from `first` on, piece by piece in rising order: `ADDR HEX` for each 16 bytes,
-/// `ADDR file HEX` for each 16 that an attached executable has, `ADDR notdumped LEN OFFSET NAME`, `ADDR cut LEN` and
-/// `ADDR unmapped LEN`. A range that ends past the last address, or has over 65,536 addresses, is answered by `no Range`.
-/// Says what became of it.
+/// Tells what is at `length` addresses from `first` on, piece by piece in rising order: `ADDR HEX` for each 16 bytes, `ADDR
+/// file HEX` for each 16 that an attached executable has, `ADDR notdumped LEN OFFSET NAME`, `ADDR cut LEN` and `ADDR
+/// unmapped LEN`. A range that ends past the last address, or has over 65,536 addresses, is answered by `no Range`. Says
+/// what became of it.
 ///
-/// The core may be the first bytes alone of an image. It is told what any image shows that begins so, and of which the window has
-/// all bytes that stand in the range.
+/// The core may be the first bytes alone of an image. It is told what any image shows that begins so, and of which the
+/// window has all bytes of the range.
 pub fn tell_dump<O: Output>(
     alloc: Global,
     reply: &mut Reply<'_, O>,

@@ -11,7 +11,7 @@ use image_replies::CoreImage;
 use std::alloc::{AllocError, Global};
 use std::collections::BTreeSet;
 
-/// The names that a core's NT_FILE has, looked up in a number of steps that is the logarithm of theirs.
+/// The names that a core's NT_FILE has, looked up in logarithmic time.
 #[derive(Drop)]
 pub struct FileNames<'a> {
     pub(crate) names: BTreeSet<&'a [u8]>,

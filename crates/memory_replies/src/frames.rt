@@ -41,7 +41,7 @@ fn looked_up(frame: Frame) -> Option<u64>
     }
 }
 
-/// Tells what the return address register holds, behind frame 0.
+/// Tells what the return address register holds, after frame 0.
 fn tell_return<O: Output>(reply: &mut Reply<'_, O>, ra: u64, frame: Frame)
     ensures { TellsText (telling O.Output reply.old reply.new) (spec.return_words ra frame) }
 {
@@ -168,9 +168,8 @@ fn stack_in<'w>(core: &CoreImage<'_>, window: Window<'w>) -> Option<&'w [u8]>
 }
 
 /// Tells the frames of a core's thread, by its number among the threads: `0 PC WHERE fp h ra h`, then `I PC WHERE fp h` for
-/// each other, and `stop REASON`. WHERE is `NAME+h` by the symbols of the executable that stands for the mapped file, or
-/// `?`. A core with fewer threads is answered by `no NoThread`.
-/// Says what became of it.
+/// each other, and `stop REASON`. WHERE is `NAME+h` by the symbols of the executable that is attached for the mapped file,
+/// or `?`. A core with fewer threads is answered by `no NoThread`. Says what became of it.
 ///
 /// The core may be the first bytes alone of an image. It is told what any image shows that begins so, and whose frames are known by
 /// the window (`has_frames`).

@@ -1,6 +1,6 @@
 //! The answers to the lines of a script that ask for a process's memory: slices in, text out.
 //!
-//! A core is a [`image_replies::CoreImage`]. The executables that stand for its mapped files are handed over as
+//! A core is a [`image_replies::CoreImage`]. The executables for its mapped files are handed over as
 //! [`address_space::Attached`] images, in one order; those that pass the checks of their headers are attached.
 #![tactic(auto)]
 

@@ -34,7 +34,7 @@ fn tell_rights<O: Output>(reply: &mut Reply<'_, O>, flags: u32)
     reply.tell(flag_letter(flags, 1, b"x"));
 }
 
-/// Tells the address behind the last of `count` addresses from one on, which may be 2^64, and a space.
+/// Tells the address after the last of `count` addresses from one on, which may be 2^64, and a space.
 #[tactic(auto, unfolding(crate::specs::Words::hex_word))]
 fn tell_past<O: Output>(reply: &mut Reply<'_, O>, start: u64, count: u64)
     ensures { TellsText (telling O.Output reply.old reply.new) (hex_word (start + count)) }
@@ -68,8 +68,8 @@ fn tell_mappings<O: Output>(reply: &mut Reply<'_, O>, space: &AddressSpace<'_>)
     }
 }
 
-/// Tells the mappings of a core: `START PAST RWX FILESZ OFFSET NAME` for each PT_LOAD, in table order. It is slower
-/// where there is no memory for tables of the segments and mapped files, and no reply tells that.
+/// Tells the mappings of a core: `START PAST RWX FILESZ OFFSET NAME` for each PT_LOAD, in table order. Without memory for
+/// tables of the segments and mapped files it is slower, and no reply tells that.
 #[tactic(auto, unfolding(crate::specs::Maps::maps_answer))]
 pub fn tell_maps<O: Output>(alloc: Global, reply: &mut Reply<'_, O>, core: &CoreImage<'_>)
     ensures tells { TellsText (telling O.Output reply.old reply.new) (reply_of (spec.maps_answer (core_bytes core.now))) }

@@ -19,7 +19,7 @@ use symbols::vaddr_of_offset;
 pub(crate) struct Location<'a> {
     /// The function's name.
     pub name: &'a [u8],
-    /// How many bytes it is behind the function's value.
+    /// How many bytes it is after the function's value.
     pub distance: u128,
 }
 
@@ -30,7 +30,7 @@ fn spot_at<'a>(space: &AddressSpace<'a>, address: u64) -> Option<FileSpot<'a>>
     space.spot(address)
 }
 
-/// The function at an offset of an executable, of which a pc is `behind` bytes behind.
+/// The function at an offset of an executable, where a pc is `behind` bytes after that offset.
 fn place_in<'a>(image: &SymbolizedExecutable<'a>, offset: u64, behind: u64) -> Option<Location<'a>>
     ensures { option_map place_view result ≡ spec.place_in behind offset (named_view image.now) }
 {
@@ -87,7 +87,7 @@ fn tell_place<O: Output>(reply: &mut Reply<'_, O>, place: Option<Location<'_>>)
     }
 }
 
-/// Tells where a pc is: `NAME+h`, how far it is behind the value of the function at the address that is looked up for it; or `?`, if
+/// Tells where a pc is: `NAME+h`, how far it is after the value of the function at the address that is looked up for it; or `?`, if
 /// no address is looked up or its function is not known.
 pub fn tell_where<O: Output>(
     reply: &mut Reply<'_, O>,

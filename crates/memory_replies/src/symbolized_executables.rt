@@ -58,7 +58,7 @@ impl<'a> SymbolizedExecutables<'a> {
         }
     }
 
-    /// Puts one behind the others. The error is that there is no memory.
+    /// Puts one after the others. The error is that there is no memory.
     fn push(&mut self, image: SymbolizedExecutable<'a>) -> Result<(), AllocError>
         ensures { OnOk result (map named_view self.new.list.items
             ≡ map named_view self.old.list.items ++ named_view image.entry ∷ []) }
@@ -95,7 +95,7 @@ impl<'a> SymbolizedExecutables<'a> {
         self.list.get(number)
     }
 
-    /// The first executable that stands for the file of that name.
+    /// The first executable that is attached for the file of that name.
     pub(crate) fn named(&self, name: &[u8]) -> Option<&SymbolizedExecutable<'a>>
         ensures { option_map (λ image. named_view image.now) result
             ≡ find (is_named name.now) (map named_view self.now.list.items) }

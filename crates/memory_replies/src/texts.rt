@@ -43,7 +43,7 @@ fn tell_alone<O: Output>(reply: &mut Reply<'_, O>, value: Option<u8>)
     }
 }
 
-/// Tells how the bytes of a piece print, one behind the other.
+/// Tells how the bytes of a piece print, one after the other.
 fn tell_piece<O: Output>(reply: &mut Reply<'_, O>, kind: PieceKind<'_>)
     ensures { TellsText (telling O.Output reply.old reply.new)
         (flat_map shown_byte (spec.content_bytes (kind_view kind.entry))) }
@@ -57,7 +57,7 @@ fn tell_piece<O: Output>(reply: &mut Reply<'_, O>, kind: PieceKind<'_>)
     }
 }
 
-/// Tells how the values of addresses print, one behind the other, where their number is one of 64 bits.
+/// Tells how the values of addresses print, one after the other, where their number is one of 64 bits.
 #[tactic(auto, using(crate::proofs::TellLemmas::up_to_start))]
 fn tell_pieces<O: Output>(
     reply: &mut Reply<'_, O>,

@@ -12,7 +12,7 @@ use Rattle.name_template.specs.declared.template.NameFault.TheVariants.{Empty, T
 abbrev pub without_slash : ℕ → ℕ
 without_slash c = if c == 47 then 33 else c
 
--- what a letter stands for. Any other letter stands for nothing: `%f`, `%F` and `%C` too.
+-- the text of a letter; any other letter has none: `%f`, `%F` and `%C` too
 abbrev pub letter_text : Facts → ℕ → List ℕ
 letter_text facts c =
     if c == 37 then 37 ∷ []  -- %%: a percent
@@ -31,7 +31,7 @@ letter_text facts c =
     else (if c == 117 then decimal facts.uid  -- %u: the real user
     else [])))))))))))))
 
--- a lone percent stands for nothing, and any other byte for itself
+-- a lone percent gives no text, and any other byte itself
 abbrev pub part_text : Facts → Part → List ℕ
 part_text facts (Letter c) = letter_text facts c
 part_text facts Lone = []

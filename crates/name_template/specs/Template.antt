@@ -27,7 +27,7 @@ begins_with_pipe (c ∷ cs) otherwise = if c == 124 then Some Pipe else otherwis
 abbrev pub template_fault : List ℕ → Option TemplateFault
 template_fault text = begins_with_pipe text (if nat_lt 127 (length text) then Some TemplateTooLong else None)
 
--- parts that can stand behind one another: a lone percent stands at the end, and no other percent is a plain byte
+-- parts that can follow one another: a lone percent is the last, and no other percent is a plain byte
 abbrev pub AreParts : List Part → Type 0
 AreParts [] = Unit {0}
 AreParts (Letter c ∷ parts) = AreParts parts

@@ -1,4 +1,4 @@
-//! What a template's letters stand for.
+//! What a template's letters tell of.
 
 /// What is known of a process that dumps core (core(5), "Naming of core dump files").
 #[derive(Clone, Copy)]

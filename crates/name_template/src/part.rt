@@ -13,7 +13,7 @@ pub enum Part {
     Plain(u8),
 }
 
-// The first part of a template, and the template behind it.
+// The first part of a template, and the template after it.
 pub(crate) fn next_part(template: &[u8]) -> Option<(Part, &[u8])>
     ensures part { MatchOption result (parts_of template.now ≡ [])
         (λ found. parts_of template.now ≡ found.0 ∷ parts_of found.1.now) }

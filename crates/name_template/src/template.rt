@@ -106,7 +106,7 @@ fn shows_pid_with(shown: bool, part: Part) -> bool
     }
 }
 
-// A text goes on by what a part stands for.
+// Appends to a text what a part gives.
 fn add_part(text: &mut NameText, facts: &Facts<'_>, part: Part)
     ensures { (so_far : List ℕ) → KeepsText so_far text.old → KeepsText (so_far ++ part_text facts.now part) text.new }
 {
@@ -117,7 +117,7 @@ fn add_part(text: &mut NameText, facts: &Facts<'_>, part: Part)
     }
 }
 
-// A text goes on by what a letter stands for.
+// Appends to a text what a letter gives.
 fn add_letter(text: &mut NameText, facts: &Facts<'_>, letter: u8)
     ensures { (so_far : List ℕ) → KeepsText so_far text.old → KeepsText (so_far ++ letter_text facts.now letter) text.new }
 {

@@ -4,7 +4,7 @@ ghost use Rattle.std.specs.Prelude.{◌≡◌, ◌<◌, ◌≤◌, length, take}
 use arrayvec::ArrayVec;
 use itoa::Buffer;
 
-// A text of any length, of which no more is kept than shows whether it is a name.
+// A text of any length. No more of it is kept than shows whether it is a name.
 #[derive(Drop)]
 pub(crate) struct NameText {
     pub(crate) front: ArrayVec<u8, 129>,
@@ -24,7 +24,7 @@ impl NameText {
         }
     }
 
-    // The text goes on.
+    // Appends a text.
     pub(crate) fn add(&mut self, piece: &[u8])
         ensures { (text : List ℕ) → KeepsText text self.old → KeepsText (text ++ piece.now) self.new }
     {
@@ -32,7 +32,7 @@ impl NameText {
         let _ = self.front.try_extend_from_slice(front_of(piece, room));
     }
 
-    // The text goes on by a number in decimal.
+    // Appends a number in decimal.
     pub(crate) fn add_number(&mut self, number: u64)
         ensures { (text : List ℕ) → KeepsText text self.old → KeepsText (text ++ decimal number) self.new }
     {
@@ -40,7 +40,7 @@ impl NameText {
         self.add(buffer.format(number).as_bytes());
     }
 
-    // The text goes on by a path, each `/` of it as `!`.
+    // Appends a path, each `/` of it as `!`.
     pub(crate) fn add_path(&mut self, path: &[u8])
         ensures { (text : List ℕ) → KeepsText text self.old → KeepsText (text ++ map without_slash path.now) self.new }
     {

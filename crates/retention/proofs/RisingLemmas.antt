@@ -1,4 +1,4 @@
--- The numbers of what goes rise, as those of all cases do.
+-- The numbers of what is dropped rise, as those of all cases do.
 use Rattle.std.proofs.Common.{◌≡◌, ℕ, zero, suc, ◌+◌, ◌<◌, true, false, List, [], ◌∷◌, length, get_or, map, sym, arith, subst, ⊎_elim}
 use Rattle.std.proofs.lemmas.Bool.{cases_Bool}
 use Rattle.std.proofs.lemmas.List.Kept.{AllPairs-from_increasing}
@@ -30,7 +30,7 @@ increasing_from_rises (x ∷ []) rises k lt = absurd (omega arith)
 increasing_from_rises (x ∷ y ∷ ys) rises zero lt = rises.0.0
 increasing_from_rises (x ∷ y ∷ ys) rises (suc k) lt = increasing_from_rises (y ∷ ys) rises.1 k (omega arith)
 
--- what goes is above what all cases are above
+-- what is dropped is above what all cases are above
 goes_above : (policy : Policy) (x n : ℕ) (cases : List Brief) → AllByRecursion (λ y. x < y) (map seq_of cases) → AllByRecursion (λ y. x < y) (map seq_of (goes policy n cases))
 goes_above policy x n [] above = tt
 goes_above policy x zero (c ∷ cs) above =

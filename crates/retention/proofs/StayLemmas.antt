@@ -1,4 +1,4 @@
--- What stays where one spare case more goes.
+-- What stays where one spare case more is dropped.
 use Rattle.std.proofs.Common.{◌≡◌, ℕ, zero, suc, ◌+◌, ◌-◌, ◌<◌, ◌≤◌, Bool, true, false, not, ◌&&◌, List, [], ◌∷◌, ◌++◌, length, sum_by, refl, sym, ap, ◌∙◌, arith, append_assoc, length-append, get_or, drop, drop-cons, subst, ⊎_elim}
 use Rattle.std.proofs.lemmas.Bool.{cases_Bool, cases_lt}
 use Rattle.std.proofs.lemmas.List.Sums.{sum_by-cons, sum_by-append}
@@ -26,7 +26,7 @@ stays-old policy (suc n) c cs old = rw old
 pub stays-none : (policy : Policy) (c : Brief) (cs : List Brief) → is_old policy c ≡ false → stays policy 0 (c ∷ cs) ≡ c ∷ stays policy 0 cs
 stays-none policy c cs young = rw young
 
--- and goes where one is to go
+-- and is dropped where one is to be
 pub stays-spare : (policy : Policy) (n : ℕ) (c : Brief) (cs : List Brief) → is_spare policy c ≡ true → stays policy (suc n) (c ∷ cs) ≡ stays policy n cs
 stays-spare policy n c cs spare = let young = spare_not_old policy c spare in rw (young, spare)
 
@@ -69,7 +69,7 @@ module _ (policy : Policy) (cases : List Brief) (totals : Totals) (count : ℕ) 
   at_count : stays policy count cases ≡ so_far.front ++ stays policy 0 (c ∷ cs)
   at_count = let e : count + 0 ≡ count = omega arith in ap (λ n. stays policy n cases) (sym e) ∙ so_far.link 0
 
-  -- a spare case goes, and its bytes
+  -- a spare case is dropped, and its bytes
   pub after_spare : is_spare policy c ≡ true → (1 ≤ totals.count) × (c.length ≤ totals.bytes)
       × Along policy cases (record { count = totals.count - 1; bytes = totals.bytes - c.length }) (count + 1) cs
   after_spare spare =
@@ -96,7 +96,7 @@ module _ (policy : Policy) (cases : List Brief) (totals : Totals) (count : ℕ) 
         },
       )
 
-  -- any other case goes or stays, and nothing changes
+  -- any other case is dropped or stays, and nothing changes
   pub after_other : is_spare policy c ≡ false → Along policy cases totals count cs
   after_other other =
       ⊎_elim
@@ -114,7 +114,7 @@ module _ (policy : Policy) (cases : List Brief) (totals : Totals) (count : ℕ) 
       })
       (cases_Bool (is_old policy c))
 
--- one case more, whichever it is: what it weighs goes
+-- one case more, whichever it is: what it weighs is dropped
 pub record Stepped (policy : Policy) (cases : List Brief) (totals : Totals) (count : ℕ) (weight : Totals) (back : List Brief) : Type 0 where
   pub count_fits : weight.count ≤ totals.count
   pub bytes_fit : weight.bytes ≤ totals.bytes

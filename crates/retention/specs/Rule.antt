@@ -1,5 +1,4 @@
--- Which cases go: all that are too old, and of the others the first ones, as few as bring the archive within its limits.
--- Pinned cases stay, and count.
+-- Which cases are dropped: all that are too old, and of the others the first ones, as few as bring the archive within its limits. Pinned cases stay, and count.
 use Rattle.std.specs.Prelude.{◌≡◌, ℕ, zero, suc, ◌<◌, ◌≤◌, Bool, true, false, not, ◌&&◌, nat_lt, nat_le, List, [], ◌∷◌, length, map, filter, sum_by, Option, None, Some, if◌then◌else◌}
 use Rattle.retention.specs.declared.Brief.{Brief}
 use Rattle.retention.specs.declared.Policy.{Policy}
@@ -18,11 +17,11 @@ abbrev pub is_before : ℕ → Option ℕ → Bool
 is_before time None = false
 is_before time (Some limit) = nat_lt time limit
 
--- an unpinned case from before the policy's time goes, whatever the other limits
+-- an unpinned case from before the policy's time is dropped, whatever the other limits
 abbrev pub is_old : Policy → Brief → Bool
 is_old policy case = not case.pinned && is_before case.time policy.before
 
--- another unpinned case goes only for the other limits
+-- another unpinned case is dropped only for the other limits
 abbrev pub is_spare : Policy → Brief → Bool
 is_spare policy case = not case.pinned && not (is_before case.time policy.before)
 
@@ -30,7 +29,7 @@ is_spare policy case = not case.pinned && not (is_before case.time policy.before
 abbrev pub spare_count : Policy → List Brief → ℕ
 spare_count policy cases = length (filter (is_spare policy) cases)
 
--- the cases that go where the first n of those go
+-- the cases that are dropped where the first n of those are
 abbrev pub goes : Policy → ℕ → List Brief → List Brief
 goes policy n [] = []
 goes policy zero (c ∷ cs) = if is_old policy c then c ∷ goes policy zero cs else goes policy zero cs
@@ -57,12 +56,12 @@ is_within n (Some limit) = nat_le n limit
 abbrev pub meets : Policy → ℕ → ℕ → Bool
 meets policy count bytes = is_within count policy.keep && is_within bytes policy.bytes
 
--- the limits hold of what stays where the first n of the spare cases go
+-- the limits hold of what stays where the first n of the spare cases are dropped
 abbrev pub holds_after : Policy → List Brief → ℕ → Bool
 holds_after policy cases n = meets policy (length (stays policy n cases)) (sum_by bytes_in (stays policy n cases))
 
--- What the rule drops: the old cases and the first `count` of the spare ones, the least count after which the limits
--- hold. Where they hold after none, all of them go, and the limits are not met.
+-- What the rule drops: the old cases and the first `count` of the spare ones, the least count after which the limits hold. If they hold after none, all of the spare ones
+-- are dropped, and the limits are not met.
 pub record IsDecision (policy : Policy) (cases : List Brief) (dropped : List ℕ) (unmet : Bool) : Type 0 where
   pub count : ℕ
   pub within : count ≤ spare_count policy cases

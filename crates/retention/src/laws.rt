@@ -4,8 +4,8 @@ ghost use Rattle.retention.specs.Rule.{is_pinned, is_old, is_spare, goes, stays,
 ghost use Rattle.retention.specs.declared.Brief.{Brief};
 ghost use Rattle.retention.specs.declared.Policy.{Policy};
 
-/// Of the old cases all go, of the spare ones the first, as many as are to go, and of the pinned ones none. The others
-/// stay. In both the cases keep their order.
+/// All old cases are dropped, of the spare ones the first, as many as are to be, and no pinned one. The others stay. In
+/// both the cases keep their order.
 pub fn what_goes_and_what_stays()
     ensures old_go { (policy : Policy) (n : ℕ) (cases : List Brief)
         → filter (is_old policy) (goes policy n cases) ≡ filter (is_old policy) cases }

@@ -1,4 +1,4 @@
-//! Which cases of an archive go, by a policy.
+//! Which cases of an archive are dropped, by a policy.
 #![tactic(auto)]
 
 mod laws;
@@ -34,8 +34,8 @@ pub struct Policy {
 /// What the rule says of an archive's cases.
 #[derive(Drop)]
 pub struct Decision {
-    /// The numbers of the cases that go, rising.
+    /// The numbers of the cases that are dropped, rising.
     pub dropped: Vec<u32>,
-    /// `keep` or `bytes` does not hold even when all of them are gone.
+    /// `keep` or `bytes` does not hold even when all of them are dropped.
     pub unmet: bool,
 }

@@ -7,9 +7,9 @@ ghost use Rattle.retention.specs.Counting.{TotalsAre, AreToGo, GoesOn, weight_if
 use crate::{Brief, Decision, Policy};
 use std::alloc::{AllocError, Global};
 
-/// Says which cases go. First all unpinned cases from before `before` go. Then goes the shortest front of the other
+/// Says which cases are dropped. First all unpinned cases from before `before`. Then the shortest front of the other
 /// unpinned ones, in the order of their numbers, after which at most `keep` cases and at most `bytes` bytes stay, pinned
-/// ones counted. Where there is no such front all of them go, and `unmet` is set.
+/// ones counted. If there is no such front, all of them are dropped, and `unmet` is set.
 ///
 /// # Errors
 ///
@@ -32,7 +32,7 @@ struct Totals {
     bytes: u128,
 }
 
-// The numbers of the cases that go where `count` spare ones do. Their memory is taken at once.
+// The numbers of the cases that are dropped, `count` spare ones among them. Their memory is taken at once.
 fn dropped_numbers(
     alloc: Global,
     policy: &Policy,
@@ -51,7 +51,7 @@ fn dropped_numbers(
     Ok(dropped)
 }
 
-// The most cases that go where `count` spare ones do.
+// The most cases that are dropped where `count` spare ones are.
 fn most_dropped(policy: &Policy, cases: &[Brief], count: u64) -> usize {
     let old = cases
         .iter()
@@ -60,7 +60,7 @@ fn most_dropped(policy: &Policy, cases: &[Brief], count: u64) -> usize {
     old.saturating_add(count as usize)
 }
 
-// Whether a case goes where `left` spare ones still do, and how many do behind it.
+// Given `left` spare cases still to drop: whether this case is dropped, and how many spare ones are still to drop after it.
 fn goes_now(policy: &Policy, left: u64, case: &Brief) -> (bool, u64)
     ensures { GoesOn policy.now left case.now result.0 result.1 }
 {
@@ -84,7 +84,7 @@ fn push_if(numbers: &mut Vec<u32>, wanted: bool, number: u32) -> Result<(), Allo
     Ok(())
 }
 
-// How many of the spare cases go, and whether the limits hold after none.
+// How many of the spare cases are dropped, and whether no number of them meets the limits.
 fn spare_to_go(policy: &Policy, cases: &[Brief]) -> (u64, bool)
     ensures { AreToGo policy.now cases.now result.0 result.1 }
 {

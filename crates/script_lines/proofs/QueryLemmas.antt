@@ -1,4 +1,4 @@
--- The line that says a query: a command and the words behind it, a space before each.
+-- The line that says a query: a command and the words after it, a space before each.
 use Rattle.std.proofs.Common.{◌≡◌, ℕ, ◌+◌, ◌-◌, ◌*◌, ◌%◌, ◌^◌, ◌/◌, ⊎_elim, nat_lt, ◌<◌, ◌≤◌, true, false, ◌&&◌, nat_le, List, [], ◌∷◌, ◌++◌, length, filter, decimal, codes, Option, Some, refl, ap, ◌∙◌, arith, lit≤, append-nil}
 use Rattle.std.proofs.lemmas.Bool.{cases_Bool, ne_eqb, le-leb, le-ltb, leb-true, and_parts}
 use Rattle.std.proofs.lemmas.List.{length-append}
@@ -26,7 +26,7 @@ abbrev AreShort : List (List ℕ) → Type 0
 AreShort [] = Unit {0}
 AreShort (w ∷ ws) = (0 < length w) × (length w ≤ 128) × AreMarks w × AreShort ws
 
--- the words behind a command, a space before each
+-- the words after a command, a space before each
 abbrev behind : List (List ℕ) → List ℕ
 behind [] = []
 behind (w ∷ ws) = 32 ∷ (w ++ behind ws)
@@ -63,7 +63,7 @@ short_behind : (ws : List (List ℕ)) → AreShort ws → length (behind ws) ≤
 short_behind [] short = omega arith
 short_behind (w ∷ ws) short = let sum = length-append w (behind ws) in let rest = short_behind ws short.3 in omega (arith, sum, rest, short.1)
 
--- at most three words behind a command say what they are
+-- at most three words after a command say what they are
 said_as : (w : List ℕ) (ws : List (List ℕ)) → AreShort (w ∷ ws) → length ws ≤ 3 → is_blank_or_comment_line (w ++ behind ws) ≡ false
     → said (w ++ behind ws) ≡ known_or_bad (words_said (w ∷ ws))
 said_as w ws short few seen =

@@ -64,7 +64,7 @@ abbrev pub value_of : List ℕ → List (List ℕ) → Option (List ℕ)
 value_of key [] = None
 value_of key (word ∷ words) = first_given (value_if key (pair_of word)) (value_of key words)
 
--- a pair of a key that the line knows and a value for it, and the key stands in none of the words behind it
+-- a pair of a key that the line knows and a value for it, and none of the words after it has the key
 abbrev pub is_new_pair : Keys → Option (List ℕ × List ℕ) → List (List ℕ) → Bool
 is_new_pair keys None behind = false
 is_new_pair keys (Some pair) behind = is_good_value (value_kind keys pair.0) pair.1 && not (is_some (value_of pair.0 behind))
@@ -72,7 +72,7 @@ is_new_pair keys (Some pair) behind = is_good_value (value_kind keys pair.0) pai
 abbrev pub is_first_pair : Keys → List ℕ → List (List ℕ) → Bool
 is_first_pair keys word behind = is_new_pair keys (pair_of word) behind
 
--- each word is such a pair: so no key stands twice
+-- each word is such a pair: so no key is there twice
 abbrev pub are_pairs : Keys → List (List ℕ) → Bool
 are_pairs keys [] = true
 are_pairs keys (word ∷ words) = is_first_pair keys word words && are_pairs keys words

@@ -1,4 +1,4 @@
--- What the lines that inspect ask: each has a command, the number of a case, and what its query wants behind it.
+-- What the lines that inspect ask: each has a command, the number of a case, and then what its query wants.
 use Rattle.std.specs.Prelude.{ℕ, ◌^◌, ◌<◌, ◌≤◌, All, length, List, [], ◌∷◌, Option, None, Some, codes, if◌then◌else◌}
 use Rattle.std.specs.Str.{bytes_eq}
 use Rattle.script_words.specs.Hex.{needle_of}
@@ -33,7 +33,7 @@ pub data QuerySaid : Type 0 where
   ask_maps : QuerySaid
   -- the bytes of its memory from an address on, and how many of them
   ask_dump : ℕ → ℕ → QuerySaid
-  -- where these bytes stand in its memory
+  -- where these bytes occur in its memory
   ask_find : List ℕ → QuerySaid
   -- the texts in its memory of at least this length in bytes
   ask_strings : ℕ → QuerySaid
@@ -48,7 +48,7 @@ pub data QuerySaid : Type 0 where
   -- the function of an executable that covers this address
   ask_symbol : ℕ → QuerySaid
 
--- a query with nothing behind the case
+-- a query with nothing after the case
 abbrev pub alone : QuerySaid → List (List ℕ) → Option QuerySaid
 alone query [] = Some query
 alone query (more ∷ words) = None
@@ -63,15 +63,15 @@ abbrev pub asks_of : {A : Type 0} → (A → QuerySaid) → Option A → Option 
 asks_of query None = None
 asks_of query (Some x) = Some (query x)
 
--- a query of a number of 64 bits, which stands behind the case
+-- a query of a number of 64 bits, after the case
 abbrev pub numbered : (ℕ → QuerySaid) → List (List ℕ) → Option QuerySaid
 numbered query words = asks_of query (one_word number_of words)
 
--- a query of bytes, which stand behind the case as hexadecimal digits
+-- a query of bytes, after the case as hexadecimal digits
 abbrev pub searched : (List ℕ → QuerySaid) → List (List ℕ) → Option QuerySaid
 searched query words = asks_of query (one_word needle_of words)
 
--- a query of a number from 1 to 1,024, which stands behind the case
+-- a query of a number from 1 to 1,024, after the case
 abbrev pub bounded : (ℕ → QuerySaid) → List (List ℕ) → Option QuerySaid
 bounded query words = asks_of query (one_word (number_within 1 1024) words)
 
@@ -80,7 +80,7 @@ asks_both query None length = None
 asks_both query (Some first) None = None
 asks_both query (Some first) (Some length) = Some (query first length)
 
--- a query of two numbers of 64 bits, which stand behind the case
+-- a query of two numbers of 64 bits, after the case
 abbrev pub ranged : (ℕ → ℕ → QuerySaid) → List (List ℕ) → Option QuerySaid
 ranged query [] = None
 ranged query (first ∷ []) = None
@@ -101,7 +101,7 @@ memory_rows =
     ∷ (codes "symbol", numbered ask_symbol)
     ∷ []
 
--- the lines that inspect: the command of each, and what may stand behind the number of the case
+-- the lines that inspect: the command of each, and what may follow the number of the case
 abbrev pub query_rows : List (List ℕ × (List (List ℕ) → Option QuerySaid))
 query_rows =
     (codes "header", alone ask_header)
@@ -114,7 +114,7 @@ query_rows =
     ∷ (codes "files", alone ask_files)
     ∷ memory_rows
 
--- what the row of a command makes of the words behind the case
+-- what the row of a command makes of the words after the case
 abbrev pub query_in : List (List ℕ × (List (List ℕ) → Option QuerySaid)) → List ℕ → List (List ℕ) → Option QuerySaid
 query_in [] command words = None
 query_in (row ∷ rows) command words = if bytes_eq command row.0 then row.1 words else query_in rows command words

@@ -35,7 +35,7 @@ pub data Said : Type 0 where
   begin_exec : ℕ → List ℕ → Said
   -- a stream of the core of this process, in a slot
   begin_core : ℕ → ProcessSaid → Said
-  -- bytes for a slot, and how many of them stand behind the line
+  -- bytes for a slot, and how many of them follow the line
   part_of : ℕ → ℕ → Said
   -- the stream in a slot becomes a case
   end_of : ℕ → Said
@@ -87,7 +87,7 @@ abbrev pub drops : Option ℕ → Option Said
 drops None = None
 drops (Some slot) = Some (drop_of slot)
 
--- `begin exec SLOT NAME`, behind the kind
+-- `begin exec SLOT NAME`, after the kind
 abbrev pub exec_said : List (List ℕ) → Option Said
 exec_said [] = None
 exec_said (slot ∷ []) = None
@@ -120,12 +120,12 @@ begins_core None process = None
 begins_core (Some slot) None = None
 begins_core (Some slot) (Some process) = Some (begin_core slot process)
 
--- `begin core SLOT KEY=VALUE ..`, behind the kind
+-- `begin core SLOT KEY=VALUE ..`, after the kind
 abbrev pub core_said : List (List ℕ) → Option Said
 core_said [] = None
 core_said (slot ∷ words) = begins_core (slot_of slot) (process_said words)
 
--- what stands behind the word of each command: `begin KIND ..`
+-- what follows the word of each command: `begin KIND ..`
 abbrev pub begin_said : List (List ℕ) → Option Said
 begin_said [] = None
 begin_said (kind ∷ words) =
@@ -170,7 +170,7 @@ abbrev pub short_label : Option (List ℕ) → Option (List ℕ)
 short_label None = None
 short_label (Some text) = if nat_le (length text) 64 then Some text else None
 
--- the label that stands behind the case: a text of at most 64 bytes; where none stands it is empty
+-- the label after the case: a text of at most 64 bytes; where there is none it is empty
 abbrev pub label_text : List (List ℕ) → Option (List ℕ)
 label_text [] = Some []
 label_text (text ∷ []) = short_label (text_of text)
@@ -246,19 +246,18 @@ abbrev pub words_said : List (List ℕ) → Option Said
 words_said [] = None
 words_said (command ∷ words) = command_said command words
 
--- what a line says that has a reply and is not too long: no bytes stand in it but spaces and 0x21 to 0x7e
+-- what a line says that has a reply and is not too long: it has no bytes but spaces and 0x21 to 0x7e
 abbrev pub short_line_said : List ℕ → Said
 short_line_said line = if is_plain_line line then known_or_bad (words_said (words_of line)) else bad_line
 
--- What a line says. A blank line and a comment have no reply, however long they are; any other line that is too long is
--- nothing but that.
+-- What a line says. A blank line and a comment have no reply, however long they are; any other line that is too long says only that.
 abbrev pub said : List ℕ → Said
 said line =
     if is_blank_or_comment_line line then silence
     else if nat_lt 1024 (length line) then long_line
     else short_line_said line
 
--- how many bytes stand behind a line and its newline
+-- how many bytes follow a line and its newline
 abbrev pub raw_length : Said → ℕ
 raw_length silence = 0
 raw_length bad_line = 0

@@ -19,11 +19,11 @@ use script_words::{
 /// What a line asks for, or why it asks for nothing.
 #[derive(Drop)]
 pub enum Command<'a> {
-    /// So many bytes more for a stream, which stand behind the line.
+    /// So many bytes more for a stream, which follow the line.
     Part {
         /// The slot of the stream, 0 to 7.
         slot: u8,
-        /// How many bytes stand behind the line, 0 to 65,536.
+        /// How many bytes follow the line, 0 to 65,536.
         count: u32,
     },
     /// Something that is done with this line.
@@ -32,7 +32,7 @@ pub enum Command<'a> {
     Plain(Request<'a>),
 }
 
-/// What a line says that asks for nothing, or for a step of a stream, and that no bytes stand behind.
+/// What a line says that asks for nothing, or for a step of a stream, and that no bytes follow.
 #[derive(Drop)]
 pub enum Request<'a> {
     /// Nothing, and it has no reply.
@@ -165,7 +165,7 @@ fn parse_exec(words: Words<'_>) -> Option<Request<'_>>
     })
 }
 
-// The name that a word stands for.
+// The name of a word.
 fn parse_name(word: &[u8]) -> Option<NameWord>
     requires some { 0 < length word.now }
     requires short { length word.now ≤ 1024 }

@@ -28,7 +28,7 @@ pub(crate) enum ValueKind {
     Large,
 }
 
-// Whether each word is a pair of a key that the line knows and a value for it, and no key stands twice.
+// Whether each word is a pair of a key that the line knows and a value for it, and no key is there twice.
 pub(crate) fn are_pairs(keys: Keys, words: Words<'_>) -> bool
     requires { AreWords (words_left words) }
     ensures { result ≡ are_pairs keys (words_left words.entry) }
@@ -42,7 +42,7 @@ pub(crate) fn are_pairs(keys: Keys, words: Words<'_>) -> bool
     true
 }
 
-// Whether a word is such a pair, and its key stands in none of the words behind it.
+// Whether a word is such a pair, and none of the words after it has its key.
 fn is_first_pair(keys: Keys, word: &[u8], behind: Words<'_>) -> bool
     requires { length word.now ≤ 1024 }
     ensures { result ≡ is_first_pair keys word.now (words_left behind.entry) }

@@ -58,7 +58,7 @@ pub enum MemoryQuery {
         /// How many bytes.
         length: u64,
     },
-    /// Where bytes stand in it.
+    /// Where bytes occur in it.
     Find {
         /// The bytes.
         needle: Needle,
@@ -89,7 +89,7 @@ pub enum MemoryQuery {
     Builds,
 }
 
-// The table of the lines that inspect: the command of each, and what may stand behind the number of the case.
+// The table of the lines that inspect: the command of each, and what may follow the number of the case.
 pub(crate) fn parse_query(command: &[u8], words: Words<'_>) -> Option<Query>
     ensures { option_map query_of result ≡ query_in query_rows command.now (words_left words.entry) }
 {
@@ -153,7 +153,7 @@ fn parse_memory_query(command: &[u8], words: Words<'_>) -> Option<Query>
     }
 }
 
-// A query behind whose case nothing stands.
+// A query with nothing after its case.
 fn alone(words: Words<'_>, query: Query) -> Option<Query>
     ensures { option_map query_of result ≡ alone (query_of query) (words_left words.entry) }
 {

@@ -146,7 +146,7 @@ fn parse_label(words: Words<'_>) -> Option<Call>
     })
 }
 
-// The label behind the number of its case: a text, or nothing for the empty label.
+// The label after the number of its case: a text, or nothing for the empty label.
 fn parse_label_text(words: Words<'_>) -> Option<ArrayVec<u8, 64>>
     requires { AreWords (words_left words) }
     ensures { option_map label_bytes result ≡ label_text (words_left words.entry) }
@@ -161,7 +161,7 @@ fn parse_label_text(words: Words<'_>) -> Option<ArrayVec<u8, 64>>
     decode_label(text)
 }
 
-// The label that a word stands for, unless that is too long.
+// The label of a word, unless that is too long.
 fn decode_label(word: &[u8]) -> Option<ArrayVec<u8, 64>>
     requires { length word.now ≤ 1024 }
     ensures { option_map label_bytes result ≡ short_label (text_of word.now) }

@@ -9,7 +9,7 @@ use Rattle.failure_count.specs.CountLaws.{risen_since}
 use Rattle.script_streams.specs.Writing.{PassesOn}
 use Rattle.script_streams.specs.Telling.{Sink, Told, Tells}
 
--- a text is passed on behind what was held, or together with it
+-- a text is passed on after what was held, or together with it
 module _ (start : Option (List ℕ)) (count name : ℕ) (old new : Sink) (told text passed : List ℕ) (is : passed ≡ old.unwritten.held.items ++ text)
     (empty : new.unwritten.held.items ≡ []) (same : new.name ≡ old.name) (so_far : Told start count name old told) where
   -- all that was told, where what was held has not been dropped

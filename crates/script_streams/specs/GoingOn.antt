@@ -8,7 +8,7 @@ use Rattle.script_streams.specs.declared.reader.LineEnding.{LineEnding}
 use Rattle.script_streams.specs.declared.reader.LineEnding.TheVariants.{Newline, EndOfInput, NothingLeft}
 use Rattle.script_streams.specs.declared.reader.ReadStop.{ReadStop}
 
--- the line goes on by a piece, behind which a newline stood, or nothing was held any more
+-- the line continues by a piece that a newline ended, or nothing was held any more
 abbrev pub TakesLine : List ℕ → ScriptBuffer → ScriptBuffer → KeptLine → Bool → Type 0
 TakesLine front old new kept true =
     (piece : List ℕ) × IsLine piece × KeepsLine (front ++ piece) kept
@@ -17,7 +17,7 @@ TakesLine front old new kept false =
     (piece : List ℕ) × IsLine piece × KeepsLine (front ++ piece) kept
     × ((a : Option (List ℕ)) → Gives a a old new piece)
 
--- the line goes on by a piece, to its end or to what was read now
+-- the line continues by a piece, to its end or to what was read now
 abbrev pub GoesOn : List ℕ → Option (List ℕ) → Option (List ℕ) → ScriptBuffer → ScriptBuffer → KeptLine
     → Result (Option LineEnding) ReadStop → Type 0
 GoesOn front before after old new kept (Ok None) =

@@ -22,7 +22,7 @@ reads_made buffer = buffer.reads
 abbrev pub steps_left : ScriptBuffer → ℕ
 steps_left buffer = (2 ^ 40 - buffer.reads) * 65537 + (buffer.end - buffer.start)
 
--- Between two moments of an input and of its buffer these bytes were given, in order, and no others were lost or made
+-- Between two moments of an input and of its buffer exactly these bytes were given, in order: none was lost, and none was made up
 pub record Gives (before after : Option (List ℕ)) (old new : ScriptBuffer) (given : List ℕ) : Type 0 where
   pub read : List ℕ
   pub consumed : Consumes before after read

@@ -15,8 +15,8 @@ has_failed reply = reply.unwritten.failed
 abbrev pub held_text : {O : Type 0} → Reply O → List ℕ
 held_text reply = reply.unwritten.held.items
 
--- A reply and its output at one moment: what the output has taken, how many of its calls have failed, what it has not taken
--- yet, and which output it is, by the name of the reference to it.
+-- A reply and its output at one moment: what the output has taken, how many of its calls have failed, what it has not taken yet, and which output it is, by the name of
+-- the reference to it.
 pub record Sink : Type 0 where
   pub taken : Option (List ℕ)
   pub failures : ℕ
@@ -43,7 +43,7 @@ pub record Told (start : Option (List ℕ)) (count name : ℕ) (now : Sink) (tol
   pub blamed : now.unwritten.failed ≡ true → HasRisen count now.failures
   pub same : now.name ≡ name
 
--- whatever was told before, this text was told behind it
+-- whatever was told before, this text was told after it
 abbrev pub Tells : Sink → Sink → List ℕ → Type 0
 Tells old new text =
     (start : Option (List ℕ)) (count name : ℕ) (told : List ℕ)

@@ -7,7 +7,7 @@ use arrayvec::ArrayVec;
 use script_words::first_visible;
 
 /// What is kept of a line of any length: all of it, up to 1,024 bytes; of a longer one that it is longer; and the first
-/// byte that is no space, which tells a blank line or a comment however long. It is of a fixed size.
+/// byte that is no space, which shows whether the line is blank or a comment, however long it is. It is of a fixed size.
 #[derive(Drop)]
 pub struct KeptLine {
     bytes: ArrayVec<u8, 1025>,
@@ -68,7 +68,7 @@ impl KeptLine {
         self.first_visible = None;
     }
 
-    // The line goes on.
+    // Appends to the line.
     pub(crate) fn keep(&mut self, piece: &[u8])
         ensures { (line : List ℕ) → KeepsLine line self.old → KeepsLine (line ++ piece.now) self.new }
     {
@@ -77,7 +77,7 @@ impl KeptLine {
     }
 }
 
-// The first byte that is no space, of a line that goes on.
+// The first byte that is no space, of a line that continues.
 fn visible_after(so_far: Option<u8>, piece: &[u8]) -> Option<u8>
     ensures { (line : List ℕ) → so_far ≡ first_visible_of line → result ≡ first_visible_of (line ++ piece.now) }
 {

@@ -6,7 +6,7 @@ ghost use Rattle.script_streams.specs.Reading.{Gives, IsUsedUp, held_bytes};
 ghost use Rattle.script_streams.specs.Telling.{Sink, Tells};
 ghost use Rattle.script_streams.specs.declared.reader.ScriptBuffer.{ScriptBuffer};
 
-/// What stands before the first newline of a text is one line and no other, and a line has no newline in it.
+/// What is before the first newline of a text is one line and no other, and a line has no newline in it.
 pub fn lines_are_cut_one_way()
     ensures first { (line other rest others : List ℕ) → IsLine line → IsLine other
         → line ++ 10 ∷ rest ≡ other ++ 10 ∷ others → (line ≡ other) × (rest ≡ others) }

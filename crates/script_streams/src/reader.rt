@@ -23,7 +23,7 @@ pub enum ReadStop {
 pub enum LineEnding {
     /// A newline, which is not of the line.
     Newline,
-    /// The end of the input, behind a byte at least.
+    /// The end of the input, after a byte at least.
     EndOfInput,
     /// The input ended before another line began.
     NothingLeft,
@@ -60,7 +60,7 @@ impl ScriptBuffer {
         ScriptBuffer::after_reads(0)
     }
 
-    /// A buffer that holds nothing, behind `reads` reads, each of which gave a byte that was used: of 2^40 that a script may
+    /// A buffer that holds nothing, after `reads` reads, each of which gave a byte that was used: of 2^40 that a script may
     /// take the others are left.
     pub fn after_reads(reads: u64) -> Self
         requires { reads ≤ 2 ^ 40 }
@@ -86,7 +86,7 @@ impl ScriptBuffer {
             .0
     }
 
-    // The first bytes that are held are used.
+    // Drops the first bytes that are held, which were used.
     fn use_up(&mut self, count: usize)
         requires { count ≤ length (held_bytes self.old) }
         ensures held { held_bytes self.old ≡ take count (held_bytes self.old) ++ held_bytes self.new }
@@ -190,7 +190,7 @@ impl ScriptBuffer {
         }
     }
 
-    // Moves what is held into a line, up to the next newline, which goes too. Answers whether there was one.
+    // Moves what is held into a line, up to the next newline, which is dropped. Answers whether there was one.
     fn take_line(&mut self, line: &mut KeptLine) -> bool
         ensures gives { (front : List ℕ) → KeepsLine front line.old → TakesLine front self.old self.new line.new result }
         ensures emptied { OnFalse result (held_bytes self.new ≡ []) }
@@ -245,7 +245,7 @@ impl ScriptBuffer {
         Ok(())
     }
 
-    // Asks the input for more, where nothing of it is held, and nothing of the replies is held back: so whoever gives the input
+    // Asks the input for more, when nothing of it is held and nothing of the replies is held back: whoever gives the input
     // sees each reply before the next line is waited for.
     fn refill<I: Input, O: Output>(
         &mut self,

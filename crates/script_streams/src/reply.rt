@@ -18,8 +18,8 @@ const MOST_HELD: usize = 8192;
 // How many bytes are told as digits at a time.
 const HEX_ROW: usize = 16;
 
-/// The text of replies on its way to an output, which it holds while it is told. Text waits in a buffer of a fixed size. Once a
-/// write has failed no more is written, and `finish` says so: so replies are told with no look at each write.
+/// The text of replies on its way to an output, which it holds while it is told. Text waits in a buffer of a fixed size.
+/// Once a write has failed no more is written, and `finish` says so: no caller has to look at each write.
 #[derive(Drop)]
 pub struct Reply<'a, O: Output> {
     output: &'a mut O,
@@ -79,7 +79,7 @@ impl<'a, O: Output> Reply<'a, O> {
         }
     }
 
-    /// Tells how each byte of a text prints, one behind the other. So a long text can be told in pieces.
+    /// Tells how each byte of a text prints, one after the other. So a long text can be told in pieces.
     pub fn tell_bytes(&mut self, text: &[u8])
         ensures { Tells (sink O.Output self.old) (sink O.Output self.new) (flat_map shown_byte text.now) }
     {

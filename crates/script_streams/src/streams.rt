@@ -54,7 +54,7 @@ pub struct ReadInput<R> {
 }
 
 impl<R: Read> ReadInput<R> {
-    /// The input of a reader, from where it stands. No failure is counted yet.
+    /// The input of a reader, from where it is. No failure is counted yet.
     pub fn new(reader: R) -> Self
         ensures remaining { ⟦<ReadInput<R> as Input>⟧.remaining result ≡ R.remaining reader }
         ensures failures { ⟦<ReadInput<R> as Input>⟧.failures result ≡ 0 }
@@ -93,7 +93,7 @@ pub struct WriteOutput<W> {
 }
 
 impl<W: Write> WriteOutput<W> {
-    /// The output to a writer, behind what it holds already. No failure is counted yet.
+    /// The output to a writer, after what it holds already. No failure is counted yet.
     pub fn new(writer: W) -> Self
         ensures taken { ⟦<WriteOutput<W> as Output>⟧.taken result ≡ W.contents writer }
         ensures failures { ⟦<WriteOutput<W> as Output>⟧.failures result ≡ 0 }

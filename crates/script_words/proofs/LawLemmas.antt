@@ -20,7 +20,7 @@ are_digits-from_AllDigits : (base : ℕ) (ds : List ℕ) → AllDigits base ds �
 are_digits-from_AllDigits base [] digits = refl
 are_digits-from_AllDigits base (c ∷ cs) digits = rw (lt-ltb (digit_value c) base digits.0) (are_digits-from_AllDigits base cs digits.1)
 
--- digits that stand for a number of 64 bits
+-- digits that mean a number of 64 bits
 numeral_of-known : (base n : ℕ) (ds : List ℕ) → 0 < length ds → AllDigits base ds → digits_value base ds ≡ n → n < 2 ^ 64 → numeral_of base ds ≡ Some n
 numeral_of-known base n [] some digits value small = absurd (omega arith)
 numeral_of-known base n (c ∷ cs) some digits value small =

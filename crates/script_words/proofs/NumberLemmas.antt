@@ -13,7 +13,7 @@ abbrev pub and_then_after : (ℕ → Option ℕ) → Option ℕ → Option ℕ
 and_then_after next None = None
 and_then_after next (Some n) = next n
 
--- what digits stand for behind those of n, read one by one
+-- the number of digits after those of n, read one by one
 abbrev pub number_after : ℕ → ℕ → List ℕ → Option ℕ
 number_after base n [] = Some n
 number_after base n (c ∷ cs) = and_then_after (λ m. number_after base m cs) (next_value base n c)
@@ -30,7 +30,7 @@ and_false : (b : Bool) → (b && false) ≡ false
 and_false true = refl
 and_false false = refl
 
--- the test that `numeral_of` makes, at digits behind those of n
+-- the test that `numeral_of` makes, at digits after those of n
 abbrev pub numeral_after : ℕ → ℕ → List ℕ → Option ℕ
 numeral_after base n ds = if are_digits base ds && nat_lt (digits_value_after base n ds) (2 ^ 64) then Some (digits_value_after base n ds) else None
 

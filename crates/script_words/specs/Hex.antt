@@ -12,7 +12,7 @@ hex_pair c = digit_char (c / 16) ∷ digit_char (c % 16) ∷ []
 abbrev pub hex_of : List ℕ → List ℕ
 hex_of bytes = flat_map hex_pair bytes
 
--- the bytes that digits of either case stand for, an even number of them and nothing else
+-- the bytes of digits of either case, an even number of them and nothing else
 abbrev pub bytes_of_hex : List ℕ → Option (List ℕ)
 bytes_of_hex [] = Some []
 bytes_of_hex (high ∷ []) = None

@@ -1,4 +1,4 @@
--- The number that a word stands for: decimal, or hexadecimal behind `0x`, and below 2 ^ 64.
+-- The number of a word: decimal, or hexadecimal after `0x`, and below 2 ^ 64.
 use Rattle.std.specs.Prelude.{ℕ, ◌^◌, Bool, false, ◌==◌, ◌&&◌, nat_le, nat_lt, List, [], ◌∷◌, drop, Option, None, Some, if◌then◌else◌}
 use Rattle.std.specs.List.{list_all}
 use Rattle.std.specs.Char.{is_digit}
@@ -8,7 +8,7 @@ use Rattle.std.specs.Str.Parse.{digits_value}
 abbrev pub are_digits : ℕ → List ℕ → Bool
 are_digits base bytes = list_all (λ c. is_digit c base) bytes
 
--- what one digit or more stand for in a base. Zeros may lead, and only the number is bounded.
+-- the number of one digit or more in a base. Zeros may lead, and only the number is bounded.
 abbrev pub numeral_of : ℕ → List ℕ → Option ℕ
 numeral_of base [] = None
 numeral_of base (c ∷ cs) =
@@ -21,7 +21,7 @@ has_hex_prefix [] = false
 has_hex_prefix (a ∷ []) = false
 has_hex_prefix (a ∷ b ∷ bytes) = a == 48 && b == 120
 
--- the number that a word stands for
+-- the number of a word
 abbrev pub number_of : List ℕ → Option ℕ
 number_of word = if has_hex_prefix word then numeral_of 16 (drop 2 word) else numeral_of 10 word
 
@@ -30,6 +30,6 @@ abbrev pub kept_within : ℕ → ℕ → Option ℕ → Option ℕ
 kept_within low high None = None
 kept_within low high (Some n) = if nat_le low n && nat_le n high then Some n else None
 
--- the number that a word stands for, if it lies from low to high
+-- the number of a word, if it lies from low to high
 abbrev pub number_within : ℕ → ℕ → List ℕ → Option ℕ
 number_within low high word = kept_within low high (number_of word)

@@ -1,4 +1,4 @@
--- The text that a word stands for: `\xHH` is one byte, and no other backslash stands in it.
+-- The text of a word: `\xHH` is one byte, and the word has no other backslash.
 use Rattle.std.specs.Prelude.{ℕ, zero, suc, ◌+◌, ◌*◌, ◌==◌, ◌&&◌, List, [], ◌∷◌, Option, None, Some, if◌then◌else◌}
 use Rattle.std.specs.Char.{digit_value, is_digit}
 
@@ -7,7 +7,7 @@ abbrev pub with_byte : ℕ → Option (List ℕ) → Option (List ℕ)
 with_byte c None = None
 with_byte c (Some text) = Some (c ∷ text)
 
--- the byte that `xHH` behind a backslash stands for, digits of either case
+-- the byte of `xHH` after a backslash, digits of either case
 abbrev pub escape_of : List ℕ → Option ℕ
 escape_of [] = None
 escape_of (x ∷ []) = None
@@ -28,6 +28,6 @@ text_past (suc n) [] = Some []
 text_past zero (c ∷ cs) = if c == 92 then after_escape (escape_of cs) (text_past 3 cs) else with_byte c (text_past 0 cs)
 text_past (suc n) (c ∷ cs) = text_past n cs
 
--- the text that a word stands for
+-- the text of a word
 abbrev pub text_of : List ℕ → Option (List ℕ)
 text_of word = text_past 0 word

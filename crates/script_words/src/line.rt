@@ -4,7 +4,7 @@ ghost use Rattle.script_words.specs.Words.{is_space, words_of, is_plain_line, fi
 
 use bstr::ByteSlice;
 
-/// Whether each byte of a line is a space or one of 0x21 to 0x7e. No other byte stands in a line that is not a comment.
+/// Whether each byte of a line is a space or one of 0x21 to 0x7e. A line that is not a comment has no other byte.
 pub fn is_plain(line: &[u8]) -> bool
     ensures { result ≡ is_plain_line line.now }
 {
@@ -38,7 +38,7 @@ fn without_spaces(line: &[u8]) -> &[u8]
     line.split_at(start).1
 }
 
-// The first word of what is left of a line, and what is left behind it.
+// The first word of what is left of a line, and what is left after it.
 fn first_word(line: &[u8]) -> Option<(&[u8], &[u8])>
     ensures { MatchOption result (words_of line.now ≡ [])
         (λ found. words_of line.now ≡ found.0.now ∷ words_of found.1.now) }

@@ -3,9 +3,8 @@ ghost use Rattle.std.specs.Prelude.{◌≡◌, ◌≤◌, ◌^◌, ◌-◌, ℕ,
 ghost use Rattle.script_words.specs.Number.{numeral_of, number_of, number_within};
 ghost use Rattle.script_words.specs.Digits.{next_value};
 
-/// The number that a word stands for: decimal digits, or `0x` and hexadecimal digits of either case.
-/// `None` where the word is anything else (a sign, an underscore, `0X`, nothing), or its number is 2^64 or more.
-/// Leading zeros are accepted, however many.
+/// The number of a word: decimal digits, or `0x` and hexadecimal digits of either case. `None` where the word is anything
+/// else (a sign, an underscore, `0X`, nothing), or its number is 2^64 or more. Leading zeros are accepted, however many.
 pub fn parse_number(word: &[u8]) -> Option<u64>
     ensures { result ≡ number_of word.now }
 {
@@ -15,7 +14,7 @@ pub fn parse_number(word: &[u8]) -> Option<u64>
     }
 }
 
-/// The number that a word stands for, if it lies from `low` to `high`, both included.
+/// The number of a word, if it lies from `low` to `high`, both included.
 pub fn parse_number_within(word: &[u8], low: u64, high: u64) -> Option<u64>
     ensures { result ≡ number_within low high word.now }
 {
@@ -59,7 +58,7 @@ pub fn parse_part_length(word: &[u8]) -> Option<u32>
     Some(number as u32)
 }
 
-// What digits stand for in a base, if there is one at least, they are all digits, and their number is below 2^64.
+// The number of digits in a base, if there is one at least, they are all digits, and their number is below 2^64.
 fn parse_numeral(digits: &[u8], base: u32) -> Option<u64>
     requires least { 2 ≤ base }
     requires greatest { base ≤ 36 }
@@ -75,7 +74,7 @@ fn parse_numeral(digits: &[u8], base: u32) -> Option<u64>
     Some(value)
 }
 
-// The number that the digits so far and one more stand for.
+// The number of the digits so far and one more.
 fn with_digit(value: u64, byte: u8, base: u32) -> Option<u64>
     requires least { 2 ≤ base }
     requires greatest { base ≤ 36 }

@@ -59,7 +59,7 @@ pub fn print_hex_row(bytes: &[u8]) -> ArrayVec<u8, 32>
     digits
 }
 
-/// A number in decimal. (A stretch of addresses can be as long as the address space, so more than 64 bits are taken.)
+/// A number in decimal. (More than 64 bits are taken, since a stretch of addresses can be as long as the address space.)
 pub fn print_decimal(number: u128) -> ArrayVec<u8, 39>
     ensures { result.items ≡ decimal number }
 {
@@ -83,8 +83,8 @@ pub fn print_signed(number: i64) -> ArrayVec<u8, 20>
     text
 }
 
-/// A number as `0x` and its hexadecimal digits, in lower case and with no leading zero.
-/// (The place past the last address is 2^64, so more than 64 bits are taken.)
+/// A number as `0x` and its hexadecimal digits, in lower case and with no leading zero. (More than 64 bits are taken, since
+/// the place past the last address is 2^64.)
 pub fn print_hexadecimal(number: u128) -> ArrayVec<u8, 34>
     ensures { result.items ≡ hexadecimal number }
 {

@@ -1,4 +1,4 @@
--- A template's name, and what its letters stand for.
+-- A template's name, and the facts of its letters.
 use Rattle.std.proofs.Common.{◌≡◌, ⊎_elim, ℕ, ◌<◌, ◌==◌, nat_lt, Bool, false, List, [], ◌∷◌, length, Result, Ok, refl, sym, ap, ◌∙◌, arith}
 use Rattle.std.proofs.lemmas.Bool.{cases_Bool}
 use Rattle.std.specs.Borrow.{Bor}

@@ -44,7 +44,7 @@ exec_stream name = exec_unless name (name_fault name)
 abbrev pub lent : List ℕ → Bor (List ℕ)
 lent text = record { ref_ptr = (0, 0); now = text }
 
--- what a template's letters stand for
+-- the facts of a template's letters
 abbrev pub facts_of : ProcessSaid → Facts
 facts_of process = record {
   comm = lent process.comm;

@@ -31,7 +31,7 @@ pub find_past : (p : ℕ → Bool) (i n : ℕ) → n ≤ i → find p (range_wit
 find_past p i n h =
     let none : n - i ≡ 0 = omega arith in ap (λ m. find p (range_with_len i m)) none
 
--- The first of those that pass, where there is one: the others come behind it.
+-- The first of those that pass, where there is one: the others come after it.
 module _ (p : ℕ → Bool) where
   -- one that passes is the first; else the first is among the others
   here_or_later : (t : Bool) (i n k e : ℕ) → e ≡ i + suc n → i < e → k < e → cond t (Some i) (find p (range_with_len (i + 1) n)) ≡ Some k

@@ -11,7 +11,7 @@ not_yet : (t : Bool) → (t ≡ true → ⊥) → t ≡ false
 not_yet true h = absurd (h refl)
 not_yet false h = refl
 
--- one stands there or behind where the last does
+-- one is there, or after it, where the last is
 pub ended : (s : List ℕ) (place last : ℕ) → IsLastByte (is_byte 0) s (Some last) → place ≤ last → ends_in_nul s place ≡ true
 unfolding ends_in_nul
 ended s place last h behind =

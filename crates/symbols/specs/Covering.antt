@@ -6,8 +6,8 @@ use Rattle.symbols.specs.declared.functions.Function.{Function}
 abbrev pub covers : ℕ → Function → Bool
 covers v f = nat_le f.value v && (nat_lt v (f.value + f.size) || v == f.value)
 
--- Which of two functions that cover an address gives it its name: the one with the greater value, then the one with the
--- lower rank (GLOBAL, WEAK, LOCAL, other bindings), then the one that stands first in the table.
+-- Which of two functions that cover an address gives it its name: the one with the greater value, then the one with the lower rank (GLOBAL, WEAK, LOCAL, other bindings),
+-- then the one that is first in the table.
 unfoldable pub is_before : Function → Function → Bool
 is_before f g =
     if f.value == g.value then (if f.rank == g.rank then nat_lt f.index g.index else nat_lt f.rank g.rank)

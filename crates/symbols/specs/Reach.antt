@@ -1,8 +1,8 @@
--- How far functions reach that are sorted by value.
+-- How far functions that are sorted by value reach.
 use Rattle.std.specs.Prelude.{ℕ, ◌+◌, ◌-◌, ◌^◌, nat_lt, min, max, Bool, false, List, [], ◌∷◌, Option, None, Some}
 use Rattle.symbols.specs.declared.functions.Function.{Function}
 
--- the last address that a function covers, the greatest of all where it goes past that
+-- the last address that a function covers, the greatest of all if it passes that
 abbrev pub last_of : Function → ℕ
 last_of f = min (f.value + (f.size - 1)) (2 ^ 64 - 1)
 

@@ -61,8 +61,8 @@ fn is_past(best: Option<Function>, function: Function) -> bool
     }
 }
 
-/// The function that gives an address its name among the first `count` of functions that are sorted by value, each with
-/// the greatest address that one up to it covers. It goes down from the last as far as one may cover the address.
+/// The function that gives an address its name among the first `count` of functions that are sorted by value. Each comes
+/// with the greatest address that one up to it covers. It searches down from the last as far as one may cover the address.
 fn named_among(functions: &[Function], ends: &[u64], count: usize, address: u64) -> Option<Function>
     requires ordered { IsNonDecreasingBy (λ f. f.value) functions.now }
     requires reach { ends.now ≡ greatest_ends 0 functions.now }
@@ -85,8 +85,8 @@ fn named_among(functions: &[Function], ends: &[u64], count: usize, address: u64)
     best
 }
 
-/// The function that gives an address its name among functions that are sorted by value, each with the greatest address
-/// that one up to it covers.
+/// The function that gives an address its name among functions that are sorted by value. Each comes with the greatest
+/// address that one up to it covers.
 pub(crate) fn named(functions: &[Function], ends: &[u64], address: u64) -> Option<Function>
     requires ordered { IsNonDecreasingBy (λ f. f.value) functions.now }
     requires reach { ends.now ≡ greatest_ends 0 functions.now }

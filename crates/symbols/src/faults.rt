@@ -26,7 +26,7 @@ pub enum SymbolField {
     /// The table's sh_link is the number of no section, or of one that is not SHT_STRTAB.
     #[error("sh_link")]
     ShLink,
-    /// No NUL stands at or behind the place in the string table where a function's name begins.
+    /// There is no NUL at or after the place in the string table where a function's name begins.
     #[error("st_name")]
     StName,
 }

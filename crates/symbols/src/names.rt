@@ -39,7 +39,7 @@ pub struct Symbols<'a> {
     ghost whole: { ∥ IsPermutation (functions_of entries.now) functions.items ∥₁ },
     /// They are sorted by value.
     ghost ordered: { IsNonDecreasingBy (λ (f : numbers.Function). f.value) functions.items },
-    /// Beside each stands the greatest address that one up to it covers.
+    /// For each, the greatest address that one up to it covers.
     ghost reach: { ends.items ≡ greatest_ends 0 functions.items },
 }
 

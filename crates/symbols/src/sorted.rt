@@ -29,7 +29,7 @@ pub(crate) fn sorted(alloc: Global, entries: &[u8]) -> Result<Vec<Function>, All
     Ok(functions)
 }
 
-/// The last address that a function covers, 2^64 - 1 where it goes past that.
+/// The last address that a function covers, 2^64 - 1 if it passes that.
 fn last_of(function: Function) -> u64
     ensures { result ≡ reach.last_of function }
 {

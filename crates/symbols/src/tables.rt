@@ -142,7 +142,7 @@ fn find_table<'a>(elf: &Elf<'a>, count: u64) -> Result<Table<'a>, SymbolFault>
     }
 }
 
-/// Whether a NUL stands at a place of the strings or behind it, where the last stands at `last`.
+/// Whether the strings have a NUL at a place or after it, where the last is at `last`.
 fn is_ended(strings: &[u8], last: Option<usize>, place: u32) -> bool
     requires { IsLastByte (is_byte 0) strings.now last }
     ensures { result ≡ spec.ends_in_nul strings.now place }

@@ -1,4 +1,4 @@
--- What the code's registers stand for.
+-- What the code's registers mean.
 use Rattle.std.specs.Prelude.{ℕ}
 use Rattle.thread_regs.specs.declared.registers.Reg.{Reg}
 

@@ -46,7 +46,7 @@ lost : (rs : Registers) (r : ℕ) → known (without rs r) r ≡ None
 unfolding known without
 lost rs r = lost_by rs r (ltb r 32)
 
--- either of two frames, of which execution stood at the pc of the first alone
+-- either of two frames, of which execution was at the pc of the first alone
 exact_of_either : (t : Bool) (x y : Frame) → x.exact ≡ true → y.exact ≡ false → (cond t x y).exact ≡ t
 exact_of_either true x y h k = h
 exact_of_either false x y h k = k

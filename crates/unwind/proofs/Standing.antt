@@ -72,7 +72,7 @@ returned : (pc : ℕ) (t : Bool) (o : Option ℕ) (a : ℕ) → cond t (calls.if
 returned pc true o a h = (refl, if_returned pc o a h)
 returned pc false o a h = cc
 
--- what a call that is told says: execution stood at the pc, and the other frame is that of the address in ra
+-- what a call that is told says: execution was at the pc, and the other frame is that of the address in ra
 abbrev IsMade : Frame → Frame → Type 0
 IsMade f g = (f.exact ≡ true) × (known f.registers ra ≡ Some g.pc) × (g ≡ calls.calling f g.pc)
 
@@ -208,7 +208,7 @@ pub next_led : (p : ProcessView) (n : ℕ) (f g : Frame) → next p n f ≡ Ok g
 unfolding next by_rules
 next_led p n f g h = rule_led p f g (trampolines.is_trampoline p.space f.pc) refl (bounded_ok n _ g h)
 
--- so it stands on a rule
+-- so it follows by a rule
 stands_on : (p : ProcessView) (f g : Frame) → Led p f g → StandsOn p f g
 stands_on p f g (by_signal trampoline (s, stack, pc, same)) =
     inl (s, record { trampoline = trampoline; stack = stack; pc = pc; stood = ap (λ (k : Frame). k.exact) same; registers = ap (λ (k : Frame). k.registers) same })
@@ -241,7 +241,7 @@ pub each_stands : (p : ProcessView) (n : ℕ) (f : Frame) (fs : List Frame) (sto
 each_stands p n f [] stop is = tt
 each_stands p n f (g ∷ gs) stop is = (stands_on p f g (next_led p n f g is.0), each_stands p (n - 1) g gs stop is.1)
 
--- no callee is known where execution stood
+-- no callee is known where execution was
 abbrev IsAlone : Frame → Type 0
 IsAlone f = f.exact ≡ true → f.callee ≡ None
 

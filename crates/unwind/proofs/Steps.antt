@@ -1,4 +1,4 @@
--- A frame and those behind it.
+-- A frame and those after it.
 use Rattle.std.proofs.Common.{◌≡◌, ◌≤◌, ◌+◌, length, ◌-◌, ℕ, zero, suc, List, [], ◌∷◌, None, Result, Ok, Err, refl, sym, ap, subst, ◌∙◌, cond, arith}
 use Rattle.std.proofs.lemmas.Bool.{ne_eqb}
 use Rattle.unwind.specs.Code.{ProcessView}
@@ -13,7 +13,7 @@ unfolding frames_from
 some_left p zero f stop = refl
 some_left p (suc n) f stop = refl
 
--- the frames behind a frame are those behind its next
+-- the frames after a frame are those after its next
 frames_none : (p : ProcessView) (r : Result Frame Stop) → [] ≡ frames_behind (frames_from p zero) (bounded zero r)
 frames_none p (Ok g) = refl
 frames_none p (Err stop) = refl

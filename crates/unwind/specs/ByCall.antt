@@ -19,7 +19,7 @@ abbrev pub if_return : ℕ → Option ℕ → Option ℕ
 if_return pc None = None
 if_return pc (Some a) = if is_return pc a then Some a else None
 
--- the address that a call left in ra, if execution stood at the pc
+-- the address that a call left in ra, if execution was at the pc
 unfoldable pub return_of : Frame → Option ℕ
 return_of f = if f.exact then if_return f.pc (known f.registers ra) else None
 

@@ -38,8 +38,8 @@ is_below (Some c) pc cfa = nat_lt cfa c.cfa || (cfa == c.cfa && pc == c.pc)
 abbrev pub return_by : Space → Registers → ℕ → ℕ → Rule → Result ℕ Stop
 return_by space rs cfa column rule = checked (value_by space rs cfa column rule) (unknown_by rule) (λ pc. Ok pc)
 
--- the frame that a row leads to: after a call the return column is not known, since the call wrote it; where a signal came,
--- execution stood at the pc, and all registers are those of then
+-- the frame that a row leads to. After a call the return column is not known, since the call wrote it. After a signal execution was at the pc, and all registers are
+-- those of then.
 abbrev pub led_to : Frame → ℕ → ℕ → Registers → Return → Frame
 led_to f cfa pc rs r =
     if r.signal then record { pc = pc; registers = rs; exact = true; callee = None }

@@ -14,7 +14,7 @@ abbrev pub is_instructions : Option ℕ → Bool
 is_instructions None = false
 is_instructions (Some w) = w == 0x0000007308b00893
 
--- They stand at the pc, or the pc is at the second of them.
+-- They are at the pc, or the pc is at the second of them.
 unfoldable pub is_trampoline : Space → ℕ → Bool
 is_trampoline space pc = is_instructions (word space pc) || (nat_le 4 pc && is_instructions (word space (pc - 4)))
 

@@ -8,13 +8,12 @@ use Rattle.unwind.specs.declared.faults.Stop.{Stop}
 use Rattle.unwind.specs.declared.faults.Stop.TheVariants.{NoFile, NoExecutable, NoAddress}
 use Rattle.unwind.specs.declared.frame.Frame.{Frame}
 
--- a process: its memory, and the executables that stand for mapped files
+-- a process: its memory, and the executables that are attached for mapped files
 pub record ProcessView : Type 0 where
   pub space : Space
   pub executables : List ExecutableView
 
--- the address that is looked up for a frame: its pc if execution stood there, else, as a call is before the address that it
--- returns to, the one before the pc
+-- the address that is looked up for a frame: its pc if execution was there; else the one before the pc, since a call is before the address that it returns to
 abbrev pub looked_up : Frame → Option ℕ
 looked_up f = if f.exact then Some f.pc else (if f.pc == 0 then None else Some (f.pc - 1))
 

@@ -1,4 +1,4 @@
--- What the code's iterator over frames stands for.
+-- What the code's iterator over frames means.
 use Rattle.std.specs.Prelude.{◌≡◌, List, Option}
 use Rattle.std.specs.Iterator.{YieldsFirst}
 use Rattle.unwind.specs.Unwinding.{frames_behind, frames_from, stop_behind, stop_from}

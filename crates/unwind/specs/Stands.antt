@@ -1,4 +1,4 @@
--- What each frame behind another stands on: one of three rules.
+-- By what each frame follows another: one of three rules.
 use Rattle.std.specs.Prelude.{◌≡◌, ◌<◌, ◌≤◌, ◌⊎◌, ⊤, ℕ, true, false, List, [], ◌∷◌, None, Some, Ok, Err, IfSome}
 use Rattle.call_frames.specs.Entry.{EntryView}
 use Rattle.call_frames.specs.Finding.{entry_of}
@@ -30,7 +30,7 @@ IsBareStub code = (entry_of code.image code.address ≡ Err Uncovered) × (is_st
 abbrev pub IsBareCall : ProcessView → Frame → Type 0
 IsBareCall p f = (is_no_code p.space f.pc ≡ true) ⊎ ((code : CodeView) × (code_of p f ≡ Ok code) × IsBareStub code)
 
--- Execution stood at such a pc, and the other has the address and the registers of the call.
+-- Execution was at such a pc, and the other has the address and the registers of the call.
 pub record IsCaller (p : ProcessView) (f g : Frame) : Type 0 where
   pub bare : IsBareCall p f
   pub stood : f.exact ≡ true
@@ -58,13 +58,12 @@ IsReturnOf p f g = (code : CodeView) × (e : EntryView) × (row : Row) × (a : �
 abbrev pub StandsOn : ProcessView → Frame → Frame → Type 0
 StandsOn p f g = ((s : ℕ) × IsInterrupted p f g s) ⊎ (IsCaller p f g ⊎ IsReturnOf p f g)
 
--- so does each of the frames behind a frame
+-- so does each of the frames after a frame
 abbrev pub EachStands : ProcessView → Frame → List Frame → Type 0
 EachStands p f [] = ⊤
 EachStands p f (g ∷ gs) = StandsOn p f g × EachStands p g gs
 
--- The CFA of a frame is not below that of the frame that it called, and if it is the same the pcs differ: the stack goes on
--- upwards.
+-- The CFA of a frame is not below that of the frame that it called, and if it is the same the pcs differ: the stack continues upwards.
 abbrev pub IsAbove : Callee → Callee → Type 0
 IsAbove c d = (c.cfa ≤ d.cfa) × (c.cfa ≡ d.cfa → c.pc ≡ d.pc → ⊥)
 

@@ -1,4 +1,4 @@
--- The frames of a stack: a frame, and behind each the one that it was called from.
+-- The frames of a stack: a frame, and after each the one that it was called from.
 use Rattle.std.specs.Prelude.{◌≡◌, ℕ, zero, suc, ◌-◌, ◌==◌, if◌then◌else◌, true, List, [], ◌∷◌, map, Option, None, Some, Result, Ok, Err}
 use Rattle.std.specs.List.{range_with_len}
 use Rattle.thread_regs.specs.Register.{register_in}
@@ -26,12 +26,11 @@ abbrev pub bounded : ℕ → Result Frame Stop → Result Frame Stop
 bounded n (Ok g) = if n == 0 then Err Limit else Ok g
 bounded n (Err stop) = Err stop
 
--- What comes behind a frame, where n more may come: another, or the first reason why there is none.
+-- What comes after a frame, where n more may come: another, or the first reason why there is none.
 unfoldable pub next : ProcessView → ℕ → Frame → Result Frame Stop
 next p n f = bounded n (by_rules p f)
 
--- The frames behind a frame, where n more may come: the last of all has a reason to be it, and behind each other comes its
--- next.
+-- The frames after a frame, where n more may come: the last of all has a reason to be it, and each other is followed by its next.
 abbrev pub IsUnwoundFrom : ProcessView → ℕ → Frame → List Frame → Stop → Type 0
 IsUnwoundFrom p n f [] stop = next p n f ≡ Err stop
 IsUnwoundFrom p n f (g ∷ gs) stop = (next p n f ≡ Ok g) × IsUnwoundFrom p (n - 1) g gs stop
@@ -53,7 +52,7 @@ unfoldable pub stop_from : ProcessView → ℕ → Frame → Stop
 stop_from p zero f = stop_behind (λ g. Limit) (by_rules p f)
 stop_from p (suc n) f = stop_behind (stop_from p n) (by_rules p f)
 
--- how many frames may come behind the first
+-- how many frames may come after the first
 abbrev pub most : ℕ
 most = 1023
 

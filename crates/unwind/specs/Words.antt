@@ -1,4 +1,4 @@
--- What the code's executables, processes and places stand for.
+-- What the code's executables, processes and places mean.
 use Rattle.std.specs.Prelude.{List, map, Result, Ok, Err}
 use Rattle.elf_view.specs.ViewWords.{image_of}
 use Rattle.address_space.specs.Source.{ExecutableView}

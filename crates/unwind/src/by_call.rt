@@ -15,7 +15,7 @@ use elf_view::Section;
 /// The flag of a segment whose bytes can be executed.
 const PF_X: u32 = 1;
 
-/// The address that a call left in ra, if execution stood at the pc.
+/// The address that a call left in ra, if execution was at the pc.
 #[tactic(auto, unfolding(crate::specs::ByCall::return_of))]
 fn return_of(frame: &Frame) -> Option<u64>
     ensures { result ≡ spec.return_of frame.now }
@@ -37,7 +37,7 @@ fn callee_of(frame: &Frame) -> Option<Callee>
     Some(Callee { cfa, pc: frame.pc })
 }
 
-/// The frame that made the call, if execution stood where it led.
+/// The frame that made the call, if execution was where it led.
 fn caller_of(frame: &Frame) -> Option<Frame>
     ensures { result ≡ spec.caller_of frame.now }
 {

@@ -12,11 +12,11 @@ use address_space::AddressSpace;
 /// `li a7, 139` (rt_sigreturn) and `ecall`.
 const INSTRUCTIONS: u64 = 0x0000_0073_08b0_0893;
 
-/// Where the registers are saved, from the stack pointer on: behind a siginfo of 128 bytes and the 176 of a ucontext that
+/// Where the registers are saved, from the stack pointer on: after a siginfo of 128 bytes and the 176 of a ucontext that
 /// come before them.
 const SAVED: u64 = 304;
 
-/// Whether the two instructions stand at an address.
+/// Whether the two instructions are at an address.
 fn is_return(space: &AddressSpace<'_>, address: u64) -> bool
     ensures { result ≡ spec.is_instructions (spec.word (space_of space.now) address) }
 {
@@ -26,7 +26,7 @@ fn is_return(space: &AddressSpace<'_>, address: u64) -> bool
     }
 }
 
-/// Whether a frame whose pc is this one executes the code to which a signal handler returns: `li a7, 139` and `ecall` stand
+/// Whether a frame whose pc is this one executes the code to which a signal handler returns: `li a7, 139` and `ecall` are
 /// at the pc, or it is at the second of them.
 #[tactic(auto, unfolding(crate::specs::ByTrampoline::is_trampoline))]
 pub fn is_trampoline(space: &AddressSpace<'_>, pc: u64) -> bool

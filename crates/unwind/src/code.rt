@@ -13,7 +13,7 @@ use crate::frame::Frame;
 use address_space::{AddressSpace, FileSpot};
 use symbols::vaddr_of_offset;
 
-/// A process: its memory, and the executables that stand for mapped files.
+/// A process: its memory, and the executables that are attached for mapped files.
 #[derive(Clone, Copy)]
 pub(crate) struct Process<'s, 'c, 'e, 'a> {
     pub(crate) space: &'s AddressSpace<'c>,
@@ -62,7 +62,7 @@ fn code_at<'e, 'a>(
     })
 }
 
-/// The address that is looked up for a frame: the pc if execution stood there, else the one before it.
+/// The address that is looked up for a frame: the pc if execution was there, else the one before it.
 fn looked_up(frame: &Frame) -> Option<u64>
     ensures { result ≡ spec.looked_up frame.now }
 {

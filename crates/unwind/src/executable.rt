@@ -7,7 +7,7 @@ ghost use Rattle.call_frames.specs.Tables.{eh_frame_of, debug_frame_of};
 use call_frames::CallFrames;
 use elf_view::Elf;
 
-/// An executable that stands for the mapped file of that path.
+/// An executable that is attached for the mapped file of that path.
 #[derive(Clone, Copy)]
 pub struct UnwoundExecutable<'e, 'a> {
     /// The path.

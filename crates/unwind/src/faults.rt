@@ -11,12 +11,12 @@ pub struct RowFault {
     pub index: u64,
 }
 
-/// Why no frame comes behind a frame.
+/// Why no frame comes after a frame.
 #[derive(Clone, Copy, Debug, PartialEq, Eq)]
 pub enum Stop {
     /// No mapped file is told of at the address.
     NoFile,
-    /// No executable stands for the file that is mapped there.
+    /// No executable is attached for the file that is mapped there.
     NoExecutable,
     /// No PT_LOAD of the executable has that place of the file, or the address is over 2^64 - 1.
     NoAddress,
@@ -38,6 +38,6 @@ pub enum Stop {
     Unreadable,
     /// The return address is 0.
     ZeroPc,
-    /// The frame has number 1,023, and another would come behind it.
+    /// The frame has number 1,023, and another would come after it.
     Limit,
 }

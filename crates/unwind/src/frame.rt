@@ -21,11 +21,11 @@ pub struct Callee {
 /// A frame of a stack.
 #[derive(Clone, Copy, Debug)]
 pub struct Frame {
-    /// Where execution stands or stood, or the address to which a call returns.
+    /// Where execution is or was, or the address to which a call returns.
     pub pc: u64,
     /// Its registers.
     pub registers: Registers,
-    /// Execution stands or stood at the pc itself. Else the pc is the address after a call.
+    /// Execution is or was at the pc itself. Else the pc is the address after a call.
     pub exact: bool,
     /// The frame before, if a call led from this one to it and its CFA is known.
     pub callee: Option<Callee>,
@@ -86,7 +86,7 @@ impl Frame {
         known(&self.registers, column)
     }
 
-    /// The frame in which a thread stands.
+    /// The frame of a thread where it stopped.
     pub(crate) fn first(thread: &Thread<'_>) -> Frame
         ensures { result ≡ unwinding.first_frame (thread_bytes thread.now) }
     {

@@ -13,7 +13,7 @@ use crate::frame::Frame;
 use address_space::AddressSpace;
 use thread_regs::Thread;
 
-/// How many frames may come behind the first.
+/// How many frames may come after the first.
 const MOST: u64 = 1023;
 
 /// The frames of a stack, from the innermost on.
@@ -22,12 +22,12 @@ pub struct Frames<'s, 'c, 'e, 'a> {
     process: Process<'s, 'c, 'e, 'a>,
     /// The next frame.
     next: Result<Frame, Stop>,
-    /// How many more may come behind it.
+    /// How many more may come after it.
     more: u64,
 }
 
 impl<'s, 'c, 'e, 'a> Process<'s, 'c, 'e, 'a> {
-    /// What the rules tell of the frame behind one.
+    /// What the rules tell of the frame after one.
     #[tactic(auto, unfolding(crate::specs::Unwinding::by_rules))]
     fn by_rules(&self, frame: &Frame) -> Result<Frame, Stop>
         ensures { result ≡ spec.by_rules (process_view self.now) frame.now }
@@ -41,7 +41,7 @@ impl<'s, 'c, 'e, 'a> Process<'s, 'c, 'e, 'a> {
         }
     }
 
-    /// The frame behind one, or the first reason why there is none. So many frames may come.
+    /// The frame after one, or the first reason why there is none. So many frames may come.
     #[tactic(auto, unfolding(crate::specs::Unwinding::next))]
     fn next(&self, more: u64, frame: &Frame) -> Result<Frame, Stop>
         ensures { result ≡ spec.next (process_view self.now) more frame.now }
@@ -57,7 +57,8 @@ impl<'s, 'c, 'e, 'a> Process<'s, 'c, 'e, 'a> {
 impl<'s, 'c, 'e, 'a> Frames<'s, 'c, 'e, 'a> {
     ghost use Rattle.unwind.specs.FrameWords.{frames_left, stop_left};
 
-    /// The frames of a thread. The executables stand for the mapped files of their paths, of two with one path the first.
+    /// The frames of a thread. The executables are attached for the mapped files of their paths, of two with one path the
+    /// first.
     #[tactic(auto, unfolding(crate::specs::FrameWords::frames_left, crate::specs::FrameWords::stop_left, crate::specs::Unwinding::unwound, crate::specs::Unwinding::stop_of))]
     pub fn new(
         space: &'s AddressSpace<'c>,

@@ -8,8 +8,8 @@ ghost use Rattle.unwind.specs.Unwinding as spec;
 ghost use Rattle.unwind.specs.declared.faults.Stop as stops;
 ghost use Rattle.unwind.specs.declared.frame.Frame as numbers;
 
-/// The frames of a thread are those of the relation: no frame but the last has a reason to be it, and behind each other
-/// comes its next. There are no others, and at most 1,024. It does nothing.
+/// The frames of a thread are those of the relation: no frame but the last has a reason to be it, and each other is
+/// followed by its next. There are no others, and at most 1,024. It does nothing.
 pub fn the_frames_are_unwound()
     ensures found { (p : ProcessView) (desc : List ℕ) → (behind : List numbers.Frame)
         × (spec.unwound p desc ≡ spec.first_frame desc ∷ behind)
@@ -20,17 +20,17 @@ pub fn the_frames_are_unwound()
     ensures few { (p : ProcessView) (desc : List ℕ) → length (spec.unwound p desc) ≤ 1024 }
 {}
 
-/// Each frame behind another stands on one of three rules: a signal saved it; a call to no code, or to a stub of the procedure
-/// linkage table, was made from it; or its pc is the value of the return column by its rule, in the row of the first FDE
-/// that covers the address that is looked up for the frame before, and so is each of its registers, but that which a call
-/// wrote. It does nothing.
+/// Each frame after another follows by one of three rules. A signal saved it. Or a call to no code, or to a stub of the
+/// procedure linkage table, was made from it. Or its pc is the value of the return column by its rule, in the row of the
+/// first FDE that covers the address that is looked up for the frame before, and so is each of its registers, but that
+/// which a call wrote. It does nothing.
 pub fn each_frame_stands_on_a_rule()
     ensures { (p : ProcessView) (n : ℕ) (f : numbers.Frame) (behind : List numbers.Frame) (stop : stops.Stop)
         → spec.IsUnwoundFrom p n f behind stop → stands.EachStands p f behind }
 {}
 
-/// The stack goes on upwards: between two signals no CFA is below the one before, and none with the same pc is equal. It does
-/// nothing.
+/// The stack continues upwards: between two signals no CFA is below the one before, and none with the same pc is equal. It
+/// does nothing.
 pub fn the_stack_rises()
     ensures { (p : ProcessView) (desc : List ℕ) (behind : List numbers.Frame) (stop : stops.Stop)
         → spec.IsUnwoundFrom p spec.most (spec.first_frame desc) behind stop

@@ -33,7 +33,7 @@ len_here space (x ∷ xs) a zero run fits = absurd (omega (arith, fits))
 len_here space (x ∷ xs) a (suc n) run fits =
     ap (λ t. cond t (text_len space (a + 1) n + 1) 0) (text_here space x a run.0) ∙ ap (λ m. cond (is_text_byte x) (m + 1) 0) (len_here space xs (a + 1) n run.1 (omega (arith, fits)))
 
--- whether a byte of text stands before an address
+-- whether a byte of text is right before an address
 abbrev pub is_within : Space → ℕ → Bool
 is_within space a = not (eqb a 0) && is_text_at space (a - 1)
 

@@ -20,7 +20,7 @@ pick false p q q' r = refl
 first_other : (z : ℕ) (w : Bool) (p : ℕ × ℕ) (q r : List (ℕ × ℕ)) → is_text_byte z ≡ false → cond (is_text_byte z && not w) (p ∷ q) r ≡ r
 first_other z w p q r other = cond-false (is_text_byte z && not w) _ _ (ap (λ t. t && not w) other)
 
--- behind such a byte all begins anew
+-- after such a byte all begins anew
 pub texts_part : (xs : List ℕ) (w : Bool) (a z : ℕ) (ys : List ℕ) → is_text_byte z ≡ false
     → texts w a (xs ++ z ∷ ys) ≡ texts w a (xs ++ z ∷ []) ++ texts false (a + (length xs + 1)) ys
 unfolding texts
@@ -73,7 +73,7 @@ goes_on : (x a : ℕ) (ys : List ℕ) → is_text_byte x ≡ true → texts true
 unfolding texts
 goes_on x a ys text = cond-false (is_text_byte x && false) _ _ (nothing_begins (is_text_byte x)) ∙ ap (λ t. texts t (a + 1) ys) text
 
--- a text, and what comes behind its first byte
+-- a text, and what follows its first byte
 starts : (x a : ℕ) (ys : List ℕ) → is_text_byte x ≡ true → texts false a (x ∷ ys) ≡ (a, text_front (x ∷ ys)) ∷ texts true (a + 1) ys
 unfolding texts
 starts x a ys text = cond-true (is_text_byte x && true) _ _ (ap (λ t. t && true) text)
@@ -117,7 +117,7 @@ text_alone : (x : ℕ) → is_text_byte x ≡ true → text_front (x ∷ []) ≡
 unfolding text_front
 text_alone x text = cond-true (is_text_byte x) _ _ text
 
--- behind bytes whose last is no text all begins anew
+-- after bytes whose last is no text all begins anew
 behind_closed : (body tail : List ℕ) → IsClosed body → texts false 0 (body ++ tail) ≡ texts false 0 body ++ texts false (length body) tail
 unfolding texts
 behind_closed body tail (inl none) = subst (λ (b : List ℕ). texts false 0 (b ++ tail) ≡ texts false 0 b ++ texts false (length b) tail) (sym none) refl
@@ -158,7 +158,7 @@ told least found new body tail fed count some long is before added =
     ∙ ap (λ x. filter (is_long least) (texts false 0 body) ++ x) (sym (long_some least (length body) (length tail) some))
     ∙ sym (filter-append (is_long least) (texts false 0 body) (if_some (length body) (length tail)))
 
--- what is found behind a byte that is no text, and at the end
+-- what is found after a byte that is no text, and at the end
 pub told_other : (least : ℕ) (found new : List (ℕ × ℕ)) (body tail : List ℕ) (z fed count : ℕ) → 0 < least → IsClosed body → text_front tail ≡ length tail → is_text_byte z ≡ false → fed ≡ length body + length tail → count ≡ length tail
     → found ≡ filter (is_long least) (texts false 0 body) → new ≡ found ++ filter (is_long least) ((fed - count, count) ∷ []) → new ≡ filter (is_long least) (texts false 0 ((body ++ tail) ++ z ∷ []))
 told_other least found new body tail z fed count some closed all other long is before added =

@@ -5,7 +5,7 @@ use Rattle.std.proofs.lemmas.List.{drop_all, drop-drop, drop-append-le, get_or-d
 use Rattle.memchr.specs.Find.{FindsNeedle, OccursAt}
 use Rattle.windowed_search.specs.Places.{begins, last_of, places}
 
--- what comes first is not in the bytes behind
+-- what comes first is not in the bytes after it
 begins_append : (ns xs ys : List ℕ) → length ns ≤ length xs → begins ns (xs ++ ys) ≡ begins ns xs
 unfolding begins
 begins_append [] xs ys fits = refl

@@ -2,7 +2,7 @@
 use Rattle.std.specs.Prelude.{◌≡◌, ℕ, ◌+◌, List, [], ◌∷◌, None, Some}
 use Rattle.address_space.specs.Source.{Space, value_at}
 
--- these are the values of the addresses from a on, and the address behind them has none
+-- these are the values of the addresses from a on, and the address after them has none
 abbrev pub IsRunOf : Space → ℕ → List ℕ → Type 0
 IsRunOf space a [] = value_at space a ≡ None
 IsRunOf space a (x ∷ xs) = (value_at space a ≡ Some x) × IsRunOf space (a + 1) xs

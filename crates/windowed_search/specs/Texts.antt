@@ -1,4 +1,4 @@
--- The texts in bytes, which stand from an address on.
+-- The texts in bytes, which begin at an address.
 use Rattle.std.specs.Prelude.{ℕ, ◌+◌, ◌&&◌, not, if◌then◌else◌, Bool, true, List, [], ◌∷◌}
 use Rattle.address_space.specs.Occurrence.{is_text_byte}
 
@@ -7,7 +7,7 @@ unfoldable pub text_front : List ℕ → ℕ
 text_front [] = 0
 text_front (x ∷ xs) = if is_text_byte x then text_front xs + 1 else 0
 
--- each stretch of bytes of text, as long as can be, by its first address and its length; whether a byte of text stands before them
+-- each stretch of bytes of text, as long as can be, by its first address and its length; whether a byte of text is right before them
 unfoldable pub texts : Bool → ℕ → List ℕ → List (ℕ × ℕ)
 texts within a [] = []
 texts within a (x ∷ xs) =

@@ -7,8 +7,8 @@ ghost use Rattle.windowed_search.specs.Places.{places};
 ghost use Rattle.windowed_search.specs.Runs.{IsRunOf};
 ghost use Rattle.windowed_search.specs.Texts.{texts};
 
-/// A search of bytes is the search of their windows: of the first window, and of the others behind the last bytes of the first, one
-/// fewer than the needle has. It does nothing.
+/// A search of bytes is the search of their windows: of the first window, and of the others after the last bytes of the
+/// first, one fewer than the needle has. It does nothing.
 pub fn windows_have_all_places()
     ensures { (needle xs ys : List ℕ) (a : ℕ) → 0 < length needle
         → places needle a (xs ++ ys) ≡ places needle a xs ++ places needle (a + (length xs - (length needle - 1))) (drop (length xs - (length needle - 1)) xs ++ ys) }
@@ -21,15 +21,15 @@ pub fn places_are_occurrences()
         → filter (occurs space needle) (range_with_len a (length xs)) ≡ places needle a xs }
 {}
 
-/// The texts that begin at the addresses of a memory in a row that have a value are the texts in these values, if no byte of text
-/// stands before the first. It does nothing.
+/// The texts that begin at the addresses of a memory in a row that have a value are the texts in these values, if no byte
+/// of text is right before the first. It does nothing.
 pub fn texts_are_those_in_memory()
     ensures { (space : Space) (xs : List ℕ) (a : ℕ) → IsRunOf space a xs → a + length xs ≤ 2 ^ 64 → is_text_at space (a - 1) ≡ false
         → map (text_from space) (filter (begins_text space) (range_with_len a (length xs))) ≡ texts false a xs }
 {}
 
-/// Behind a byte that is no text all texts are found anew: those of the bytes up to it, and those of the bytes behind it. It does
-/// nothing.
+/// After a byte that is no text all texts are found anew: those of the bytes up to it, and those of the bytes after it. It
+/// does nothing.
 pub fn a_text_ends_at_another_byte()
     ensures { (xs ys : List ℕ) (z a : ℕ) (within : Bool) → is_text_byte z ≡ false
         → texts within a (xs ++ z ∷ ys) ≡ texts within a (xs ++ z ∷ []) ++ texts false (a + (length xs + 1)) ys }

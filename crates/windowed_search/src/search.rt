@@ -13,7 +13,7 @@ pub struct Search<'n> {
     finder: Finder<'n>,
     // How many bytes were fed before those of the tail.
     pub(crate) first: u64,
-    // The last bytes that were fed: with them a match that goes over the end of a window is found.
+    // The last bytes that were fed: with them a match across the end of a window is found.
     pub(crate) tail: Vec<u8>,
     // The tail, and the window at hand.
     bytes: Vec<u8>,
@@ -39,7 +39,7 @@ impl<'n> Search<'n> {
         }
     }
 
-    // Puts the window behind the tail.
+    // Puts the window after the tail.
     fn take_in(&mut self, window: &[u8]) -> Result<(), AllocError>
         ensures bytes { OnOk result (self.new.bytes.items ≡ self.old.tail.items ++ window.now) }
         ensures others { (self.new.needle ≡ self.old.needle) × (self.new.first ≡ self.old.first) × (self.new.tail ≡ self.old.tail) }

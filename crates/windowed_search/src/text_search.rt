@@ -68,8 +68,8 @@ impl TextSearch {
         Ok(())
     }
 
-    /// Appends each text that ends in this window, by the number of bytes that were fed before it and its length. A text that goes on
-    /// to the end of the window is told later. The error is that there is no memory: the search is of no use then.
+    /// Appends each text that ends in this window, by the number of bytes that were fed before it and its length. A text
+    /// that reaches the end of the window is told later. The error is that there is no memory: the search is of no use then.
     pub fn feed(&mut self, window: &[u8], found: &mut Vec<(u64, u64)>) -> Result<(), AllocError>
         requires fits { self.old.fed + length window.now < 2 ^ 64 }
         ensures least { self.new.least ≡ self.old.least }
@@ -81,8 +81,8 @@ impl TextSearch {
         Ok(())
     }
 
-    /// Appends the text that goes on to the end of all bytes. Then each text of at least that many bytes is found. The error is that
-    /// there is no memory.
+    /// Appends the text that reaches the end of all bytes. Then each text of at least that many bytes is found. The error is
+    /// that there is no memory.
     pub fn end(&self, found: &mut Vec<(u64, u64)>) -> Result<(), AllocError>
         ensures { (xs : List ℕ) → HasRead self.now xs found.old.items → OnOk result (found.new.items ≡ filter (is_long self.now.least) (texts false 0 xs)) }
     {

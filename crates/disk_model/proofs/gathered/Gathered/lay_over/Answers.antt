@@ -26,7 +26,7 @@ returns-then-skipped-into c = record {
       ∙ laid_within l self.at bytes c.args.at n within fits c.if-at-self.true c.if-skipped-into.true;
 }
 
--- they begin behind it
+-- they begin after it
 pub returns-else-skipped-into : goal.returns-else-skipped-into
 returns-else-skipped-into c = record {
   laid = λ l within fits is. is ∙ laid_nothing l c.args.self.now.at c.args.self.now.bytes.items c.args.at (length c.args.into.now) within fits (inl (omega (arith, c.if-at-self.true, c.if-skipped-into.false)));

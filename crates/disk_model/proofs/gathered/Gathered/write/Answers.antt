@@ -13,7 +13,7 @@ returns-then-takes-clause-taken g c =
     let takes = c.if-takes.ensures in
     gathered_behind g.D.Disk laws c.args.disk.now tt self.at self.bytes.items new.at c.args.at c.args.from.now new.bytes.items takes.taken takes.placed takes.stays c.requires.gathered c.requires.within self.few
 
--- gathered behind a write of the others
+-- gathered after a write of the others
 pub returns-then-takes-2-clause-taken : goal.returns-then-takes-2-clause-taken
 returns-then-takes-2-clause-taken g c =
     let m = g.met.D.Disk in
@@ -31,7 +31,7 @@ returns-then-takes-2-clause-taken g c =
     taken_on g.D.Disk laws (laden disk self.at self.bytes.items) (laden below mid.at mid.bytes.items) (laden below new.at new.bytes.items) quiet _ c.args.at c.args.from.now
     (gathered_behind g.D.Disk laws below tt mid.at mid.bytes.items new.at c.args.at c.args.from.now new.bytes.items takes.taken takes.placed takes.stays c.write_out.ensures.within (omega (arith, quiet.size, c.requires.within)) mid.few)
 
--- written behind a write of the others
+-- written after a write of the others
 pub returns-clause-taken : goal.returns-clause-taken
 returns-clause-taken g c =
     let m = g.met.D.Disk in

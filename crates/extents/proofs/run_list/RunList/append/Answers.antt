@@ -24,7 +24,7 @@ returns-then-last-run-clause-ok c =
     blocks_grown v.items v.len v.ok.0 c.in-Some.last.now (c.in-Some.ensures.variant.0 refl) c.in-Some.ensures.item.1 c.args.run c.if-last-run.true
     ∙ ap (λ xs. xs ++ run_blocks c.args.run) c.self.view_is
 
--- the items that the new run is put behind
+-- the items that the new run is put after
 items_stay : (c : goal.In_ok-push) → c.match-last_mut.self-inside.runs.items ≡ c.self.inside.runs.items
 items_stay c = elim c.match-last_mut.branch [
   | in-Some+else-last-run w ↦ ap (λ f. f.runs.items) w.self-inside-is ∙ set_same c.self.inside.runs.items c.self.inside.runs.len w.in-Some.last.now w.in-Some.ensures.value
