@@ -2,7 +2,7 @@
 _corekeep() {
     local word=${COMP_WORDS[COMP_CWORD]}
     local before=${COMP_WORDS[COMP_CWORD-1]}
-    local commands="format run store handle list ask extract memory"
+    local commands="format run store handle list ask look extract memory"
     local lines="list free delete pin unpin label retire upgrade header notes threads regs process signal auxv files maps dump find strings bt unwind frame builds symbol"
     local session="--template --uses-pid --limit"
     COMPREPLY=()
@@ -27,7 +27,7 @@ _corekeep() {
     run) options="--no-wait $session --help" ;;
     store) options="--exec --label --escape --keep --bytes --before --log --no-wait $session --help" ;;
     handle) options="--check --archive --help" ;;
-    list | ask | extract) options="--no-wait --help" ;;
+    list | ask | look | extract) options="--no-wait --help" ;;
     memory) options="--half --data $session --help" ;;
     esac
     case $word in

@@ -1,2 +1,3 @@
 pub mod MakeLemmas
 pub mod HeldLemmas
+pub mod AskLemmas

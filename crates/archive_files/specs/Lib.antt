@@ -4,4 +4,6 @@ pub mod Making
 pub mod Holding
 pub mod Telling
 pub mod Looking
+pub mod Asking
+pub mod Look
 pub mod Taken

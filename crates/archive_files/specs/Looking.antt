@@ -1,18 +1,25 @@
 -- How it is told that an archive could not be looked at, or that an image was not copied while others may change it.
+use Rattle.std.specs.Prelude.{◌≡◌, ℕ, Bool, true, false, List, Option, Result, Ok, Err}
 use Rattle.disk_model.specs.declared.file_disk.FileFault.{FileFault}
 use Rattle.disk_model.specs.declared.file_disk.FileFault.TheVariants as file
 use Rattle.inspector_cli.specs.declared.copying.CopyFault.{CopyFault}
 use Rattle.inspector_cli.specs.declared.copying.CopyFault.TheVariants as copy
 use Rattle.inspector_cli.specs.declared.session.SessionFault.TheVariants.{WriteFailed}
 use Rattle.intake.specs.declared.faults.ArchiveFault.TheVariants.{Disk, NoCase}
+use Rattle.shared_disk.specs.Looks.{shared_of}
+use Rattle.shared_disk.specs.declared.looked.Looked.{Looked}
 use Rattle.shared_disk.specs.declared.shared.LookFault.{LookFault}
 use Rattle.shared_disk.specs.declared.shared.LookFault.TheVariants as look
+use Rattle.shared_disk.specs.declared.shared.SharedDisk as shared
+use Rattle.unlocked_reading.specs.Copying.{CopiesUnlocked}
 use Rattle.unlocked_reading.specs.declared.faults.UnlockedFault.{UnlockedFault}
 use Rattle.unlocked_reading.specs.declared.faults.UnlockedFault.TheVariants as unlocked
 use Rattle.archive_files.specs.declared.failures.Failure.{Failure}
 use Rattle.archive_files.specs.declared.failures.Failure.TheVariants.{Aside, Faulted}
 use Rattle.archive_files.specs.declared.failures.FileWord.TheVariants.{Archive}
+use Rattle.archive_files.specs.declared.failures.Refusal.{Refusal}
 use Rattle.archive_files.specs.declared.failures.Refusal.TheVariants.{File, Open, Call}
+use Rattle.archive_files.specs.declared.over_disk.Unfinished.{Unfinished}
 
 abbrev pub look_fault : LookFault → FileFault
 look_fault look.Busy = file.Busy
@@ -35,3 +42,20 @@ unlocked_told (unlocked.Copy f) = copy_told f
 unlocked_told (unlocked.Look f) = Aside (File Archive (look_fault f))
 unlocked_told (unlocked.Reopen f) = Aside (Open f)
 unlocked_told unlocked.Gone = Aside (Call NoCase)
+
+-- The case is known to have been there all the time that it was read.
+abbrev pub was_there : UnlockedFault → Bool
+was_there (unlocked.Look f) = false
+was_there (unlocked.Reopen f) = false
+was_there unlocked.Gone = false
+was_there _ = true
+
+-- how a copy ended
+abbrev pub copy_ended : Result (Unit {0}) UnlockedFault → Result (Unit {0}) Unfinished
+copy_ended (Ok u) = Ok tt
+copy_ended (Err f) = Err (record { failure = unlocked_told f; is_front = was_there f })
+
+-- The image of a case is copied from a look at its archive on. Where there was no look, that is told, and the output is not touched.
+abbrev pub CopiesLooked : {S : Type 0} (g : shared.Ghosts S) → ℕ → Option (List ℕ) → Option (List ℕ) → Result (Looked S g) Refusal → Result (Unit {0}) Unfinished → Type 0
+CopiesLooked g seq taken taken' (Ok looked) r = (copied : Result (Unit {0}) UnlockedFault) × CopiesUnlocked g (shared_of looked) seq taken taken' copied × (r ≡ copy_ended copied)
+CopiesLooked g seq taken taken' (Err refusal) r = (r ≡ Err (record { failure = Aside refusal; is_front = true })) × (taken' ≡ taken)

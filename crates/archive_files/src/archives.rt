@@ -178,7 +178,7 @@ pub fn names_output<R: Files<File = File>>(rt: &R, words: &[String]) -> bool {
 fn takes_archive(command: &str) -> bool {
     matches!(
         command,
-        "format" | "run" | "store" | "extract" | "list" | "ask"
+        "format" | "run" | "store" | "extract" | "list" | "ask" | "look"
     )
 }
 

@@ -1,6 +1,7 @@
 // Why the program ends with a status other than 0, and how it says so.
 ghost use Rattle.std.specs.Prelude.{◌≡◌, ◌≢◌, ◌≤◌, true};
 ghost use Rattle.script_streams.specs.Replies.{TellsText, telling, no_reply};
+ghost use Rattle.script_streams.specs.Telling.{IsDelivered};
 ghost use Rattle.archive_files.specs.Telling.{IfFaulted, IfRefused, IsToldAs, fault_line, fault_words, file_words, is_aside, open_words, refusal_words};
 ghost use Rattle.archive_files.specs.declared.failures.Failure.TheVariants.{Faulted, Refused};
 ghost use Rattle.archive_files.specs.declared.failures.Refusal.{Refusal};
@@ -13,7 +14,7 @@ use inspector_cli::{MemoryFault, SessionFault, reason};
 use intake::ArchiveFault;
 use journal_layout::{BadShape, OpenFault};
 use name_template::TemplateFault;
-use script_streams::{Output, Reply, write_whole};
+use script_streams::{Output, Reply, StreamFault, write_whole};
 use std::alloc::{AllocError, Global};
 use std::io;
 
@@ -220,12 +221,19 @@ fn tell_refusal<O: Output>(refusal: Refusal, output: &mut O) -> u8
     ensures status { result ≡ 1 }
     ensures told { IsToldAs (O.taken output.old) (O.taken output.new) (O.failures output.old) (O.failures output.new) (no_reply (refusal_words refusal)) }
 {
+    let _ = write_refusal(refusal, output);
+    1
+}
+
+// Writes the line that says what is refused.
+pub(crate) fn write_refusal<O: Output>(refusal: Refusal, output: &mut O) -> Result<(), StreamFault>
+    ensures { IsDelivered (O.taken output.old) (O.failures output.old) (O.taken output.new) (O.failures output.new) (no_reply (refusal_words refusal)) result }
+{
     let mut reply = Reply::new(output);
     reply.tell(b"no ");
     tell_reason(&mut reply, refusal);
     reply.tell(b"\n");
-    let _ = reply.finish();
-    1
+    reply.finish()
 }
 
 /// The reason of a refusal.

@@ -3,10 +3,12 @@
 
 mod archive_path;
 mod archives;
+mod asking;
 mod collected;
 mod failures;
 mod file_store;
 mod held;
+mod look_session;
 mod looking;
 mod making;
 mod outcomes;
@@ -19,10 +21,12 @@ mod unsent;
 
 pub use archive_path::ArchivePath;
 pub use archives::{Access, NewArchive, make_archive, names_output, take_disk};
+pub use asking::ask_looked;
 pub use collected::Collected;
 pub use failures::{Failure, FileWord, Refusal, WordPart, reason_of, tell_failure, tell_unwritten};
 pub use file_store::{refuse_taken, store_file, store_taken};
 pub use held::Held;
+pub use look_session::look;
 pub use looking::take_look;
 pub use over_disk::{ask_over, run_over};
 pub use shapes::shape_on;

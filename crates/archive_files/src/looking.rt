@@ -1,6 +1,6 @@
 // Archives that are looked at in their files.
 ghost use Rattle.std.specs.Prelude.{◌≡◌};
-ghost use Rattle.archive_files.specs.Looking.{copy_told, look_fault, unlocked_told};
+ghost use Rattle.archive_files.specs.Looking.{copy_told, look_fault, unlocked_told, was_there};
 
 use crate::archive_path::ArchivePath;
 use crate::archives::{Access, MOST_TRIES, look_at_file, open_file};
@@ -42,7 +42,7 @@ fn look_at<R: AllocGlobal + Files<File = File>>(
 }
 
 // Why a file could not be looked at.
-fn look_fault(fault: LookFault) -> FileFault
+pub(crate) fn look_fault(fault: LookFault) -> FileFault
     ensures { result ≡ look_fault fault }
 {
     match fault {
@@ -83,7 +83,9 @@ fn copy_told(fault: CopyFault) -> Failure
 
 /// Whether a case is known to have been there all the time that it was read, by how its copy ended. If not, what was written may be
 /// no front of its image.
-pub fn was_there(fault: &UnlockedFault) -> bool {
+pub(crate) fn was_there(fault: &UnlockedFault) -> bool
+    ensures { result ≡ was_there fault.now }
+{
     match fault {
         UnlockedFault::Look(_) => false,
         UnlockedFault::Reopen(_) => false,

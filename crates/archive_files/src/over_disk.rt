@@ -1,12 +1,12 @@
 // What `run`, `ask` and `extract` do over the archive on a disk.
-ghost use Rattle.std.specs.Prelude.{◌≡◌, ◌^◌, ◌-◌, option_map};
+ghost use Rattle.std.specs.Prelude.{◌≡◌, ◌^◌, ◌-◌, option_map, Err};
 ghost use Rattle.script_lines.specs.Commands.{question_said};
 ghost use Rattle.inspector_cli.specs.Session.{streams_of};
-ghost use Rattle.shared_disk.specs.Looks.{shared_of};
-ghost use Rattle.unlocked_reading.specs.Copying.{CopiesUnlocked};
+ghost use Rattle.archive_files.specs.Looking.{CopiesLooked, copy_ended};
 ghost use Rattle.archive_files.specs.OverDisks.{RunsOnDisk, AnswersLine, LooksOnDisk};
 
 use crate::failures::{Failure, Refusal};
+use crate::looking::{unlocked_told, was_there};
 use crate::outcomes::{ask_told, run_told};
 use disk_model::Disk;
 use inspector_cli::{Naming, Question, open_and_ask, open_and_run};
@@ -63,16 +63,44 @@ impl CaseNumber {
     }
 }
 
-/// Copies the image of a case to an output, from a look at its archive on, while others may change the archive.
+/// A copy that did not come to its end.
+#[derive(Drop)]
+pub struct Unfinished {
+    pub failure: Failure,
+    /// The case is known to have been there all the time that it was read, or nothing was written.
+    pub is_front: bool,
+}
+
+/// Copies the image of a case to an output, from a look at its archive on, while others may change the archive; or tells why there
+/// was no look.
 pub fn copy_over<S: SharedDisk + Drop, O: Output>(
     alloc: Global,
-    looked: Looked<S>,
+    looked: Result<Looked<S>, Refusal>,
     case: CaseNumber,
     output: &mut O,
-) -> Result<(), UnlockedFault>
-    ensures { CopiesUnlocked S.SharedDisk (shared_of looked) case.seq (O.taken output.old) (O.taken output.new) result }
+) -> Result<(), Unfinished>
+    ensures { CopiesLooked S.SharedDisk case.seq (O.taken output.old) (O.taken output.new) looked result }
 {
-    copy_unlocked(alloc, looked, case.seq, output)
+    match looked {
+        Ok(looked) => match copy_unlocked(alloc, looked, case.seq, output) {
+            Ok(()) => Ok(()),
+            Err(fault) => Err(stopped_by(fault)),
+        },
+        Err(refusal) => Err(Unfinished {
+            failure: Failure::Aside(refusal),
+            is_front: true,
+        }),
+    }
+}
+
+// The copy that a fault ended.
+fn stopped_by(fault: UnlockedFault) -> Unfinished
+    ensures { Err result ≡ copy_ended (Err fault) }
+{
+    Unfinished {
+        is_front: was_there(&fault),
+        failure: unlocked_told(fault),
+    }
 }
 
 /// Opens the archive on a disk for the sake of what is wrong with it, and hands the disk back.

@@ -6,9 +6,10 @@ ghost use Rattle.archive_files.specs.Told.{access_by};
 
 use crate::archive_path::ArchivePath;
 use crate::archives::{Access, take_disk};
+use crate::asking::ask_looked;
 use crate::failures::{Failure, FileWord, Refusal};
 use crate::held::Held;
-use crate::looking::{take_look, unlocked_told, was_there};
+use crate::looking::take_look;
 use crate::over_disk::{CaseNumber, ask_over, copy_over};
 use crate::part_file::{begin, give_name, part_of};
 use disk_model::FileFault;
@@ -43,40 +44,8 @@ fn extract_to<R: AllocGlobal + Files<File = File>, O: Output>(
     case: CaseNumber,
     output: &mut O,
 ) -> Result<(), Failure> {
-    copy_from(rt, place, case, output).map_err(|unfinished| unfinished.failure)
-}
-
-// A copy that did not come to its end.
-#[derive(Drop)]
-struct Unfinished {
-    failure: Failure,
-    // Whether the case is known to have been there all the time that it was read, or nothing was written.
-    is_front: bool,
-}
-
-// Copies the image of a case of the archive in a file.
-fn copy_from<R: AllocGlobal + Files<File = File>, O: Output>(
-    rt: &R,
-    place: ArchivePath<'_>,
-    case: CaseNumber,
-    output: &mut O,
-) -> Result<(), Unfinished> {
-    let looked = match take_look(rt, place) {
-        Ok(looked) => looked,
-        Err(refusal) => {
-            return Err(Unfinished {
-                failure: Failure::Aside(refusal),
-                is_front: true,
-            });
-        }
-    };
-    match copy_over(rt.alloc(), looked, case, output) {
-        Ok(()) => Ok(()),
-        Err(fault) => Err(Unfinished {
-            is_front: was_there(&fault),
-            failure: unlocked_told(fault),
-        }),
-    }
+    let copied = copy_over(rt.alloc(), take_look(rt, place), case, output);
+    copied.map_err(|unfinished| unfinished.failure)
 }
 
 // FILE has its name only once it is whole and synced, and the case was found again. Until then it is called FILE.part. What was
@@ -91,7 +60,7 @@ fn extract_to_file<R: AllocGlobal + Files<File = File>>(
     let part = part_of(rt.alloc(), path).map_err(|_| Failure::Aside(Refusal::OutOfMemory))?;
     let file = begin(rt, path, &part).map_err(|fault| refused_file(fault))?;
     let mut output = WriteOutput::new(file);
-    let done = copy_from(rt, place, case, &mut output);
+    let done = copy_over(rt.alloc(), take_look(rt, place), case, &mut output);
     let why = output.fault();
     let file = output.into_inner();
     match done {
@@ -130,14 +99,27 @@ fn is_empty(file: &File) -> bool {
     }
 }
 
-/// Answers one question, and writes its reply once the archive is let go.
+/// Answers one question. If it only looks, others may change the archive while its images are read and its reply is written.
 pub fn ask<R: AllocGlobal + Files<File = File>, O: Output>(
     rt: &R,
     place: ArchivePath<'_>,
     question: Question,
     output: &mut O,
 ) -> Result<(), Failure> {
-    let disk = take_disk(rt, place, access_of(&question))?;
+    match access_of(&question) {
+        Access::Looking => ask_looked(rt.alloc(), take_look(rt, place), question, output),
+        Access::Changing => ask_locked(rt, place, question, output),
+    }
+}
+
+// Answers one question with the archive's lock, and writes its reply once the archive is let go.
+fn ask_locked<R: AllocGlobal + Files<File = File>, O: Output>(
+    rt: &R,
+    place: ArchivePath<'_>,
+    question: Question,
+    output: &mut O,
+) -> Result<(), Failure> {
+    let disk = take_disk(rt, place, Access::Changing)?;
     let mut reply = Held::new(rt.alloc(), output);
     let (asked, disk) = ask_over(rt.alloc(), disk, question, &mut reply);
     drop(disk);
@@ -147,7 +129,7 @@ pub fn ask<R: AllocGlobal + Files<File = File>, O: Output>(
     asked
 }
 
-// A question that changes nothing needs no right to write the archive's file.
+// A question that changes nothing needs no right to write the archive's file, and no lock while it is answered.
 fn access_of(question: &Question) -> Access
     ensures { result ≡ access_by (only_looks (question_said question.now)) }
 {

@@ -56,6 +56,10 @@ pub(crate) enum Asked<'a> {
         archive: ArchivePath<'a>,
         question: Question,
     },
+    // The lines of the input that only look, and their replies.
+    Look {
+        archive: ArchivePath<'a>,
+    },
     // Nothing.
     Nothing,
 }
@@ -109,6 +113,9 @@ pub(crate) fn read_words<'a>(alloc: Global, words: &'a [String]) -> Result<Asked
         Some(("ask", found)) => Ok(Asked::Ask {
             archive: place_of(found)?,
             question: question_of(alloc, found)?,
+        }),
+        Some(("look", found)) => Ok(Asked::Look {
+            archive: place_of(found)?,
         }),
         _ => Ok(Asked::Nothing),
     }

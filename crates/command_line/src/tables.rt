@@ -43,7 +43,7 @@ pub(crate) struct CommandWords {
 }
 
 // The commands, in the order in which help shows them.
-pub(crate) static COMMANDS: [CommandWords; 8] = [
+pub(crate) static COMMANDS: [CommandWords; 9] = [
     CommandWords {
         name: "format",
         about: "makes an archive in a new file, with no case in it",
@@ -82,6 +82,12 @@ pub(crate) static COMMANDS: [CommandWords; 8] = [
         about: "carries out one line of a script over an archive, and writes its reply; the status is 1 where it is refused",
         after_help: Some(ASK_HELP),
         words: &[ARCHIVE, LINE, NO_WAIT],
+    },
+    CommandWords {
+        name: "look",
+        about: "answers the lines on standard input that change nothing, while others may store cores",
+        after_help: None,
+        words: &[ARCHIVE, NO_WAIT],
     },
     CommandWords {
         name: "extract",

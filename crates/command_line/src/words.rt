@@ -9,8 +9,8 @@ use crate::log::Log;
 use crate::raw_words::words_of;
 use crate::teller::{Teller, store_told};
 use archive_files::{
-    Access, ArchivePath, Failure, Refusal, StoreRequest, ask, extract, make_archive, names_output,
-    run_over, store_file, take_disk,
+    Access, ArchivePath, Failure, Refusal, StoreRequest, ask, extract, look, make_archive,
+    names_output, run_over, store_file, take_disk,
 };
 use inspector_cli::{Naming, memory_session};
 use intake::Settings;
@@ -61,8 +61,9 @@ pub fn run_program<
 ///   line `label` of a script gives the new case this label, and its reply goes behind the others; where it is refused, as in
 ///   an archive of version 1 of the layout, the case stays.
 /// - `list ARCHIVE` and `ask ARCHIVE WORD..` carry out one line of a script, `extract ARCHIVE N [FILE]` writes the image of a
-///   case. A line that changes no case, and `extract`, need no right to write the archive's file, and wait for no other that
-///   only looks.
+///   case. A line that changes no case, and `extract`, need no right to write the archive's file, and hold its lock only while they
+///   read its journal.
+/// - `look ARCHIVE` answers the lines of `input` that change no case, each as `ask` does.
 ///
 /// `run`, `memory` and `store` take `--template T` and `--uses-pid`, by which cores are named, and `--limit N`, the most bytes of an
 /// image. Statuses: 0; 1 where something is refused, with one line `no REASON` on `output` (and, of a file, why in words on
@@ -134,6 +135,7 @@ fn answer_asked<R: AllocGlobal + Files<File = File> + Clock, I: Read, O: Output>
         } => extract(rt, archive, case, file, output),
         Asked::Handle(words) => handle(rt, words, input, output),
         Asked::Ask { archive, question } => ask(rt, archive, question, output),
+        Asked::Look { archive } => look(rt, archive, &mut ReadInput::new(input), output),
         Asked::Nothing => Ok(()),
     }
 }

@@ -1,10 +1,4 @@
-use Rattle.std.proofs.Common.{[], rules}
 use Rattle.archive_files.proofs.failures.tell_refusal.Goals as goal
 
 pub returns-clause-told : goal.returns-clause-told
-returns-clause-told g c =
-    let no = c.tell.ensures _ _ _ [] c.new-reply.ensures.told in
-    let reason = c.tell_reason.ensures _ _ _ _ no in
-    let all = c.tell-2.ensures _ _ _ _ reason in
-    let taken = c.finish.ensures.delivered _ _ _ _ all in
-    (c.finish.result, search (all.same, c.finish.ensures.same, taken, rules))
+returns-clause-told g c = (c.write_refusal.result, c.write_refusal.ensures)
