@@ -7,7 +7,8 @@ use Rattle.intake.specs.declared.faults.ArchiveFault.{ArchiveFault}
 use Rattle.journal_layout.specs.declared.entry.Kind.{Kind}
 use Rattle.script_lines.specs.Queries.{QuerySaid}
 use Rattle.script_streams.specs.Replies.{no_reply}
-use Rattle.case_queries.specs.Inspecting.{Asks, Shows, ShowsSeen, reads_executables}
+use Rattle.case_queries.specs.Inspecting.{reads_executables}
+use Rattle.case_queries.specs.Steps.{Asks, Shows, ShowsSeen}
 use Rattle.case_queries.specs.Keeping.{AreKept}
 use Rattle.case_queries.specs.LeaveLaws.{own_still, shows_leaves}
 use Rattle.case_queries.specs.Seeing.{LooksAt, IsKept}

@@ -27,7 +27,8 @@ use Rattle.script_lines.specs.declared.query.ImageQuery.TheVariants.{Header, Not
 use Rattle.script_lines.specs.declared.query.MemoryQuery.{MemoryQuery}
 use Rattle.script_lines.specs.declared.query.MemoryQuery.TheVariants.{Dump, Find, Strings, Backtrace, Unwind, Frame, Builds}
 use Rattle.script_streams.specs.Replies.{IsOutcome, no_reply, reply_of}
-use Rattle.case_queries.specs.Inspecting.{Shows, ShowsWithExecutables, ShowsCore, answer_of}
+use Rattle.case_queries.specs.Inspecting.{answer_of}
+use Rattle.case_queries.specs.Steps.{Shows, ShowsWithExecutables, ShowsCore}
 
 -- a reply of which it is known what became of it
 pub answered : (outcome : Outcome) (answer : Result (List ℕ) (List ℕ)) (reply : List ℕ) → AnswersWith outcome answer reply → Answers answer reply

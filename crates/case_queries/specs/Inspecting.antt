@@ -1,6 +1,5 @@
 -- What a line that asks an image answers, and what it leaves of the archive.
-use Rattle.std.specs.Prelude.{◌≡◌, ◌⊎◌, ℕ, List, [], Bool, true, false, Option, None, Some, Result, Ok, Err, codes, if◌then◌else◌}
-use Rattle.std.specs.Borrow.{Bor}
+use Rattle.std.specs.Prelude.{◌≡◌, ◌⊎◌, ℕ, List, [], Bool, true, false, None, Some, Result, Ok, Err, codes}
 use Rattle.address_space.specs.Source.{ExecutableView}
 use Rattle.disk_model.specs.declared.disk.Disk as disk
 use Rattle.elf_view.specs.declared.faults.Want.{Want}
@@ -48,15 +47,6 @@ kind_for (ask_symbol address) Exec = Ok Exec
 kind_for q Core = Ok Core
 kind_for q Exec = Err (codes "NotCore")
 
-abbrev pub kind_found : QuerySaid → Option Case → Result Kind (List ℕ)
-kind_found q None = Err (codes "NoCase")
-kind_found q (Some c) = kind_for q c.kind
-
--- The kind of the case that a line asks; or why it shows nothing, whatever the image: the archive is stopped, or has no such
--- case, or it is of the other kind.
-abbrev pub kind_asked : ArchiveState → ℕ → QuerySaid → Result Kind (List ℕ)
-kind_asked s seq q = if s.stopped then Err (codes "Stopped") else kind_found q (case_numbered seq s.cases)
-
 -- as what an image is read
 abbrev pub want_of : Kind → Want
 want_of Core = want.Core
@@ -99,44 +89,36 @@ abbrev pub Told : Kind → QuerySaid → List ℕ → List ℕ → Type 0
 Told kind (ask_symbol address) b reply = (reply ≡ reply_of (symbol_answer b address)) ⊎ ((reply ≡ memory_reply) × (executable_fault b ≡ None))
 Told kind q b reply = reply ≡ reply_of (answer_of kind q b [])
 
--- the reply where these executables are read, or one can't be
-abbrev pub ToldWithExecutables : Kind → QuerySaid → List ℕ → Result (List ExecutableView) ArchiveFault → List ℕ → Type 0
-ToldWithExecutables kind q b (Ok xs) reply = Answers (answer_of kind q b xs) reply
-ToldWithExecutables kind q b (Err f) reply = reply ≡ no_reply (reason_of f)
+-- The line may ask the case of this number, as one of this kind: the archive is not stopped and has the case.
+pub record MayAsk (s : ArchiveState) (seq : ℕ) (q : QuerySaid) (kind : Kind) : Type 0 where
+  pub runs : s.stopped ≡ false
+  pub entry : Case
+  pub has : case_numbered seq s.cases ≡ Some entry
+  pub asked : kind_for q entry.kind ≡ Ok kind
 
--- a core that has no fault, with the executables that are read beside it
-abbrev pub ShowsCore : {D : Type 0} → disk.Ghosts D → Parts D → Kind → QuerySaid → List ℕ → List ℕ → Parts D → Type 0
-ShowsCore g old kind q b reply new =
-    (r : Result (List ExecutableView) ArchiveFault) × CollectsAll g old (wanted_of b (state_of old).cases) r new × ToldWithExecutables kind q b r reply
-
--- the executables are read where the core has no fault
-abbrev pub ShowsWithExecutables : {D : Type 0} → disk.Ghosts D → Parts D → Kind → QuerySaid → List ℕ → Option CoreFault → List ℕ → Parts D → Type 0
-ShowsWithExecutables g old kind q b (Some fault) reply new = (reply ≡ no_reply (core_reason fault)) × (new ≡ old)
-ShowsWithExecutables g old kind q b None reply new = ShowsCore g old kind q b reply new
-
-abbrev pub ShowsBy : {D : Type 0} → disk.Ghosts D → Parts D → Kind → QuerySaid → List ℕ → Bool → List ℕ → Parts D → Type 0
-ShowsBy g old kind q b true reply new = ShowsWithExecutables g old kind q b (core_fault_of b) reply new
-ShowsBy g old kind q b false reply new = Told kind q b reply × (new ≡ old)
-
--- what a query shows of an image
-abbrev pub Shows : {D : Type 0} → disk.Ghosts D → Parts D → Kind → QuerySaid → List ℕ → List ℕ → Parts D → Type 0
-Shows g old kind q b reply new = ShowsBy g old kind q b (reads_executables q) reply new
-
--- the same, or why the image can't be read
-abbrev pub ShowsSeen : {D : Type 0} → disk.Ghosts D → Parts D → Kind → QuerySaid → Result (List ℕ) ArchiveFault → List ℕ → Parts D → Type 0
-ShowsSeen g old kind q (Ok image) reply new = Shows g old kind q image reply new
-ShowsSeen g old kind q (Err f) reply new = (reply ≡ no_reply (reason_of f)) × (new ≡ old)
-
-abbrev pub Asks : {D : Type 0} → disk.Ghosts D → Parts D → ℕ → QuerySaid → Result Kind (List ℕ) → List ℕ → Parts D → Type 0
-Asks g old seq q (Err reason) reply new = (reply ≡ no_reply reason) × (new ≡ old)
-Asks {D} g old seq q (Ok kind) reply new = (r : Result (List ℕ) ArchiveFault) × (mid : Parts D) × LooksAt g old seq r mid × ShowsSeen g mid kind q r reply new
-
--- A line that asks the image of a case: it is refused by the first reason that stands, or shows what the layouts give for the
--- bytes of that image, and of the stored executables that it names.
-abbrev pub Inspects : {D : Type 0} → disk.Ghosts D → Parts D → ℕ → QuerySaid → List ℕ → Parts D → Type 0
-Inspects g old seq q reply new = Asks g old seq q (kind_asked (state_of old) seq q) reply new
-
--- the kind that code tells, or the reason
-abbrev pub asked_view : Result Kind (Bor (List ℕ)) → Result Kind (List ℕ)
-asked_view (Ok kind) = Ok kind
-asked_view (Err reason) = Err reason.now
+-- A line that asks the image of a case, its reply, and the archive after it: the reasons why nothing is shown, in their order, and then
+-- what is shown.
+pub data Inspects {D : Type 0} (g : disk.Ghosts D) (old : Parts D) (seq : ℕ) (q : QuerySaid) (reply : List ℕ) (new : Parts D) : Type 0 where
+  -- the archive is stopped
+  archive_stopped : (state_of old).stopped ≡ true → reply ≡ no_reply (codes "Stopped") → new ≡ old → Inspects g old seq q reply new
+  -- it has no such case
+  no_such_case : (state_of old).stopped ≡ false → case_numbered seq (state_of old).cases ≡ None → reply ≡ no_reply (codes "NoCase") → new ≡ old → Inspects g old seq q reply new
+  -- the line may not ask a case of its kind
+  other_kind : (state_of old).stopped ≡ false → (c : Case) → case_numbered seq (state_of old).cases ≡ Some c → (reason : List ℕ) → kind_for q c.kind ≡ Err reason
+      → reply ≡ no_reply reason → new ≡ old → Inspects g old seq q reply new
+  -- its image can't be read
+  image_unread : (kind : Kind) → MayAsk (state_of old) seq q kind → (f : ArchiveFault) → LooksAt g old seq (Err f) new → reply ≡ no_reply (reason_of f) → Inspects g old seq q reply new
+  -- executables are wanted, and the core has a fault
+  core_faulty : (kind : Kind) → MayAsk (state_of old) seq q kind → (image : List ℕ) → LooksAt g old seq (Ok image) new
+      → reads_executables q ≡ true → (fault : CoreFault) → core_fault_of image ≡ Some fault → reply ≡ no_reply (core_reason fault) → Inspects g old seq q reply new
+  -- one of them can't be read
+  executable_unread : (kind : Kind) → MayAsk (state_of old) seq q kind → (image : List ℕ) → (mid : Parts D) → LooksAt g old seq (Ok image) mid
+      → reads_executables q ≡ true → core_fault_of image ≡ None → (f : ArchiveFault) → CollectsAll g mid (wanted_of image (state_of mid).cases) (Err f) new → reply ≡ no_reply (reason_of f)
+      → Inspects g old seq q reply new
+  -- the answer is shown, of the image and of the executables
+  shown_with_executables : (kind : Kind) → MayAsk (state_of old) seq q kind → (image : List ℕ) → (mid : Parts D) → LooksAt g old seq (Ok image) mid
+      → reads_executables q ≡ true → core_fault_of image ≡ None → (xs : List ExecutableView) → CollectsAll g mid (wanted_of image (state_of mid).cases) (Ok xs) new
+      → Answers (answer_of kind q image xs) reply → Inspects g old seq q reply new
+  -- the answer is shown, of the image alone
+  shown : (kind : Kind) → MayAsk (state_of old) seq q kind → (image : List ℕ) → LooksAt g old seq (Ok image) new → reads_executables q ≡ false → Told kind q image reply
+      → Inspects g old seq q reply new

@@ -20,7 +20,8 @@ use Rattle.journal_layout.specs.Case.{Case}
 use Rattle.journal_layout.specs.declared.entry.Kind.{Kind}
 use Rattle.script_lines.specs.Queries.{QuerySaid}
 use Rattle.case_queries.specs.Collecting.{Collects, CollectsAll, Wanted}
-use Rattle.case_queries.specs.Inspecting.{Asks, ShowsBy, ShowsWithExecutables, ShowsSeen, reads_executables}
+use Rattle.case_queries.specs.Inspecting.{reads_executables}
+use Rattle.case_queries.specs.Steps.{Asks, ShowsBy, ShowsWithExecutables, ShowsSeen}
 use Rattle.case_queries.specs.Seeing.{AreOfCase, LooksAt}
 
 -- an image that can't be read: the archive stays as it is, or is stopped

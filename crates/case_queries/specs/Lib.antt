@@ -6,3 +6,5 @@ pub mod Inspecting
 pub mod LeaveLaws
 pub mod Fronts
 pub mod Windows
+pub mod InspectLaws
+pub mod Steps

@@ -5,7 +5,8 @@ ghost use Rattle.script_lines.specs.Queries.{image_query, ask_maps};
 ghost use Rattle.script_lines.specs.declared.query.ImageQuery.{ImageQuery};
 ghost use Rattle.journal_layout.specs.declared.entry.Kind.{Kind};
 ghost use Rattle.case_queries.specs.Fronts.{IsEnough, IsSoundFront, front_want};
-ghost use Rattle.case_queries.specs.Inspecting.{Asks, answer_of, want_of};
+ghost use Rattle.case_queries.specs.Inspecting.{answer_of, want_of};
+ghost use Rattle.case_queries.specs.Steps.{Asks};
 ghost use Rattle.case_queries.specs.Keeping.{AreKept};
 ghost use Rattle.case_queries.specs.Seeing.{IsKept};
 

@@ -3,7 +3,8 @@ ghost use Rattle.std.specs.Prelude.{◌≡◌, false, IfOk, Ok};
 ghost use Rattle.intake.specs.Parts.{state_of};
 ghost use Rattle.script_streams.specs.Replies.{TellsOutcome, telling};
 ghost use Rattle.script_lines.specs.Queries.{query_of, image_query, ask_notes, ask_symbol};
-ghost use Rattle.case_queries.specs.Inspecting.{Asks, Inspects, asked_view, kind_asked, kind_for};
+ghost use Rattle.case_queries.specs.Inspecting.{Inspects, kind_for};
+ghost use Rattle.case_queries.specs.Steps.{Asks, asked_view, kind_asked};
 ghost use Rattle.case_queries.specs.Keeping.{AreKept};
 ghost use Rattle.case_queries.specs.Seeing.{IsKept};
 

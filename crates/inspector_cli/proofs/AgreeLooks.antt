@@ -17,7 +17,9 @@ use Rattle.journal_layout.specs.Soundness.{case_numbered}
 use Rattle.journal_layout.specs.Case.{Case}
 use Rattle.journal_layout.specs.declared.entry.Kind.{Kind}
 use Rattle.case_queries.specs.Collecting.{Collects, Wanted, wanted_of, with_executable}
-use Rattle.case_queries.specs.Inspecting.{Inspects, Asks, ShowsBy, ShowsWithExecutables, ShowsCore, Told, ToldWithExecutables, kind_asked, kind_found, reads_executables}
+use Rattle.case_queries.specs.InspectLaws.{steps_of}
+use Rattle.case_queries.specs.Inspecting.{Inspects, Told, reads_executables}
+use Rattle.case_queries.specs.Steps.{Asks, ShowsBy, ShowsWithExecutables, ShowsCore, ToldWithExecutables, kind_asked, kind_found}
 use Rattle.case_queries.specs.Seeing.{LooksAt}
 use Rattle.script_lines.specs.Queries.{QuerySaid, ask_symbol}
 use Rattle.script_streams.specs.Replies.{no_reply}
@@ -187,5 +189,5 @@ module _ {D E : Type 0} (g : disk.Ghosts D) (h : disk.Ghosts E) where
   pub inspects_agree : (old new : Parts D) (old' new' : Parts E) (seq : ℕ) (q : QuerySaid) (reply reply' : List ℕ) → IsTrue (g.is_honest old.disk) → IsTrue (h.is_honest old'.disk) → HoldSame g h old old'
       → Inspects g old seq q reply new → Inspects h old' seq q reply' new' → (IsFree reply → ⊥) → (IsFree reply' → ⊥) → (reply' ≡ reply) × HoldSame g h new new'
   inspects_agree old new old' new' seq q reply reply' honest honest' same asks asks' bound bound' =
-      asks_agree old new old' new' seq q (kind_asked (state_of old) seq q) reply reply' honest honest' same refl asks
-      (subst (λ (s : ArchiveState). Asks h old' seq q (kind_asked s seq q) reply' new') same.state asks') bound bound'
+      asks_agree old new old' new' seq q (kind_asked (state_of old) seq q) reply reply' honest honest' same refl (steps_of g old seq q reply new asks)
+      (subst (λ (s : ArchiveState). Asks h old' seq q (kind_asked s seq q) reply' new') same.state (steps_of h old' seq q reply' new' asks')) bound bound'

@@ -24,8 +24,7 @@ use Rattle.archive_replies.specs.Reasons.{reason_of}
 use Rattle.inspector_cli.specs.Stages.{Stage, Moves, MayLeave}
 use Rattle.inspector_cli.specs.Session.{Item, AnswersItems, last_stage, Ending, complete, last_line, cut_part, said_last, EndReplies, LastReplies, Truncates, TakesFront, BreaksOff, AnswersAll, AnswersWhole}
 use Rattle.inspector_cli.specs.Runs.{IsClear}
-use Rattle.case_queries.specs.Inspecting.{kind_asked}
-use Rattle.case_queries.specs.LeaveLaws.{asks_leaves}
+use Rattle.case_queries.specs.InspectLaws.{inspects_leaves}
 
 -- the first byte of a text, and its fourth
 abbrev first_of : List ℕ → ℕ
@@ -241,7 +240,7 @@ module _ {D : Type 0} (g : disk.Ghosts D) where
   )
   line_halts naming old new list_all_cases raw reply r = still old new list_all_cases reply (λ x none. none) (same_stops old new r.1)
   line_halts naming old new count_free raw reply r = still old new count_free reply (λ x none. none) (same_stops old new r.3)
-  line_halts naming old new (inspect_of seq query) raw reply r = still old new (inspect_of seq query) reply (λ x none. none) (asks_leaves g old new seq query (kind_asked (state_of old) seq query) reply r).halts
+  line_halts naming old new (inspect_of seq query) raw reply r = still old new (inspect_of seq query) reply (λ x none. none) (inspects_leaves g old seq query reply new r).halts
 
   cut_halts : (old new : Parts D) (what : Said) (raw reply : List ℕ) → Truncates g old what raw reply new → Halts old what reply new
   cut_halts old new (part_of slot n) raw reply cut =

@@ -11,7 +11,7 @@ use Rattle.intake.specs.Durable.{Durable, FoundCase, durable_of, without, flagge
 use Rattle.intake.specs.Lasts.{FinishLasts, DeleteLasts, PinLasts, LabelLasts, UpgradeLasts, RetireLasts, RefusalsLast}
 use Rattle.intake.specs.Lives.{IsAmong}
 use Rattle.intake.specs.Marks.{Mark, mark_of}
-use Rattle.intake.specs.Parts.{Parts, state_of}
+use Rattle.intake.specs.Parts.{Parts}
 use Rattle.intake.specs.State.{StreamFacts}
 use Rattle.stream_names.specs.declared.naming.Naming.{Naming}
 use Rattle.script_lines.specs.Said.{Said, silence, bad_line, long_line, begin_exec, begin_core, part_of, end_of, drop_of, delete_of, pin_of, label_of, retire_by, list_all_cases, count_free, upgrade_archive, inspect_of, said, raw_length}
@@ -22,8 +22,7 @@ use Rattle.stream_names.specs.Streams.{exec_stream, core_stream}
 use Rattle.inspector_cli.specs.Session.{Ending, complete, last_line, cut_part, said_last, last_stage, LastReplies, EndReplies}
 use Rattle.inspector_cli.specs.Stages.{Stage, Moves, MayLeave, mark_at, marks_of}
 use Rattle.inspector_cli.specs.Stored.{HasImage, Spares}
-use Rattle.case_queries.specs.Inspecting.{kind_asked}
-use Rattle.case_queries.specs.LeaveLaws.{asks_leaves}
+use Rattle.case_queries.specs.InspectLaws.{inspects_leaves}
 use Rattle.inspector_cli.specs.Told.{Answer, Answers, Session, Finishes, HasLine, MayDrop, Spare, what_of}
 use Rattle.inspector_cli.proofs.StageLemmas.{begins_stays, truncates_stays, broken_stays}
 
@@ -172,7 +171,7 @@ module _ (n : ℕ) (bytes : List ℕ) where
         same_keeps old new (lasts.refusals old new f honest (inr (inr (inr (inl (policy, call)))))) has
     line_keeps old new list_all_cases raw reply honest r spares has = as_it_was old new r.1 has
     line_keeps old new count_free raw reply honest r spares has = as_it_was old new r.3 has
-    line_keeps old new (inspect_of seq query) raw reply honest r spares has = stays_keeps old new honest (asks_leaves g old new seq query (kind_asked (state_of old) seq query) reply r).stays has
+    line_keeps old new (inspect_of seq query) raw reply honest r spares has = stays_keeps old new honest (inspects_leaves g old seq query reply new r).stays has
 
     -- what a line would have left, had the disk not failed, has the case
     doubt_keeps : (old : Parts D) (what : Said) (reply : List ℕ) (x : Durable) → reply ≡ no_reply (codes "Disk") → (MayDrop n what reply → ⊥) → Has old → MayLeave g old what x → HasImage n bytes x

@@ -1,12 +1,11 @@
 -- The archive that a disk stands for that was just made.
-use Rattle.std.proofs.Common.{◌≡◌, ℕ, Bool, List, Option, Result, Ok, Err, map, refl, ap, subst, ◌∙◌}
+use Rattle.std.proofs.Common.{◌≡◌, ℕ, Bool, List, Option, Result, Ok, Err, map, ap, subst, ◌∙◌}
 use Rattle.std.specs.Prelude.{None, option_map, replicate, IsTrue}
 use Rattle.disk_model.specs.declared.disk.Disk as disk
 use Rattle.journal_layout.specs.Standing.{Standing, fresh}
 use Rattle.journal_layout.specs.Stands.{Stands}
 use Rattle.journal_layout.specs.declared.shape.Half.TheVariants.{A}
 use Rattle.journal_layout.specs.declared.shape.Shape.{Shape}
-use Rattle.intake.specs.Durable.{StandsFor, durable_in}
 use Rattle.intake.specs.Parts.{Parts, StreamParts, stream_facts}
 use Rattle.intake.specs.State.{ArchiveState}
 use Rattle.journal_layout.specs.Layout.{IsWithinLimits}

@@ -10,7 +10,7 @@ use Rattle.intake.specs.Calls.{ChangesNoCase}
 use Rattle.intake.specs.Durable.{Durable}
 use Rattle.intake.specs.Growth.{IsDiskFault}
 use Rattle.intake.specs.Marks.{Passes, IsRunOfMarks, LeadsToMark, doubted, mark_of, FoundAfterAStop, StaysLead, FinishLeads, DeleteLeads, PinLeads, LabelLeads, UpgradeLeads, RetireLeads}
-use Rattle.intake.specs.Parts.{Parts, state_of}
+use Rattle.intake.specs.Parts.{Parts}
 use Rattle.intake.specs.State.{StreamFacts}
 use Rattle.retention.specs.declared.Decision.{Decision}
 use Rattle.retention.specs.declared.Policy.{Policy}
@@ -24,8 +24,7 @@ use Rattle.archive_replies.specs.Reasons.{reason_of}
 use Rattle.inspector_cli.specs.Stages.{Stage, Moves, MayLeave, mark_at, marks_of, IsFoundAfterAStop}
 use Rattle.inspector_cli.specs.Session.{Item, AnswersItems, last_stage, Ending, complete, last_line, cut_part, said_last, EndReplies, LastReplies, Truncates, TakesFront, BreaksOff}
 use Rattle.intake.specs.StayLaws.{stays_as, stays_then}
-use Rattle.case_queries.specs.Inspecting.{kind_asked}
-use Rattle.case_queries.specs.LeaveLaws.{asks_leaves}
+use Rattle.case_queries.specs.InspectLaws.{inspects_leaves}
 
 all_as : {P Q : Durable → Type 0} (xs : List Durable) → ((x : Durable) → P x → Q x) → AllByRecursion P xs → AllByRecursion Q xs
 all_as [] f all = tt
@@ -133,7 +132,7 @@ module _ {D : Type 0} (g : disk.Ghosts D) (laws : Laws g) (old : Stage D) (new :
   line_moves naming (retire_by policy) raw reply r = retires_moves policy reply r
   line_moves naming list_all_cases raw reply r = still list_all_cases reply (stays_as g old.archive new r.1)
   line_moves naming count_free raw reply r = still count_free reply (stays_as g old.archive new r.3)
-  line_moves naming (inspect_of seq query) raw reply r = still (inspect_of seq query) reply (asks_leaves g old.archive new seq query (kind_asked (state_of old.archive) seq query) reply r).stays
+  line_moves naming (inspect_of seq query) raw reply r = still (inspect_of seq query) reply (inspects_leaves g old.archive seq query reply new r).stays
 
   last_moves : (naming : Naming) (n : ℕ) (what : Said) (reply : List ℕ) → LastReplies g naming n old.archive what reply new → Reaches what reply
   last_moves naming zero what reply r = line_moves naming what [] reply r

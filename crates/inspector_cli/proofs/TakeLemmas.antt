@@ -1,5 +1,5 @@
 -- Bytes of a part that are taken piece by piece are taken as one step.
-use Rattle.std.proofs.Common.{◌≡◌, ◌≢◌, ⊎_elim, ℕ, zero, suc, ◌+◌, ◌/◌, ◌%◌, ◌<◌, ◌≤◌, true, List, [], ◌∷◌, ◌++◌, Option, Some, None, Result, Ok, Err, refl, sym, ap, subst, ◌∙◌, arith, add_assoc}
+use Rattle.std.proofs.Common.{◌≡◌, ◌≢◌, ⊎_elim, ℕ, zero, suc, ◌+◌, ◌-◌, ◌/◌, ◌%◌, ◌<◌, ◌≤◌, true, List, [], ◌∷◌, ◌++◌, Option, Some, None, Result, Ok, Err, refl, sym, ap, subst, ◌∙◌, arith, add_assoc}
 use Rattle.std.proofs.lemmas.Bool.{cases_lt, false≢true}
 use Rattle.std.specs.Prelude.{slice_set, sum_by}
 use Rattle.intake.specs.declared.faults.ArchiveFault.{ArchiveFault}
@@ -29,7 +29,7 @@ in_use b slot k s had is =
 
 -- the first place at which no block is free is met by the piece that ends there
 met_numbers : (len k n m used used' all : ℕ) → m % 4096 ≡ 0 → len + k < m → (len + k) % 4096 + n ≤ 4096
-    → used + m / 4096 ≡ all + len / 4096 + 1 → used' + len / 4096 ≡ used + (len + k) / 4096 → m ≤ len + (k + n)
+    → used + (m / 4096 - len / 4096) ≡ all + 1 → used' + len / 4096 ≡ used + (len + k) / 4096 → m ≤ len + (k + n)
     → (n ≢ 0) × ((len + k + n) % 4096 ≡ 0) × (used' ≡ all) × (m ≡ len + (k + n))
 met_numbers len k n m used used' all whole above fits wall grown met =
     let same : m ≡ len + (k + n) = omega arith in
@@ -37,7 +37,7 @@ met_numbers len k n m used used' all whole above fits wall grown met =
 
 wall_numbers : (len k n used used' all : ℕ) → n ≢ 0 → (len + k + n) % 4096 ≡ 0 → (len + k) % 4096 + n ≤ 4096
     → used' ≡ all → used' + len / 4096 ≡ used + (len + k) / 4096
-    → ((len + (k + n)) % 4096 ≡ 0) × (len < len + (k + n)) × (used + (len + (k + n)) / 4096 ≡ all + len / 4096 + 1)
+    → ((len + (k + n)) % 4096 ≡ 0) × (len < len + (k + n)) × (used + ((len + (k + n)) / 4096 - len / 4096) ≡ all + 1)
 wall_numbers len k n used used' all some whole fits is grown = (omega arith, omega arith, omega arith)
 
 -- blocks that were taken, and then more

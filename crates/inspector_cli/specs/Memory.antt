@@ -1,5 +1,5 @@
 -- A session over an archive that was made for it, in memory.
-use Rattle.std.specs.Prelude.{◌≡◌, ◌⊎◌, ℕ, false, [], None, Result, Ok, Err, replicate, IsTrue}
+use Rattle.std.specs.Prelude.{◌≡◌, ℕ, false, [], None, Result, Ok, Err, replicate, IsTrue}
 use Rattle.disk_model.specs.declared.disk.Disk as disk
 use Rattle.journal_layout.specs.declared.shape.Shape.{Shape}
 use Rattle.journal_layout.specs.Layout.{IsWithinLimits}

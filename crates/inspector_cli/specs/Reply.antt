@@ -1,5 +1,5 @@
 -- The reply to what a line says, and what it does to the archive.
-use Rattle.std.specs.Prelude.{◌≡◌, ℕ, ◌+◌, ◌/◌, ◌%◌, ◌<◌, ◌≤◌, Bool, true, false, List, [], ◌++◌, length, Option, None, Some, Result, Ok, Err, is_ok, IsTrue, codes}
+use Rattle.std.specs.Prelude.{◌≡◌, ℕ, ◌+◌, ◌-◌, ◌/◌, ◌%◌, ◌<◌, ◌≤◌, Bool, true, false, List, [], ◌++◌, length, Option, None, Some, Result, Ok, Err, is_ok, IsTrue, codes}
 use Rattle.std.specs.Result.{result_ok}
 use Rattle.script_streams.specs.Replies.{no_reply}
 use Rattle.intake.specs.declared.faults.ArchiveFault.{ArchiveFault}
@@ -26,11 +26,13 @@ Begins g old slot (Err reason) reply new accepted = (reply ≡ no_reply reason) 
 Begins g old slot (Ok stream) reply new accepted =
     (result : Result (Unit {0}) ArchiveFault) × BeginCall g old slot stream result new × (reply ≡ begin_reply stream.origin.name result) × (accepted ≡ is_ok result)
 
--- the bytes of a stream at which the next block that it fills would find none free: m is the first multiple of 4,096 above
--- its length for which the blocks in use, and those that it fills before m, are all that there are
+-- the blocks that are in use once a stream is filled up to m bytes
+abbrev pub filled_up_to : ArchiveState → StreamFacts → ℕ → ℕ
+filled_up_to s stream m = blocks_in s + (m / 4096 - stream.len / 4096)
+
+-- where a stream meets the full disk: filled up to m bytes, which are whole blocks, it would take one block more than there are
 abbrev pub IsWall : ArchiveState → StreamFacts → ℕ → Type 0
-IsWall s stream m =
-    (m % 4096 ≡ 0) × (stream.len < m) × (blocks_in s + m / 4096 ≡ s.shape.data_blocks + stream.len / 4096 + 1)
+IsWall s stream m = (m % 4096 ≡ 0) × (stream.len < m) × (filled_up_to s stream m ≡ s.shape.data_blocks + 1)
 
 -- n bytes more can be taken, whatever pieces they come in
 abbrev pub MayTake : ArchiveState → StreamFacts → ℕ → Type 0

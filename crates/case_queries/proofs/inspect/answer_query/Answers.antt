@@ -2,14 +2,16 @@ use Rattle.std.proofs.Common.{refl}
 use Rattle.intake.specs.Parts.{state_of}
 use Rattle.script_lines.specs.Queries.{query_of, image_query, memory_query, ask_symbol}
 use Rattle.script_streams.specs.Replies.{no_reply}
-use Rattle.case_queries.specs.Inspecting.{kind_asked}
+use Rattle.case_queries.specs.InspectLaws.{inspected}
+use Rattle.case_queries.specs.Steps.{kind_asked}
 use Rattle.case_queries.proofs.AskLemmas.{reason_told, kind_told}
 use Rattle.case_queries.proofs.inspect.answer_query.Goals as goal
 
 pub returns-in-Err-clause-answers : goal.returns-in-Err-clause-answers
 returns-in-Err-clause-answers g c = (
   no_reply c.in-Err.reason.now,
-  reason_told g.D.Disk c.args.archive.now c.args.seq (query_of c.args.query.now) c.in-Err.reason.now (kind_asked (state_of c.args.archive.now) c.args.seq (query_of c.args.query.now)) c.in-Err.ensures.asked,
+  inspected g.D.Disk c.args.archive.now c.args.seq (query_of c.args.query.now) (no_reply c.in-Err.reason.now) c.args.archive.now
+      (reason_told g.D.Disk c.args.archive.now c.args.seq (query_of c.args.query.now) c.in-Err.reason.now (kind_asked (state_of c.args.archive.now) c.args.seq (query_of c.args.query.now)) c.in-Err.ensures.asked),
   (c.in-Err.reason.now, refl),
   c.tell_no.ensures,
 )
@@ -18,16 +20,16 @@ pub returns-in-Image-clause-answers : goal.returns-in-Image-clause-answers
 returns-in-Image-clause-answers g c =
     let told = c.answer_by_front.ensures.answers in
     let asked = rw c.in-Image.is at c.in-Ok.ensures.asked in
-    rw c.in-Image.is (told.0, kind_told g.D.Disk c.args.archive.now c.answer_by_front.new.archive c.args.seq (image_query c.in-Image.query) c.in-Ok.kind _ told.0 asked told.1, told.2, told.3)
+    rw c.in-Image.is (told.0, inspected g.D.Disk c.args.archive.now c.args.seq (image_query c.in-Image.query) told.0 c.answer_by_front.new.archive (kind_told g.D.Disk c.args.archive.now c.answer_by_front.new.archive c.args.seq (image_query c.in-Image.query) c.in-Ok.kind _ told.0 asked told.1), told.2, told.3)
 
 pub returns-in-Memory-clause-answers : goal.returns-in-Memory-clause-answers
 returns-in-Memory-clause-answers g c =
     let told = c.answer_by_memory.ensures.answers in
     let asked = rw c.in-Memory.is at c.in-Ok.ensures.asked in
-    rw c.in-Memory.is (told.0, kind_told g.D.Disk c.args.archive.now c.answer_by_memory.new.archive c.args.seq (memory_query c.in-Memory.query) c.in-Ok.kind _ told.0 asked told.1, told.2, told.3)
+    rw c.in-Memory.is (told.0, inspected g.D.Disk c.args.archive.now c.args.seq (memory_query c.in-Memory.query) told.0 c.answer_by_memory.new.archive (kind_told g.D.Disk c.args.archive.now c.answer_by_memory.new.archive c.args.seq (memory_query c.in-Memory.query) c.in-Ok.kind _ told.0 asked told.1), told.2, told.3)
 
 pub returns-in-Symbol-clause-answers : goal.returns-in-Symbol-clause-answers
 returns-in-Symbol-clause-answers g c =
     let told = c.answer_symbol.ensures.answers in
     let asked = rw c.in-Symbol.is at c.in-Ok.ensures.asked in
-    rw c.in-Symbol.is (told.0, kind_told g.D.Disk c.args.archive.now c.answer_symbol.new.archive c.args.seq (ask_symbol c.in-Symbol.address) c.in-Ok.kind _ told.0 asked told.1, told.2, told.3)
+    rw c.in-Symbol.is (told.0, inspected g.D.Disk c.args.archive.now c.args.seq (ask_symbol c.in-Symbol.address) told.0 c.answer_symbol.new.archive (kind_told g.D.Disk c.args.archive.now c.answer_symbol.new.archive c.args.seq (ask_symbol c.in-Symbol.address) c.in-Ok.kind _ told.0 asked told.1), told.2, told.3)
