@@ -62,7 +62,7 @@ abbrev pub want_of : Kind → Want
 want_of Core = want.Core
 want_of Exec = want.Exec
 
--- what a query's answer shows of the bytes of an image, and of the executables that stand for a core's mapped files; or why it
+-- what a query's answer shows of the bytes of an image, and of the executables attached for a core's mapped files; or why it
 -- shows nothing
 abbrev pub answer_of : Kind → QuerySaid → List ℕ → List ExecutableView → Result (List ℕ) (List ℕ)
 answer_of kind ask_header b xs = header_answer (want_of kind) b
@@ -104,7 +104,7 @@ abbrev pub ToldWithExecutables : Kind → QuerySaid → List ℕ → Result (Lis
 ToldWithExecutables kind q b (Ok xs) reply = Answers (answer_of kind q b xs) reply
 ToldWithExecutables kind q b (Err f) reply = reply ≡ no_reply (reason_of f)
 
--- a core that has no fault, with the executables that are read beside it
+-- a core that has no fault, with the executables that are read with it
 abbrev pub ShowsCore : {D : Type 0} → disk.Ghosts D → Parts D → Kind → QuerySaid → List ℕ → List ℕ → Parts D → Type 0
 ShowsCore g old kind q b reply new =
     (r : Result (List ExecutableView) ArchiveFault) × CollectsAll g old (wanted_of b (state_of old).cases) r new × ToldWithExecutables kind q b r reply
@@ -131,7 +131,7 @@ abbrev pub Asks : {D : Type 0} → disk.Ghosts D → Parts D → ℕ → QuerySa
 Asks g old seq q (Err reason) reply new = (reply ≡ no_reply reason) × (new ≡ old)
 Asks {D} g old seq q (Ok kind) reply new = (r : Result (List ℕ) ArchiveFault) × (mid : Parts D) × LooksAt g old seq r mid × ShowsSeen g mid kind q r reply new
 
--- A line that asks the image of a case: it is refused by the first reason that stands, or shows what the layouts give for the
+-- A line that asks the image of a case: it is refused by the first reason that holds, or shows what the layouts give for the
 -- bytes of that image, and of the stored executables that it names.
 abbrev pub Inspects : {D : Type 0} → disk.Ghosts D → Parts D → ℕ → QuerySaid → List ℕ → Parts D → Type 0
 Inspects g old seq q reply new = Asks g old seq q (kind_asked (state_of old) seq q) reply new
