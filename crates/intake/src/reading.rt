@@ -38,7 +38,7 @@ fn read_run<D: Disk>(
     Ok(())
 }
 
-// Reads the blocks of these runs one after another, with one read of the disk for each run. Answers `Disk` alone.
+// Reads the blocks of these runs one behind another, with one read of the disk for each run. Answers `Disk` alone.
 fn read_runs<D: Disk>(
     disk: &mut D,
     shape: Shape,
