@@ -27,7 +27,7 @@ look_fault look.Lock = file.Lock
 look_fault look.Read = file.Settle
 look_fault look.OutOfMemory = file.OutOfMemory
 
--- What is refused of an image goes to the errors, beside the image.
+-- What is refused of an image goes to the errors, and not to the image.
 abbrev pub copy_told : CopyFault → Failure
 copy_told (copy.Open f) = Aside (Open f)
 copy_told (copy.Archive f) = Aside (Call f)

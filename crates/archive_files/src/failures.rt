@@ -23,7 +23,7 @@ use std::io;
 pub enum Failure {
     /// It was refused.
     Refused(Refusal),
-    /// It was refused, and the output is that of an image, so this is told beside it.
+    /// It was refused, and the output is that of an image, so this is told apart from it.
     Aside(Refusal),
     /// The session ended before its script.
     Faulted(SessionFault),

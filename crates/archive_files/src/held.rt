@@ -9,8 +9,8 @@ use failure_count::after_failure;
 use script_streams::{Output, StreamFault};
 use std::alloc::Global;
 
-/// An output that takes a reply and holds it. So whoever reads the reply slowly keeps nobody from the archive. If there is no
-/// memory to hold it, it goes on to the output behind this one, byte for byte, and so does the rest.
+/// An output that takes a reply and holds it. So whoever reads the reply slowly keeps nobody from the archive. If there is
+/// no memory to hold it, it is passed to the output below this one, byte for byte, and so is the rest.
 #[derive(Drop)]
 pub struct Held<'a, O: Output> {
     output: &'a mut O,
@@ -57,7 +57,7 @@ impl<'a, O: Output> Held<'a, O> {
         self.unsent.bytes()
     }
 
-    /// Writes what is held: then the output behind this one has all that this one took. Where a write failed, it has a front of it.
+    /// Writes what is held: then the output below this one has all that this one took. Where a write failed, it has a front of it.
     pub fn finish(&mut self) -> Result<(), StreamFault>
         ensures kept { Keeps (taken_by O.Output self.old) (taken_by O.Output self.new) }
         ensures delivered { OnOk result (Keeps (taken_by O.Output self.old) (O.taken self.new.output.now)) }

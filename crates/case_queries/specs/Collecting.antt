@@ -1,4 +1,4 @@
--- The executables that a line over memory reads beside its core: those whose names the core's NT_FILE has.
+-- The executables that a line over memory reads with its core: those whose names the core's NT_FILE has.
 use Rattle.std.specs.Prelude.{◌≡◌, ◌⊎◌, ◌&&◌, ℕ, Bool, true, false, List, [], ◌∷◌, filter, map, Result, Ok, Err, MatchResult}
 use Rattle.address_space.specs.Source.{ExecutableView}
 use Rattle.disk_model.specs.declared.disk.Disk as disk
@@ -30,7 +30,7 @@ wanted_case c = (c.seq, c.name)
 abbrev pub wanted_of : List ℕ → List Case → List Wanted
 wanted_of b cases = map wanted_case (filter (is_wanted b) cases)
 
--- an executable, and those behind it
+-- an executable, and those after it
 abbrev pub with_executable : List ℕ → List ℕ → Result (List ExecutableView) ArchiveFault → Result (List ExecutableView) ArchiveFault
 with_executable path image (Ok others) = Ok (record { path = path; image = image } ∷ others)
 with_executable path image (Err f) = Err f

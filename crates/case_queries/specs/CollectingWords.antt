@@ -17,7 +17,7 @@ abbrev pub collected_view : Result (Vec StoredExecutable Global) ArchiveFault �
 collected_view (Ok v) = Ok (map executable_view v.items)
 collected_view (Err f) = Err f
 
--- these, and those behind them
+-- these, and those after them
 abbrev pub joined : List ExecutableView → Result (List ExecutableView) ArchiveFault → Result (List ExecutableView) ArchiveFault
 joined front (Ok others) = Ok (front ++ others)
 joined front (Err f) = Err f

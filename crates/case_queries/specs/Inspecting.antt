@@ -52,7 +52,7 @@ abbrev pub want_of : Kind → Want
 want_of Core = want.Core
 want_of Exec = want.Exec
 
--- what a query's answer shows of the bytes of an image, and of the executables that stand for a core's mapped files; or why it
+-- what a query's answer shows of the bytes of an image, and of the executables attached for a core's mapped files; or why it
 -- shows nothing
 abbrev pub answer_of : Kind → QuerySaid → List ℕ → List ExecutableView → Result (List ℕ) (List ℕ)
 answer_of kind ask_header b xs = header_answer (want_of kind) b

@@ -1,4 +1,4 @@
--- The executables that stay beside an image that is kept.
+-- The executables that stay with an image that is kept.
 use Rattle.std.specs.Prelude.{ℕ, List, map, Option, None, Some, Ok, Vec}
 use Rattle.std.specs.Global.{Global}
 use Rattle.disk_model.specs.declared.disk.Disk as disk

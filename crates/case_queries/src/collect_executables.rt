@@ -1,4 +1,4 @@
-// The executables that a line over memory reads beside its core.
+// The executables that a line over memory reads with its core.
 ghost use Rattle.std.specs.Prelude.{◌≡◌, ◌∷◌, ◌++◌, [], ℕ, List, false, map, IfOk, OnOk};
 ghost use Rattle.image_replies.specs.CoreWords.{core_bytes};
 ghost use Rattle.intake.specs.Parts.{state_of};
@@ -120,7 +120,7 @@ fn read_each<D: Disk>(
     Ok(found)
 }
 
-// Puts an executable that was read behind the others.
+// Puts an executable that was read after the others.
 fn add_read(
     case: &WantedCase,
     image: Vec<u8>,

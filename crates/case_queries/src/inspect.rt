@@ -20,7 +20,7 @@ use script_lines::{ImageQuery, Query};
 use script_streams::{Output, Reply, tell_no};
 
 /// Answers a line that asks the image of a case: tells what the layouts give for it, or the first reason why nothing is shown.
-/// The image is kept for the lines that ask the same case next, and with it the executables that are read beside it. Where
+/// The image is kept for the lines that ask the same case next, and with it the executables that are read with it. Where
 /// memory was refused nothing is kept, so that the line made again has its room. Says whether it was done; if not, the reply is
 /// `no REASON`.
 pub fn answer_query<O: Output, D: Disk>(

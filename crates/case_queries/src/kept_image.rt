@@ -13,7 +13,7 @@ use std::alloc::Global;
 pub struct Images {
     /// Where they take memory.
     pub alloc: Global,
-    /// The image that was read last, if it is kept: none at first, and none behind a line that asks no image.
+    /// The image that was read last, if it is kept: none at first, and none after a line that asks no image.
     pub kept: Option<KeptImage>,
 }
 

@@ -170,7 +170,7 @@ fn read_stack<D: Disk>(
     })
 }
 
-// What the frames of a thread want of an image beside its first bytes.
+// What the frames of a thread want of an image apart from its first bytes.
 pub(crate) fn see_stack<D: Disk>(
     seq: u32,
     size: usize,

@@ -156,7 +156,7 @@ pub(crate) fn read_range<D: Disk>(
     read_after(seq, range.start, at, bytes, archive)
 }
 
-// Reads the range of an image that a line wants beside its first bytes.
+// Reads the range of an image that a line wants apart from its first bytes.
 fn read_window<D: Disk>(
     seq: u32,
     size: usize,
@@ -213,7 +213,7 @@ pub(crate) fn read_rest<D: Disk>(
     }))
 }
 
-// What a dump wants of an image beside its first bytes.
+// What a dump wants of an image apart from its first bytes.
 fn see_range<D: Disk>(
     seq: u32,
     size: usize,
@@ -243,7 +243,7 @@ fn see_range<D: Disk>(
     }
 }
 
-// What a line over a core's memory wants of an image beside its first bytes.
+// What a line over a core's memory wants of an image apart from its first bytes.
 fn see_more<D: Disk>(
     seq: u32,
     size: usize,

@@ -343,7 +343,7 @@ fn push_pair(line: &mut Vec<u8>, pair: &str, escapes: bool) -> Result<(), Refusa
     }
 }
 
-// Adds a text as it stands, or with the bytes that the line's grammar does not take as themselves escaped.
+// Adds a text as it is, or with the bytes that the line's grammar does not take as themselves escaped.
 fn push_value(line: &mut Vec<u8>, value: &str, escapes: bool) -> Result<(), Refusal> {
     if escapes {
         push_escaped(line, value)?;

@@ -68,7 +68,7 @@ fn several<'a>(argument: Arg<'a>) -> Arg<'a> {
     argument.action(ArgAction::Append)
 }
 
-// A value behind its name.
+// A value after its name.
 fn named<'a>(argument: Arg<'a>, word: &Word) -> Arg<'a> {
     let argument = argument
         .long(word.id)

@@ -12,10 +12,10 @@ use std::rt::Env;
 // More than Linux gives of a word (its MAX_ARG_STRLEN).
 const LONGEST_WORD: usize = 131_072;
 
-// The character that stands for the byte 0x80.
+// The character in place of the byte 0x80.
 const FIRST_STAND_IN: u32 = 0x10_ff80;
 
-// The words of the command line behind the program's name.
+// The words of the command line after the program's name.
 pub(crate) fn words_of<R: Env + AllocGlobal>(rt: &R) -> Result<Vec<String>, AllocError> {
     let alloc = rt.alloc();
     let mut words = Vec::new(alloc);
@@ -58,12 +58,12 @@ fn keep_bytes(word: &mut String, bytes: &[u8]) -> Result<(), AllocError> {
     Ok(())
 }
 
-// The character that stands for a byte of 0x80 or more.
+// The character in place of a byte of 0x80 or more.
 fn stand_in(byte: u8) -> char {
     char::from_u32(FIRST_STAND_IN - 0x80 + u32::from(byte)).unwrap_or(char::REPLACEMENT_CHARACTER)
 }
 
-// The byte that a character stands for.
+// The byte in whose place a character is.
 fn stood_for(character: char) -> Option<u8> {
     let code = u32::from(character);
     if code < FIRST_STAND_IN {

@@ -1,7 +1,7 @@
 // The program's commands and their words, as tables.
 use crate::ask_help::ASK_HELP;
 
-// What stands in the place of a word.
+// What replaces a word.
 #[derive(Clone, Copy)]
 pub(crate) enum Takes {
     // A word that has to be there.
@@ -14,13 +14,13 @@ pub(crate) enum Takes {
     Pairs,
     // Its name, or nothing.
     Flag,
-    // A text behind its name.
+    // A text after its name.
     Text,
-    // A number below 2^32 behind its name, which has to be there.
+    // A number below 2^32 after its name, which has to be there.
     Blocks,
-    // A number below 2^64 behind its name.
+    // A number below 2^64 after its name.
     Bytes,
-    // 1 or 2 behind its name.
+    // 1 or 2 after its name.
     Layout,
 }
 
@@ -274,7 +274,7 @@ const ESCAPE: Word = Word {
     help: "takes the bytes of each VALUE, of NAME and of TEXT as they are, whatever they are, as a process may call itself anything",
 };
 
-// How many cases stay beside the new one.
+// How many cases stay, not counting the new one.
 const KEEP: Word = Word {
     id: "keep",
     shown: "K",

@@ -58,7 +58,7 @@ pub fn run_program<
 ///   FILE `-` is `input`. With `--escape` the bytes of each VALUE and of NAME are taken as they are. With `--keep K`,
 ///   `--bytes B` or `--before T` the line `retire` of a script with these limits is carried out first, in the same opening,
 ///   and its reply goes before the others; where it is refused the file is stored all the same. With `--label TEXT` the
-///   line `label` of a script gives the new case this label, and its reply goes behind the others; where it is refused, as in
+///   line `label` of a script gives the new case this label, and its reply follows the others; where it is refused, as in
 ///   an archive of version 1 of the layout, the case stays.
 /// - `list ARCHIVE` and `ask ARCHIVE WORD..` carry out one line of a script, `extract ARCHIVE N [FILE]` writes the image of a
 ///   case. A line that changes no case, and `extract`, need no right to write the archive's file, and hold its lock only while they
@@ -140,7 +140,7 @@ fn answer_asked<R: AllocGlobal + Files<File = File> + Clock, I: Read, O: Output>
     }
 }
 
-// What `extract` is refused is told beside its output, which is that of an image, also where its words could not be read.
+// What `extract` is refused is told apart from its output, which is that of an image, also where its words could not be read.
 fn aside_of_an_image(words: &[String], ending: Ending) -> Ending {
     match ending {
         Ending::Failed(Failure::Refused(refusal)) if asks_for_an_image(words) => {

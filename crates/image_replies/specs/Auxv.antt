@@ -15,7 +15,7 @@ auxv_names =
     ∷ (14, codes "EGID") ∷ (15, codes "PLATFORM") ∷ (16, codes "HWCAP") ∷ (17, codes "CLKTCK") ∷ (23, codes "SECURE")
     ∷ (25, codes "RANDOM") ∷ (26, codes "HWCAP2") ∷ (31, codes "EXECFN") ∷ (33, codes "SYSINFO_EHDR") ∷ []
 
--- the name that stands beside a type in a table
+-- the name of a type in a table
 abbrev pub name_beside : ℕ → List (ℕ × List ℕ) → Option (List ℕ)
 name_beside kind [] = None
 name_beside kind (row ∷ rows) = if row.0 == kind then Some row.1 else name_beside kind rows

@@ -10,7 +10,7 @@ use Rattle.script_words.specs.Printing.{hexadecimal}
 use Rattle.image_replies.specs.Core.{core_fault_of}
 use Rattle.image_replies.specs.Reasons.{elf_reason, core_reason}
 
--- a number, or an address, and a space behind it
+-- a number, or an address, and after it a space
 abbrev pub number_word : ℕ → List ℕ
 number_word n = decimal n ++ 32 ∷ []
 

@@ -22,7 +22,7 @@ pub(crate) fn tell_address<O: Output>(reply: &mut Reply<'_, O>, address: u64)
     reply.tell(b" ");
 }
 
-/// Tells a text as it is, and a signed number behind it.
+/// Tells a text as it is, and a signed number after it.
 pub(crate) fn tell_labelled<O: Output>(reply: &mut Reply<'_, O>, label: &[u8], number: i32)
     ensures { TellsText (telling O.Output reply.old reply.new) (label.now ++ signed_decimal number) }
 {

@@ -19,7 +19,7 @@ use Rattle.inspector_cli.specs.Reply.{Replies, Takes}
 use Rattle.inspector_cli.specs.Stages.{Stage}
 use Rattle.inspector_cli.specs.Session.{Item, IsItem, spelled, Ending, IsEnding, ending_text, EndReplies, BreaksOff, AnswersAll, AnswersWhole, Truncates, TakesFront, LastReplies}
 
--- a line with no bytes behind it is answered
+-- a line with no bytes after it is answered
 abbrev pub AnswersTo : {D : Type 0} → disk.Ghosts D → Naming → Telling → Parts D → Said → List ℕ → Parts D → Type 0
 AnswersTo g naming t old what raw new = (text : List ℕ) × Replies g naming old what raw text new × TellsText t text
 
@@ -82,7 +82,7 @@ CommandEnds g naming r t old new (Err (Read stop)) =
 CommandEnds g naming r t old new (Err Unheard) =
     (rest : List ℕ) × GivesBytes r rest × (new ≡ old) × (t.after.unwritten.failed ≡ true) × TellsText t []
 
--- all commands of a script, and how the archive stands behind each
+-- all commands of a script, and the archive after each
 abbrev pub ScriptEnds : {D : Type 0} → disk.Ghosts D → Naming → Reading → Telling → Stage D → Parts D → Result (Unit {0}) ScriptStop → Type 0
 ScriptEnds {D} g naming r t old new (Ok u) =
     (read : List ℕ) × (out : List ℕ) × (stages : List (Stage D)) × (end : Stage D) × GivesBytes r read × IsReadUp r × AnswersAll g naming read out old stages end

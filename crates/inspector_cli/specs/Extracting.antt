@@ -7,7 +7,7 @@ use Rattle.inspector_cli.specs.declared.extract.ImageFault.{ImageFault}
 use Rattle.inspector_cli.specs.declared.extract.ImageFault.TheVariants.{Open, Archive}
 use Rattle.inspector_cli.specs.Life.{OpensThen, IsOpeningRefused}
 
--- An archive is opened, and an image of it read, or why not; the disk that is handed back is the one behind that.
+-- An archive is opened, and an image of it read, or why not; the disk that is handed back is the one after that.
 abbrev pub ReadsImage : {D : Type 0} → disk.Ghosts D → ℕ → ℕ → D → Result (Vec ℕ Global) ImageFault → D → Type 0
 ReadsImage g limit seq before (Ok image) after = OpensThen g limit before after (λ opened closed. ImageCall g opened seq (Ok image) closed)
 ReadsImage g limit seq before (Err (Archive f)) after = OpensThen g limit before after (λ opened closed. ImageCall g opened seq (Err f) closed)

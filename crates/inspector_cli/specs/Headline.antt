@@ -1,5 +1,5 @@
--- The headline: what a session does, told by its lines, and what a stop of the machine leaves of it. It rests on what bytes stand
--- for (`StandsFor`), what an archive holds (`Durable`), what a line says (`Said`), and the text of replies (`Texts`).
+-- The headline: what a session does, told by its lines, and what a stop of the machine leaves of it. It rests on what bytes encode (`StandsFor`), what an archive holds
+-- (`Durable`), what a line says (`Said`), and the text of replies (`Texts`).
 use Rattle.std.specs.Prelude.{◌≡◌, ◌⊎◌, ℕ, ◌==◌, ◌<◌, Bool, true, false, List, [], ◌∷◌, ◌++◌, length, map, Option, None, Some, option_map, Result, Ok, Err, IsTrue, codes, if◌then◌else◌}
 use Rattle.std.specs.Result.{result_ok}
 use Rattle.std.specs.List.{flat_map, AllByRecursion}
@@ -35,7 +35,7 @@ begins_as naming (begin_exec slot name) = option_map empty_stream (result_ok (ex
 begins_as naming (begin_core slot process) = option_map empty_stream (result_ok (core_stream naming process))
 begins_as naming _ = None
 
--- what stands in a slot after a command, by the reply to it: the stream as it began
+-- what a slot holds after a command, by the reply to it: the stream as it began
 abbrev pub begun_then : (Said → Option StreamFacts) → ℕ → Said → Bool → Option StreamFacts → Option StreamFacts
 begun_then begins slot (begin_exec s name) refused o = if s == slot then (if refused then o else begins (begin_exec s name)) else o
 begun_then begins slot (begin_core s process) refused o = if s == slot then (if refused then o else begins (begin_core s process)) else o
@@ -48,7 +48,7 @@ abbrev pub begun_behind : (Said → Option StreamFacts) → ℕ → Option Strea
 begun_behind begins slot o [] = o
 begun_behind begins slot o (a ∷ list) = begun_behind begins slot (begun_then begins slot (what_of a) (is_no a.reply) o) list
 
--- the stream that stands in a slot after these commands, as it began, where none did before them
+-- the stream in a slot after these commands, as it began, where there was none before them
 abbrev pub begun_in : (Said → Option StreamFacts) → ℕ → List Answer → Option StreamFacts
 begun_in begins slot list = begun_behind begins slot None list
 
@@ -64,7 +64,7 @@ abbrev pub brief_of : FoundCase → Brief
 brief_of c = brief_of_case c.case
 
 -- What a line that is carried out does to what the archive holds, x before it and y after it. `earlier` are the lines before it:
--- a case is the stream that its line began, and its image is the bytes of its parts. A pin or a label that stands already changes
+-- a case is the stream that its line began, and its image is the bytes of its parts. A pin or a label that is set already changes
 -- nothing. Any other line changes no case.
 abbrev pub Does : (Said → Option StreamFacts) → List Answer → Said → List ℕ → Durable → Durable → Type 0
 Does begins earlier (end_of slot) reply x y =
@@ -101,7 +101,7 @@ changes _ = false
 abbrev pub WouldLeave : (Said → Option StreamFacts) → List Answer → Said → Durable → Durable → Type 0
 WouldLeave begins earlier what x y = (changes what ≡ true) × (reply : List ℕ) × Does begins earlier what reply x y
 
--- How things stand at a moment between two lines.
+-- The state at a moment between two lines.
 pub record Moment (D : Type 0) : Type 0 where
   pub disk : D
   -- what the archive holds
@@ -109,16 +109,16 @@ pub record Moment (D : Type 0) : Type 0 where
   -- what lines that were answered `no Disk` would have left
   pub in_doubt : List Durable
 
--- A line that was answered, and how things stand then.
+-- A line that was answered, and the state then.
 pub record Line (D : Type 0) : Type 0 where
   pub answer : Answer
   pub after : Moment D
 
--- A session: how it begins, its lines, how its script ends, and how things stand then.
+-- A session: how it begins, its lines, how its script ends, and the state then.
 pub record Course (D : Type 0) : Type 0 where
   pub begin : Moment D
   pub lines : List (Line D)
-  -- what is said behind the whole commands, and the reply to it
+  -- what is said after the whole commands, and the reply to it
   pub last : Said
   pub reply : List ℕ
   pub end : Moment D
@@ -144,7 +144,7 @@ abbrev pub AllLead : {D : Type 0} → (Said → Option StreamFacts) → List Ans
 AllLead begins earlier old [] = Unit {0}
 AllLead begins earlier old (l ∷ ls) = LeadsOn begins earlier old (what_of l.answer) l.answer.reply l.after × IsFrozen old l.after × AllLead begins (earlier ++ l.answer ∷ []) l.after ls
 
--- behind the last line
+-- after the last line
 abbrev pub last_moment : {D : Type 0} → Moment D → List (Line D) → Moment D
 last_moment m [] = m
 last_moment m (l ∷ ls) = last_moment l.after ls
@@ -179,7 +179,7 @@ AreSafe g end m (n ∷ ns) = IsSafe g end m (n ∷ ns) × AreSafe g end n ns
 abbrev pub answers_of : {D : Type 0} → Course D → List Answer
 answers_of c = map answer_of c.lines
 
--- each with the bytes behind its newline
+-- each with the bytes after its newline
 abbrev pub commands : {D : Type 0} → Course D → List Item
 commands c = map (λ (a : Answer). a.item) (answers_of c)
 
@@ -198,7 +198,7 @@ EndsSo rest last = EndsWhole rest last ⊎ ((last ≡ silence) × BreaksThere re
 -- The script that was read, and the text of the replies: all that was written is a front of it.
 pub record IsText {D : Type 0} (t : Streams) (c : Course D) : Type 0 where
   pub read : List ℕ
-  -- behind the whole commands
+  -- after the whole commands
   pub rest : List ℕ
   pub ends : EndsSo rest c.last
   -- what was read and not looked at, since the output had failed
@@ -243,7 +243,7 @@ IsAll (Err f) more input' unwritten = Unit {0}
 -- The headline of a session over a disk, `before` it and `after` it.
 pub record IsCrashSafe {D : Type 0} (T E : Type 0) (g : disk.Ghosts D) (naming : Naming) (t : Streams) (before after : D) (r : Result T E) : Type 0 where
   pub course : Course D
-  -- it begins with exactly what the disk stands for
+  -- it begins with exactly what the disk encodes
   pub found : (x : Durable) → StandsFor (g.seen before) x → course.begin.holds ≡ x
   pub is : IsCourse (begins_as naming) course
   pub text : IsText t course
@@ -251,7 +251,7 @@ pub record IsCrashSafe {D : Type 0} (T E : Type 0) (g : disk.Ghosts D) (naming :
   pub ended : IsEnded r text.rest course.last
   pub disk : after ≡ course.end.disk
   pub idle : IsIdle g r course before after
-  -- a stop at any moment since the opening began leaves what one before it could have left, or what stands at a moment
+  -- a stop at any moment since the opening began leaves what one before it could have left, or opens as one of these moments
   pub opening : (left : List ℕ) → g.left_since after (g.clock before) left → g.may_leave before left ⊎ FindsSince left course.begin (map moment_of course.lines ++ course.end ∷ [])
   pub safe : AreSafe g after course.begin (map moment_of course.lines ++ course.end ∷ [])
 

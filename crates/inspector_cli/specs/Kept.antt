@@ -150,8 +150,8 @@ AStoreStoresACase {D} g = (t : Streams) (asked : Option Policy) (found : Result 
     (n : ℕ) → s.course.stored ≡ Some n
     → (k : Kept) × (k.seq ≡ n) × (found ≡ Ok k.stream) × Consumes t.input t.input' k.image × (k.label ≡ Some []) × HoldsKept k s.course.ended.holds × (s.course.ended.in_doubt ≡ [])
 
--- A case that a store leaves, with nothing in doubt, is found whenever the machine stops from then on: behind the case's end if the
--- label spares it, and behind the label.
+-- A case that a store leaves, with nothing in doubt, is found whenever the machine stops from then on: after the case's end if the
+-- label spares it, and after the label.
 abbrev pub AStoreKeepsACase : {D : Type 0} → disk.Ghosts D → Type 0
 AStoreKeepsACase {D} g = (k : Kept) (t : Streams) (asked : Option Policy) (found : Result StreamFacts (List ℕ)) (given : Option (List ℕ)) (before after : D) (answer : Result StoreOutcome LifeFault) (s : IsStoreSafe g t asked found given before after answer)
     (cs : List (Command D))

@@ -20,7 +20,7 @@ use Rattle.inspector_cli.specs.Storing.{StoreEnds}
 -- The opening with all that it promises, of its moments too; and what was done over the archive that it answered.
 pub record OpensThen {D : Type 0} (g : disk.Ghosts D) (limit : ℕ) (before after : D) (Goes : Parts D → Parts D → Type 0) : Type 0 where
   pub opened : Parts D
-  -- exactly the archive that the disk stood for: its cases, its shape and the bytes of its journal that are in use; its limit
+  -- exactly the archive that the disk encoded: its cases, its shape and the bytes of its journal that are in use; its limit
   -- is the one that was given, and no stream is open; a crash meanwhile leaves what one before could have left
   pub opening : OpenCall g limit before (Ok opened)
   -- a crash from then on leaves that
@@ -34,7 +34,7 @@ pub record OpensThen {D : Type 0} (g : disk.Ghosts D) (limit : ℕ) (before afte
 -- have left.
 pub record IsOpeningRefused {D : Type 0} (g : disk.Ghosts D) (limit : ℕ) (before after : D) (f : OpenFault) : Type 0 where
   pub opening : OpenCall g limit before (Err (f, after))
-  -- where the disk stood for an archive, nothing but the disk and the memory refuses it
+  -- where the disk encoded an archive, nothing but the disk and the memory refuses it
   pub kind : (x : Durable) → IsTrue (g.is_honest before) → StandsFor (g.seen before) x → (f ≡ fault.Disk) ⊎ (f ≡ fault.OutOfMemory)
 
 -- the streams are not touched
@@ -47,7 +47,7 @@ LifeEnds g limit t before (Ok x) after Goes = OpensThen g limit before after (Go
 LifeEnds g limit t before (Err (Session f)) after Goes = OpensThen g limit before after (Goes (Err f))
 LifeEnds g limit t before (Err (Open f)) after Goes = IsOpeningRefused g limit before after f × IsUntouched t
 
--- a session over an archive behind which nothing is in doubt
+-- a session over an archive after which nothing is in doubt
 abbrev pub RunsOver : {D : Type 0} → disk.Ghosts D → Naming → Streams → Result (Unit {0}) SessionFault → Parts D → Parts D → Type 0
 RunsOver g naming t r opened closed =
     SessionEnds g naming t (record { archive = opened; in_doubt = [] }) closed r

@@ -38,7 +38,7 @@ IsWall s stream m = (m % 4096 ≡ 0) × (stream.len < m) × (filled_up_to s stre
 abbrev pub MayTake : ArchiveState → StreamFacts → ℕ → Type 0
 MayTake s stream n = (stream.len + n ≤ s.limit) × ((m : ℕ) → IsWall s stream m → stream.len + n < m)
 
--- the stream stands in its slot
+-- the stream is in its slot
 abbrev pub IsOpen : ArchiveState → ℕ → StreamFacts → Type 0
 IsOpen s slot stream = (s.stopped ≡ false) × (stream_at s.streams slot ≡ Some stream)
 
@@ -60,7 +60,7 @@ TakeStep old slot n (Err Disk) new =
     (s : StreamFacts) × (k : ℕ) × IsOpen old slot s × (k ≤ n) × MayTake old s k × (new ≡ halted old)
 TakeStep old slot n (Err _) new = ⊥
 
--- the bytes of a stream once these were taken; what stands behind them in its block is left open
+-- the bytes of a stream once these were taken; what follows them in its block is left open
 abbrev pub TakeBytes : Contents → ℕ → List ℕ → Result (Unit {0}) ArchiveFault → Contents → Type 0
 TakeBytes old slot raw (Ok u) new =
     (t : Taken) × (free : List ℕ) × (stream_at old.taken slot ≡ Some t) × (new ≡ with_taken old slot (Some (record { bytes = t.bytes ++ raw; free = free })))
@@ -104,7 +104,7 @@ Retires g old policy reply new = (result : Result Decision ArchiveFault) × Reti
 abbrev pub Frees : {D : Type 0} → Parts D → List ℕ → Parts D → Type 0
 Frees old reply new = (result : Result Space ArchiveFault) × FreeReply (state_of old) result × (reply ≡ free_reply result) × (new ≡ old)
 
--- the reply, and the archive behind it, where these bytes stood behind the line, as many as it says
+-- the reply, and the archive after it, where these bytes followed the line, as many as it says
 abbrev pub Replies : {D : Type 0} → disk.Ghosts D → Naming → Parts D → Said → List ℕ → List ℕ → Parts D → Type 0
 Replies g naming old silence raw reply new = (reply ≡ []) × (new ≡ old)
 Replies g naming old bad_line raw reply new = (reply ≡ no_reply (codes "BadLine")) × (new ≡ old)

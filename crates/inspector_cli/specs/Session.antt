@@ -20,7 +20,7 @@ use Rattle.inspector_cli.specs.Stages.{Stage, Moves, IsFoundAfterAStop}
 use Rattle.inspector_cli.specs.declared.session.SessionFault.{SessionFault}
 use Rattle.inspector_cli.specs.declared.session.SessionFault.TheVariants.{ReadFailed, WriteFailed, TooManyReads}
 
--- a line, and the bytes that stand behind its newline
+-- a line, and the bytes after its newline
 pub record Item : Type 0 where
   pub line : List ℕ
   pub raw : List ℕ
@@ -33,13 +33,13 @@ pub record IsItem (i : Item) : Type 0 where
   pub line : IsLine i.line
   pub raw : length i.raw ≡ raw_length (said i.line)
 
--- how a script ends, behind its whole items
+-- how a script ends, after its whole items
 pub data Ending : Type 0 where
   -- with the last of them
   complete : Ending
   -- with a line that no newline ends
   last_line : List ℕ → Ending
-  -- with a line and some of the bytes that it says stand behind it
+  -- with a line and some of the bytes that it says follow it
   cut_part : List ℕ → List ℕ → Ending
 
 abbrev pub ending_text : Ending → List ℕ
@@ -52,7 +52,7 @@ IsEnding complete = Unit {0}
 IsEnding (last_line line) = IsLine line × (0 < length line)
 IsEnding (cut_part line raw) = IsLine line × (length raw < raw_length (said line))
 
--- The replies to items, one behind the other, and how the archive stands behind each.
+-- The replies to items, one after the other, and the archive after each.
 abbrev pub AnswersItems : {D : Type 0} → disk.Ghosts D → Naming → Stage D → List Item → List ℕ → List (Stage D) → Type 0
 AnswersItems g naming old [] out [] = out ≡ []
 AnswersItems g naming old [] out (s ∷ ss) = ⊥
@@ -61,7 +61,7 @@ AnswersItems g naming old (i ∷ is) out (s ∷ ss) =
     (reply : List ℕ) × (more : List ℕ) × Replies g naming old.archive (said i.line) i.raw reply s.archive × Moves g old (said i.line) reply s
     × AnswersItems g naming s is more ss × (out ≡ reply ++ more)
 
--- how it stands behind the last of them
+-- after the last of them
 abbrev pub last_stage : {D : Type 0} → Stage D → List (Stage D) → Stage D
 last_stage s [] = s
 last_stage s (t ∷ ts) = last_stage t ts
@@ -73,7 +73,7 @@ Truncates {D} g old (part_of slot n) raw reply new =
     × Takes g old slot raw taken mid × AbandonCall g mid slot dropped new × (reply ≡ no_reply (codes "Truncated"))
 Truncates g old _ raw reply new = ⊥
 
--- the reply to how a script ends: a last line is a line like any other, if no bytes are to stand behind it
+-- the reply to how a script ends: a last line is a line like any other, if no bytes are to follow it
 abbrev pub LastReplies : {D : Type 0} → disk.Ghosts D → Naming → ℕ → Parts D → Said → List ℕ → Parts D → Type 0
 LastReplies g naming zero old what reply new = Replies g naming old what [] reply new
 LastReplies g naming (suc n) old what reply new = Truncates g old what [] reply new
@@ -89,7 +89,7 @@ said_last complete = silence
 said_last (last_line line) = said line
 said_last (cut_part line raw) = said line
 
--- a whole script and its text, and how the archive stands behind each of its lines, and at its end
+-- a whole script and its text, and the archive after each of its lines, and at its end
 pub record AnswersAll {D : Type 0} (g : disk.Ghosts D) (naming : Naming) (read out : List ℕ) (old : Stage D) (stages : List (Stage D)) (new : Stage D) : Type 0 where
   pub items : List Item
   pub each : AllByRecursion IsItem items
@@ -103,7 +103,7 @@ pub record AnswersAll {D : Type 0} (g : disk.Ghosts D) (naming : Naming) (read o
   pub moves : Moves g (last_stage old stages) (said_last ending) last new
   pub text : out ≡ replies ++ last
 
--- Where reading stopped within a command: not all of its line is there, or not all of the bytes behind it; of these, those
+-- Where reading stopped within a command: not all of its line is there, or not all of the bytes after it; of these, those
 -- that are there may have been taken.
 abbrev pub TakesFront : {D : Type 0} → disk.Ghosts D → Parts D → Said → List ℕ → Parts D → Type 0
 TakesFront g old (part_of slot n) raw new = (taken : Result (Unit {0}) ArchiveFault) × Takes g old slot raw taken new

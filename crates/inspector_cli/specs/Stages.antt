@@ -1,4 +1,4 @@
--- What a stop leaves of a session: how its archive stands behind each line that was answered.
+-- What a stop leaves of a session: its archive after each line that was answered.
 use Rattle.std.specs.Prelude.{◌≡◌, ◌⊎◌, ℕ, List, [], ◌∷◌, ◌++◌, map, codes, IsTrue}
 use Rattle.std.specs.List.{AllByRecursion}
 use Rattle.disk_model.specs.declared.disk.Disk as disk
@@ -9,7 +9,7 @@ use Rattle.intake.specs.Parts.{Parts, state_of, contents_of}
 use Rattle.script_lines.specs.Said.{Said, end_of, delete_of, pin_of, label_of, retire_by, upgrade_archive}
 use Rattle.script_streams.specs.Replies.{no_reply}
 
--- how things stand when a line has been answered
+-- the state when a line has been answered
 pub record Stage (D : Type 0) : Type 0 where
   pub archive : Parts D
   -- what lines that were answered `no Disk` would have left
@@ -36,7 +36,7 @@ pub record Moves {D : Type 0} (g : disk.Ghosts D) (old : Stage D) (what : Said) 
   pub doubted : (doubts ≡ []) ⊎ ((reply ≡ no_reply (codes "Disk")) × AllByRecursion (MayLeave g old.archive what) doubts)
   pub passes : Passes g (mark_at g.seen old) (mark_at g.seen new)
 
--- the stages of a session: behind each line, behind its last line, and when its streams are dropped
+-- the stages of a session: after each line, after its last line, and when its streams are dropped
 abbrev pub marks_of : {D : Type 0} → (D → List ℕ) → List (Stage D) → Stage D → Parts D → List (Mark D)
 marks_of seen stages end new = map (mark_at seen) stages ++ mark_at seen end ∷ mark_of seen new end.in_doubt ∷ []
 

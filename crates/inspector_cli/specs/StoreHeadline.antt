@@ -18,7 +18,7 @@ use Rattle.inspector_cli.specs.Life.{LifeEnds, StoresOver}
 use Rattle.inspector_cli.specs.Session.{Streams}
 use Rattle.inspector_cli.specs.Storing.{retire_line, said_label}
 
--- A case is added behind x: the one that the stream was begun as, with all bytes of FILE as its image.
+-- A case is added after x: the one that the stream was begun as, with all bytes of FILE as its image.
 pub record AddsCase (found : Result StreamFacts (List ℕ)) (file file' : Option (List ℕ)) (x : Durable) (n : ℕ) (y : Durable) : Type 0 where
   pub stream : StreamFacts
   pub begun : found ≡ Ok stream
@@ -85,7 +85,7 @@ IsTold (Err f) stored unwritten = Unit {0}
 -- The headline of a store over a disk, `before` it and `after` it.
 pub record IsStoreSafe {D : Type 0} (g : disk.Ghosts D) (t : Streams) (asked : Option Policy) (found : Result StreamFacts (List ℕ)) (label : Option (List ℕ)) (before after : D) (r : Result StoreOutcome LifeFault) : Type 0 where
   pub course : StoreCourse D
-  -- it begins with exactly what the disk stands for
+  -- it begins with exactly what the disk encodes
   pub found_again : (x : Durable) → StandsFor (g.seen before) x → course.begin.holds ≡ x
   pub is : IsStoreCourse asked found label t.input t.input' course
   pub written : List ℕ
@@ -94,7 +94,7 @@ pub record IsStoreSafe {D : Type 0} (g : disk.Ghosts D) (t : Streams) (asked : O
   pub text : written ++ unwritten ≡ course.told ++ ((course.first ++ course.reply) ++ course.labels)
   pub disk : after ≡ course.end.disk
   pub answered : IsTold r course.stored unwritten
-  -- a stop at any moment since the opening began leaves what one before it could have left, or what stands at a moment
+  -- a stop at any moment since the opening began leaves what one before it could have left, or opens as one of these moments
   pub opening : (left : List ℕ) → g.left_since after (g.clock before) left
       → g.may_leave before left ⊎ FindsSince left course.begin (course.retired ∷ course.filled ∷ course.ended ∷ course.end ∷ [])
   pub safe : AreSafe g after course.begin (course.retired ∷ course.filled ∷ course.ended ∷ course.end ∷ [])

@@ -46,7 +46,7 @@ TakesFile g file file' fails fails' old new (Err File) =
 TakesFile g file file' fails fails' old new (Err (Refused fault)) =
     (raw : List ℕ) × Consumes file file' raw × Takes g old 0 raw (Err fault) new
 
--- the next bytes of a file are taken behind those so far, or there are none; or they are refused, or could not be read
+-- the next bytes of a file are taken after those so far, or there are none; or they are refused, or could not be read
 abbrev pub TakesMore : {D : Type 0} → disk.Ghosts D → Option (List ℕ) → Option (List ℕ) → ℕ → ℕ → Parts D → List ℕ → Parts D → Result Bool TakeStop → Type 0
 TakesMore g file file' fails fails' begun so_far new (Ok true) =
     (raw : List ℕ) × Consumes file file' raw × (0 < length raw) × (fails' ≡ fails) × Takes g begun 0 (so_far ++ raw) (Ok tt) new
@@ -57,13 +57,13 @@ TakesMore g file file' fails fails' begun so_far new (Err File) =
 TakesMore g file file' fails fails' begun so_far new (Err (Refused fault)) =
     (raw : List ℕ) × Consumes file file' raw × (fails' ≡ fails) × Takes g begun 0 (so_far ++ raw) (Err fault) new
 
--- the reply behind the bytes, and the case's number where it is stored
+-- the reply after the bytes, and the case's number where it is stored
 abbrev pub FileReplies : {D : Type 0} → disk.Ghosts D → Parts D → Result (Unit {0}) TakeStop → List ℕ → Parts D → Option ℕ → Type 0
 FileReplies g old (Ok u) reply new stored = Ends g old 0 reply new stored
 FileReplies g old (Err File) reply new stored = (reply ≡ no_reply (codes "File")) × (new ≡ old) × (stored ≡ None)
 FileReplies g old (Err (Refused fault)) reply new stored = (reply ≡ no_reply (reason_of fault)) × (new ≡ old) × (stored ≡ None)
 
--- a file behind a first line that was accepted or not, with the archive when its bytes are taken: where the line was not
+-- a file after a first line that was accepted or not, with the archive when its bytes are taken: where the line was not
 -- accepted, none is read
 abbrev pub RestReplies : {D : Type 0} → disk.Ghosts D → Option (List ℕ) → Option (List ℕ) → ℕ → ℕ → Parts D → Bool → Parts D → List ℕ → Parts D → Option ℕ → Type 0
 RestReplies g file file' fails fails' old true filled reply new stored =

@@ -33,7 +33,7 @@ pub record Session (D : Type 0) : Type 0 where
   pub naming : Naming
   pub first : Stage D
   pub answers : List Answer
-  -- behind each command
+  -- after each command
   pub stages : List (Stage D)
   -- what the last line says that no newline ends, or whose bytes are not all there, and the reply to it
   pub last : Said
@@ -41,7 +41,7 @@ pub record Session (D : Type 0) : Type 0 where
   pub end : Stage D
   pub closed : Parts D
 
--- how a script ends behind its whole commands, or how it breaks off where it could not be read on
+-- how a script ends after its whole commands, or how it breaks off where it could not be read on
 abbrev pub Finishes : {D : Type 0} → disk.Ghosts D → Naming → Parts D → Said → List ℕ → Parts D → Type 0
 Finishes g naming old last reply new =
     ((ending : Ending) × (last ≡ said_last ending) × EndReplies g naming old ending reply new)
@@ -67,7 +67,7 @@ is_no (a ∷ []) = false
 is_no (a ∷ b ∷ []) = false
 is_no (a ∷ b ∷ c ∷ rest) = a == 110 && (b == 111 && c == 32)
 
--- what the stream in the slot of a line has taken behind the line: nothing where it begins, the bytes of a part more; there is
+-- what the stream in the slot of a line has taken after the line: nothing where it begins, the bytes of a part more; there is
 -- no stream where it ended, was dropped, or a part was refused
 abbrev pub begun : Bool → Option (List ℕ) → Option (List ℕ)
 begun true held = held
@@ -77,7 +77,7 @@ abbrev pub fed : Bool → List ℕ → Option (List ℕ) → Option (List ℕ)
 fed true raw held = None
 fed false raw held = option_map (λ (bytes : List ℕ). bytes ++ raw) held
 
--- what the stream in a slot has taken behind a command, by the reply to it
+-- what the stream in a slot has taken after a command, by the reply to it
 abbrev pub held_then : ℕ → Said → List ℕ → Bool → Option (List ℕ) → Option (List ℕ)
 held_then slot (begin_exec s name) raw refused held = if s == slot then begun refused held else held
 held_then slot (begin_core s process) raw refused held = if s == slot then begun refused held else held
@@ -90,7 +90,7 @@ abbrev pub held_behind : ℕ → Option (List ℕ) → List Answer → Option (L
 held_behind slot held [] = held
 held_behind slot held (a ∷ list) = held_behind slot (held_then slot (what_of a) a.item.raw (is_no a.reply) held) list
 
--- the bytes of the parts of the stream that stands in a slot behind these commands, if one does, where none did before them
+-- the bytes of the parts of the stream in a slot after these commands, if there is one, where there was none before them
 abbrev pub parts_in : ℕ → List Answer → Option (List ℕ)
 parts_in slot list = held_behind slot None list
 

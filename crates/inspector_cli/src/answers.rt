@@ -1,4 +1,5 @@
-// The answers to lines that no bytes stand behind: to those that ask nothing, or a step of a stream, and the calls of the archive.
+// The answers to lines that no bytes follow: to those that ask nothing, or a step of a stream, and the calls of the
+// archive.
 ghost use Rattle.std.specs.Prelude.{◌≡◌, [], is_ok, not};
 ghost use Rattle.intake.specs.Parts.{state_of};
 ghost use Rattle.script_lines.specs.Commands.{asked_by, call_said, question_said};

@@ -100,7 +100,7 @@ fn place_of<D: Disk>(
     Ok((ranges, buffer))
 }
 
-// Reads these ranges of a disk, one behind another, and writes their bytes to an output.
+// Reads these ranges of a disk, one after another, and writes their bytes to an output.
 fn write_out<D: Disk, O: Output>(
     disk: &mut D,
     ranges: &[ByteRange],
@@ -124,7 +124,7 @@ fn write_out<D: Disk, O: Output>(
     }
 }
 
-// Tells an output the bytes of these ranges of a disk, one behind another.
+// Tells an output the bytes of these ranges of a disk, one after another.
 fn copy_ranges<D: Disk, O: Output>(
     disk: &mut D,
     ranges: &[ByteRange],

@@ -13,8 +13,8 @@ use intake::{
 };
 use script_streams::lines_are_cut_one_way;
 
-/// A script has one cut into lines, each with the bytes that it says stand behind it, and an ending; and every text has one.
-/// A script that could not be read on has one cut into the commands that are whole in it and what stands behind them.
+/// A script has one cut into lines, each with the bytes that it says follow it, and an ending; and every text has one. A
+/// script that could not be read on has one cut into the commands that are whole in it and what follows them.
 pub fn a_script_has_one_cut()
     ensures one { HasOneCut }
     ensures some { HasACut }
@@ -47,7 +47,7 @@ pub fn sessions_are_runs<D: Disk>()
 }
 
 /// The headline, of each session from an opening on. Whenever the machine stops after a line has been answered, between two disk
-/// writes or within one, what is left opens as what the archive held then, or behind a later line, or as what a line that was
+/// writes or within one, what is left opens as what the archive held then, or after a later line, or as what a line that was
 /// answered `no Disk` would have left. Each line does what it says, or is refused and changes nothing.
 pub fn a_session_is_crash_safe<D: Disk>()
     ensures { SessionsAreCrashSafe D.Disk }

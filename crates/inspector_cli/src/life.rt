@@ -14,9 +14,9 @@ use stream_names::Naming;
 
 /// Opens the archive on a disk, runs a session over it, and hands the disk back.
 ///
-/// Crash safety, whole: on an honest disk that stands for an archive, after a stop of the machine or not, the session is one over
+/// Crash safety, whole: on an honest disk that encodes an archive, after a stop of the machine or not, the session is one over
 /// exactly that archive. Whenever the machine stops, in the opening or from then on, between two disk writes or within one,
-/// an opening of what is left finds exactly the cases and images behind a line of the script that is not before the last one
+/// an opening of what is left finds exactly the cases and images after a line of the script that is not before the last one
 /// that was answered, or, where the disk failed, what that line would have left. A disk fault is answered only where the
 /// disk failed.
 ///

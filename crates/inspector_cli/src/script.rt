@@ -112,7 +112,7 @@ fn answer_command<I: Input, O: Output, D: Disk>(
     }
 }
 
-// Answers a line, with the bytes behind its newline. Says whether they were all there.
+// Answers a line, with the bytes after its newline. Says whether they were all there.
 fn answer_line<I: Input, O: Output, D: Disk>(
     line: &KeptLine,
     images: &mut Images,
@@ -151,7 +151,7 @@ fn answer_line<I: Input, O: Output, D: Disk>(
     }
 }
 
-// Answers a last line that no newline ends: no bytes stand behind it.
+// Answers a last line that no newline ends: no bytes follow it.
 fn answer_last<O: Output, D: Disk>(
     line: &KeptLine,
     images: &mut Images,
@@ -183,7 +183,7 @@ fn answer_last<O: Output, D: Disk>(
     }
 }
 
-// Answers a part that has no bytes behind it.
+// Answers a part that no bytes follow.
 fn answer_cut<O: Output, D: Disk>(
     slot: u8,
     count: u32,

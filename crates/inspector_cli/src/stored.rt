@@ -10,7 +10,7 @@ use intake::{
 
 /// A case that was answered `stored N`, and that no later line deletes or retires, is found after every stop with exactly the
 /// bytes of its parts, over however many sessions: whenever the machine stops, in that session or in one of the later ones,
-/// behind the line, and however often an opening failed or was stopped itself, an opening of what is left finds a case of that number whose image is those bytes. Such a case has parts:
+/// after the line, and however often an opening failed or was stopped itself, an opening of what is left finds a case of that number whose image is those bytes. Such a case has parts:
 /// those between the line that began its stream and the one that ended it. Each session that was answered, to its end or not,
 /// is one of those that are spoken of here.
 pub fn a_stored_case_is_found<D: Disk>()

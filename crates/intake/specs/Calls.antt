@@ -35,7 +35,7 @@ use Rattle.retention.specs.declared.Policy.{Policy}
 pub record OpenCall {D : Type 0} (g : disk.Ghosts D) (limit : ℕ) (before : D) (r : Result (Parts D) (OpenFault × D)) : Type 0 where
   -- the opening of some list of bytes as long as the disk, on an honest disk of its bytes
   pub gives : ShowsOpening g before (journal_in r)
-  -- what the disk stands for is found, and nothing but the disk and the memory refuses it
+  -- what the disk encodes is found, and nothing but the disk and the memory refuses it
   pub found : (s : Standing) → IsTrue (g.is_honest before) → Stands (g.seen before) s → FindsStanding (journal_in r) s
   -- so is what its bytes hold of the cases: after a crash the cases that it left
   pub found_again : (x : Durable) → IsTrue (g.is_honest before) → StandsFor (g.seen before) x → FindsAgain g.seen r x
@@ -103,7 +103,7 @@ pub record FinishCall {D : Type 0} (g : disk.Ghosts D) (old : Parts D) (slot : �
   -- the blocks in which the image lies, or would lie had the disk not failed
   pub blocks : List ℕ
   pub changes : Changes ℕ g old r new (StoresIn blocks (state_of old) (contents_of g.seen old) (durable_of g.seen old) slot)
-  -- nothing of what stood in the stream's block behind its bytes is on the disk
+  -- none of what was in the stream's block after its bytes is on the disk
   pub padded : IsTrue (g.is_honest old.disk) → FinishPads g.seen old slot r new
   pub untouched : FinishSpares r old.disk new.disk
   pub superblock : KeepsSuperblock g old.disk new.disk
@@ -123,7 +123,7 @@ pub record PinCall {D : Type 0} (g : disk.Ghosts D) (old : Parts D) (seq : ℕ) 
   pub step : PinStep (state_of old) seq flag r (state_of new)
   pub bytes : IsTrue (g.is_honest old.disk) → PinBytes (contents_of g.seen old) r (contents_of g.seen new)
   pub changes : Changes (Unit {0}) g old r new (λ x. x ≡ flagged (durable_of g.seen old) seq flag)
-  -- it takes no memory where its record fits behind the others
+  -- it takes no memory where its record fits after the others
   pub never : r ≡ Err OutOfMemory → half_length (state_of old).shape < (state_of old).used + pin_size + 1
   pub untouched : PinSpares (state_of old) seq flag r old.disk new.disk
   pub superblock : KeepsSuperblock g old.disk new.disk

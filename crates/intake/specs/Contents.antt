@@ -12,7 +12,7 @@ use Rattle.intake.specs.declared.faults.ArchiveFault.TheVariants.{Stopped, NoStr
 pub record Taken : Type 0 where
   -- the bytes taken, in order
   pub bytes : List ℕ
-  -- the free part of the block that is filled: what stands there now
+  -- the free part of the block that is filled: what is there now
   pub free : List ℕ
 
 pub record Contents : Type 0 where
@@ -34,7 +34,7 @@ abbrev pub next_free : List ℕ → List ℕ
 next_free [] = zero_block
 next_free (x ∷ xs) = x ∷ xs
 
--- the first n bytes of the free part, as they stand, go to the end of the bytes
+-- the first n bytes of the free part, as they are, go to the end of the bytes
 abbrev pub advanced : ℕ → Taken → Taken
 advanced n t = record { bytes = t.bytes ++ take n t.free; free = next_free (drop n t.free) }
 

@@ -33,7 +33,7 @@ IsDiskFault (Err f) = f ≡ Disk
 abbrev pub ChangesFree : Shape → List Bool → List ℕ → List ℕ → Type 0
 ChangesFree shape flags a b = (b ≡ a) ⊎ ((k : ℕ) × (is_free flags k ≡ true) × SameOutside (block_start shape k) 4096 a b)
 
--- A free block is put behind these blocks, and holds these bytes.
+-- A free block is put after these blocks, and holds these bytes.
 pub record Adds (shape : Shape) (flags : List Bool) (old new : List ℕ) (bytes a b : List ℕ) : Type 0 where
   pub block : ℕ
   pub free : is_free flags block ≡ true

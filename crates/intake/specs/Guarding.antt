@@ -31,8 +31,8 @@ pub record LeavesCases {D : Type 0} (g : disk.Ghosts D) (old new : D) (j : Journ
 abbrev pub UsesNoFreeBlock : List Bool → Journaled → Type 0
 UsesNoFreeBlock flags j = (k : ℕ) → is_free flags k ≡ true → case_uses j.standing.cases k ≡ 0
 
--- What a crash at any moment of a call leaves: what stood before; or what stands after it, and where the disk failed what
--- it would have left; a refusal leaves nothing else.
+-- What a crash at any moment of a call leaves: what was there before; or what is there after it, and if the disk failed what it would have left; a refusal leaves nothing
+-- else.
 abbrev pub LeavesNew : {T : Type 0} → Result T ArchiveFault → Durable → (Durable → Type 0) → List ℕ → Type 0
 LeavesNew (Ok x) new doubt c = StandsFor c new
 LeavesNew (Err Disk) new doubt c = (x : Durable) × doubt x × StandsFor c x

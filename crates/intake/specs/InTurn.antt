@@ -65,7 +65,7 @@ abbrev pub ACallLeadsOn : {D : Type 0} → disk.Ghosts D → Type 0
 ACallLeadsOn {D} g = (old new : Parts D) (call : Call) (r : ReplyTo call) → IsTrue (g.is_honest old.disk) → Makes g old call r new
     → IsLater (durable_of g.seen old) (durable_of g.seen new) × ((x : Durable) → WouldLeave g old call x → IsLater (durable_of g.seen old) x)
 
--- what the archive holds behind each of these calls
+-- what the archive holds after each of these calls
 abbrev pub states_of : {D : Type 0} → (D → List ℕ) → List (Made D) → List Durable
 states_of seen [] = []
 states_of seen (m ∷ ms) = durable_of seen m.archive ∷ states_of seen ms

@@ -8,7 +8,7 @@ use Rattle.intake.specs.State.{runs_in}
 use Rattle.intake.specs.Durable.{Durable, FoundCase, StandsFor}
 use Rattle.intake.specs.Step.{MayHaveRuns}
 
--- bytes stand for one archive at most
+-- bytes encode one archive at most
 abbrev pub WhatStandsIsOne : Type 0
 WhatStandsIsOne = (bytes : List ℕ) (x y : Durable) → StandsFor bytes x → StandsFor bytes y → x ≡ y
 

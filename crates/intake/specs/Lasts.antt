@@ -24,13 +24,13 @@ abbrev pub DeleteLasts : {D : Type 0} → disk.Ghosts D → Type 0
 DeleteLasts {D} g = (old new : Parts D) (seq : ℕ) (u : Unit {0}) → IsTrue (g.is_honest old.disk) → DeleteCall g old seq (Ok u) new
     → durable_of g.seen new ≡ without (durable_of g.seen old) (seq ∷ [])
 
--- a pin sets the flag of the one case, and changes no other; exactly where it stands already nothing changes
+-- a pin sets the flag of the one case, and changes no other; exactly where it is set already nothing changes
 abbrev pub PinLasts : {D : Type 0} → disk.Ghosts D → Type 0
 PinLasts {D} g = (old new : Parts D) (seq : ℕ) (flag : Bool) (u : Unit {0}) → IsTrue (g.is_honest old.disk) → PinCall g old seq flag (Ok u) new
     → (c : Case) × HasCase (state_of old) seq c
     × (((c.pinned ≡ flag) × (durable_of g.seen new ≡ durable_of g.seen old)) ⊎ ((c.pinned ≢ flag) × (durable_of g.seen new ≡ flagged (durable_of g.seen old) seq flag)))
 
--- a label sets the label of the one case, and changes no other; exactly where it stands already nothing changes
+-- a label sets the label of the one case, and changes no other; exactly where it is set already nothing changes
 abbrev pub LabelLasts : {D : Type 0} → disk.Ghosts D → Type 0
 LabelLasts {D} g = (old new : Parts D) (seq : ℕ) (text : List ℕ) (u : Unit {0}) → IsTrue (g.is_honest old.disk) → LabelCall g old seq text (Ok u) new
     → (c : Case) × HasCase (state_of old) seq c

@@ -9,11 +9,11 @@ use Rattle.intake.specs.contracts.buffer.Buffer.{the_row as buffer_row}
 use Rattle.intake.specs.contracts.slots.Slot.{the_row as slot_row}
 use Rattle.intake.specs.contracts.slots.Slots.{the_row as slots_row}
 
--- the first bytes of old stay, and these stand behind them; it is as long as it was
+-- the first bytes of old stay, followed by these; the length stays
 abbrev pub refilled : List ℕ → ℕ → List ℕ → List ℕ
 refilled old used ws = take (length old) (take used old ++ (ws ++ drop (length ws) (drop used old)))
 
--- the block ends with these behind its first bytes
+-- the block ends with these, after its first bytes
 abbrev pub LendsTail : MutBor (List ℕ) → ℕ → Result (Unit {0}) ArchiveFault × MutBor (List ℕ) → Fml
 LendsTail block from r = Lends buffer_row (Array u8 0) block r.1 (refilled block.now from)
 
@@ -27,7 +27,7 @@ LendsBlock slot from r = Lends slot_row (Array u8 0) slot r.1 (reblocked slot.no
 abbrev pub with_room : List ℕ → StreamParts → StreamParts
 with_room ws s = record s { block = refilled s.block (s.facts.len % 4096) ws }
 
--- what stands in the slots when the loan ends, with these as the last bytes that were lent
+-- what the slots hold when the loan ends, with these as the last bytes that were lent
 abbrev pub slots_left : List (Option StreamParts) → ℕ → Result (Unit {0}) ArchiveFault → List ℕ → List (Option StreamParts)
 slots_left streams slot (Ok u) ws = slice_set streams slot (option_map (with_room ws) (stream_at streams slot))
 slots_left streams slot (Err f) ws = streams

@@ -10,7 +10,7 @@ use Rattle.intake.specs.Marks.{Mark, IsMarkSettled, IsRunOfMarks, HasOne, last_o
 use Rattle.intake.specs.Opened.{disk_in}
 use Rattle.intake.specs.Parts.{Parts}
 
--- One life of an archive, from its opening to a stop: a mark behind each call that was answered; of these the first ones
+-- One life of an archive, from its opening to a stop: a mark after each call that was answered; of these the first ones
 -- are acknowledged when the machine stops.
 pub record Life (D : Type 0) : Type 0 where
   pub first : Mark D
@@ -35,7 +35,7 @@ pub record Attempt (D : Type 0) : Type 0 where
   pub next : D
 
 -- It was refused, and the next one is tried on the disk that it handed back; or on a disk that is made anew from its file; or the
--- machine stopped within it or behind it, and the disk restarts.
+-- machine stopped within it or after it, and the disk restarts.
 abbrev pub IsTried : {D : Type 0} → disk.Ghosts D → D → Attempt D → Type 0
 IsTried g d t =
     OpenCall g t.limit d t.answer
@@ -45,7 +45,7 @@ abbrev pub AreTried : {D : Type 0} → disk.Ghosts D → D → List (Attempt D) 
 AreTried g d [] = Unit {0}
 AreTried g d (t ∷ ts) = IsTried g d t × AreTried g t.next ts
 
--- the disk behind them
+-- the disk after them
 abbrev pub disk_after : {D : Type 0} → D → List (Attempt D) → D
 disk_after d [] = d
 disk_after d (t ∷ ts) = disk_after t.next ts
@@ -83,7 +83,7 @@ AreKept l (n ∷ ns) = HasOne (last_acknowledged l) l.later n.first.durable × A
 abbrev pub AReopeningIsAStop : {D : Type 0} → disk.Ghosts D → Type 0
 AReopeningIsAStop {D} g = (l : Life D) (left : List ℕ) → IsLived g l → IsLeftBy g l left → g.left_since (last_of (last_acknowledged l) l.later).disk (g.clock (last_acknowledged l).disk) left
 
--- Whatever bytes a stop leaves of a life, what they stand for is what its last acknowledged mark has, or a later one.
+-- Whatever bytes a stop leaves of a life, what they encode is what its last acknowledged mark has, or a later one.
 abbrev pub KeptOverAStop : {D : Type 0} → disk.Ghosts D → Type 0
 KeptOverAStop {D} g = (l : Life D) (left : List ℕ) (x : Durable) → IsLived g l → g.left_since (last_of (last_acknowledged l) l.later).disk (g.clock (last_acknowledged l).disk) left
     → StandsFor left x → HasOne (last_acknowledged l) l.later x
@@ -104,7 +104,7 @@ abbrev pub AllHoldCase : {D : Type 0} → FoundCase → Mark D → List (Mark D)
 AllHoldCase c m [] = HoldsCase c m
 AllHoldCase c m (n ∷ ns) = HoldsCase c m × AllHoldCase c n ns
 
--- A case that stands at a mark and that no later call drops is found after a stop, with its image.
+-- A case that is there at a mark and that no later call drops is found after a stop, with its image.
 abbrev pub ACaseIsFound : {D : Type 0} → disk.Ghosts D → Type 0
 ACaseIsFound {D} g = (m : Mark D) (ns : List (Mark D)) (c : FoundCase) (left : List ℕ) (x : Durable) → IsTrue (g.is_honest m.disk) → IsMarkSettled g m → IsRunOfMarks g m ns
     → AllHoldCase c m ns → g.left_since (last_of m ns).disk (g.clock m.disk) left → StandsFor left x → IsAmong x.cases c

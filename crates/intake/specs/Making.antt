@@ -99,7 +99,7 @@ abbrev pub AreMade : {D : Type 0} → disk.Ghosts D → Parts D → List (Made D
 AreMade g a [] = Unit {0}
 AreMade g a (m ∷ ms) = Makes g a m.call m.reply m.archive × AreMade g m.archive ms
 
--- the archive behind them
+-- the archive after them
 abbrev pub archive_after : {D : Type 0} → Parts D → List (Made D) → Parts D
 archive_after a [] = a
 archive_after a (m ∷ ms) = archive_after m.archive ms
@@ -114,7 +114,7 @@ WouldLeave g old upgrade_it x = x ≡ upgraded (durable_of g.seen old)
 WouldLeave g old (retire_by policy) x = MayBeRetired (state_of old) policy (durable_of g.seen old) x
 WouldLeave g old _ x = ⊥
 
--- what is in doubt anew behind a call: these where it changes cases and answered that the disk failed, else nothing
+-- what is in doubt anew after a call: these where it changes cases and answered that the disk failed, else nothing
 abbrev pub newly_doubted : (call : Call) → ReplyTo call → List Durable → List Durable
 newly_doubted (finish_of slot) r more = doubted {T = ℕ} r more
 newly_doubted (delete_of seq) r more = doubted {T = Unit {0}} r more
@@ -124,7 +124,7 @@ newly_doubted upgrade_it r more = doubted {T = Unit {0}} r more
 newly_doubted (retire_by policy) r more = doubted {T = Decision} r more
 newly_doubted _ r more = []
 
--- a mark behind each call: how the archive stands then, with what is in doubt
+-- a mark after each call: the state of the archive then, with what is in doubt
 abbrev pub AreMarks : {D : Type 0} → disk.Ghosts D → Parts D → List Durable → List (Made D) → List (Mark D) → Type 0
 AreMarks g a before [] [] = Unit {0}
 AreMarks g a before [] (n ∷ ns) = ⊥
@@ -133,7 +133,7 @@ AreMarks g a before (m ∷ ms) (n ∷ ns) =
     (more : List Durable) × AllByRecursion (WouldLeave g a m.call) more × (n ≡ mark_of g.seen m.archive (newly_doubted m.call m.reply more ++ before))
     × AreMarks g m.archive (newly_doubted m.call m.reply more ++ before) ms ns
 
--- Calls one after the other are a run of marks, one behind each call.
+-- Calls one after the other are a run of marks, one after each call.
 abbrev pub CallsAreMarks : {D : Type 0} → disk.Ghosts D → Type 0
 CallsAreMarks {D} g = (a : Parts D) (before : List Durable) (made : List (Made D)) → AreMade g a made
     → (marks : List (Mark D)) × AreMarks g a before made marks × IsRunOfMarks g (mark_of g.seen a before) marks
@@ -143,7 +143,7 @@ abbrev pub free_bytes : Option Taken → List ℕ
 free_bytes None = []
 free_bytes (Some t) = t.free
 
--- the bytes that a call takes into the stream of a slot: where it advances that stream, the first of its free part as they stand
+-- the bytes that a call takes into the stream of a slot: where it advances that stream, the first of its free part as they are
 abbrev pub taken_by : {D : Type 0} → (D → List ℕ) → ℕ → Parts D → (call : Call) → ReplyTo call → List ℕ
 taken_by seen slot old (advance_by at n) (Ok u) = if at == slot then take n (free_bytes (stream_at (contents_of seen old).taken slot)) else []
 taken_by seen slot old (advance_by at n) (Err f) = []
@@ -154,7 +154,7 @@ abbrev pub taken_over : {D : Type 0} → (D → List ℕ) → ℕ → Parts D �
 taken_over seen slot a [] = []
 taken_over seen slot a (m ∷ ms) = taken_by seen slot a m.call m.reply ++ taken_over seen slot m.archive ms
 
--- a stream is open in the slot behind each of the calls
+-- a stream is open in the slot after each of the calls
 abbrev pub StaysOpen : {D : Type 0} → ℕ → List (Made D) → Type 0
 StaysOpen slot [] = Unit {0}
 StaysOpen slot (m ∷ ms) = (stream_at (state_of m.archive).streams slot ≢ None) × StaysOpen slot ms
@@ -175,7 +175,7 @@ AnImageIsWhatWasTaken {D} g = (old begun : Parts D) (slot : ℕ) (s : StreamFact
     → (c : FoundCase) × IsCaseOf s seq (taken_over g.seen slot begun made) c
     × ((durable_of g.seen new).cases ≡ (durable_of g.seen (archive_after begun made)).cases ++ c ∷ [])
 
--- What is answered of a case's image is that too, whatever calls are made behind its finish.
+-- What is answered of a case's image is that too, whatever calls are made after its finish.
 abbrev pub AnImageIsAnsweredAsItWasTaken : {D : Type 0} → disk.Ghosts D → Type 0
 AnImageIsAnsweredAsItWasTaken {D} g = (old begun : Parts D) (slot : ℕ) (s : StreamFacts) (u : Unit {0}) (made : List (Made D)) (stored : Parts D) (seq : ℕ) (later : List (Made D)) (image : Vec ℕ Global) (last : Parts D)
     → IsTrue (g.is_honest old.disk) → Makes g old (begin_in slot s) (Ok u) begun → AreMade g begun made → StaysOpen slot made → Makes g (archive_after begun made) (finish_of slot) (Ok seq) stored

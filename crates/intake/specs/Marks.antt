@@ -1,4 +1,4 @@
--- A run of calls as marks: how things stand when a call has been answered. What a stop leaves is told by them.
+-- A run of calls as marks: the state when a call has been answered. What a stop leaves is told by them.
 use Rattle.std.specs.Prelude.{◌≡◌, ◌⊎◌, ℕ, ◌≤◌, Bool, List, [], ◌∷◌, ◌++◌, Result, Err, IsTrue}
 use Rattle.std.specs.List.{AllByRecursion}
 use Rattle.disk_model.specs.Moments.{AddsOnly}
@@ -84,7 +84,7 @@ abbrev pub HasOne : {D : Type 0} → Mark D → List (Mark D) → Durable → Ty
 HasOne m [] x = Has m x
 HasOne m (n ∷ ns) x = Has m x ⊎ HasOne n ns x
 
--- how an archive stands, where these are in doubt
+-- the state of an archive, where these are in doubt
 abbrev pub mark_of : {D : Type 0} → (D → List ℕ) → Parts D → List Durable → Mark D
 mark_of seen a doubts = record { disk = a.disk; durable = durable_of seen a; in_doubt = doubts }
 

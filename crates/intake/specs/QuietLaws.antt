@@ -15,7 +15,7 @@ module _ {D : Type 0} (g : disk.Ghosts D) where
     size = refl;
   }
 
-  -- one behind another
+  -- one after another
   pub quiet_then : (old mid new : D) → OnlyReads g old mid → OnlyReads g mid new → OnlyReads g old new
   quiet_then old mid new first second =
       let still : IsTrue (g.is_honest old) → IsTrue (g.is_honest mid) = λ honest. subst IsTrue (sym first.honesty) honest in record {

@@ -44,7 +44,7 @@ abbrev pub FitsFree : Option StreamParts → ℕ → Type 0
 FitsFree None n = Unit {0}
 FitsFree (Some s) n = s.facts.len % 4096 + n ≤ 4096
 
--- where the free part begins, of what stands in a slot that is there or not; at the end where nothing is lent
+-- where the free part begins, of what is in a slot that is there or not; at the end where nothing is lent
 abbrev pub IsFreeFrom : Bool → Bool → Option StreamParts → ℕ → Result (Unit {0}) ArchiveFault → ℕ → Type 0
 IsFreeFrom stopped there o end (Ok u) from = (stopped ≡ false) × (there ≡ true) × (s : StreamParts) × (o ≡ Some s) × (from ≡ s.facts.len % 4096)
 IsFreeFrom stopped there o end (Err Stopped) from = (stopped ≡ true) × (from ≡ end)

@@ -1,7 +1,7 @@
--- What stands in the slots for streams.
+-- What the slots for streams hold.
 use Rattle.std.specs.Prelude.{ℕ, List, Option, None, map, slice_index_or}
 
--- what stands in a slot, if anything
+-- what a slot holds, if anything
 abbrev pub stream_at : {X : Type 0} → List (Option X) → ℕ → Option X
 stream_at slots slot = slice_index_or slots slot None
 

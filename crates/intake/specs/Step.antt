@@ -140,12 +140,12 @@ case_size c = record_size c.name (runs_in c) + label_bytes c.label
 abbrev pub snapshot_size : List Case → ℕ
 snapshot_size cases = 48 + sum_by case_size cases
 
--- these cases have room in the journal's other half, written anew, with a gate behind them, and a generation is left for it
+-- these cases have room in the journal's other half, written anew, with a gate after them, and a generation is left for it
 abbrev pub FitsAnew : ArchiveState → List Case → Type 0
 FitsAnew s cases = (snapshot_size cases + 1 ≤ half_length s.shape) × (s.generation + 1 < 2 ^ 64)
 
--- A record of `size` bytes, behind which these cases stand, has room with the gate behind it: behind the records that are there,
--- or in the journal's other half, where these cases are written anew and a generation is left for it.
+-- A record of `size` bytes, after which there are these cases, has room with the gate after it: after the records that are there, or in the journal's other half, where
+-- these cases are written anew and a generation is left for it.
 abbrev pub BytesFit : ArchiveState → ℕ → List Case → Type 0
 BytesFit s size cases =
     (s.used + size + 1 ≤ half_length s.shape) ⊎ FitsAnew s cases
@@ -163,8 +163,7 @@ abbrev pub IsFull : ArchiveState → ℕ → List Case → Type 0
 IsFull s size cases =
     (half_length s.shape < s.used + size + 1) × OverflowsAnew s cases
 
--- the same state with these cases, by a record of `size` bytes: it stands behind the others where it fits there, and else the
--- cases stand in the other half, written anew
+-- the same state with these cases, by a record of `size` bytes: it follows the others where it fits there, and else the other half has the cases, written anew
 abbrev pub recorded : ArchiveState → ℕ → List Case → ArchiveState
 recorded s size cases = record s {
   cases = cases;
@@ -199,7 +198,7 @@ stream_size s blocks = record_size s.origin.name (length (runs_of blocks))
 abbrev pub stored : ArchiveState → ℕ → StreamFacts → List ℕ → ArchiveState
 stored old slot s blocks = record (recorded (with_stream old slot None) (stream_size s blocks) (cases_with old s blocks)) { next = old.next + 1 }
 
--- the stream stands in its slot, and there is a block for the bytes that fill none
+-- the stream is in its slot, and there is a block for the bytes that fill none
 abbrev pub MayFinish : ArchiveState → ℕ → StreamFacts → Type 0
 MayFinish old slot s =
     (old.stopped ≡ false) × (stream_at old.streams slot ≡ Some s)
@@ -298,7 +297,7 @@ with_flag old seq flag = recorded old pin_size (cases_flagged old seq flag)
 abbrev pub PinFits : ArchiveState → ℕ → Bool → Type 0
 PinFits old seq flag = BytesFit old pin_size (cases_flagged old seq flag)
 
--- pin: the flag is set; where it stands already, nothing changes
+-- pin: the flag is set; where it is set already, nothing changes
 abbrev pub PinStep : ArchiveState → ℕ → Bool → Result (Unit {0}) ArchiveFault → ArchiveState → Type 0
 PinStep old seq flag (Ok u) new =
     (c : Case) × HasCase old seq c
@@ -327,7 +326,7 @@ LabelFits old seq text = BytesFit old (label_size text) (cases_labelled old seq 
 abbrev pub MayLabel : ArchiveState → ℕ → Case → Type 0
 MayLabel old seq c = HasCase old seq c × (old.version ≡ 2)
 
--- label: the label is set; where it stands already, nothing changes. Version 1 keeps none, not even the empty one.
+-- label: the label is set; where it is set already, nothing changes. Version 1 keeps none, not even the empty one.
 abbrev pub LabelStep : ArchiveState → ℕ → List ℕ → Result (Unit {0}) ArchiveFault → ArchiveState → Type 0
 LabelStep old seq text (Ok u) new =
     (c : Case) × MayLabel old seq c

@@ -27,12 +27,12 @@ FinishSpares (Err NoStream) old new = new ≡ old
 FinishSpares (Err SpaceFull) old new = new ≡ old
 FinishSpares _ old new = Unit {0}
 
--- pin: where the flag stands already, too
+-- pin: where the flag is set already, too
 abbrev pub PinSpares : {D : Type 0} → ArchiveState → ℕ → Bool → Result (Unit {0}) ArchiveFault → D → D → Type 0
 PinSpares s seq flag (Ok u) old new = (c : Case) → HasCase s seq c → c.pinned ≡ flag → new ≡ old
 PinSpares s seq flag (Err f) old new = RefusalSpares {T = Unit {0}} (Err f) old new
 
--- label: where the label stands already, too
+-- label: where the label is set already, too
 abbrev pub LabelSpares : {D : Type 0} → ArchiveState → ℕ → List ℕ → Result (Unit {0}) ArchiveFault → D → D → Type 0
 LabelSpares s seq text (Ok u) old new = (c : Case) → HasCase s seq c → c.label ≡ text → new ≡ old
 LabelSpares s seq text (Err f) old new = RefusalSpares {T = Unit {0}} (Err f) old new

@@ -48,7 +48,7 @@ pub struct Settings {
 }
 
 /// An open archive over a disk: its cases, and the streams on their way into it. Contracts see it as the disk, what its
-/// journal stands for and the streams by slot.
+/// journal encodes and the streams by slot.
 #[derive(Drop)]
 pub struct Archive<D: Disk> {
     disk: D,
@@ -215,7 +215,7 @@ impl<D: Disk> Archive<D> {
         self.slots.lend(self.stopped, slot)
     }
 
-    /// Takes the first `n` bytes of the free part as they stand. A block that is full is written, and the free part is
+    /// Takes the first `n` bytes of the free part as they are. A block that is full is written, and the free part is
     /// zeros again. Answers, in this order: `Stopped`; `NoStream`; `TooLong` where the image would pass the limit;
     /// `SpaceFull` where a block is full and none is free; `OutOfMemory`; `Disk`. All but the first two drop the stream.
     pub fn advance(&mut self, slot: u8, n: usize) -> Result<(), ArchiveFault>
@@ -250,7 +250,7 @@ impl<D: Disk> Archive<D> {
     }
 
     /// Makes the stream in a slot the last case, and answers its number. What of its bytes fills no block is written to
-    /// one with zeros behind it, all is made stable, and then the case's record is appended. Answers, in this order:
+    /// one with zeros after it, all is made stable, and then the case's record is appended. Answers, in this order:
     /// `Stopped`; `NoStream`; `SpaceFull`; `OutOfMemory`; `Disk`; `JournalFull` where neither the record nor the cases with
     /// this one, written anew, have room; `NumbersSpent`; `OutOfMemory`; `Disk`. All but the first two drop the stream.
     pub fn finish(&mut self, slot: u8) -> Result<u32, ArchiveFault>
@@ -307,7 +307,7 @@ impl<D: Disk> Archive<D> {
         Ok(())
     }
 
-    /// Keeps a case from deletion, or no longer; where that stands already, nothing is written. Answers, in this order:
+    /// Keeps a case from deletion, or no longer; where that is so already, nothing is written. Answers, in this order:
     /// `Stopped`; `NoCase`; `JournalFull`; `OutOfMemory`, where the journal is written anew alone; `Disk`. All but the last
     /// change nothing.
     pub fn pin(&mut self, seq: u32, flag: bool) -> Result<(), ArchiveFault>
@@ -330,7 +330,7 @@ impl<D: Disk> Archive<D> {
         Err(fault)
     }
 
-    /// Gives a case a label; where that stands already, nothing is written. Answers, in this order: `Stopped`; `NoCase`;
+    /// Gives a case a label; where it has that already, nothing is written. Answers, in this order: `Stopped`; `NoCase`;
     /// `OldVersion` where the archive is of version 1 of the layout, which keeps no labels; `JournalFull`; `OutOfMemory`;
     /// `Disk`. All but the last change nothing.
     pub fn label(&mut self, seq: u32, text: &[u8]) -> Result<(), ArchiveFault>
@@ -482,7 +482,7 @@ impl<D: Disk> Archive<D> {
         Some(self.retire(policy))
     }
 
-    /// Whether a disk fault has stopped it. Unless one has, what a crash now leaves stands for the cases that it shows.
+    /// Whether a disk fault has stopped it. Unless one has, what a crash now leaves encodes the cases that it shows.
     pub fn is_stopped(&self) -> bool
         ensures value { result ≡ self.now.stopped }
         ensures stands { result ≡ false → IsTrue (D.is_honest self.now.disk) → (c : List ℕ) → D.may_leave self.now.disk c

@@ -156,7 +156,7 @@ pub(crate) fn grow<D: Disk>(
     Ok(())
 }
 
-/// Writes the last block of a stream where it is part-filled, with zeros behind its bytes, and makes all that was
+/// Writes the last block of a stream where it is part-filled, with zeros after its bytes, and makes all that was
 /// written stable.
 pub(crate) fn seal<D: Disk>(
     disk: &mut D,
@@ -227,7 +227,7 @@ pub(crate) fn append_case<D: Disk>(
     ensures names { GivesNameBack result entry.name.items names.old names.new }
     ensures free { GivesBack result free.old entry.runs free.new }
     ensures guards { Guards D.Disk disk.new journal.new }
-    // What a crash at any moment leaves stands for the cases before or after, if the disk was met.
+    // Crash-safe at every moment: a crash leaves bytes that encode the cases before or after, if the disk was met.
     ensures any_moment { IsTrue (D.is_honest disk.old) → LeavesOnly D.Disk disk.old disk.new
         (LeavesStored result (durable_in (D.seen disk.old) journal.old.standing) (durable_in (D.seen disk.old) (appended journal.old.standing (store_of journal.old.standing (case_of entry))))) }
     ensures outside { IsTrue (D.is_honest disk.old)

@@ -50,7 +50,7 @@ impl Buffer {
         self.bytes.len()
     }
 
-    /// Lends the bytes from a place on, beside a reply.
+    /// Lends the bytes from a place on, with a reply.
     pub(crate) fn lend(
         &mut self,
         reply: Result<(), ArchiveFault>,

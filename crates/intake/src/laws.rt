@@ -14,26 +14,26 @@ use disk_model::Disk;
 use journal_layout::live_cases_are_sound;
 use retention::a_decision_is_one;
 
-/// Bytes stand for one archive at most: what an opening finds is told by them alone.
+/// Bytes encode one archive at most: what an opening finds is told by them alone.
 pub fn what_stands_is_one()
     ensures { WhatStandsIsOne }
 {}
 
-/// The next number of what bytes stand for is above the number of each case, and the numbers rise.
+/// The next number of what bytes encode is above the number of each case, and the numbers rise.
 pub fn the_next_number_is_above()
     ensures { NumbersAreAbove }
 {
     live_cases_are_sound();
 }
 
-/// Each image of what bytes stand for has its case's length, and lies in as many runs of blocks as an image of that length may.
+/// Each image of what bytes encode has its case's length, and lies in as many runs of blocks as an image of that length may.
 pub fn images_are_whole()
     ensures { ImagesAreWhole }
 {
     live_cases_are_sound();
 }
 
-/// What bytes stand for is of version 1 or 2 of the layout, and in version 1 no case has a label.
+/// What bytes encode is of version 1 or 2 of the layout, and in version 1 no case has a label.
 pub fn labels_are_of_version_two()
     ensures { LabelsAreOfVersionTwo }
 {}
@@ -69,7 +69,7 @@ pub fn an_upgrade_leaves_the_cases<D: Disk>()
     ensures { AnUpgradeLeavesTheCases D.Disk }
 {}
 
-/// Crash safety over a run of calls, told by marks, one behind each call that was answered: whatever crash there was since a
+/// Crash safety over a run of calls, told by marks, one after each call that was answered: whatever crash there was since a
 /// mark, between two disk writes or within one, an opening finds what that mark has, or a later one.
 pub fn found_after_a_stop<D: Disk>()
     ensures { FoundAfterAStop D.Disk }
@@ -93,13 +93,13 @@ pub fn calls_lead_from_mark_to_mark<D: Disk>()
     ensures retire { RetireLeads D.Disk }
 {}
 
-/// Calls of an open archive, one after the other, are a run of marks, one behind each call.
+/// Calls of an open archive, one after the other, are a run of marks, one after each call.
 pub fn calls_are_marks<D: Disk>()
     ensures { CallsAreMarks D.Disk }
 {}
 
 /// A case is what its own stream began as, and its image is what that stream's calls took, from its begin to its finish, whatever
-/// other calls were made between; and so is what is answered of it, whatever calls were made behind.
+/// other calls were made between; and so is what is answered of it, whatever calls were made after.
 pub fn an_image_is_what_was_taken<D: Disk>()
     ensures stored { AnImageIsWhatWasTaken D.Disk }
     ensures answered { AnImageIsAnsweredAsItWasTaken D.Disk }
@@ -127,7 +127,7 @@ pub fn kept_over_many_stops<D: Disk>()
     ensures many { KeptOverManyStops D.Disk }
 {}
 
-/// What crash safety means for one case: where it stands behind a call and no later call drops it, it is found after a stop,
+/// What crash safety means for one case: if it is there after a call and no later call drops it, it is found after a stop,
 /// with its image byte for byte.
 pub fn a_case_is_found<D: Disk>()
     ensures { ACaseIsFound D.Disk }
@@ -168,7 +168,7 @@ pub fn a_case_is_there_between()
     ensures { ACaseIsThereBetween }
 {}
 
-/// What an archive holds behind a call is later than what it held before it, and so is what a call would have left that a disk fault
+/// What an archive holds after a call is later than what it held before it, and so is what a call would have left that a disk fault
 /// or a kill cut short: these are the times of `a_case_is_there_between`.
 pub fn calls_lead_on<D: Disk>()
     ensures one { ACallLeadsOn D.Disk }

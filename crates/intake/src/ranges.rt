@@ -8,7 +8,7 @@ use extents::Run;
 use journal_layout::{BLOCK, Shape};
 use std::alloc::{AllocError, Global};
 
-/// Bytes of a disk that lie one behind another.
+/// Bytes of a disk that lie one after another.
 #[derive(Clone, Copy, Debug, PartialEq, Eq)]
 pub struct ByteRange {
     /// The place of the first one.

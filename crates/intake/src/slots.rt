@@ -25,7 +25,7 @@ pub(crate) struct Slot {
     pub(crate) block: Buffer,
 }
 
-/// The slots for streams. Contracts see what stands in each.
+/// The slots for streams. Contracts see what each holds.
 #[derive(Drop)]
 pub(crate) struct Slots {
     slots: Vec<Slot>,
@@ -118,7 +118,7 @@ impl Slots {
 impl Slot {
     ghost use Rattle.intake.specs.Lending.{LendsBlock};
 
-    // Lends the bytes of the block from a place on, beside a reply.
+    // Lends the bytes of the block from a place on, with a reply.
     fn lend(
         &mut self,
         reply: Result<(), ArchiveFault>,

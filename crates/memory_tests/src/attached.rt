@@ -1,4 +1,4 @@
-//! Executables that stand for mapped files, and the mappings, with and without a table of the segments.
+//! Executables that are attached for mapped files, and the mappings, with and without a table of the segments.
 use crate::shown::{Look, attach_cat, shows};
 use address_space::AddressSpace;
 use core_notes::CoreNotes;
@@ -10,7 +10,7 @@ use std::alloc::{AllocError, Global};
 use std::process::Abort;
 use std::test::Fail;
 
-/// In the core's memory stands what each look finds, where this executable is attached as `/bin/cat`.
+/// The core's memory has what each look finds, where this executable is attached as `/bin/cat`.
 fn with_cat_shows(
     rt: &(impl AllocGlobal + Abort),
     image: &[u8],
@@ -121,7 +121,7 @@ fn part(vaddr: u64, memsz: u64, bytes: &[u8]) -> LoadPart<'_> {
 }
 
 /// A core of two stretches that are mapped from the executable's second page, as far as its last byte but one, and as far
-/// as its last; behind each stands a segment that is dumped.
+/// as its last; each is followed by a segment that is dumped.
 fn crossing_core(alloc: Global) -> Result<Vec<u8>, AllocError> {
     let entries = [mapped(0x20000, 0x20111), mapped(0x30000, 0x30112)];
     let desc = files(alloc, 4096, &entries)?;

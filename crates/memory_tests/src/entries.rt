@@ -32,7 +32,7 @@ pub(crate) fn put(out: &mut [u8], at: usize, bytes: &[u8]) {
     }
 }
 
-/// The executable of the samples with these sections and their bytes behind its own, and some bytes changed.
+/// The executable of the samples with these sections and their bytes after its own, and some bytes changed.
 pub(crate) fn image(alloc: Global, changes: &[(usize, u8)]) -> Result<Vec<u8>, AllocError> {
     let sample = executable(alloc)?;
     let mut out = Vec::from_slice(alloc, &sample)?;

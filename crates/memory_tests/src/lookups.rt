@@ -176,7 +176,7 @@ fn scanned(first: &SymbolPart, second: &SymbolPart, address: u64) -> Option<&'st
     }
 }
 
-/// Looks up each small address among two functions, beside a scan.
+/// Looks up each small address among two functions, and compares with a scan.
 fn compare(
     rt: &impl Abort,
     alloc: Global,

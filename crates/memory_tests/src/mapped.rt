@@ -11,7 +11,7 @@ use std::test::Fail;
 /// A page of the files.
 const PAGE: u64 = 16;
 
-/// An entry of NT_FILE: its first address, the one behind its last, its place in the file in pages, and the file's name.
+/// An entry of NT_FILE: its first address, the one after its last, its place in the file in pages, and the file's name.
 type Entry = (u64, u64, u64, &'static [u8]);
 
 /// The core of segments that are not dumped, with these entries.
@@ -48,7 +48,7 @@ fn core_of(
     core_image(alloc, &[note], &loads)
 }
 
-/// In the memory of that core stands what each look finds.
+/// The memory of that core has what each look finds.
 fn mapped_shows(
     rt: &(impl AllocGlobal + Abort),
     segments: &[(u64, u64)],
@@ -81,7 +81,7 @@ static UNSORTED: [Entry; 4] = [
     (0x1010, 0x1020, 7, b"/b"),
 ];
 
-/// Before the first, at their first and last addresses, between two and behind the last.
+/// Before the first, at their first and last addresses, between two and after the last.
 static EACH: [Look; 7] = [
     Look::Pieces(
         0xff0,

@@ -27,7 +27,7 @@ fn no_memory_from_here(alloc: Global) -> Result<(), AllocError> {
     Ok(())
 }
 
-/// In the core's memory stands what each look finds. No look takes memory.
+/// The core's memory has what each look finds. No look takes memory.
 fn image_shows(rt: &(impl AllocGlobal + Abort), image: &[u8], looks: &[Look]) -> Result<(), Fail> {
     let elf = Elf::read(image, Want::Core).ok().ok_or("refused")?;
     let indexed = AddressSpace::indexed(rt.alloc(), &elf, None)?;

@@ -16,7 +16,7 @@ fn offset_of(notes: &CoreNotes<'_>, address: u64) -> Option<u64> {
     map.offset.checked_add(address - map.start)
 }
 
-/// The name at a frame, and how far behind its value the frame's pc stands.
+/// The name at a frame, and how far after its value the frame's pc is.
 fn place_of<'a>(
     notes: &CoreNotes<'_>,
     exec: &Elf<'a>,

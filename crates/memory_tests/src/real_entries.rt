@@ -1,5 +1,5 @@
 //! Real executables, made by gcc for riscv64 Linux, without their code and data: their headers and their call frame
-//! information as they stand, zeros in between. What is expected of them is what `readelf --debug-dump=frames` says.
+//! information as they are, zeros in between. What is expected of them is what `readelf --debug-dump=frames` says.
 use crate::entries::put;
 use call_frames::{CallFrames, NoEntry};
 use elf_view::{Elf, Want};
@@ -89,7 +89,7 @@ static SECTIONS: &[u8] = b"\
     \0\0\0\x01\0\0\0\x03\0\0\0\0\0\0\0\0\0\0\0\0\0\0\0\0\0\0\0\x92\x10\0\0\0\0\0\0\x9e\0\0\0\0\
     \0\0\0\0\0\0\0\0\0\0\0\x01\0\0\0\0\0\0\0\0\0\0\0\0\0\0\0";
 
-/// Its FDEs: the number of the entry, the first address, and the address behind the last.
+/// Its FDEs: the number of the entry, the first address, and the address after the last.
 static ENTRIES: &[(u64, u64, u64)] = &[
     (1, 0x358, 0x36e),
     (3, 0x36e, 0x38c),

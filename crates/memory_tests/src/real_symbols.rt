@@ -1,5 +1,5 @@
 //! A real executable, made by gcc for riscv64 Linux, without its code and data: its headers, its symbol table and its
-//! string tables as they stand, zeros in between. What is expected of it is what `nm` and `readelf -s` say.
+//! string tables as they are, zeros in between. What is expected of it is what `nm` and `readelf -s` say.
 use elf_view::{Elf, Want};
 use std::alloc::{AllocError, Global};
 use std::test::Fail;
@@ -136,10 +136,10 @@ fn symbols_that_are_no_functions_name_nothing(rt: HostRuntime) -> Result<(), Fai
     let image = image(rt.alloc())?;
     let elf = Elf::read(&image, Want::Exec).ok().ok_or("refused")?;
     let symbols = Symbols::read(rt.alloc(), &elf).ok().ok_or("refused")?;
-    // the labels all_regs_pc and ill_pc stand within functions
+    // the labels all_regs_pc and ill_pc are within functions
     assert!(rt; name_of(&symbols, 0x10670) == Some(b"set_all_regs"));
     assert!(rt; name_of(&symbols, 0x10992) == Some(b"echo"));
-    // before the first function, behind the last, in .rodata, .data and .bss
+    // before the first function, after the last, in .rodata, .data and .bss
     for address in [0x1017bu64, 0x10ec8, 0x11060, 0x123b0, 0x12448] {
         assert!(rt; name_of(&symbols, address).is_none(), "at {address}");
     }

@@ -1,4 +1,4 @@
-//! The rows of entries: those of the small `.eh_frame`, and of a function of a real executable beside `readelf`.
+//! The rows of entries: those of the small `.eh_frame`, and of a function of a real executable, compared with `readelf`.
 use crate::{entries, real_entries};
 use call_frames::CallFrames;
 use elf_view::{Elf, Want};
@@ -120,7 +120,7 @@ fn the_rows_of_the_sample(rt: HostRuntime) -> Result<(), Fail> {
     Ok(())
 }
 
-/// What stands in place of the rule of s0, and the fault of the row of 0x104ff.
+/// What replaces the rule of s0, and the fault of the row of 0x104ff.
 static FAULTS: &[(u8, u8, RowField)] = &[
     (0x17, 0, RowField::Opcode),
     (0x01, 0, RowField::Opcode),

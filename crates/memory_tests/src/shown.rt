@@ -10,7 +10,7 @@ const ADDRESSES: u128 = 0x1_0000_0000_0000_0000;
 /// file.
 pub(crate) type Shown<'a> = (&'static str, u64, u64, &'a [u8], u64);
 
-/// What stands at a piece.
+/// What is at a piece.
 fn shown(piece: Piece<'_>) -> Shown<'_> {
     let (kind, bytes, offset): (&str, &[u8], u64) = match piece.kind {
         PieceKind::Bytes(bytes) => ("held", bytes, 0),
@@ -56,7 +56,7 @@ fn texts(space: &AddressSpace<'_>, least: u64) -> [Option<(u64, u128)>; 4] {
     [texts.next(), texts.next(), texts.next(), texts.next()]
 }
 
-/// What stands at an address: its byte, or a word.
+/// What is at an address: its byte, or a word.
 pub(crate) fn source_of(space: &AddressSpace<'_>, address: u64) -> (&'static str, u8) {
     match space.at(address) {
         Source::Byte(byte) => ("byte", byte),
@@ -108,7 +108,7 @@ pub(crate) fn attach_cat<'a>(space: &mut AddressSpace<'a>, file: &'a [u8]) -> bo
 pub(crate) enum Look {
     /// The first three pieces of a range, by its first address and its length.
     Pieces(u64, u64, &'static [Option<Shown<'static>>]),
-    /// What stands at an address.
+    /// What is at an address.
     Source(u64, (&'static str, u8)),
     /// The number at an address.
     Number(u64, Option<u64>),
@@ -120,7 +120,7 @@ pub(crate) enum Look {
     Mappings(&'static [Option<Told<'static>>]),
 }
 
-/// What the look finds stands there.
+/// What the look finds is there.
 fn stands(rt: &impl Abort, space: &AddressSpace<'_>, look: &Look) {
     match look {
         Look::Pieces(first, length, wanted) => {

@@ -1,11 +1,11 @@
-//! Where in the image of a core the bytes of a range stand, told from its first bytes.
+//! The places of a range's bytes in the image of a core, told from its first bytes.
 use address_space::{AddressSpace, ImageRange, StretchKind, image_range};
 use elf_view::sample::{LoadPart, core_image};
 use elf_view::{Elf, Want};
 use std::alloc::Global;
 use std::test::Fail;
 
-/// A core of a segment of 32 bytes and 16 more addresses, and another just above them, which stands before it in the image.
+/// A core of a segment of 32 bytes and 16 more addresses, and another just above them, which is before it in the image.
 fn two_segments(alloc: Global) -> Result<Vec<u8>, Fail> {
     let loads = [
         LoadPart {

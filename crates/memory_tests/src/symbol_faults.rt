@@ -13,7 +13,7 @@ const TABLE: usize = SECTIONS + 64;
 
 const STRINGS: usize = SECTIONS + 128;
 
-/// Where the entries begin, behind the headers.
+/// Where the entries begin, after the headers.
 const ENTRIES: usize = SECTIONS + 192;
 
 /// Writes other bytes from place `at` on, where they fit.
@@ -164,7 +164,7 @@ fn the_first_table_is_taken(rt: HostRuntime) -> Result<(), Fail> {
     // a dynamic one alone
     patch(&mut image, TABLE + 4, &[11]);
     assert_eq!(rt; fault_of(alloc, &image), Some((SymbolField::ShEntsize, 1)));
-    // a complete one behind it
+    // a complete one after it
     patch(&mut image, STRINGS + 4, &[2]);
     assert_eq!(rt; fault_of(alloc, &image), Some((SymbolField::ShEntsize, 2)));
     // section 0 counts

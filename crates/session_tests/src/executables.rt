@@ -1,4 +1,4 @@
-// How often lines read a core, and the executables beside it.
+// How often lines read a core, and its executables.
 use crate::images;
 use crate::images::with_executable;
 use elf_view::sample::mapped_core;

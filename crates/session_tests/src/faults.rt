@@ -6,7 +6,7 @@ use intake::Archive;
 use std::process::Abort;
 use std::test::Fail;
 
-// An input that fails behind these bytes.
+// An input that fails after these bytes.
 #[derive(Drop)]
 struct Broken<'a> {
     rest: &'a [u8],
@@ -59,7 +59,7 @@ impl Output for Narrow {
     }
 }
 
-// A session over an input that fails behind these bytes, and how many reads failed. Answers what was written.
+// A session over an input that fails after these bytes, and how many reads failed. Answers what was written.
 fn over_broken<D: Disk>(
     rt: &(impl AllocGlobal + Abort),
     archive: &mut Archive<D>,

@@ -78,7 +78,7 @@ fn bytes_read(alloc: Global, disk: MemDisk, lines: &str) -> Result<u64, Fail> {
     Ok(archive.close().read)
 }
 
-// A core with an NT_SIGINFO and a MiB of memory behind it.
+// A core with an NT_SIGINFO and a MiB of memory after it.
 fn large_core(alloc: Global) -> Result<Vec<u8>, Fail> {
     let memory = vec![in alloc; 7u8; 1 << 20]?;
     let signal = NotePart {
@@ -95,7 +95,7 @@ fn large_core(alloc: Global) -> Result<Vec<u8>, Fail> {
     Ok(core_image(alloc, &[signal], &[load])?)
 }
 
-// The same with its notes behind the memory: their program header, the first one, tells this place.
+// The same with its notes after the memory: their program header, the first one, tells this place.
 fn notes_last(alloc: Global) -> Result<Vec<u8>, Fail> {
     let mut image = large_core(alloc)?;
     let end = image.len();
@@ -171,7 +171,7 @@ fn reads_more(alloc: Global, core: &[u8], lines: &str, more: u64) -> Result<bool
     Ok(read_for(alloc, core, lines)? == front.saturating_add(more))
 }
 
-// The memory of `large_core` stands from place 324 of its image on, so its first 65,212 bytes are among the first 64 KiB.
+// The memory of `large_core` is from place 324 of its image on, so its first 65,212 bytes are among the first 64 KiB.
 #[test]
 fn a_dump_reads_a_front_and_its_range(rt: HostRuntime) -> Result<(), Fail> {
     let alloc = rt.alloc();

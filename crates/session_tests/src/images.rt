@@ -19,7 +19,7 @@ pub(crate) fn calls(
     Ok(archive.close().calls())
 }
 
-// Stores an image behind this line.
+// Stores an image after this line.
 pub(crate) fn stores<D: Disk>(
     alloc: Global,
     archive: &mut Archive<D>,

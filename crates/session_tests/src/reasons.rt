@@ -31,7 +31,7 @@ static READING: [(&str, &str); 8] = [
     ("symbol 1 0\n", "no NoSymbol\n"),
 ];
 
-// Where this call of the disk fails the line is refused for that, and those behind it, whatever else is wrong with them.
+// Where this call of the disk fails the line is refused for that, and those after it, whatever else is wrong with them.
 fn stops_at(rt: &(impl AllocGlobal + Abort), line: &str, call: u64) -> Result<(), Fail> {
     let disk = OneFault::new(stored(rt.alloc())?, call);
     let mut archive = opened(rt.alloc(), disk, 1 << 30)?;

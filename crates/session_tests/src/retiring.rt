@@ -106,8 +106,8 @@ fn stores_each(
     tells(rt, &mut archive, script, wanted)
 }
 
-// Two cases fill the four data blocks. A third one has no room, until the first one goes; the limit is that of the cases that stay
-// beside it.
+// Two cases fill the four data blocks. A third one has no room, until the first one is dropped; the limit is that of the
+// cases that stay, not counting it.
 static FULL: [Row; 4] = [
     Row {
         policy: None,

@@ -40,7 +40,7 @@ impl<S: SharedDisk + Drop> Looked<S> {
 impl<S: SharedDisk> Looked<S> {
     ghost use Rattle.shared_disk.specs.Looks.{ranges_of, shared_of, under};
 
-    /// The disk, as one that nobody changes. Of what lies behind its front these ranges may be read.
+    /// The disk, as one that nobody changes. Of what lies after its front these ranges may be read.
     pub fn unlocked(&self, ranges: Vec<ByteRange>) -> Unlocked<'_, S>
         ensures under { under result ≡ shared_of self.now }
         ensures ranges { ranges_of result ≡ ranges.items }

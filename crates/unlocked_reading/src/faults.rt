@@ -1,4 +1,4 @@
-// Why what is read beside others was not read.
+// Why something was not read while others change the archive.
 use inspector_cli::{CopyFault, LifeFault};
 use intake::ArchiveFault;
 use journal_layout::OpenFault;

@@ -1,4 +1,4 @@
-//! Archives that are read beside others that change them: the lock is held while an archive is looked at, and not while a case is
+//! Archives that are read while others change them: the lock is held while an archive is looked at, and not while a case is
 //! read.
 #![tactic(auto)]
 
