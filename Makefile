@@ -6,7 +6,7 @@ SYSCONFDIR ?=
 SOURCES := crates.txt $(shell find crates -path '*/out' -prune -o -type f \( -name '*.rt' -o -name '*.antt' \) -print)
 
 help:
-	@echo 'make try                 runs the first example without any proof: a minute or two'
+	@echo 'make try                 builds bin/corekeep-try without any proof, and runs the first example: some minutes'
 	@echo 'make run                 proves and builds the program as bin/corekeep, and runs the first example'
 	@echo 'make build               proves and builds it: some 40 minutes the first time, on two processors'
 	@echo 'make test                the gate: every proof, test and run from nothing, and wrong bodies refused: an hour on four processors'
@@ -18,8 +18,9 @@ help:
 	@echo 'make deb                 builds the Debian package bin/corekeep_VERSION_amd64.deb'
 
 try:
-	@echo 'Building without proofs, a minute or two. Nothing of what runs here was proved.'
-	@cd crates/corekeep && rt try -- memory --half 1 --data 4 < ../../examples/first.script
+	@echo 'Building without proofs, some minutes. Nothing of what runs here was proved.'
+	@scripts/try
+	@bin/corekeep-try memory --half 1 --data 4 < examples/first.script
 
 build: bin/corekeep
 
