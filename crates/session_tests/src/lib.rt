@@ -3,9 +3,13 @@
 #![tactic(auto)]
 
 #[cfg(test)]
+mod again;
+#[cfg(test)]
 mod archives;
 #[cfg(test)]
 mod executables;
+#[cfg(test)]
+mod failing;
 #[cfg(test)]
 mod faults;
 #[cfg(test)]
