@@ -60,13 +60,16 @@ static ROWS: [Row; 11] = [
 ];
 
 // The replies to these lines, or, where one of them was refused memory, to all of them made again: a stream that was refused it is
-// gone.
+// gone. An archive whose disk in memory found none is stopped, so nothing is made again there.
 fn told_again<D: Disk>(
     rt: &(impl AllocGlobal + Abort),
     archive: &mut Archive<D>,
     lines: &[u8],
 ) -> Result<String, Fail> {
     let text = told(rt.alloc(), archive, lines)?;
+    if text.contains("no Disk\n") {
+        Err("the disk had no memory")?;
+    }
     if text.contains("no OutOfMemory\n") {
         return told(rt.alloc(), archive, lines);
     }
