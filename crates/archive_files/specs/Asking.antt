@@ -47,7 +47,7 @@ abbrev pub DeliversAnswer : Option (List ℕ) → Option (List ℕ) → ℕ → 
 DeliversAnswer taken taken' lost lost' text (Ok done) r = DeliversReply taken taken' lost lost' text done r
 DeliversAnswer taken taken' lost lost' text (Err f) r = (r ≡ Err (Refused (unasked f))) × (taken' ≡ taken) × (lost' ≡ lost)
 
--- A question is answered from a look at its archive on, into a text that is held until the answer is known to stand, and then
+-- A question is answered from a look at its archive on, into a text that is held until the answer is known to be right, and then
 -- delivered. Where there was no look, that is told, and the output is not touched.
 abbrev pub AsksLooked : {S : Type 0} (g : shared.Ghosts S) → disk.Ghosts (Unlocked S g) → Said → Option (List ℕ) → Option (List ℕ) → ℕ → ℕ → Result (Looked S g) Refusal → Result (Unit {0}) Failure → Type 0
 AsksLooked g U what taken taken' lost lost' (Ok looked) r =

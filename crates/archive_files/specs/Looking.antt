@@ -1,5 +1,6 @@
 -- How it is told that an archive could not be looked at, or that an image was not copied while others may change it.
 use Rattle.std.specs.Prelude.{◌≡◌, ℕ, Bool, true, false, List, Option, Result, Ok, Err}
+use Rattle.disk_model.specs.declared.disk.Disk as disk
 use Rattle.disk_model.specs.declared.file_disk.FileFault.{FileFault}
 use Rattle.disk_model.specs.declared.file_disk.FileFault.TheVariants as file
 use Rattle.inspector_cli.specs.declared.copying.CopyFault.{CopyFault}
@@ -11,6 +12,7 @@ use Rattle.shared_disk.specs.declared.looked.Looked.{Looked}
 use Rattle.shared_disk.specs.declared.shared.LookFault.{LookFault}
 use Rattle.shared_disk.specs.declared.shared.LookFault.TheVariants as look
 use Rattle.shared_disk.specs.declared.shared.SharedDisk as shared
+use Rattle.shared_disk.specs.declared.unlocked.Unlocked.{Unlocked}
 use Rattle.unlocked_reading.specs.Copying.{CopiesUnlocked}
 use Rattle.unlocked_reading.specs.declared.faults.UnlockedFault.{UnlockedFault}
 use Rattle.unlocked_reading.specs.declared.faults.UnlockedFault.TheVariants as unlocked
@@ -56,6 +58,6 @@ copy_ended (Ok u) = Ok tt
 copy_ended (Err f) = Err (record { failure = unlocked_told f; is_front = was_there f })
 
 -- The image of a case is copied from a look at its archive on. Where there was no look, that is told, and the output is not touched.
-abbrev pub CopiesLooked : {S : Type 0} (g : shared.Ghosts S) → ℕ → Option (List ℕ) → Option (List ℕ) → Result (Looked S g) Refusal → Result (Unit {0}) Unfinished → Type 0
-CopiesLooked g seq taken taken' (Ok looked) r = (copied : Result (Unit {0}) UnlockedFault) × CopiesUnlocked g (shared_of looked) seq taken taken' copied × (r ≡ copy_ended copied)
-CopiesLooked g seq taken taken' (Err refusal) r = (r ≡ Err (record { failure = Aside refusal; is_front = true })) × (taken' ≡ taken)
+abbrev pub CopiesLooked : {S : Type 0} (g : shared.Ghosts S) → disk.Ghosts (Unlocked S g) → ℕ → Option (List ℕ) → Option (List ℕ) → ℕ → ℕ → Result (Looked S g) Refusal → Result (Unit {0}) Unfinished → Type 0
+CopiesLooked g U seq taken taken' lost lost' (Ok looked) r = (copied : Result (Unit {0}) UnlockedFault) × CopiesUnlocked g U (shared_of looked) seq taken taken' lost lost' copied × (r ≡ copy_ended copied)
+CopiesLooked g U seq taken taken' lost lost' (Err refusal) r = (r ≡ Err (record { failure = Aside refusal; is_front = true })) × (taken' ≡ taken) × (lost' ≡ lost)

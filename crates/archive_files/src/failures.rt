@@ -138,15 +138,14 @@ impl From<FormatFault> for Refusal {
     }
 }
 
-/// Says why the program failed, and answers its status. Help is no failure: it goes to the output, and the status is 0.
+/// Says why the program failed, and answers its status, which is 1.
 pub fn tell_failure<O: Output, E: Output>(
     alloc: Global,
     failure: &Failure,
     output: &mut O,
     errors: &mut E,
 ) -> u8
-    ensures most { result ≤ 2 }
-    ensures quiet { result ≡ 0 → errors.new ≡ errors.old }
+    ensures status { result ≡ 1 }
     ensures refused { IfRefused failure.now (λ r.
         IsToldAs (O.taken output.old) (O.taken output.new) (O.failures output.old) (O.failures output.new) (no_reply (refusal_words r))) }
     ensures aside { is_aside failure.now ≡ true → output.new ≡ output.old }

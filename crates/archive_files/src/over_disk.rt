@@ -13,7 +13,7 @@ use inspector_cli::{Naming, Question, open_and_ask, open_and_run};
 use intake::{Archive, Settings};
 use script_streams::{Input, Output};
 use script_words::parse_case_number;
-use shared_disk::{Looked, SharedDisk};
+use shared_disk::{Looked, SharedDisk, Unlocked};
 use std::alloc::Global;
 use unlocked_reading::{UnlockedFault, copy_unlocked};
 
@@ -79,7 +79,7 @@ pub fn copy_over<S: SharedDisk + Drop, O: Output>(
     case: CaseNumber,
     output: &mut O,
 ) -> Result<(), Unfinished>
-    ensures { CopiesLooked S.SharedDisk case.seq (O.taken output.old) (O.taken output.new) looked result }
+    ensures { CopiesLooked S.SharedDisk ⟦<Unlocked<'static, S> as Disk>⟧ case.seq (O.taken output.old) (O.taken output.new) (O.failures output.old) (O.failures output.new) looked result }
 {
     match looked {
         Ok(looked) => match copy_unlocked(alloc, looked, case.seq, output) {

@@ -35,7 +35,7 @@ abbrev pub ToldWithExecutables : Kind → QuerySaid → List ℕ → Result (Lis
 ToldWithExecutables kind q b (Ok xs) reply = Answers (answer_of kind q b xs) reply
 ToldWithExecutables kind q b (Err f) reply = reply ≡ no_reply (reason_of f)
 
--- a core that has no fault, with the executables that are read beside it
+-- a core that has no fault, with the executables that are read for it
 abbrev pub ShowsCore : {D : Type 0} → disk.Ghosts D → Parts D → Kind → QuerySaid → List ℕ → List ℕ → Parts D → Type 0
 ShowsCore g old kind q b reply new =
     (r : Result (List ExecutableView) ArchiveFault) × CollectsAll g old (wanted_of b (state_of old).cases) r new × ToldWithExecutables kind q b r reply

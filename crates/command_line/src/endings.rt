@@ -1,9 +1,12 @@
 // Why the program ends with a status other than 0, and how it says so.
 ghost use Rattle.std.specs.Prelude.{◌≡◌, ◌≤◌};
 
-use archive_files::{Failure, Refusal, tell_failure};
+use crate::line_helps::tell_how_it_is_asked;
+use crate::reasons::meaning_of;
+use archive_files::{Failure, Refusal, reason_of, tell_failure};
 use clap::error::ErrorKind;
-use script_streams::{Output, write_whole};
+use line_help::LineHelp;
+use script_streams::{Output, Reply, write_whole};
 use std::alloc::{AllocError, Global};
 
 // Why the program did not do what its words ask for.
@@ -13,6 +16,16 @@ pub(crate) enum Ending {
     Words(clap::Error),
     // It failed, or was refused.
     Failed(Failure),
+}
+
+impl Ending {
+    // Whether it is no help that was asked for.
+    pub(crate) fn is_refusal(&self) -> bool {
+        match self {
+            Ending::Words(error) => error.use_stderr(),
+            Ending::Failed(_) => true,
+        }
+    }
 }
 
 impl From<clap::Error> for Ending {
@@ -42,10 +55,21 @@ impl From<AllocError> for Ending {
     }
 }
 
-// Says why the program ends so, and answers its status. Help is no failure: it goes to the output, and the status is 0.
+// What people are told by beside an ending.
+#[derive(Clone, Copy)]
+pub(crate) struct Clues<'a> {
+    // The last line of the output: it has the reason for which a step was refused.
+    pub(crate) last_line: &'a [u8],
+    // The line of a script that the words begin with.
+    pub(crate) line: Option<&'static LineHelp>,
+}
+
+// Says why the program ends so, and answers its status. What a reason means is told to people. Help is no failure: it goes to the
+// output, and the status is 0.
 pub(crate) fn tell_ending<O: Output, E: Output>(
     alloc: Global,
     ending: &Ending,
+    clues: Clues<'_>,
     output: &mut O,
     errors: &mut E,
 ) -> u8
@@ -53,15 +77,57 @@ pub(crate) fn tell_ending<O: Output, E: Output>(
     ensures quiet { result ≡ 0 → errors.new ≡ errors.old }
 {
     match ending {
-        Ending::Words(error) => tell_words(alloc, error, output, errors),
-        Ending::Failed(failure) => tell_failure(alloc, failure, output, errors),
+        Ending::Words(error) => tell_words(alloc, error, clues.line, output, errors),
+        Ending::Failed(failure) => {
+            tell_meaning(alloc, failure, clues.last_line, errors);
+            tell_failure(alloc, failure, output, errors)
+        }
     }
+}
+
+// Tells people what the reason of a refusal means.
+fn tell_meaning<E: Output>(alloc: Global, failure: &Failure, last_line: &[u8], errors: &mut E) {
+    match failure {
+        Failure::Refused(refusal) | Failure::Aside(refusal) => {
+            if !is_told(*refusal) {
+                tell_words_of(reason_of(alloc, *refusal).text(), errors);
+            }
+        }
+        Failure::Told => {
+            if let Some(reason) = last_line.strip_prefix(b"no ".as_slice()) {
+                tell_words_of(reason, errors);
+            }
+        }
+        _ => {}
+    }
+}
+
+// `tell_failure` tells people of these itself.
+fn is_told(refusal: Refusal) -> bool {
+    matches!(
+        refusal,
+        Refusal::File(_, _) | Refusal::NoLine(_) | Refusal::Output | Refusal::NotUtf8(_)
+    )
+}
+
+// Tells what a reason means, if there are words for it.
+fn tell_words_of<E: Output>(reason: &[u8], errors: &mut E) {
+    let words = meaning_of(reason);
+    if words.is_empty() {
+        return;
+    }
+    let mut reply = Reply::new(errors);
+    reply.tell(b"corekeep: ");
+    reply.tell(words);
+    reply.tell(b"\n");
+    let _ = reply.finish();
 }
 
 // Says why the words are refused, or what they can be.
 fn tell_words<O: Output, E: Output>(
     alloc: Global,
     error: &clap::Error,
+    line: Option<&'static LineHelp>,
     output: &mut O,
     errors: &mut E,
 ) -> u8
@@ -78,6 +144,9 @@ fn tell_words<O: Output, E: Output>(
     };
     if error.use_stderr() {
         let _ = write_whole(errors, text.as_bytes());
+        if let Some(line) = line {
+            tell_how_it_is_asked(line, errors);
+        }
         return 2;
     }
     match write_whole(output, text.as_bytes()) {

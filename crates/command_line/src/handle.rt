@@ -90,6 +90,13 @@ pub(crate) fn handle<R: AllocGlobal + Files<File = File> + Clock, I: Read, O: Ou
     handler.store(rt, place, request, input, output)
 }
 
+// Tells the kernel's log of a core that is lost since the words can't be read: no configuration names another log.
+pub(crate) fn tell_lost_words<R: AllocGlobal + Files<File = File>>(rt: &R) {
+    let log = Log { path: KERNEL_LOG };
+    let told = b"lost a core: the words of handle are refused";
+    log.tell(rt, rt.alloc(), Level::Error, told);
+}
+
 // Tells what is wrong with the configuration and the pairs, which is left out.
 fn tell_faults<R: AllocGlobal + Files<File = File>>(
     rt: &R,
@@ -109,7 +116,7 @@ fn tell_faults<R: AllocGlobal + Files<File = File>>(
     for pair in &words.left_out {
         let mut line = Collected::new(rt.alloc());
         let mut reply = Reply::new(&mut line);
-        reply.tell(b"left out, since it is no pair of the grammar: ");
+        reply.tell(b"left out, since it is neither an option nor a pair of the grammar: ");
         reply.tell_text(pair.as_bytes());
         let _ = reply.finish();
         handler.tell(rt, Level::Warning, line.text());

@@ -9,6 +9,7 @@ mod endings;
 mod examine;
 mod grammar;
 mod handle;
+mod handler_words;
 mod line_helps;
 mod log;
 mod outcome_lines;
@@ -16,6 +17,7 @@ mod raw_words;
 mod reasons;
 mod tables;
 mod teller;
+mod watched;
 mod words;
 
 pub use words::{run_program, run_words};

@@ -14,6 +14,24 @@ pub(crate) fn asked_help(words: &[String]) -> Option<&'static LineHelp> {
     help_of(name)
 }
 
+// The line that the first word is, where it should be a command.
+pub(crate) fn line_in_place_of_a_command(words: &[String]) -> Option<&'static LineHelp> {
+    let name = words.first()?;
+    if is_command(name) {
+        return None;
+    }
+    help_of(name)
+}
+
+// Tells people how such a line is asked.
+pub(crate) fn tell_how_it_is_asked<E: Output>(line: &LineHelp, errors: &mut E) {
+    let mut reply = Reply::new(errors);
+    reply.tell(b"corekeep: this is a line of a script: corekeep ask ARCHIVE ");
+    reply.tell(line.usage.as_bytes());
+    reply.tell(b"\n");
+    let _ = reply.finish();
+}
+
 fn is_command(name: &str) -> bool {
     COMMANDS.iter().any(|command| command.name == name)
 }

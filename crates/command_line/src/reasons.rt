@@ -6,11 +6,11 @@ struct Meaning {
     words: &'static [u8],
 }
 
-// The reasons for which a case is not stored.
-static MEANINGS: [Meaning; 17] = [
+// The reasons for which something is refused. Other reasons are fields of an image.
+static MEANINGS: [Meaning; 36] = [
     Meaning {
         reason: b"SpaceFull",
-        words: b"the archive has no block left: delete or retire cases, or make a larger archive",
+        words: b"the image takes more blocks than are free (corekeep ask ARCHIVE free counts them): delete or retire cases, or make a larger archive",
     },
     Meaning {
         reason: b"JournalFull",
@@ -34,7 +34,7 @@ static MEANINGS: [Meaning; 17] = [
     },
     Meaning {
         reason: b"Empty",
-        words: b"the template makes an empty name",
+        words: b"the name is empty",
     },
     Meaning {
         reason: b"File",
@@ -70,11 +70,87 @@ static MEANINGS: [Meaning; 17] = [
     },
     Meaning {
         reason: b"Damaged",
-        words: b"a field of the archive is damaged",
+        words: b"the archive is damaged: this byte is in its first faulty field",
     },
     Meaning {
         reason: b"UnknownVersion",
         words: b"the archive is of a later version of the layout",
+    },
+    Meaning {
+        reason: b"OldVersion",
+        words: b"the archive is of version 1 of the layout, which keeps no labels: corekeep ask ARCHIVE upgrade brings it to version 2",
+    },
+    Meaning {
+        reason: b"NoCase",
+        words: b"the archive has no case of this number: corekeep list ARCHIVE shows them",
+    },
+    Meaning {
+        reason: b"Pinned",
+        words: b"the case is pinned: corekeep ask ARCHIVE unpin N first",
+    },
+    Meaning {
+        reason: b"NotCore",
+        words: b"the case is an executable, and the line asks a core",
+    },
+    Meaning {
+        reason: b"NotExec",
+        words: b"the case is a core, and the line asks an executable",
+    },
+    Meaning {
+        reason: b"NoThread",
+        words: b"the core has no thread of this number: threads N lists them",
+    },
+    Meaning {
+        reason: b"NoFrame",
+        words: b"the thread has no frame of this number: unwind N T lists them",
+    },
+    Meaning {
+        reason: b"NoSymbol",
+        words: b"no function of the executable has this address, or it has no symbol table",
+    },
+    Meaning {
+        reason: b"Missing",
+        words: b"the core has no such note",
+    },
+    Meaning {
+        reason: b"Range",
+        words: b"the range goes past the end of the address space, or is over 65,536 bytes",
+    },
+    Meaning {
+        reason: b"Truncated",
+        words: b"the input ended before all bytes of the part",
+    },
+    Meaning {
+        reason: b"BadShape",
+        words: b"a half of the journal takes 1 to 4,096 blocks, and the data 1 to 16,777,216",
+    },
+    Meaning {
+        reason: b"Pipe",
+        words: b"the template would hand cores to a program",
+    },
+    Meaning {
+        reason: b"TemplateTooLong",
+        words: b"the template has over 127 bytes",
+    },
+    Meaning {
+        reason: b"Magic",
+        words: b"the file does not begin with the four bytes of an ELF file",
+    },
+    Meaning {
+        reason: b"e_machine",
+        words: b"the file is not of RISC-V: corekeep answers questions about RISC-V 64",
+    },
+    Meaning {
+        reason: b"EI_CLASS",
+        words: b"the file is not of a 64-bit machine: corekeep answers questions about RISC-V 64",
+    },
+    Meaning {
+        reason: b"EI_DATA",
+        words: b"the file is not little-endian: corekeep answers questions about RISC-V 64",
+    },
+    Meaning {
+        reason: b"e_type",
+        words: b"the file is no core, or no executable",
     },
 ];
 

@@ -2,12 +2,14 @@
 ghost use Rattle.std.specs.Prelude.{◌≡◌, ◌≤◌};
 
 use crate::asked::{Asked, SessionWords, read_words};
-use crate::endings::{Ending, tell_ending};
-use crate::handle::handle;
-use crate::line_helps::{asked_help, tell_help};
+use crate::endings::{Clues, Ending, tell_ending};
+use crate::handle::{handle, tell_lost_words};
+use crate::handler_words::in_order;
+use crate::line_helps::{asked_help, line_in_place_of_a_command, tell_help};
 use crate::log::Log;
 use crate::raw_words::words_of;
 use crate::teller::{Teller, store_told};
+use crate::watched::Watched;
 use archive_files::{
     Access, ArchivePath, Failure, Refusal, StoreRequest, ask, extract, look, make_archive,
     names_output, run_over, store_file, take_disk,
@@ -38,6 +40,10 @@ pub fn run_program<
         Err(_) => tell_ending(
             rt.alloc(),
             &Ending::from(Refusal::OutOfMemory),
+            Clues {
+                last_line: b"",
+                line: None,
+            },
             output,
             errors,
         ),
@@ -66,7 +72,7 @@ pub fn run_program<
 /// - `look ARCHIVE` answers the lines of `input` that change no case, each as `ask` does.
 ///
 /// `run`, `memory` and `store` take `--template T` and `--uses-pid`, by which cores are named, and `--limit N`, the most bytes of an
-/// image. Statuses: 0; 1 where something is refused, with one line `no REASON` on `output` (and, of a file, why in words on
+/// image. Statuses: 0; 1 where something is refused, with one line `no REASON` on `output` (and what it means in words on
 /// `errors`), or the session ends before its script, with one line `fault NAME` on `errors`; 2 where the words are refused,
 /// with the reason on `errors`. Help goes to `output`, and the status is 0 then. What is refused is looked for in this
 /// order: the words, the template, the shape, ARCHIVE, FILE.
@@ -81,9 +87,18 @@ pub fn run_words<R: AllocGlobal + Files<File = File> + Clock, I: Read, O: Output
     ensures most { result ≤ 2 }
     ensures quiet { result ≡ 0 → errors.new ≡ errors.old }
 {
-    match answer_words(rt, words, input, output) {
+    let mut watched = Watched::new(output);
+    let answered = answer_words(rt, words, input, &mut watched);
+    let line = watched.into_line();
+    match answered {
         Ok(()) => 0,
-        Err(ending) => tell_ending(rt.alloc(), &ending, output, errors),
+        Err(ending) => {
+            let clues = Clues {
+                last_line: line.text(),
+                line: line_in_place_of_a_command(words),
+            };
+            tell_ending(rt.alloc(), &ending, clues, output, errors)
+        }
     }
 }
 
@@ -100,9 +115,19 @@ fn answer_words<R: AllocGlobal + Files<File = File> + Clock, I: Read, O: Output>
     if let Some(help) = asked_help(words) {
         return tell_help(help, output).map_err(|_| Ending::from(Failure::Told));
     }
+    let ordered = in_order(rt.alloc(), words)?;
+    let words = match &ordered {
+        Some(ordered) => ordered.as_slice(),
+        None => words,
+    };
     match read_words(rt.alloc(), words) {
         Ok(asked) => Ok(answer_asked(rt, asked, input, output)?),
-        Err(ending) => Err(aside_of_an_image(words, ending)),
+        Err(ending) => {
+            if ordered.is_some() && ending.is_refusal() {
+                tell_lost_words(rt);
+            }
+            Err(aside_of_an_image(words, ending))
+        }
     }
 }
 

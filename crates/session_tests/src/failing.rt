@@ -136,7 +136,7 @@ impl Input for Rows {
     }
 }
 
-// An output that takes a byte at a time, and fails within the reply to a row, behind this many bytes of it. It counts bytes that
+// An output that takes a byte at a time, and fails within the reply to a row, after this many bytes of it. It counts bytes that
 // are not those of the replies to the rows.
 #[derive(Drop)]
 struct Bytes {
@@ -178,7 +178,7 @@ fn has_byte(row: usize, at: usize, byte: u8) -> bool {
     }
 }
 
-// Where the byte behind this one is, in the replies to the rows.
+// Where the byte after this one is, in the replies to the rows.
 fn next_place(row: usize, at: usize) -> (usize, usize) {
     let next = at.saturating_add(1);
     if next < reply_of(row).len() {
@@ -207,7 +207,7 @@ fn streams(rows: usize, last_row: usize, last_at: usize) -> (Rows, Bytes) {
 }
 
 // A session over the rows up to there, whose streams fail. It ends so, with the output at the first byte that it did not take; and
-// then the archive has what it had behind the rows that were carried out.
+// then the archive has what it had after the rows that were carried out.
 fn ends<D: Disk>(
     rt: &(impl AllocGlobal + Abort),
     archive: &mut Archive<D>,
@@ -224,7 +224,7 @@ fn ends<D: Disk>(
     Ok(())
 }
 
-// The input fails behind this many rows: all of them are carried out and answered.
+// The input fails after this many rows: all of them are carried out and answered.
 fn fails_behind(rt: &(impl AllocGlobal + Abort), rows: usize) -> Result<(), Fail> {
     let mut archive = fresh(rt.alloc(), 1 << 30)?;
     ends(rt, &mut archive, rows, (rows, 0), SessionFault::ReadFailed)?;
@@ -239,7 +239,7 @@ fn an_input_that_fails_at_each_read(rt: HostRuntime) -> Result<(), Fail> {
     Ok(())
 }
 
-// The output fails at this byte of the reply to a row: no row is carried out behind that one.
+// The output fails at this byte of the reply to a row: no row is carried out after that one.
 fn fails_within(rt: &(impl AllocGlobal + Abort), row: usize, at: usize) -> Result<(), Fail> {
     let mut archive = fresh(rt.alloc(), 1 << 30)?;
     ends(

@@ -5,12 +5,17 @@ use Rattle.inspector_cli.specs.Asking.{AsksAlone, line_streams}
 use Rattle.inspector_cli.specs.Life.{LifeEnds}
 use Rattle.inspector_cli.specs.declared.session.LifeFault.{LifeFault}
 use Rattle.script_lines.specs.Said.{Said}
+use Rattle.intake.specs.InTurn.{last_state}
+use Rattle.shared_disk.specs.Looks.{LooksAnew, under}
 use Rattle.shared_disk.specs.declared.shared.SharedDisk as shared
 use Rattle.shared_disk.specs.declared.unlocked.Unlocked.{Unlocked}
-use Rattle.unlocked_reading.specs.Asking.{AnswersOver, AsksUnlocked, LeavesAllThere}
-use Rattle.unlocked_reading.specs.Places.{FindsCases}
+use Rattle.unlocked_reading.specs.Asking.{AnswersInVain, AnswersOver, AsksUnlocked, LeavesAllThere}
+use Rattle.unlocked_reading.specs.Copying.{Meanwhile}
+use Rattle.unlocked_reading.specs.History.{HasOne, IsOneOf}
+use Rattle.unlocked_reading.specs.Places.{FindsAll, FindsCases}
 use Rattle.unlocked_reading.specs.declared.faults.AskFault.{AskFault}
 use Rattle.unlocked_reading.specs.declared.faults.AskFault.TheVariants as fault
+use Rattle.unlocked_reading.proofs.CopyLemmas.{stands_for}
 
 -- the same end, by another name of its answer
 pub as_answered : {D : Type 0} (U : disk.Ghosts D) (what : Said) (taken taken' : Option (List ℕ)) (lost lost' : ℕ) (before after : D) (r r' : Result Bool LifeFault)
@@ -19,13 +24,24 @@ as_answered U what taken taken' lost lost' before after r r' ends is =
     (after, subst (λ (x : Result Bool LifeFault). LifeEnds U 0 (line_streams [] x taken taken' lost lost') before x after (AsksAlone U what taken taken')) is ends)
 
 module _ {S : Type 0} (g : shared.Ghosts S) (U : disk.Ghosts (Unlocked S g)) (s : S) (what : Said) where
-  pub refused_first : (taken : Option (List ℕ)) (lost : ℕ) (first : Unlocked S g) (e : AskFault) → FindsCases U first (Err e) → AsksUnlocked g U s what taken taken lost lost (Err e)
-  refused_first taken lost first (fault.Open f) finds = (refl, refl)
-  refused_first taken lost first (fault.Archive f) finds = (refl, refl)
-  refused_first taken lost first _ finds = absurd finds
+  pub refused_first : (taken : Option (List ℕ)) (lost : ℕ) (first : Unlocked S g) (e : AskFault) → under first ≡ s → FindsCases U first (Err e) → AsksUnlocked g U s what taken taken lost lost (Err e)
+  refused_first taken lost first (fault.Open f) is finds = (refl, refl, first, is, finds)
+  refused_first taken lost first (fault.Archive f) is finds = (refl, refl, finds.2)
+  refused_first taken lost first _ is finds = absurd finds
 
-  pub refused_last : (taken taken' : Option (List ℕ)) (lost lost' : ℕ) (numbers : List ℕ) (e : AskFault) → LeavesAllThere g s numbers (Err e) → AsksUnlocked g U s what taken taken' lost lost' (Err e)
-  refused_last taken taken' lost lost' numbers (fault.Look f) leaves = tt
-  refused_last taken taken' lost lost' numbers (fault.Reopen f) leaves = tt
-  refused_last taken taken' lost lost' numbers fault.Gone leaves = tt
-  refused_last taken taken' lost lost' numbers _ leaves = absurd leaves
+  pub refused_last : (taken taken' : Option (List ℕ)) (lost lost' : ℕ) (numbers : List ℕ) (e : AskFault) → AnswersInVain g U s what taken taken' lost lost' → LeavesAllThere g U s numbers (Err e)
+      → ((n : ℕ) → IsOneOf numbers n → Meanwhile g s (λ x ys. HasOne x n)) → AsksUnlocked g U s what taken taken' lost lost' (Err e)
+  refused_last taken taken' lost lost' numbers (fault.Look f) told leaves there = told
+  refused_last taken taken' lost lost' numbers (fault.Reopen f) told leaves there = (told, leaves)
+  refused_last taken taken' lost lost' numbers fault.Gone told leaves there = (
+    told,
+    λ shape x ys honest holds.
+        let again = leaves.2 honest in
+        (leaves.0, there leaves.0 leaves.1 shape x ys honest holds, again.2 (last_state x ys) (stands_for shape again.0 (last_state x ys) (holds.last again.0 again.1))),
+  )
+  refused_last taken taken' lost lost' numbers _ told leaves there = absurd leaves
+
+  -- it could not be opened again
+  pub not_opened : (t : S) (second : Unlocked S g) (numbers : List ℕ) (e : AskFault) → LooksAnew g s t → under second ≡ t → FindsAll U second numbers (Err e) → LeavesAllThere g U s numbers (Err e)
+  not_opened t second numbers (fault.Reopen f) looks is finds = (t, looks, second, is, finds)
+  not_opened t second numbers _ looks is finds = absurd finds

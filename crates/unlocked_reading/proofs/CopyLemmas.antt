@@ -29,14 +29,14 @@ use Rattle.shared_disk.specs.Meanwhile.{IsHeld}
 use Rattle.shared_disk.specs.Steady.{are_steady}
 use Rattle.shared_disk.specs.SteadyLaws.{steady_from}
 use Rattle.shared_disk.specs.declared.shared.SharedDisk as shared
-use Rattle.shared_disk.specs.Looks.{ranges_of, under}
+use Rattle.shared_disk.specs.Looks.{LooksAnew, ranges_of, under}
 use Rattle.shared_disk.specs.declared.unlocked.Unlocked.{Unlocked}
-use Rattle.unlocked_reading.specs.Copying.{CopiesUnlocked, LeavesThere, Meanwhile, WritesSome}
+use Rattle.unlocked_reading.specs.Copying.{CopiesSeen, CopiesUnlocked, LeavesThere, Meanwhile}
 use Rattle.unlocked_reading.specs.declared.faults.UnlockedFault.{UnlockedFault}
 use Rattle.unlocked_reading.specs.declared.faults.UnlockedFault.TheVariants as fault
 use Rattle.inspector_cli.specs.declared.copying.CopyFault.{CopyFault}
 use Rattle.inspector_cli.specs.declared.copying.CopyFault.TheVariants as copy
-use Rattle.unlocked_reading.specs.Finding.{FindsPlaces, has_number}
+use Rattle.unlocked_reading.specs.Finding.{FindsCase, FindsPlaces, has_number}
 use Rattle.unlocked_reading.specs.History.{HasNone, HoldsArchive, IsNumbered}
 
 some_one : {X : Type 0} (a b : X) → Some a ≡ Some b → a ≡ b
@@ -117,10 +117,10 @@ module _ {S : Type 0} (g : shared.Ghosts S) (s : S) (whole : IsTrue (g.is_honest
       let at = holds.each l held in
       places l (lists l honest held) ∙ (both.1 at.0 shape l at.1 at.2).image ∙ sym at_first ∙ sym (places (g.looked s) (whole honest)))
 
-  pub copied_between : {D : Type 0} (U : disk.Ghosts D) (first second : D) (seq : ℕ) (start taken : Option (List ℕ)) (count failures : ℕ) (ranges : Vec ByteRange Global) (u v : Unit {0}) (after : D)
+  pub copied_between : (U : disk.Ghosts (Unlocked S g)) (first second : Unlocked S g) (seq : ℕ) (start taken : Option (List ℕ)) (count failures : ℕ) (ranges : Vec ByteRange Global) (u v : Unit {0}) (after : Unlocked S g)
       → (IsTrue (g.is_honest s) → IsTrue (U.is_honest first)) → (IsTrue (g.is_honest s) → are_steady ranges.items (g.looked s) (g.meanwhile s) ≡ true → IsTrue (U.is_honest second))
       → U.seen first ≡ g.looked s → U.seen second ≡ g.looked s → U.size first ≡ g.size s → ((a : Parts D) → durable_of U.seen a ≡ durable_part (state_of a) (contents_of U.seen a))
-      → FindsPlaces U first seq (Ok ranges) → CopiesImage U 0 seq second start taken count failures (Ok u) after → LeavesThere g s seq (Ok v)
+      → FindsPlaces U first seq (Ok ranges) → CopiesImage U 0 seq second start taken count failures (Ok u) after → LeavesThere g U s seq (Ok v)
       → Meanwhile g s (λ x ys. (c : FoundCase) × IsNumbered x seq c × Appends start taken c.image)
   copied_between U first second seq start taken count failures ranges u v after honest0 honest1 seen0 seen1 size0 tells finds copies there shape x ys honest holds =
       let at = located U first (g.looked s) shape x (honest0 honest) seen0 holds.first finds.0 seq ranges.items finds.1 finds.2 in
@@ -187,44 +187,37 @@ module _ {S : Type 0} (g : shared.Ghosts S) where
       (ap (λ (x : S). are_steady (ranges_of u) (g.looked x) (g.meanwhile x)) is ∙ ap (λ (rs : List ByteRange). are_steady rs (g.looked s) (g.meanwhile s)) same ∙ steady)
 
   -- where no place is found nothing was written
-  pub refused_first : {D : Type 0} (U : disk.Ghosts D) (s : S) (first : D) (seq : ℕ) (taken : Option (List ℕ)) (e : UnlockedFault) → (IsTrue (g.is_honest s) → IsTrue (U.is_honest first)) → U.seen first ≡ g.looked s
-      → FindsPlaces U first seq (Err e) → CopiesUnlocked g s seq taken taken (Err e)
-  refused_first U s first seq taken (fault.Open f) honest seen finds = refl
-  refused_first U s first seq taken (fault.Archive archive.NoCase) honest seen finds = (
+  pub refused_first : (U : disk.Ghosts (Unlocked S g)) (s : S) (first : Unlocked S g) (seq : ℕ) (taken : Option (List ℕ)) (count : ℕ) (e : UnlockedFault) → under first ≡ s → (IsTrue (g.is_honest s) → IsTrue (U.is_honest first)) → U.seen first ≡ g.looked s
+      → FindsPlaces U first seq (Err e) → CopiesUnlocked g U s seq taken taken count count (Err e)
+  refused_first U s first seq taken count (fault.Open f) is honest seen finds = (refl, refl, first, is, finds)
+  refused_first U s first seq taken count (fault.Archive archive.NoCase) is honest seen finds = (
+    refl,
     refl,
     λ shape x ys real holds c numbered.
         let is : durable_of U.seen finds.0 ≡ x = finds.1.found_again x (honest real) (subst (λ (l : List ℕ). StandsFor l x) (sym seen) (stands_for shape (g.looked s) x holds.first)) in
         none_found finds.0.journal.standing.shape (U.seen finds.0.disk) finds.0.journal.standing.cases seq c finds.2.1 (subst (λ (y : Durable). IsAmong y.cases c) (sym is) numbered.0) numbered.1,
   )
-  refused_first U s first seq taken (fault.Archive _) honest seen finds = refl
-  refused_first U s first seq taken _ honest seen finds = absurd finds
+  refused_first U s first seq taken count (fault.Archive archive.OutOfMemory) is honest seen finds = (refl, refl)
+  refused_first U s first seq taken count (fault.Archive archive.Stopped) is honest seen finds = absurd (true≢false (sym finds.2 ∙ finds.1.state.runs))
+  refused_first U s first seq taken count (fault.Archive _) is honest seen finds = absurd finds.2
+  refused_first U s first seq taken count _ is honest seen finds = absurd finds
 
-  some_written : {D : Type 0} (U : disk.Ghosts D) (seq : ℕ) (second : D) (start taken : Option (List ℕ)) (count failures : ℕ) (r : Result (Unit {0}) CopyFault) (after : D) → (start ≡ taken → WritesSome start taken) → CopiesImage U 0 seq second start taken count failures r after
-      → WritesSome start taken
-  some_written U seq second start taken count failures (Ok u) after none copies = (copies.goes.text, copies.goes.appended)
-  some_written U seq second start taken count failures (Err (copy.Open f)) after none copies = none (sym copies.1)
-  some_written U seq second start taken count failures (Err (copy.Archive f)) after none copies = none (sym copies.goes.1)
-  some_written U seq second start taken count failures (Err copy.Disk) after none copies = (copies.goes.text, copies.goes.appended)
-  some_written U seq second start taken count failures (Err copy.Output) after none copies = (copies.goes.text, copies.goes.appended)
-
-  none_written : (start taken : Option (List ℕ)) → start ≡ taken → WritesSome start taken
-  none_written None taken is = ([], tt)
-  none_written (Some xs) taken is = subst (WritesSome (Some xs)) is ([], sym (append-nil xs))
-
-  pub written : {D : Type 0} (U : disk.Ghosts D) (seq : ℕ) (second : D) (start taken : Option (List ℕ)) (count failures : ℕ) (r : Result (Unit {0}) CopyFault) (after : D) → CopiesImage U 0 seq second start taken count failures r after → WritesSome start taken
-  written U seq second start taken count failures r after copies = some_written U seq second start taken count failures r after (none_written start taken) copies
+  -- it could not be opened again
+  pub not_opened : (U : disk.Ghosts (Unlocked S g)) (s t : S) (second : Unlocked S g) (seq : ℕ) (e : UnlockedFault) → LooksAnew g s t → under second ≡ t → FindsCase U second seq (Err e) → LeavesThere g U s seq (Err e)
+  not_opened U s t second seq (fault.Reopen f) looks is finds = (t, looks, second, is, finds)
+  not_opened U s t second seq _ looks is finds = absurd finds
 
   -- what a copy promises by what the next look tells
-  pub by_look : (s : S) (seq : ℕ) (start taken : Option (List ℕ)) (r : Result (Unit {0}) UnlockedFault) → WritesSome start taken → LeavesThere g s seq r
-      → ((v : Unit {0}) → LeavesThere g s seq (Ok v) → Meanwhile g s (λ x ys. (c : FoundCase) × IsNumbered x seq c × Appends start taken c.image)) → CopiesUnlocked g s seq start taken r
-  by_look s seq start taken (Ok v) some there whole = whole v there
-  by_look s seq start taken (Err fault.Gone) some there whole = (
-    some,
+  pub by_look : (U : disk.Ghosts (Unlocked S g)) (s : S) (seq : ℕ) (start taken : Option (List ℕ)) (count failures : ℕ) (r : Result (Unit {0}) UnlockedFault) → CopiesSeen g U s seq start taken count failures (Ok tt) → LeavesThere g U s seq r
+      → ((v : Unit {0}) → LeavesThere g U s seq (Ok v) → Meanwhile g s (λ x ys. (c : FoundCase) × IsNumbered x seq c × Appends start taken c.image)) → CopiesUnlocked g U s seq start taken count failures r
+  by_look U s seq start taken count failures (Ok v) copies there whole = whole v there
+  by_look U s seq start taken count failures (Err fault.Gone) copies there whole = (
+    copies,
     λ shape x ys honest holds. (let again = there honest in again.2 (last_state x ys) (stands_for shape again.0 (last_state x ys) (holds.last again.0 again.1))),
   )
-  by_look s seq start taken (Err (fault.Look f)) some there whole = some
-  by_look s seq start taken (Err (fault.Reopen f)) some there whole = some
-  by_look s seq start taken (Err _) some there whole = absurd there
+  by_look U s seq start taken count failures (Err (fault.Look f)) copies there whole = copies
+  by_look U s seq start taken count failures (Err (fault.Reopen f)) copies there whole = (copies, there)
+  by_look U s seq start taken count failures (Err _) copies there whole = absurd there
 
 -- the same copy, by another name of its answer
 pub as_answered : {D : Type 0} (U : disk.Ghosts D) (seq : ℕ) (second : D) (start taken : Option (List ℕ)) (count failures : ℕ) (r r' : Result (Unit {0}) CopyFault) (after : D) → CopiesImage U 0 seq second start taken count failures r after → r ≡ r'

@@ -1,5 +1,6 @@
 -- Several cases that are read between two looks.
-use Rattle.std.proofs.Common.{◌≡◌, ◌∙◌, ◌++◌, ◌&&◌, ℕ, Bool, true, List, [], ◌∷◌, length, refl, sym, ap, subst, Ok, IsTrue, Some}
+use Rattle.std.proofs.Common.{◌≡◌, ◌⊎◌, ◌∙◌, ◌++◌, ◌&&◌, ℕ, Bool, true, false, List, [], ◌∷◌, length, refl, sym, ap, subst, inl, inr, ⊎_elim, Ok, IsTrue, Some}
+use Rattle.std.proofs.lemmas.Bool.{false≢true}
 use Rattle.std.proofs.lemmas.Grind.{flat_map-append}
 use Rattle.std.specs.List.{AllByRecursion, list_all}
 use Rattle.disk_model.specs.Places.{part}
@@ -7,11 +8,12 @@ use Rattle.disk_model.specs.declared.disk.Disk as disk
 use Rattle.intake.specs.Blocks.{image_in}
 use Rattle.intake.specs.Calls.{OpenCall}
 use Rattle.intake.specs.Durable.{Durable, FoundCase, StandsFor, found_case}
-use Rattle.intake.specs.InTurn.{ACaseIsThereBetween, last_state}
+use Rattle.intake.specs.InTurn.{ACaseIsThereBetween, StandsAs, last_state}
 use Rattle.intake.specs.Lasting.{NumbersAreAbove}
 use Rattle.intake.specs.Lives.{IsAmong}
 use Rattle.intake.specs.Parts.{Parts, state_of}
 use Rattle.intake.specs.Ranges.{Locates, bytes_in}
+use Rattle.intake.specs.State.{ArchiveState}
 use Rattle.intake.specs.declared.ranges.ByteRange.{ByteRange}
 use Rattle.journal_layout.specs.Standing.{Standing}
 use Rattle.journal_layout.specs.declared.shape.Shape.{Shape}
@@ -20,7 +22,7 @@ use Rattle.shared_disk.specs.Steady.{are_steady}
 use Rattle.shared_disk.specs.SteadyLaws.{both_first, both_second, steady_from}
 use Rattle.shared_disk.specs.declared.shared.SharedDisk as shared
 use Rattle.unlocked_reading.specs.Finding.{has_number}
-use Rattle.unlocked_reading.specs.History.{HasEach, HoldsArchive, IsNumbered}
+use Rattle.unlocked_reading.specs.History.{HasEach, HasOne, HoldsArchive, IsNumbered, IsOneOf}
 use Rattle.unlocked_reading.specs.Places.{CoversCases, IsSameIn, IsThere}
 use Rattle.unlocked_reading.proofs.CopyLemmas.{first_between, is_found, numbered_there, opened_holds, opened_stands, stands_for}
 
@@ -47,6 +49,29 @@ covers_more g a numbers ranges seq more covers locates = record {
       ∙ ap (λ (l : List ℕ). bytes_in c ranges ++ l) (locates.places b long ∙ parts.1 locates.found locates.has ∙ sym (locates.places c same))
       ∙ sym (flat_map-append (λ (r : ByteRange). part c r.start r.length) ranges more);
 }
+
+-- each of the cases that are there is a case of what the disk holds
+pub there_by_number : {D : Type 0} (U : disk.Ghosts D) (before : D) (b : List ℕ) (shape : Shape) (x : Durable) (honest : IsTrue (U.is_honest before)) (seen : U.seen before ≡ b) (stands : StandsAs shape b x) (a : Parts D) (numbers : List ℕ) (n : ℕ)
+    → OpenCall U 0 before (Ok a) → AllByRecursion (IsThere (state_of a)) numbers → IsOneOf numbers n → HasOne x n
+there_by_number U before b shape x honest seen stands a [] n call there among = absurd among
+there_by_number U before b shape x honest seen stands a (k ∷ ks) n call there among =
+    ⊎_elim
+    (λ is.
+    let shown = U.seen a.disk in
+    let found = is_found a.journal.standing.shape shown a.journal.standing.cases k there.0.0 there.0.1.1 in
+    let c = found_case a.journal.standing.shape shown there.0.0 in
+    (c, (subst (λ (y : Durable). IsAmong y.cases c) (opened_holds U before b shape x honest seen stands a call) found.0, found.1 ∙ sym is)))
+    (λ more. there_by_number U before b shape x honest seen stands a ks n call there.1 more)
+    among
+
+-- where not all that are looked for are there, one is not
+pub one_missing : (s : ArchiveState) (numbers : List ℕ) → false ≡ list_all (has_number s) numbers → (n : ℕ) × IsOneOf numbers n × (false ≡ has_number s n)
+one_missing s [] none = absurd (false≢true none)
+one_missing s (n ∷ ns) none = by_first (has_number s n) refl none
+  where
+    by_first : (t : Bool) → has_number s n ≡ t → false ≡ (has_number s n && list_all (has_number s) ns) → (m : ℕ) × IsOneOf (n ∷ ns) m × (false ≡ has_number s m)
+    by_first false is none = (n, inl refl, sym is)
+    by_first true is none = let more = one_missing s ns (none ∙ ap (λ (t : Bool). t && list_all (has_number s) ns) is) in (more.0, inr more.1, more.2)
 
 -- all that are looked for are there
 pub each_there : {D : Type 0} (U : disk.Ghosts D) (before : D) (b : List ℕ) (x : Durable) (a : Parts D) (numbers : List ℕ) → IsTrue (U.is_honest before) → U.seen before ≡ b → OpenCall U 0 before (Ok a) → StandsFor b x

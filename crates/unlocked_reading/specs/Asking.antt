@@ -1,19 +1,20 @@
 -- A question that is answered between two looks at its disk.
 use Rattle.std.specs.Prelude.{◌≡◌, ℕ, Bool, true, List, [], Option, Result, Ok, Err, IsTrue}
-use Rattle.std.specs.List.{list_all}
 use Rattle.disk_model.specs.declared.disk.Disk as disk
 use Rattle.inspector_cli.specs.Asking.{AsksAlone, line_streams}
 use Rattle.inspector_cli.specs.Life.{LifeEnds}
 use Rattle.inspector_cli.specs.declared.session.LifeFault.{LifeFault}
 use Rattle.intake.specs.Durable.{Durable, StandsFor}
-use Rattle.intake.specs.Parts.{Parts, state_of}
+use Rattle.intake.specs.InTurn.{last_state}
+use Rattle.intake.specs.declared.faults.ArchiveFault.TheVariants.{OutOfMemory}
 use Rattle.script_lines.specs.Said.{Said}
 use Rattle.shared_disk.specs.Looks.{under}
 use Rattle.shared_disk.specs.Meanwhile.{EndsWith}
 use Rattle.shared_disk.specs.declared.shared.SharedDisk as shared
 use Rattle.shared_disk.specs.declared.unlocked.Unlocked.{Unlocked}
-use Rattle.unlocked_reading.specs.Copying.{Meanwhile, WritesSome}
-use Rattle.unlocked_reading.specs.History.{HasEach}
+use Rattle.unlocked_reading.specs.Copying.{Meanwhile}
+use Rattle.unlocked_reading.specs.History.{HasEach, HasNone, HasOne, IsOneOf}
+use Rattle.unlocked_reading.specs.Opening.{RefusesAgain, RefusesOpening}
 use Rattle.unlocked_reading.specs.declared.faults.AskFault.{AskFault}
 use Rattle.unlocked_reading.specs.declared.faults.AskFault.TheVariants as fault
 
@@ -22,20 +23,31 @@ abbrev pub AnswersOver : {D : Type 0} → disk.Ghosts D → Said → Option (Lis
 AnswersOver {D} g what taken taken' lost lost' before r =
     (after : D) × LifeEnds g 0 (line_streams [] r taken taken' lost lost') before r after (AsksAlone g what taken taken')
 
+-- one question is answered over what the last look saw
+abbrev pub AnswersSeen : {S : Type 0} (g : shared.Ghosts S) → disk.Ghosts (Unlocked S g) → S → Said → Option (List ℕ) → Option (List ℕ) → ℕ → ℕ → Result Bool LifeFault → Type 0
+AnswersSeen {S} g U s what taken taken' lost lost' r = (d : Unlocked S g) × (under d ≡ s) × AnswersOver U what taken taken' lost lost' d r
+
+-- the same of one whose reply is to be dropped
+abbrev pub AnswersInVain : {S : Type 0} (g : shared.Ghosts S) → disk.Ghosts (Unlocked S g) → S → Said → Option (List ℕ) → Option (List ℕ) → ℕ → ℕ → Type 0
+AnswersInVain {S} g U s what taken taken' lost lost' = (done : Bool) × AnswersSeen g U s what taken taken' lost lost' (Ok done)
+
 -- What the question promises of a disk holds: that disk gives what the look saw, and is honest whenever the disk that others change is
--- and holds an archive all the time. Where a case is gone nothing is promised of the reply, which is to be dropped.
+-- and holds an archive all the time. Each refusal has its reason. `Gone` says that a case was there at the look, and not at the next.
 abbrev pub AsksUnlocked : {S : Type 0} (g : shared.Ghosts S) → disk.Ghosts (Unlocked S g) → S → Said → Option (List ℕ) → Option (List ℕ) → ℕ → ℕ → Result Bool AskFault → Type 0
 AsksUnlocked {S} g U s what taken taken' lost lost' (Ok done) =
     (d : Unlocked S g) × (under d ≡ s) × AnswersOver U what taken taken' lost lost' d (Ok done) × Meanwhile g s (λ x ys. IsTrue (U.is_honest d))
-AsksUnlocked {S} g U s what taken taken' lost lost' (Err (fault.Life f)) = (d : Unlocked S g) × (under d ≡ s) × AnswersOver U what taken taken' lost lost' d (Err f)
-AsksUnlocked g U s what taken taken' lost lost' (Err (fault.Open f)) = (taken' ≡ taken) × (lost' ≡ lost)
-AsksUnlocked g U s what taken taken' lost lost' (Err (fault.Archive f)) = (taken' ≡ taken) × (lost' ≡ lost)
-AsksUnlocked g U s what taken taken' lost lost' (Err _) = Unit {0}
+AsksUnlocked g U s what taken taken' lost lost' (Err (fault.Life f)) = AnswersSeen g U s what taken taken' lost lost' (Err f)
+AsksUnlocked g U s what taken taken' lost lost' (Err (fault.Open f)) = (taken' ≡ taken) × (lost' ≡ lost) × RefusesOpening g U s f
+AsksUnlocked g U s what taken taken' lost lost' (Err (fault.Archive f)) = (taken' ≡ taken) × (lost' ≡ lost) × (f ≡ OutOfMemory)
+AsksUnlocked g U s what taken taken' lost lost' (Err (fault.Look f)) = AnswersInVain g U s what taken taken' lost lost'
+AsksUnlocked g U s what taken taken' lost lost' (Err (fault.Reopen f)) = AnswersInVain g U s what taken taken' lost lost' × RefusesAgain g U s f
+AsksUnlocked g U s what taken taken' lost lost' (Err fault.Gone) =
+    AnswersInVain g U s what taken taken' lost lost' × Meanwhile g s (λ x ys. (n : ℕ) × HasOne x n × HasNone (last_state x ys) n)
 
--- All cases of these numbers are there at the next look.
-abbrev pub LeavesAllThere : {S : Type 0} → shared.Ghosts S → S → List ℕ → Result (Unit {0}) AskFault → Type 0
-LeavesAllThere g s numbers (Ok u) = IsTrue (g.is_honest s) → (b : List ℕ) × EndsWith (g.meanwhile s) b × ((z : Durable) → StandsFor b z → HasEach z numbers)
-LeavesAllThere g s numbers (Err (fault.Look f)) = Unit {0}
-LeavesAllThere g s numbers (Err (fault.Reopen f)) = Unit {0}
-LeavesAllThere g s numbers (Err fault.Gone) = Unit {0}
-LeavesAllThere g s numbers (Err _) = ⊥
+-- At the next look all cases of these numbers are there, or one of them is not, or nobody can tell.
+abbrev pub LeavesAllThere : {S : Type 0} (g : shared.Ghosts S) → disk.Ghosts (Unlocked S g) → S → List ℕ → Result (Unit {0}) AskFault → Type 0
+LeavesAllThere g U s numbers (Ok u) = IsTrue (g.is_honest s) → (b : List ℕ) × EndsWith (g.meanwhile s) b × ((z : Durable) → StandsFor b z → HasEach z numbers)
+LeavesAllThere g U s numbers (Err (fault.Look f)) = Unit {0}
+LeavesAllThere g U s numbers (Err (fault.Reopen f)) = RefusesAgain g U s f
+LeavesAllThere g U s numbers (Err fault.Gone) = (n : ℕ) × IsOneOf numbers n × (IsTrue (g.is_honest s) → (b : List ℕ) × EndsWith (g.meanwhile s) b × ((z : Durable) → StandsFor b z → HasNone z n))
+LeavesAllThere g U s numbers (Err _) = ⊥

@@ -1,5 +1,6 @@
 pub mod Finding
 pub mod History
+pub mod Opening
 pub mod Copying
 pub mod Places
 pub mod Asking

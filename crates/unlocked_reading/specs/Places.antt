@@ -8,6 +8,7 @@ use Rattle.intake.specs.Parts.{Parts, state_of}
 use Rattle.intake.specs.Ranges.{bytes_in}
 use Rattle.intake.specs.State.{ArchiveState}
 use Rattle.intake.specs.Step.{HasCase}
+use Rattle.intake.specs.declared.faults.ArchiveFault.TheVariants.{OutOfMemory}
 use Rattle.intake.specs.declared.ranges.ByteRange.{ByteRange}
 use Rattle.journal_layout.specs.Case.{Case}
 use Rattle.unlocked_reading.specs.Finding.{has_number}
@@ -28,15 +29,15 @@ pub record CoversCases {D : Type 0} (g : disk.Ghosts D) (a : Parts D) (numbers :
   pub there : AllByRecursion (IsThere (state_of a)) numbers
   pub same : (b c : List ℕ) → length b ≡ g.size a.disk → length c ≡ g.size a.disk → AllByRecursion (IsSameIn (state_of a) b c) numbers → bytes_in b ranges ≡ bytes_in c ranges
 
--- the cases that a question may read, by an opening of a disk
+-- the cases that a question may read, by an opening of a disk, or why not
 abbrev pub FindsCases : {D : Type 0} → disk.Ghosts D → D → Result Places AskFault → Type 0
 FindsCases {D} g before (Ok places) = (a : Parts D) × OpenCall g 0 before (Ok a) × CoversCases g a places.numbers.items places.ranges.items
-FindsCases g before (Err (fault.Open f)) = Unit {0}
-FindsCases g before (Err (fault.Archive f)) = Unit {0}
+FindsCases {D} g before (Err (fault.Open f)) = (after : D) × OpenCall g 0 before (Err (f, after))
+FindsCases {D} g before (Err (fault.Archive f)) = (a : Parts D) × OpenCall g 0 before (Ok a) × (f ≡ OutOfMemory)
 FindsCases g before (Err _) = ⊥
 
 -- whether all cases of these numbers are there
 abbrev pub FindsAll : {D : Type 0} → disk.Ghosts D → D → List ℕ → Result Bool AskFault → Type 0
 FindsAll {D} g before numbers (Ok all) = (a : Parts D) × OpenCall g 0 before (Ok a) × (all ≡ list_all (has_number (state_of a)) numbers)
-FindsAll g before numbers (Err (fault.Reopen f)) = Unit {0}
+FindsAll {D} g before numbers (Err (fault.Reopen f)) = (after : D) × OpenCall g 0 before (Err (f, after))
 FindsAll g before numbers (Err _) = ⊥

@@ -45,9 +45,9 @@ pub fn ask_unlocked<S: SharedDisk + Drop, O: Output>(
     }
 }
 
-// Looks again, whether these cases are still there. Where there is none, nothing was read but what the first look saw.
+// Looks again, whether these cases are still there.
 fn stay<S: SharedDisk + Drop>(alloc: Global, shared: S, numbers: &[u32]) -> Result<(), AskFault>
-    ensures { LeavesAllThere S.SharedDisk shared numbers.now result }
+    ensures { LeavesAllThere S.SharedDisk ⟦<Unlocked<'static, S> as Disk>⟧ shared numbers.now result }
 {
     let again = match Looked::look(alloc, shared) {
         Ok(again) => again,

@@ -5,6 +5,7 @@ ghost use Rattle.unlocked_reading.specs.Copying.{CopiesUnlocked, LeavesThere};
 
 use crate::faults::UnlockedFault;
 use crate::finding::{find_places, has_case};
+use disk_model::Disk;
 use inspector_cli::{Output, copy_image};
 use intake::{
     Settings, a_case_is_there_between, a_state_tells_what_lasts, the_next_number_is_above,
@@ -25,7 +26,7 @@ pub fn copy_unlocked<S: SharedDisk + Drop, O: Output>(
     seq: u32,
     output: &mut O,
 ) -> Result<(), UnlockedFault>
-    ensures { CopiesUnlocked S.SharedDisk (shared_of looked) seq (O.taken output.old) (O.taken output.new) result }
+    ensures { CopiesUnlocked S.SharedDisk ⟦<Unlocked<'static, S> as Disk>⟧ (shared_of looked) seq (O.taken output.old) (O.taken output.new) (O.failures output.old) (O.failures output.new) result }
 {
     the_next_number_is_above();
     a_case_is_there_between();
@@ -46,7 +47,7 @@ pub fn copy_unlocked<S: SharedDisk + Drop, O: Output>(
 
 // Looks again, whether a case is still there.
 fn stays<S: SharedDisk + Drop>(alloc: Global, shared: S, seq: u32) -> Result<(), UnlockedFault>
-    ensures { LeavesThere S.SharedDisk shared seq result }
+    ensures { LeavesThere S.SharedDisk ⟦<Unlocked<'static, S> as Disk>⟧ shared seq result }
 {
     let again = match Looked::look(alloc, shared) {
         Ok(again) => again,

@@ -1,9 +1,10 @@
 // The cases that a question may read: where their images lie, and whether they are there.
-ghost use Rattle.std.specs.Prelude.{◌≡◌, IfOk, OnOk};
+ghost use Rattle.std.specs.Prelude.{◌≡◌, false, IfErr, IfOk, OnOk};
 ghost use Rattle.std.specs.List.{list_all};
 ghost use Rattle.intake.specs.Parts.{state_of};
+ghost use Rattle.intake.specs.declared.faults.ArchiveFault.TheVariants.{OutOfMemory};
 ghost use Rattle.unlocked_reading.specs.Finding.{has_number};
-ghost use Rattle.unlocked_reading.specs.Places.{CoversCases, FindsAll, FindsCases};
+ghost use Rattle.unlocked_reading.specs.Places.{CoversCases, FindsAll, FindsCases, IsThere};
 
 use crate::faults::AskFault;
 use crate::finding::has_number;
@@ -52,7 +53,9 @@ fn places_of<D: Disk>(
     archive: &Archive<D>,
     reads: Reads,
 ) -> Result<Places, ArchiveFault>
-    ensures { IfOk result (λ places. CoversCases D.Disk archive.now places.numbers.items places.ranges.items) }
+    requires runs { (state_of archive.now).stopped ≡ false }
+    ensures covers { IfOk result (λ places. CoversCases D.Disk archive.now places.numbers.items places.ranges.items) }
+    ensures memory { IfErr result (λ f. f ≡ OutOfMemory) }
 {
     let mut places = Places {
         numbers: Vec::new(alloc),
@@ -65,15 +68,17 @@ fn places_of<D: Disk>(
     Ok(places)
 }
 
-// Adds a case that may be read.
+// Adds a case of the archive, if it may be read.
 fn consider<D: Disk>(
     archive: &Archive<D>,
     entry: &Entry,
     reads: Reads,
     places: &mut Places,
 ) -> Result<(), ArchiveFault>
-    requires { CoversCases D.Disk archive.now places.old.numbers.items places.old.ranges.items }
-    ensures { OnOk result (CoversCases D.Disk archive.now places.new.numbers.items places.new.ranges.items) }
+    requires there { IsThere (state_of archive.now) entry.now.seq }
+    requires covers { CoversCases D.Disk archive.now places.old.numbers.items places.old.ranges.items }
+    ensures covers { OnOk result (CoversCases D.Disk archive.now places.new.numbers.items places.new.ranges.items) }
+    ensures memory { IfErr result (λ f. f ≡ OutOfMemory) }
 {
     if !may_read(reads, entry) {
         return Ok(());
@@ -94,8 +99,10 @@ fn add_place<D: Disk>(
     seq: u32,
     places: &mut Places,
 ) -> Result<(), ArchiveFault>
-    requires { CoversCases D.Disk archive.now places.old.numbers.items places.old.ranges.items }
-    ensures { OnOk result (CoversCases D.Disk archive.now places.new.numbers.items places.new.ranges.items) }
+    requires there { IsThere (state_of archive.now) seq }
+    requires covers { CoversCases D.Disk archive.now places.old.numbers.items places.old.ranges.items }
+    ensures covers { OnOk result (CoversCases D.Disk archive.now places.new.numbers.items places.new.ranges.items) }
+    ensures memory { IfErr result (λ f. f ≡ OutOfMemory) }
 {
     let ranges = archive.image_ranges(seq)?;
     places.ranges.extend_from_slice(&ranges)?;
