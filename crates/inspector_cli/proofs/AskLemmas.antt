@@ -1,5 +1,5 @@
 -- One line that is asked alone: its outcome, and the session that it is.
-use Rattle.std.proofs.Common.{◌≡◌, inl, true, false, true≢false, Bool, ℕ, List, [], ◌∷◌, ◌++◌, Option, Result, Ok, Err, refl, sym, subst, ◌∙◌, append_assoc}
+use Rattle.std.proofs.Common.{◌≡◌, ◌⊎◌, inl, true, false, true≢false, Bool, ℕ, List, [], ◌∷◌, ◌++◌, length, Option, Result, Ok, Err, refl, sym, subst, ◌∙◌, append_assoc, arith}
 use Rattle.std.proofs.lemmas.Bool.{false≢true}
 use Rattle.std.proofs.lemmas.List.{append-nil}
 use Rattle.std.specs.Prelude.{is_ok, not, codes, decimal}
@@ -21,7 +21,7 @@ use Rattle.script_streams.specs.Telling.{IsDelivered}
 use Rattle.script_streams.specs.declared.streams.StreamFault.{StreamFault}
 use Rattle.stream_names.specs.declared.naming.Naming.{Naming}
 use Rattle.inspector_cli.specs.Reply.{Replies}
-use Rattle.inspector_cli.specs.Session.{Item, AnswersItems, AnswersAll, DropsStreams, SessionEnds, complete}
+use Rattle.inspector_cli.specs.Session.{Item, AnswersItems, AnswersAll, ButTheLast, DropsStreams, IsHeard, SessionEnds, complete}
 use Rattle.inspector_cli.specs.Stages.{Stage, IsFoundAfterAStop}
 use Rattle.inspector_cli.specs.Asking.{line_streams}
 use Rattle.inspector_cli.specs.declared.session.LifeFault.TheVariants as life
@@ -98,6 +98,17 @@ module _ {D : Type 0} (g : disk.Ghosts D) (laws : Laws g) (law : FoundAfterAStop
     text = sym (append-nil text);
   }
 
+  -- its only command is the last
+  one_carried : (out : List ℕ) (n : ℕ) → text ≡ out
+      → (a : AnswersAll g naming script out old (answered ∷ []) end) × ([] {A = ℕ} ≡ []) × ButTheLast g naming old a.items a.replies (IsHeard n) × ((a.ending ≡ complete) ⊎ IsHeard n a.replies)
+  one_carried out n is =
+      subst (λ (z : List ℕ). (a : AnswersAll g naming script z old (answered ∷ []) end) × ([] {A = ℕ} ≡ []) × ButTheLast g naming old a.items a.replies (IsHeard n) × ((a.ending ≡ complete) ⊎ IsHeard n a.replies)) is (
+        all,
+        refl,
+        record { front = []; last = item ∷ []; all = refl; one = omega arith; before = []; after = text; split = refl; stages = []; run = refl; holds = omega arith },
+        inl refl,
+      )
+
   found : IsFoundAfterAStop g old (answered ∷ []) end new
   found = found_after g laws law naming old (item ∷ []) text (answered ∷ []) end new run quiet.1.passes closes.stays
 
@@ -109,17 +120,17 @@ module _ {D : Type 0} (g : disk.Ghosts D) (laws : Laws g) (law : FoundAfterAStop
     -- or a front of it
     pub line_unwritten : (fault : StreamFault) → IsDelivered taken lost taken' lost' text (Err fault)
         → SessionEnds g naming (line_streams line (Err (life.Session WriteFailed)) taken taken' lost lost') old new (Err WriteFailed)
-    line_unwritten fault d = (
-      script,
-      [],
-      d.0,
-      d.1,
-      answered ∷ [],
-      end,
-      sym (append-nil script) ∙ sym (append-nil (script ++ [])),
-      d.3,
-      inl (subst (λ (z : List ℕ). AnswersAll g naming script z old (answered ∷ []) end) (sym d.2) all, refl),
-      closes,
-      found,
-      d.4,
-    )
+    line_unwritten fault d = record {
+      read = script;
+      more = [];
+      out = d.0;
+      rest = d.1;
+      stages = answered ∷ [];
+      end = end;
+      consumed = sym (append-nil script) ∙ sym (append-nil (script ++ []));
+      appended = d.3;
+      carried = inl (one_carried (d.0 ++ d.1) (length d.0) (sym d.2));
+      drops = closes;
+      found = found;
+      lost = d.4;
+    }

@@ -456,8 +456,8 @@ module _ {D : Type 0} (g : disk.Ghosts D) (lasts : LastingLaws g) (stays : (d : 
       front_safe e.0 [] e.1 [] e.2 e.3 (nothing_more t.input t.input' e.0 e.4) e.5 e.7 e.8 (life.Session TooManyReads)
       (whole_text e.1 (λ (x : List ℕ). AnswersWhole g naming e.0 x first e.2 e.3) e.6)
   ended_safe (Err WriteFailed) e =
-      ⊎_elim (λ all. whole_safe e.0 e.1 e.2 e.3 e.4 e.5 e.6 e.7 e.9 e.10 (Err (life.Session WriteFailed)) tt all.0)
-      (λ whole. front_safe e.0 e.1 e.2 e.3 e.4 e.5 e.6 e.7 e.9 e.10 (life.Session WriteFailed) whole.0) e.8
+      ⊎_elim (λ all. whole_safe e.read e.more e.out e.rest e.stages e.end e.consumed e.appended e.drops e.found (Err (life.Session WriteFailed)) tt all.0)
+      (λ whole. front_safe e.read e.more e.out e.rest e.stages e.end e.consumed e.appended e.drops e.found (life.Session WriteFailed) whole.0) e.carried
 
 module _ {D : Type 0} (g : disk.Ghosts D) (lasts : LastingLaws g) (stays : (d : D) → IsTrue (g.is_honest d) → g.may_leave d (g.seen d)) (only : (d : D) (c : List ℕ) → g.left_since d (g.clock d) c → g.may_leave d c) (counts : (d : D) (t : ℕ) (c : List ℕ) → t ≤ g.clock d → g.may_leave d c → g.left_since d t c) (nothing_else : NothingElseIsLeft g) (whole_run : WholeIsARun g) (front_run : FrontIsARun g) where
   pub sessions_safe : SessionsAreCrashSafe g

@@ -26,6 +26,7 @@ use Rattle.script_streams.specs.Replies.{Telling}
 use Rattle.inspector_cli.specs.Answering.{Halts, Reading, AnswersTo, PartAnswers, LastAnswers, CommandEnds}
 use Rattle.inspector_cli.specs.Asking.{AnswersAsked}
 use Rattle.script_streams.specs.TellLaws.{tells_then}
+use Rattle.inspector_cli.specs.Heard.{IsReady, TellsReady}
 use Rattle.inspector_cli.proofs.GiveLemmas.{gives_nothing, gives_then, gives_as}
 
 pub last_whole : {D : Type 0} (g : disk.Ghosts D) (naming : Naming) (n : ℕ) (old new : Parts D) (what : Said) (reply : List ℕ) → n ≡ 0 → Replies g naming old what [] reply new → LastReplies g naming n old what reply new
@@ -88,26 +89,22 @@ module _ {D : Type 0} (g : disk.Ghosts D) where
       subst (λ (w : Said). LastAnswers g naming t old w new) is
       (told.0, last_whole g naming (raw_length (question_said q)) old new (question_said q) told.0 (no_raw_asked q) (told.1 naming), told.3)
 
-  module _ (naming : Naming) (a b c : Option (List ℕ)) (buf mid buf' : ScriptBuffer) (t : Telling) (old new : Parts D) (line : List ℕ) (one : IsLine line)
-      (gives : Gives a b buf mid (line ++ 10 ∷ [])) where
+  module _ (naming : Naming) (a b c : Option (List ℕ)) (buf mid buf' : ScriptBuffer) (old new : Parts D) (line : List ℕ) (one : IsLine line)
+      (gives : Gives a b buf mid (line ++ 10 ∷ [])) (o p q : Sink) (first : Tells o p []) (ready : IsReady p) where
     with_raw : (raw : List ℕ) → Gives b c mid buf' raw → Gives a c buf buf' (line ++ 10 ∷ raw)
     with_raw raw more =
         gives_as a c buf buf' ((line ++ 10 ∷ []) ++ raw) (line ++ 10 ∷ raw) (append_assoc line (10 ∷ []) raw)
         (gives_then a b c buf mid buf' (line ++ 10 ∷ []) raw gives more)
 
-    pub line_answered : (r : Result Bool ReadStop) → PartAnswers g naming (record { before = b; after = c; buffer = mid; buffer' = buf' }) t old (said line) new r
-        → CommandEnds g naming (record { before = a; after = c; buffer = buf; buffer' = buf' }) t old new (as_script r)
-    line_answered (Ok true) p = (record { line = line; raw = p.0 }, record { line = one; raw = p.1 }, with_raw p.0 p.2, p.3)
-    line_answered (Ok false) p = (cut_part line p.0, (one, p.1), with_raw p.0 p.2, p.3, p.4, p.5, p.6)
-    line_answered (Err stop) p = (line ++ 10 ∷ p.0, with_raw p.0 p.2, p.3, inr (line, p.0, refl, one, p.1, p.4), p.5)
+    readily : (text : List ℕ) → Tells p q text → TellsReady (record { before = o; after = q }) text
+    readily text tells = record { from = p; before = first; ready = ready; tells = tells }
 
--- a part that is answered behind nothing more told
-pub told_before : {D : Type 0} (g : disk.Ghosts D) (naming : Naming) (o p q : Sink) (r : Reading) (old new : Parts D) (what : Said) (answer : Result Bool ReadStop) → Tells o p []
-    → PartAnswers g naming r (record { before = p; after = q }) old what new answer
-    → PartAnswers g naming r (record { before = o; after = q }) old what new answer
-told_before g naming o p q r old new what (Ok true) first a = (a.0, a.1, a.2, (a.3.0, a.3.1, tells_then first a.3.2))
-told_before g naming o p q r old new what (Ok false) first a = (a.0, a.1, a.2, a.3, a.4, a.5, tells_then first a.6)
-told_before g naming o p q r old new what (Err stop) first a = (a.0, a.1, a.2, a.3, a.4, tells_then first a.5)
+    -- the line was read, and no write had failed by then
+    pub line_answered : (r : Result Bool ReadStop) → PartAnswers g naming (record { before = b; after = c; buffer = mid; buffer' = buf' }) (record { before = p; after = q }) old (said line) new r
+        → CommandEnds g naming (record { before = a; after = c; buffer = buf; buffer' = buf' }) (record { before = o; after = q }) old new (as_script r)
+    line_answered (Ok true) x = (record { line = line; raw = x.0 }, record { line = one; raw = x.1 }, with_raw x.0 x.2, (x.3.0, x.3.1, tells_then first x.3.2), readily x.3.0 x.3.2)
+    line_answered (Ok false) x = (cut_part line x.0, (one, x.1), with_raw x.0 x.2, x.3, x.4, x.5, tells_then first x.6, readily x.4 x.6)
+    line_answered (Err stop) x = (line ++ 10 ∷ x.0, with_raw x.0 x.2, x.3, inr (line, x.0, refl, one, x.1, x.4), tells_then first x.5)
 
 -- why a script was not read on, told of the script
 pub halts_as : (before mid after : ℕ) (buffer : ScriptBuffer) (stop : ReadStop) → mid ≡ before → Stops {T = Bool} mid after buffer (Err stop) → Halts {T = Bool} before after buffer (Err (Read stop))

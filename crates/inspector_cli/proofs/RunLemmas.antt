@@ -14,7 +14,9 @@ use Rattle.inspector_cli.specs.declared.script.ScriptStop.TheVariants.{Read, Unh
 use Rattle.stream_names.specs.declared.naming.Naming.{Naming}
 use Rattle.script_lines.specs.Said.{said, silence}
 use Rattle.inspector_cli.specs.Stages.{Stage}
-use Rattle.inspector_cli.specs.Session.{Item, IsItem, spelled, AnswersItems, last_stage, ending_text}
+use Rattle.inspector_cli.specs.Session.{Item, IsItem, spelled, AnswersItems, ButTheLast, last_stage, ending_text}
+use Rattle.inspector_cli.specs.Heard.{TakesFrontOf}
+use Rattle.inspector_cli.proofs.HeardLemmas.{heard_all, heard_none, heard_one, heard_still}
 use Rattle.script_streams.specs.Replies.{Telling, TellsText}
 use Rattle.inspector_cli.specs.Answering.{Reading, CommandEnds, ScriptEnds}
 use Rattle.inspector_cli.proofs.GiveLemmas.{gives_nothing, gives_then, gives_as}
@@ -34,12 +36,13 @@ abbrev pub Along : {D : Type 0} → disk.Ghosts D → Naming → Reading → Tel
 Along {D} g naming r t old new true =
     (items : List Item) × (out : List ℕ) × (stages : List (Stage D)) × AllByRecursion IsItem items × Gives r.before r.after r.buffer r.buffer' (flat_map spelled items)
     × AnswersItems g naming old items out stages × ((last_stage old stages).archive ≡ new) × TellsText t out
+    × ButTheLast g naming old items out (TakesFrontOf t out)
 Along g naming r t old new false = ScriptEnds g naming r t old new (Ok tt)
 
 module _ {D : Type 0} (g : disk.Ghosts D) where
   pub begun : (naming : Naming) (a : Option (List ℕ)) (b : ScriptBuffer) (o : Sink) (s : Stage D)
       → Along g naming (record { before = a; after = a; buffer = b; buffer' = b }) (record { before = o; after = o }) s s.archive true
-  begun naming a b o s = ([], [], [], tt, gives_nothing a b, refl, refl, tells_nothing)
+  begun naming a b o s = ([], [], [], tt, gives_nothing a b, refl, refl, tells_nothing, heard_none g naming s o)
 
   module _ (laws : Laws g) (naming : Naming) (a b c : Option (List ℕ)) (x y z : ScriptBuffer) (o p q : Sink) (old : Stage D) (mid new : Parts D)
       (so_far : Along g naming (record { before = a; after = b; buffer = x; buffer' = y }) (record { before = o; after = p }) old mid true) where
@@ -75,6 +78,7 @@ module _ {D : Type 0} (g : disk.Ghosts D) where
           run_then g naming old so_far.0 so_far.1 so_far.2 e.0 e.3.0 s so_far.5 e.3.1 m.1,
           ap (λ (t : Stage D). t.archive) (last_then g old s so_far.2),
           tells_then so_far.7 e.3.2,
+          heard_one g naming old o p q so_far.0 e.0 so_far.1 e.3.0 so_far.2 so_far.5 so_far.7 e.4,
         )
 
     script_answered : CommandEnds g naming next_reading next_telling here.archive new (Ok false) → Along g naming all_reading all_telling old new false
@@ -101,6 +105,7 @@ module _ {D : Type 0} (g : disk.Ghosts D) where
           },
           refl,
           tells_then so_far.7 e.6,
+          heard_all g naming old o p q so_far.1 e.4 so_far.7 e.7,
         )
 
     pub goes_along : (more : Bool) → CommandEnds g naming next_reading next_telling mid new (Ok more) → Along g naming all_reading all_telling old new more
@@ -127,6 +132,7 @@ module _ {D : Type 0} (g : disk.Ghosts D) where
           },
           refl,
           tells_then so_far.7 e.4,
+          heard_still g naming old o p q so_far.0 so_far.1 so_far.8 e.4,
         )
 
     unheard_here : CommandEnds g naming next_reading next_telling here.archive new (Err Unheard) → ScriptEnds g naming all_reading all_telling old new (Err Unheard)
@@ -151,6 +157,7 @@ module _ {D : Type 0} (g : disk.Ghosts D) where
           refl,
           e.3,
           tells_then so_far.7 e.4,
+          heard_still g naming old o p q so_far.0 so_far.1 so_far.8 e.4,
         )
 
     pub stops_along : (stop : ScriptStop) → CommandEnds g naming next_reading next_telling mid new (Err stop) → ScriptEnds g naming all_reading all_telling old new (Err stop)

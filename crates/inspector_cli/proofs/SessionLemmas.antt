@@ -2,7 +2,8 @@
 use Rattle.std.proofs.Common.{◌≡◌, ◌⊎◌, inl, inr, false, refl, append_assoc, ℕ, ◌^◌, ◌≤◌, List, [], ◌++◌, length, Option, Result, Ok, Err, sym, ap, subst, ◌∙◌, arith}
 use Rattle.std.proofs.lemmas.Bool.{false≢true}
 use Rattle.std.proofs.lemmas.List.{append-nil}
-use Rattle.std.specs.Io.KnownBytes.{Consumes}
+use Rattle.std.proofs.KnownBytes.{Appends-trans}
+use Rattle.std.specs.Io.KnownBytes.{Appends, Consumes}
 use Rattle.disk_model.specs.declared.disk.Disk as disk
 use Rattle.intake.specs.Marks.{FoundAfterAStop}
 use Rattle.intake.specs.Parts.{Parts}
@@ -17,7 +18,9 @@ use Rattle.inspector_cli.specs.declared.script.ScriptStop.TheVariants.{Read, Unh
 use Rattle.inspector_cli.specs.declared.session.SessionFault.TheVariants.{ReadFailed, WriteFailed, TooManyReads}
 use Rattle.stream_names.specs.declared.naming.Naming.{Naming}
 use Rattle.inspector_cli.specs.Stages.{Stage, IsFoundAfterAStop}
-use Rattle.inspector_cli.specs.Session.{AnswersAll, AnswersWhole, DropsStreams, Streams, SessionEnds}
+use Rattle.inspector_cli.specs.Heard.{TakesFrontOf}
+use Rattle.inspector_cli.specs.Session.{AnswersAll, AnswersWhole, ButTheLast, DropsStreams, IsHeard, Item, Streams, SessionEnds, complete}
+use Rattle.inspector_cli.proofs.HeardLemmas.{longer, taken_on, told_rest}
 use Rattle.script_streams.specs.Replies.{Telling}
 use Rattle.inspector_cli.specs.Answering.{Reading, Halts, ScriptEnds, session_fault}
 use Rattle.inspector_cli.proofs.StageLemmas.{Laws, found_after}
@@ -47,7 +50,7 @@ module _ {D : Type 0} (g : disk.Ghosts D) (laws : Laws g) (law : FoundAfterAStop
 
   -- what the output was told, it took, or a front of it
   abbrev pub Delivers : Result (Unit {0}) StreamFault → Type 0
-  Delivers r = (told : List ℕ) → Told start count name p told → IsDelivered start count q h told r
+  Delivers r = (from : Option (List ℕ)) (told : List ℕ) → Told from count name p told → IsDelivered from count q h told r
 
   closes_from : (end : Stage D) → end.archive ≡ mid → DropsStreams g end.archive new
   closes_from end is = subst (λ (m : Parts D). DropsStreams g m new) (sym is) closes
@@ -68,7 +71,7 @@ module _ {D : Type 0} (g : disk.Ghosts D) (laws : Laws g) (law : FoundAfterAStop
     e.3,
     consumed a b x y e.0 empty e.5.1 e.4,
     e.5.0,
-    d e.1 (e.8 start count name [] begun),
+    d start e.1 (e.8 start count name [] begun),
     e.6,
     closes_from e.3 e.7,
     all_found e.0 e.1 e.2 e.3 e.7 e.6,
@@ -81,7 +84,7 @@ module _ {D : Type 0} (g : disk.Ghosts D) (laws : Laws g) (law : FoundAfterAStop
     e.2,
     e.3,
     consumed a b x y e.0 empty e.5 e.4,
-    d e.1 (e.8 start count name [] begun),
+    d start e.1 (e.8 start count name [] begun),
     e.6,
     closes_from e.3 e.7,
     whole_found e.0 e.1 e.2 e.3 e.7 e.6,
@@ -96,7 +99,7 @@ module _ {D : Type 0} (g : disk.Ghosts D) (laws : Laws g) (law : FoundAfterAStop
     e.2,
     e.3,
     consumed a b x y e.0 empty e.5 e.4,
-    d e.1 (e.8 start count name [] begun),
+    d start e.1 (e.8 start count name [] begun),
     e.6,
     closes_from e.3 e.7,
     whole_found e.0 e.1 e.2 e.3 e.7 e.6,
@@ -108,57 +111,100 @@ module _ {D : Type 0} (g : disk.Ghosts D) (laws : Laws g) (law : FoundAfterAStop
   taken_from read more gives =
       subst (Consumes a b) (ap (λ (h : List ℕ). h ++ gives.read) (sym empty) ∙ gives.bytes ∙ append_assoc read more (held_bytes y)) gives.consumed
 
+  -- A front of all that was told is taken in the end: this one but for at most 8,192 bytes.
+  record Ends (fault : StreamFault) (all front : List ℕ) : Type 0 where
+    out : List ℕ
+    rest : List ℕ
+    split : out ++ rest ≡ all
+    appended : Appends start q out
+    lost : HasRisen count h
+    heard : IsHeard (length out) front
+
+  taken_last : (fault : StreamFault) (all front : List ℕ) → TakesFrontOf telling all front → Delivers (Err fault) → Ends fault all front
+  taken_last fault all front takes d =
+      let t = takes start count name begun in
+      let v = d p.taken t.0.rest (told_rest start count name p all t.0) in
+      let few = t.1 in
+      let more = longer t.0.out v.0 in
+      record {
+        out = t.0.out ++ v.0;
+        rest = v.1;
+        split = taken_on t.0.out t.0.rest v.0 v.1 all t.0.split v.2;
+        appended = Appends-trans start p.taken q t.0.out v.0 t.0.appended v.3;
+        lost = v.4;
+        heard = omega (arith, few, more);
+      }
+
+  -- what was carried out of a whole script, by the replies as they were told
+  all_carried : (read out text : List ℕ) (stages : List (Stage D)) (end : Stage D) (n : ℕ) → out ≡ text → (all : AnswersAll g naming read out old stages end) → IsHeard n all.replies
+      → (a : AnswersAll g naming read text old stages end) × ([] {A = ℕ} ≡ []) × ButTheLast g naming old a.items a.replies (IsHeard n) × ((a.ending ≡ complete) ⊎ IsHeard n a.replies)
+  all_carried read out text stages end n is all heard =
+      subst (λ (z : List ℕ). (a : AnswersAll g naming read z old stages end) × ([] {A = ℕ} ≡ []) × ButTheLast g naming old a.items a.replies (IsHeard n) × ((a.ending ≡ complete) ⊎ IsHeard n a.replies)) is (
+        all,
+        refl,
+        record { front = all.items; last = []; all = sym (append-nil all.items); one = omega arith; before = all.replies; after = []; split = sym (append-nil all.replies); stages = stages; run = all.run; holds = heard },
+        inr heard,
+      )
+
+  -- the same of a front of it
+  front_carried : (read more out text : List ℕ) (stages : List (Stage D)) (end : Stage D) (n : ℕ) → out ≡ text → (w : AnswersWhole g naming read out old stages end) → (more ≡ []) ⊎ (w.rest ≡ []) → ButTheLast g naming old w.items out (IsHeard n)
+      → (v : AnswersWhole g naming read text old stages end) × ((more ≡ []) ⊎ (v.rest ≡ [])) × ButTheLast g naming old v.items text (IsHeard n)
+  front_carried read more out text stages end n is w none heard =
+      subst (λ (z : List ℕ). (v : AnswersWhole g naming read z old stages end) × ((more ≡ []) ⊎ (v.rest ≡ [])) × ButTheLast g naming old v.items z (IsHeard n)) is (w, none, heard)
+
+  -- by what was taken in the end
+  heard_last : (items : List Item) (out : List ℕ) (n : ℕ) (b : ButTheLast g naming old items out (TakesFrontOf telling out)) → IsHeard n b.before → ButTheLast g naming old items out (IsHeard n)
+  heard_last items out n b heard = record { front = b.front; last = b.last; all = b.all; one = b.one; before = b.before; after = b.after; split = b.split; stages = b.stages; run = b.run; holds = heard }
+
   pub write_failed : (fault : StreamFault) (r : Result (Unit {0}) ScriptStop) → ScriptEnds g naming reading telling old mid r → Delivers (Err fault) → SessionEnds g naming streams old new (Err WriteFailed)
   write_failed fault (Ok s) e d =
-      let t = d e.1 (e.8 start count name [] begun) in (
-        e.0,
-        [],
-        t.0,
-        t.1,
-        e.2,
-        e.3,
-        subst (Consumes a b) (sym (append-nil e.0)) (consumed a b x y e.0 empty e.5.1 e.4),
-        t.3,
-        inl (subst (λ (z : List ℕ). AnswersAll g naming e.0 z old e.2 e.3) (sym t.2) e.6, refl),
-        closes_from e.3 e.7,
-        all_found e.0 e.1 e.2 e.3 e.7 e.6,
-        t.4,
-      )
+      let t = taken_last fault e.1 e.6.replies e.9 d in
+      record {
+        read = e.0;
+        more = [];
+        out = t.out;
+        rest = t.rest;
+        stages = e.2;
+        end = e.3;
+        consumed = subst (Consumes a b) (sym (append-nil e.0)) (consumed a b x y e.0 empty e.5.1 e.4);
+        appended = t.appended;
+        carried = inl (all_carried e.0 e.1 (t.out ++ t.rest) e.2 e.3 (length t.out) (sym t.split) e.6 t.heard);
+        drops = closes_from e.3 e.7;
+        found = all_found e.0 e.1 e.2 e.3 e.7 e.6;
+        lost = t.lost;
+      }
   write_failed fault (Err (Read s)) e d =
-      let t = d e.1 (e.8 start count name [] begun) in (
-        e.0,
-        [],
-        t.0,
-        t.1,
-        e.2,
-        e.3,
-        subst (Consumes a b) (sym (append-nil e.0)) (consumed a b x y e.0 empty e.5 e.4),
-        t.3,
-        inr (subst (λ (z : List ℕ). AnswersWhole g naming e.0 z old e.2 e.3) (sym t.2) e.6, inl refl),
-        closes_from e.3 e.7,
-        whole_found e.0 e.1 e.2 e.3 e.7 e.6,
-        t.4,
-      )
+      let t = taken_last fault e.1 e.9.before e.9.holds d in
+      record {
+        read = e.0;
+        more = [];
+        out = t.out;
+        rest = t.rest;
+        stages = e.2;
+        end = e.3;
+        consumed = subst (Consumes a b) (sym (append-nil e.0)) (consumed a b x y e.0 empty e.5 e.4);
+        appended = t.appended;
+        carried = inr (front_carried e.0 [] e.1 (t.out ++ t.rest) e.2 e.3 (length t.out) (sym t.split) e.6 (inl refl) (heard_last e.6.items e.1 (length t.out) e.9 t.heard));
+        drops = closes_from e.3 e.7;
+        found = whole_found e.0 e.1 e.2 e.3 e.7 e.6;
+        lost = t.lost;
+      }
   write_failed fault (Err Unheard) e d =
-      let t = d e.2 (e.10 start count name [] begun) in (
-        e.0,
-        e.1 ++ held_bytes y,
-        t.0,
-        t.1,
-        e.3,
-        e.4,
-        taken_from e.0 e.1 e.5,
-        t.3,
-        inr (front_as e.0 e.2 (t.0 ++ t.1) e.3 e.4 (sym t.2) e.6 e.7),
-        closes_from e.4 e.8,
-        whole_found e.0 e.2 e.3 e.4 e.8 e.6,
-        t.4,
-      )
-    where
-      front_as : (read out text : List ℕ) (stages : List (Stage D)) (end : Stage D) → out ≡ text → (w : AnswersWhole g naming read out old stages end) → w.rest ≡ []
-          → (v : AnswersWhole g naming read text old stages end) × ((e.1 ++ held_bytes y ≡ []) ⊎ (v.rest ≡ []))
-      front_as read out text stages end is w none =
-          subst (λ (z : List ℕ). (v : AnswersWhole g naming read z old stages end) × ((e.1 ++ held_bytes y ≡ []) ⊎ (v.rest ≡ []))) is (w, inr none)
+      let t = taken_last fault e.2 e.11.before e.11.holds d in
+      record {
+        read = e.0;
+        more = e.1 ++ held_bytes y;
+        out = t.out;
+        rest = t.rest;
+        stages = e.3;
+        end = e.4;
+        consumed = taken_from e.0 e.1 e.5;
+        appended = t.appended;
+        carried = inr (front_carried e.0 (e.1 ++ held_bytes y) e.2 (t.out ++ t.rest) e.3 e.4 (length t.out) (sym t.split) e.6 (inr e.7) (heard_last e.6.items e.2 (length t.out) e.11 t.heard));
+        drops = closes_from e.4 e.8;
+        found = whole_found e.0 e.2 e.3 e.4 e.8 e.6;
+        lost = t.lost;
+      }
 
   pub read_stopped : (s : Unit {0}) (why : ScriptStop) → p.unwritten.failed ≡ false → ScriptEnds g naming reading telling old mid (Err why) → Delivers (Ok s) → Halts {T = Unit {0}} fails fails' y (Err why)
       → SessionEnds g naming streams old new (Err (session_fault why))

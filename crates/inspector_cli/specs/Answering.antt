@@ -17,7 +17,8 @@ use Rattle.stream_names.specs.declared.naming.Naming.{Naming}
 use Rattle.script_lines.specs.Said.{Said, said, raw_length}
 use Rattle.inspector_cli.specs.Reply.{Replies, Takes}
 use Rattle.inspector_cli.specs.Stages.{Stage}
-use Rattle.inspector_cli.specs.Session.{Item, IsItem, spelled, Ending, IsEnding, ending_text, EndReplies, BreaksOff, AnswersAll, AnswersWhole, Truncates, TakesFront, LastReplies}
+use Rattle.inspector_cli.specs.Session.{Item, IsItem, spelled, Ending, IsEnding, ending_text, EndReplies, BreaksOff, AnswersAll, AnswersWhole, ButTheLast, Truncates, TakesFront, LastReplies}
+use Rattle.inspector_cli.specs.Heard.{TakesFrontOf, TellsReady}
 
 -- a line with no bytes after it is answered
 abbrev pub AnswersTo : {D : Type 0} → disk.Ghosts D → Naming → Telling → Parts D → Said → List ℕ → Parts D → Type 0
@@ -71,12 +72,13 @@ PartAnswers g naming r t old what new (Err stop) =
 abbrev pub LastAnswers : {D : Type 0} → disk.Ghosts D → Naming → Telling → Parts D → Said → Parts D → Type 0
 LastAnswers g naming t old what new = (reply : List ℕ) × LastReplies g naming (raw_length what) old what reply new × TellsText t reply
 
--- One command: an item is answered, or the script ends, or it can't be read on, or the output has failed, and what was read is
--- not carried out
+-- One command: an item is answered, or the script ends, and before its reply no write has failed; or it can't be read on, or the output has
+-- failed, and what was read is not carried out
 abbrev pub CommandEnds : {D : Type 0} → disk.Ghosts D → Naming → Reading → Telling → Parts D → Parts D → Result Bool ScriptStop → Type 0
-CommandEnds g naming r t old new (Ok true) = (i : Item) × IsItem i × GivesBytes r (spelled i) × AnswersTo g naming t old (said i.line) i.raw new
+CommandEnds g naming r t old new (Ok true) =
+    (i : Item) × IsItem i × GivesBytes r (spelled i) × (answer : AnswersTo g naming t old (said i.line) i.raw new) × TellsReady t answer.0
 CommandEnds g naming r t old new (Ok false) =
-    (e : Ending) × IsEnding e × GivesBytes r (ending_text e) × IsReadUp r × (reply : List ℕ) × EndReplies g naming old e reply new × TellsText t reply
+    (e : Ending) × IsEnding e × GivesBytes r (ending_text e) × IsReadUp r × (reply : List ℕ) × EndReplies g naming old e reply new × TellsText t reply × TellsReady t reply
 CommandEnds g naming r t old new (Err (Read stop)) =
     (rest : List ℕ) × GivesBytes r rest × (held_bytes r.buffer' ≡ []) × BreaksOff g old rest new × TellsText t []
 CommandEnds g naming r t old new (Err Unheard) =
@@ -85,14 +87,14 @@ CommandEnds g naming r t old new (Err Unheard) =
 -- all commands of a script, and the archive after each
 abbrev pub ScriptEnds : {D : Type 0} → disk.Ghosts D → Naming → Reading → Telling → Stage D → Parts D → Result (Unit {0}) ScriptStop → Type 0
 ScriptEnds {D} g naming r t old new (Ok u) =
-    (read : List ℕ) × (out : List ℕ) × (stages : List (Stage D)) × (end : Stage D) × GivesBytes r read × IsReadUp r × AnswersAll g naming read out old stages end
-    × (end.archive ≡ new) × TellsText t out
+    (read : List ℕ) × (out : List ℕ) × (stages : List (Stage D)) × (end : Stage D) × GivesBytes r read × IsReadUp r × (all : AnswersAll g naming read out old stages end)
+    × (end.archive ≡ new) × TellsText t out × TakesFrontOf t out all.replies
 ScriptEnds {D} g naming r t old new (Err Unheard) =
     (read : List ℕ) × (more : List ℕ) × (out : List ℕ) × (stages : List (Stage D)) × (end : Stage D) × GivesBytes r (read ++ more) × (w : AnswersWhole g naming read out old stages end) × (w.rest ≡ [])
-    × (end.archive ≡ new) × (t.after.unwritten.failed ≡ true) × TellsText t out
+    × (end.archive ≡ new) × (t.after.unwritten.failed ≡ true) × TellsText t out × ButTheLast g naming old w.items out (TakesFrontOf t out)
 ScriptEnds {D} g naming r t old new (Err (Read stop)) =
-    (read : List ℕ) × (out : List ℕ) × (stages : List (Stage D)) × (end : Stage D) × GivesBytes r read × (held_bytes r.buffer' ≡ []) × AnswersWhole g naming read out old stages end
-    × (end.archive ≡ new) × TellsText t out
+    (read : List ℕ) × (out : List ℕ) × (stages : List (Stage D)) × (end : Stage D) × GivesBytes r read × (held_bytes r.buffer' ≡ []) × (w : AnswersWhole g naming read out old stages end)
+    × (end.archive ≡ new) × TellsText t out × ButTheLast g naming old w.items out (TakesFrontOf t out)
 
 -- the input's failures, where reading stopped a script; else none
 abbrev pub Halts : {T : Type 0} → ℕ → ℕ → ScriptBuffer → Result T ScriptStop → Type 0

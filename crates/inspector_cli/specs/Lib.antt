@@ -1,6 +1,7 @@
 pub mod Reply
 pub mod Stages
 pub mod Session
+pub mod Heard
 pub mod Answering
 pub mod Asking
 pub mod Storing

@@ -159,9 +159,48 @@ streams_of i o input input' output output' = record {
   lost' = o.failures output';
 }
 
+-- Of the replies to items, those to all but the last of them.
+pub record ButTheLast {D : Type 0} (g : disk.Ghosts D) (naming : Naming) (old : Stage D) (items : List Item) (replies : List ℕ) (Holds : List ℕ → Type 0) : Type 0 where
+  pub front : List Item
+  pub last : List Item
+  pub all : items ≡ front ++ last
+  pub one : length last ≤ 1
+  pub before : List ℕ
+  pub after : List ℕ
+  pub split : replies ≡ before ++ after
+  pub stages : List (Stage D)
+  pub run : AnswersItems g naming old front before stages
+  pub holds : Holds before
+
+-- Whoever has the first n bytes of the replies has heard these but for at most 8,192 bytes: a reply is held until there is no room for it.
+abbrev pub IsHeard : ℕ → List ℕ → Type 0
+IsHeard n replies = length replies ≤ n + 8192
+
+-- The output failed. The commands of a front of what was read are carried out, and the output has a front of their replies: all replies
+-- but that to the last of them, save for at most 8,192 bytes. What was read after them is not carried out.
+pub record StopsUnheard {D : Type 0} (g : disk.Ghosts D) (naming : Naming) (t : Streams) (old : Stage D) (new : Parts D) : Type 0 where
+  -- the bytes of the commands that are carried out, and what was read after them
+  pub read : List ℕ
+  pub more : List ℕ
+  -- the replies: what the output has, and what it has not
+  pub out : List ℕ
+  pub rest : List ℕ
+  pub stages : List (Stage D)
+  pub end : Stage D
+  pub consumed : Consumes t.input t.input' (read ++ more)
+  pub appended : Appends t.taken t.taken' out
+  pub carried :
+      ((all : AnswersAll g naming read (out ++ rest) old stages end) × (more ≡ [])
+      × ButTheLast g naming old all.items all.replies (IsHeard (length out)) × ((all.ending ≡ complete) ⊎ IsHeard (length out) all.replies))
+      ⊎ ((whole : AnswersWhole g naming read (out ++ rest) old stages end) × ((more ≡ []) ⊎ (whole.rest ≡ []))
+      × ButTheLast g naming old whole.items (out ++ rest) (IsHeard (length out)))
+  pub drops : DropsStreams g end.archive new
+  pub found : IsFoundAfterAStop g old stages end new
+  pub lost : HasRisen t.lost t.lost'
+
 -- Whether a session answered to the end, or why it did not: on Ok all that the input had was read and answered; where it
--- could not be read on, the commands that are whole in what was read were answered; where the output failed, the commands of a
--- front of what was read were answered, and no later one was carried out, and it has a front of their text. In each case what is found after a stop is told by the stages.
+-- could not be read on, the commands that are whole in what was read were answered; where the output failed, the session stops
+-- unheard. In each case what is found after a stop is told by the stages.
 abbrev pub SessionEnds : {D : Type 0} → disk.Ghosts D → Naming → Streams → Stage D → Parts D → Result (Unit {0}) SessionFault → Type 0
 SessionEnds {D} g naming t old new (Ok u) =
     (read : List ℕ) × (out : List ℕ) × (stages : List (Stage D)) × (end : Stage D) × Consumes t.input t.input' read × IsAtEnd t.input' × Appends t.taken t.taken' out
@@ -172,9 +211,4 @@ SessionEnds {D} g naming t old new (Err ReadFailed) =
 SessionEnds {D} g naming t old new (Err TooManyReads) =
     (read : List ℕ) × (out : List ℕ) × (stages : List (Stage D)) × (end : Stage D) × Consumes t.input t.input' read × Appends t.taken t.taken' out
     × AnswersWhole g naming read out old stages end × DropsStreams g end.archive new × IsFoundAfterAStop g old stages end new × (2 ^ 40 ≤ length read)
-SessionEnds {D} g naming t old new (Err WriteFailed) =
-    (read : List ℕ) × (more : List ℕ) × (out : List ℕ) × (rest : List ℕ) × (stages : List (Stage D)) × (end : Stage D)
-    × Consumes t.input t.input' (read ++ more) × Appends t.taken t.taken' out
-    × ((AnswersAll g naming read (out ++ rest) old stages end × (more ≡ []))
-    ⊎ ((w : AnswersWhole g naming read (out ++ rest) old stages end) × ((more ≡ []) ⊎ (w.rest ≡ []))))
-    × DropsStreams g end.archive new × IsFoundAfterAStop g old stages end new × HasRisen t.lost t.lost'
+SessionEnds {D} g naming t old new (Err WriteFailed) = StopsUnheard g naming t old new

@@ -33,6 +33,17 @@ struct Unwritten {
     failed: bool,
 }
 
+impl Unwritten {
+    // Whether a write has failed. No more is held than there is room for.
+    fn has_failed(&self) -> bool
+        ensures failed { result ≡ self.now.failed }
+        ensures few { length self.now.held.items ≤ 8192 }
+    {
+        debug_assert!(self.held.len() <= self.held.capacity());
+        self.failed
+    }
+}
+
 impl<'a, O: Output> Reply<'a, O> {
     ghost use Rattle.arrayvec.specs.ArrayVec.{array_vec_len};
     ghost use Rattle.script_streams.specs.Telling.{Told, Tells, IsDelivered, has_failed, held_text, sink};
@@ -142,9 +153,10 @@ impl<'a, O: Output> Reply<'a, O> {
 
     /// Whether a write has failed: then nothing more is written.
     pub fn has_failed(&self) -> bool
-        ensures { result ≡ has_failed self.now }
+        ensures failed { result ≡ has_failed self.now }
+        ensures few { length (held_text self.now) ≤ 8192 }
     {
-        self.unwritten.failed
+        self.unwritten.has_failed()
     }
 
     /// Writes what was told and is not written yet.

@@ -13,7 +13,7 @@ returns-in_default g c = λ before.
     (g.O.Output.taken c.args.output.now) (g.O.Output.failures c.args.output.now) _ (sink g.O.Output c.new-reply.result) (sink g.O.Output c.answer_script-answered.new.reply) _ _
     (stage_of c.args.archive.now before) c.answer_script-answered.new.archive c.close_streams.new.archive
     c.new-buffer.ensures.empty c.new-buffer.ensures.unread c.new-reply.ensures.told c.close_streams.ensures
-    c.in_default.field-0 c.answer_script-answered.result (c.answer_script-answered.ensures.answers before) (λ told one. (let taken = c.in_default.ensures.delivered _ _ _ told one in search (one.same, c.finish.ensures.same, taken, rules)))
+    c.in_default.field-0 c.answer_script-answered.result (c.answer_script-answered.ensures.answers before) (λ from told one. (let taken = c.in_default.ensures.delivered _ _ _ told one in search (one.same, c.finish.ensures.same, taken, rules)))
 
 pub returns-in-Ok-answered : goal.returns-in-Ok-answered
 returns-in-Ok-answered g c = λ before.
@@ -22,7 +22,7 @@ returns-in-Ok-answered g c = λ before.
     (g.O.Output.taken c.args.output.now) (g.O.Output.failures c.args.output.now) _ (sink g.O.Output c.new-reply.result) (sink g.O.Output c.answer_script-answered.new.reply) _ (g.O.Output.failures c.finish.new.self.output.now)
     (stage_of c.args.archive.now before) c.answer_script-answered.new.archive c.close_streams.new.archive
     c.new-buffer.ensures.empty c.new-buffer.ensures.unread c.new-reply.ensures.told c.close_streams.ensures
-    tt (c.in-Ok-answered.ensures.answers before) (λ told one. (let taken = c.in-Ok.ensures.delivered _ _ _ told one in search (one.same, c.finish.ensures.same, taken, rules)))
+    tt (c.in-Ok-answered.ensures.answers before) (λ from told one. (let taken = c.in-Ok.ensures.delivered _ _ _ told one in search (one.same, c.finish.ensures.same, taken, rules)))
 
 pub returns-in-Err : goal.returns-in-Err
 returns-in-Err g c = λ before.
@@ -34,4 +34,4 @@ returns-in-Err g c = λ before.
     (g.O.Output.taken c.args.output.now) (g.O.Output.failures c.args.output.now) _ (sink g.O.Output c.new-reply.result) (sink g.O.Output c.answer_script-answered.new.reply) _ _
     (stage_of c.args.archive.now before) c.answer_script-answered.new.archive c.close_streams.new.archive
     c.new-buffer.ensures.empty c.new-buffer.ensures.unread c.new-reply.ensures.told c.close_streams.ensures
-    tt c.in-Err.stop c.in-Ok.ensures.unfailed (c.in-Err.ensures.answers before) (λ told one. (let taken = c.in-Ok.ensures.delivered _ _ _ told one in search (one.same, c.finish.ensures.same, taken, rules))) c.in-Err.ensures.stops)
+    tt c.in-Err.stop c.in-Ok.ensures.unfailed (c.in-Err.ensures.answers before) (λ from told one. (let taken = c.in-Ok.ensures.delivered _ _ _ told one in search (one.same, c.finish.ensures.same, taken, rules))) c.in-Err.ensures.stops)
