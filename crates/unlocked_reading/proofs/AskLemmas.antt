@@ -1,17 +1,19 @@
 -- A question that is answered between two looks.
-use Rattle.std.proofs.Common.{◌≡◌, ℕ, Bool, List, [], subst, refl, Option, Result, Ok, Err}
+use Rattle.std.proofs.Common.{◌≡◌, ℕ, Bool, List, [], subst, refl, Option, Result, Ok, Err, IsTrue}
 use Rattle.disk_model.specs.declared.disk.Disk as disk
 use Rattle.inspector_cli.specs.Asking.{AsksAlone, line_streams}
 use Rattle.inspector_cli.specs.Life.{LifeEnds}
 use Rattle.inspector_cli.specs.declared.session.LifeFault.{LifeFault}
 use Rattle.script_lines.specs.Said.{Said}
+use Rattle.intake.specs.Durable.{Durable}
 use Rattle.intake.specs.InTurn.{last_state}
+use Rattle.journal_layout.specs.declared.shape.Shape.{Shape}
 use Rattle.shared_disk.specs.Looks.{LooksAnew, under}
 use Rattle.shared_disk.specs.declared.shared.SharedDisk as shared
 use Rattle.shared_disk.specs.declared.unlocked.Unlocked.{Unlocked}
 use Rattle.unlocked_reading.specs.Asking.{AnswersInVain, AnswersOver, AsksUnlocked, LeavesAllThere}
 use Rattle.unlocked_reading.specs.Copying.{Meanwhile}
-use Rattle.unlocked_reading.specs.History.{HasOne, IsOneOf}
+use Rattle.unlocked_reading.specs.History.{HasEach, HasOne, HoldsArchive, IsOneOf}
 use Rattle.unlocked_reading.specs.Places.{FindsAll, FindsCases}
 use Rattle.unlocked_reading.specs.declared.faults.AskFault.{AskFault}
 use Rattle.unlocked_reading.specs.declared.faults.AskFault.TheVariants as fault
@@ -25,7 +27,7 @@ as_answered U what taken taken' lost lost' before after r r' ends is =
 
 module _ {S : Type 0} (g : shared.Ghosts S) (U : disk.Ghosts (Unlocked S g)) (s : S) (what : Said) where
   pub refused_first : (taken : Option (List ℕ)) (lost : ℕ) (first : Unlocked S g) (e : AskFault) → under first ≡ s → FindsCases U first (Err e) → AsksUnlocked g U s what taken taken lost lost (Err e)
-  refused_first taken lost first (fault.Open f) is finds = (refl, refl, first, is, finds)
+  refused_first taken lost first (fault.Open f) is finds = (refl, refl, (first, is, finds.0, finds.1))
   refused_first taken lost first (fault.Archive f) is finds = (refl, refl, finds.2)
   refused_first taken lost first _ is finds = absurd finds
 
@@ -41,7 +43,21 @@ module _ {S : Type 0} (g : shared.Ghosts S) (U : disk.Ghosts (Unlocked S g)) (s 
   )
   refused_last taken taken' lost lost' numbers _ told leaves there = absurd leaves
 
+  -- what was told, where all cases are there at the next look
+  pub answered_between : (taken taken' : Option (List ℕ)) (lost lost' : ℕ) (t : S) (d : Unlocked S g) (numbers : List ℕ) (done : Bool) (v : Unit {0}) → t ≡ s → under d ≡ s → AnswersOver U what taken taken' lost lost' d (Ok done)
+      → LeavesAllThere g U t numbers (Ok v) → ((shape : Shape) (x : Durable) (ys : List Durable) → IsTrue (g.is_honest s) → HoldsArchive g s shape x ys → HasEach (last_state x ys) numbers → IsTrue (U.is_honest d))
+      → AsksUnlocked g U s what taken taken' lost lost' (Ok done)
+  answered_between taken taken' lost lost' t d numbers done v same is told leaves honestly = (
+    d,
+    is,
+    told,
+    λ shape x ys honest holds.
+        let again = subst (λ (y : S). LeavesAllThere g U y numbers (Ok v)) same leaves honest in
+        honestly shape x ys honest holds (again.2 (last_state x ys) (stands_for shape again.0 (last_state x ys) (holds.last again.0 again.1))),
+  )
+
+module _ {S : Type 0} (g : shared.Ghosts S) (U : disk.Ghosts (Unlocked S g)) (s : S) where
   -- it could not be opened again
   pub not_opened : (t : S) (second : Unlocked S g) (numbers : List ℕ) (e : AskFault) → LooksAnew g s t → under second ≡ t → FindsAll U second numbers (Err e) → LeavesAllThere g U s numbers (Err e)
-  not_opened t second numbers (fault.Reopen f) looks is finds = (t, looks, second, is, finds)
+  not_opened t second numbers (fault.Reopen f) looks is finds = (t, looks, (second, is, finds.0, finds.1))
   not_opened t second numbers _ looks is finds = absurd finds

@@ -119,7 +119,7 @@ module _ {S : Type 0} (g : shared.Ghosts S) (s : S) (whole : IsTrue (g.is_honest
 
   pub copied_between : (U : disk.Ghosts (Unlocked S g)) (first second : Unlocked S g) (seq : ℕ) (start taken : Option (List ℕ)) (count failures : ℕ) (ranges : Vec ByteRange Global) (u v : Unit {0}) (after : Unlocked S g)
       → (IsTrue (g.is_honest s) → IsTrue (U.is_honest first)) → (IsTrue (g.is_honest s) → are_steady ranges.items (g.looked s) (g.meanwhile s) ≡ true → IsTrue (U.is_honest second))
-      → U.seen first ≡ g.looked s → U.seen second ≡ g.looked s → U.size first ≡ g.size s → ((a : Parts D) → durable_of U.seen a ≡ durable_part (state_of a) (contents_of U.seen a))
+      → U.seen first ≡ g.looked s → U.seen second ≡ g.looked s → U.size first ≡ g.size s → ((a : Parts (Unlocked S g)) → durable_of U.seen a ≡ durable_part (state_of a) (contents_of U.seen a))
       → FindsPlaces U first seq (Ok ranges) → CopiesImage U 0 seq second start taken count failures (Ok u) after → LeavesThere g U s seq (Ok v)
       → Meanwhile g s (λ x ys. (c : FoundCase) × IsNumbered x seq c × Appends start taken c.image)
   copied_between U first second seq start taken count failures ranges u v after honest0 honest1 seen0 seen1 size0 tells finds copies there shape x ys honest holds =
@@ -189,7 +189,7 @@ module _ {S : Type 0} (g : shared.Ghosts S) where
   -- where no place is found nothing was written
   pub refused_first : (U : disk.Ghosts (Unlocked S g)) (s : S) (first : Unlocked S g) (seq : ℕ) (taken : Option (List ℕ)) (count : ℕ) (e : UnlockedFault) → under first ≡ s → (IsTrue (g.is_honest s) → IsTrue (U.is_honest first)) → U.seen first ≡ g.looked s
       → FindsPlaces U first seq (Err e) → CopiesUnlocked g U s seq taken taken count count (Err e)
-  refused_first U s first seq taken count (fault.Open f) is honest seen finds = (refl, refl, first, is, finds)
+  refused_first U s first seq taken count (fault.Open f) is honest seen finds = (refl, refl, (first, is, finds.0, finds.1))
   refused_first U s first seq taken count (fault.Archive archive.NoCase) is honest seen finds = (
     refl,
     refl,
@@ -204,7 +204,7 @@ module _ {S : Type 0} (g : shared.Ghosts S) where
 
   -- it could not be opened again
   pub not_opened : (U : disk.Ghosts (Unlocked S g)) (s t : S) (second : Unlocked S g) (seq : ℕ) (e : UnlockedFault) → LooksAnew g s t → under second ≡ t → FindsCase U second seq (Err e) → LeavesThere g U s seq (Err e)
-  not_opened U s t second seq (fault.Reopen f) looks is finds = (t, looks, second, is, finds)
+  not_opened U s t second seq (fault.Reopen f) looks is finds = (t, looks, (second, is, finds.0, finds.1))
   not_opened U s t second seq _ looks is finds = absurd finds
 
   -- what a copy promises by what the next look tells

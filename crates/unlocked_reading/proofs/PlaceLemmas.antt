@@ -1,6 +1,7 @@
 -- Several cases that are read between two looks.
-use Rattle.std.proofs.Common.{◌≡◌, ◌⊎◌, ◌∙◌, ◌++◌, ◌&&◌, ℕ, Bool, true, false, List, [], ◌∷◌, length, refl, sym, ap, subst, inl, inr, ⊎_elim, Ok, IsTrue, Some}
+use Rattle.std.proofs.Common.{◌≡◌, ◌⊎◌, ◌∙◌, ◌<◌, zero, suc, cond, map, slice_index_or, arith, ◌++◌, ◌&&◌, ℕ, Bool, true, false, List, [], ◌∷◌, length, refl, sym, ap, subst, inl, inr, ⊎_elim, Ok, IsTrue, Some}
 use Rattle.std.proofs.lemmas.Bool.{false≢true}
+use Rattle.std.proofs.lemmas.Bool.Decides.{eqb_tells}
 use Rattle.std.proofs.lemmas.Grind.{flat_map-append}
 use Rattle.std.specs.List.{AllByRecursion, list_all}
 use Rattle.disk_model.specs.Places.{part}
@@ -15,7 +16,10 @@ use Rattle.intake.specs.Parts.{Parts, state_of}
 use Rattle.intake.specs.Ranges.{Locates, bytes_in}
 use Rattle.intake.specs.State.{ArchiveState}
 use Rattle.intake.specs.declared.ranges.ByteRange.{ByteRange}
+use Rattle.journal_layout.specs.Case.{Case, case_of}
+use Rattle.journal_layout.specs.Soundness.{case_numbered}
 use Rattle.journal_layout.specs.Standing.{Standing}
+use Rattle.journal_layout.specs.declared.entry.Entry.{Entry}
 use Rattle.journal_layout.specs.declared.shape.Shape.{Shape}
 use Rattle.shared_disk.specs.Meanwhile.{IsHeld}
 use Rattle.shared_disk.specs.Steady.{are_steady}
@@ -33,6 +37,20 @@ all_then P (x ∷ xs) y all here = (all.0, all_then P xs y all.1 here)
 all_front : {X : Type 0} (P : X → Type 0) (xs : List X) (y : X) → AllByRecursion P (xs ++ y ∷ []) → AllByRecursion P xs × P y
 all_front P [] y all = (tt, all.0)
 all_front P (x ∷ xs) y all = let rest = all_front P xs y all.1 in ((all.0, rest.0), rest.1)
+
+-- an entry of a list is found by its number, or another of that number is
+pub entry_there : (es : List Entry) (k : ℕ) (e : Entry) → k < length es → e ≡ slice_index_or es k e → (c : Case) × (case_numbered e.seq (map case_of es) ≡ Some c)
+entry_there [] k e below is = absurd (omega (arith, below))
+entry_there (f ∷ fs) zero e below is =
+    ⊎_elim
+    (λ h. subst (λ (t : Bool). (c : Case) × (cond t (Some (case_of f)) (case_numbered e.seq (map case_of fs)) ≡ Some c)) (sym h.0) (case_of f, refl))
+    (λ h. absurd (h.1 (sym (ap (λ (x : Entry). x.seq) is))))
+    (eqb_tells f.seq e.seq)
+entry_there (f ∷ fs) (suc k) e below is =
+    ⊎_elim
+    (λ h. subst (λ (t : Bool). (c : Case) × (cond t (Some (case_of f)) (case_numbered e.seq (map case_of fs)) ≡ Some c)) (sym h.0) (case_of f, refl))
+    (λ h. subst (λ (t : Bool). (c : Case) × (cond t (Some (case_of f)) (case_numbered e.seq (map case_of fs)) ≡ Some c)) (sym h.0) (entry_there fs k e (omega (arith, below)) is))
+    (eqb_tells f.seq e.seq)
 
 pub covers_none : {D : Type 0} (g : disk.Ghosts D) (a : Parts D) → CoversCases g a [] []
 covers_none g a = record { there = tt; same = λ b c long same all. refl }
@@ -64,14 +82,16 @@ there_by_number U before b shape x honest seen stands a (k ∷ ks) n call there 
     (λ more. there_by_number U before b shape x honest seen stands a ks n call there.1 more)
     among
 
+-- the first that is missing, or one of the others
+one_of : (s : ArchiveState) (n : ℕ) (ns : List ℕ) (here more : Bool) → here ≡ has_number s n → more ≡ list_all (has_number s) ns → (false ≡ more → (m : ℕ) × IsOneOf ns m × (false ≡ has_number s m)) → false ≡ (here && more)
+    → (m : ℕ) × IsOneOf (n ∷ ns) m × (false ≡ has_number s m)
+one_of s n ns false more first rest others none = (n, inl refl, first)
+one_of s n ns true more first rest others none = let m = others none in (m.0, inr m.1, m.2)
+
 -- where not all that are looked for are there, one is not
 pub one_missing : (s : ArchiveState) (numbers : List ℕ) → false ≡ list_all (has_number s) numbers → (n : ℕ) × IsOneOf numbers n × (false ≡ has_number s n)
 one_missing s [] none = absurd (false≢true none)
-one_missing s (n ∷ ns) none = by_first (has_number s n) refl none
-  where
-    by_first : (t : Bool) → has_number s n ≡ t → false ≡ (has_number s n && list_all (has_number s) ns) → (m : ℕ) × IsOneOf (n ∷ ns) m × (false ≡ has_number s m)
-    by_first false is none = (n, inl refl, sym is)
-    by_first true is none = let more = one_missing s ns (none ∙ ap (λ (t : Bool). t && list_all (has_number s) ns) is) in (more.0, inr more.1, more.2)
+one_missing s (n ∷ ns) none = one_of s n ns (has_number s n) (list_all (has_number s) ns) refl refl (λ rest. one_missing s ns rest) none
 
 -- all that are looked for are there
 pub each_there : {D : Type 0} (U : disk.Ghosts D) (before : D) (b : List ℕ) (x : Durable) (a : Parts D) (numbers : List ℕ) → IsTrue (U.is_honest before) → U.seen before ≡ b → OpenCall U 0 before (Ok a) → StandsFor b x

@@ -44,4 +44,4 @@ pub returns-in_err-has_all : goal.returns-in_err-has_all
 returns-in_err-has_all g c =
     let p = err_from_is_err_and c.from_residual.result c.from_residual.ensures.1 in
     rw (p.1, p.2)
-    (not_opened g.S.SharedDisk _ c.args.shared _ c.in-Ok.again.shared c.unlocked.result c.args.numbers.now c.in_err-has_all.field-0.0 c.in-Ok.ensures.looks c.unlocked.ensures.under c.in_err-has_all.ensures)
+    (not_opened g.S.SharedDisk _ c.args.shared c.in-Ok.again.shared c.unlocked.result c.args.numbers.now c.in_err-has_all.field-0.0 c.in-Ok.ensures.looks c.unlocked.ensures.under c.in_err-has_all.ensures)

@@ -4,8 +4,8 @@ use Rattle.unlocked_reading.specs.Places.{CoversCases}
 use Rattle.unlocked_reading.proofs.PlaceLemmas.{covers_more}
 use Rattle.unlocked_reading.proofs.places.add_place.Goals as goal
 
-pub returns-in-Ok : goal.returns-in-Ok
-returns-in-Ok g c =
+pub returns-in-Ok-clause-covers : goal.returns-in-Ok-clause-covers
+returns-in-Ok-clause-covers g c =
     let D = g.D.Disk in
     let a = c.args.archive.now in
     let old = c.args.places.now in
@@ -13,4 +13,4 @@ returns-in-Ok g c =
     let ranges = c.in_ok-extend_from_slice.ensures.items ∙ ap (λ (l : List ByteRange). old.ranges.items ++ l) c.deref.ensures.value in
     subst (λ (ns : List ℕ). CoversCases D a ns c.extend_from_slice.new.self.items) (sym numbers)
     (subst (λ (rs : List ByteRange). CoversCases D a (old.numbers.items ++ c.args.seq ∷ []) rs) (sym ranges)
-    (covers_more D a old.numbers.items old.ranges.items c.args.seq c.in_ok-ranges.ranges.items c.requires c.in_ok-ranges.ensures))
+    (covers_more D a old.numbers.items old.ranges.items c.args.seq c.in_ok-ranges.ranges.items c.requires.covers c.in_ok-ranges.ensures))
