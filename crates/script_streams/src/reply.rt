@@ -39,7 +39,7 @@ impl Unwritten {
         ensures failed { result ≡ self.now.failed }
         ensures few { length self.now.held.items ≤ 8192 }
     {
-        debug_assert!(self.held.len() <= self.held.capacity());
+        prove!(self.held.len() <= MOST_HELD);
         self.failed
     }
 }
