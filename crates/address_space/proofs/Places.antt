@@ -82,8 +82,8 @@ undumped_number space a i (Some e) = filed_number a i e (executable_named space 
 pub placed_number : (space : Space) (a : ℕ) (o : Option (ℕ × SegmentView)) → place_number (placed space a o) ≡ option_map (λ (d : ℕ × SegmentView). d.0) o
 placed_number space a None = refl
 placed_number space a (Some d) =
-    elim (leb d.1.filesz (a - d.1.vaddr)) as (λ t. place_number (cond t (undumped space a d.0 (entry_at space a)) (cond (leb (length d.1.bytes) (a - d.1.vaddr)) (cut_off d.0) (dumped d.0 d.1))) ≡ Some d.0) [
-      | true ↦ undumped_number space a d.0 (entry_at space a)
+    elim (leb d.1.filesz (a - d.1.vaddr)) as (λ t. place_number (cond t (undumped space a d.0 (entry_at space.files a)) (cond (leb (length d.1.bytes) (a - d.1.vaddr)) (cut_off d.0) (dumped d.0 d.1))) ≡ Some d.0) [
+      | true ↦ undumped_number space a d.0 (entry_at space.files a)
       | false ↦ elim (leb (length d.1.bytes) (a - d.1.vaddr)) as (λ t. place_number (cond t (cut_off d.0) (dumped d.0 d.1)) ≡ Some d.0) [ true ↦ refl | false ↦ refl ]
     ]
 

@@ -35,7 +35,7 @@ filed_begun : (a i : ℕ) (e : ℕ × FileView) (x : Option ExecutableView) → 
 filed_begun a i e None h = tt
 filed_begun a i e (Some x) h = elim (ltb (spot_in a e.1).offset (length x.image)) as (λ t. IsBegun a (cond t (in_file i e x.image) (unwritten i (Some e)))) [ true ↦ h | false ↦ tt ]
 
-undumped_begun : (space : Space) (a i : ℕ) (e : Option (ℕ × FileView)) → entry_at space a ≡ e → IsBegun a (undumped space a i e)
+undumped_begun : (space : Space) (a i : ℕ) (e : Option (ℕ × FileView)) → entry_at space.files a ≡ e → IsBegun a (undumped space a i e)
 unfolding entry_at
 undumped_begun space a i None h = tt
 undumped_begun space a i (Some e) h =
@@ -48,8 +48,8 @@ placed_begun space a None h = tt
 placed_begun space a (Some d) h =
     let covers = found_passes (is_covering a) 0 space.segments d h in
     let low = leb-true d.1.vaddr a (and_parts (leb d.1.vaddr a) (ltb a (d.1.vaddr + span d.1)) covers).0 in
-    elim (leb d.1.filesz (a - d.1.vaddr)) as (λ t. IsBegun a (cond t (undumped space a d.0 (entry_at space a)) (cond (leb (length d.1.bytes) (a - d.1.vaddr)) (cut_off d.0) (dumped d.0 d.1)))) [
-      | true ↦ undumped_begun space a d.0 (entry_at space a) refl
+    elim (leb d.1.filesz (a - d.1.vaddr)) as (λ t. IsBegun a (cond t (undumped space a d.0 (entry_at space.files a)) (cond (leb (length d.1.bytes) (a - d.1.vaddr)) (cut_off d.0) (dumped d.0 d.1)))) [
+      | true ↦ undumped_begun space a d.0 (entry_at space.files a) refl
       | false ↦ elim (leb (length d.1.bytes) (a - d.1.vaddr)) as (λ t. IsBegun a (cond t (cut_off d.0) (dumped d.0 d.1))) [ true ↦ tt | false ↦ low ]
     ]
 
@@ -89,15 +89,15 @@ value_placed space b i s = value_of (content_by (λ x j. get_or x j 0) b (placed
 
 pub no_byte : (space : Space) (b i : ℕ) (s : SegmentView) → space.executables ≡ [] → length s.bytes ≤ b - s.vaddr → value_placed space b i s ≡ None
 no_byte space b i s none past = elim (cases_Bool (leb s.filesz (b - s.vaddr))) as (λ _. value_placed space b i s ≡ None) [
-  | inl behind ↦ ap (λ p. value_of (content_by (λ x j. get_or x j 0) b p)) (cond-true (leb s.filesz (b - s.vaddr)) (undumped space b i (entry_at space b)) (cond (leb (length s.bytes) (b - s.vaddr)) (cut_off i) (dumped i s)) behind) ∙ undumped_alone space b i (entry_at space b) none
-  | inr within ↦ ap (λ p. value_of (content_by (λ x j. get_or x j 0) b p)) (cond-false (leb s.filesz (b - s.vaddr)) (undumped space b i (entry_at space b)) (cond (leb (length s.bytes) (b - s.vaddr)) (cut_off i) (dumped i s)) within ∙ cond-true (leb (length s.bytes) (b - s.vaddr)) (cut_off i) (dumped i s) (le-leb (length s.bytes) (b - s.vaddr) past))
+  | inl behind ↦ ap (λ p. value_of (content_by (λ x j. get_or x j 0) b p)) (cond-true (leb s.filesz (b - s.vaddr)) (undumped space b i (entry_at space.files b)) (cond (leb (length s.bytes) (b - s.vaddr)) (cut_off i) (dumped i s)) behind) ∙ undumped_alone space b i (entry_at space.files b) none
+  | inr within ↦ ap (λ p. value_of (content_by (λ x j. get_or x j 0) b p)) (cond-false (leb s.filesz (b - s.vaddr)) (undumped space b i (entry_at space.files b)) (cond (leb (length s.bytes) (b - s.vaddr)) (cut_off i) (dumped i s)) within ∙ cond-true (leb (length s.bytes) (b - s.vaddr)) (cut_off i) (dumped i s) (le-leb (length s.bytes) (b - s.vaddr) past))
 ]
 
 pub byte_here : (space : Space) (a k n i : ℕ) (s : SegmentView) → s.vaddr ≤ a → k < n → a - s.vaddr + n ≤ length s.bytes → length s.bytes ≤ s.filesz → value_placed space (a + k) i s ≡ Some (get_or (part s.bytes (a - s.vaddr) n) k 0)
 byte_here space a k n i s low h fits held =
     let b = a + k in
     let e : b - s.vaddr ≡ a - s.vaddr + k = omega arith in
-    ap (λ p. value_of (content_by (λ x j. get_or x j 0) b p)) (cond-false (leb s.filesz (b - s.vaddr)) (undumped space b i (entry_at space b)) (cond (leb (length s.bytes) (b - s.vaddr)) (cut_off i) (dumped i s)) (lt-leb s.filesz (b - s.vaddr) (omega arith)) ∙ cond-false (leb (length s.bytes) (b - s.vaddr)) (cut_off i) (dumped i s) (lt-leb (length s.bytes) (b - s.vaddr) (omega arith)))
+    ap (λ p. value_of (content_by (λ x j. get_or x j 0) b p)) (cond-false (leb s.filesz (b - s.vaddr)) (undumped space b i (entry_at space.files b)) (cond (leb (length s.bytes) (b - s.vaddr)) (cut_off i) (dumped i s)) (lt-leb s.filesz (b - s.vaddr) (omega arith)) ∙ cond-false (leb (length s.bytes) (b - s.vaddr)) (cut_off i) (dumped i s) (lt-leb (length s.bytes) (b - s.vaddr) (omega arith)))
     ∙ ap Some (byte_of_part s.bytes (a - s.vaddr) n k (b - s.vaddr) h e)
 
 -- what is known of addresses that one segment decides, and of those that none does

@@ -40,8 +40,8 @@ unfoldable pub decider : Space → ℕ → Option (ℕ × SegmentView)
 decider space a = first_from (is_covering a) 0 space.segments
 
 -- The mapped file at an address is that of the first entry of NT_FILE that maps it.
-unfoldable pub entry_at : Space → ℕ → Option (ℕ × FileView)
-entry_at space a = first_from (is_mapping a) 0 space.files
+unfoldable pub entry_at : List FileView → ℕ → Option (ℕ × FileView)
+entry_at files a = first_from (is_mapping a) 0 files
 
 -- a place in a file
 pub record SpotView : Type 0 where
@@ -91,7 +91,7 @@ undumped space a i (Some e) = filed a i e (executable_named space e.1.name)
 abbrev pub placed : Space → ℕ → Option (ℕ × SegmentView) → Place
 placed space a None = nowhere
 placed space a (Some d) =
-    if nat_le d.1.filesz (a - d.1.vaddr) then undumped space a d.0 (entry_at space a)
+    if nat_le d.1.filesz (a - d.1.vaddr) then undumped space a d.0 (entry_at space.files a)
     else (if nat_le (length d.1.bytes) (a - d.1.vaddr) then cut_off d.0 else dumped d.0 d.1)
 
 unfoldable pub place_at : Space → ℕ → Place
@@ -151,7 +151,7 @@ pub record MappingView : Type 0 where
   pub spot : Option SpotView
 
 abbrev pub mapping_in : Space → SegmentView → MappingView
-mapping_in space s = record { start = s.vaddr; memsz = s.memsz; flags = s.flags; filesz = s.filesz; spot = spot_of s.vaddr (entry_at space s.vaddr) }
+mapping_in space s = record { start = s.vaddr; memsz = s.memsz; flags = s.flags; filesz = s.filesz; spot = spot_of s.vaddr (entry_at space.files s.vaddr) }
 
 -- the mappings, in table order
 unfoldable pub mappings_of : Space → List MappingView

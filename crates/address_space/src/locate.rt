@@ -114,8 +114,8 @@ impl<'a> AddressSpace<'a> {
     fn scanned_file(&self, at: u64, limit: u64) -> (Option<FileMap<'a>>, u64)
         requires { 0 < limit }
         ensures first { option_map file_view result.0
-            ≡ option_map (λ (e : ℕ × FileView). e.1) (source.entry_at (space_of self.now) at) }
-        ensures alike { IsAlike (source.entry_at (space_of self.now)) at limit result.1 }
+            ≡ option_map (λ (e : ℕ × FileView). e.1) (source.entry_at (space_of self.now).files at) }
+        ensures alike { IsAlike (source.entry_at (space_of self.now).files) at limit result.1 }
         ensures maps { IfSome result.0 (λ f. (f.start ≤ at) × (at < f.past)) }
     {
         match self.files {
@@ -129,8 +129,8 @@ impl<'a> AddressSpace<'a> {
     fn file_without_table(&self, at: u64, limit: u64) -> (Option<FileMap<'a>>, u64)
         requires { 0 < limit }
         ensures first { option_map file_view result.0
-            ≡ option_map (λ (e : ℕ × FileView). e.1) (source.entry_at (space_of self.now) at) }
-        ensures alike { IsAlike (source.entry_at (space_of self.now)) at limit result.1 }
+            ≡ option_map (λ (e : ℕ × FileView). e.1) (source.entry_at (space_of self.now).files at) }
+        ensures alike { IsAlike (source.entry_at (space_of self.now).files) at limit result.1 }
         ensures maps { IfSome result.0 (λ f. (f.start ≤ at) × (at < f.past)) }
     {
         match &self.file_sheet {
@@ -144,8 +144,8 @@ impl<'a> AddressSpace<'a> {
     pub(crate) fn file_at(&self, at: u64, limit: u64) -> (Option<FileMap<'a>>, u64)
         requires { 0 < limit }
         ensures first { option_map file_view result.0
-            ≡ option_map (λ (e : ℕ × FileView). e.1) (source.entry_at (space_of self.now) at) }
-        ensures alike { IsAlike (source.entry_at (space_of self.now)) at limit result.1 }
+            ≡ option_map (λ (e : ℕ × FileView). e.1) (source.entry_at (space_of self.now).files at) }
+        ensures alike { IsAlike (source.entry_at (space_of self.now).files) at limit result.1 }
         ensures maps { IfSome result.0 (λ f. (f.start ≤ at) × (at < f.past)) }
     {
         match &self.file_table {
@@ -230,9 +230,9 @@ impl<'a> AddressSpace<'a> {
     fn locate_undumped(&self, at: u64, limit: u64) -> (StretchKind<'a>, u64)
         requires { 0 < limit }
         ensures stretch { (i : ℕ) → IsStretch (λ b. source.undumped (space_of self.now) b i
-            (source.entry_at (space_of self.now) b)) at limit result.1 }
+            (source.entry_at (space_of self.now).files b)) at limit result.1 }
         ensures content { (b : List ℕ) (i : ℕ) → source.content_by (λ bytes k. part bytes k result.1) at
-            (source.undumped (space_of self.now) at i (source.entry_at (space_of self.now) at)) ≡ shown_in b result.1 result.0 }
+            (source.undumped (space_of self.now) at i (source.entry_at (space_of self.now).files at)) ≡ shown_in b result.1 result.0 }
         ensures elsewhere { (size a : ℕ) (s : SegmentView) → IsFrom size s a result.1 result.0 }
         ensures full { (b : List ℕ) → IsFull result.1 (shown_in b result.1 result.0) }
     {
@@ -333,7 +333,7 @@ impl<'a> AddressSpace<'a> {
 
     /// Where the address lies in the file that is mapped there.
     pub fn spot(&self, at: u64) -> Option<FileSpot<'a>>
-        ensures { option_map spot_view result ≡ source.spot_of at (source.entry_at (space_of self.now) at) }
+        ensures { option_map spot_view result ≡ source.spot_of at (source.entry_at (space_of self.now).files at) }
     {
         let file = self.file_at(at, 1).0?;
         Some(FileSpot {

@@ -16,7 +16,7 @@ use Rattle.elf_view.specs.declared.faults.Want.TheVariants.{Core, Exec}
 use Rattle.core_notes.specs.FileList.{FileView}
 use Rattle.core_notes.specs.Typed.{all_descs}
 use Rattle.thread_regs.specs.Register.{register_in}
-use Rattle.address_space.specs.Source.{Space, ExecutableView, entry_at, first_from, is_mapping, spot_in, spot_of}
+use Rattle.address_space.specs.Source.{Space, ExecutableView}
 use Rattle.address_space.specs.Whole.{space_in}
 use Rattle.symbols.specs.SymbolTable as table
 use Rattle.backtrace.specs.Chain.{chain, stop_of}
@@ -26,7 +26,7 @@ use Rattle.image_replies.specs.CoreWords.{core_bytes}
 use Rattle.image_replies.specs.Reasons.{elf_reason}
 use Rattle.image_replies.specs.declared.core_image.CoreImage.{CoreImage}
 use Rattle.memory_replies.specs.Backtrace.{bt_answer, frame_line, stop_line, thread_answer, thread_lines, words_of}
-use Rattle.memory_replies.specs.Places.{if_known, known_among, spot_among}
+use Rattle.memory_replies.specs.Places.{if_known, known_among}
 use Rattle.memory_replies.specs.Memory.{mapped_files, memory_of}
 use Rattle.memory_replies.specs.Stack.{HasFrames, HasFramesOf, IsWalked}
 use Rattle.memory_replies.specs.Symbol.{executable_fault, symbol_reason}
@@ -52,16 +52,6 @@ thread_is space files known desc ra pc fp frames stop ra_is pc_is fp_is frames_a
     ∙ ap (λ n. flat_map (frame_line files known n) (chain (words_of space) pc fp) ++ stop_line (stop_of (words_of space) pc fp)) ra_is
     ∙ ap (λ n. flat_map (frame_line files known (register_in desc 1)) (chain (words_of space) n fp) ++ stop_line (stop_of (words_of space) n fp)) pc_is
     ∙ ap (λ n. flat_map (frame_line files known (register_in desc 1)) (chain (words_of space) (register_in desc 32) n) ++ stop_line (stop_of (words_of space) (register_in desc 32) n)) fp_is
-
--- the first that passes, found with its number or without
-spot_from : (a i : ℕ) (files : List FileView) → spot_of a (first_from (is_mapping a) i files) ≡ spot_among files a
-spot_from a i [] = refl
-spot_from a i (f ∷ fs) = elim (is_mapping a f) as (λ t. spot_of a (cond t (Some (i, f)) (first_from (is_mapping a) (i + 1) fs)) ≡ option_map (spot_in a) (cond t (Some f) (find (is_mapping a) fs))) [ true ↦ refl | false ↦ spot_from a (i + 1) fs ]
-
--- the place of an address in a file is that in the first entry that maps it
-pub spot_is : (space : Space) (a : ℕ) → spot_of a (entry_at space a) ≡ spot_among space.files a
-unfolding entry_at
-spot_is space a = spot_from a 0 space.files
 
 -- the descriptor of the thread, if there is one
 pub desc_is : (b : List ℕ) (t : ℕ) (o : Option (List ℕ)) (descs : List (List ℕ)) (notes : List NoteView) → o ≡ slice_get descs t → descs ≡ all_descs 1 notes → notes ≡ notes_of Core b

@@ -68,9 +68,9 @@ Stands space a nowhere = Unit {0}
 Stands space a (dumped i s) = (decider space a ≡ Some (i, s)) × (s.vaddr ≤ a) × (a - s.vaddr < length s.bytes)
 Stands space a (cut_off i) = Unit {0}
 Stands space a (unwritten i e) = Unit {0}
-Stands space a (in_file i e x) = (entry_at space a ≡ Some e) × (e.1.start ≤ a) × ((spot_in a e.1).offset < length x) × (option_map image_in (executable_named space e.1.name) ≡ Some x)
+Stands space a (in_file i e x) = (entry_at space.files a ≡ Some e) × (e.1.start ≤ a) × ((spot_in a e.1).offset < length x) × (option_map image_in (executable_named space e.1.name) ≡ Some x)
 
-filed_stands : (space : Space) (a i : ℕ) (e : ℕ × FileView) (o : Option ExecutableView) → executable_named space e.1.name ≡ o → entry_at space a ≡ Some e → e.1.start ≤ a → Stands space a (filed a i e o)
+filed_stands : (space : Space) (a i : ℕ) (e : ℕ × FileView) (o : Option ExecutableView) → executable_named space e.1.name ≡ o → entry_at space.files a ≡ Some e → e.1.start ≤ a → Stands space a (filed a i e o)
 filed_stands space a i e None is entry low = tt
 filed_stands space a i e (Some x) is entry low =
     elim (cases_Bool (ltb (spot_in a e.1).offset (length x.image))) as (λ _. Stands space a (cond (ltb (spot_in a e.1).offset (length x.image)) (in_file i e x.image) (unwritten i (Some e)))) [
@@ -78,7 +78,7 @@ filed_stands space a i e (Some x) is entry low =
       | inr past ↦ subst (λ t. Stands space a (cond t (in_file i e x.image) (unwritten i (Some e)))) (sym past) tt
     ]
 
-undumped_stands : (space : Space) (a i : ℕ) (e : Option (ℕ × FileView)) → entry_at space a ≡ e → Stands space a (undumped space a i e)
+undumped_stands : (space : Space) (a i : ℕ) (e : Option (ℕ × FileView)) → entry_at space.files a ≡ e → Stands space a (undumped space a i e)
 unfolding entry_at
 undumped_stands space a i None is = tt
 undumped_stands space a i (Some e) is =
@@ -98,8 +98,8 @@ placed_stands space a None is = tt
 placed_stands space a (Some d) is =
     let covers = found_passes (is_covering a) 0 space.segments d is in
     let low = leb-true d.1.vaddr a (and_parts (leb d.1.vaddr a) (ltb a (d.1.vaddr + span d.1)) covers).0 in
-    elim (leb d.1.filesz (a - d.1.vaddr)) as (λ t. Stands space a (cond t (undumped space a d.0 (entry_at space a)) (cond (leb (length d.1.bytes) (a - d.1.vaddr)) (cut_off d.0) (dumped d.0 d.1)))) [
-      | true ↦ undumped_stands space a d.0 (entry_at space a) refl
+    elim (leb d.1.filesz (a - d.1.vaddr)) as (λ t. Stands space a (cond t (undumped space a d.0 (entry_at space.files a)) (cond (leb (length d.1.bytes) (a - d.1.vaddr)) (cut_off d.0) (dumped d.0 d.1)))) [
+      | true ↦ undumped_stands space a d.0 (entry_at space.files a) refl
       | false ↦ held_stands space a d is low
     ]
 

@@ -3,7 +3,7 @@ use Rattle.std.specs.Prelude.{ℕ, ◌+◌, ◌-◌, if◌then◌else◌, Bool, 
 use Rattle.std.specs.Option.{option_and_then, option_map}
 use Rattle.script_words.specs.Printing.{shown, hexadecimal}
 use Rattle.core_notes.specs.FileList.{FileView}
-use Rattle.address_space.specs.Source.{ExecutableView, SpotView, is_mapping, is_named, spot_in}
+use Rattle.address_space.specs.Source.{ExecutableView, SpotView, entry_at, is_named, spot_of}
 use Rattle.symbols.specs.Names.{SymbolView, symbol_in}
 use Rattle.symbols.specs.Offsets.{address_of}
 use Rattle.memory_replies.specs.Symbol.{executable_fault}
@@ -37,13 +37,9 @@ place_in d offset x = option_and_then (λ v. option_map (place_by d v) (symbol_i
 abbrev pub place_at_spot : List ExecutableView → ℕ → SpotView → Option PlaceView
 place_at_spot known d spot = option_and_then (place_in d spot.offset) (find (is_named spot.name) known)
 
--- where an address lies in the mapped file that NT_FILE tells of there first
-abbrev pub spot_among : List FileView → ℕ → Option SpotView
-spot_among files a = option_map (spot_in a) (find (is_mapping a) files)
-
 -- the function at the address that is looked up for a pc, if one is
 unfoldable pub place_of : List FileView → List ExecutableView → ℕ → Option ℕ → Option PlaceView
-place_of files known pc address = option_and_then (λ a. option_and_then (place_at_spot known (pc - a)) (spot_among files a)) address
+place_of files known pc address = option_and_then (λ a. option_and_then (place_at_spot known (pc - a)) (spot_of a (entry_at files a))) address
 
 -- `NAME+h`, or `?` where it is not known
 abbrev pub place_words : Option PlaceView → List ℕ

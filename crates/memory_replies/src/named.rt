@@ -23,13 +23,6 @@ pub(crate) struct Location<'a> {
     pub distance: u128,
 }
 
-/// Where an address lies in the mapped file that is told of there first.
-fn spot_at<'a>(space: &AddressSpace<'a>, address: u64) -> Option<FileSpot<'a>>
-    ensures { option_map spot_view result ≡ spec.spot_among (space_of space.now).files address }
-{
-    space.spot(address)
-}
-
 /// The function at an offset of an executable, where a pc is `behind` bytes after that offset.
 fn place_in<'a>(image: &SymbolizedExecutable<'a>, offset: u64, behind: u64) -> Option<Location<'a>>
     ensures { option_map place_view result ≡ spec.place_in behind offset (named_view image.now) }
@@ -68,7 +61,7 @@ fn place_of<'a>(
         ≡ spec.place_of (space_of space.now).files (named_in images.now) pc address }
 {
     let address = address?;
-    let spot = spot_at(space, address)?;
+    let spot = space.spot(address)?;
     place_at(images, spot, pc.saturating_sub(address))
 }
 

@@ -5,8 +5,8 @@ use Rattle.std.specs.Option.{option_map, option_map_or}
 use Rattle.elf_view.specs.Header.{SegmentView}
 use Rattle.elf_view.specs.SectionNames.{named_section_of}
 use Rattle.elf_view.specs.SectionTable.{SectionView}
-use Rattle.address_space.specs.Source.{Space, decider}
-use Rattle.unwind.specs.Code.{CodeView, spot_at}
+use Rattle.address_space.specs.Source.{Space, decider, entry_at, spot_of}
+use Rattle.unwind.specs.Code.{CodeView}
 use Rattle.unwind.specs.Registers.{ra, sp, known, without}
 use Rattle.unwind.specs.declared.frame.Callee.{Callee}
 use Rattle.unwind.specs.declared.frame.Frame.{Frame}
@@ -46,7 +46,7 @@ abbrev pub lacks_code : ℕ → Bool
 lacks_code flags = flags % 2 == 0
 
 abbrev pub is_unmapped : Space → ℕ → Bool
-is_unmapped space a = is_none (spot_at space a)
+is_unmapped space a = is_none (spot_of a (entry_at space.files a))
 
 -- the flags of the segment that decides an address
 abbrev pub flags_at : Space → ℕ → Option ℕ

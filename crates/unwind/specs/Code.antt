@@ -17,10 +17,6 @@ pub record ProcessView : Type 0 where
 abbrev pub looked_up : Frame → Option ℕ
 looked_up f = if f.exact then Some f.pc else (if f.pc == 0 then None else Some (f.pc - 1))
 
--- where it lies in the file that is mapped there
-abbrev pub spot_at : Space → ℕ → Option SpotView
-spot_at space a = spot_of a (entry_at space a)
-
 -- an address in an image's own numbering
 pub record CodeView : Type 0 where
   pub image : List ℕ
@@ -35,4 +31,4 @@ code_at executables spot =
 
 -- the code of a frame
 unfoldable pub code_of : ProcessView → Frame → Result CodeView Stop
-code_of p f = checked (option_and_then (spot_at p.space) (looked_up f)) NoFile (code_at p.executables)
+code_of p f = checked (option_and_then (λ a. spot_of a (entry_at p.space.files a)) (looked_up f)) NoFile (code_at p.executables)

@@ -1,6 +1,7 @@
 // The code of a frame.
 ghost use Rattle.std.specs.Prelude.{◌≡◌, find, map};
 ghost use Rattle.std.specs.Option.{option_map, option_and_then};
+ghost use Rattle.address_space.specs.Source as source;
 ghost use Rattle.address_space.specs.Source.{is_named};
 ghost use Rattle.address_space.specs.SourceWords.{spot_view};
 ghost use Rattle.address_space.specs.SpaceWords.{space_of};
@@ -76,7 +77,7 @@ fn looked_up(frame: &Frame) -> Option<u64>
 /// Where a frame's code lies in the file that is mapped there.
 fn spot_of<'c>(space: &AddressSpace<'c>, frame: &Frame) -> Option<FileSpot<'c>>
     ensures { option_map spot_view result
-        ≡ option_and_then (spec.spot_at (space_of space.now)) (spec.looked_up frame.now) }
+        ≡ option_and_then (λ a. source.spot_of a (source.entry_at (space_of space.now).files a)) (spec.looked_up frame.now) }
 {
     let address = looked_up(frame)?;
     space.spot(address)

@@ -13,7 +13,7 @@ returns-then-place-segment-clause-stretch c b i long =
     let space = space_of c.args.self.now in
     let at = c.args.at in
     let s = filled b (segment_view c.args.segment) in
-    extended (λ e. placed space e (Some (i, s))) (λ e. undumped space e i (entry_at space e)) at c.args.limit c.args.limit c.locate_undumped.result.1
+    extended (λ e. placed space e (Some (i, s))) (λ e. undumped space e i (entry_at space.files e)) at c.args.limit c.args.limit c.locate_undumped.result.1
     (c.locate_undumped.ensures.stretch i)
     (λ k h. cond-true _ _ _ (le-leb s.filesz (at + k - s.vaddr) (omega arith)))
     (omega arith)
