@@ -9,7 +9,7 @@ use crate::{Backing, DiskFault};
 use std::alloc::{AllocError, Global};
 
 // The most bytes that are gathered.
-const MOST: usize = 1_048_576;
+const MOST: usize = 65_536;
 
 /// The bytes that are to be written to a disk from one place on. An archive writes its blocks one after the other, so one
 /// call of the operating system takes many of them.
