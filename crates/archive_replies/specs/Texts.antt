@@ -62,8 +62,8 @@ label_word version label = if version == 2 then 32 ∷ shown label else []
 -- `N KIND LENGTH PID SIGNAL TIME PIN NAME`, and in version 2 of the layout ` LABEL`
 abbrev pub case_line : ℕ → Case → List ℕ
 case_line version c =
-    number_word c.seq ++ (kind_name c.kind ++ (32 ∷ [] ++ (number_word c.len ++ (number_word c.pid ++ (number_word c.signal
-    ++ (number_word c.time ++ (pin_name c.pinned ++ (32 ∷ [] ++ (shown c.name ++ (label_word version c.label ++ 10 ∷ []))))))))))
+    number_word c.seq ++ (kind_name c.origin.kind ++ (32 ∷ [] ++ (number_word c.len ++ (number_word c.origin.pid ++ (number_word c.origin.signal
+    ++ (number_word c.origin.time ++ (pin_name c.pinned ++ (32 ∷ [] ++ (shown c.origin.name ++ (label_word version c.label ++ 10 ∷ []))))))))))
 
 -- a line for each case
 abbrev pub list_reply : Bool → ℕ → List Case → List ℕ

@@ -111,4 +111,4 @@ fault_same law q front size at bytes image by = enough_shows core_fault_of law f
 pub wanted_same : ((b : List ℕ) (n : ℕ) → IsHeaderWhole (take n b) → IsSound Core (take n b) → mapped_files (take n b) ≡ mapped_files b) → (q : MemoryQuery) (front : List ℕ) (size at : ℕ) (bytes image : List ℕ) → IsSeenBy q front size at bytes image
     → (cases : List Case) → wanted_of front cases ≡ wanted_of image cases
 wanted_same law q front size at bytes image by cases =
-    ap (λ files. map wanted_case (filter (λ (c : Case). is_exec c.kind && list_any (has_name c.name) files) cases)) (enough_shows mapped_files law front image (seen_enough q front size at bytes image by))
+    ap (λ files. map wanted_case (filter (λ (c : Case). is_exec c.origin.kind && list_any (has_name c.origin.name) files) cases)) (enough_shows mapped_files law front image (seen_enough q front size at bytes image by))

@@ -17,14 +17,14 @@ is_exec Exec = true
 
 -- a stored executable whose name the core's NT_FILE has
 abbrev pub is_wanted : List ℕ → Case → Bool
-is_wanted b c = is_exec c.kind && is_mapped b c.name
+is_wanted b c = is_exec c.origin.kind && is_mapped b c.origin.name
 
 -- the number and the name of an executable that is read
 abbrev pub Wanted : Type 0
 Wanted = ℕ × List ℕ
 
 abbrev pub wanted_case : Case → Wanted
-wanted_case c = (c.seq, c.name)
+wanted_case c = (c.seq, c.origin.name)
 
 -- those that are read for a core, in the order of the cases
 abbrev pub wanted_of : List ℕ → List Case → List Wanted

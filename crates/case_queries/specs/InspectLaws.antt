@@ -36,14 +36,14 @@ module _ {D : Type 0} (g : disk.Ghosts D) (old : Parts D) (seq : ℕ) (q : Query
   of_kind new kind may (Err f, mid, looks, told) =
       image_unread kind may f (subst (λ (x : Parts D). LooksAt g old seq (Err f) x) (sym told.1) looks) told.0
 
-  of_case : (new : Parts D) → (state_of old).stopped ≡ false → (c : Case) → case_numbered seq (state_of old).cases ≡ Some c → (k : Result Kind (List ℕ)) → kind_for q c.kind ≡ k
+  of_case : (new : Parts D) → (state_of old).stopped ≡ false → (c : Case) → case_numbered seq (state_of old).cases ≡ Some c → (k : Result Kind (List ℕ)) → kind_for q c.origin.kind ≡ k
       → Asks g old seq q k reply new → Inspects g old seq q reply new
   of_case new runs c has (Ok kind) asked asks = of_kind new kind (record { runs = runs; entry = c; has = has; asked = asked }) asks
   of_case new runs c has (Err reason) asked asks = other_kind runs c has reason asked asks.0 asks.1
 
   of_found : (new : Parts D) → (state_of old).stopped ≡ false → (o : Option Case) → case_numbered seq (state_of old).cases ≡ o → Asks g old seq q (kind_found q o) reply new → Inspects g old seq q reply new
   of_found new runs None is asks = no_such_case runs is asks.0 asks.1
-  of_found new runs (Some c) is asks = of_case new runs c is (kind_for q c.kind) refl asks
+  of_found new runs (Some c) is asks = of_case new runs c is (kind_for q c.origin.kind) refl asks
 
   of_archive : (new : Parts D) (b : Bool) → (state_of old).stopped ≡ b → Asks g old seq q (cond b (Err (codes "Stopped")) (kind_found q (case_numbered seq (state_of old).cases))) reply new → Inspects g old seq q reply new
   of_archive new true is asks = archive_stopped is asks.0 asks.1

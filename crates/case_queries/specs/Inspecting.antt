@@ -94,7 +94,7 @@ pub record MayAsk (s : ArchiveState) (seq : ℕ) (q : QuerySaid) (kind : Kind) :
   pub runs : s.stopped ≡ false
   pub entry : Case
   pub has : case_numbered seq s.cases ≡ Some entry
-  pub asked : kind_for q entry.kind ≡ Ok kind
+  pub asked : kind_for q entry.origin.kind ≡ Ok kind
 
 -- A line that asks the image of a case, its reply, and the archive after it: the reasons why nothing is shown, in their order, and then
 -- what is shown.
@@ -104,7 +104,7 @@ pub data Inspects {D : Type 0} (g : disk.Ghosts D) (old : Parts D) (seq : ℕ) (
   -- it has no such case
   no_such_case : (state_of old).stopped ≡ false → case_numbered seq (state_of old).cases ≡ None → reply ≡ no_reply (codes "NoCase") → new ≡ old → Inspects g old seq q reply new
   -- the line may not ask a case of its kind
-  other_kind : (state_of old).stopped ≡ false → (c : Case) → case_numbered seq (state_of old).cases ≡ Some c → (reason : List ℕ) → kind_for q c.kind ≡ Err reason
+  other_kind : (state_of old).stopped ≡ false → (c : Case) → case_numbered seq (state_of old).cases ≡ Some c → (reason : List ℕ) → kind_for q c.origin.kind ≡ Err reason
       → reply ≡ no_reply reason → new ≡ old → Inspects g old seq q reply new
   -- its image can't be read
   image_unread : (kind : Kind) → MayAsk (state_of old) seq q kind → (f : ArchiveFault) → LooksAt g old seq (Err f) new → reply ≡ no_reply (reason_of f) → Inspects g old seq q reply new

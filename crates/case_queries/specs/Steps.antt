@@ -23,7 +23,7 @@ use Rattle.case_queries.specs.Seeing.{LooksAt}
 
 abbrev pub kind_found : QuerySaid → Option Case → Result Kind (List ℕ)
 kind_found q None = Err (codes "NoCase")
-kind_found q (Some c) = kind_for q c.kind
+kind_found q (Some c) = kind_for q c.origin.kind
 
 -- The kind of the case that a line asks; or why it shows nothing, whatever the image: the archive is stopped, or has no such
 -- case, or it is of the other kind.

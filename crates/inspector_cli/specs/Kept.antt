@@ -7,7 +7,7 @@ use Rattle.disk_model.specs.Anew.{IsMadeAnew, Restarts}
 use Rattle.disk_model.specs.declared.disk.Disk as disk
 use Rattle.intake.specs.Durable.{Durable, FoundCase, StandsFor}
 use Rattle.intake.specs.Lives.{IsAmong}
-use Rattle.intake.specs.State.{StreamFacts, origin_of}
+use Rattle.intake.specs.State.{StreamFacts}
 use Rattle.retention.specs.declared.Policy.{Policy}
 use Rattle.script_lines.specs.Said.{Said, end_of, label_of}
 use Rattle.script_streams.specs.Replies.{no_reply, ok_reply}
@@ -35,7 +35,7 @@ HasThisLabel (Some label) text = text ≡ label
 -- this is the case
 pub record IsKeptAs (k : Kept) (c : FoundCase) : Type 0 where
   pub number : c.case.seq ≡ k.seq
-  pub origin : origin_of c.case ≡ k.stream.origin
+  pub origin : c.case.origin ≡ k.stream.origin
   pub bytes : c.image ≡ k.image
   pub labelled : HasThisLabel k.label c.case.label
 

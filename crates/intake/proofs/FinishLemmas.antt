@@ -112,15 +112,12 @@ module _ {D : Type 0} (g : disk.Ghosts D) (d d' : D) (j : Journaled) (most : ℕ
   storable flags' s' u closes bal =
       let fine = fine_is in
       subst (IsStorable j.standing.shape.data_blocks j.standing.cases) (sym (closed_case s' u closes)) (record {
-        name = fine.origin.name;
-        new_name = none_named (λ (c : Case). bytes_eq c.name s.facts.origin.name) j.standing.cases
+        origin = fine.origin;
+        new_name = none_named (λ (c : Case). bytes_eq c.origin.name s.facts.origin.name) j.standing.cases
             (let n = running.named s.facts.origin.name in let m = named_in s.facts.origin.name streams slot in
             let e = ap (λ (o : Option StreamParts). one_if (is_called s.facts.origin.name o)) is in
             let same : one_if (bytes_eq s.facts.origin.name s.facts.origin.name) ≡ 1 = ap one_if ((bytes_eq-Decides s.facts.origin.name s.facts.origin.name).1 refl) in
             omega (arith, n, m, e, same));
-        pid = fine.origin.pid;
-        signal = fine.origin.signal;
-        time = fine.origin.time;
         bytes = fine.small;
         enough = closed_enough s' u closes;
         spare = λ k some. (

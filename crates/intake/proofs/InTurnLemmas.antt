@@ -15,7 +15,6 @@ use Rattle.intake.specs.Lasting.{HasNumbers, number_of}
 use Rattle.intake.specs.Lives.{IsAmong}
 use Rattle.intake.specs.Making.{Call, ReplyTo, Makes, Made, AreMade, WouldLeave, begin_in, lend_of, advance_by, finish_of, abandon_of, delete_of, pin_of, label_of, upgrade_it, retire_by, image_of, find_case, list_cases, count_free, ask_version, ask_stopped}
 use Rattle.intake.specs.Parts.{Parts}
-use Rattle.intake.specs.State.{origin_of}
 use Rattle.intake.proofs.LastsLemmas.{finish_lasts, delete_lasts, pin_lasts, label_lasts, upgrade_lasts, retire_lasts, refusals_last}
 use Rattle.intake.proofs.MakingLemmas.{room_durable, still_honest}
 
@@ -67,7 +66,7 @@ among_made f (x ∷ xs) d among =
 -- the same but for its pin and its label
 record KeepsImage (b c : Case) : Type 0 where
   number : c.seq ≡ b.seq
-  origin : origin_of c ≡ origin_of b
+  origin : c.origin ≡ b.origin
   len : c.len ≡ b.len
   blocks : c.blocks ≡ b.blocks
 

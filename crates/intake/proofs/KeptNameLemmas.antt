@@ -26,11 +26,11 @@ or_none true = refl
 or_none false = refl
 
 -- one case alone
-pub one_stays : (name seqs : List ℕ) (c : Case) → stays_named name seqs (c ∷ []) ≡ (not (is_among seqs c.seq) && bytes_eq c.name name)
+pub one_stays : (name seqs : List ℕ) (c : Case) → stays_named name seqs (c ∷ []) ≡ (not (is_among seqs c.seq) && bytes_eq c.origin.name name)
 one_stays name seqs c = of (not (is_among seqs c.seq))
   where
-    of : (t : Bool) → is_named name (cond t (c ∷ []) []) ≡ (t && bytes_eq c.name name)
-    of true = or_none (bytes_eq c.name name)
+    of : (t : Bool) → is_named name (cond t (c ∷ []) []) ≡ (t && bytes_eq c.origin.name name)
+    of true = or_none (bytes_eq c.origin.name name)
     of false = refl
 
 -- one case more
@@ -42,8 +42,8 @@ stays_more name seqs (d ∷ ds) c = of (not (is_among seqs d.seq)) (stays_more n
         → is_named name (cond t (d ∷ dropped seqs (ds ++ c ∷ [])) (dropped seqs (ds ++ c ∷ [])))
         ≡ (is_named name (cond t (d ∷ dropped seqs ds) (dropped seqs ds)) || stays_named name seqs (c ∷ []))
     of true rest =
-        ap (λ (b : Bool). bytes_eq d.name name || b) rest
-        ∙ or_then (bytes_eq d.name name) (is_named name (dropped seqs ds)) (stays_named name seqs (c ∷ []))
+        ap (λ (b : Bool). bytes_eq d.origin.name name || b) rest
+        ∙ or_then (bytes_eq d.origin.name name) (is_named name (dropped seqs ds)) (stays_named name seqs (c ∷ []))
     of false rest = rest
 
 -- one entry more
@@ -69,9 +69,9 @@ named_before name seqs (c ∷ cs) is = of (not (is_among seqs c.seq)) (named_bef
     either true rest is = refl
     either false rest is = rest is
 
-    of : (t : Bool) → (is_named name (dropped seqs cs) ≡ true → is_named name cs ≡ true) → is_named name (cond t (c ∷ dropped seqs cs) (dropped seqs cs)) ≡ true → (bytes_eq c.name name || is_named name cs) ≡ true
-    of true rest is = either (bytes_eq c.name name) rest is
-    of false rest is = or_right (bytes_eq c.name name) (is_named name cs) (rest is)
+    of : (t : Bool) → (is_named name (dropped seqs cs) ≡ true → is_named name cs ≡ true) → is_named name (cond t (c ∷ dropped seqs cs) (dropped seqs cs)) ≡ true → (bytes_eq c.origin.name name || is_named name cs) ≡ true
+    of true rest is = either (bytes_eq c.origin.name name) rest is
+    of false rest is = or_right (bytes_eq c.origin.name name) (is_named name cs) (rest is)
 
 pub kept_before : (s : ArchiveState) (policy : Policy) (name : List ℕ) → KeepsTheName s policy name true → is_named name s.cases ≡ true
 kept_before s policy name kept = named_before name kept.dropped s.cases (sym kept.is)

@@ -23,7 +23,7 @@ use Rattle.intake.specs.Sound.{IsArchiveSound, IsRunning, IsFineIfOpen, held_by,
 -- a stream became the last case: what it held is the case's
 pub sound_stored : {D : Type 0} (g : disk.Ghosts D) (d d' : D) (j j' : Journaled) (most : ℕ) (flags flags' : List Bool) (streams streams' : List (Option StreamParts)) (slot : ℕ) (s : StreamParts) (b : Bool) (c : Case)
     → IsArchiveSound g d j most flags streams b → b ≡ false → slot < 8 → stream_at streams slot ≡ Some s → streams' ≡ slice_set streams slot None → Guards g d' j' → j' ≡ after_append j (store_of j.standing c)
-    → j.standing.next < 2 ^ 32 → Balances flags s.facts.blocks flags' c.blocks → IsStorable j.standing.shape.data_blocks j.standing.cases c → c.name ≡ s.facts.origin.name
+    → j.standing.next < 2 ^ 32 → Balances flags s.facts.blocks flags' c.blocks → IsStorable j.standing.shape.data_blocks j.standing.cases c → c.origin.name ≡ s.facts.origin.name
     → IsArchiveSound g d' j' most flags' streams' b
 sound_stored g d d' j j' most flags flags' streams streams' slot s b c sound on low is gone keeps now more bal storable called =
     subst (λ (k : Journaled). IsArchiveSound g d' k most flags' streams' b) (sym now)
@@ -65,7 +65,7 @@ sound_stored g d d' j j' most flags flags' streams streams' slot s b c sound on 
     named name =
         let s1 = sum_by-set (λ (x : Option StreamParts). one_if (is_called name x)) streams slot None None below in
         let e = ap (λ (x : Option StreamParts). one_if (is_called name x)) is in
-        let a = sum_by-append (λ (x : Case). one_if (bytes_eq x.name name)) j.standing.cases (numbered j.standing.next c ∷ []) in
-        let n = sum_by-cons (λ (x : Case). one_if (bytes_eq x.name name)) (numbered j.standing.next c) [] in
+        let a = sum_by-append (λ (x : Case). one_if (bytes_eq x.origin.name name)) j.standing.cases (numbered j.standing.next c ∷ []) in
+        let n = sum_by-cons (λ (x : Case). one_if (bytes_eq x.origin.name name)) (numbered j.standing.next c) [] in
         let f = ap (λ (x : List ℕ). one_if (bytes_eq x name)) called in
         let h = r.named name in omega (arith, s1, e, a, n, f, h)

@@ -67,7 +67,7 @@ some_taken : {D : Type 0} (a : Parts D) (name : List ℕ) → is_taken (state_of
 some_taken a name e = of (is_named name a.journal.standing.cases) refl
   where
     of : (t : Bool) → is_named name a.journal.standing.cases ≡ t → 1 ≤ cases_named a.journal.standing.cases name + streams_named a.streams name
-    of true here = (let s = some_of (λ (c : Case). bytes_eq c.name name) a.journal.standing.cases here in omega (arith, s))
+    of true here = (let s = some_of (λ (c : Case). bytes_eq c.origin.name name) a.journal.standing.cases here in omega (arith, s))
     of false here =
         let s = some_of (is_called name) a.streams (sym (list_any-map (is_name_in name) (option_map stream_facts) a.streams) ∙ sym (ap (λ t. t || list_any (is_name_in name) (map (option_map stream_facts) a.streams)) here) ∙ e) in
         omega (arith, s)
@@ -156,7 +156,7 @@ taken_lent cases streams slot b (Ok u) ws a are reply = here (stream_at streams 
 
 -- a stream became the last case
 pub taken_stored : (cases : List Case) (streams streams' : List (Option StreamParts)) (slot : ℕ) (s : StreamParts) (x : Case) (a : BTreeSet (ArrayVec ℕ)) → AreTaken cases streams a → stream_at streams slot ≡ Some s
-    → streams' ≡ slice_set streams slot None → x.name ≡ s.facts.origin.name → AreTaken (cases ++ x ∷ []) streams' a
+    → streams' ≡ slice_set streams slot None → x.origin.name ≡ s.facts.origin.name → AreTaken (cases ++ x ∷ []) streams' a
 taken_stored cases streams streams' slot s x a are is now called = subst (λ (xs : List (Option StreamParts)). AreTaken (cases ++ x ∷ []) xs a) (sym now)
     (λ q. (let n = named_with streams slot (Some s) None q (slot_there streams slot s is) is in
     let m = named_stored cases x q in
@@ -192,12 +192,12 @@ names_left seqs cases streams names a b are same forgets q = of (is_one_of names
     of : (t : Bool) → is_one_of names q ≡ t → cases_named (dropped seqs cases) q + streams_named streams q ≡ one_if (has_name b q)
     of true e =
         let all = named_dropped seqs cases q in
-        let some = some_of (λ (c : Case). bytes_eq c.name q) (gone seqs cases) (among ∙ e) in
+        let some = some_of (λ (c : Case). bytes_eq c.origin.name q) (gone seqs cases) (among ∙ e) in
         let h : one_if (has_name b q) ≡ 0 = ap one_if (forgets q ∙ ap (λ t. cond t false (has_name a q)) e) in
         omega (arith, all, some, h, are q, one_most (has_name a q))
     of false e =
         let all = named_dropped seqs cases q in
-        let none = none_of (λ (c : Case). bytes_eq c.name q) (gone seqs cases) (among ∙ e) in
+        let none = none_of (λ (c : Case). bytes_eq c.origin.name q) (gone seqs cases) (among ∙ e) in
         let h : one_if (has_name b q) ≡ one_if (has_name a q) = ap one_if (forgets q ∙ ap (λ t. cond t false (has_name a q)) e) in
         omega (arith, all, none, h, are q)
 

@@ -24,8 +24,9 @@ use Rattle.intake.specs.Lending.{refilled, with_room, slots_left}
 use Rattle.intake.specs.declared.faults.ArchiveFault.{ArchiveFault}
 use Rattle.journal_layout.specs.Case.{Case}
 use Rattle.journal_layout.specs.Layout.{IsWithinLimits}
+use Rattle.journal_layout.specs.Soundness.{IsWritable}
 use Rattle.intake.specs.Slots.{stream_at, closed}
-use Rattle.intake.specs.Sound.{IsArchiveSound, IsRunning, IsFine, IsFineIfOpen, held_by, stream_uses, stream_blocks, case_blocks, is_called, streams_named, IsWritable}
+use Rattle.intake.specs.Sound.{IsArchiveSound, IsRunning, IsFine, IsFineIfOpen, held_by, stream_uses, stream_blocks, case_blocks, is_called, streams_named}
 
 pub length-zero_block : length zero_block ≡ 4096
 unfolding zero_block

@@ -70,7 +70,7 @@ none_of P (x ∷ xs) e =
 pub new_name : {D : Type 0} (a : Parts D) (name : List ℕ) → is_taken (state_of a) name ≡ false → (cases_named a.journal.standing.cases name ≡ 0) × (streams_named a.streams name ≡ 0)
 new_name a name e =
     let h = or_parts (is_named name a.journal.standing.cases) (list_any (has_name name) (map (option_map stream_facts) a.streams)) e in (
-      none_of (λ (c : Case). bytes_eq c.name name) a.journal.standing.cases h.0,
+      none_of (λ (c : Case). bytes_eq c.origin.name name) a.journal.standing.cases h.0,
       none_of (is_called name) a.streams (sym (list_any-map (has_name name) (option_map stream_facts) a.streams) ∙ h.1),
     )
 

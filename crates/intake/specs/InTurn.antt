@@ -10,12 +10,11 @@ use Rattle.intake.specs.Lasting.{HasNumbers}
 use Rattle.intake.specs.Lives.{IsAmong}
 use Rattle.intake.specs.Making.{Call, ReplyTo, Makes, Made, AreMade, WouldLeave}
 use Rattle.intake.specs.Parts.{Parts}
-use Rattle.intake.specs.State.{origin_of}
 
 -- The same case, with the same image in the same blocks. Its pin and its label may be others.
 pub record IsSameImage (c d : FoundCase) : Type 0 where
   pub number : d.case.seq ≡ c.case.seq
-  pub origin : origin_of d.case ≡ origin_of c.case
+  pub origin : d.case.origin ≡ c.case.origin
   pub len : d.case.len ≡ c.case.len
   pub blocks : d.case.blocks ≡ c.case.blocks
   pub image : d.image ≡ c.image

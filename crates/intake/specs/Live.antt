@@ -11,4 +11,4 @@ case_uses cases k = sum_by (λ (c : Case). uses c.blocks k) cases
 
 -- how many of the cases have this name
 abbrev pub cases_named : List Case → List ℕ → ℕ
-cases_named cases name = count_by (λ (c : Case). bytes_eq c.name name) cases
+cases_named cases name = count_by (λ (c : Case). bytes_eq c.origin.name name) cases

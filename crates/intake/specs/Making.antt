@@ -14,7 +14,7 @@ use Rattle.intake.specs.Opened.{CaseReply, CasesReply}
 use Rattle.intake.specs.Parts.{Parts, state_of, contents_of}
 use Rattle.intake.specs.Room.{room_of, room_left}
 use Rattle.intake.specs.Slots.{stream_at}
-use Rattle.intake.specs.State.{StreamFacts, origin_of}
+use Rattle.intake.specs.State.{StreamFacts}
 use Rattle.intake.specs.Step.{RoomReply, FreeReply, VersionReply}
 use Rattle.intake.specs.declared.faults.ArchiveFault.{ArchiveFault}
 use Rattle.intake.specs.declared.space.Space.{Space}
@@ -162,7 +162,7 @@ StaysOpen slot (m ∷ ms) = (stream_at (state_of m.archive).streams slot ≢ Non
 -- The case of a stream that began so, under this number, with these bytes as its image.
 pub record IsCaseOf (s : StreamFacts) (seq : ℕ) (bytes : List ℕ) (c : FoundCase) : Type 0 where
   pub number : c.case.seq ≡ seq
-  pub origin : origin_of c.case ≡ s.origin
+  pub origin : c.case.origin ≡ s.origin
   pub unpinned : c.case.pinned ≡ false
   pub unlabelled : c.case.label ≡ []
   pub image : c.image ≡ bytes

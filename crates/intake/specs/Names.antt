@@ -41,7 +41,7 @@ abbrev pub items_of : ArrayVec ℕ → List ℕ
 items_of n = n.items
 
 abbrev pub name_of_case : Case → List ℕ
-name_of_case c = c.name
+name_of_case c = c.origin.name
 
 -- the names of the cases that have these numbers
 abbrev pub names_gone : List ℕ → List Case → List (List ℕ)

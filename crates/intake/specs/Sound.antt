@@ -6,10 +6,10 @@ use Rattle.disk_model.specs.declared.disk.Disk as disk
 use Rattle.extents.specs.FreeSet.{is_free, free_count, uses, one_if}
 use Rattle.journal_layout.specs.Case.{Case}
 use Rattle.journal_layout.specs.Layout.{IsWithinLimits}
-use Rattle.journal_layout.specs.Soundness.{IsName}
+use Rattle.journal_layout.specs.Soundness.{IsWritable}
 use Rattle.case_journal.specs.Journaled.{Journaled}
 use Rattle.intake.specs.Step.{has_name}
-use Rattle.intake.specs.State.{blocks_by, Origin}
+use Rattle.intake.specs.State.{blocks_by}
 use Rattle.intake.specs.Guarding.{Guards}
 use Rattle.journal_layout.specs.Live.{AreLive}
 use Rattle.intake.specs.Live.{case_uses, cases_named}
@@ -44,13 +44,6 @@ is_called name o = has_name name (option_map stream_facts o)
 -- how many of the streams have this name
 abbrev pub streams_named : List (Option StreamParts) → List ℕ → ℕ
 streams_named streams name = count_by (is_called name) streams
-
--- what an image is of, as a record says it
-pub record IsWritable (o : Origin) : Type 0 where
-  pub name : IsName o.name
-  pub pid : o.pid < 2 ^ 32
-  pub signal : o.signal < 2 ^ 32
-  pub time : o.time < 2 ^ 64
 
 -- a stream by itself
 pub record IsFine (most : ℕ) (s : StreamParts) : Type 0 where

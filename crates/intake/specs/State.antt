@@ -1,18 +1,9 @@
 -- The state of an archive without the images' bytes: its cases, its streams, and what decides how a call is answered.
 use Rattle.std.specs.Prelude.{ℕ, ◌+◌, ◌/◌, Bool, List, [], Option, None, Some, sum_by, length}
 pub use Rattle.journal_layout.specs.Soundness.{blocks_for}
-use Rattle.journal_layout.specs.Case.{Case}
+use Rattle.journal_layout.specs.Case.{Case, Origin}
 use Rattle.journal_layout.specs.declared.shape.Shape.{Shape}
-use Rattle.journal_layout.specs.declared.entry.Kind.{Kind}
 use Rattle.extents.specs.Runs.{runs_of}
-
--- what an image is of
-pub record Origin : Type 0 where
-  pub kind : Kind
-  pub name : List ℕ
-  pub pid : ℕ
-  pub signal : ℕ
-  pub time : ℕ
 
 -- a stream on its way, with how many bytes it has taken so far, and the blocks that they have filled
 pub record StreamFacts : Type 0 where
@@ -55,7 +46,3 @@ blocks_in s = sum_by (λ (c : Case). blocks_for c.len) s.cases + sum_by filled_b
 -- in how many runs of blocks the image of a case lies
 abbrev pub runs_in : Case → ℕ
 runs_in c = length (runs_of c.blocks)
-
--- what the image of a case is of
-abbrev pub origin_of : Case → Origin
-origin_of c = record { kind = c.kind; name = c.name; pid = c.pid; signal = c.signal; time = c.time }

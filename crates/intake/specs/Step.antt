@@ -133,7 +133,7 @@ label_bytes (b ∷ rest) = label_size (b ∷ rest)
 
 -- the bytes of the records that say a case
 abbrev pub case_size : Case → ℕ
-case_size c = record_size c.name (runs_in c) + label_bytes c.label
+case_size c = record_size c.origin.name (runs_in c) + label_bytes c.label
 
 -- the bytes of a half of the journal that says these cases and a next number, and nothing else: its header, a record for each
 -- case, one for each label that is not empty, and one of the number
@@ -175,11 +175,7 @@ recorded s size cases = record s {
 abbrev pub case_from : StreamFacts → ℕ → List ℕ → Case
 case_from s seq blocks = record {
   seq = seq;
-  kind = s.origin.kind;
-  name = s.origin.name;
-  pid = s.origin.pid;
-  signal = s.origin.signal;
-  time = s.origin.time;
+  origin = s.origin;
   pinned = false;
   len = s.len;
   blocks = blocks;
@@ -368,7 +364,7 @@ VersionReply old (Err _) = ⊥
 
 -- what the rule looks at of a case
 abbrev pub brief_of : Case → Brief
-brief_of c = record { seq = c.seq; time = c.time; length = c.len; pinned = c.pinned }
+brief_of c = record { seq = c.seq; time = c.origin.time; length = c.len; pinned = c.pinned }
 
 -- by the rule these cases go, and some do
 abbrev pub RetiresSome : ArchiveState → Policy → List ℕ → Bool → Type 0

@@ -1,15 +1,19 @@
--- A case as the journal keeps it: the facts of an image and the blocks that hold it.
+-- A case as the journal keeps it: what its image is of, and the blocks that hold it.
 use Rattle.std.specs.Prelude.{ℕ, Bool, List, []}
 use Rattle.journal_layout.specs.declared.entry.Kind.{Kind}
 use Rattle.journal_layout.specs.declared.entry.Entry.{Entry}
 
-pub record Case : Type 0 where
-  pub seq : ℕ
+-- what an image is of
+pub record Origin : Type 0 where
   pub kind : Kind
   pub name : List ℕ
   pub pid : ℕ
   pub signal : ℕ
   pub time : ℕ
+
+pub record Case : Type 0 where
+  pub seq : ℕ
+  pub origin : Origin
   pub pinned : Bool
   -- the image's bytes
   pub len : ℕ
@@ -22,11 +26,7 @@ pub record Case : Type 0 where
 abbrev pub case_of : Entry → Case
 case_of e = record {
   seq = e.seq;
-  kind = e.kind;
-  name = e.name.items;
-  pid = e.pid;
-  signal = e.signal;
-  time = e.time;
+  origin = record { kind = e.kind; name = e.name.items; pid = e.pid; signal = e.signal; time = e.time };
   pinned = e.pinned;
   len = e.length;
   blocks = e.runs;

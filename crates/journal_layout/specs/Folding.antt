@@ -74,4 +74,4 @@ used_blocks cases = flat_map (λ (c : Case). c.blocks) cases
 
 -- some case has this name
 abbrev pub is_name_of : List Case → List ℕ → Bool
-is_name_of cases name = list_any (λ (c : Case). bytes_eq c.name name) cases
+is_name_of cases name = list_any (λ (c : Case). bytes_eq c.origin.name name) cases

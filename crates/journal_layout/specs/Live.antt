@@ -3,7 +3,7 @@ use Rattle.std.specs.Prelude.{◌≡◌, ◌≢◌, ℕ, ◌^◌, ◌<◌, ◌�
 use Rattle.std.specs.List.{All, filter}
 use Rattle.journal_layout.specs.Case.{Case}
 use Rattle.journal_layout.specs.Folding.{is_among, used_blocks, is_name_of}
-use Rattle.journal_layout.specs.Soundness.{IsName, IsLabel, Rise, blocks_for, uses}
+use Rattle.journal_layout.specs.Soundness.{IsWritable, IsLabel, Rise, blocks_for, uses}
 
 abbrev pub seq_of_case : Case → ℕ
 seq_of_case c = c.seq
@@ -11,10 +11,7 @@ seq_of_case c = c.seq
 -- a case by itself, where the next one gets this number
 pub record IsWhole (next : ℕ) (c : Case) : Type 0 where
   pub below : c.seq < next
-  pub name : IsName c.name
-  pub pid : c.pid < 2 ^ 32
-  pub signal : c.signal < 2 ^ 32
-  pub time : c.time < 2 ^ 64
+  pub origin : IsWritable c.origin
   pub bytes : c.len < 2 ^ 64
   -- as many blocks as its bytes need
   pub enough : length c.blocks ≡ blocks_for c.len
@@ -23,7 +20,7 @@ pub record IsWhole (next : ℕ) (c : Case) : Type 0 where
 -- no two cases have one name
 abbrev pub AreNamedApart : List Case → Type 0
 AreNamedApart [] = Unit {0}
-AreNamedApart (c ∷ rest) = (is_name_of rest c.name ≡ false) × AreNamedApart rest
+AreNamedApart (c ∷ rest) = (is_name_of rest c.origin.name ≡ false) × AreNamedApart rest
 
 -- The cases of an archive of `limit` data blocks, where the next one gets this number.
 pub record AreLive (limit : ℕ) (cases : List Case) (next : ℕ) : Type 0 where

@@ -56,86 +56,86 @@ used_runs (c ∷ rest) =
 
 -- how many cases have a name
 
-count_here : (c : Case) (rest : List Case) (name : List ℕ) (t : Bool) → bytes_eq c.name name ≡ t
-    → count_by (λ (d : Case). bytes_eq d.name name) (c ∷ rest) ≡ cond t 1 0 + count_by (λ (d : Case). bytes_eq d.name name) rest
+count_here : (c : Case) (rest : List Case) (name : List ℕ) (t : Bool) → bytes_eq c.origin.name name ≡ t
+    → count_by (λ (d : Case). bytes_eq d.origin.name name) (c ∷ rest) ≡ cond t 1 0 + count_by (λ (d : Case). bytes_eq d.origin.name name) rest
 count_here c rest name t e =
-    sum_by-cons (λ (d : Case). cond (bytes_eq d.name name) 1 0) c rest ∙ ap (λ (s : Bool). cond s 1 0 + count_by (λ (d : Case). bytes_eq d.name name) rest) e
+    sum_by-cons (λ (d : Case). cond (bytes_eq d.origin.name name) 1 0) c rest ∙ ap (λ (s : Bool). cond s 1 0 + count_by (λ (d : Case). bytes_eq d.origin.name name) rest) e
 
 -- none has it just where the test says so
-pub none_named : (cases : List Case) (name : List ℕ) → is_name_of cases name ≡ false → count_by (λ (c : Case). bytes_eq c.name name) cases ≡ 0
+pub none_named : (cases : List Case) (name : List ℕ) → is_name_of cases name ≡ false → count_by (λ (c : Case). bytes_eq c.origin.name name) cases ≡ 0
 none_named [] name none = refl
 none_named (c ∷ rest) name none =
-    let h = or_parts (bytes_eq c.name name) (is_name_of rest name) none in
-    sum_by-cons (λ (d : Case). cond (bytes_eq d.name name) 1 0) c rest ∙ rw h.0 (omega (arith, none_named rest name h.1))
+    let h = or_parts (bytes_eq c.origin.name name) (is_name_of rest name) none in
+    sum_by-cons (λ (d : Case). cond (bytes_eq d.origin.name name) 1 0) c rest ∙ rw h.0 (omega (arith, none_named rest name h.1))
 
-pub not_named : (cases : List Case) (name : List ℕ) → count_by (λ (c : Case). bytes_eq c.name name) cases ≡ 0 → is_name_of cases name ≡ false
+pub not_named : (cases : List Case) (name : List ℕ) → count_by (λ (c : Case). bytes_eq c.origin.name name) cases ≡ 0 → is_name_of cases name ≡ false
 not_named [] name none = refl
 not_named (c ∷ rest) name none =
-    by (bytes_eq c.name name) (sym (sum_by-cons (λ (d : Case). cond (bytes_eq d.name name) 1 0) c rest) ∙ none) (not_named rest name)
+    by (bytes_eq c.origin.name name) (sym (sum_by-cons (λ (d : Case). cond (bytes_eq d.origin.name name) 1 0) c rest) ∙ none) (not_named rest name)
   where
-    by : (t : Bool) → cond t 1 0 + count_by (λ (d : Case). bytes_eq d.name name) rest ≡ 0
-        → (count_by (λ (d : Case). bytes_eq d.name name) rest ≡ 0 → is_name_of rest name ≡ false) → (t || is_name_of rest name) ≡ false
+    by : (t : Bool) → cond t 1 0 + count_by (λ (d : Case). bytes_eq d.origin.name name) rest ≡ 0
+        → (count_by (λ (d : Case). bytes_eq d.origin.name name) rest ≡ 0 → is_name_of rest name ≡ false) → (t || is_name_of rest name) ≡ false
     by true e low = absurd (omega arith)
     by false e low = low (omega arith)
 
 -- no two cases have one name just where at most one case has each name
-pub named_once : (cases : List Case) (name : List ℕ) → AreNamedApart cases → count_by (λ (c : Case). bytes_eq c.name name) cases ≤ 1
+pub named_once : (cases : List Case) (name : List ℕ) → AreNamedApart cases → count_by (λ (c : Case). bytes_eq c.origin.name name) cases ≤ 1
 named_once [] name apart = omega arith
 named_once (c ∷ rest) name apart =
-    elim (cases_Bool (bytes_eq c.name name)) as (λ _. count_by (λ (d : Case). bytes_eq d.name name) (c ∷ rest) ≤ 1) [
+    elim (cases_Bool (bytes_eq c.origin.name name)) as (λ _. count_by (λ (d : Case). bytes_eq d.origin.name name) (c ∷ rest) ≤ 1) [
       | inl same ↦
-          let is : c.name ≡ name = (bytes_eq-Decides c.name name).0 same in
+          let is : c.origin.name ≡ name = (bytes_eq-Decides c.origin.name name).0 same in
           let none = none_named rest name (subst (λ (n : List ℕ). is_name_of rest n ≡ false) is apart.0) in
-          let whole : count_by (λ (d : Case). bytes_eq d.name name) (c ∷ rest) ≡ 1 + count_by (λ (d : Case). bytes_eq d.name name) rest = count_here c rest name true same in
+          let whole : count_by (λ (d : Case). bytes_eq d.origin.name name) (c ∷ rest) ≡ 1 + count_by (λ (d : Case). bytes_eq d.origin.name name) rest = count_here c rest name true same in
           omega arith
       | inr other ↦
-          let whole : count_by (λ (d : Case). bytes_eq d.name name) (c ∷ rest) ≡ 0 + count_by (λ (d : Case). bytes_eq d.name name) rest = count_here c rest name false other in
+          let whole : count_by (λ (d : Case). bytes_eq d.origin.name name) (c ∷ rest) ≡ 0 + count_by (λ (d : Case). bytes_eq d.origin.name name) rest = count_here c rest name false other in
           omega (arith, named_once rest name apart.1)
     ]
 
-pub named_apart : (cases : List Case) → ((name : List ℕ) → count_by (λ (c : Case). bytes_eq c.name name) cases ≤ 1) → AreNamedApart cases
+pub named_apart : (cases : List Case) → ((name : List ℕ) → count_by (λ (c : Case). bytes_eq c.origin.name name) cases ≤ 1) → AreNamedApart cases
 named_apart [] once = tt
 named_apart (c ∷ rest) once = (
-  not_named rest c.name (behind (count_here c rest c.name true ((bytes_eq-Decides c.name c.name).1 refl)) (once c.name)),
-  named_apart rest (λ name. fewer name (count_here c rest name (bytes_eq c.name name) refl) (once name)),
+  not_named rest c.origin.name (behind (count_here c rest c.origin.name true ((bytes_eq-Decides c.origin.name c.origin.name).1 refl)) (once c.origin.name)),
+  named_apart rest (λ name. fewer name (count_here c rest name (bytes_eq c.origin.name name) refl) (once name)),
 )
   where
-    behind : count_by (λ (d : Case). bytes_eq d.name c.name) (c ∷ rest) ≡ 1 + count_by (λ (d : Case). bytes_eq d.name c.name) rest
-        → count_by (λ (d : Case). bytes_eq d.name c.name) (c ∷ rest) ≤ 1 → count_by (λ (d : Case). bytes_eq d.name c.name) rest ≡ 0
+    behind : count_by (λ (d : Case). bytes_eq d.origin.name c.origin.name) (c ∷ rest) ≡ 1 + count_by (λ (d : Case). bytes_eq d.origin.name c.origin.name) rest
+        → count_by (λ (d : Case). bytes_eq d.origin.name c.origin.name) (c ∷ rest) ≤ 1 → count_by (λ (d : Case). bytes_eq d.origin.name c.origin.name) rest ≡ 0
     behind whole most = omega arith
 
-    fewer : (name : List ℕ) → count_by (λ (d : Case). bytes_eq d.name name) (c ∷ rest) ≡ cond (bytes_eq c.name name) 1 0 + count_by (λ (d : Case). bytes_eq d.name name) rest
-        → count_by (λ (d : Case). bytes_eq d.name name) (c ∷ rest) ≤ 1 → count_by (λ (d : Case). bytes_eq d.name name) rest ≤ 1
+    fewer : (name : List ℕ) → count_by (λ (d : Case). bytes_eq d.origin.name name) (c ∷ rest) ≡ cond (bytes_eq c.origin.name name) 1 0 + count_by (λ (d : Case). bytes_eq d.origin.name name) rest
+        → count_by (λ (d : Case). bytes_eq d.origin.name name) (c ∷ rest) ≤ 1 → count_by (λ (d : Case). bytes_eq d.origin.name name) rest ≤ 1
     fewer name whole most = omega arith
 
 -- once a case more is stored
 pub named_stored : (cases : List Case) (c : Case) (name : List ℕ)
-    → count_by (λ (d : Case). bytes_eq d.name name) (cases ++ c ∷ []) ≡ count_by (λ (d : Case). bytes_eq d.name name) cases + cond (bytes_eq c.name name) 1 0
-named_stored cases c name = sum_by_push (λ (d : Case). cond (bytes_eq d.name name) 1 0) cases c
+    → count_by (λ (d : Case). bytes_eq d.origin.name name) (cases ++ c ∷ []) ≡ count_by (λ (d : Case). bytes_eq d.origin.name name) cases + cond (bytes_eq c.origin.name name) 1 0
+named_stored cases c name = sum_by_push (λ (d : Case). cond (bytes_eq d.origin.name name) 1 0) cases c
 
 -- among the cases that are left and those that are dropped
 pub named_dropped : (seqs : List ℕ) (cases : List Case) (name : List ℕ)
-    → count_by (λ (c : Case). bytes_eq c.name name) (dropped seqs cases) + count_by (λ (c : Case). bytes_eq c.name name) (gone seqs cases)
-    ≡ count_by (λ (c : Case). bytes_eq c.name name) cases
+    → count_by (λ (c : Case). bytes_eq c.origin.name name) (dropped seqs cases) + count_by (λ (c : Case). bytes_eq c.origin.name name) (gone seqs cases)
+    ≡ count_by (λ (c : Case). bytes_eq c.origin.name name) cases
 named_dropped seqs cases name =
-    omega (arith, sum_by-filter_both (λ (c : Case). is_among seqs c.seq) (λ (c : Case). not (is_among seqs c.seq)) (λ _. refl) (λ (c : Case). cond (bytes_eq c.name name) 1 0) cases)
+    omega (arith, sum_by-filter_both (λ (c : Case). is_among seqs c.seq) (λ (c : Case). not (is_among seqs c.seq)) (λ _. refl) (λ (c : Case). cond (bytes_eq c.origin.name name) 1 0) cases)
 
 -- once the cases have changed one by one
 named_changed : (change : Case → Case) → KeepsFacts change → (cases : List Case) (name : List ℕ)
-    → count_by (λ (c : Case). bytes_eq c.name name) (map change cases) ≡ count_by (λ (c : Case). bytes_eq c.name name) cases
+    → count_by (λ (c : Case). bytes_eq c.origin.name name) (map change cases) ≡ count_by (λ (c : Case). bytes_eq c.origin.name name) cases
 named_changed change keeps [] name = refl
 named_changed change keeps (c ∷ rest) name =
-    count_here (change c) (map change rest) name (bytes_eq c.name name) (ap (λ (l : List ℕ). bytes_eq l name) (keeps.name c))
-    ∙ ap (λ (n : ℕ). cond (bytes_eq c.name name) 1 0 + n) (named_changed change keeps rest name)
-    ∙ sym (count_here c rest name (bytes_eq c.name name) refl)
+    count_here (change c) (map change rest) name (bytes_eq c.origin.name name) (ap (λ (l : List ℕ). bytes_eq l name) (keeps.name c))
+    ∙ ap (λ (n : ℕ). cond (bytes_eq c.origin.name name) 1 0 + n) (named_changed change keeps rest name)
+    ∙ sym (count_here c rest name (bytes_eq c.origin.name name) refl)
 
 -- once a flag or a label has changed
 pub named_pinned : (seq : ℕ) (flag : Bool) (cases : List Case) (name : List ℕ)
-    → count_by (λ (c : Case). bytes_eq c.name name) (with_pin seq flag cases) ≡ count_by (λ (c : Case). bytes_eq c.name name) cases
+    → count_by (λ (c : Case). bytes_eq c.origin.name name) (with_pin seq flag cases) ≡ count_by (λ (c : Case). bytes_eq c.origin.name name) cases
 named_pinned seq flag cases name = named_changed (pinned_as seq flag) (flag_keeps seq flag) cases name
 
 pub named_labelled : (seq : ℕ) (text : List ℕ) (cases : List Case) (name : List ℕ)
-    → count_by (λ (c : Case). bytes_eq c.name name) (with_label seq text cases) ≡ count_by (λ (c : Case). bytes_eq c.name name) cases
+    → count_by (λ (c : Case). bytes_eq c.origin.name name) (with_label seq text cases) ≡ count_by (λ (c : Case). bytes_eq c.origin.name name) cases
 named_labelled seq text cases name = named_changed (labelled_as seq text) (label_keeps seq text) cases name
 
 -- live cases
@@ -160,13 +160,13 @@ live_runs limit cases next c live among k =
     omega (arith, live_apart limit cases next live k, case_uses_same k cases, runs_uses k c.blocks, uses_among k cases c among)
 
 -- no two cases have this name
-pub live_named : (limit : ℕ) (cases : List Case) (next : ℕ) → AreLive limit cases next → (name : List ℕ) → count_by (λ (c : Case). bytes_eq c.name name) cases ≤ 1
+pub live_named : (limit : ℕ) (cases : List Case) (next : ℕ) → AreLive limit cases next → (name : List ℕ) → count_by (λ (c : Case). bytes_eq c.origin.name name) cases ≤ 1
 live_named limit cases next live name = named_once cases name live.different
 
 -- cases are live where the counts say so
 pub live_from_counts : (limit : ℕ) (cases : List Case) (next : ℕ) → 1 ≤ next → next ≤ 2 ^ 32 → All (IsWhole next) cases → Rise 0 (map seq_of_case cases)
     → ((k : ℕ) → sum_by (λ (c : Case). count_by (λ (b : ℕ). nat_eq b k) c.blocks) cases ≤ cond (nat_lt k limit) 1 0)
-    → ((name : List ℕ) → count_by (λ (c : Case). bytes_eq c.name name) cases ≤ 1) → AreLive limit cases next
+    → ((name : List ℕ) → count_by (λ (c : Case). bytes_eq c.origin.name name) cases ≤ 1) → AreLive limit cases next
 live_from_counts limit cases next some numbers each rise apart named = record {
   some_next = some;
   numbers = numbers;

@@ -117,11 +117,8 @@ live_droppable limit cases next c live among free = (c, live_found limit cases n
 -- a case that may be stored may be so under any number
 pub storable_numbered : (limit : ℕ) (cases : List Case) (seq : ℕ) (c : Case) → IsStorable limit cases c → IsStorable limit cases (numbered seq c)
 storable_numbered limit cases seq c storable = record {
-  name = storable.name;
+  origin = storable.origin;
   new_name = storable.new_name;
-  pid = storable.pid;
-  signal = storable.signal;
-  time = storable.time;
   bytes = storable.bytes;
   enough = storable.enough;
   spare = storable.spare;

@@ -42,32 +42,32 @@ pub name_sym : (x y : List ℕ) → bytes_eq x y ≡ false → bytes_eq y x ≡ 
 name_sym x y e = false_from_ne_true (bytes_eq y x) (λ t. both_ways (bytes_eq x y) e ((bytes_eq-Decides x y).1 (sym ((bytes_eq-Decides y x).0 t))))
 
 -- what is no case's name is none of these and one more case of another name
-pub name_push : (cases : List Case) (c : Case) (name : List ℕ) → is_name_of cases name ≡ false → bytes_eq c.name name ≡ false → is_name_of (cases ++ c ∷ []) name ≡ false
-name_push [] c name none other = or_from (bytes_eq c.name name) false other refl
+pub name_push : (cases : List Case) (c : Case) (name : List ℕ) → is_name_of cases name ≡ false → bytes_eq c.origin.name name ≡ false → is_name_of (cases ++ c ∷ []) name ≡ false
+name_push [] c name none other = or_from (bytes_eq c.origin.name name) false other refl
 name_push (d ∷ rest) c name none other =
-    let h = or_parts (bytes_eq d.name name) (is_name_of rest name) none in
-    or_from (bytes_eq d.name name) (is_name_of (rest ++ c ∷ []) name) h.0 (name_push rest c name h.1 other)
+    let h = or_parts (bytes_eq d.origin.name name) (is_name_of rest name) none in
+    or_from (bytes_eq d.origin.name name) (is_name_of (rest ++ c ∷ []) name) h.0 (name_push rest c name h.1 other)
 
 -- what is no case's name is no name of some of them
 pub name_kept : (test : Case → Bool) (cases : List Case) (name : List ℕ) → is_name_of cases name ≡ false → is_name_of (filter test cases) name ≡ false
 name_kept test [] name none = refl
 name_kept test (d ∷ rest) name none =
-    let h = or_parts (bytes_eq d.name name) (is_name_of rest name) none in
+    let h = or_parts (bytes_eq d.origin.name name) (is_name_of rest name) none in
     let low : is_name_of (filter test rest) name ≡ false = name_kept test rest name h.1 in
     cond_both (test d) (d ∷ filter test rest) (filter test rest) (λ (l : List Case). is_name_of l name ≡ false)
-    (λ _. or_from (bytes_eq d.name name) (is_name_of (filter test rest) name) h.0 low) (λ _. low)
+    (λ _. or_from (bytes_eq d.origin.name name) (is_name_of (filter test rest) name) h.0 low) (λ _. low)
 
-apart_push : (cases : List Case) (c : Case) → AreNamedApart cases → is_name_of cases c.name ≡ false → AreNamedApart (cases ++ c ∷ [])
+apart_push : (cases : List Case) (c : Case) → AreNamedApart cases → is_name_of cases c.origin.name ≡ false → AreNamedApart (cases ++ c ∷ [])
 apart_push [] c apart new = (refl, tt)
 apart_push (d ∷ rest) c apart new =
-    let h = or_parts (bytes_eq d.name c.name) (is_name_of rest c.name) new in
-    (name_push rest c d.name apart.0 (name_sym d.name c.name h.0), apart_push rest c apart.1 h.1)
+    let h = or_parts (bytes_eq d.origin.name c.origin.name) (is_name_of rest c.origin.name) new in
+    (name_push rest c d.origin.name apart.0 (name_sym d.origin.name c.origin.name h.0), apart_push rest c apart.1 h.1)
 
 apart_kept : (test : Case → Bool) (cases : List Case) → AreNamedApart cases → AreNamedApart (filter test cases)
 apart_kept test [] apart = tt
 apart_kept test (d ∷ rest) apart =
     let low = apart_kept test rest apart.1 in
-    cond_both (test d) (d ∷ filter test rest) (filter test rest) AreNamedApart (λ _. (name_kept test rest d.name apart.0, low)) (λ _. low)
+    cond_both (test d) (d ∷ filter test rest) (filter test rest) AreNamedApart (λ _. (name_kept test rest d.origin.name apart.0, low)) (λ _. low)
 
 -- blocks
 
@@ -102,7 +102,7 @@ uses_dropped k seqs cases = uses_parted k (λ (c : Case). is_among seqs c.seq) c
 -- it leaves each case's number, name and blocks
 pub record KeepsFacts (change : Case → Case) : Type 0 where
   pub seq : (c : Case) → (change c).seq ≡ c.seq
-  pub name : (c : Case) → (change c).name ≡ c.name
+  pub name : (c : Case) → (change c).origin.name ≡ c.origin.name
   pub blocks : (c : Case) → (change c).blocks ≡ c.blocks
 
 module _ (change : Case → Case) (keeps : KeepsFacts change) where
@@ -121,12 +121,12 @@ module _ (change : Case → Case) (keeps : KeepsFacts change) where
   names_changed [] name = refl
   names_changed (c ∷ rest) name =
       ap (λ (l : List ℕ). bytes_eq l name || is_name_of (map change rest) name) (keeps.name c)
-      ∙ ap (λ (t : Bool). bytes_eq c.name name || t) (names_changed rest name)
+      ∙ ap (λ (t : Bool). bytes_eq c.origin.name name || t) (names_changed rest name)
 
   apart_changed : (cases : List Case) → AreNamedApart cases → AreNamedApart (map change cases)
   apart_changed [] apart = tt
   apart_changed (c ∷ rest) apart = (
-    ap (is_name_of (map change rest)) (keeps.name c) ∙ names_changed rest c.name ∙ apart.0,
+    ap (is_name_of (map change rest)) (keeps.name c) ∙ names_changed rest c.origin.name ∙ apart.0,
     apart_changed rest apart.1,
   )
 
@@ -134,14 +134,14 @@ module _ (change : Case → Case) (keeps : KeepsFacts change) where
 pub flag_keeps : (seq : ℕ) (flag : Bool) → KeepsFacts (pinned_as seq flag)
 flag_keeps seq flag = record {
   seq = λ c. elim (c.seq == seq) as (λ t. (cond t (record c { pinned = flag }) c).seq ≡ c.seq) [ true ↦ refl | false ↦ refl ];
-  name = λ c. elim (c.seq == seq) as (λ t. (cond t (record c { pinned = flag }) c).name ≡ c.name) [ true ↦ refl | false ↦ refl ];
+  name = λ c. elim (c.seq == seq) as (λ t. (cond t (record c { pinned = flag }) c).origin.name ≡ c.origin.name) [ true ↦ refl | false ↦ refl ];
   blocks = λ c. elim (c.seq == seq) as (λ t. (cond t (record c { pinned = flag }) c).blocks ≡ c.blocks) [ true ↦ refl | false ↦ refl ];
 }
 
 pub label_keeps : (seq : ℕ) (text : List ℕ) → KeepsFacts (labelled_as seq text)
 label_keeps seq text = record {
   seq = λ c. elim (c.seq == seq) as (λ t. (cond t (record c { label = text }) c).seq ≡ c.seq) [ true ↦ refl | false ↦ refl ];
-  name = λ c. elim (c.seq == seq) as (λ t. (cond t (record c { label = text }) c).name ≡ c.name) [ true ↦ refl | false ↦ refl ];
+  name = λ c. elim (c.seq == seq) as (λ t. (cond t (record c { label = text }) c).origin.name ≡ c.origin.name) [ true ↦ refl | false ↦ refl ];
   blocks = λ c. elim (c.seq == seq) as (λ t. (cond t (record c { label = text }) c).blocks ≡ c.blocks) [ true ↦ refl | false ↦ refl ];
 }
 
@@ -150,10 +150,7 @@ whole_pinned seq flag next c whole =
     cond_both (c.seq == seq) (record c { pinned = flag }) c (IsWhole next)
     (λ _. record {
       below = whole.below;
-      name = whole.name;
-      pid = whole.pid;
-      signal = whole.signal;
-      time = whole.time;
+      origin = whole.origin;
       bytes = whole.bytes;
       enough = whole.enough;
       label = whole.label;
@@ -165,10 +162,7 @@ whole_labelled seq text next c label whole =
     cond_both (c.seq == seq) (record c { label = text }) c (IsWhole next)
     (λ _. record {
       below = whole.below;
-      name = whole.name;
-      pid = whole.pid;
-      signal = whole.signal;
-      time = whole.time;
+      origin = whole.origin;
       bytes = whole.bytes;
       enough = whole.enough;
       label = label;
@@ -193,10 +187,7 @@ names_labelled seq text cases name = names_changed (labelled_as seq text) (label
 whole_later : (next later : ℕ) (c : Case) → next ≤ later → IsWhole next c → IsWhole later c
 whole_later next later c high whole = record {
   below = (let below = whole.below in omega arith);
-  name = whole.name;
-  pid = whole.pid;
-  signal = whole.signal;
-  time = whole.time;
+  origin = whole.origin;
   bytes = whole.bytes;
   enough = whole.enough;
   label = whole.label;
@@ -229,10 +220,7 @@ live_stored limit cases next c live from high storable =
       each =
           All-push (IsWhole (c.seq + 1)) cases c (All-weaker (IsWhole next) (IsWhole (c.seq + 1)) (λ d. whole_later next (c.seq + 1) d (omega arith)) cases live.each) (record {
             below = omega arith;
-            name = storable.name;
-            pid = storable.pid;
-            signal = storable.signal;
-            time = storable.time;
+            origin = storable.origin;
             bytes = storable.bytes;
             enough = storable.enough;
             label = subst IsLabel (sym storable.no_label) empty_label;

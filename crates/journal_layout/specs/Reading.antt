@@ -6,7 +6,7 @@ use Rattle.extents.specs.Runs.{blocks_of}
 use Rattle.journal_layout.specs.declared.entry.Kind.{Kind}
 use Rattle.journal_layout.specs.declared.entry.Kind.TheVariants.{Core, Exec}
 use Rattle.journal_layout.specs.Layout.{field}
-use Rattle.journal_layout.specs.Case.{Case}
+use Rattle.journal_layout.specs.Case.{Case, Origin}
 use Rattle.journal_layout.specs.Record.{Record, Store, Drop, Pin, Next, Label}
 
 -- every record
@@ -51,15 +51,20 @@ name_at rest = part rest (name_place rest) (name_length_at rest)
 abbrev pub kind_of_byte : ℕ → Kind
 kind_of_byte b = if b == 1 then Core else Exec
 
--- a case as it is stored, without a label
-abbrev pub case_at : List ℕ → Case
-case_at rest = record {
-  seq = field rest 8 4;
+abbrev pub origin_at : List ℕ → Origin
+origin_at rest = record {
   kind = kind_of_byte (slice_index rest 12);
   name = name_at rest;
   pid = field rest 16 4;
   signal = field rest 20 4;
   time = field rest 24 8;
+}
+
+-- a case as it is stored, without a label
+abbrev pub case_at : List ℕ → Case
+case_at rest = record {
+  seq = field rest 8 4;
+  origin = origin_at rest;
   pinned = slice_index rest 13 == 1;
   len = field rest 32 8;
   blocks = blocks_of (store_runs rest);

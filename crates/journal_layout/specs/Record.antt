@@ -42,13 +42,13 @@ seq_bytes seq = number_bytes 4 seq
 -- the body of a Store record up to its runs: places 8 to 48 of the record. The case's label is no part of it.
 unfoldable pub store_facts : Case → List ℕ
 store_facts c =
-    number_bytes 4 c.seq ++ (kind_byte c.kind ∷ flag_byte c.pinned ∷ []) ++ number_bytes 2 (length c.name)
-    ++ number_bytes 4 c.pid ++ number_bytes 4 c.signal ++ number_bytes 8 c.time ++ number_bytes 8 c.len
+    number_bytes 4 c.seq ++ (kind_byte c.origin.kind ∷ flag_byte c.pinned ∷ []) ++ number_bytes 2 (length c.origin.name)
+    ++ number_bytes 4 c.origin.pid ++ number_bytes 4 c.origin.signal ++ number_bytes 8 c.origin.time ++ number_bytes 8 c.len
     ++ number_bytes 4 (length (runs_of c.blocks)) ++ replicate 4 0
 
 -- the bytes of a record without its padding
 abbrev pub plain_size : Record → ℕ
-plain_size (Store c) = 48 + 8 * length (runs_of c.blocks) + length c.name
+plain_size (Store c) = 48 + 8 * length (runs_of c.blocks) + length c.origin.name
 plain_size (Drop seqs) = 12 + 4 * length seqs
 plain_size (Pin seq flag) = 13
 plain_size (Next n) = 16
@@ -68,7 +68,7 @@ record_kind (Label seq text) = 5
 
 -- a record's bytes from place 8 on
 unfoldable pub body : Record → List ℕ
-body (Store c) = store_facts c ++ flat_map run_bytes (runs_of c.blocks) ++ c.name
+body (Store c) = store_facts c ++ flat_map run_bytes (runs_of c.blocks) ++ c.origin.name
 body (Drop seqs) = number_bytes 4 (length seqs) ++ flat_map seq_bytes seqs
 body (Pin seq flag) = number_bytes 4 seq ++ flag_byte flag ∷ []
 body (Next n) = number_bytes 8 n

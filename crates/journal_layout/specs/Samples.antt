@@ -16,11 +16,7 @@ use Rattle.journal_layout.specs.Rewriting.{snapshot, snapshot_size}
 abbrev sample : Case
 sample = record {
   seq = 1;
-  kind = Exec;
-  name = 0x2f ∷ 0x62 ∷ 0x69 ∷ 0x6e ∷ 0x2f ∷ 0x63 ∷ 0x61 ∷ 0x74 ∷ [];
-  pid = 0;
-  signal = 0;
-  time = 0;
+  origin = record { kind = Exec; name = 0x2f ∷ 0x62 ∷ 0x69 ∷ 0x6e ∷ 0x2f ∷ 0x63 ∷ 0x61 ∷ 0x74 ∷ []; pid = 0; signal = 0; time = 0 };
   pinned = false;
   len = 5;
   blocks = 0 ∷ [];

@@ -66,7 +66,7 @@ record MayFollow (limit version next last : ℕ) (done rest : List Case) : Type 
   once : (k : ℕ) → uses k (used_blocks done) + uses k (used_blocks rest) ≤ 1
   within : (k : ℕ) → 0 < uses k (used_blocks rest) → k < limit
   different : AreNamedApart rest
-  new : AllByRecursion (λ (c : Case). is_name_of done c.name ≡ false) rest
+  new : AllByRecursion (λ (c : Case). is_name_of done c.origin.name ≡ false) rest
 
 -- what these cases and this next number say in this version
 abbrev told : ℕ → List Case → ℕ → Folded
@@ -94,11 +94,8 @@ module _ (limit version next last : ℕ) (c : Case) (done rest : List Case) (may
         omega (arith, may.rise.0),
         omega arith,
         record {
-          name = whole.name;
+          origin = whole.origin;
           new_name = may.new.0;
-          pid = whole.pid;
-          signal = whole.signal;
-          time = whole.time;
           bytes = whole.bytes;
           enough = whole.enough;
           spare = λ k some. (
@@ -152,12 +149,12 @@ module _ (limit version next last : ℕ) (c : Case) (done rest : List Case) (may
         ap (λ (l : List Case). replayed more (told version l (c.seq + 1))) same,
       )
 
-  new_behind : (l : List Case) → is_name_of l c.name ≡ false → AllByRecursion (λ (d : Case). is_name_of done d.name ≡ false) l
-      → AllByRecursion (λ (d : Case). is_name_of (done ++ c ∷ []) d.name ≡ false) l
+  new_behind : (l : List Case) → is_name_of l c.origin.name ≡ false → AllByRecursion (λ (d : Case). is_name_of done d.origin.name ≡ false) l
+      → AllByRecursion (λ (d : Case). is_name_of (done ++ c ∷ []) d.origin.name ≡ false) l
   new_behind [] none each = tt
   new_behind (d ∷ l) none each =
-      let h = or_parts (bytes_eq d.name c.name) (is_name_of l c.name) none in
-      (name_push done c d.name each.0 (name_sym d.name c.name h.0), new_behind l h.1 each.1)
+      let h = or_parts (bytes_eq d.origin.name c.origin.name) (is_name_of l c.origin.name) none in
+      (name_push done c d.origin.name each.0 (name_sym d.origin.name c.origin.name h.0), new_behind l h.1 each.1)
 
   before_rest : (l : List Case) → AllByRecursion (λ (d : Case). d.seq ≤ last) l → AllByRecursion (λ (d : Case). d.seq ≤ c.seq) (l ++ c ∷ [])
   before_rest [] each = (omega arith, tt)
@@ -212,7 +209,7 @@ a_snapshot_says_all limit f live labels =
       new = none f.cases;
     })
   where
-    none : (l : List Case) → AllByRecursion (λ (c : Case). is_name_of [] c.name ≡ false) l
+    none : (l : List Case) → AllByRecursion (λ (c : Case). is_name_of [] c.origin.name ≡ false) l
     none [] = tt
     none (c ∷ l) = (refl, none l)
 

@@ -2,7 +2,7 @@
 use Rattle.std.specs.Prelude.{◌≡◌, ◌≢◌, ℕ, ◌+◌, ◌/◌, ◌^◌, ◌<◌, ◌≤◌, false, List, [], ◌∷◌, length, if◌then◌else◌, ◌==◌, Option, Some, None}
 use Rattle.std.specs.List.{AllByRecursion}
 use Rattle.disk_model.specs.Places.{AreBytes}
-use Rattle.journal_layout.specs.Case.{Case}
+use Rattle.journal_layout.specs.Case.{Case, Origin}
 use Rattle.journal_layout.specs.Record.{Record, Store, Drop, Pin, Next, Label}
 use Rattle.journal_layout.specs.Folding.{Folded, used_blocks, is_name_of}
 
@@ -26,6 +26,13 @@ pub record IsName (name : List ℕ) : Type 0 where
   pub bytes : AreBytes name
   pub no_nul : AllByRecursion (λ (b : ℕ). b ≢ 0) name
 
+-- what an image is of, as a record says it
+pub record IsWritable (o : Origin) : Type 0 where
+  pub name : IsName o.name
+  pub pid : o.pid < 2 ^ 32
+  pub signal : o.signal < 2 ^ 32
+  pub time : o.time < 2 ^ 64
+
 -- 0 to 64 bytes
 pub record IsLabel (text : List ℕ) : Type 0 where
   pub short : length text ≤ 64
@@ -38,11 +45,8 @@ last_kind version = if version == 2 then 5 else 4
 -- A case may be stored where these cases are live, on an archive of `limit` data blocks. Its number isn't looked at. It has no
 -- label yet: that is said by a record of its own.
 pub record IsStorable (limit : ℕ) (cases : List Case) (c : Case) : Type 0 where
-  pub name : IsName c.name
-  pub new_name : is_name_of cases c.name ≡ false
-  pub pid : c.pid < 2 ^ 32
-  pub signal : c.signal < 2 ^ 32
-  pub time : c.time < 2 ^ 64
+  pub origin : IsWritable c.origin
+  pub new_name : is_name_of cases c.origin.name ≡ false
   pub bytes : c.len < 2 ^ 64
   -- as many blocks as its bytes need
   pub enough : length c.blocks ≡ blocks_for c.len

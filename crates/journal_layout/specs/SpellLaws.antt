@@ -45,7 +45,7 @@ length-facts c = refl
 pub length-body : (r : Record) → 8 + length (body r) ≡ plain_size r
 unfolding body
 length-body (Store c) =
-    let a = length-append (store_facts c ++ flat_map run_bytes (runs_of c.blocks)) c.name in
+    let a = length-append (store_facts c ++ flat_map run_bytes (runs_of c.blocks)) c.origin.name in
     let b = length-append (store_facts c) (flat_map run_bytes (runs_of c.blocks)) in
     omega (arith, length-facts c, length-runs (runs_of c.blocks))
 length-body (Drop seqs) =

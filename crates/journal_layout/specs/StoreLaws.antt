@@ -13,7 +13,7 @@ use Rattle.journal_layout.specs.declared.entry.Kind.{Kind}
 use Rattle.journal_layout.specs.declared.entry.Kind.TheVariants.{Core, Exec}
 use Rattle.journal_layout.specs.declared.faults.Field.TheVariants as named
 use Rattle.journal_layout.specs.Layout.{number_bytes, field}
-use Rattle.journal_layout.specs.Case.{Case}
+use Rattle.journal_layout.specs.Case.{Case, Origin}
 use Rattle.journal_layout.specs.Record.{Store, rounded, kind_byte, flag_byte, run_bytes, store_facts, plain_size, record_size, body, plain, behind_gate, spelling}
 use Rattle.journal_layout.specs.Reading.{kind_at, length_at, name_length_at, run_count_at, runs_at, store_runs, name_place, name_at, kind_of_byte, case_at, record_at}
 use Rattle.journal_layout.specs.Folding.{Folded, is_among, is_name_of, used_blocks}
@@ -134,7 +134,7 @@ module _ (c : Case) (tail : List ℕ) where
   unfolding behind_gate plain body store_facts number_bytes
   tells_seq small = number_read 4 c.seq [] small
 
-  tells_case_kind : slice_index (spelling (Store c) ++ tail) 12 ≡ kind_byte c.kind
+  tells_case_kind : slice_index (spelling (Store c) ++ tail) 12 ≡ kind_byte c.origin.kind
   unfolding behind_gate plain body store_facts number_bytes
   tells_case_kind = refl
 
@@ -142,21 +142,21 @@ module _ (c : Case) (tail : List ℕ) where
   unfolding behind_gate plain body store_facts number_bytes
   tells_pinned = refl
 
-  tells_name_length : length c.name < 65536 → name_length_at (spelling (Store c) ++ tail) ≡ length c.name
+  tells_name_length : length c.origin.name < 65536 → name_length_at (spelling (Store c) ++ tail) ≡ length c.origin.name
   unfolding behind_gate plain body store_facts number_bytes
-  tells_name_length small = number_read 2 (length c.name) [] small
+  tells_name_length small = number_read 2 (length c.origin.name) [] small
 
-  tells_pid : c.pid < 2 ^ 32 → field (spelling (Store c) ++ tail) 16 4 ≡ c.pid
+  tells_pid : c.origin.pid < 2 ^ 32 → field (spelling (Store c) ++ tail) 16 4 ≡ c.origin.pid
   unfolding behind_gate plain body store_facts number_bytes
-  tells_pid small = number_read 4 c.pid [] small
+  tells_pid small = number_read 4 c.origin.pid [] small
 
-  tells_signal : c.signal < 2 ^ 32 → field (spelling (Store c) ++ tail) 20 4 ≡ c.signal
+  tells_signal : c.origin.signal < 2 ^ 32 → field (spelling (Store c) ++ tail) 20 4 ≡ c.origin.signal
   unfolding behind_gate plain body store_facts number_bytes
-  tells_signal small = number_read 4 c.signal [] small
+  tells_signal small = number_read 4 c.origin.signal [] small
 
-  tells_time : c.time < 2 ^ 64 → field (spelling (Store c) ++ tail) 24 8 ≡ c.time
+  tells_time : c.origin.time < 2 ^ 64 → field (spelling (Store c) ++ tail) 24 8 ≡ c.origin.time
   unfolding behind_gate plain body store_facts number_bytes
-  tells_time small = number_read 8 c.time [] small
+  tells_time small = number_read 8 c.origin.time [] small
 
   tells_len : c.len < 2 ^ 64 → field (spelling (Store c) ++ tail) 32 8 ≡ c.len
   unfolding behind_gate plain body store_facts number_bytes
@@ -170,40 +170,44 @@ module _ (c : Case) (tail : List ℕ) where
   unfolding behind_gate plain body store_facts number_bytes
   tells_zero = refl
 
-  runs_stand : drop 48 (spelling (Store c) ++ tail) ≡ ((flat_map run_bytes (runs_of c.blocks) ++ c.name) ++ zeros) ++ tail
+  runs_stand : drop 48 (spelling (Store c) ++ tail) ≡ ((flat_map run_bytes (runs_of c.blocks) ++ c.origin.name) ++ zeros) ++ tail
   unfolding behind_gate plain body store_facts number_bytes
   runs_stand = refl
 
-  runs_front : drop 48 (spelling (Store c) ++ tail) ≡ flat_map run_bytes (runs_of c.blocks) ++ (c.name ++ (zeros ++ tail))
+  runs_front : drop 48 (spelling (Store c) ++ tail) ≡ flat_map run_bytes (runs_of c.blocks) ++ (c.origin.name ++ (zeros ++ tail))
   runs_front =
       runs_stand
-      ∙ append_assoc (flat_map run_bytes (runs_of c.blocks) ++ c.name) zeros tail
-      ∙ append_assoc (flat_map run_bytes (runs_of c.blocks)) c.name (zeros ++ tail)
+      ∙ append_assoc (flat_map run_bytes (runs_of c.blocks) ++ c.origin.name) zeros tail
+      ∙ append_assoc (flat_map run_bytes (runs_of c.blocks)) c.origin.name (zeros ++ tail)
 
   tells_runs : length (runs_of c.blocks) < 2 ^ 32 → AllByRecursion IsSmallRun (runs_of c.blocks) → store_runs (spelling (Store c) ++ tail) ≡ runs_of c.blocks
   tells_runs few small =
       ap (runs_at (drop 48 (spelling (Store c) ++ tail))) (tells_run_count few)
       ∙ ap (λ (l : List ℕ). runs_at l (length (runs_of c.blocks))) runs_front
-      ∙ runs_read (runs_of c.blocks) (c.name ++ (zeros ++ tail)) small
+      ∙ runs_read (runs_of c.blocks) (c.origin.name ++ (zeros ++ tail)) small
 
-  tells_name : length (runs_of c.blocks) < 2 ^ 32 → length c.name < 65536 → name_at (spelling (Store c) ++ tail) ≡ c.name
+  tells_name : length (runs_of c.blocks) < 2 ^ 32 → length c.origin.name < 65536 → name_at (spelling (Store c) ++ tail) ≡ c.origin.name
   unfolding part
   tells_name few short =
       let b = spelling (Store c) ++ tail in
       let n = length (runs_of c.blocks) in
       ap (λ (m : ℕ). take (name_length_at b) (drop (48 + 8 * m) b)) (tells_run_count few)
       ∙ ap (λ (m : ℕ). take m (drop (48 + 8 * n) b)) (tells_name_length short)
-      ∙ ap (take (length c.name))
+      ∙ ap (take (length c.origin.name))
       (sym (drop-drop (8 * n) 48 b)
       ∙ ap (drop (8 * n)) runs_front
-      ∙ drop_at (flat_map run_bytes (runs_of c.blocks)) (c.name ++ (zeros ++ tail)) (8 * n) (length-runs (runs_of c.blocks)))
-      ∙ take_at c.name (zeros ++ tail) (length c.name) refl
+      ∙ drop_at (flat_map run_bytes (runs_of c.blocks)) (c.origin.name ++ (zeros ++ tail)) (8 * n) (length-runs (runs_of c.blocks)))
+      ∙ take_at c.origin.name (zeros ++ tail) (length c.origin.name) refl
 
-same_case : (seq pid signal time len seq2 pid2 signal2 time2 len2 : ℕ) (kind kind2 : Kind) (name name2 blocks blocks2 label label2 : List ℕ) (pinned pinned2 : Bool)
-    → seq ≡ seq2 → kind ≡ kind2 → name ≡ name2 → pid ≡ pid2 → signal ≡ signal2 → time ≡ time2 → pinned ≡ pinned2 → len ≡ len2 → blocks ≡ blocks2 → label ≡ label2
-    → ◌≡◌ {A = Case} (record { seq = seq; kind = kind; name = name; pid = pid; signal = signal; time = time; pinned = pinned; len = len; blocks = blocks; label = label })
-    (record { seq = seq2; kind = kind2; name = name2; pid = pid2; signal = signal2; time = time2; pinned = pinned2; len = len2; blocks = blocks2; label = label2 })
-same_case seq pid signal time len seq2 pid2 signal2 time2 len2 kind kind2 name name2 blocks blocks2 label label2 pinned pinned2 a b c d e f g h i j = cc
+same_origin : (pid signal time pid2 signal2 time2 : ℕ) (kind kind2 : Kind) (name name2 : List ℕ) → kind ≡ kind2 → name ≡ name2 → pid ≡ pid2 → signal ≡ signal2 → time ≡ time2
+    → ◌≡◌ {A = Origin} (record { kind = kind; name = name; pid = pid; signal = signal; time = time }) (record { kind = kind2; name = name2; pid = pid2; signal = signal2; time = time2 })
+same_origin pid signal time pid2 signal2 time2 kind kind2 name name2 a b c d e = cc
+
+same_case : (seq len seq2 len2 : ℕ) (origin origin2 : Origin) (blocks blocks2 label label2 : List ℕ) (pinned pinned2 : Bool)
+    → seq ≡ seq2 → origin ≡ origin2 → pinned ≡ pinned2 → len ≡ len2 → blocks ≡ blocks2 → label ≡ label2
+    → ◌≡◌ {A = Case} (record { seq = seq; origin = origin; pinned = pinned; len = len; blocks = blocks; label = label })
+    (record { seq = seq2; origin = origin2; pinned = pinned2; len = len2; blocks = blocks2; label = label2 })
+same_case seq len seq2 len2 origin origin2 blocks blocks2 label label2 pinned pinned2 a b c d e f = cc
 
 -- what is written is read again
 pub store_again : (limit at : ℕ) (c : Case) (tail : List ℕ) (f : Folded) → limit ≤ 16777216 → record_size (Store c) < 2 ^ 32 → record_size (Store c) + 1 ≤ length (spelling (Store c) ++ tail) → IsSound limit f (Store c)
@@ -214,8 +218,8 @@ store_again limit at c tail f low small in_half sound =
     let fine = sound.2 in
     let up = rounded_up (plain_size (Store c)) in
     let few : length rs < 2 ^ 32 = omega arith in
-    let short : length c.name ≤ 128 = fine.name.short in
-    let some : 1 ≤ length c.name = fine.name.some in
+    let short : length c.origin.name ≤ 128 = fine.origin.name.short in
+    let some : 1 ≤ length c.origin.name = fine.origin.name.some in
     let spare : AreSpare limit (used_blocks f.cases) (blocks_of rs) = rw (blocks_back c.blocks) fine.spare in
     let chain = chain_of c.blocks in
     let count = tells_run_count c tail few in
@@ -226,10 +230,11 @@ store_again limit at c tail f low small in_half sound =
     let pinned = tells_pinned c tail in
     let kind = tells_case_kind c tail in
     let seq = tells_seq c tail sound.1 in
+    let origin = same_origin _ _ _ _ _ _ _ _ _ _ (ap kind_of_byte kind ∙ kind_back c.origin.kind) name (tells_pid c tail fine.origin.pid) (tells_signal c tail fine.origin.signal) (tells_time c tail fine.origin.time) in
     let size : 48 + 8 * run_count_at b + name_length_at b ≡ plain_size (Store c) = ap (λ (n : ℕ). 48 + 8 * n + name_length_at b) count ∙ ap (λ (n : ℕ). 48 + 8 * length rs + n) name_length in
     let facts : HasFacts b f = record {
       next = rw seq sound.0;
-      kind = rw kind (kind_known c.kind);
+      kind = rw kind (kind_known c.origin.kind);
       pinned = rw pinned (flag_short c.pinned);
       some_name = rw name_length some;
       short_name = rw name_length short;
@@ -238,7 +243,7 @@ store_again limit at c tail f low small in_half sound =
     } in
     let behind : HasName b f = record {
       enough = ap block_count runs ∙ sym (blocks_counted rs) ∙ ap length (blocks_back c.blocks) ∙ fine.enough ∙ ap blocks_for (sym len);
-      no_nul = ap (λ (l : List ℕ). is_among l 0) name ∙ nul_passes c.name fine.name.no_nul;
+      no_nul = ap (λ (l : List ℕ). is_among l 0) name ∙ nul_passes c.origin.name fine.origin.name.no_nul;
       new_name = ap (is_name_of f.cases) name ∙ fine.new_name;
     } in
     let good : first_bad_run limit (used_blocks f.cases) None 48 (store_runs b) ≡ None = ap (first_bad_run limit (used_blocks f.cases) None 48) runs ∙ runs_pass limit (used_blocks f.cases) None 48 rs chain spare in
@@ -250,8 +255,7 @@ store_again limit at c tail f low small in_half sound =
           (none_or (first_failing at (name_checks b f)) (padding_fault at b (name_place b + name_length_at b)) (name_passes at b f behind) padded))),
       record_of b (Store c) (tells_kind (Store c) tail)
           ∙ ap (λ (x : Case). Store x)
-          (same_case _ _ _ _ _ _ _ _ _ _ _ _ _ _ _ _ _ _ _ _ seq (ap kind_of_byte kind ∙ kind_back c.kind) name (tells_pid c tail fine.pid) (tells_signal c tail fine.signal) (tells_time c tail fine.time)
-          (ap (λ (n : ℕ). n == 1) pinned ∙ flag_back c.pinned) len (ap blocks_of runs ∙ blocks_back c.blocks) (sym fine.no_label)),
+          (same_case _ _ _ _ _ _ _ _ _ _ _ _ seq origin (ap (λ (n : ℕ). n == 1) pinned ∙ flag_back c.pinned) len (ap blocks_of runs ∙ blocks_back c.blocks) (sym fine.no_label)),
     )
 
 -- What bytes tell that pass the checks of a Store.
@@ -364,16 +368,18 @@ store_found limit at rest f are open_gate head kind e =
           facts.next,
           field_small rest 8 4 are,
           record {
-            name = record {
-              some = rw name_length facts.some_name;
-              short = rw name_length facts.short_name;
-              bytes = part_bytes rest (name_place rest) (name_length_at rest) are;
-              no_nul = nul_passed (name_at rest) name.no_nul;
+            origin = record {
+              name = record {
+                some = rw name_length facts.some_name;
+                short = rw name_length facts.short_name;
+                bytes = part_bytes rest (name_place rest) (name_length_at rest) are;
+                no_nul = nul_passed (name_at rest) name.no_nul;
+              };
+              pid = field_small rest 16 4 are;
+              signal = field_small rest 20 4 are;
+              time = field_small rest 24 8 are;
             };
             new_name = name.new_name;
-            pid = field_small rest 16 4 are;
-            signal = field_small rest 20 4 are;
-            time = field_small rest 24 8 are;
             bytes = field_small rest 32 8 are;
             enough = blocks_counted rs ∙ name.enough;
             spare = good.1;

@@ -70,7 +70,7 @@ used_removed k test v es is =
 
 pub bearers_removed : (name : List ℕ) (test : ℕ → Bool) (v : Entry) (es : List (ℕ × Entry)) → Some v ≡ lookup test es
     → bearers (cases_of (remove_entry test es)) name + one_if (bytes_eq v.name.items name) ≡ bearers (cases_of es) name
-bearers_removed name test v es is = sum_removed (λ (c : Case). one_if (bytes_eq c.name name)) test v es is
+bearers_removed name test v es is = sum_removed (λ (c : Case). one_if (bytes_eq c.origin.name name)) test v es is
 
 -- Names.
 
@@ -152,9 +152,9 @@ accounts_less used less bs old accounts sum k =
 pub used_push : (cs : List Case) (c : Case) → used_blocks (cs ++ c ∷ []) ≡ used_blocks cs ++ c.blocks
 used_push cs c = flat_map-append (λ (d : Case). d.blocks) cs (c ∷ []) ∙ ap (λ (l : List ℕ). used_blocks cs ++ l) (append-nil c.blocks)
 
-pub bearers_push : (name : List ℕ) (cs : List Case) (c : Case) → bearers (cs ++ c ∷ []) name ≡ bearers cs name + one_if (bytes_eq c.name name)
+pub bearers_push : (name : List ℕ) (cs : List Case) (c : Case) → bearers (cs ++ c ∷ []) name ≡ bearers cs name + one_if (bytes_eq c.origin.name name)
 bearers_push name cs c =
-    let f : Case → ℕ = λ d. one_if (bytes_eq d.name name) in
+    let f : Case → ℕ = λ d. one_if (bytes_eq d.origin.name name) in
     let joined = sum_by-append f cs (c ∷ []) in
     let one = sum_by-cons f c [] in
     omega (arith, joined, one)
@@ -166,16 +166,16 @@ cases_push high k v es more are above is = ap cases_of (is ∙ insert_last 0 hig
 -- whether some case has a name, from how many have it
 pub any_bearer : (name : List ℕ) (t : Bool) (cs : List Case) → bearers cs name ≡ one_if t → is_name_of cs name ≡ t
 any_bearer name t [] count = (let e : one_if t ≤ 0 = omega arith in sym (one_false t e))
-any_bearer name t (c ∷ cs) count = of (bytes_eq c.name name) refl (any_bearer name t cs)
+any_bearer name t (c ∷ cs) count = of (bytes_eq c.origin.name name) refl (any_bearer name t cs)
   where
-    of : (b : Bool) → bytes_eq c.name name ≡ b → (bearers cs name ≡ one_if t → is_name_of cs name ≡ t) → (bytes_eq c.name name || is_name_of cs name) ≡ t
+    of : (b : Bool) → bytes_eq c.origin.name name ≡ b → (bearers cs name ≡ one_if t → is_name_of cs name ≡ t) → (bytes_eq c.origin.name name || is_name_of cs name) ≡ t
     of true e rest =
-        let sum = sum_by-cons (λ (d : Case). one_if (bytes_eq d.name name)) c cs in
-        let one : one_if (bytes_eq c.name name) ≡ 1 = ap one_if e in
+        let sum = sum_by-cons (λ (d : Case). one_if (bytes_eq d.origin.name name)) c cs in
+        let one : one_if (bytes_eq c.origin.name name) ≡ 1 = ap one_if e in
         let some : 1 ≤ one_if t = omega (arith, sum, one, count) in
         ap (λ b. b || is_name_of cs name) e ∙ sym (one_true t some)
     of false e rest =
-        let sum = sum_by-cons (λ (d : Case). one_if (bytes_eq d.name name)) c cs in
-        let none : one_if (bytes_eq c.name name) ≡ 0 = ap one_if e in
+        let sum = sum_by-cons (λ (d : Case). one_if (bytes_eq d.origin.name name)) c cs in
+        let none : one_if (bytes_eq c.origin.name name) ≡ 0 = ap one_if e in
         let same : bearers cs name ≡ one_if t = omega (arith, sum, none, count) in
         ap (λ b. b || is_name_of cs name) e ∙ rest same

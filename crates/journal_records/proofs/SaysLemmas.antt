@@ -44,7 +44,7 @@ changed_says old new s change told is kept version live names free next =
         bound = (let a = kept.bound in omega (arith, next, a));
         names = λ name.
             ap (λ (cs : List Case). bearers cs name) cases
-            ∙ sum_changed (λ (c : Case). one_if (bytes_eq c.name name)) s change (λ e. ap (λ (n : List ℕ). one_if (bytes_eq n name)) (is.name e)) es
+            ∙ sum_changed (λ (c : Case). one_if (bytes_eq c.origin.name name)) s change (λ e. ap (λ (n : List ℕ). one_if (bytes_eq n name)) (is.name e)) es
             ∙ kept.names name
             ∙ ap (λ n. one_if (has_name n name)) (sym names);
         accounts = subst (Accounts (used_blocks (cases_of new.live.entries))) (sym free) (λ k.
@@ -100,7 +100,7 @@ same_name a b is = (bytes_eq-Decides a b).0 is
 -- one case more
 pub store_says : (old new : Cases) (c : Case) → AreKept old → new.version ≡ old.version
     → cases_of new.live.entries ≡ cases_of old.live.entries ++ c ∷ [] → AreNumbered 0 (c.seq + 1) new.live.entries → new.next ≡ c.seq + 1 → c.seq < 2 ^ 32
-    → ((q : List ℕ) → has_name new.names q ≡ cond (bytes_eq c.name q) true (has_name old.names q)) → has_name old.names c.name ≡ false
+    → ((q : List ℕ) → has_name new.names q ≡ cond (bytes_eq c.origin.name q) true (has_name old.names q)) → has_name old.names c.origin.name ≡ false
     → Accounts (used_blocks (cases_of old.live.entries) ++ c.blocks) new.free → length new.free ≡ length old.free
     → Says (after (Store c) (said_by old)) (length old.free) new
 store_says old new c kept version cases numbered next bound names fresh accounts size = record {
@@ -110,8 +110,8 @@ store_says old new c kept version cases numbered next bound names fresh accounts
     bound = omega (arith, next, bound);
     names = λ name.
         ap (λ (cs : List Case). bearers cs name) cases
-        ∙ names_more (bytes_eq c.name name) (has_name old.names name) (bearers (cases_of old.live.entries) name) (bearers (cases_of old.live.entries ++ c ∷ []) name)
-        (bearers_push name (cases_of old.live.entries) c) (kept.names name) (λ is. ap (has_name old.names) (sym (same_name c.name name is)) ∙ fresh)
+        ∙ names_more (bytes_eq c.origin.name name) (has_name old.names name) (bearers (cases_of old.live.entries) name) (bearers (cases_of old.live.entries ++ c ∷ []) name)
+        (bearers_push name (cases_of old.live.entries) c) (kept.names name) (λ is. ap (has_name old.names) (sym (same_name c.origin.name name is)) ∙ fresh)
         ∙ ap one_if (sym (names name));
     accounts = subst (λ (l : List ℕ). Accounts l new.free) (sym (ap used_blocks cases ∙ used_push (cases_of old.live.entries) c)) accounts;
   };

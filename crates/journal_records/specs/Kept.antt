@@ -22,7 +22,7 @@ said_by c = record { version = c.version; cases = cases_of c.live.entries; next 
 
 -- how many of the cases have this name
 abbrev pub bearers : List Case → List ℕ → ℕ
-bearers cases name = count_by (λ (c : Case). bytes_eq c.name name) cases
+bearers cases name = count_by (λ (c : Case). bytes_eq c.origin.name name) cases
 
 -- the set has a name exactly where one of the cases has it, and no two of them have one name
 abbrev pub AreNames : List Case → BTreeSet (ArrayVec ℕ) → Type 0

@@ -6,7 +6,7 @@ ghost use Rattle.journal_layout.specs.Case.{case_of};
 ghost use Rattle.journal_layout.specs.Folding.{Folded};
 ghost use Rattle.journal_layout.specs.Layout.{field};
 ghost use Rattle.journal_layout.specs.Record.{rounded};
-ghost use Rattle.journal_layout.specs.Reading.{length_at, name_length_at, run_count_at, name_place, case_at, store_runs};
+ghost use Rattle.journal_layout.specs.Reading.{length_at, name_length_at, run_count_at, name_place, origin_at, case_at, store_runs};
 ghost use Rattle.journal_layout.specs.Checks.{damaged, first_failing, store_checks, block_count};
 ghost use Rattle.journal_layout.specs.Soundness.{blocks_for};
 ghost use Rattle.journal_records.specs.Head.{IsHeaded, IsPlaced};
@@ -72,7 +72,7 @@ pub(crate) fn check_image(rest: &[u8], at: u64, blocks: u64) -> Result<(), OpenF
 /// The case that a Store record tells, with its name and its blocks, and no label.
 pub(crate) fn entry_at(rest: &[u8], name: Name, runs: RunList) -> Entry
     requires in_half { 48 ≤ length rest.now }
-    ensures { case_of result ≡ record (case_at rest.now) { name = name.items; blocks = runs } }
+    ensures { case_of result ≡ record (case_at rest.now) { origin = record (origin_at rest.now) { name = name.items }; blocks = runs } }
 {
     Entry {
         seq: u32_at(rest, 8),

@@ -25,14 +25,11 @@ pub is_name : (name : List ℕ) → 1 ≤ length name → length name ≤ 128 �
 is_name name some short bytes none = record { some = some; short = short; bytes = bytes; no_nul = no_nul name none }
 
 -- an image with no byte
-pub empty_storable : (limit : ℕ) (cases : List Case) (c : Case) → IsName c.name → is_name_of cases c.name ≡ false
-    → c.pid ≡ 0 → c.signal ≡ 0 → c.time ≡ 0 → c.len ≡ 0 → c.blocks ≡ [] → c.label ≡ [] → IsStorable limit cases c
+pub empty_storable : (limit : ℕ) (cases : List Case) (c : Case) → IsName c.origin.name → is_name_of cases c.origin.name ≡ false
+    → c.origin.pid ≡ 0 → c.origin.signal ≡ 0 → c.origin.time ≡ 0 → c.len ≡ 0 → c.blocks ≡ [] → c.label ≡ [] → IsStorable limit cases c
 empty_storable limit cases c name new pid signal time bytes none unlabelled = record {
-  name = name;
+  origin = record { name = name; pid = omega (arith, pid); signal = omega (arith, signal); time = omega (arith, time) };
   new_name = new;
-  pid = omega (arith, pid);
-  signal = omega (arith, signal);
-  time = omega (arith, time);
   bytes = omega (arith, bytes);
   enough = ap (λ (l : List ℕ). length l) none ∙ sym (ap (λ (n : ℕ). (n + 4095) / 4096) bytes);
   spare = λ k some. absurd (omega (arith, some, ap (uses k) none));
@@ -40,14 +37,11 @@ empty_storable limit cases c name new pid signal time bytes none unlabelled = re
 }
 
 -- an image of 5 bytes in block 0, where there is no case
-pub first_storable : (limit : ℕ) (c : Case) → 0 < limit → IsName c.name
-    → c.pid ≡ 0 → c.signal ≡ 0 → c.time ≡ 0 → c.len ≡ 5 → c.blocks ≡ 0 ∷ [] → c.label ≡ [] → IsStorable limit [] c
+pub first_storable : (limit : ℕ) (c : Case) → 0 < limit → IsName c.origin.name
+    → c.origin.pid ≡ 0 → c.origin.signal ≡ 0 → c.origin.time ≡ 0 → c.len ≡ 5 → c.blocks ≡ 0 ∷ [] → c.label ≡ [] → IsStorable limit [] c
 first_storable limit c blocks name pid signal time bytes one unlabelled = record {
-  name = name;
+  origin = record { name = name; pid = omega (arith, pid); signal = omega (arith, signal); time = omega (arith, time) };
   new_name = refl;
-  pid = omega (arith, pid);
-  signal = omega (arith, signal);
-  time = omega (arith, time);
   bytes = omega (arith, bytes);
   enough = ap (λ (l : List ℕ). length l) one ∙ sym (ap (λ (n : ℕ). (n + 4095) / 4096) bytes);
   spare = λ k some. only k (subst (λ (l : List ℕ). 0 < uses k l) one some) (ap (uses k) one);

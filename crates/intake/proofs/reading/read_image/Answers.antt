@@ -1,4 +1,4 @@
-use Rattle.std.proofs.Common.{◌≡◌, ◌≤◌, ◌+◌, ◌∙◌, ap, length, take, drop, arith}
+use Rattle.std.proofs.Common.{◌∙◌, ap, take, arith}
 use Rattle.std.proofs.lemmas.List.{with_items_is}
 use Rattle.disk_model.specs.PartLaws.{part_is}
 use Rattle.disk_model.specs.Places.{part}

@@ -52,7 +52,7 @@ invariant_of-self-in-Ok-put_store g c =
     let lies = place_lies raw (Store case) place c.self.invariant.header step.0 step.1 in
     let fit = c.requires.storable in
     let storable : IsStorable c.args.self.now.standing.shape.data_blocks c.args.self.now.standing.cases case =
-    record { name = fit.name; new_name = fit.new_name; pid = fit.pid; signal = fit.signal; time = fit.time; bytes = fit.bytes; enough = fit.enough; spare = fit.spare; no_label = fit.no_label } in
+    record { origin = fit.origin; new_name = fit.new_name; bytes = fit.bytes; enough = fit.enough; spare = fit.spare; no_label = fit.no_label } in
     let left : j.next < 2 ^ 32 = omega arith in
     let pushed : c.push.new.self.entries ≡ j.entries.entries ++ e ∷ [] = c.push.ensures ∙ ap (λ (l : List Entry). l ++ e ∷ []) c.reserve.ensures.entries in
     kept_stored j.shape j.version (map case_of j.entries.entries) j.next j.used c.self.invariant case (map case_of c.push.new.self.entries) place.used lies.0 lies.1 refl

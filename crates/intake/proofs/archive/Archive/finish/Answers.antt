@@ -81,7 +81,7 @@ invariant_of-self-in-Err-append_case g c =
           (taken_still c.in-Err-append_case.fault c.self.inside.journal.standing.cases c.take.new.self c.end_streams-self-inside-in-Err-append_case.new.slots c.end_streams-self-inside-in-Err-append_case.result c.append_case.new.names c.end_streams-self-inside-in-Err-append_case.ensures
           (taken_dropped c.self.inside.journal.standing.cases c.self.inside.slots c.take.new.self c.args.slot _ c.self.inside.names c.append_case.new.names (c.self.invariant.taken c.if-self.false) (sym c.in-Some.ensures.stream) c.in-Some.ensures.slots
           (subst (λ (n : ArrayVec ℕ). ForgetsName n.items c.self.inside.names c.append_case.new.names) c.in_default-sealed.ensures.name
-          (subst (λ (x : Case). ForgetsName x.name c.self.inside.names c.append_case.new.names) c.into_entry-entry.ensures c.in-Err-append_case.ensures.names))));
+          (subst (λ (x : Case). ForgetsName x.origin.name c.self.inside.names c.append_case.new.names) c.into_entry-entry.ensures c.in-Err-append_case.ensures.names))));
     }
 
 pub invariant_of-self-in-Ok : goal.invariant_of-self-in-Ok
@@ -95,7 +95,7 @@ invariant_of-self-in-Ok g c =
       taken = λ on. subst (AreTaken c.append_case.new.journal.standing.cases c.take.new.self) (sym c.in-Ok.ensures.names)
           (subst (λ (k : Journaled). AreTaken k.standing.cases c.take.new.self c.self.inside.names) (sym c.in-Ok.ensures.step.4)
           (taken_stored c.self.inside.journal.standing.cases c.self.inside.slots c.take.new.self c.args.slot _ (numbered c.self.inside.journal.standing.next (case_of c.into_entry-entry.result)) c.self.inside.names (c.self.invariant.taken on) (sym c.in-Some.ensures.stream) c.in-Some.ensures.slots
-          (ap (λ (x : Case). x.name) c.into_entry-entry.ensures ∙ ap (λ (n : ArrayVec ℕ). n.items) c.in_default-sealed.ensures.name)));
+          (ap (λ (x : Case). x.origin.name) c.into_entry-entry.ensures ∙ ap (λ (n : ArrayVec ℕ). n.items) c.in_default-sealed.ensures.name)));
     }
 
 pub returns-then-self : goal.returns-then-self

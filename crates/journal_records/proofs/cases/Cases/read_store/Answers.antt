@@ -5,7 +5,7 @@ use Rattle.arrayvec.specs.ArrayVec.{ArrayVec}
 use Rattle.journal_layout.specs.Case.{Case, case_of}
 use Rattle.journal_layout.specs.Layout.{field}
 use Rattle.journal_layout.specs.Record.{Store}
-use Rattle.journal_layout.specs.Reading.{case_at, store_runs, name_at}
+use Rattle.journal_layout.specs.Reading.{origin_at, case_at, store_runs, name_at}
 use Rattle.journal_layout.specs.Folding.{after, used_blocks, is_name_of}
 use Rattle.journal_layout.specs.Soundness.{blocks_for}
 use Rattle.journal_layout.specs.Checks.{store_fault, store_checks, padding_fault, block_count}
@@ -104,10 +104,10 @@ returns c =
     let name_is = c.in_ok-name.ensures.1 in
     let e : case_of entry ≡ case_at rest =
     c.entry_at.ensures
-    ∙ ap (λ (n : List ℕ). let k : Case = record (case_at rest) { name = n; blocks = c.in_ok-runs.runs } in k) name_is
+    ∙ ap (λ (n : List ℕ). let k : Case = record (case_at rest) { origin = record (origin_at rest) { name = n }; blocks = c.in_ok-runs.runs } in k) name_is
     ∙ ap (λ (b : List ℕ). let k : Case = record (case_at rest) { blocks = b } in k) taken.1.all in
     let push = c.in_ok-push.ensures in
-    let same_name : (case_of entry).name ≡ name_at rest = ap (λ (k : Case). k.name) e in
+    let same_name : (case_of entry).origin.name ≡ name_at rest = ap (λ (k : Case). k.origin.name) e in
     let blocks : (case_of entry).blocks ≡ c.in_ok-runs.runs = ap (λ (k : Case). k.blocks) c.entry_at.ensures in (
       store_passes limit c.args.at rest f
           (sym (c.in_ok-check_facts.ensures.fault f)) taken.0
