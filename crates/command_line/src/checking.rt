@@ -1,4 +1,5 @@
 // What holds by a handler's configuration, told to a person.
+use crate::asked::escaped_label;
 use crate::config_file::Document;
 use crate::handle::{HANDLER_LIMIT, HANDLER_TEMPLATE, HandleWords};
 use crate::log::KERNEL_LOG;
@@ -6,8 +7,10 @@ use archive_files::{Access, ArchivePath, Failure, reason_of, shape_on, take_disk
 use handler_config::Config;
 use inspector_cli::SessionFault;
 use journal_layout::Shape;
+use name_template::Template;
 use script_streams::{Output, Reply};
 use std::fs::File;
+use std::io::ErrorKind;
 use std::rt::Files;
 
 // The bytes of a block.
@@ -25,11 +28,12 @@ pub(crate) fn check<R: AllocGlobal + Files<File = File>, O: Output>(
     let mut reply = Reply::new(output);
     tell_config(&mut reply, &config, words.archive);
     let are_known = tell_faults(rt, &mut reply, words, document);
+    let are_taken = tell_values(rt, &mut reply, &config);
     let is_large = tell_size(rt, &mut reply, &config, words.archive);
     let Ok(()) = reply.finish() else {
         return Err(Failure::Faulted(SessionFault::WriteFailed));
     };
-    if are_known && is_large {
+    if are_known && are_taken && is_large {
         Ok(())
     } else {
         Err(Failure::Told)
@@ -97,6 +101,42 @@ fn tell_faults<R: AllocGlobal, O: Output>(
         reply.tell(b": is no pair of the grammar\n");
     }
     faults.is_empty() && words.left_out.is_empty()
+}
+
+// Tells which values would be left out when a core comes, though they are of the right kind. Says whether there is none.
+fn tell_values<R: AllocGlobal + Files<File = File>, O: Output>(
+    rt: &R,
+    reply: &mut Reply<'_, O>,
+    config: &Config<'_>,
+) -> bool {
+    let template = config.template.unwrap_or(HANDLER_TEMPLATE);
+    let is_template = Template::parse(template.as_bytes()).is_ok();
+    if !is_template {
+        reply.tell(b"fault template: it has over 127 bytes, or begins with |\n");
+    }
+    let is_label = match config.label {
+        Some(label) => escaped_label(rt.alloc(), label).is_ok(),
+        None => true,
+    };
+    if !is_label {
+        reply.tell(b"fault label: it has over 64 bytes\n");
+    }
+    let is_log = takes_lines(rt, config.log.unwrap_or(KERNEL_LOG));
+    if !is_log {
+        reply.tell(b"fault log: the file can't be written\n");
+    }
+    is_template && is_label && is_log
+}
+
+// Whether a log can be written. One that is not there is made when the first line comes.
+fn takes_lines<R: Files<File = File>>(rt: &R, path: &str) -> bool {
+    if path.is_empty() {
+        return true;
+    }
+    match File::options().append(true).open(rt, path) {
+        Ok(_) => true,
+        Err(error) => error.kind() == ErrorKind::NotFound,
+    }
 }
 
 // Tells whether the archive can keep what is asked. Says whether it can.

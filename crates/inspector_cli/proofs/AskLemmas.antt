@@ -99,12 +99,13 @@ module _ {D : Type 0} (g : disk.Ghosts D) (laws : Laws g) (law : FoundAfterAStop
   }
 
   -- its only command is the last
-  one_carried : (out : List ℕ) (n : ℕ) → text ≡ out
-      → (a : AnswersAll g naming script out old (answered ∷ []) end) × ([] {A = ℕ} ≡ []) × ButTheLast g naming old a.items a.replies (IsHeard n) × ((a.ending ≡ complete) ⊎ IsHeard n a.replies)
-  one_carried out n is =
-      subst (λ (z : List ℕ). (a : AnswersAll g naming script z old (answered ∷ []) end) × ([] {A = ℕ} ≡ []) × ButTheLast g naming old a.items a.replies (IsHeard n) × ((a.ending ≡ complete) ⊎ IsHeard n a.replies)) is (
+  one_carried : (more out : List ℕ) (n : ℕ) → more ≡ [] → text ≡ out
+      → (a : AnswersAll g naming script out old (answered ∷ []) end) × (more ≡ []) × ButTheLast g naming old a.items a.replies (IsHeard n) × ((a.ending ≡ complete) ⊎ IsHeard n a.replies)
+  unfolding all
+  one_carried more out n none is =
+      subst (λ (z : List ℕ). (a : AnswersAll g naming script z old (answered ∷ []) end) × (more ≡ []) × ButTheLast g naming old a.items a.replies (IsHeard n) × ((a.ending ≡ complete) ⊎ IsHeard n a.replies)) is (
         all,
-        refl,
+        none,
         record { front = []; last = item ∷ []; all = refl; one = omega arith; before = []; after = text; split = refl; stages = []; run = refl; holds = omega arith },
         inl refl,
       )
@@ -129,7 +130,7 @@ module _ {D : Type 0} (g : disk.Ghosts D) (laws : Laws g) (law : FoundAfterAStop
       end = end;
       consumed = sym (append-nil script) ∙ sym (append-nil (script ++ []));
       appended = d.3;
-      carried = inl (one_carried (d.0 ++ d.1) (length d.0) (sym d.2));
+      carried = inl (one_carried [] (d.0 ++ d.1) (length d.0) refl (sym d.2));
       drops = closes;
       found = found;
       lost = d.4;

@@ -2,6 +2,7 @@ pub mod SlotLemmas
 pub mod TakeLemmas
 pub mod RoomLemmas
 pub mod GiveLemmas
+pub mod HeardLemmas
 pub mod LineLemmas
 pub mod RunLemmas
 pub mod CloseLemmas

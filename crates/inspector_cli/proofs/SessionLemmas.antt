@@ -136,12 +136,12 @@ module _ {D : Type 0} (g : disk.Ghosts D) (laws : Laws g) (law : FoundAfterAStop
       }
 
   -- what was carried out of a whole script, by the replies as they were told
-  all_carried : (read out text : List ℕ) (stages : List (Stage D)) (end : Stage D) (n : ℕ) → out ≡ text → (all : AnswersAll g naming read out old stages end) → IsHeard n all.replies
-      → (a : AnswersAll g naming read text old stages end) × ([] {A = ℕ} ≡ []) × ButTheLast g naming old a.items a.replies (IsHeard n) × ((a.ending ≡ complete) ⊎ IsHeard n a.replies)
-  all_carried read out text stages end n is all heard =
-      subst (λ (z : List ℕ). (a : AnswersAll g naming read z old stages end) × ([] {A = ℕ} ≡ []) × ButTheLast g naming old a.items a.replies (IsHeard n) × ((a.ending ≡ complete) ⊎ IsHeard n a.replies)) is (
+  all_carried : (read more out text : List ℕ) (stages : List (Stage D)) (end : Stage D) (n : ℕ) → more ≡ [] → out ≡ text → (all : AnswersAll g naming read out old stages end) → IsHeard n all.replies
+      → (a : AnswersAll g naming read text old stages end) × (more ≡ []) × ButTheLast g naming old a.items a.replies (IsHeard n) × ((a.ending ≡ complete) ⊎ IsHeard n a.replies)
+  all_carried read more out text stages end n none is all heard =
+      subst (λ (z : List ℕ). (a : AnswersAll g naming read z old stages end) × (more ≡ []) × ButTheLast g naming old a.items a.replies (IsHeard n) × ((a.ending ≡ complete) ⊎ IsHeard n a.replies)) is (
         all,
-        refl,
+        none,
         record { front = all.items; last = []; all = sym (append-nil all.items); one = omega arith; before = all.replies; after = []; split = sym (append-nil all.replies); stages = stages; run = all.run; holds = heard },
         inr heard,
       )
@@ -168,7 +168,7 @@ module _ {D : Type 0} (g : disk.Ghosts D) (laws : Laws g) (law : FoundAfterAStop
         end = e.3;
         consumed = subst (Consumes a b) (sym (append-nil e.0)) (consumed a b x y e.0 empty e.5.1 e.4);
         appended = t.appended;
-        carried = inl (all_carried e.0 e.1 (t.out ++ t.rest) e.2 e.3 (length t.out) (sym t.split) e.6 t.heard);
+        carried = inl (all_carried e.0 [] e.1 (t.out ++ t.rest) e.2 e.3 (length t.out) refl (sym t.split) e.6 t.heard);
         drops = closes_from e.3 e.7;
         found = all_found e.0 e.1 e.2 e.3 e.7 e.6;
         lost = t.lost;
