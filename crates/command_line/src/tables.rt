@@ -61,7 +61,7 @@ pub(crate) static COMMANDS: [CommandWords; 9] = [
         about: "stores a core file as a case of an archive, named by the template, or an executable",
         after_help: None,
         words: &[
-            ARCHIVE, FILE, PAIRS, EXEC, LABEL, ESCAPE, KEEP, BYTES, BEFORE, NO_WAIT, TEMPLATE,
+            ARCHIVE, FILE, PAIRS, EXEC, PIN, LABEL, ESCAPE, KEEP, BYTES, BEFORE, NO_WAIT, TEMPLATE,
             USES_PID, LIMIT, LOG,
         ],
     },
@@ -254,6 +254,15 @@ const EXEC: Word = Word {
     takes: Takes::Text,
     default: None,
     help: "stores an executable of this name in place of a core",
+};
+
+// Whether the case is kept from retirement.
+const PIN: Word = Word {
+    id: "pin",
+    shown: "",
+    takes: Takes::Flag,
+    default: None,
+    help: "pins the new case, so that no deletion and no retirement takes it: for executables",
 };
 
 // What is noted of the case.

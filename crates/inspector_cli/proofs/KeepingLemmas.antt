@@ -19,11 +19,11 @@ use Rattle.script_streams.specs.Replies.{no_reply, ok_reply}
 use Rattle.stream_names.specs.declared.naming.Naming.{Naming}
 use Rattle.archive_replies.specs.Texts.{end_reply, dropped_line, unmet_line}
 use Rattle.inspector_cli.specs.declared.session.LifeFault.{LifeFault}
-use Rattle.inspector_cli.specs.Headline.{Moment, Line, Course, IsCrashSafe, IsCourse, Leads, LeadsOn, WouldLeave, AllLead, FindsMoment, FindsSince, IsSafe, AreSafe, answer_of, moment_of, begins_as, begun_in, last_moment}
-use Rattle.inspector_cli.specs.Kept.{Kept, IsKeptAs, HasThisLabel, HoldsKept, FindsKept, Spares, AllSpare, Command, IsSession, IsStore, IsCommand, AStopIsTakenUp, AReopeningIsTakenUp, AreNext, StaysFound, ASessionKeepsACase, ALineStoresACase, AStoreStoresACase, AStoreKeepsACase, relabelled, ALineLabelsACase, AStoreLabelsACase}
+use Rattle.inspector_cli.specs.Headline.{HasFlag, Moment, Line, Course, IsCrashSafe, IsCourse, Leads, LeadsOn, WouldLeave, AllLead, FindsMoment, FindsSince, IsSafe, AreSafe, answer_of, moment_of, begins_as, begun_in, last_moment}
+use Rattle.inspector_cli.specs.Kept.{Kept, IsKeptAs, HasThisLabel, HoldsKept, FindsKept, Spares, AllSpare, Command, IsSession, IsStore, IsCommand, AStopIsTakenUp, AReopeningIsTakenUp, AreNext, StaysFound, ASessionKeepsACase, ALineStoresACase, AStoreStoresACase, AStoreKeepsACase, relabelled, ALineLabelsACase, AStoreLabelsACase, AStorePinsACase}
 use Rattle.inspector_cli.specs.Session.{Streams}
 use Rattle.inspector_cli.specs.StoreHeadline.{AddsCase, StoresOrNot, TellsStored, StoreCourse, IsStoreCourse, no_stream}
-use Rattle.inspector_cli.specs.Storing.{retire_line, said_label}
+use Rattle.inspector_cli.specs.Storing.{Options, retire_line, said_pin, said_label}
 use Rattle.inspector_cli.specs.Told.{Answer, HasLine, what_of, parts_in}
 use Rattle.inspector_cli.proofs.FoundLemmas.{told_once}
 use Rattle.inspector_cli.proofs.KeptLemmas.{among_more, among_last, among_filtered, among_mapped, all_append, all_mapped, one_apart, has_line}
@@ -208,7 +208,7 @@ module _ {D : Type 0} (g : disk.Ghosts D) (k : Kept) where
   stays_found end m later safe held all left since = found_since k left m later ((safe_here g end m later safe).stops left since) held all
 
   -- what a store leaves of the case
-  module _ (asked : Option Policy) (found : Result StreamFacts (List ℕ)) (given file file' : Option (List ℕ)) (c : StoreCourse D) (is : IsStoreCourse asked found given file file' c) where
+  module _ (asked : Option Policy) (found : Result StreamFacts (List ℕ)) (given : Options) (file file' : Option (List ℕ)) (c : StoreCourse D) (is : IsStoreCourse asked found given file file' c) where
     case_stays : (stored : Option ℕ) (x y : Durable) → StoresOrNot found file file' x stored y → HoldsKept k x → HoldsKept k y
     case_stays None x y stores holds = same k x y stores holds
     case_stays (Some n) x y stores holds = same k (with_case x (record stores.stream { len = length stores.image }) stores.blocks stores.image) y stores.adds (with_case_holds k x (record stores.stream { len = length stores.image }) stores.blocks stores.image holds)
@@ -221,15 +221,25 @@ module _ {D : Type 0} (g : disk.Ghosts D) (k : Kept) where
         in
         (case_stays c.stored c.retired.holds c.ended.holds is.stores held.0, subst (AllByRecursion (HoldsKept k)) (sym is.in_doubt) (all_append (HoldsKept k) is.doubts c.retired.in_doubt doubts held.1))
 
-    end_holds : Spares k (said_label c.stored given) c.labels → IsHeldAt k c.ended → IsHeldAt k c.end
-    end_holds spares held = moment_keeps k no_stream [] c.ended c.end (said_label c.stored given) c.labels is.gives_label spares held
+    named_holds : Spares k (said_label c.stored given.label) c.labels → IsHeldAt k c.ended → IsHeldAt k c.labelled
+    named_holds spares held = moment_keeps k no_stream [] c.ended c.labelled (said_label c.stored given.label) c.labels is.gives_label spares held
 
-    store_holds : Spares k (retire_line c.policy) c.told → Spares k (said_label c.stored given) c.labels → IsHeldAt k c.begin
-        → AllByRecursion (IsHeldAt k) (c.retired ∷ c.filled ∷ c.ended ∷ c.end ∷ [])
+    -- a pin takes no case away, and no label
+    pin_spares : (stored : Option ℕ) (pin : Bool) (reply : List ℕ) → Spares k (said_pin stored pin) reply
+    pin_spares (Some seq) true reply = ((λ may. may), inr (λ may. may))
+    pin_spares (Some seq) false reply = ((λ may. may), inr (λ may. may))
+    pin_spares None pin reply = ((λ may. may), inr (λ may. may))
+
+    end_holds : IsHeldAt k c.labelled → IsHeldAt k c.end
+    end_holds held = moment_keeps k no_stream [] c.labelled c.end (said_pin c.stored given.pin) c.pins is.gives_pin (pin_spares c.stored given.pin c.pins) held
+
+    store_holds : Spares k (retire_line c.policy) c.told → Spares k (said_label c.stored given.label) c.labels → IsHeldAt k c.begin
+        → AllByRecursion (IsHeldAt k) (c.retired ∷ c.filled ∷ c.ended ∷ c.labelled ∷ c.end ∷ [])
     store_holds retired label held =
         let made = moment_keeps k no_stream [] c.begin c.retired (retire_line c.policy) c.told is.retires_first retired held in
         let ended = ended_holds made in
-        (made, ((subst (HoldsKept k) (sym is.same) made.0, subst (AllByRecursion (HoldsKept k)) (sym is.same_doubt) made.1), (ended, (end_holds label ended, tt))))
+        let named = named_holds label ended in
+        (made, ((subst (HoldsKept k) (sym is.same) made.0, subst (AllByRecursion (HoldsKept k)) (sym is.same_doubt) made.1), (ended, (named, (end_holds named, tt)))))
 
   -- An opening of what reads give finds the case, and so does one of whatever a stop leaves.
   abbrev IsReady : D → Type 0
@@ -247,7 +257,7 @@ module _ {D : Type 0} (g : disk.Ghosts D) (k : Kept) where
       let begin : IsHeldAt k s.safe.course.begin = held_surely k s.safe.course.begin (subst (HoldsKept k) (sym (s.safe.found_again ready.0.0 ready.0.1)) ready.0.2) s.safe.is.clear in
       let all = store_holds s.asked s.found s.given s.streams.input s.streams.input' s.safe.course s.safe.is s.retired s.gives begin in
       ⊎_elim (λ before. ready.1 left before)
-      (λ finds. found_since k left s.safe.course.begin (s.safe.course.retired ∷ s.safe.course.filled ∷ s.safe.course.ended ∷ s.safe.course.end ∷ []) finds begin all) (s.safe.opening left since)
+      (λ finds. found_since k left s.safe.course.begin (s.safe.course.retired ∷ s.safe.course.filled ∷ s.safe.course.ended ∷ s.safe.course.labelled ∷ s.safe.course.end ∷ []) finds begin all) (s.safe.opening left since)
 
   command_keeps : (c : Command D) → IsCommand g k c → IsReady c.before → StaysFound g k c.after c.before
   command_keeps c is ready = ⊎_elim (λ s. session_keeps c s ready) (λ more. ⊎_elim (λ s. store_keeps c s ready) (λ r. (λ left since. ready.1 left (r.leaves left since))) more) is
@@ -428,18 +438,56 @@ module _ {D : Type 0} (g : disk.Ghosts D) (numbers : NumbersAreAbove) where
   stores_keep k t asked found given before after answer s cs = (
     (λ holds clear spares next.
         (let held = held_surely k s.course.ended holds clear in
-        let found_there = stays_found g k after s.course.ended (s.course.end ∷ []) s.safe.1.1.1 held (end_holds g k asked found given t.input t.input' s.course s.is spares held, tt) in
+        let named = named_holds g k asked found given t.input t.input' s.course s.is spares held in
+        let found_there = stays_found g k after s.course.ended (s.course.labelled ∷ s.course.end ∷ []) s.safe.1.1.1 held (named, (end_holds g k asked found given t.input t.input' s.course s.is named, tt)) in
         (found_there, next_keep g k after s.course.ended.disk cs next found_there))),
-    (λ holds clear next. (let found_there = stays_found g k after s.course.end [] s.safe.1.1.1.1 (held_surely k s.course.end holds clear) tt in (found_there, next_keep g k after s.course.end.disk cs next found_there))),
+    (λ holds clear next.
+        (let held = held_surely k s.course.labelled holds clear in
+        let found_there = stays_found g k after s.course.labelled (s.course.end ∷ []) s.safe.1.1.1.1 held (end_holds g k asked found given t.input t.input' s.course s.is held, tt) in
+        (found_there, next_keep g k after s.course.labelled.disk cs next found_there))),
+    (λ holds clear next. (let found_there = stays_found g k after s.course.end [] s.safe.1.1.1.1.1 (held_surely k s.course.end holds clear) tt in (found_there, next_keep g k after s.course.end.disk cs next found_there))),
   )
 
   pub stores_label : AStoreLabelsACase g
   stores_label k t asked found given before after answer s text stored asks is holds clear =
-      label_given k text no_stream [] s.course.ended s.course.end
-      (subst (λ (r : List ℕ). LeadsOn no_stream [] s.course.ended (label_of k.seq text) r s.course.end) is
-      (subst (λ (o : Option (List ℕ)). LeadsOn no_stream [] s.course.ended (said_label (Some k.seq) o) s.course.labels s.course.end) asks
-      (subst (λ (o : Option ℕ). LeadsOn no_stream [] s.course.ended (said_label o given) s.course.labels s.course.end) stored s.is.gives_label)))
-      (numbered after s.course.ended (s.course.end ∷ []) s.safe.1.1.1 clear) holds clear
+      label_given k text no_stream [] s.course.ended s.course.labelled
+      (subst (λ (r : List ℕ). LeadsOn no_stream [] s.course.ended (label_of k.seq text) r s.course.labelled) is
+      (subst (λ (o : Option (List ℕ)). LeadsOn no_stream [] s.course.ended (said_label (Some k.seq) o) s.course.labels s.course.labelled) asks
+      (subst (λ (o : Option ℕ). LeadsOn no_stream [] s.course.ended (said_label o given.label) s.course.labels s.course.labelled) stored s.is.gives_label)))
+      (numbered after s.course.ended (s.course.labelled ∷ s.course.end ∷ []) s.safe.1.1.1 clear) holds clear
+
+  flag_held : (t : Bool) (n : ℕ) (c : FoundCase) → t ≡ true → c.case.seq ≡ n → ((cond t (record c.case { pinned = true }) c.case).seq ≡ n) × ((cond t (record c.case { pinned = true }) c.case).pinned ≡ true)
+  flag_held true n c set is = (is, refl)
+  flag_held false n c set is = absurd (false≢true set)
+
+  pin_given : (k : Kept) (begins : Said → Option StreamFacts) (earlier : List Answer) (old new : Moment D) → LeadsOn begins earlier old (pin_of k.seq true) ok_reply new → HoldsKept k old.holds
+      → HasFlag new.holds k.seq true × HoldsKept k new.holds × (old.in_doubt ≡ [] → new.in_doubt ≡ [])
+  pin_given k begins earlier old new leads (c, among, is) = (
+    ⊎_elim
+        (λ does.
+        ⊎_elim
+        (λ set.
+        (let held = flag_held (c.case.seq == k.seq) k.seq c (⊎_elim (λ h. h.0) (λ h. absurd (h.1 is.number)) (eqb_tells c.case.seq k.seq)) is.number in
+        subst (λ (x : Durable). HasFlag x k.seq true) (sym set) (
+          made_of (pinned_as k.seq true) c,
+          among_mapped (made_of (pinned_as k.seq true)) old.holds.cases c among,
+          held.0,
+          held.1,
+        )))
+        (λ stays. subst (λ (x : Durable). HasFlag x k.seq true) (sym stays.1) stays.0)
+        does.1)
+        (λ no. absurd (ok_apart no.0 no.1)) leads.leads,
+    leads_keeps k begins earlier (pin_of k.seq true) ok_reply old.holds new.holds leads.leads ((λ may. may), inr (λ may. may)) (c, among, is),
+    clear_after begins earlier old new (pin_of k.seq true) ok_reply leads (ok_apart (codes "Disk")),
+  )
+
+  pub stores_pin : AStorePinsACase g
+  stores_pin k t asked found given before after answer s stored asks is holds =
+      pin_given k no_stream [] s.course.labelled s.course.end
+      (subst (λ (r : List ℕ). LeadsOn no_stream [] s.course.labelled (pin_of k.seq true) r s.course.end) is
+      (subst (λ (b : Bool). LeadsOn no_stream [] s.course.labelled (said_pin (Some k.seq) b) s.course.pins s.course.end) asks
+      (subst (λ (o : Option ℕ). LeadsOn no_stream [] s.course.labelled (said_pin o given.pin) s.course.pins s.course.end) stored s.is.gives_pin)))
+      holds
 
 module _ {D : Type 0} (g : disk.Ghosts D) where
   pub stop_taken_up : AStopIsTakenUp g

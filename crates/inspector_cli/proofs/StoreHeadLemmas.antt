@@ -11,7 +11,7 @@ use Rattle.intake.specs.declared.faults.ArchiveFault.{ArchiveFault}
 use Rattle.intake.specs.StayLaws.{stays_as, stays_then}
 use Rattle.intake.specs.Calls.{ChangesNoCase, OpenCall, BeginCall, AbandonCall, FinishCall}
 use Rattle.intake.specs.Contents.{Contents, Taken, empty_taken}
-use Rattle.intake.specs.Durable.{Durable, durable_of, labelled, with_case, found_case}
+use Rattle.intake.specs.Durable.{Durable, durable_of, flagged, labelled, with_case, found_case}
 use Rattle.intake.specs.Guarding.{MayBeStored}
 use Rattle.intake.specs.Marks.{FoundAfterAStop, NothingElseIsLeft, IsRunOfMarks, IsMarkSettled}
 use Rattle.intake.specs.Parts.{Parts, state_of, contents_of}
@@ -25,7 +25,7 @@ use Rattle.retention.specs.declared.Policy.{Policy}
 use Rattle.std.specs.Borrow.{Bor}
 use Rattle.stream_names.specs.Commands.{stream_found}
 use Rattle.stream_names.specs.declared.names.NewStream.{NewStream}
-use Rattle.script_lines.specs.Said.{end_of, label_of}
+use Rattle.script_lines.specs.Said.{end_of, pin_of, label_of}
 use Rattle.archive_replies.specs.Reasons.{reason_of}
 use Rattle.script_streams.specs.Replies.{no_reply, ok_reply}
 use Rattle.inspector_cli.specs.declared.session.SessionFault.{SessionFault}
@@ -41,14 +41,14 @@ use Rattle.inspector_cli.specs.Reply.{Begins, Takes}
 use Rattle.inspector_cli.specs.Session.{Streams}
 use Rattle.inspector_cli.specs.Stages.{Stage, Moves, MayLeave, mark_at, marks_of}
 use Rattle.inspector_cli.specs.StoreHeadline.{TellsStored, AddsCase, StoresOrNot, StoreCourse, IsStoreCourse, IsTold, IsStoreSafe, StoresAreCrashSafe, BeginsEmpty, no_stream}
-use Rattle.inspector_cli.specs.Storing.{TakesFile, FileReplies, RestReplies, RetiresFirst, IsChosen, LabelsCase, Stores, StoreEnds, retire_line, said_label}
+use Rattle.inspector_cli.specs.Storing.{TakesFile, FileReplies, RestReplies, RetiresFirst, IsChosen, PinsCase, LabelsCase, Options, Stores, StoreEnds, retire_line, said_pin, said_label}
 use Rattle.inspector_cli.proofs.CaseLemmas.{is_found, briefs_are}
 use Rattle.inspector_cli.proofs.ClearLemmas.{first_apart, retire_told, retire_stops}
 use Rattle.inspector_cli.proofs.KeptLemmas.{LastingLaws}
 use Rattle.inspector_cli.proofs.SlotLemmas.{some_same}
 use Rattle.inspector_cli.proofs.SafeLemmas.{are_safe, leads_on, moment, since_opening}
 use Rattle.inspector_cli.proofs.StageLemmas.{Laws, Reaches, stage_of, begins_stays, ends_moves}
-use Rattle.inspector_cli.proofs.StoreLemmas.{retiring_moves, label_moves}
+use Rattle.inspector_cli.proofs.StoreLemmas.{retiring_moves, pin_moves, label_moves}
 use Rattle.journal_layout.specs.Case.{Case}
 
 -- what stands in a slot that was set is what was put there
@@ -224,6 +224,20 @@ module _ {D : Type 0} (g : disk.Ghosts D) (lasts : LastingLaws g) where
             (λ set. inl set.1) p.2,
       )
 
+  flag_set : (old new : Parts D) (seq : ℕ) (flag : Bool) (told : List ℕ) → told ≡ ok_reply
+      → (c : Case) × HasCase (state_of old) seq c
+      × (((c.pinned ≡ flag) × (durable_of g.seen new ≡ durable_of g.seen old)) ⊎ ((c.pinned ≢ flag) × (durable_of g.seen new ≡ flagged (durable_of g.seen old) seq flag)))
+      → Leads no_stream [] (pin_of seq flag) told (durable_of g.seen old) (durable_of g.seen new)
+  flag_set old new seq flag told is p =
+      inl (
+        is,
+        ⊎_elim
+            (λ same.
+            (let f = is_found old.journal.standing.shape (g.seen old.disk) old.journal.standing.cases seq p.0 p.1.1 in
+            inr ((found_case old.journal.standing.shape (g.seen old.disk) p.0, f.0, f.1, same.0), same.1)))
+            (λ set. inl set.1) p.2,
+      )
+
   -- a line is carried out, or refused
   retiring_leads : (old new : Parts D) (policy : Option Policy) (told : List ℕ) (made : Bool) → IsTrue (g.is_honest old.disk) → RetiresFirst g old policy told new made → Leads no_stream [] (retire_line policy) told (durable_of g.seen old) (durable_of g.seen new)
   retiring_leads old new None told made honest makes = (makes.0, ap (durable_of g.seen) makes.1)
@@ -246,6 +260,18 @@ module _ {D : Type 0} (g : disk.Ghosts D) (lasts : LastingLaws g) where
   label_would old (Some seq) None x may = absurd may
   label_would old None label x may = absurd may
 
+  pin_leads : (old new : Parts D) (stored : Option ℕ) (pin : Bool) (told : List ℕ) (done : Bool) → IsTrue (g.is_honest old.disk) → PinsCase g old stored pin told new done
+      → Leads no_stream [] (said_pin stored pin) told (durable_of g.seen old) (durable_of g.seen new)
+  pin_leads old new (Some seq) true told done honest ((Ok u, call, is), did) = flag_set old new seq true told is (lasts.pin old new seq true u honest call)
+  pin_leads old new (Some seq) true told done honest ((Err f, call, is), did) = inr (reason_of f, is, lasts.refusals old new f honest (inr (inr (inl (seq, true, call)))))
+  pin_leads old new (Some seq) false told done honest pins = (pins.0, ap (durable_of g.seen) pins.1)
+  pin_leads old new None pin told done honest pins = (pins.0, ap (durable_of g.seen) pins.1)
+
+  pin_would : (old : Parts D) (stored : Option ℕ) (pin : Bool) (x : Durable) → MayLeave g old (said_pin stored pin) x → WouldLeave no_stream [] (said_pin stored pin) (durable_of g.seen old) x
+  pin_would old (Some seq) true x may = (refl, ok_reply, (refl, inl may))
+  pin_would old (Some seq) false x may = absurd may
+  pin_would old None pin x may = absurd may
+
 -- a stream that a line or the words of a command begin has no bytes yet
 pub found_empty : (r : Result NewStream (Bor (List ℕ))) → BeginsEmpty (stream_found r)
 found_empty (Ok stream) = refl
@@ -256,11 +282,11 @@ is_chosen s asked found None chosen = inr refl
 is_chosen s asked found (Some policy) chosen = inl (sym chosen)
 
 module _ {D : Type 0} (g : disk.Ghosts D) (lasts : LastingLaws g) (laws : Laws g) (law : FoundAfterAStop g) (nothing_else : NothingElseIsLeft g) (stays : (d : D) → IsTrue (g.is_honest d) → g.may_leave d (g.seen d))
-    (limit : ℕ) (t : Streams) (asked : Option Policy) (found : Result StreamFacts (List ℕ)) (label : Option (List ℕ)) (none : BeginsEmpty found) (before after : D) (opened closed : Parts D) (opening : OpenCall g limit before (Ok opened)) (disk : after ≡ closed.disk) (honest : IsTrue (g.is_honest before)) where
+    (limit : ℕ) (t : Streams) (asked : Option Policy) (found : Result StreamFacts (List ℕ)) (options : Options) (none : BeginsEmpty found) (before after : D) (opened closed : Parts D) (opening : OpenCall g limit before (Ok opened)) (disk : after ≡ closed.disk) (honest : IsTrue (g.is_honest before)) where
   abbrev first : Stage D
   first = record { archive = opened; in_doubt = [] }
 
-  module _ (r : Result StoreOutcome LifeFault) (written unwritten : List ℕ) (end : Parts D) (outcome : StoreOutcome) (s : Stores g t.input t.input' t.fails t.fails' opened asked found label (written ++ unwritten) end outcome) (dropped : Result (Unit {0}) ArchiveFault)
+  module _ (r : Result StoreOutcome LifeFault) (written unwritten : List ℕ) (end : Parts D) (outcome : StoreOutcome) (s : Stores g t.input t.input' t.fails t.fails' opened asked found options (written ++ unwritten) end outcome) (dropped : Result (Unit {0}) ArchiveFault)
       (drops : AbandonCall g end 0 dropped closed) (appended : Appends t.taken t.taken' written) (told : IsTold r outcome.stored unwritten) where
     there : IsTrue (g.is_honest opened.disk)
     there = opening.honesty ∙ honest
@@ -295,22 +321,31 @@ module _ {D : Type 0} (g : disk.Ghosts D) (lasts : LastingLaws g) (laws : Laws g
     abbrev ended : Stage D
     ended = stage_of s.ended (stored.more ++ retired.in_doubt)
 
-    label_given : Reaches g laws ended end (said_label outcome.stored label) s.last
-    label_given = label_moves g laws ended end outcome.stored label s.last outcome.labelled s.labels
+    label_given : Reaches g laws ended s.labelled (said_label outcome.stored options.label) s.named
+    label_given = label_moves g laws ended s.labelled outcome.stored options.label s.named outcome.labelled s.labels
+
+    abbrev labelled_then : Stage D
+    labelled_then = stage_of s.labelled (label_given.0 ++ ended.in_doubt)
+
+    pin_given : Reaches g laws labelled_then end (said_pin outcome.stored options.pin) s.last
+    pin_given = pin_moves g laws labelled_then end outcome.stored options.pin s.last outcome.pinned s.pins
 
     abbrev last : Stage D
-    last = stage_of end (label_given.0 ++ ended.in_doubt)
+    last = stage_of end (pin_given.0 ++ labelled_then.in_doubt)
 
     ended_honest : IsTrue (g.is_honest s.ended.disk)
     ended_honest = stored.moves.passes.honesty ∙ (stored.takes.honesty ∙ retiring_honest)
 
-    end_honest : IsTrue (g.is_honest end.disk)
-    end_honest = label_given.1.passes.honesty ∙ ended_honest
+    labelled_honest : IsTrue (g.is_honest s.labelled.disk)
+    labelled_honest = label_given.1.passes.honesty ∙ ended_honest
 
-    run : IsRunOfMarks g (mark_at g.seen first) (marks_of g.seen (retired ∷ filled ∷ ended ∷ []) last closed)
+    end_honest : IsTrue (g.is_honest end.disk)
+    end_honest = pin_given.1.passes.honesty ∙ labelled_honest
+
+    run : IsRunOfMarks g (mark_at g.seen first) (marks_of g.seen (retired ∷ filled ∷ ended ∷ labelled_then ∷ []) last closed)
     run = (
       retired_then.1.passes,
-      (laws.stays s.retired s.stores.filled retired.in_doubt stored.takes, (stored.moves.passes, (label_given.1.passes, (laws.stays end closed last.in_doubt drops.stays, tt)))),
+      (laws.stays s.retired s.stores.filled retired.in_doubt stored.takes, (stored.moves.passes, (label_given.1.passes, (pin_given.1.passes, (laws.stays end closed last.in_doubt drops.stays, tt))))),
     )
 
     settled : IsMarkSettled g (mark_at g.seen first)
@@ -327,11 +362,13 @@ module _ {D : Type 0} (g : disk.Ghosts D) (lasts : LastingLaws g) (laws : Laws g
       reply = s.stores.rest;
       stored = outcome.stored;
       ended = moment g ended;
-      labels = s.last;
+      labels = s.named;
+      labelled = moment g labelled_then;
+      pins = s.last;
       end = moment g last;
     }
 
-    is_course : IsStoreCourse asked found label t.input t.input' course
+    is_course : IsStoreCourse asked found options t.input t.input' course
     is_course = record {
       clear = refl;
       chosen = is_chosen (state_of opened) asked found s.retires_first.policy s.retires_first.chosen;
@@ -347,11 +384,14 @@ module _ {D : Type 0} (g : disk.Ghosts D) (lasts : LastingLaws g) (laws : Laws g
       in_doubt = stored.moves.in_doubt;
       doubted = stored.doubted;
       gives_label =
-          leads_on g no_stream [] ended last (said_label outcome.stored label) s.last (label_leads g lasts s.ended end outcome.stored label s.last outcome.labelled ended_honest s.labels)
-          (λ x disk may. label_would g lasts s.ended outcome.stored label x may) label_given.1;
+          leads_on g no_stream [] ended labelled_then (said_label outcome.stored options.label) s.named (label_leads g lasts s.ended s.labelled outcome.stored options.label s.named outcome.labelled ended_honest s.labels)
+          (λ x disk may. label_would g lasts s.ended outcome.stored options.label x may) label_given.1;
+      gives_pin =
+          leads_on g no_stream [] labelled_then last (said_pin outcome.stored options.pin) s.last (pin_leads g lasts s.labelled end outcome.stored options.pin s.last outcome.pinned labelled_honest s.pins)
+          (λ x disk may. pin_would g lasts s.labelled outcome.stored options.pin x may) pin_given.1;
     }
 
-    pub store_safe : IsStoreSafe g t asked found label before after r
+    pub store_safe : IsStoreSafe g t asked found options before after r
     store_safe = record {
       course = course;
       found_again = λ x stands. opening.found_again x honest stands;
@@ -359,16 +399,16 @@ module _ {D : Type 0} (g : disk.Ghosts D) (lasts : LastingLaws g) (laws : Laws g
       written = written;
       unwritten = unwritten;
       appended = appended;
-      text = s.all ∙ ap (λ (x : List ℕ). s.told ++ (x ++ s.last)) s.stores.text;
+      text = s.all ∙ ap (λ (x : List ℕ). s.told ++ (x ++ (s.named ++ s.last))) s.stores.text;
       disk = disk ∙ drops.disk;
       answered = told;
       opening =
           subst
-          (λ (d : D). (left : List ℕ) → g.left_since d (g.clock before) left → g.may_leave before left ⊎ FindsSince left (moment g first) (moment g retired ∷ moment g filled ∷ moment g ended ∷ moment g last ∷ [])) (sym disk)
-          (since_opening g stays last closed end_honest drops.stays nothing_else first (retired ∷ filled ∷ ended ∷ []) there run before (opening.any_moment honest));
+          (λ (d : D). (left : List ℕ) → g.left_since d (g.clock before) left → g.may_leave before left ⊎ FindsSince left (moment g first) (moment g retired ∷ moment g filled ∷ moment g ended ∷ moment g labelled_then ∷ moment g last ∷ [])) (sym disk)
+          (since_opening g stays last closed end_honest drops.stays nothing_else first (retired ∷ filled ∷ ended ∷ labelled_then ∷ []) there run before (opening.any_moment honest));
       safe =
-          subst (λ (d : D). AreSafe g d (moment g first) (moment g retired ∷ moment g filled ∷ moment g ended ∷ moment g last ∷ [])) (sym disk)
-          (are_safe g stays last closed end_honest drops.stays first (retired ∷ filled ∷ ended ∷ []) there settled run (law (mark_at g.seen first) (marks_of g.seen (retired ∷ filled ∷ ended ∷ []) last closed) there settled run));
+          subst (λ (d : D). AreSafe g d (moment g first) (moment g retired ∷ moment g filled ∷ moment g ended ∷ moment g labelled_then ∷ moment g last ∷ [])) (sym disk)
+          (are_safe g stays last closed end_honest drops.stays first (retired ∷ filled ∷ ended ∷ labelled_then ∷ []) there settled run (law (mark_at g.seen first) (marks_of g.seen (retired ∷ filled ∷ ended ∷ labelled_then ∷ []) last closed) there settled run));
     }
 
   -- the same answer of a life
@@ -376,19 +416,19 @@ module _ {D : Type 0} (g : disk.Ghosts D) (lasts : LastingLaws g) (laws : Laws g
   life_of (Ok outcome) = Ok outcome
   life_of (Err f) = Err (life.Session f)
 
-  pub ended_safe : (r : Result StoreOutcome SessionFault) → StoreEnds g t first asked found label closed r → IsStoreSafe g t asked found label before after (life_of r)
+  pub ended_safe : (r : Result StoreOutcome SessionFault) → StoreEnds g t first asked found options closed r → IsStoreSafe g t asked found options before after (life_of r)
   ended_safe (Ok outcome) e =
       store_safe (Ok outcome) e.0 [] e.1.archive outcome
-      (subst (λ (x : List ℕ). Stores g t.input t.input' t.fails t.fails' opened asked found label x e.1.archive outcome) (sym (append-nil e.0)) e.3) e.2 e.4 e.5 (refl, refl)
+      (subst (λ (x : List ℕ). Stores g t.input t.input' t.fails t.fails' opened asked found options x e.1.archive outcome) (sym (append-nil e.0)) e.3) e.2 e.4 e.5 (refl, refl)
   ended_safe (Err WriteFailed) e = store_safe (Err (life.Session WriteFailed)) e.0 e.1 e.2.archive e.3 e.5 e.4 e.6 e.7 tt
   ended_safe (Err ReadFailed) e = absurd e
   ended_safe (Err TooManyReads) e = absurd e
 
 module _ {D : Type 0} (g : disk.Ghosts D) (lasts : LastingLaws g) (laws : Laws g) (law : FoundAfterAStop g) (nothing_else : NothingElseIsLeft g) (stays : (d : D) → IsTrue (g.is_honest d) → g.may_leave d (g.seen d)) where
   pub stores_safe : StoresAreCrashSafe g
-  stores_safe limit t asked found label before after (Ok outcome) none lived = λ honest.
-      ended_safe g lasts laws law nothing_else stays limit t asked found label none before after lived.opened lived.closed lived.opening lived.disk honest (Ok outcome) lived.goes
-  stores_safe limit t asked found label before after (Err (life.Session f)) none lived = λ honest.
-      ended_safe g lasts laws law nothing_else stays limit t asked found label none before after lived.opened lived.closed lived.opening lived.disk honest (Err f) lived.goes
-  stores_safe limit t asked found label before after (Err (life.Open f)) none lived = λ honest.
+  stores_safe limit t asked found options before after (Ok outcome) none lived = λ honest.
+      ended_safe g lasts laws law nothing_else stays limit t asked found options none before after lived.opened lived.closed lived.opening lived.disk honest (Ok outcome) lived.goes
+  stores_safe limit t asked found options before after (Err (life.Session f)) none lived = λ honest.
+      ended_safe g lasts laws law nothing_else stays limit t asked found options none before after lived.opened lived.closed lived.opening lived.disk honest (Err f) lived.goes
+  stores_safe limit t asked found options before after (Err (life.Open f)) none lived = λ honest.
       (lived.0.opening.seen honest, λ left was. (lived.0.opening.any_moment honest).each left was)

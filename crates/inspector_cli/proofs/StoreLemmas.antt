@@ -1,4 +1,4 @@
--- One stream that is stored from its own input, with cases retired before it, and the label of its case.
+-- One stream that is stored from its own input, with cases retired before it, and the label and the pin of its case.
 use Rattle.std.proofs.Common.{◌≡◌, inl, ℕ, zero, suc, ◌+◌, ◌<◌, ◌≤◌, Bool, true, false, List, [], ◌∷◌, ◌++◌, length, Option, Some, None, Result, Ok, Err, is_ok, refl, sym, ap, subst, ◌∙◌, arith, length-append}
 use Rattle.std.proofs.lemmas.List.{append-nil, length-map}
 use Rattle.std.proofs.KnownBytes.{Consumes-trans}
@@ -31,9 +31,9 @@ use Rattle.inspector_cli.specs.declared.store.TakeStop.TheVariants.{File, Refuse
 use Rattle.script_streams.specs.Replies.{Telling, TellsReply}
 use Rattle.inspector_cli.specs.Stages.{Stage, mark_at, marks_of}
 use Rattle.inspector_cli.specs.Session.{Streams}
-use Rattle.inspector_cli.specs.Storing.{TakesFile, TakesMore, FileReplies, RestReplies, StoresStream, RetiresFirst, RetiresForStream, LabelsCase, Stores, retire_line, said_label, StoreStages, StoreEnds}
+use Rattle.inspector_cli.specs.Storing.{TakesFile, TakesMore, FileReplies, RestReplies, StoresStream, RetiresFirst, RetiresForStream, PinsCase, LabelsCase, Options, Stores, retire_line, said_pin, said_label, StoreStages, StoreEnds}
 use Rattle.intake.specs.StayLaws.{stays_none, stays_as, stays_then}
-use Rattle.inspector_cli.proofs.StageLemmas.{Laws, Reaches, stage_of, ends_moves, labels_moves, retires_moves, still, begins_stays}
+use Rattle.inspector_cli.proofs.StageLemmas.{Laws, Reaches, stage_of, ends_moves, pins_moves, labels_moves, retires_moves, still, begins_stays}
 use Rattle.script_streams.specs.TellLaws.{tells_then}
 use Rattle.inspector_cli.proofs.SlotLemmas.{set_again}
 
@@ -185,6 +185,12 @@ module _ {D : Type 0} (g : disk.Ghosts D) where
     label_moves (Some seq) None last done labels = still g laws old new silence last (stays_as g old.archive new labels.1)
     label_moves None label last done labels = still g laws old new silence last (stays_as g old.archive new labels.1)
 
+    -- the pin of the case, or none
+    pub pin_moves : (stored : Option ℕ) (pin : Bool) (last : List ℕ) (done : Bool) → PinsCase g old.archive stored pin last new done → Reaches g laws old new (said_pin stored pin) last
+    pin_moves (Some seq) true last done pins = pins_moves g laws old new seq true last pins.0
+    pin_moves (Some seq) false last done pins = still g laws old new silence last (stays_as g old.archive new pins.1)
+    pin_moves None pin last done pins = still g laws old new silence last (stays_as g old.archive new pins.1)
+
   rest_moves : (laws : Laws g) (file file' : Option (List ℕ)) (fails fails' : ℕ) (old : Stage D) (mid filled new : Parts D) (accepted : Bool) (rest : List ℕ) (stored : Option ℕ) → ChangesNoCase g old.archive mid
       → RestReplies g file file' fails fails' mid accepted filled rest new stored → ChangesNoCase g old.archive filled × Reaches g laws (stage_of filled old.in_doubt) new (end_of 0) rest
   rest_moves laws file file' fails fails' old mid filled new true rest stored begun goes = (
@@ -196,11 +202,11 @@ module _ {D : Type 0} (g : disk.Ghosts D) where
     still g laws (stage_of filled old.in_doubt) new (end_of 0) rest (stays_as g filled new (goes.4 ∙ sym goes.2)),
   )
 
-  pub stages_of : (laws : Laws g) → FoundAfterAStop g → (file file' : Option (List ℕ)) (fails fails' : ℕ) (old : Stage D) (asked : Option Policy) (found : Result StreamFacts (List ℕ)) (label : Option (List ℕ))
+  pub stages_of : (laws : Laws g) → FoundAfterAStop g → (file file' : Option (List ℕ)) (fails fails' : ℕ) (old : Stage D) (asked : Option Policy) (found : Result StreamFacts (List ℕ)) (options : Options)
       (replies : List ℕ) (end : Parts D) (outcome : StoreOutcome) (new : Parts D)
-      → (s : Stores g file file' fails fails' old.archive asked found label replies end outcome) → ChangesNoCase g end new
-      → (in_doubt : List Durable) × StoreStages g old s.retires_first.policy s.told s.retired s.stores.filled s.stores.rest s.ended (said_label outcome.stored label) s.last (stage_of end in_doubt) new
-  stages_of laws law file file' fails fails' old asked found label replies end outcome new s closes =
+      → (s : Stores g file file' fails fails' old.archive asked found options replies end outcome) → ChangesNoCase g end new
+      → (in_doubt : List Durable) × StoreStages g old s.retires_first.policy s.told s.retired s.stores.filled s.stores.rest s.ended (said_label outcome.stored options.label) s.named s.labelled (said_pin outcome.stored options.pin) s.last (stage_of end in_doubt) new
+  stages_of laws law file file' fails fails' old asked found options replies end outcome new s closes =
       let r = retiring_moves laws old s.retired s.retires_first.policy s.told outcome.retired_first s.retires_first.retires_first in
       let t = s.stores in
       let doubts : List Durable = r.0 ++ old.in_doubt in
@@ -208,31 +214,36 @@ module _ {D : Type 0} (g : disk.Ghosts D) where
       rest_moves laws file file' fails fails' (stage_of s.retired doubts) t.mid t.filled s.ended t.accepted t.rest outcome.stored
       (begins_stays g s.retired t.mid 0 found t.first t.accepted t.begins) t.goes_on in
       let later : List Durable = m.1.0 ++ doubts in
-      let l = label_moves laws (stage_of s.ended later) end outcome.stored label s.last outcome.labelled s.labels in (
-        l.0 ++ later,
+      let l = label_moves laws (stage_of s.ended later) s.labelled outcome.stored options.label s.named outcome.labelled s.labels in
+      let last : List Durable = l.0 ++ later in
+      let p = pin_moves laws (stage_of s.labelled last) end outcome.stored options.pin s.last outcome.pinned s.pins in (
+        p.0 ++ last,
         record {
           in_doubt = doubts;
           retires_first = r.1;
           takes = m.0;
           later_doubt = later;
           moves = m.1.1;
-          labelled = l.1;
+          named_doubt = last;
+          gives_label = l.1;
+          gives_pin = p.1;
           found = λ honest settled.
-              law (mark_at g.seen old) (marks_of g.seen (stage_of s.retired doubts ∷ stage_of t.filled doubts ∷ stage_of s.ended later ∷ []) (stage_of end (l.0 ++ later)) new) honest settled
-              (r.1.passes, (laws.stays s.retired t.filled doubts m.0, (m.1.1.passes, (l.1.passes, (laws.stays end new (l.0 ++ later) closes, tt)))));
+              law (mark_at g.seen old) (marks_of g.seen (stage_of s.retired doubts ∷ stage_of t.filled doubts ∷ stage_of s.ended later ∷ stage_of s.labelled last ∷ []) (stage_of end (p.0 ++ last)) new) honest settled
+              (r.1.passes, (laws.stays s.retired t.filled doubts m.0, (m.1.1.passes, (l.1.passes, (p.1.passes, (laws.stays end new (p.0 ++ last) closes, tt))))));
         },
       )
 
-  -- what is retired, the stream and its label
-  pub stores_all : (file file' : Option (List ℕ)) (fails fails' : ℕ) (o p q r : Sink) (old retired ended new : Parts D) (asked : Option Policy) (found : Result StreamFacts (List ℕ)) (label : Option (List ℕ))
-      (made : Bool) (stored : Option ℕ) (labelled : Bool)
+  -- what is retired, the stream, its label and its pin
+  pub stores_all : (file file' : Option (List ℕ)) (fails fails' : ℕ) (o p q r z : Sink) (old retired ended named new : Parts D) (asked : Option Policy) (found : Result StreamFacts (List ℕ)) (options : Options)
+      (made : Bool) (stored : Option ℕ) (labelled pinned : Bool)
       → TellsReply (record { before = o; after = p }) (λ text. RetiresForStream g old asked found text retired made)
       → TellsReply (record { before = p; after = q }) (λ text. StoresStream g file file' fails fails' retired found text ended stored)
-      → TellsReply (record { before = q; after = r }) (λ text. LabelsCase g ended stored label text new labelled)
-      → TellsReply (record { before = o; after = r })
-      (λ text. Stores g file file' fails fails' old asked found label text new (record { retired_first = made; stored = stored; labelled = labelled }))
-  stores_all file file' fails fails' o p q r old retired ended new asked found label made stored labelled first rest last = (
-    first.0 ++ (rest.0 ++ last.0),
+      → TellsReply (record { before = q; after = r }) (λ text. LabelsCase g ended stored options.label text named labelled)
+      → TellsReply (record { before = r; after = z }) (λ text. PinsCase g named stored options.pin text new pinned)
+      → TellsReply (record { before = o; after = z })
+      (λ text. Stores g file file' fails fails' old asked found options text new (record { retired_first = made; stored = stored; labelled = labelled; pinned = pinned }))
+  stores_all file file' fails fails' o p q r z old retired ended named new asked found options made stored labelled pinned first rest label last = (
+    first.0 ++ (rest.0 ++ (label.0 ++ last.0)),
     record {
       told = first.0;
       retired = retired;
@@ -240,18 +251,21 @@ module _ {D : Type 0} (g : disk.Ghosts D) where
       more = rest.0;
       ended = ended;
       stores = rest.1;
+      named = label.0;
+      labelled = named;
+      labels = label.1;
       last = last.0;
-      labels = last.1;
+      pins = last.1;
       all = refl;
     },
-    tells_then first.2 (tells_then rest.2 last.2),
+    tells_then first.2 (tells_then rest.2 (tells_then label.2 last.2)),
   )
 
 -- what was told is written, or a front of it
 module _ {D : Type 0} (g : disk.Ghosts D) (laws : Laws g) (law : FoundAfterAStop g) (file file' : Option (List ℕ)) (fails fails' : ℕ) (start : Option (List ℕ)) (count name : ℕ) (o p : Sink) (q : Option (List ℕ)) (h : ℕ)
-    (old : Stage D) (end new : Parts D) (asked : Option Policy) (found : Result StreamFacts (List ℕ)) (label : Option (List ℕ)) (outcome : StoreOutcome)
+    (old : Stage D) (end new : Parts D) (asked : Option Policy) (found : Result StreamFacts (List ℕ)) (options : Options) (outcome : StoreOutcome)
     (dropped : Result (Unit {0}) ArchiveFault) (begun : Told start count name o [])
-    (told : TellsReply (record { before = o; after = p }) (λ text. Stores g file file' fails fails' old.archive asked found label text end outcome))
+    (told : TellsReply (record { before = o; after = p }) (λ text. Stores g file file' fails fails' old.archive asked found options text end outcome))
     (drops : AbandonCall g end 0 dropped new) where
   abbrev pub streams : Streams
   streams = record { input = file; input' = file'; fails = fails; fails' = fails'; taken = start; taken' = q; lost = count; lost' = h }
@@ -259,14 +273,14 @@ module _ {D : Type 0} (g : disk.Ghosts D) (laws : Laws g) (law : FoundAfterAStop
   abbrev pub WritesOut : Result (Unit {0}) StreamFault → Type 0
   WritesOut r = (text : List ℕ) → Told start count name p text → IsDelivered start count q h text r
 
-  pub store_written : (s : Unit {0}) → WritesOut (Ok s) → StoreEnds g streams old asked found label new (Ok outcome)
+  pub store_written : (s : Unit {0}) → WritesOut (Ok s) → StoreEnds g streams old asked found options new (Ok outcome)
   store_written s d =
-      let stages = stages_of g laws law file file' fails fails' old asked found label told.0 end outcome new told.1 drops.stays in
+      let stages = stages_of g laws law file file' fails fails' old asked found options told.0 end outcome new told.1 drops.stays in
       (told.0, stage_of end stages.0, dropped, told.1, drops, d told.0 (told.2 start count name [] begun), stages.1)
 
-  pub store_failed : (fault : StreamFault) → WritesOut (Err fault) → StoreEnds g streams old asked found label new (Err WriteFailed)
+  pub store_failed : (fault : StreamFault) → WritesOut (Err fault) → StoreEnds g streams old asked found options new (Err WriteFailed)
   store_failed fault d =
       let t = d told.0 (told.2 start count name [] begun) in
-      let same = subst (λ (text : List ℕ). Stores g file file' fails fails' old.archive asked found label text end outcome) (sym t.2) told.1 in
-      let stages = stages_of g laws law file file' fails fails' old asked found label (t.0 ++ t.1) end outcome new same drops.stays in
+      let same = subst (λ (text : List ℕ). Stores g file file' fails fails' old.archive asked found options text end outcome) (sym t.2) told.1 in
+      let stages = stages_of g laws law file file' fails fails' old asked found options (t.0 ++ t.1) end outcome new same drops.stays in
       (t.0, t.1, stage_of end stages.0, outcome, dropped, same, drops, t.3, t.4, stages.1)

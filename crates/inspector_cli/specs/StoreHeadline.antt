@@ -1,5 +1,5 @@
 -- The headline of a store: what the archive holds when it begins, when cases are retired, when FILE is taken, when the case is stored,
--- and when it has its label; and what a stop of the machine leaves of it.
+-- when it has its label, and when it is pinned; and what a stop of the machine leaves of it.
 use Rattle.std.specs.Prelude.{◌≡◌, ◌⊎◌, ℕ, List, [], ◌∷◌, ◌++◌, length, Option, None, Some, Result, Ok, Err, IsTrue, codes}
 use Rattle.std.specs.List.{AllByRecursion}
 use Rattle.std.specs.Io.KnownBytes.{Consumes, Appends, IsAtEnd}
@@ -16,7 +16,7 @@ use Rattle.inspector_cli.specs.declared.session.StoreOutcome.{StoreOutcome}
 use Rattle.inspector_cli.specs.Headline.{Moment, LeadsOn, AreSafe, FindsSince}
 use Rattle.inspector_cli.specs.Life.{LifeEnds, StoresOver}
 use Rattle.inspector_cli.specs.Session.{Streams}
-use Rattle.inspector_cli.specs.Storing.{retire_line, said_label}
+use Rattle.inspector_cli.specs.Storing.{Options, retire_line, said_pin, said_label}
 
 -- A case is added after x: the one that the stream was begun as, with all bytes of FILE as its image.
 pub record AddsCase (found : Result StreamFacts (List ℕ)) (file file' : Option (List ℕ)) (x : Durable) (n : ℕ) (y : Durable) : Type 0 where
@@ -34,7 +34,7 @@ abbrev pub StoresOrNot : Result StreamFacts (List ℕ) → Option (List ℕ) →
 StoresOrNot found file file' x (Some n) y = AddsCase found file file' x n y
 StoresOrNot found file file' x None y = y ≡ x
 
--- the lines that retire and give a label begin no stream
+-- the lines that retire, give a label and pin begin no stream
 abbrev pub no_stream : Said → Option StreamFacts
 no_stream what = None
 
@@ -56,11 +56,14 @@ pub record StoreCourse (D : Type 0) : Type 0 where
   pub reply : List ℕ
   pub stored : Option ℕ
   pub ended : Moment D
+  -- the reply to the label of the case, and to its pin
   pub labels : List ℕ
+  pub labelled : Moment D
+  pub pins : List ℕ
   pub end : Moment D
 
 -- Each step does what it says, from what the archive held before it, or is refused and changes nothing.
-pub record IsStoreCourse {D : Type 0} (asked : Option Policy) (found : Result StreamFacts (List ℕ)) (label : Option (List ℕ)) (file file' : Option (List ℕ)) (c : StoreCourse D) : Type 0 where
+pub record IsStoreCourse {D : Type 0} (asked : Option Policy) (found : Result StreamFacts (List ℕ)) (options : Options) (file file' : Option (List ℕ)) (c : StoreCourse D) : Type 0 where
   pub clear : c.begin.in_doubt ≡ []
   pub chosen : (c.policy ≡ asked) ⊎ (c.policy ≡ None)
   pub retires_first : LeadsOn no_stream [] c.begin (retire_line c.policy) c.told c.retired
@@ -75,7 +78,8 @@ pub record IsStoreCourse {D : Type 0} (asked : Option Policy) (found : Result St
   pub doubts : List Durable
   pub in_doubt : c.ended.in_doubt ≡ doubts ++ c.retired.in_doubt
   pub doubted : (doubts ≡ []) ⊎ ((c.reply ≡ no_reply (codes "Disk")) × AllByRecursion (λ (z : Durable). (n : ℕ) × AddsCase found file file' c.retired.holds n z) doubts)
-  pub gives_label : LeadsOn no_stream [] c.ended (said_label c.stored label) c.labels c.end
+  pub gives_label : LeadsOn no_stream [] c.ended (said_label c.stored options.label) c.labels c.labelled
+  pub gives_pin : LeadsOn no_stream [] c.labelled (said_pin c.stored options.pin) c.pins c.end
 
 -- on `Ok` all replies are written, and the outcome says whether the case is stored
 abbrev pub IsTold : {E : Type 0} → Result StoreOutcome E → Option ℕ → List ℕ → Type 0
@@ -83,28 +87,28 @@ IsTold (Ok outcome) stored unwritten = (outcome.stored ≡ stored) × (unwritten
 IsTold (Err f) stored unwritten = Unit {0}
 
 -- The headline of a store over a disk, `before` it and `after` it.
-pub record IsStoreSafe {D : Type 0} (g : disk.Ghosts D) (t : Streams) (asked : Option Policy) (found : Result StreamFacts (List ℕ)) (label : Option (List ℕ)) (before after : D) (r : Result StoreOutcome LifeFault) : Type 0 where
+pub record IsStoreSafe {D : Type 0} (g : disk.Ghosts D) (t : Streams) (asked : Option Policy) (found : Result StreamFacts (List ℕ)) (options : Options) (before after : D) (r : Result StoreOutcome LifeFault) : Type 0 where
   pub course : StoreCourse D
   -- it begins with exactly what the disk encodes
   pub found_again : (x : Durable) → StandsFor (g.seen before) x → course.begin.holds ≡ x
-  pub is : IsStoreCourse asked found label t.input t.input' course
+  pub is : IsStoreCourse asked found options t.input t.input' course
   pub written : List ℕ
   pub unwritten : List ℕ
   pub appended : Appends t.taken t.taken' written
-  pub text : written ++ unwritten ≡ course.told ++ ((course.first ++ course.reply) ++ course.labels)
+  pub text : written ++ unwritten ≡ course.told ++ ((course.first ++ course.reply) ++ (course.labels ++ course.pins))
   pub disk : after ≡ course.end.disk
   pub answered : IsTold r course.stored unwritten
   -- a stop at any moment since the opening began leaves what one before it could have left, or opens as one of these moments
   pub opening : (left : List ℕ) → g.left_since after (g.clock before) left
-      → g.may_leave before left ⊎ FindsSince left course.begin (course.retired ∷ course.filled ∷ course.ended ∷ course.end ∷ [])
-  pub safe : AreSafe g after course.begin (course.retired ∷ course.filled ∷ course.ended ∷ course.end ∷ [])
+      → g.may_leave before left ⊎ FindsSince left course.begin (course.retired ∷ course.filled ∷ course.ended ∷ course.labelled ∷ course.end ∷ [])
+  pub safe : AreSafe g after course.begin (course.retired ∷ course.filled ∷ course.ended ∷ course.labelled ∷ course.end ∷ [])
 
 -- What a store promises of stops, over an honest disk. An opening that is refused leaves what reads give, and what a stop may
 -- leave, as they were.
-abbrev pub StoreHeadline : {D : Type 0} → disk.Ghosts D → Streams → Option Policy → Result StreamFacts (List ℕ) → Option (List ℕ) → D → Result StoreOutcome LifeFault → D → Type 0
-StoreHeadline g t asked found label before (Ok x) after = IsTrue (g.is_honest before) → IsStoreSafe g t asked found label before after (Ok x)
-StoreHeadline g t asked found label before (Err (life.Session f)) after = IsTrue (g.is_honest before) → IsStoreSafe g t asked found label before after (Err (life.Session f))
-StoreHeadline g t asked found label before (Err (life.Open f)) after =
+abbrev pub StoreHeadline : {D : Type 0} → disk.Ghosts D → Streams → Option Policy → Result StreamFacts (List ℕ) → Options → D → Result StoreOutcome LifeFault → D → Type 0
+StoreHeadline g t asked found options before (Ok x) after = IsTrue (g.is_honest before) → IsStoreSafe g t asked found options before after (Ok x)
+StoreHeadline g t asked found options before (Err (life.Session f)) after = IsTrue (g.is_honest before) → IsStoreSafe g t asked found options before after (Err (life.Session f))
+StoreHeadline g t asked found options before (Err (life.Open f)) after =
     IsTrue (g.is_honest before) → (g.seen after ≡ g.seen before) × ((left : List ℕ) → g.left_since after (g.clock before) left → g.may_leave before left)
 
 -- a stream that is begun has no bytes yet
@@ -114,5 +118,5 @@ BeginsEmpty (Err reason) = Unit {0}
 
 -- So it is of each store from an opening on.
 abbrev pub StoresAreCrashSafe : {D : Type 0} → disk.Ghosts D → Type 0
-StoresAreCrashSafe {D} g = (limit : ℕ) (t : Streams) (asked : Option Policy) (found : Result StreamFacts (List ℕ)) (label : Option (List ℕ)) (before after : D) (r : Result StoreOutcome LifeFault)
-    → BeginsEmpty found → LifeEnds g limit t before r after (StoresOver g asked found label t) → StoreHeadline g t asked found label before r after
+StoresAreCrashSafe {D} g = (limit : ℕ) (t : Streams) (asked : Option Policy) (found : Result StreamFacts (List ℕ)) (options : Options) (before after : D) (r : Result StoreOutcome LifeFault)
+    → BeginsEmpty found → LifeEnds g limit t before r after (StoresOver g asked found options t) → StoreHeadline g t asked found options before r after

@@ -1,4 +1,4 @@
--- One stream that is stored from its own input, with cases retired before it, and the label of its case.
+-- One stream that is stored from its own input, with cases retired before it, and the label and the pin of its case.
 use Rattle.std.specs.Prelude.{◌≡◌, ◌⊎◌, ℕ, ◌^◌, ◌<◌, ◌≤◌, ◌==◌, Bool, true, false, List, [], ◌∷◌, ◌++◌, length, Option, None, Some, Result, Ok, Err, is_ok, option_map, codes, if◌then◌else◌}
 use Rattle.arrayvec.specs.ArrayVec.{ArrayVec}
 use Rattle.script_lines.specs.Commands.{label_bytes}
@@ -17,15 +17,16 @@ use Rattle.failure_count.specs.Counts.{HasRisen}
 use Rattle.stream_names.specs.declared.naming.Naming.{Naming}
 use Rattle.inspector_cli.specs.declared.session.SessionFault.{SessionFault}
 use Rattle.inspector_cli.specs.declared.session.StoreOutcome.{StoreOutcome}
+use Rattle.inspector_cli.specs.declared.session.StoreOptions.{StoreOptions}
 use Rattle.inspector_cli.specs.declared.session.SessionFault.TheVariants.{ReadFailed, WriteFailed, TooManyReads}
 use Rattle.inspector_cli.specs.declared.store.TakeStop.{TakeStop}
 use Rattle.inspector_cli.specs.declared.store.TakeStop.TheVariants.{File, Refused}
 use Rattle.retention.specs.declared.Policy.{Policy}
-use Rattle.script_lines.specs.Said.{Said, silence, begin_exec, begin_core, end_of, label_of, retire_by, long_line}
+use Rattle.script_lines.specs.Said.{Said, silence, begin_exec, begin_core, end_of, pin_of, label_of, retire_by, long_line}
 use Rattle.inspector_cli.specs.Session.{Streams}
 use Rattle.inspector_cli.specs.Stages.{Stage, Moves, IsFoundAfterAStop}
 use Rattle.script_streams.specs.Replies.{no_reply}
-use Rattle.inspector_cli.specs.Reply.{Begins, Ends, Takes, Retires, Labels}
+use Rattle.inspector_cli.specs.Reply.{Begins, Ends, Takes, Retires, Pins, Labels}
 use Rattle.stream_names.specs.Streams.{exec_stream, core_stream}
 use Rattle.archive_replies.specs.Reasons.{reason_of}
 
@@ -119,6 +120,13 @@ RetiresForName g old policy name told new made =
     ((told ≡ []) × (new ≡ old) × (made ≡ true) × KeepsTheName (state_of old) policy name true × (is_named name (state_of old).cases ≡ true))
     ⊎ ((answered : Retires g old policy told new) × (made ≡ is_ok answered.0) × (made ≡ true → ((state_of new).stopped ≡ false) × (is_named name (state_of new).cases ≡ false)))
 
+-- The pin of the case that was stored: what `pin` does in a session, and whether it was answered other than `no REASON`. Where no
+-- pin is asked for, and where no case is stored, nothing is done and nothing is said.
+abbrev pub PinsCase : {D : Type 0} → disk.Ghosts D → Parts D → Option ℕ → Bool → List ℕ → Parts D → Bool → Type 0
+PinsCase g old (Some seq) true reply new done = (answered : Pins g old seq true reply new) × (done ≡ is_ok answered.0)
+PinsCase g old (Some seq) false reply new done = (reply ≡ []) × (new ≡ old) × (done ≡ true)
+PinsCase g old None pin reply new done = (reply ≡ []) × (new ≡ old) × (done ≡ true)
+
 -- The label of the case that was stored: what `label` does in a session, and whether it was answered other than `no REASON`. Where
 -- no label is asked for, and where no case is stored, nothing is done and nothing is said.
 abbrev pub LabelsCase : {D : Type 0} → disk.Ghosts D → Parts D → Option ℕ → Option (List ℕ) → List ℕ → Parts D → Bool → Type 0
@@ -130,8 +138,16 @@ LabelsCase g old None label reply new done = (reply ≡ []) × (new ≡ old) × 
 abbrev pub label_asked : Option (ArrayVec ℕ) → Option (List ℕ)
 label_asked label = option_map label_bytes label
 
--- what is retired for a stream by a policy, the stream with its file, and then the label of its case
-pub record Stores {D : Type 0} (g : disk.Ghosts D) (file file' : Option (List ℕ)) (fails fails' : ℕ) (old : Parts D) (asked : Option Policy) (found : Result StreamFacts (List ℕ)) (label : Option (List ℕ))
+-- what is asked for where a stream is stored
+pub record Options : Type 0 where
+  pub label : Option (List ℕ)
+  pub pin : Bool
+
+abbrev pub options_asked : StoreOptions → Options
+options_asked options = record { label = label_asked options.label; pin = options.pin }
+
+-- what is retired for a stream by a policy, the stream with its file, and then the label and the pin of its case
+pub record Stores {D : Type 0} (g : disk.Ghosts D) (file file' : Option (List ℕ)) (fails fails' : ℕ) (old : Parts D) (asked : Option Policy) (found : Result StreamFacts (List ℕ)) (options : Options)
     (replies : List ℕ) (new : Parts D) (outcome : StoreOutcome) : Type 0 where
   pub told : List ℕ
   -- when cases are retired
@@ -141,9 +157,13 @@ pub record Stores {D : Type 0} (g : disk.Ghosts D) (file file' : Option (List �
   -- when the case is stored, or the stream is refused
   pub ended : Parts D
   pub stores : StoresStream g file file' fails fails' retired found more ended outcome.stored
+  pub named : List ℕ
+  -- when the case has its label, if it is to have one
+  pub labelled : Parts D
+  pub labels : LabelsCase g ended outcome.stored options.label named labelled outcome.labelled
   pub last : List ℕ
-  pub labels : LabelsCase g ended outcome.stored label last new outcome.labelled
-  pub all : replies ≡ told ++ (more ++ last)
+  pub pins : PinsCase g labelled outcome.stored options.pin last new outcome.pinned
+  pub all : replies ≡ told ++ (more ++ (named ++ last))
 
 -- no stream is open in slot 0
 abbrev pub IsSlotQuiet : ArchiveState → Type 0
@@ -154,16 +174,22 @@ abbrev pub retire_line : Option Policy → Said
 retire_line None = silence
 retire_line (Some policy) = retire_by policy
 
+-- the line of a session that pins the case, or no line
+abbrev pub said_pin : Option ℕ → Bool → Said
+said_pin (Some seq) true = pin_of seq true
+said_pin (Some seq) false = silence
+said_pin None pin = silence
+
 -- the line of a session that gives the case its label, or no line
 abbrev pub said_label : Option ℕ → Option (List ℕ) → Said
 said_label (Some seq) (Some label) = label_of seq label
 said_label (Some seq) None = silence
 said_label None label = silence
 
--- What a stop leaves of it, told as of lines of a session: cases are retired, then a case is stored, and only then it gets its label. The
+-- What a stop leaves of it, told as of lines of a session: cases are retired, then a case is stored, and only then it gets its label, and is pinned. The
 -- stream's beginning and the file's bytes change no case, so only the end of the stream does.
 pub record StoreStages {D : Type 0} (g : disk.Ghosts D) (old : Stage D) (policy : Option Policy) (told : List ℕ) (retired filled : Parts D) (reply : List ℕ) (ended : Parts D)
-    (labels : Said) (last : List ℕ) (end : Stage D) (new : Parts D) : Type 0 where
+    (labels : Said) (named : List ℕ) (labelled : Parts D) (pins : Said) (last : List ℕ) (end : Stage D) (new : Parts D) : Type 0 where
   -- what is in doubt when cases are retired
   pub in_doubt : List Durable
   pub retires_first : Moves g old (retire_line policy) told (record { archive = retired; in_doubt = in_doubt })
@@ -171,51 +197,54 @@ pub record StoreStages {D : Type 0} (g : disk.Ghosts D) (old : Stage D) (policy 
   -- and when the stream has ended
   pub later_doubt : List Durable
   pub moves : Moves g (record { archive = filled; in_doubt = in_doubt }) (end_of 0) reply (record { archive = ended; in_doubt = later_doubt })
-  pub labelled : Moves g (record { archive = ended; in_doubt = later_doubt }) labels last end
+  -- and when the case has its label
+  pub named_doubt : List Durable
+  pub gives_label : Moves g (record { archive = ended; in_doubt = later_doubt }) labels named (record { archive = labelled; in_doubt = named_doubt })
+  pub gives_pin : Moves g (record { archive = labelled; in_doubt = named_doubt }) pins last end
   pub found : IsFoundAfterAStop g old
-      (record { archive = retired; in_doubt = in_doubt } ∷ record { archive = filled; in_doubt = in_doubt } ∷ record { archive = ended; in_doubt = later_doubt } ∷ []) end new
+      (record { archive = retired; in_doubt = in_doubt } ∷ record { archive = filled; in_doubt = in_doubt } ∷ record { archive = ended; in_doubt = later_doubt } ∷ record { archive = labelled; in_doubt = named_doubt } ∷ []) end new
 
 -- What a stop leaves of a store.
-abbrev pub StopsStore : {D : Type 0} → (g : disk.Ghosts D) → (t : Streams) → (old : Stage D) → (asked : Option Policy) → (found : Result StreamFacts (List ℕ)) → (label : Option (List ℕ))
-    → (replies : List ℕ) → (end : Stage D) → (outcome : StoreOutcome) → Stores g t.input t.input' t.fails t.fails' old.archive asked found label replies end.archive outcome → Parts D → Type 0
-StopsStore g t old asked found label replies end outcome s new =
-    StoreStages g old s.retires_first.policy s.told s.retired s.stores.filled s.stores.rest s.ended (said_label outcome.stored label) s.last end new
+abbrev pub StopsStore : {D : Type 0} → (g : disk.Ghosts D) → (t : Streams) → (old : Stage D) → (asked : Option Policy) → (found : Result StreamFacts (List ℕ)) → (options : Options)
+    → (replies : List ℕ) → (end : Stage D) → (outcome : StoreOutcome) → Stores g t.input t.input' t.fails t.fails' old.archive asked found options replies end.archive outcome → Parts D → Type 0
+StopsStore g t old asked found options replies end outcome s new =
+    StoreStages g old s.retires_first.policy s.told s.retired s.stores.filled s.stores.rest s.ended (said_label outcome.stored options.label) s.named s.labelled (said_pin outcome.stored options.pin) s.last end new
 
 -- What came of the store, where the replies were written; or the output failed, and has a front of them. A stream that is left in
 -- slot 0 is dropped. In each case what is found after a stop is told by the stages.
-abbrev pub StoreEnds : {D : Type 0} → disk.Ghosts D → Streams → Stage D → Option Policy → Result StreamFacts (List ℕ) → Option (List ℕ) → Parts D → Result StoreOutcome SessionFault → Type 0
-StoreEnds {D} g t old asked found label new (Ok outcome) =
+abbrev pub StoreEnds : {D : Type 0} → disk.Ghosts D → Streams → Stage D → Option Policy → Result StreamFacts (List ℕ) → Options → Parts D → Result StoreOutcome SessionFault → Type 0
+StoreEnds {D} g t old asked found options new (Ok outcome) =
     (replies : List ℕ) × (end : Stage D) × (dropped : Result (Unit {0}) ArchiveFault)
-    × (s : Stores g t.input t.input' t.fails t.fails' old.archive asked found label replies end.archive outcome) × AbandonCall g end.archive 0 dropped new × Appends t.taken t.taken' replies
-    × StopsStore g t old asked found label replies end outcome s new
-StoreEnds {D} g t old asked found label new (Err WriteFailed) =
+    × (s : Stores g t.input t.input' t.fails t.fails' old.archive asked found options replies end.archive outcome) × AbandonCall g end.archive 0 dropped new × Appends t.taken t.taken' replies
+    × StopsStore g t old asked found options replies end outcome s new
+StoreEnds {D} g t old asked found options new (Err WriteFailed) =
     (out : List ℕ) × (rest : List ℕ) × (end : Stage D) × (outcome : StoreOutcome) × (dropped : Result (Unit {0}) ArchiveFault)
-    × (s : Stores g t.input t.input' t.fails t.fails' old.archive asked found label (out ++ rest) end.archive outcome) × AbandonCall g end.archive 0 dropped new × Appends t.taken t.taken' out × HasRisen t.lost t.lost'
-    × StopsStore g t old asked found label (out ++ rest) end outcome s new
-StoreEnds g t old asked found label new (Err ReadFailed) = ⊥
-StoreEnds g t old asked found label new (Err TooManyReads) = ⊥
+    × (s : Stores g t.input t.input' t.fails t.fails' old.archive asked found options (out ++ rest) end.archive outcome) × AbandonCall g end.archive 0 dropped new × Appends t.taken t.taken' out × HasRisen t.lost t.lost'
+    × StopsStore g t old asked found options (out ++ rest) end outcome s new
+StoreEnds g t old asked found options new (Err ReadFailed) = ⊥
+StoreEnds g t old asked found options new (Err TooManyReads) = ⊥
 
 -- Nothing is retired but for a stream that is begun then. Over an archive without streams, as an opening answers it, a retirement
 -- is followed by the stream that it is for; only want of memory keeps it from beginning.
 abbrev pub RetiresForAStreamAlone : {D : Type 0} → disk.Ghosts D → Type 0
-RetiresForAStreamAlone {D} g = (file file' : Option (List ℕ)) (fails fails' : ℕ) (old : Parts D) (asked : Option Policy) (found : Result StreamFacts (List ℕ)) (label : Option (List ℕ))
+RetiresForAStreamAlone {D} g = (file file' : Option (List ℕ)) (fails fails' : ℕ) (old : Parts D) (asked : Option Policy) (found : Result StreamFacts (List ℕ)) (options : Options)
     (replies : List ℕ) (end : Parts D) (outcome : StoreOutcome) (limit : ℕ)
     → IsOpened limit old
-    → (s : Stores g file file' fails fails' old asked found label replies end outcome)
+    → (s : Stores g file file' fails fails' old asked found options replies end outcome)
     → outcome.retired_first ≡ true
     → (s.retired ≡ old) ⊎ (s.stores.accepted ≡ true) ⊎ (s.stores.first ≡ no_reply (codes "OutOfMemory"))
 
 -- A policy that was asked for is left out only where the stream is refused.
 abbrev pub RetiresUnlessRefused : {D : Type 0} → disk.Ghosts D → Type 0
-RetiresUnlessRefused {D} g = (file file' : Option (List ℕ)) (fails fails' : ℕ) (old : Parts D) (asked : Option Policy) (found : Result StreamFacts (List ℕ)) (label : Option (List ℕ))
+RetiresUnlessRefused {D} g = (file file' : Option (List ℕ)) (fails fails' : ℕ) (old : Parts D) (asked : Option Policy) (found : Result StreamFacts (List ℕ)) (options : Options)
     (replies : List ℕ) (end : Parts D) (outcome : StoreOutcome) (policy : Policy)
     → asked ≡ Some policy
-    → (s : Stores g file file' fails fails' old asked found label replies end outcome)
+    → (s : Stores g file file' fails fails' old asked found options replies end outcome)
     → (s.retires_first.policy ≡ Some policy) ⊎ (s.stores.accepted ≡ false)
 
 -- Where no policy is asked for, nothing is retired and nothing is told of it.
 abbrev pub RetiresNothingUnasked : {D : Type 0} → disk.Ghosts D → Type 0
-RetiresNothingUnasked {D} g = (file file' : Option (List ℕ)) (fails fails' : ℕ) (old : Parts D) (found : Result StreamFacts (List ℕ)) (label : Option (List ℕ))
+RetiresNothingUnasked {D} g = (file file' : Option (List ℕ)) (fails fails' : ℕ) (old : Parts D) (found : Result StreamFacts (List ℕ)) (options : Options)
     (replies : List ℕ) (end : Parts D) (outcome : StoreOutcome)
-    → (s : Stores g file file' fails fails' old None found label replies end outcome)
+    → (s : Stores g file file' fails fails' old None found options replies end outcome)
     → (s.told ≡ []) × (s.retired ≡ old) × (outcome.retired_first ≡ true)

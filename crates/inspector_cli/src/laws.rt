@@ -57,8 +57,8 @@ pub fn a_session_is_crash_safe<D: Disk>()
     sessions_are_runs::<D>();
 }
 
-/// The headline of each store from an opening on: what the archive holds when cases are retired, when the case is stored, and when it has
-/// its label. The case is the stream that was begun, with all bytes of FILE as its image.
+/// The headline of each store from an opening on: what the archive holds when cases are retired, when the case is stored, when it has
+/// its label, and when it is pinned. The case is the stream that was begun, with all bytes of FILE as its image.
 pub fn a_store_is_crash_safe<D: Disk>()
     ensures { StoresAreCrashSafe D.Disk }
 {

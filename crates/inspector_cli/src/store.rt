@@ -1,4 +1,4 @@
-// One stream, stored from its own input, with cases retired before it, and the label of its case.
+// One stream, stored from its own input, with cases retired before it, and the label and the pin of its case.
 ghost use Rattle.std.specs.Prelude.{◌≡◌, ℕ, true, List, [], Ok};
 ghost use Rattle.intake.specs.Durable.{Durable};
 ghost use Rattle.intake.specs.Parts.{Parts, state_of};
@@ -6,12 +6,12 @@ ghost use Rattle.stream_names.specs.Commands.{stream_found};
 ghost use Rattle.inspector_cli.specs.Reply.{Begins, Takes};
 ghost use Rattle.script_streams.specs.Replies.{TellsReply, telling};
 ghost use Rattle.inspector_cli.specs.Session.{streams_of};
-ghost use Rattle.inspector_cli.specs.Storing.{StoreEnds, Stores, StoresStream, RestReplies, LabelsCase, label_asked, TakesFile, TakesMore, IsSlotQuiet};
+ghost use Rattle.inspector_cli.specs.Storing.{StoreEnds, Stores, StoresStream, RestReplies, PinsCase, LabelsCase, label_asked, options_asked, TakesFile, TakesMore, IsSlotQuiet};
 
-use crate::answers::{answer_end, answer_label};
+use crate::answers::{answer_end, answer_label, answer_pin};
 use crate::begin::answer_begin;
 use crate::retiring::retire_first;
-use crate::session::{SessionFault, StoreOutcome};
+use crate::session::{SessionFault, StoreOptions, StoreOutcome};
 use archive_replies::reason;
 use arrayvec::ArrayVec;
 use disk_model::Disk;
@@ -32,7 +32,7 @@ enum TakeStop {
     Refused(ArchiveFault),
 }
 
-/// Stores one stream. A policy, if one is given, is carried out before it. Gives its case this label, if one is given.
+/// Stores one stream, with these options. A policy, if one is given, is carried out before it.
 ///
 /// - Room is made as by the line `retire` of a session, if the stream can begin then: `found` is a stream, and no case that
 ///   stays has its name. Otherwise nothing is retired, and nothing is told of it. The stream is stored whatever was answered.
@@ -40,7 +40,8 @@ enum TakeStop {
 ///   and becomes a case. The reply is that of the line `begin`, and then that of the first step that was refused, or else
 ///   that of the line `end 0`. A `file` that cannot be read, or that has not ended after 2^40 reads, is a step that is
 ///   refused with the reply `no File`.
-/// - The label is set as by the line `label` of a session, once the case is stored. A case whose label is refused stays.
+/// - Once the case is stored, it gets its label as by the line `label` of a session, and then it is pinned as by the line `pin`.
+///   A case whose label or pin is refused stays.
 ///
 /// No stream is open in slot 0 then.
 ///
@@ -50,19 +51,19 @@ enum TakeStop {
 pub fn store_stream<I: Input, O: Output, D: Disk>(
     policy: Option<Policy>,
     found: Result<NewStream, &'static [u8]>,
-    label: &Option<ArrayVec<u8, 64>>,
+    options: &StoreOptions,
     file: &mut I,
     output: &mut O,
     archive: &mut Archive<D>,
 ) -> Result<StoreOutcome, SessionFault>
     ensures ends { (doubts : List Durable) → StoreEnds D.Disk (streams_of I.Input O.Output file.old file.new output.old output.new)
-        (record { archive = archive.old; in_doubt = doubts }) policy (stream_found found.entry) (label_asked label.now) archive.new result }
+        (record { archive = archive.old; in_doubt = doubts }) policy (stream_found found.entry) (options_asked options.now) archive.new result }
     ensures quiet { IsSlotQuiet (state_of archive.new) }
 {
     calls_lead_from_mark_to_mark::<D>();
     found_after_a_stop::<D>();
     let mut reply = Reply::new(output);
-    let outcome = answer_all(policy, found, label, file, &mut reply, archive);
+    let outcome = answer_all(policy, found, options, file, &mut reply, archive);
     let _ = archive.abandon(0);
     let Ok(()) = reply.finish() else {
         return Err(SessionFault::WriteFailed);
@@ -70,26 +71,46 @@ pub fn store_stream<I: Input, O: Output, D: Disk>(
     Ok(outcome)
 }
 
-// Retires by the policy, stores the stream with its file, and then gives the case its label.
+// Retires by the policy, stores the stream with its file, and then gives the case its label and its pin.
 fn answer_all<I: Input, O: Output, D: Disk>(
     policy: Option<Policy>,
     found: Result<NewStream, &'static [u8]>,
-    label: &Option<ArrayVec<u8, 64>>,
+    options: &StoreOptions,
     file: &mut I,
     reply: &mut Reply<'_, O>,
     archive: &mut Archive<D>,
 ) -> StoreOutcome
     ensures { TellsReply (telling O.Output reply.old reply.new) (λ text. Stores D.Disk (I.remaining file.old) (I.remaining file.new) (I.failures file.old) (I.failures file.new)
-        archive.old policy (stream_found found.entry) (label_asked label.now) text archive.new result) }
+        archive.old policy (stream_found found.entry) (options_asked options.now) text archive.new result) }
 {
     let retired_first = retire_first(policy, &found, reply, archive);
     let stored = answer_store(found, file, reply, archive);
-    let labelled = label_case(stored, label, reply, archive);
+    let labelled = label_case(stored, &options.label, reply, archive);
+    let pinned = pin_case(stored, options.pin, reply, archive);
     StoreOutcome {
         retired_first,
         stored,
         labelled,
+        pinned,
     }
+}
+
+// Pins the case that is stored, if it is to be. Says whether that was answered other than `no REASON`.
+fn pin_case<O: Output, D: Disk>(
+    stored: Option<u32>,
+    pin: bool,
+    reply: &mut Reply<'_, O>,
+    archive: &mut Archive<D>,
+) -> bool
+    ensures { TellsReply (telling O.Output reply.old reply.new) (λ text. PinsCase D.Disk archive.old stored pin text archive.new result) }
+{
+    let Some(seq) = stored else {
+        return true;
+    };
+    if !pin {
+        return true;
+    }
+    answer_pin(seq, true, reply, archive)
 }
 
 // Gives the case that is stored its label, if there are both. Says whether that was answered other than `no REASON`.
