@@ -99,6 +99,7 @@ pub(crate) fn read_words<'a>(alloc: Global, words: &'a [String]) -> Result<Asked
                 options: StoreOptions {
                     label: label_of(alloc, found)?,
                     pin: found.get_flag("pin"),
+                    fit: found.get_flag("fit"),
                 },
             },
             settings: settings_of(found)?,

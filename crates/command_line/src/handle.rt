@@ -157,6 +157,7 @@ impl<'a> Handler<'a> {
             options: StoreOptions {
                 label: self.label(rt),
                 pin: false,
+                fit: self.config.fit,
             },
         };
         let limit = self.config.limit.unwrap_or(HANDLER_LIMIT);

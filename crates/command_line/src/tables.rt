@@ -61,8 +61,8 @@ pub(crate) static COMMANDS: [CommandWords; 9] = [
         about: "stores a core file as a case of an archive, named by the template, or an executable",
         after_help: None,
         words: &[
-            ARCHIVE, FILE, PAIRS, EXEC, PIN, LABEL, ESCAPE, KEEP, BYTES, BEFORE, NO_WAIT, TEMPLATE,
-            USES_PID, LIMIT, LOG,
+            ARCHIVE, FILE, PAIRS, EXEC, PIN, LABEL, ESCAPE, KEEP, BYTES, BEFORE, FIT, NO_WAIT,
+            TEMPLATE, USES_PID, LIMIT, LOG,
         ],
     },
     CommandWords {
@@ -308,6 +308,15 @@ const BEFORE: Word = Word {
     takes: Takes::Text,
     default: None,
     help: "deletes the cases whose time is before T first, pinned ones aside",
+};
+
+// Whether cases go while it is stored.
+const FIT: Word = Word {
+    id: "fit",
+    shown: "",
+    takes: Takes::Flag,
+    default: None,
+    help: "deletes the oldest cores while FILE is stored, pinned ones aside, as often as it finds no room; executables go once no core is left",
 };
 
 // The words of a line.

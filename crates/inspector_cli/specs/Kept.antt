@@ -9,7 +9,7 @@ use Rattle.intake.specs.Durable.{Durable, FoundCase, StandsFor}
 use Rattle.intake.specs.Lives.{IsAmong}
 use Rattle.intake.specs.State.{StreamFacts, origin_of}
 use Rattle.retention.specs.declared.Policy.{Policy}
-use Rattle.script_lines.specs.Said.{Said, end_of, label_of}
+use Rattle.script_lines.specs.Said.{Said, end_of, delete_of, label_of}
 use Rattle.script_streams.specs.Replies.{no_reply, ok_reply}
 use Rattle.stream_names.specs.declared.naming.Naming.{Naming}
 use Rattle.archive_replies.specs.Texts.{end_reply}
@@ -17,7 +17,7 @@ use Rattle.inspector_cli.specs.declared.session.LifeFault.{LifeFault}
 use Rattle.inspector_cli.specs.declared.session.StoreOutcome.{StoreOutcome}
 use Rattle.inspector_cli.specs.Headline.{Line, IsCrashSafe, HasFlag, answers_of, answer_of, begins_as, begun_in, last_moment}
 use Rattle.inspector_cli.specs.Session.{Streams}
-use Rattle.inspector_cli.specs.StoreHeadline.{IsStoreSafe}
+use Rattle.inspector_cli.specs.StoreHeadline.{Gone, IsStoreSafe}
 use Rattle.inspector_cli.specs.Storing.{Options, retire_line, said_label}
 use Rattle.inspector_cli.specs.Told.{Answer, MayDrop, what_of, parts_in}
 
@@ -73,7 +73,7 @@ pub record IsSession {D : Type 0} (g : disk.Ghosts D) (k : Kept) (c : Command D)
   pub lines : AllSpare k (answers_of safe.course)
   pub last : Spares k safe.course.last safe.course.reply
 
--- It stores a stream, and what it retires and the label that it gives spare the case.
+-- It stores a stream, and what it retires, the cases that go and the label that it gives spare the case.
 pub record IsStore {D : Type 0} (g : disk.Ghosts D) (k : Kept) (c : Command D) : Type 0 where
   pub streams : Streams
   pub asked : Option Policy
@@ -82,6 +82,7 @@ pub record IsStore {D : Type 0} (g : disk.Ghosts D) (k : Kept) (c : Command D) :
   pub answer : Result StoreOutcome LifeFault
   pub safe : IsStoreSafe g streams asked found given c.before c.after answer
   pub retired : Spares k (retire_line safe.course.policy) safe.course.told
+  pub gone : AllByRecursion (λ (x : Gone D). Spares k (delete_of x.seq) x.reply) safe.course.gone
   pub gives : Spares k (said_label safe.course.stored given.label) safe.course.labels
 
 -- Its opening was refused: reads give what they gave, and a stop leaves what one before could have left.

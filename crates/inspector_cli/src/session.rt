@@ -10,6 +10,9 @@ pub struct StoreOptions {
     pub label: Option<ArrayVec<u8, 64>>,
     /// Its case is pinned: no deletion and no retirement takes it.
     pub pin: bool,
+    /// Where the stream finds no room, cases that are not pinned are deleted: first the cores, then the executables, those of the
+    /// lowest numbers first.
+    pub fit: bool,
 }
 
 /// What came of a stream that was to be stored, of what was to be retired before it, and of the label and the pin of its case.

@@ -85,6 +85,7 @@ fn stores<D: Disk + Drop>(rt: &(impl AllocGlobal + Abort), disk: D, row: &Row) -
     let options = StoreOptions {
         label: None,
         pin: false,
+        fit: false,
     };
     let (text, outcome, disk) = stored(rt.alloc(), disk, row, &options)?;
     assert_eq!(rt; text.as_str(), row.replies);
@@ -322,7 +323,11 @@ fn stores_labelled<D: Disk + Drop>(
     is_labelled: bool,
 ) -> Result<D, Fail> {
     let label = ArrayVec::try_from(b"red".as_slice()).ok();
-    let options = StoreOptions { label, pin: false };
+    let options = StoreOptions {
+        label,
+        pin: false,
+        fit: false,
+    };
     let (text, outcome, disk) = stored(rt.alloc(), disk, row, &options)?;
     assert_eq!(rt; text.as_str(), row.replies);
     assert_eq!(rt; outcome.stored, row.stored);
@@ -360,6 +365,7 @@ fn stores_pinned<D: Disk + Drop>(
     let options = StoreOptions {
         label: None,
         pin: true,
+        fit: false,
     };
     let (text, outcome, disk) = stored(rt.alloc(), disk, row, &options)?;
     assert_eq!(rt; text.as_str(), row.replies);
