@@ -380,3 +380,59 @@ fn a_case_is_stored_with_its_pin(rt: HostRuntime) -> Result<(), Fail> {
     let disk = stores_pinned(&rt, disk, &REFUSED, true)?;
     lists(&rt, disk, "1 exec 5 0 0 0 pinned a\nok\n")
 }
+
+static UNRETIRED: Row = Row {
+    policy: None,
+    line: b"begin exec 0 b",
+    size: 8192,
+    replies: "name b\nok\nstored 2\nok\n",
+    retired_first: true,
+    stored: Some(2),
+};
+
+// A case goes where the four data blocks are full; none where what is there is pinned.
+static FITTED: Row = Row {
+    policy: None,
+    line: b"begin exec 0 c",
+    size: 8192,
+    replies: "name c\nok\ndropped 2\nstored 3\nok\n",
+    retired_first: true,
+    stored: Some(3),
+};
+
+static NOT_FITTED: Row = Row {
+    policy: None,
+    line: b"begin exec 0 d",
+    size: 8193,
+    replies: "name d\nok\ndropped 3\nno SpaceFull\n",
+    retired_first: true,
+    stored: None,
+};
+
+// The same of a store for which cases may go.
+fn stores_fitting<D: Disk + Drop>(
+    rt: &(impl AllocGlobal + Abort),
+    disk: D,
+    row: &Row,
+) -> Result<D, Fail> {
+    let options = StoreOptions {
+        label: None,
+        pin: false,
+        fit: true,
+    };
+    let (text, outcome, disk) = stored(rt.alloc(), disk, row, &options)?;
+    assert_eq!(rt; text.as_str(), row.replies);
+    assert_eq!(rt; outcome.stored, row.stored);
+    Ok(disk)
+}
+
+#[test]
+fn cases_go_so_that_a_stream_fits(rt: HostRuntime) -> Result<(), Fail> {
+    let disk = stores(&rt, fresh_disk(rt.alloc())?, &FULL[0])?;
+    let mut archive = opened(rt.alloc(), disk, 1 << 30)?;
+    tells(&rt, &mut archive, b"pin 1\n", "ok\n")?;
+    let disk = stores(&rt, archive.close(), &UNRETIRED)?;
+    let disk = stores_fitting(&rt, disk, &FITTED)?;
+    let disk = stores_fitting(&rt, disk, &NOT_FITTED)?;
+    lists(&rt, disk, "1 exec 8192 0 0 0 pinned a\nok\n")
+}
