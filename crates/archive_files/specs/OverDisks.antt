@@ -5,7 +5,7 @@ use Rattle.disk_model.specs.declared.disk.Disk as disk
 use Rattle.inspector_cli.specs.Asking.{AsksAlone, as_session, line_streams}
 use Rattle.inspector_cli.specs.Life.{LifeEnds, RunsOver, StoresOver}
 use Rattle.inspector_cli.specs.Session.{Streams}
-use Rattle.inspector_cli.specs.Storing.{label_asked}
+use Rattle.inspector_cli.specs.Storing.{options_asked}
 use Rattle.inspector_cli.specs.declared.session.LifeFault.{LifeFault}
 use Rattle.inspector_cli.specs.declared.session.StoreOutcome.{StoreOutcome}
 use Rattle.intake.specs.Calls.{OpenCall}
@@ -53,7 +53,7 @@ AnswersLine g what taken taken' lost lost' before r after =
 abbrev pub StoresOnDisk : {D : Type 0} → disk.Ghosts D → StoreRequest → Streams → D → Result (Unit {0}) Failure → D → Type 0
 StoresOnDisk g request t before r after =
     (ended : Result StoreOutcome LifeFault)
-    × LifeEnds g request.limit t before ended after (StoresOver g request.policy (stream_found request.found) (label_asked request.label) t)
+    × LifeEnds g request.limit t before ended after (StoresOver g request.policy (stream_found request.found) (options_asked request.options) t)
     × (r ≡ store_told ended)
 
 -- the same request, or without its policy

@@ -24,9 +24,9 @@ ask_told (Ok true) = Ok tt
 ask_told (Ok false) = Err Told
 ask_told (Err f) = Err (life_failure f)
 
--- what is told of a store: it is done where the case is stored, and neither its policy nor its label was refused
+-- what is told of a store: it is done where the case is stored, and neither its policy nor its label nor its pin was refused
 abbrev pub store_told : Result StoreOutcome LifeFault → Result (Unit {0}) Failure
-store_told (Ok outcome) = if outcome.retired_first && is_some outcome.stored && outcome.labelled then Ok tt else Err Told
+store_told (Ok outcome) = if outcome.retired_first && is_some outcome.stored && (outcome.labelled && outcome.pinned) then Ok tt else Err Told
 store_told (Err f) = Err (life_failure f)
 
 -- what is done to an archive by a line that only looks, and by any other

@@ -36,13 +36,14 @@ pub fn life_failure(fault: LifeFault) -> Failure
     }
 }
 
-/// How the end of a store is told: it is done where the case is stored, and neither its policy nor its label was refused.
+/// How the end of a store is told: it is done where the case is stored, and neither its policy nor its label nor its pin was refused.
 pub fn store_told(ended: Result<StoreOutcome, LifeFault>) -> Result<(), Failure>
     ensures { result ≡ store_told ended }
 {
     match ended {
         Ok(outcome) => {
-            if outcome.retired_first && outcome.stored.is_some() && outcome.labelled {
+            let is_tagged = outcome.labelled && outcome.pinned;
+            if outcome.retired_first && outcome.stored.is_some() && is_tagged {
                 Ok(())
             } else {
                 Err(Failure::Told)

@@ -10,9 +10,8 @@ ghost use Rattle.archive_files.specs.OverDisks.{StoresOnDisk, StoresFile, IsFitt
 use crate::collected::Collected;
 use crate::failures::{Failure, Refusal};
 use crate::outcomes::store_told;
-use arrayvec::ArrayVec;
 use disk_model::Disk;
-use inspector_cli::{Naming, NewStream, line_stream, open_and_store};
+use inspector_cli::{Naming, NewStream, StoreOptions, line_stream, open_and_store};
 use intake::Settings;
 use retention::Policy;
 use script_streams::{Input, Output, ReadInput, Reply};
@@ -29,8 +28,8 @@ pub struct StoreWords {
     pub policy: Option<Policy>,
     /// The line of a script that begins the stream.
     pub begin: Vec<u8>,
-    /// The label of the case, where one is asked for.
-    pub label: Option<ArrayVec<u8, 64>>,
+    /// What is asked for besides.
+    pub options: StoreOptions,
 }
 
 /// What is stored, and with what. Whoever holds it may leave the policy out, and change nothing else.
@@ -40,8 +39,8 @@ pub struct StoreRequest {
     policy: Option<Policy>,
     // The stream, or why there is none.
     found: Result<NewStream, &'static [u8]>,
-    // The label of the case, where one is asked for.
-    label: Option<ArrayVec<u8, 64>>,
+    // What is asked for besides.
+    options: StoreOptions,
     // The most bytes of an image.
     limit: u64,
 }
@@ -51,18 +50,18 @@ impl StoreRequest {
     pub fn of(words: StoreWords, naming: &Naming, limit: u64) -> Self
         ensures policy { result.policy ≡ words.policy }
         ensures found { stream_found result.found ≡ line_stream naming.now (said words.begin.items) }
-        ensures label { result.label ≡ words.label }
+        ensures options { result.options ≡ words.options }
         ensures limit { result.limit ≡ limit }
     {
         let StoreWords {
             policy,
             begin,
-            label,
+            options,
         } = words;
         StoreRequest {
             policy,
             found: line_stream(&begin, naming),
-            label,
+            options,
             limit,
         }
     }
@@ -161,10 +160,12 @@ fn store_retiring_first<D: Disk, I: Input, O: Output>(
     let StoreRequest {
         policy,
         found,
-        label,
+        options,
         limit,
     } = request;
     let settings = Settings { limit };
-    let (ended, disk) = open_and_store(alloc, disk, settings, policy, found, &label, file, output);
+    let (ended, disk) = open_and_store(
+        alloc, disk, settings, policy, found, &options, file, output,
+    );
     (store_told(ended), disk)
 }

@@ -6,6 +6,7 @@ use crate::raw_words::{is_text, push_escaped};
 use archive_files::{ArchivePath, NewArchive, Refusal, StoreWords, WordPart};
 use arrayvec::ArrayVec;
 use clap::ArgMatches;
+use inspector_cli::StoreOptions;
 use journal_layout::Shape;
 use line_help::help_of;
 use retention::Policy;
@@ -95,7 +96,11 @@ pub(crate) fn read_words<'a>(alloc: Global, words: &'a [String]) -> Result<Asked
             wanted: StoreWords {
                 policy: policy_of(found)?,
                 begin: first_line(alloc, found)?,
-                label: label_of(alloc, found)?,
+                options: StoreOptions {
+                    label: label_of(alloc, found)?,
+                    pin: found.get_flag("pin"),
+                    fit: found.get_flag("fit"),
+                },
             },
             settings: settings_of(found)?,
             log: found.get_str("log").map(checked).transpose()?,

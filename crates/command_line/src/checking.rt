@@ -51,6 +51,7 @@ fn tell_config<O: Output>(reply: &mut Reply<'_, O>, config: &Config<'_>, archive
         b"limit ",
         Some(config.limit.unwrap_or(HANDLER_LIMIT)),
     );
+    tell_flag_line(reply, b"fit ", config.fit);
     let template = config.template.unwrap_or(HANDLER_TEMPLATE);
     tell_text_line(reply, b"template ", Some(template));
     tell_flag_line(reply, b"uses-pid ", config.uses_pid);
@@ -192,8 +193,12 @@ fn tell_blocks<O: Output>(
     is_large
 }
 
-// How many data blocks keep what a configuration asks for, with one more core of the limit. An image takes whole blocks.
+// How many data blocks keep what a configuration asks for, with one more core of the limit. An image takes whole blocks. If cases go
+// so that it fits, that is one core of the limit.
 fn blocks_wanted(config: &Config<'_>) -> Option<u128> {
+    if config.fit {
+        return Some(u128::from(config.limit.unwrap_or(HANDLER_LIMIT)).div_ceil(BLOCK));
+    }
     let keep = u128::from(config.keep?);
     let limit = u128::from(config.limit.unwrap_or(HANDLER_LIMIT));
     match config.bytes {

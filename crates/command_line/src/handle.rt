@@ -8,7 +8,7 @@ use archive_files::{ArchivePath, Collected, Failure, FileWord, Refusal, StoreReq
 use arrayvec::ArrayVec;
 use disk_model::FileFault;
 use handler_config::Config;
-use inspector_cli::Naming;
+use inspector_cli::{Naming, StoreOptions};
 use name_template::Template;
 use retention::Policy;
 use script_streams::{Output, Reply};
@@ -161,7 +161,11 @@ impl<'a> Handler<'a> {
         let words = StoreWords {
             policy: self.policy(rt),
             begin: begin.clone()?,
-            label: self.label(rt),
+            options: StoreOptions {
+                label: self.label(rt),
+                pin: false,
+                fit: self.config.fit,
+            },
         };
         let limit = self.config.limit.unwrap_or(HANDLER_LIMIT);
         Ok(StoreRequest::of(words, &naming, limit))

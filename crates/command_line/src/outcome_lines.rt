@@ -81,8 +81,8 @@ pub(crate) fn stored_line(
     line
 }
 
-// What is told of a core that is lost for this reason.
-pub(crate) fn lost_line(alloc: Global, name: &[u8], reason: &[u8]) -> Collected {
+// What is told of a core that is lost for this reason, and of the cases that were dropped even so.
+pub(crate) fn lost_line(alloc: Global, replies: &[u8], name: &[u8], reason: &[u8]) -> Collected {
     let mut line = Collected::new(alloc);
     let mut reply = Reply::new(&mut line);
     reply.tell(b"lost ");
@@ -94,6 +94,7 @@ pub(crate) fn lost_line(alloc: Global, name: &[u8], reason: &[u8]) -> Collected 
         reply.tell(b": ");
         reply.tell(words);
     }
+    tell_dropped(&mut reply, replies);
     let _ = reply.finish();
     line
 }

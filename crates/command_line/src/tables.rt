@@ -61,8 +61,8 @@ pub(crate) static COMMANDS: [CommandWords; 9] = [
         about: "stores a core file as a case of an archive, named by the template, or an executable",
         after_help: None,
         words: &[
-            ARCHIVE, FILE, PAIRS, EXEC, LABEL, ESCAPE, KEEP, BYTES, BEFORE, NO_WAIT, TEMPLATE,
-            USES_PID, LIMIT, LOG,
+            ARCHIVE, FILE, PAIRS, EXEC, PIN, LABEL, ESCAPE, KEEP, BYTES, BEFORE, FIT, NO_WAIT,
+            TEMPLATE, USES_PID, LIMIT, LOG,
         ],
     },
     CommandWords {
@@ -256,6 +256,15 @@ const EXEC: Word = Word {
     help: "stores an executable of this name in place of a core",
 };
 
+// Whether the case is kept from retirement.
+const PIN: Word = Word {
+    id: "pin",
+    shown: "",
+    takes: Takes::Flag,
+    default: None,
+    help: "pins the new case, so that no deletion and no retirement takes it: for executables",
+};
+
 // What is noted of the case.
 const LABEL: Word = Word {
     id: "label",
@@ -299,6 +308,15 @@ const BEFORE: Word = Word {
     takes: Takes::Text,
     default: None,
     help: "deletes the cases whose time is before T first, pinned ones aside",
+};
+
+// Whether cases go while it is stored.
+const FIT: Word = Word {
+    id: "fit",
+    shown: "",
+    takes: Takes::Flag,
+    default: None,
+    help: "deletes the oldest cores while FILE is stored, pinned ones aside, as often as it finds no room; executables go once no core is left",
 };
 
 // The words of a line.

@@ -46,8 +46,8 @@ impl<'a> Teller<'a> {
         self.log.tell(rt, self.alloc, level, text);
     }
 
-    fn tell_lost<R: Files<File = File>>(&self, rt: &R, name: &[u8], reason: &[u8]) {
-        let line = lost_line(self.alloc, name, reason);
+    fn tell_lost<R: Files<File = File>>(&self, rt: &R, replies: &[u8], name: &[u8], reason: &[u8]) {
+        let line = lost_line(self.alloc, replies, name, reason);
         self.tell(rt, Level::Error, line.text());
     }
 
@@ -55,15 +55,16 @@ impl<'a> Teller<'a> {
     fn tell_refused<R: Files<File = File>>(
         &self,
         rt: &R,
+        replies: &[u8],
         name: &[u8],
         refused: &[u8],
         ended: &Result<(), Failure>,
     ) {
         match ended {
             Err(Failure::Refused(refusal)) => {
-                self.tell_lost(rt, name, reason_of(self.alloc, *refusal).text());
+                self.tell_lost(rt, replies, name, reason_of(self.alloc, *refusal).text());
             }
-            _ => self.tell_lost(rt, name, refused),
+            _ => self.tell_lost(rt, replies, name, refused),
         }
     }
 
@@ -101,7 +102,7 @@ impl<'a> Teller<'a> {
         let outcome = outcome_of(replies);
         match (outcome.stored, disk) {
             (Some(number), Some(disk)) => self.tell_stored(rt, archive, replies, number, disk),
-            _ => self.tell_refused(rt, name, outcome.refused, ended),
+            _ => self.tell_refused(rt, replies, name, outcome.refused, ended),
         }
     }
 

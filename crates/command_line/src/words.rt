@@ -65,7 +65,7 @@ pub fn run_program<
 ///   `--bytes B` or `--before T` the line `retire` of a script with these limits is carried out first, in the same opening,
 ///   and its reply goes before the others; where it is refused the file is stored all the same. With `--label TEXT` the
 ///   line `label` of a script gives the new case this label, and its reply follows the others; where it is refused, as in
-///   an archive of version 1 of the layout, the case stays.
+///   an archive of version 1 of the layout, the case stays. With `--pin` the line `pin` comes after that, in the same way.
 /// - `list ARCHIVE` and `ask ARCHIVE WORD..` carry out one line of a script, `extract ARCHIVE N [FILE]` writes the image of a
 ///   case. A line that changes no case, and `extract`, need no right to write the archive's file, and hold its lock only while they
 ///   read its journal.

@@ -18,6 +18,8 @@ pub struct Config<'t> {
     pub before: Option<u64>,
     /// The most bytes of an image.
     pub limit: Option<u64>,
+    /// Cases go so that a core finds room, the oldest cores first.
+    pub fit: bool,
     /// How cores are named, a template of core(5).
     pub template: Option<&'t str>,
     /// Names get a dot and the process if their template has no `%p`.
@@ -41,6 +43,7 @@ impl<'t> Config<'t> {
             bytes: natural_at(document, "bytes"),
             before: age_at(document, "before"),
             limit: natural_at(document, "limit"),
+            fit: flag_at(document, "fit"),
             template: text_at(document, "template"),
             uses_pid: flag_at(document, "uses-pid"),
             no_wait: flag_at(document, "no-wait"),

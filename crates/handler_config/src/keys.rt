@@ -19,6 +19,8 @@ pub enum Key {
     Before,
     /// The most bytes of an image: a number.
     Limit,
+    /// Cases go so that a core finds room, the oldest cores first: true or false.
+    Fit,
     /// How cores are named, a template of core(5): a text.
     Template,
     /// Names get a dot and the process if their template has no `%p`: true or false.
@@ -56,6 +58,7 @@ fn key_of(word: &str) -> Option<Key>
         "bytes" => Some(Key::Bytes),
         "before" => Some(Key::Before),
         "limit" => Some(Key::Limit),
+        "fit" => Some(Key::Fit),
         "template" => Some(Key::Template),
         "uses-pid" => Some(Key::UsesPid),
         "no-wait" => Some(Key::NoWait),
@@ -87,6 +90,8 @@ pub fn entry_fault(word: &str, value: &Value) -> Option<Fault>
             unless_there(Fault::NotNumber, natural_in(value).is_some())
         }
         Key::Before => unless_there(Fault::NotAge, age_in(value).is_some()),
-        Key::UsesPid | Key::NoWait => unless_there(Fault::NotFlag, value.as_bool().is_some()),
+        Key::Fit | Key::UsesPid | Key::NoWait => {
+            unless_there(Fault::NotFlag, value.as_bool().is_some())
+        }
     }
 }

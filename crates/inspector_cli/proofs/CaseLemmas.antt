@@ -8,6 +8,7 @@ use Rattle.journal_layout.specs.Soundness.{case_numbered}
 use Rattle.journal_layout.specs.Case.{Case}
 use Rattle.journal_layout.specs.declared.shape.Shape.{Shape}
 use Rattle.inspector_cli.specs.Headline as headline
+use Rattle.inspector_cli.specs.StoreHeadline.{case_in}
 use Rattle.inspector_cli.proofs.SlotLemmas.{some_same}
 
 module _ (shape : Shape) (bytes : List ℕ) where
@@ -26,3 +27,7 @@ module _ (shape : Shape) (bytes : List ℕ) where
   pub briefs_are : (cs : List Case) → map step.brief_of cs ≡ map headline.brief_of (map (found_case shape bytes) cs)
   briefs_are [] = refl
   briefs_are (k ∷ ks) = ap (λ (xs : List _). step.brief_of k ∷ xs) (briefs_are ks)
+
+  pub cases_are : (cs : List Case) → cs ≡ map case_in (map (found_case shape bytes) cs)
+  cases_are [] = refl
+  cases_are (k ∷ ks) = ap (λ (xs : List _). k ∷ xs) (cases_are ks)

@@ -182,6 +182,18 @@ lent_length into room size most same is =
     let c = length-take-le size room (omega (arith, is)) in
     omega (arith, a, b, c, same, is)
 
+-- some of them, where the room has any
+pub lent_some : (into room : List ℕ) (size most : ℕ) → length into ≡ length (take size room) → size ≡ min (length room) most → 0 < length room → 0 < most → 0 < length into
+lent_some into room size most same is some any =
+    let c = length-take-le size room (omega (arith, is)) in
+    omega (arith, c, same, is, some, any)
+
+-- and no more than the room has
+pub lent_few : (into room : List ℕ) (size most n : ℕ) → length into ≡ length (take size room) → size ≡ min (length room) most → n ≤ length into → n ≤ length room
+lent_few into room size most n same is few =
+    let c = length-take-le size room (omega (arith, is)) in
+    omega (arith, c, same, is, few)
+
 -- no byte yet
 pub fed_none : {D : Type 0} (g : disk.Ghosts D) (a new : Parts D) (slot : ℕ) (r : Result (Unit {0}) ArchiveFault) → AdvanceCall g a slot 0 r new → Takes g a slot [] r new
 fed_none g a new slot r call = record {

@@ -19,11 +19,12 @@ use Rattle.script_streams.specs.Replies.{no_reply, ok_reply}
 use Rattle.stream_names.specs.declared.naming.Naming.{Naming}
 use Rattle.archive_replies.specs.Texts.{end_reply, dropped_line, unmet_line}
 use Rattle.inspector_cli.specs.declared.session.LifeFault.{LifeFault}
-use Rattle.inspector_cli.specs.Headline.{Moment, Line, Course, IsCrashSafe, IsCourse, Leads, LeadsOn, WouldLeave, AllLead, FindsMoment, FindsSince, IsSafe, AreSafe, answer_of, moment_of, begins_as, begun_in, last_moment}
-use Rattle.inspector_cli.specs.Kept.{Kept, IsKeptAs, HasThisLabel, HoldsKept, FindsKept, Spares, AllSpare, Command, IsSession, IsStore, IsCommand, AStopIsTakenUp, AReopeningIsTakenUp, AreNext, StaysFound, ASessionKeepsACase, ALineStoresACase, AStoreStoresACase, AStoreKeepsACase, relabelled, ALineLabelsACase, AStoreLabelsACase}
+use Rattle.inspector_cli.specs.declared.session.StoreOutcome.{StoreOutcome}
+use Rattle.inspector_cli.specs.Headline.{HasFlag, Moment, Line, Course, IsCrashSafe, IsCourse, Leads, LeadsOn, WouldLeave, AllLead, FindsMoment, FindsSince, IsSafe, AreSafe, answer_of, moment_of, begins_as, begun_in, last_moment}
+use Rattle.inspector_cli.specs.Kept.{Kept, IsKeptAs, HasThisLabel, HoldsKept, FindsKept, Spares, AllSpare, Command, IsSession, IsStore, IsCommand, AStopIsTakenUp, AReopeningIsTakenUp, AreNext, StaysFound, ASessionKeepsACase, ALineStoresACase, AStoreStoresACase, AStoreKeepsACase, relabelled, ALineLabelsACase, AStoreLabelsACase, AStorePinsACase}
 use Rattle.inspector_cli.specs.Session.{Streams}
-use Rattle.inspector_cli.specs.StoreHeadline.{AddsCase, StoresOrNot, TellsStored, StoreCourse, IsStoreCourse, no_stream}
-use Rattle.inspector_cli.specs.Storing.{retire_line, said_label}
+use Rattle.inspector_cli.specs.StoreHeadline.{IsStoreSafe, AddsCase, StoresOrNot, TellsStored, Gone, GoInTurn, StoreCourse, IsStoreCourse, moments_of, no_stream}
+use Rattle.inspector_cli.specs.Storing.{Options, retire_line, said_pin, said_label}
 use Rattle.inspector_cli.specs.Told.{Answer, HasLine, what_of, parts_in}
 use Rattle.inspector_cli.proofs.FoundLemmas.{told_once}
 use Rattle.inspector_cli.proofs.KeptLemmas.{among_more, among_last, among_filtered, among_mapped, all_append, all_mapped, one_apart, has_line}
@@ -190,6 +191,11 @@ safe_behind : {D : Type 0} (g : disk.Ghosts D) (end : D) (m : Moment D) (front r
 safe_behind g end m [] rest last safe = safe
 safe_behind g end m (l ∷ ls) rest last safe = safe_behind g end l.after ls rest last safe.1
 
+-- what holds from a moment on holds from a later one on
+skipped : {D : Type 0} (g : disk.Ghosts D) (end : D) (m : Moment D) (xs : List (Moment D)) (n : Moment D) (ns : List (Moment D)) → AreSafe g end m (xs ++ n ∷ ns) → AreSafe g end n ns
+skipped g end m [] n ns safe = safe.1
+skipped g end m (x ∷ xs) n ns safe = skipped g end x xs n ns safe.1
+
 safe_here : {D : Type 0} (g : disk.Ghosts D) (end : D) (m : Moment D) (later : List (Moment D)) → AreSafe g end m later → IsSafe g end m later
 safe_here g end m [] safe = safe
 safe_here g end m (n ∷ ns) safe = safe.0
@@ -208,28 +214,57 @@ module _ {D : Type 0} (g : disk.Ghosts D) (k : Kept) where
   stays_found end m later safe held all left since = found_since k left m later ((safe_here g end m later safe).stops left since) held all
 
   -- what a store leaves of the case
-  module _ (asked : Option Policy) (found : Result StreamFacts (List ℕ)) (given file file' : Option (List ℕ)) (c : StoreCourse D) (is : IsStoreCourse asked found given file file' c) where
+  module _ (asked : Option Policy) (found : Result StreamFacts (List ℕ)) (given : Options) (file file' : Option (List ℕ)) (c : StoreCourse D) (is : IsStoreCourse asked found given file file' c) where
     case_stays : (stored : Option ℕ) (x y : Durable) → StoresOrNot found file file' x stored y → HoldsKept k x → HoldsKept k y
     case_stays None x y stores holds = same k x y stores holds
     case_stays (Some n) x y stores holds = same k (with_case x (record stores.stream { len = length stores.image }) stores.blocks stores.image) y stores.adds (with_case_holds k x (record stores.stream { len = length stores.image }) stores.blocks stores.image holds)
 
-    ended_holds : IsHeldAt k c.retired → IsHeldAt k c.ended
+    ended_holds : IsHeldAt k c.filled → IsHeldAt k c.ended
     ended_holds held =
         let doubts : AllByRecursion (HoldsKept k) is.doubts =
         ⊎_elim (λ none. subst (AllByRecursion (HoldsKept k)) (sym none) tt)
-        (λ may. all_mapped is.doubts (λ z adds. case_stays (Some adds.0) c.retired.holds z adds.1 held.0) may.1) is.doubted
+        (λ may. all_mapped is.doubts (λ z adds. case_stays (Some adds.0) c.filled.holds z adds.1 held.0) may.1) is.doubted
         in
-        (case_stays c.stored c.retired.holds c.ended.holds is.stores held.0, subst (AllByRecursion (HoldsKept k)) (sym is.in_doubt) (all_append (HoldsKept k) is.doubts c.retired.in_doubt doubts held.1))
+        (case_stays c.stored c.filled.holds c.ended.holds is.stores held.0, subst (AllByRecursion (HoldsKept k)) (sym is.in_doubt) (all_append (HoldsKept k) is.doubts c.filled.in_doubt doubts held.1))
 
-    end_holds : Spares k (said_label c.stored given) c.labels → IsHeldAt k c.ended → IsHeldAt k c.end
-    end_holds spares held = moment_keeps k no_stream [] c.ended c.end (said_label c.stored given) c.labels is.gives_label spares held
+    -- the same case at a moment that holds the same
+    held_as : (m n : Moment D) → n.holds ≡ m.holds → n.in_doubt ≡ m.in_doubt → IsHeldAt k m → IsHeldAt k n
+    held_as m n holds doubts held = (subst (HoldsKept k) (sym holds) held.0, subst (AllByRecursion (HoldsKept k)) (sym doubts) held.1)
 
-    store_holds : Spares k (retire_line c.policy) c.told → Spares k (said_label c.stored given) c.labels → IsHeldAt k c.begin
-        → AllByRecursion (IsHeldAt k) (c.retired ∷ c.filled ∷ c.ended ∷ c.end ∷ [])
-    store_holds retired label held =
+    -- cases go, and spare it
+    gone_holds : (m : Moment D) (gone : List (Gone D)) (filled : Moment D) → GoInTurn m gone filled → AllByRecursion (λ (x : Gone D). Spares k (delete_of x.seq) x.reply) gone → IsHeldAt k m
+        → AllByRecursion (IsHeldAt k) (moments_of gone) × IsHeldAt k filled
+    gone_holds m [] filled goes spares held = (tt, held_as m filled goes.0 goes.1 held)
+    gone_holds m (x ∷ xs) filled goes spares held =
+        let before = held_as m x.before goes.0 goes.1 held in
+        let after = moment_keeps k no_stream [] x.before x.after (delete_of x.seq) x.reply goes.3 spares.0 before in
+        let rest = gone_holds x.after xs filled goes.4 spares.1 after in
+        ((before, (after, rest.0)), rest.1)
+
+    both_held : (xs ys : List (Moment D)) → AllByRecursion (IsHeldAt k) xs → AllByRecursion (IsHeldAt k) ys → AllByRecursion (IsHeldAt k) (xs ++ ys)
+    both_held [] ys all more = more
+    both_held (x ∷ xs) ys all more = (all.0, both_held xs ys all.1 more)
+
+    named_holds : Spares k (said_label c.stored given.label) c.labels → IsHeldAt k c.ended → IsHeldAt k c.labelled
+    named_holds spares held = moment_keeps k no_stream [] c.ended c.labelled (said_label c.stored given.label) c.labels is.gives_label spares held
+
+    -- a pin takes no case away, and no label
+    pin_spares : (stored : Option ℕ) (pin : Bool) (reply : List ℕ) → Spares k (said_pin stored pin) reply
+    pin_spares (Some seq) true reply = ((λ may. may), inr (λ may. may))
+    pin_spares (Some seq) false reply = ((λ may. may), inr (λ may. may))
+    pin_spares None pin reply = ((λ may. may), inr (λ may. may))
+
+    end_holds : IsHeldAt k c.labelled → IsHeldAt k c.end
+    end_holds held = moment_keeps k no_stream [] c.labelled c.end (said_pin c.stored given.pin) c.pins is.gives_pin (pin_spares c.stored given.pin c.pins) held
+
+    store_holds : Spares k (retire_line c.policy) c.told → AllByRecursion (λ (x : Gone D). Spares k (delete_of x.seq) x.reply) c.gone → Spares k (said_label c.stored given.label) c.labels → IsHeldAt k c.begin
+        → AllByRecursion (IsHeldAt k) (c.retired ∷ (moments_of c.gone ++ (c.filled ∷ c.ended ∷ c.labelled ∷ c.end ∷ [])))
+    store_holds retired gone label held =
         let made = moment_keeps k no_stream [] c.begin c.retired (retire_line c.policy) c.told is.retires_first retired held in
-        let ended = ended_holds made in
-        (made, ((subst (HoldsKept k) (sym is.same) made.0, subst (AllByRecursion (HoldsKept k)) (sym is.same_doubt) made.1), (ended, (end_holds label ended, tt))))
+        let taken = gone_holds c.retired c.gone c.filled is.goes gone made in
+        let ended = ended_holds taken.1 in
+        let named = named_holds label ended in
+        (made, both_held (moments_of c.gone) (c.filled ∷ c.ended ∷ c.labelled ∷ c.end ∷ []) taken.0 (taken.1, (ended, (named, (end_holds named, tt)))))
 
   -- An opening of what reads give finds the case, and so does one of whatever a stop leaves.
   abbrev IsReady : D → Type 0
@@ -245,9 +280,9 @@ module _ {D : Type 0} (g : disk.Ghosts D) (k : Kept) where
   store_keeps : (c : Command D) → IsStore g k c → IsReady c.before → StaysFound g k c.after c.before
   store_keeps c s ready left since =
       let begin : IsHeldAt k s.safe.course.begin = held_surely k s.safe.course.begin (subst (HoldsKept k) (sym (s.safe.found_again ready.0.0 ready.0.1)) ready.0.2) s.safe.is.clear in
-      let all = store_holds s.asked s.found s.given s.streams.input s.streams.input' s.safe.course s.safe.is s.retired s.gives begin in
+      let all = store_holds s.asked s.found s.given s.streams.input s.streams.input' s.safe.course s.safe.is s.retired s.gone s.gives begin in
       ⊎_elim (λ before. ready.1 left before)
-      (λ finds. found_since k left s.safe.course.begin (s.safe.course.retired ∷ s.safe.course.filled ∷ s.safe.course.ended ∷ s.safe.course.end ∷ []) finds begin all) (s.safe.opening left since)
+      (λ finds. found_since k left s.safe.course.begin (s.safe.course.retired ∷ (moments_of s.safe.course.gone ++ (s.safe.course.filled ∷ s.safe.course.ended ∷ s.safe.course.labelled ∷ s.safe.course.end ∷ []))) finds begin all) (s.safe.opening left since)
 
   command_keeps : (c : Command D) → IsCommand g k c → IsReady c.before → StaysFound g k c.after c.before
   command_keeps c is ready = ⊎_elim (λ s. session_keeps c s ready) (λ more. ⊎_elim (λ s. store_keeps c s ready) (λ r. (λ left since. ready.1 left (r.leaves left since))) more) is
@@ -411,7 +446,7 @@ module _ {D : Type 0} (g : disk.Ghosts D) (numbers : NumbersAreAbove) where
 
   pub stores_store : AStoreStoresACase g
   stores_store t asked found given before after answer s n stored =
-      let a : AddsCase found t.input t.input' s.course.retired.holds n s.course.ended.holds = subst (λ (o : Option ℕ). StoresOrNot found t.input t.input' s.course.retired.holds o s.course.ended.holds) stored s.is.stores in
+      let a : AddsCase found t.input t.input' s.course.filled.holds n s.course.ended.holds = subst (λ (o : Option ℕ). StoresOrNot found t.input t.input' s.course.filled.holds o s.course.ended.holds) stored s.is.stores in
       let told : s.course.reply ≡ end_reply (Ok n) = subst (λ (o : Option ℕ). TellsStored o s.course.first s.course.reply) stored s.is.tells in
       let none : s.is.doubts ≡ [] = ⊎_elim (λ is. is) (λ may. absurd (stored_apart n (codes "Disk") (sym told ∙ may.0))) s.is.doubted in (
         record { seq = n; stream = a.stream; image = a.image; label = Some [] },
@@ -420,26 +455,70 @@ module _ {D : Type 0} (g : disk.Ghosts D) (numbers : NumbersAreAbove) where
         a.read,
         refl,
         subst (HoldsKept (record { seq = n; stream = a.stream; image = a.image; label = Some [] })) (sym a.adds)
-            (_, among_last s.course.retired.holds.cases _, record { number = sym a.number; origin = refl; bytes = refl; labelled = refl }),
-        s.is.in_doubt ∙ ap (λ (ds : List Durable). ds ++ s.course.retired.in_doubt) none ∙ s.is.sure n stored,
+            (_, among_last s.course.filled.holds.cases _, record { number = sym a.number; origin = refl; bytes = refl; labelled = refl }),
+        s.is.in_doubt ∙ ap (λ (ds : List Durable). ds ++ s.course.filled.in_doubt) none ∙ s.is.sure n stored,
       )
+
+  -- from the end of the stream on
+  safe_ended : (t : Streams) (asked : Option Policy) (found : Result StreamFacts (List ℕ)) (given : Options) (before after : D) (answer : Result StoreOutcome LifeFault) (s : IsStoreSafe g t asked found given before after answer)
+      → AreSafe g after s.course.ended (s.course.labelled ∷ s.course.end ∷ [])
+  safe_ended t asked found given before after answer s =
+      (skipped g after s.course.retired (moments_of s.course.gone) s.course.filled (s.course.ended ∷ s.course.labelled ∷ s.course.end ∷ []) s.safe.1).1
 
   pub stores_keep : AStoreKeepsACase g
   stores_keep k t asked found given before after answer s cs = (
     (λ holds clear spares next.
         (let held = held_surely k s.course.ended holds clear in
-        let found_there = stays_found g k after s.course.ended (s.course.end ∷ []) s.safe.1.1.1 held (end_holds g k asked found given t.input t.input' s.course s.is spares held, tt) in
+        let named = named_holds g k asked found given t.input t.input' s.course s.is spares held in
+        let found_there = stays_found g k after s.course.ended (s.course.labelled ∷ s.course.end ∷ []) (safe_ended t asked found given before after answer s) held (named, (end_holds g k asked found given t.input t.input' s.course s.is named, tt)) in
         (found_there, next_keep g k after s.course.ended.disk cs next found_there))),
-    (λ holds clear next. (let found_there = stays_found g k after s.course.end [] s.safe.1.1.1.1 (held_surely k s.course.end holds clear) tt in (found_there, next_keep g k after s.course.end.disk cs next found_there))),
+    (λ holds clear next.
+        (let held = held_surely k s.course.labelled holds clear in
+        let found_there = stays_found g k after s.course.labelled (s.course.end ∷ []) (safe_ended t asked found given before after answer s).1 held (end_holds g k asked found given t.input t.input' s.course s.is held, tt) in
+        (found_there, next_keep g k after s.course.labelled.disk cs next found_there))),
+    (λ holds clear next. (let found_there = stays_found g k after s.course.end [] (safe_ended t asked found given before after answer s).1.1 (held_surely k s.course.end holds clear) tt in (found_there, next_keep g k after s.course.end.disk cs next found_there))),
   )
 
   pub stores_label : AStoreLabelsACase g
   stores_label k t asked found given before after answer s text stored asks is holds clear =
-      label_given k text no_stream [] s.course.ended s.course.end
-      (subst (λ (r : List ℕ). LeadsOn no_stream [] s.course.ended (label_of k.seq text) r s.course.end) is
-      (subst (λ (o : Option (List ℕ)). LeadsOn no_stream [] s.course.ended (said_label (Some k.seq) o) s.course.labels s.course.end) asks
-      (subst (λ (o : Option ℕ). LeadsOn no_stream [] s.course.ended (said_label o given) s.course.labels s.course.end) stored s.is.gives_label)))
-      (numbered after s.course.ended (s.course.end ∷ []) s.safe.1.1.1 clear) holds clear
+      label_given k text no_stream [] s.course.ended s.course.labelled
+      (subst (λ (r : List ℕ). LeadsOn no_stream [] s.course.ended (label_of k.seq text) r s.course.labelled) is
+      (subst (λ (o : Option (List ℕ)). LeadsOn no_stream [] s.course.ended (said_label (Some k.seq) o) s.course.labels s.course.labelled) asks
+      (subst (λ (o : Option ℕ). LeadsOn no_stream [] s.course.ended (said_label o given.label) s.course.labels s.course.labelled) stored s.is.gives_label)))
+      (numbered after s.course.ended (s.course.labelled ∷ s.course.end ∷ []) (safe_ended t asked found given before after answer s) clear) holds clear
+
+  flag_held : (t : Bool) (n : ℕ) (c : FoundCase) → t ≡ true → c.case.seq ≡ n → ((cond t (record c.case { pinned = true }) c.case).seq ≡ n) × ((cond t (record c.case { pinned = true }) c.case).pinned ≡ true)
+  flag_held true n c set is = (is, refl)
+  flag_held false n c set is = absurd (false≢true set)
+
+  pin_given : (k : Kept) (begins : Said → Option StreamFacts) (earlier : List Answer) (old new : Moment D) → LeadsOn begins earlier old (pin_of k.seq true) ok_reply new → HoldsKept k old.holds
+      → HasFlag new.holds k.seq true × HoldsKept k new.holds × (old.in_doubt ≡ [] → new.in_doubt ≡ [])
+  pin_given k begins earlier old new leads (c, among, is) = (
+    ⊎_elim
+        (λ does.
+        ⊎_elim
+        (λ set.
+        (let held = flag_held (c.case.seq == k.seq) k.seq c (⊎_elim (λ h. h.0) (λ h. absurd (h.1 is.number)) (eqb_tells c.case.seq k.seq)) is.number in
+        subst (λ (x : Durable). HasFlag x k.seq true) (sym set) (
+          made_of (pinned_as k.seq true) c,
+          among_mapped (made_of (pinned_as k.seq true)) old.holds.cases c among,
+          held.0,
+          held.1,
+        )))
+        (λ stays. subst (λ (x : Durable). HasFlag x k.seq true) (sym stays.1) stays.0)
+        does.1)
+        (λ no. absurd (ok_apart no.0 no.1)) leads.leads,
+    leads_keeps k begins earlier (pin_of k.seq true) ok_reply old.holds new.holds leads.leads ((λ may. may), inr (λ may. may)) (c, among, is),
+    clear_after begins earlier old new (pin_of k.seq true) ok_reply leads (ok_apart (codes "Disk")),
+  )
+
+  pub stores_pin : AStorePinsACase g
+  stores_pin k t asked found given before after answer s stored asks is holds =
+      pin_given k no_stream [] s.course.labelled s.course.end
+      (subst (λ (r : List ℕ). LeadsOn no_stream [] s.course.labelled (pin_of k.seq true) r s.course.end) is
+      (subst (λ (b : Bool). LeadsOn no_stream [] s.course.labelled (said_pin (Some k.seq) b) s.course.pins s.course.end) asks
+      (subst (λ (o : Option ℕ). LeadsOn no_stream [] s.course.labelled (said_pin o given.pin) s.course.pins s.course.end) stored s.is.gives_pin)))
+      holds
 
 module _ {D : Type 0} (g : disk.Ghosts D) where
   pub stop_taken_up : AStopIsTakenUp g

@@ -10,6 +10,8 @@ pub mod SessionLemmas
 pub mod AskLemmas
 pub mod StageLemmas
 pub mod FeedLemmas
+pub mod FitLemmas
+pub mod GoingLemmas
 pub mod StoreLemmas
 pub mod CutLemmas
 pub mod ClearLemmas

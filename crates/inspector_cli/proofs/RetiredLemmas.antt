@@ -116,7 +116,7 @@ module _ {D : Type 0} (g : disk.Ghosts D) where
       inr (begins_then retired mid found first accepted (made_streams old retired m.policy told made m.retires_first done ∙ none) (m.needed policy is done) begins)
 
   pub retires_for_a_stream_alone : RetiresForAStreamAlone g
-  retires_for_a_stream_alone file file' fails fails' old asked found label replies end outcome limit opened s done =
+  retires_for_a_stream_alone file file' fails fails' old asked found options replies end outcome limit opened s done =
       retired_then_begun old s.retired s.stores.mid asked found s.told s.stores.first outcome.retired_first s.stores.accepted s.retires_first s.retires_first.policy refl
       (ap (λ xs. map (option_map stream_facts) xs) opened.streams) done s.stores.begins
 
@@ -133,7 +133,7 @@ module _ {D : Type 0} (g : disk.Ghosts D) where
       inl (sym (subst (IsChosen (state_of old) asked found) is m.chosen) ∙ wanted)
 
   pub retires_unless_refused : RetiresUnlessRefused g
-  retires_unless_refused file file' fails fails' old asked found label replies end outcome policy wanted s =
+  retires_unless_refused file file' fails fails' old asked found options replies end outcome policy wanted s =
       left_out old s.retired s.stores.mid asked policy found s.told s.stores.first outcome.retired_first s.stores.accepted s.retires_first s.retires_first.policy refl wanted s.stores.begins
 
   -- where no policy is asked for, nothing is retired
@@ -142,6 +142,6 @@ module _ {D : Type 0} (g : disk.Ghosts D) where
   not_chosen s found (Some policy) chosen = absurd (cc)
 
   pub retires_nothing_unasked : RetiresNothingUnasked g
-  retires_nothing_unasked file file' fails fails' old found label replies end outcome s =
+  retires_nothing_unasked file file' fails fails' old found options replies end outcome s =
       let none = not_chosen (state_of old) found s.retires_first.policy s.retires_first.chosen in
       subst (λ (p : Option Policy). RetiresFirst g old p s.told s.retired outcome.retired_first) none s.retires_first.retires_first

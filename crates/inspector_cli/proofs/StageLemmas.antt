@@ -17,7 +17,7 @@ use Rattle.retention.specs.declared.Policy.{Policy}
 use Rattle.stream_names.specs.declared.naming.Naming.{Naming}
 use Rattle.script_lines.specs.Said.{Said, silence, bad_line, long_line, begin_exec, begin_core, part_of, end_of, drop_of, delete_of, pin_of, label_of, retire_by, list_all_cases, count_free, upgrade_archive, inspect_of, said, raw_length}
 use Rattle.script_streams.specs.Replies.{no_reply}
-use Rattle.inspector_cli.specs.Reply.{Begins, Ends, Labels, Retires, Replies}
+use Rattle.inspector_cli.specs.Reply.{Begins, Ends, Deletes, Pins, Labels, Retires, Replies}
 use Rattle.archive_replies.specs.Texts.{end_reply, plain_reply, retire_reply}
 use Rattle.stream_names.specs.Streams.{exec_stream, core_stream}
 use Rattle.archive_replies.specs.Reasons.{reason_of}
@@ -104,6 +104,14 @@ module _ {D : Type 0} (g : disk.Ghosts D) (laws : Laws g) (old : Stage D) (new :
   pub ends_moves : (slot : ℕ) (reply : List ℕ) (stored : Option ℕ) → Ends g old.archive slot reply new stored → Reaches (end_of slot) reply
   ends_moves slot reply stored r =
       changed ℕ (end_of slot) reply r.0 _ (λ x may. may) (λ is. r.2 ∙ end_disk r.0 is) (laws.finish old.archive new slot r.0 r.1)
+
+  pub deletes_moves : (seq : ℕ) (reply : List ℕ) → Deletes g old.archive seq reply new → Reaches (delete_of seq) reply
+  deletes_moves seq reply r =
+      changed (Unit {0}) (delete_of seq) reply r.0 _ (λ x may. may) (λ is. r.2 ∙ plain_disk r.0 is) (laws.delete old.archive new seq r.0 r.1)
+
+  pub pins_moves : (seq : ℕ) (flag : Bool) (reply : List ℕ) → Pins g old.archive seq flag reply new → Reaches (pin_of seq flag) reply
+  pins_moves seq flag reply r =
+      changed (Unit {0}) (pin_of seq flag) reply r.0 _ (λ x may. may) (λ is. r.2 ∙ plain_disk r.0 is) (laws.pin old.archive new seq flag r.0 r.1)
 
   pub labels_moves : (seq : ℕ) (label reply : List ℕ) → Labels g old.archive seq label reply new → Reaches (label_of seq label) reply
   labels_moves seq label reply r =

@@ -1,23 +1,24 @@
 -- A store, step by step, and what a stop of the machine leaves of it.
-use Rattle.std.proofs.Common.{◌≡◌, ◌≢◌, ◌⊎◌, inl, inr, ⊎_elim, ℕ, zero, suc, Bool, true, false, List, [], ◌∷◌, ◌++◌, length, map, Option, Some, None, Result, Ok, Err, refl, sym, ap, subst, ◌∙◌, arith}
-use Rattle.std.proofs.lemmas.Bool.{false≢true, true≢false}
-use Rattle.std.proofs.lemmas.List.{append-nil}
-use Rattle.std.specs.Prelude.{codes, slice_set, IsTrue}
-use Rattle.std.specs.List.{AllByRecursion}
+use Rattle.std.proofs.Common.{◌≡◌, ◌≢◌, ◌⊎◌, inl, inr, ⊎_elim, ℕ, zero, suc, Bool, true, false, List, [], ◌∷◌, ◌++◌, length, map, Option, Some, None, Result, Ok, Err, refl, sym, ap, subst, ◌∙◌, arith, append_assoc, length-append}
+use Rattle.std.proofs.lemmas.Bool.{false≢true, true≢false, eqb-false}
+use Rattle.std.proofs.lemmas.List.{append-nil, length-map}
+use Rattle.std.specs.Prelude.{codes, slice_set, option_map, IsTrue, ◌<◌, if◌then◌else◌}
+use Rattle.std.specs.List.{AllByRecursion, flat_map}
 use Rattle.std.specs.Result.{result_ok}
 use Rattle.std.specs.Io.KnownBytes.{Appends}
 use Rattle.disk_model.specs.declared.disk.Disk as disk
 use Rattle.intake.specs.declared.faults.ArchiveFault.{ArchiveFault}
 use Rattle.intake.specs.StayLaws.{stays_as, stays_then}
-use Rattle.intake.specs.Calls.{ChangesNoCase, OpenCall, BeginCall, AbandonCall, FinishCall}
-use Rattle.intake.specs.Contents.{Contents, Taken, empty_taken}
-use Rattle.intake.specs.Durable.{Durable, durable_of, labelled, with_case, found_case}
+use Rattle.intake.specs.Calls.{ChangesNoCase, OpenCall, BeginCall, AbandonCall, FinishCall, DeleteCall}
+use Rattle.intake.specs.Contents.{Contents, Taken, empty_taken, zero_block}
+use Rattle.intake.specs.Durable.{Durable, durable_of, flagged, labelled, with_case, found_case}
+use Rattle.intake.specs.Growth.{IsDiskFault}
 use Rattle.intake.specs.Guarding.{MayBeStored}
 use Rattle.intake.specs.Marks.{FoundAfterAStop, NothingElseIsLeft, IsRunOfMarks, IsMarkSettled}
-use Rattle.intake.specs.Parts.{Parts, state_of, contents_of}
+use Rattle.intake.specs.Parts.{Parts, state_of, contents_of, stream_facts, taken_in}
 use Rattle.intake.specs.Slots.{stream_at}
 use Rattle.intake.specs.State.{ArchiveState, StreamFacts}
-use Rattle.intake.specs.Step.{HasCase, longer}
+use Rattle.intake.specs.Step.{HasCase, DeleteStep, longer}
 use Rattle.intake.specs.Step as step
 use Rattle.retention.specs.Rule.{IsDecision}
 use Rattle.retention.specs.declared.Brief.{Brief}
@@ -25,7 +26,7 @@ use Rattle.retention.specs.declared.Policy.{Policy}
 use Rattle.std.specs.Borrow.{Bor}
 use Rattle.stream_names.specs.Commands.{stream_found}
 use Rattle.stream_names.specs.declared.names.NewStream.{NewStream}
-use Rattle.script_lines.specs.Said.{end_of, label_of}
+use Rattle.script_lines.specs.Said.{end_of, delete_of, pin_of, label_of}
 use Rattle.archive_replies.specs.Reasons.{reason_of}
 use Rattle.script_streams.specs.Replies.{no_reply, ok_reply}
 use Rattle.inspector_cli.specs.declared.session.SessionFault.{SessionFault}
@@ -35,27 +36,31 @@ use Rattle.inspector_cli.specs.declared.session.LifeFault.TheVariants as life
 use Rattle.inspector_cli.specs.declared.session.StoreOutcome.{StoreOutcome}
 use Rattle.inspector_cli.specs.declared.store.TakeStop.{TakeStop}
 use Rattle.inspector_cli.specs.declared.store.TakeStop.TheVariants.{File, Refused}
-use Rattle.inspector_cli.specs.Headline.{AreSafe, FindsSince, Leads, WouldLeave, brief_of}
-use Rattle.archive_replies.specs.Texts.{end_reply}
+use Rattle.inspector_cli.specs.Headline.{AreSafe, FindsSince, HasFlag, Leads, LeadsOn, Moment, WouldLeave, brief_of}
+use Rattle.archive_replies.specs.Texts.{dropped_line, end_reply, plain_reply}
+use Rattle.inspector_cli.specs.Fitting.{Going, IsGoing, IsNext, TakesWhile, going_text, gone_text}
 use Rattle.inspector_cli.specs.Reply.{Begins, Takes}
 use Rattle.inspector_cli.specs.Session.{Streams}
 use Rattle.inspector_cli.specs.Stages.{Stage, Moves, MayLeave, mark_at, marks_of}
-use Rattle.inspector_cli.specs.StoreHeadline.{TellsStored, AddsCase, StoresOrNot, StoreCourse, IsStoreCourse, IsTold, IsStoreSafe, StoresAreCrashSafe, BeginsEmpty, no_stream}
-use Rattle.inspector_cli.specs.Storing.{TakesFile, FileReplies, RestReplies, RetiresFirst, IsChosen, LabelsCase, Stores, StoreEnds, retire_line, said_label}
-use Rattle.inspector_cli.proofs.CaseLemmas.{is_found, briefs_are}
-use Rattle.inspector_cli.proofs.ClearLemmas.{first_apart, retire_told, retire_stops}
+use Rattle.inspector_cli.specs.StoreHeadline.{Gone, GoInTurn, case_in, gone_line, moments_of, TellsStored, AddsCase, StoresOrNot, StoreCourse, IsStoreCourse, IsTold, IsStoreSafe, StoresAreCrashSafe, BeginsEmpty, no_stream}
+use Rattle.inspector_cli.specs.Storing.{GoneStages, TakesFile, FileReplies, RestReplies, RetiresFirst, IsChosen, PinsCase, LabelsCase, Options, Stores, StoreEnds, retire_line, said_pin, said_label}
+use Rattle.inspector_cli.proofs.CaseLemmas.{is_found, briefs_are, cases_are}
+use Rattle.inspector_cli.proofs.ClearLemmas.{first_apart, plain_told, retire_told, retire_stops}
 use Rattle.inspector_cli.proofs.KeptLemmas.{LastingLaws}
-use Rattle.inspector_cli.proofs.SlotLemmas.{some_same}
+use Rattle.inspector_cli.proofs.SlotLemmas.{at_set, some_same}
 use Rattle.inspector_cli.proofs.SafeLemmas.{are_safe, leads_on, moment, since_opening}
 use Rattle.inspector_cli.proofs.StageLemmas.{Laws, Reaches, stage_of, begins_stays, ends_moves}
-use Rattle.inspector_cli.proofs.StoreLemmas.{retiring_moves, label_moves}
+use Rattle.inspector_cli.proofs.StoreLemmas.{Filling, earlier, filling, filling_runs, retiring_moves, pin_moves, label_moves, set_there}
+use Rattle.inspector_cli.proofs.FitLemmas.{answered, on}
+use Rattle.inspector_cli.specs.Told.{is_no}
 use Rattle.journal_layout.specs.Case.{Case}
 
--- what stands in a slot that was set is what was put there
-set_is : {X : Type 0} (xs : List (Option X)) (slot : ℕ) (a x : X) → stream_at (slice_set xs slot (Some a)) slot ≡ Some x → x ≡ a
-set_is [] slot a x is = cc
-set_is (y ∷ ys) zero a x is = sym (some_same a x is)
-set_is (y ∷ ys) (suc slot) a x is = set_is ys slot a x is
+abbrev first_byte : List ℕ → ℕ
+first_byte [] = 0
+first_byte (b ∷ bs) = b
+
+ok_apart : (reason : List ℕ) → ok_reply ≡ no_reply reason → ⊥
+ok_apart reason is = eqb-false (first_byte ok_reply) (first_byte (no_reply reason)) refl (ap first_byte is)
 
 abbrev IsNone : Option ℕ → Type 0
 IsNone None = Unit {0}
@@ -65,33 +70,79 @@ none_apart : (n : ℕ) → None ≡ Some n → ⊥
 none_apart n is = subst IsNone is tt
 
 module _ {D : Type 0} (g : disk.Ghosts D) (lasts : LastingLaws g) where
-  -- the stream that has taken these bytes, where it had none when it began
-  module _ (retired mid filled : Parts D) (stream : StreamFacts) (raw : List ℕ) (none : stream.len ≡ 0) (begun : BeginCall g retired 0 stream (Ok tt) mid) (takes : Takes g mid 0 raw (Ok tt) filled) where
-    facts_are : (s : StreamFacts) → stream_at (state_of filled).streams 0 ≡ Some s → s ≡ record stream { len = length raw; blocks = takes.step.3 }
-    facts_are s at =
-        let before : stream_at (slice_set (state_of retired).streams 0 (Some stream)) 0 ≡ Some takes.step.0 =
-        subst (λ (b : ArchiveState). stream_at b.streams 0 ≡ Some takes.step.0) begun.step.1 takes.step.1.1
-        in
-        let first : takes.step.0 ≡ stream = set_is (state_of retired).streams 0 stream takes.step.0 before in
-        let after : stream_at (slice_set (state_of mid).streams 0 (Some (longer takes.step.0 (length raw) takes.step.3))) 0 ≡ Some s =
-        subst (λ (b : ArchiveState). stream_at b.streams 0 ≡ Some s) takes.step.4 at
-        in
-        set_is (state_of mid).streams 0 (longer takes.step.0 (length raw) takes.step.3) s after
-        ∙ ap (λ (x : StreamFacts). longer x (length raw) takes.step.3) first
-        ∙ ap (λ (k : ℕ). record stream { len = k; blocks = takes.step.3 }) (omega (arith, none))
+  -- the stream has taken these bytes since it began
+  record HasTaken (a : Parts D) (stream : StreamFacts) (raw : List ℕ) : Type 0 where
+    blocks : List ℕ
+    there : stream_at (state_of a).streams 0 ≡ Some (record stream { len = length raw; blocks = blocks })
+    bytes : IsTrue (g.is_honest a.disk) → (free : List ℕ) × (stream_at (contents_of g.seen a).taken 0 ≡ Some (record { bytes = raw; free = free }))
 
-    bytes_are : IsTrue (g.is_honest mid.disk) → (t : Taken) → stream_at (contents_of g.seen filled).taken 0 ≡ Some t → t.bytes ≡ raw
-    bytes_are honest t at =
-        let b = takes.bytes honest in
-        let before : stream_at (slice_set (contents_of g.seen retired).taken 0 (Some empty_taken)) 0 ≡ Some b.0 =
-        subst (λ (c : Contents). stream_at c.taken 0 ≡ Some b.0) begun.bytes b.2
-        in
-        let first : b.0 ≡ empty_taken = set_is (contents_of g.seen retired).taken 0 empty_taken b.0 before in
-        let after : stream_at (slice_set (contents_of g.seen mid).taken 0 (Some (record { bytes = b.0.bytes ++ raw; free = b.1 }))) 0 ≡ Some t =
-        subst (λ (c : Contents). stream_at c.taken 0 ≡ Some t) b.3 at
-        in
-        ap (λ (x : Taken). x.bytes) (set_is (contents_of g.seen mid).taken 0 (record { bytes = b.0.bytes ++ raw; free = b.1 }) t after)
-        ∙ ap (λ (x : Taken). x.bytes ++ raw) first
+  has_begun : (retired mid : Parts D) (stream : StreamFacts) → stream.len ≡ 0 → BeginCall g retired 0 stream (Ok tt) mid → HasTaken mid stream []
+  has_begun retired mid stream none begun = record {
+    blocks = stream.blocks;
+    there =
+        ap (λ (b : ArchiveState). stream_at b.streams 0) begun.step.1 ∙ set_there (state_of retired).streams 0 (Some stream) begun.step.0.1
+        ∙ ap (λ (k : ℕ). Some (record stream { len = k })) none;
+    bytes = λ honest. (
+      zero_block,
+      ap (λ (c : Contents). stream_at c.taken 0) begun.bytes ∙ set_there (contents_of g.seen retired).taken 0 (Some empty_taken) (slots_alike retired begun.step.0.1),
+    );
+  }
+    where
+      slots_alike : (a : Parts D) → 0 < length (state_of a).streams → 0 < length (contents_of g.seen a).taken
+      slots_alike a below =
+          let x = length-map a.streams (option_map stream_facts) in
+          let y = length-map a.streams (option_map (taken_in a.journal (g.seen a.disk))) in
+          omega (arith, x, y, below)
+
+  has_more : (a b : Parts D) (stream : StreamFacts) (so_far raw : List ℕ) → HasTaken a stream so_far → Takes g a 0 raw (Ok tt) b → HasTaken b stream (so_far ++ raw)
+  has_more a b stream so_far raw has takes = record {
+    blocks = takes.step.3;
+    there =
+        ap (λ (x : ArchiveState). stream_at x.streams 0) takes.step.4
+        ∙ at_set (state_of a).streams 0 takes.step.0 (Some (longer takes.step.0 (length raw) takes.step.3)) takes.step.1.1
+        ∙ ap (λ (x : StreamFacts). Some (longer x (length raw) takes.step.3)) (some_same takes.step.0 (record stream { len = length so_far; blocks = has.blocks }) (sym takes.step.1.1 ∙ has.there))
+        ∙ ap (λ (k : ℕ). Some (record stream { len = k; blocks = takes.step.3 })) (sym (length-append so_far raw));
+    bytes = λ honest. more_bytes (sym takes.stays.honesty ∙ honest);
+  }
+    where
+      more_bytes : IsTrue (g.is_honest a.disk) → (free : List ℕ) × (stream_at (contents_of g.seen b).taken 0 ≡ Some (record { bytes = so_far ++ raw; free = free }))
+      more_bytes honest =
+          let t = takes.bytes honest in
+          let h = has.bytes honest in (
+            t.1,
+            ap (λ (c : Contents). stream_at c.taken 0) t.3
+                ∙ at_set (contents_of g.seen a).taken 0 t.0 (Some (record { bytes = t.0.bytes ++ raw; free = t.1 })) t.2
+                ∙ ap (λ (x : Taken). Some (record { bytes = x.bytes ++ raw; free = t.1 })) (some_same t.0 (record { bytes = so_far; free = h.0 }) (sym t.2 ∙ h.1)),
+          )
+
+  has_still : (a b : Parts D) (stream : StreamFacts) (raw : List ℕ) (seq : ℕ) (u : Unit {0}) → HasTaken a stream raw → DeleteCall g a seq (Ok u) b → HasTaken b stream raw
+  has_still a b stream raw seq u has call = record {
+    blocks = has.blocks;
+    there = ap (λ (x : ArchiveState). stream_at x.streams 0) call.step.4 ∙ has.there;
+    bytes = λ honest.
+        (let was : IsTrue (g.is_honest a.disk) = sym call.changes.disk.honesty ∙ honest in
+        let h = has.bytes was in
+        (h.0, ap (λ (c : Contents). stream_at c.taken 0) (call.bytes was) ∙ h.1));
+  }
+
+  -- so it is while cases go
+  has_while : (gone : List (Going D)) (a filled : Parts D) (stream : StreamFacts) (so_far raw : List ℕ) → HasTaken a stream so_far → TakesWhile g a raw gone (Ok tt) filled → HasTaken filled stream (so_far ++ raw)
+  has_while [] a filled stream so_far raw has takes = has_more a filled stream so_far raw has takes
+  has_while (w ∷ ws) a filled stream so_far raw has takes =
+      let went = answered w.answer ws takes.1 w.after filled (TakesWhile g w.after takes.1 ws (Ok tt) filled) takes.5 in
+      let deletes = subst (λ (r : Result (Unit {0}) ArchiveFault). DeleteCall g w.before w.seq r w.after) went.1 takes.4.deletes in
+      subst (HasTaken filled stream)
+      (append_assoc so_far takes.0 takes.1 ∙ ap (λ (x : List ℕ). so_far ++ x) (sym takes.2))
+      (has_while ws w.after filled stream (so_far ++ takes.0) takes.1
+      (has_still w.before w.after stream (so_far ++ takes.0) w.seq went.0 (has_more a w.before stream so_far takes.0 has takes.3) deletes)
+      (on w.answer ws takes.1 w.after filled (TakesWhile g w.after takes.1 ws (Ok tt) filled) takes.5))
+
+  module _ (filled : Parts D) (stream : StreamFacts) (raw : List ℕ) (has : HasTaken filled stream raw) where
+    facts_are : (s : StreamFacts) → stream_at (state_of filled).streams 0 ≡ Some s → s ≡ record stream { len = length raw; blocks = has.blocks }
+    facts_are s at = some_same s (record stream { len = length raw; blocks = has.blocks }) (sym at ∙ has.there)
+
+    bytes_are : IsTrue (g.is_honest filled.disk) → (t : Taken) → stream_at (contents_of g.seen filled).taken 0 ≡ Some t → t.bytes ≡ raw
+    bytes_are honest t at = let h = has.bytes honest in ap (λ (x : Taken). x.bytes) (some_same t (record { bytes = raw; free = h.0 }) (sym at ∙ h.1))
 
   -- why a stream was not begun
   not_begun : (old mid : Parts D) (found : Result StreamFacts (List ℕ)) (first : List ℕ) → Begins g old 0 found first mid false → (reason : List ℕ) × (first ≡ no_reply reason)
@@ -111,100 +162,201 @@ module _ {D : Type 0} (g : disk.Ghosts D) (lasts : LastingLaws g) where
   retiring_stops old new (Some policy) told made ((r, call, answered), done) is = retire_stops (state_of old) (state_of new) policy r call.step (retire_told r (sym answered ∙ is))
 
   -- the case that the stream becomes
-  adds_case : (found : Result StreamFacts (List ℕ)) (file file' : Option (List ℕ)) (fails fails' : ℕ) (retired mid filled : Parts D) (first : List ℕ) (x y : Durable) (n : ℕ) → BeginsEmpty found → Begins g retired 0 found first mid true
-      → TakesFile g file file' fails fails' mid filled (Ok tt) → IsTrue (g.is_honest mid.disk) → x ≡ durable_of g.seen filled → n ≡ x.next
+  adds_case : (found : Result StreamFacts (List ℕ)) (file file' : Option (List ℕ)) (fails fails' : ℕ) (retired mid : Parts D) (gone : List (Going D)) (filled : Parts D) (first : List ℕ) (x y : Durable) (n : ℕ) → BeginsEmpty found → Begins g retired 0 found first mid true
+      → TakesFile file file' fails fails' (λ raw v. TakesWhile g mid raw gone v filled) (Ok tt) → IsTrue (g.is_honest filled.disk) → x ≡ durable_of g.seen filled → n ≡ x.next
       → MayBeStored (state_of filled) (contents_of g.seen filled) (durable_of g.seen filled) 0 y → AddsCase found file file' x n y
-  adds_case (Ok stream) file file' fails fails' retired mid filled first x y n none (Ok u, call, told, accepts) takes honest same number may = record {
-    stream = stream;
-    begun = refl;
-    image = takes.0;
-    read = takes.1;
-    whole = takes.2;
-    blocks = may.0;
-    number = number;
-    adds =
-        may.1.5
-        ∙ ap (λ (d : Durable). with_case d may.1.0 may.0 may.1.1.bytes) (sym same)
-        ∙ ap (λ (s : StreamFacts). with_case x s may.0 may.1.1.bytes) (facts_are retired mid filled stream takes.0 none call takes.3 may.1.0 may.1.2)
-        ∙ ap (λ (b : List ℕ). with_case x (record stream { len = length takes.0 }) may.0 b) (bytes_are retired mid filled stream takes.0 none call takes.3 honest may.1.1 may.1.3);
-  }
-  adds_case (Ok stream) file file' fails fails' retired mid filled first x y n none (Err f, call, told, accepts) takes honest same number may = absurd (true≢false accepts)
-  adds_case (Err reason) file file' fails fails' retired mid filled first x y n none begins takes honest same number may = absurd (true≢false begins.2)
+  adds_case (Ok stream) file file' fails fails' retired mid gone filled first x y n none (Ok u, call, told, accepts) takes honest same number may =
+      let has : HasTaken filled stream takes.0 = has_while gone mid filled stream [] takes.0 (has_begun retired mid stream none call) takes.3 in
+      record {
+        stream = stream;
+        begun = refl;
+        image = takes.0;
+        read = takes.1;
+        whole = takes.2;
+        blocks = may.0;
+        number = number;
+        adds =
+            may.1.5
+            ∙ ap (λ (d : Durable). with_case d may.1.0 may.0 may.1.1.bytes) (sym same)
+            ∙ ap (λ (s : StreamFacts). with_case x s may.0 may.1.1.bytes) (facts_are filled stream takes.0 has may.1.0 may.1.2)
+            ∙ ap (λ (b : List ℕ). with_case x (record stream { len = length takes.0 }) may.0 b) (bytes_are filled stream takes.0 has honest may.1.1 may.1.3);
+      }
+  adds_case (Ok stream) file file' fails fails' retired mid gone filled first x y n none (Err f, call, told, accepts) takes honest same number may = absurd (true≢false accepts)
+  adds_case (Err reason) file file' fails fails' retired mid gone filled first x y n none begins takes honest same number may = absurd (true≢false begins.2)
+
+  -- what the archive holds when a case goes, and then
+  deleted_leads : (old new : Parts D) (seq : ℕ) (r : Result (Unit {0}) ArchiveFault) → IsTrue (g.is_honest old.disk) → DeleteCall g old seq r new
+      → Leads no_stream [] (delete_of seq) (plain_reply r) (durable_of g.seen old) (durable_of g.seen new)
+  deleted_leads old new seq (Ok u) honest call =
+      let f = is_found old.journal.standing.shape (g.seen old.disk) old.journal.standing.cases seq call.step.0 call.step.1.1 in
+      inl ((found_case old.journal.standing.shape (g.seen old.disk) call.step.0, f.0, f.1, call.step.2), refl, lasts.delete old new seq u honest call)
+  deleted_leads old new seq (Err f) honest call = inr (reason_of f, refl, lasts.refusals old new f honest (inr (inl (seq, call))))
+
+  -- a case whose deletion the disk failed was there, and not pinned
+  deleted_would : (old new : Parts D) (seq : ℕ) (r : Result (Unit {0}) ArchiveFault) (x : Durable) → DeleteCall g old seq r new → plain_reply r ≡ no_reply (codes "Disk") → MayLeave g old (delete_of seq) x
+      → WouldLeave no_stream [] (delete_of seq) (durable_of g.seen old) x
+  deleted_would old new seq r x call told may = (refl, ok_reply, (fault_has r (plain_told r told) call.step, refl, may))
+    where
+      fault_has : (r : Result (Unit {0}) ArchiveFault) → IsDiskFault r → DeleteStep (state_of old) seq r (state_of new) → HasFlag (durable_of g.seen old) seq false
+      fault_has (Ok u) fault step = absurd fault
+      fault_has (Err f) fault step =
+          let d = subst (λ (e : ArchiveFault). DeleteStep (state_of old) seq (Err e) (state_of new)) fault step in
+          let there = is_found old.journal.standing.shape (g.seen old.disk) old.journal.standing.cases seq d.0 d.1.1 in
+          (found_case old.journal.standing.shape (g.seen old.disk) d.0, there.0, there.1, d.2)
+
+  -- the case that goes next, of those that the archive holds
+  next_held : (a : Parts D) (seq : ℕ) → IsNext (state_of a).cases seq → IsNext (map case_in (durable_of g.seen a).cases) seq
+  next_held a seq next = subst (λ (cs : List Case). IsNext cs seq) (cases_are a.journal.standing.shape (g.seen a.disk) a.journal.standing.cases) next
+
+  -- what goes, as the course tells it
+  abbrev gone_of : List (Going D) → List (Stage D) → List (Gone D)
+  gone_of (w ∷ ws) (s ∷ t ∷ ss) = record { before = moment g s; seq = w.seq; reply = plain_reply w.answer; after = moment g t } ∷ gone_of ws ss
+  gone_of _ _ = []
+
+  going_honest : (gone : List (Going D)) (old : Stage D) (stages : List (Stage D)) (filled : Stage D) → GoneStages g old gone stages filled → IsTrue (g.is_honest old.archive.disk) → IsTrue (g.is_honest filled.archive.disk)
+  going_honest [] old [] filled all honest = all.0.honesty ∙ honest
+  going_honest [] old (s ∷ ss) filled all honest = absurd all
+  going_honest (w ∷ ws) old [] filled all honest = absurd all
+  going_honest (w ∷ ws) old (s ∷ []) filled all honest = absurd all
+  going_honest (w ∷ ws) old (s ∷ t ∷ ss) filled all honest = going_honest ws t ss filled all.6 (all.4.passes.honesty ∙ (all.0.honesty ∙ honest))
+
+  -- from stage to stage a case goes
+  goes_on : (w : Going D) (s t : Stage D) → s.archive ≡ w.before → t.archive ≡ w.after → IsTrue (g.is_honest s.archive.disk) → IsGoing g w → Moves g s (delete_of w.seq) (plain_reply w.answer) t
+      → IsNext (map case_in (moment g s).holds.cases) w.seq × LeadsOn no_stream [] (moment g s) (delete_of w.seq) (plain_reply w.answer) (moment g t)
+  goes_on w s t from to honest going moves =
+      let call : DeleteCall g s.archive w.seq w.answer t.archive =
+      subst (λ (a : Parts D). DeleteCall g a w.seq w.answer t.archive) (sym from) (subst (λ (a : Parts D). DeleteCall g w.before w.seq w.answer a) (sym to) going.deletes)
+      in (
+        next_held s.archive w.seq (subst (λ (a : Parts D). IsNext (state_of a).cases w.seq) (sym from) going.next),
+        leads_on g no_stream [] s t (delete_of w.seq) (plain_reply w.answer) (deleted_leads s.archive t.archive w.seq w.answer honest call)
+            (λ x told may. deleted_would s.archive t.archive w.seq w.answer x call told may) moves,
+      )
+
+  go_in_turn : (gone : List (Going D)) (old : Stage D) (stages : List (Stage D)) (filled : Stage D) → GoneStages g old gone stages filled → IsTrue (g.is_honest old.archive.disk) → GoInTurn (moment g old) (gone_of gone stages) (moment g filled)
+  go_in_turn [] old [] filled all honest = (all.0.durable honest, all.1)
+  go_in_turn [] old (s ∷ ss) filled all honest = absurd all
+  go_in_turn (w ∷ ws) old [] filled all honest = absurd all
+  go_in_turn (w ∷ ws) old (s ∷ []) filled all honest = absurd all
+  go_in_turn (w ∷ ws) old (s ∷ t ∷ ss) filled all honest =
+      let here : IsTrue (g.is_honest s.archive.disk) = all.0.honesty ∙ honest in
+      let one = goes_on w s t all.2 all.5 here all.3 all.4 in
+      (all.0.durable honest, all.1, one.0, one.1, go_in_turn ws t ss filled all.6 (all.4.passes.honesty ∙ here))
+
+  -- the moments of the course are those of the stages
+  moments_are : (gone : List (Going D)) (old : Stage D) (stages : List (Stage D)) (filled : Stage D) (later : List (Stage D)) (end : Moment D) → GoneStages g old gone stages filled
+      → map (λ (s : Stage D). moment g s) (stages ++ later) ++ end ∷ [] ≡ moments_of (gone_of gone stages) ++ (map (λ (s : Stage D). moment g s) later ++ end ∷ [])
+  moments_are [] old [] filled later end all = refl
+  moments_are [] old (s ∷ ss) filled later end all = absurd all
+  moments_are (w ∷ ws) old [] filled later end all = absurd all
+  moments_are (w ∷ ws) old (s ∷ []) filled later end all = absurd all
+  moments_are (w ∷ ws) old (s ∷ t ∷ ss) filled later end all = ap (λ (ms : List (Moment D)). moment g s ∷ moment g t ∷ ms) (moments_are ws t ss filled later end all.6)
+
+  line_of : (seq : ℕ) (r : Result (Unit {0}) ArchiveFault) → (if is_no (plain_reply r) then [] else dropped_line seq) ≡ gone_text seq r
+  line_of seq (Ok u) = refl
+  line_of seq (Err f) = refl
+
+  -- and so is what is told of it
+  lines_are : (gone : List (Going D)) (old : Stage D) (stages : List (Stage D)) (filled : Stage D) → GoneStages g old gone stages filled → flat_map going_text gone ≡ flat_map gone_line (gone_of gone stages)
+  lines_are [] old [] filled all = refl
+  lines_are [] old (s ∷ ss) filled all = absurd all
+  lines_are (w ∷ ws) old [] filled all = absurd all
+  lines_are (w ∷ ws) old (s ∷ []) filled all = absurd all
+  lines_are (w ∷ ws) old (s ∷ t ∷ ss) filled all =
+      ap (λ (x : List ℕ). x ++ flat_map going_text ws) (sym (line_of w.seq w.answer))
+      ∙ ap (λ (x : List ℕ). (if is_no (plain_reply w.answer) then [] else dropped_line w.seq) ++ x) (lines_are ws t ss filled all.6)
+
+  -- where all bytes are taken, no deletion was refused, so nothing is in doubt anew
+  surely_gone : (s t : Stage D) (seq : ℕ) (u : Unit {0}) → Moves g s (delete_of seq) (plain_reply (Ok u)) t → t.in_doubt ≡ s.in_doubt
+  surely_gone s t seq u moves =
+      let none : moves.doubts ≡ [] = ⊎_elim (λ is. is) (λ may. absurd (ok_apart (codes "Disk") may.0)) moves.doubted in
+      moves.in_doubt ∙ ap (λ (ds : List Durable). ds ++ s.in_doubt) none
+
+  surely_filled : (gone : List (Going D)) (old : Stage D) (a filled : Parts D) (raw : List ℕ) (stages : List (Stage D)) (doubt : List Durable) → TakesWhile g a raw gone (Ok tt) filled → GoneStages g old gone stages (stage_of filled doubt) → doubt ≡ old.in_doubt
+  surely_filled [] old a filled raw [] doubt takes all = all.1
+  surely_filled [] old a filled raw (s ∷ ss) doubt takes all = absurd all
+  surely_filled (w ∷ ws) old a filled raw [] doubt takes all = absurd all
+  surely_filled (w ∷ ws) old a filled raw (s ∷ []) doubt takes all = absurd all
+  surely_filled (w ∷ ws) old a filled raw (s ∷ t ∷ ss) doubt takes all =
+      let went = answered w.answer ws takes.1 w.after filled (TakesWhile g w.after takes.1 ws (Ok tt) filled) takes.5 in
+      surely_filled ws t w.after filled takes.1 ss doubt (on w.answer ws takes.1 w.after filled (TakesWhile g w.after takes.1 ws (Ok tt) filled) takes.5) all.6
+      ∙ surely_gone s t w.seq went.0 (subst (λ (r : Result (Unit {0}) ArchiveFault). Moves g s (delete_of w.seq) (plain_reply r) t) went.1 all.4) ∙ all.1
 
   module _ (laws : Laws g) (found : Result StreamFacts (List ℕ)) (none : BeginsEmpty found) (file file' : Option (List ℕ)) (fails fails' : ℕ) (retired : Stage D) (honest : IsTrue (g.is_honest retired.archive.disk)) where
     -- whether the case is stored, and what is in doubt
-    record Stored (filled ended : Parts D) (first rest : List ℕ) (stored : Option ℕ) : Type 0 where
-      takes : ChangesNoCase g retired.archive filled
+    record Stored (gone : List (Going D)) (filled ended : Parts D) (first rest : List ℕ) (stored : Option ℕ) : Type 0 where
+      filling : Filling g gone retired filled
       more : List Durable
-      moves : Moves g (stage_of filled retired.in_doubt) (end_of 0) rest (stage_of ended (more ++ retired.in_doubt))
-      stores : StoresOrNot found file file' (durable_of g.seen retired.archive) stored (durable_of g.seen ended)
+      moves : Moves g (stage_of filled filling.1) (end_of 0) rest (stage_of ended (more ++ filling.1))
+      stores : StoresOrNot found file file' (durable_of g.seen filled) stored (durable_of g.seen ended)
       tells : TellsStored stored first rest
-      awake : (n : ℕ) → stored ≡ Some n → (state_of retired.archive).stopped ≡ false
+      awake : (n : ℕ) → stored ≡ Some n → ((state_of retired.archive).stopped ≡ false) × (filling.1 ≡ retired.in_doubt)
       doubted :
           (moves.doubts ≡ [])
-          ⊎ ((rest ≡ no_reply (codes "Disk")) × AllByRecursion (λ (z : Durable). (n : ℕ) × AddsCase found file file' (durable_of g.seen retired.archive) n z) moves.doubts)
+          ⊎ ((rest ≡ no_reply (codes "Disk")) × AllByRecursion (λ (z : Durable). (n : ℕ) × AddsCase found file file' (durable_of g.seen filled) n z) moves.doubts)
 
     -- no case is stored, and the archive stays as it was
-    none_stored : (filled ended : Parts D) (first rest : List ℕ) (stored : Option ℕ) → ChangesNoCase g retired.archive filled → ended ≡ filled → stored ≡ None → TellsStored None first rest → Stored filled ended first rest stored
-    none_stored filled ended first rest stored takes same nothing tells = record {
+    none_stored : (gone : List (Going D)) (filled ended : Parts D) (first rest : List ℕ) (stored : Option ℕ) → Filling g gone retired filled → ended ≡ filled → stored ≡ None → TellsStored None first rest → Stored gone filled ended first rest stored
+    none_stored gone filled ended first rest stored filling same nothing tells = record {
+      filling = filling;
       awake = λ n is. absurd (none_apart n (sym nothing ∙ is));
       tells = subst (λ (o : Option ℕ). TellsStored o first rest) (sym nothing) tells;
-      takes = takes;
       more = [];
-      moves = record { doubts = []; in_doubt = refl; doubted = inl refl; passes = laws.stays filled ended retired.in_doubt (stays_as g filled ended same) };
+      moves = record { doubts = []; in_doubt = refl; doubted = inl refl; passes = laws.stays filled ended filling.1 (stays_as g filled ended same) };
       stores =
-          subst (λ (o : Option ℕ). StoresOrNot found file file' (durable_of g.seen retired.archive) o (durable_of g.seen ended)) (sym nothing) (ap (durable_of g.seen) same ∙ takes.durable honest);
+          subst (λ (o : Option ℕ). StoresOrNot found file file' (durable_of g.seen filled) o (durable_of g.seen ended)) (sym nothing) (ap (durable_of g.seen) same);
       doubted = inl refl;
     }
 
-    all_add : (mid filled : Parts D) (first : List ℕ) → Begins g retired.archive 0 found first mid true → TakesFile g file file' fails fails' mid filled (Ok tt) → IsTrue (g.is_honest mid.disk)
-        → durable_of g.seen retired.archive ≡ durable_of g.seen filled → (xs : List Durable) → AllByRecursion (MayLeave g filled (end_of 0)) xs
-        → AllByRecursion (λ (z : Durable). (n : ℕ) × AddsCase found file file' (durable_of g.seen retired.archive) n z) xs
-    all_add mid filled first begins takes there same [] all = tt
-    all_add mid filled first begins takes there same (z ∷ zs) all = (
-      ((durable_of g.seen retired.archive).next, adds_case found file file' fails fails' retired.archive mid filled first (durable_of g.seen retired.archive) z _ none begins takes there same refl all.0),
-      all_add mid filled first begins takes there same zs all.1,
+    all_add : (mid : Parts D) (gone : List (Going D)) (filled : Parts D) (first : List ℕ) → Begins g retired.archive 0 found first mid true → TakesFile file file' fails fails' (λ raw v. TakesWhile g mid raw gone v filled) (Ok tt) → IsTrue (g.is_honest filled.disk)
+        → (xs : List Durable) → AllByRecursion (MayLeave g filled (end_of 0)) xs
+        → AllByRecursion (λ (z : Durable). (n : ℕ) × AddsCase found file file' (durable_of g.seen filled) n z) xs
+    all_add mid gone filled first begins takes there [] all = tt
+    all_add mid gone filled first begins takes there (z ∷ zs) all = (
+      ((durable_of g.seen filled).next, adds_case found file file' fails fails' retired.archive mid gone filled first (durable_of g.seen filled) z _ none begins takes there refl refl all.0),
+      all_add mid gone filled first begins takes there zs all.1,
     )
 
-    is_stored : (mid filled ended : Parts D) (first : List ℕ) (accepted : Bool) (rest : List ℕ) (stored : Option ℕ) → Begins g retired.archive 0 found first mid accepted → ChangesNoCase g retired.archive mid
-        → RestReplies g file file' fails fails' mid accepted filled rest ended stored → Stored filled ended first rest stored
-    is_stored mid filled ended first false rest stored begins begun goes =
-        none_stored filled ended first rest stored (stays_then g retired.archive mid filled begun (stays_as g mid filled goes.2)) (goes.4 ∙ sym goes.2) goes.5
+    is_stored : (mid : Parts D) (gone : List (Going D)) (filled ended : Parts D) (first : List ℕ) (accepted : Bool) (rest : List ℕ) (stored : Option ℕ) → Begins g retired.archive 0 found first mid accepted → ChangesNoCase g retired.archive mid
+        → RestReplies g file file' fails fails' mid accepted gone filled rest ended stored → Stored gone filled ended first rest stored
+    is_stored mid gone filled ended first false rest stored begins begun goes =
+        none_stored gone filled ended first rest stored
+        (subst (λ (l : List (Going D)). Filling g l retired filled) (sym goes.6) ([], retired.in_doubt, (stays_then g retired.archive mid filled begun (stays_as g mid filled goes.2), refl)))
+        (goes.4 ∙ sym goes.2) goes.5
         (inr (goes.3, not_begun retired.archive mid found first begins))
-    is_stored mid filled ended first true rest stored begins begun (Err stop, takes, replies) =
+    is_stored mid gone filled ended first true rest stored begins begun (Err stop, takes, replies) =
         none_refused stop takes replies
       where
-        none_refused : (stop : TakeStop) → TakesFile g file file' fails fails' mid filled (Err stop) → FileReplies g filled (Err stop) rest ended stored → Stored filled ended first rest stored
-        none_refused File takes replies = none_stored filled ended first rest stored (stays_then g retired.archive mid filled begun takes.3.stays) replies.1 replies.2 (inl (codes "File", replies.0))
-        none_refused (Refused f) takes replies = none_stored filled ended first rest stored (stays_then g retired.archive mid filled begun takes.2.stays) replies.1 replies.2 (inl (reason_of f, replies.0))
-    is_stored mid filled ended first true rest stored begins begun (Ok u, takes, (r, call, told, is)) =
-        let there : IsTrue (g.is_honest mid.disk) = begun.honesty ∙ honest in
-        let here : IsTrue (g.is_honest filled.disk) = takes.3.stays.honesty ∙ there in
-        let same : durable_of g.seen retired.archive ≡ durable_of g.seen filled = sym (takes.3.stays.durable there ∙ begun.durable honest) in
-        let moves = ends_moves g laws (stage_of filled retired.in_doubt) ended 0 rest stored (r, call, told, is) in
+        none_refused : (stop : TakeStop) → TakesFile file file' fails fails' (λ raw v. TakesWhile g mid raw gone v filled) (Err stop) → FileReplies g filled (Err stop) rest ended stored → Stored gone filled ended first rest stored
+        none_refused File takes replies =
+            none_stored gone filled ended first rest stored (earlier g gone retired mid filled begun (filling g laws gone (stage_of mid retired.in_doubt) takes.0 (Ok tt) filled takes.3)) replies.1 replies.2 (inl (codes "File", replies.0))
+        none_refused (Refused f) takes replies =
+            none_stored gone filled ended first rest stored (earlier g gone retired mid filled begun (filling g laws gone (stage_of mid retired.in_doubt) takes.0 (Err f) filled takes.2)) replies.1 replies.2 (inl (reason_of f, replies.0))
+    is_stored mid gone filled ended first true rest stored begins begun (Ok u, takes, (r, call, told, is)) =
+        let f : Filling g gone retired filled = earlier g gone retired mid filled begun (filling g laws gone (stage_of mid retired.in_doubt) takes.0 (Ok tt) filled takes.3) in
+        let here : IsTrue (g.is_honest filled.disk) = going_honest gone retired f.0 (stage_of filled f.1) f.2 honest in
+        let moves = ends_moves g laws (stage_of filled f.1) ended 0 rest stored (r, call, told, is) in
         record {
-          takes = stays_then g retired.archive mid filled begun takes.3.stays;
+          filling = f;
           more = moves.0;
           moves = moves.1;
-          stores = ends r call is there here same;
+          stores = ends r call is here;
           tells = tells r told is;
-          awake = λ n some. awake_then retired.archive mid found first begins;
-          doubted = ⊎_elim (λ nothing. inl nothing) (λ may. inr (may.0, all_add mid filled first begins takes there same moves.1.doubts may.1)) moves.1.doubted;
+          awake = λ n some. (awake_then retired.archive mid found first begins, surely_filled gone retired mid filled takes.0 f.0 f.1 takes.3 f.2);
+          doubted = ⊎_elim (λ nothing. inl nothing) (λ may. inr (may.0, all_add mid gone filled first begins takes here moves.1.doubts may.1)) moves.1.doubted;
         }
       where
         tells : (r : Result ℕ ArchiveFault) → rest ≡ end_reply r → stored ≡ result_ok r → TellsStored stored first rest
         tells (Ok seq) told is = subst (λ (o : Option ℕ). TellsStored o first rest) (sym is) told
         tells (Err f) told is = subst (λ (o : Option ℕ). TellsStored o first rest) (sym is) (inl (reason_of f, told))
 
-        ends : (r : Result ℕ ArchiveFault) → FinishCall g filled 0 r ended → stored ≡ result_ok r → IsTrue (g.is_honest mid.disk) → IsTrue (g.is_honest filled.disk) → durable_of g.seen retired.archive ≡ durable_of g.seen filled
-            → StoresOrNot found file file' (durable_of g.seen retired.archive) stored (durable_of g.seen ended)
-        ends (Ok seq) call is there here same =
-            let number : seq ≡ (durable_of g.seen retired.archive).next = call.step.6 ∙ ap (λ (d : Durable). d.next) (sym same) in
-            subst (λ (o : Option ℕ). StoresOrNot found file file' (durable_of g.seen retired.archive) o (durable_of g.seen ended)) (sym is)
-            (adds_case found file file' fails fails' retired.archive mid filled first (durable_of g.seen retired.archive) (durable_of g.seen ended) seq none begins takes there same number (lasts.finish filled ended 0 seq here call))
-        ends (Err f) call is there here same =
-            subst (λ (o : Option ℕ). StoresOrNot found file file' (durable_of g.seen retired.archive) o (durable_of g.seen ended)) (sym is)
-            (lasts.refusals filled ended f here (inl (0, call)) ∙ sym same)
+        ends : (r : Result ℕ ArchiveFault) → FinishCall g filled 0 r ended → stored ≡ result_ok r → IsTrue (g.is_honest filled.disk)
+            → StoresOrNot found file file' (durable_of g.seen filled) stored (durable_of g.seen ended)
+        ends (Ok seq) call is here =
+            subst (λ (o : Option ℕ). StoresOrNot found file file' (durable_of g.seen filled) o (durable_of g.seen ended)) (sym is)
+            (adds_case found file file' fails fails' retired.archive mid gone filled first (durable_of g.seen filled) (durable_of g.seen ended) seq none begins takes here refl call.step.6 (lasts.finish filled ended 0 seq here call))
+        ends (Err f) call is here =
+            subst (λ (o : Option ℕ). StoresOrNot found file file' (durable_of g.seen filled) o (durable_of g.seen ended)) (sym is)
+            (lasts.refusals filled ended f here (inl (0, call)))
 
   decided : (old : Parts D) (policy : Policy) (dropped : List ℕ) (unmet : Bool) → IsDecision policy (map step.brief_of (state_of old).cases) dropped unmet → IsDecision policy (map brief_of (durable_of g.seen old).cases) dropped unmet
   decided old policy dropped unmet decision =
@@ -215,6 +367,20 @@ module _ {D : Type 0} (g : disk.Ghosts D) (lasts : LastingLaws g) where
       × (((c.label ≡ label) × (durable_of g.seen new ≡ durable_of g.seen old)) ⊎ ((c.label ≢ label) × (durable_of g.seen new ≡ labelled (durable_of g.seen old) seq label)))
       → Leads no_stream [] (label_of seq label) told (durable_of g.seen old) (durable_of g.seen new)
   label_set old new seq label told is p =
+      inl (
+        is,
+        ⊎_elim
+            (λ same.
+            (let f = is_found old.journal.standing.shape (g.seen old.disk) old.journal.standing.cases seq p.0 p.1.1 in
+            inr ((found_case old.journal.standing.shape (g.seen old.disk) p.0, f.0, f.1, same.0), same.1)))
+            (λ set. inl set.1) p.2,
+      )
+
+  flag_set : (old new : Parts D) (seq : ℕ) (flag : Bool) (told : List ℕ) → told ≡ ok_reply
+      → (c : Case) × HasCase (state_of old) seq c
+      × (((c.pinned ≡ flag) × (durable_of g.seen new ≡ durable_of g.seen old)) ⊎ ((c.pinned ≢ flag) × (durable_of g.seen new ≡ flagged (durable_of g.seen old) seq flag)))
+      → Leads no_stream [] (pin_of seq flag) told (durable_of g.seen old) (durable_of g.seen new)
+  flag_set old new seq flag told is p =
       inl (
         is,
         ⊎_elim
@@ -246,6 +412,18 @@ module _ {D : Type 0} (g : disk.Ghosts D) (lasts : LastingLaws g) where
   label_would old (Some seq) None x may = absurd may
   label_would old None label x may = absurd may
 
+  pin_leads : (old new : Parts D) (stored : Option ℕ) (pin : Bool) (told : List ℕ) (done : Bool) → IsTrue (g.is_honest old.disk) → PinsCase g old stored pin told new done
+      → Leads no_stream [] (said_pin stored pin) told (durable_of g.seen old) (durable_of g.seen new)
+  pin_leads old new (Some seq) true told done honest ((Ok u, call, is), did) = flag_set old new seq true told is (lasts.pin old new seq true u honest call)
+  pin_leads old new (Some seq) true told done honest ((Err f, call, is), did) = inr (reason_of f, is, lasts.refusals old new f honest (inr (inr (inl (seq, true, call)))))
+  pin_leads old new (Some seq) false told done honest pins = (pins.0, ap (durable_of g.seen) pins.1)
+  pin_leads old new None pin told done honest pins = (pins.0, ap (durable_of g.seen) pins.1)
+
+  pin_would : (old : Parts D) (stored : Option ℕ) (pin : Bool) (x : Durable) → MayLeave g old (said_pin stored pin) x → WouldLeave no_stream [] (said_pin stored pin) (durable_of g.seen old) x
+  pin_would old (Some seq) true x may = (refl, ok_reply, (refl, inl may))
+  pin_would old (Some seq) false x may = absurd may
+  pin_would old None pin x may = absurd may
+
 -- a stream that a line or the words of a command begin has no bytes yet
 pub found_empty : (r : Result NewStream (Bor (List ℕ))) → BeginsEmpty (stream_found r)
 found_empty (Ok stream) = refl
@@ -256,11 +434,11 @@ is_chosen s asked found None chosen = inr refl
 is_chosen s asked found (Some policy) chosen = inl (sym chosen)
 
 module _ {D : Type 0} (g : disk.Ghosts D) (lasts : LastingLaws g) (laws : Laws g) (law : FoundAfterAStop g) (nothing_else : NothingElseIsLeft g) (stays : (d : D) → IsTrue (g.is_honest d) → g.may_leave d (g.seen d))
-    (limit : ℕ) (t : Streams) (asked : Option Policy) (found : Result StreamFacts (List ℕ)) (label : Option (List ℕ)) (none : BeginsEmpty found) (before after : D) (opened closed : Parts D) (opening : OpenCall g limit before (Ok opened)) (disk : after ≡ closed.disk) (honest : IsTrue (g.is_honest before)) where
+    (limit : ℕ) (t : Streams) (asked : Option Policy) (found : Result StreamFacts (List ℕ)) (options : Options) (none : BeginsEmpty found) (before after : D) (opened closed : Parts D) (opening : OpenCall g limit before (Ok opened)) (disk : after ≡ closed.disk) (honest : IsTrue (g.is_honest before)) where
   abbrev first : Stage D
   first = record { archive = opened; in_doubt = [] }
 
-  module _ (r : Result StoreOutcome LifeFault) (written unwritten : List ℕ) (end : Parts D) (outcome : StoreOutcome) (s : Stores g t.input t.input' t.fails t.fails' opened asked found label (written ++ unwritten) end outcome) (dropped : Result (Unit {0}) ArchiveFault)
+  module _ (r : Result StoreOutcome LifeFault) (written unwritten : List ℕ) (end : Parts D) (outcome : StoreOutcome) (s : Stores g t.input t.input' t.fails t.fails' opened asked found options (written ++ unwritten) end outcome) (dropped : Result (Unit {0}) ArchiveFault)
       (drops : AbandonCall g end 0 dropped closed) (appended : Appends t.taken t.taken' written) (told : IsTold r outcome.stored unwritten) where
     there : IsTrue (g.is_honest opened.disk)
     there = opening.honesty ∙ honest
@@ -277,8 +455,8 @@ module _ {D : Type 0} (g : disk.Ghosts D) (lasts : LastingLaws g) (laws : Laws g
     begun : ChangesNoCase g s.retired s.stores.mid
     begun = begins_stays g s.retired s.stores.mid 0 found s.stores.first s.stores.accepted s.stores.begins
 
-    stored : Stored g lasts laws found none t.input t.input' t.fails t.fails' retired retiring_honest s.stores.filled s.ended s.stores.first s.stores.rest outcome.stored
-    stored = is_stored g lasts laws found none t.input t.input' t.fails t.fails' retired retiring_honest s.stores.mid s.stores.filled s.ended s.stores.first s.stores.accepted s.stores.rest outcome.stored s.stores.begins begun s.stores.goes_on
+    stored : Stored g lasts laws found none t.input t.input' t.fails t.fails' retired retiring_honest s.stores.gone s.stores.filled s.ended s.stores.first s.stores.rest outcome.stored
+    stored = is_stored g lasts laws found none t.input t.input' t.fails t.fails' retired retiring_honest s.stores.mid s.stores.gone s.stores.filled s.ended s.stores.first s.stores.accepted s.stores.rest outcome.stored s.stores.begins begun s.stores.goes_on
 
     -- nothing is in doubt where the archive is not stopped
     retiring_clear : (state_of s.retired).stopped ≡ false → retired.in_doubt ≡ []
@@ -290,27 +468,45 @@ module _ {D : Type 0} (g : disk.Ghosts D) (lasts : LastingLaws g) (laws : Laws g
         retired_then.1.in_doubt ∙ ap (λ (ds : List Durable). ds ++ []) none
 
     abbrev filled : Stage D
-    filled = stage_of s.stores.filled retired.in_doubt
+    filled = stage_of s.stores.filled stored.filling.1
 
     abbrev ended : Stage D
-    ended = stage_of s.ended (stored.more ++ retired.in_doubt)
+    ended = stage_of s.ended (stored.more ++ stored.filling.1)
 
-    label_given : Reaches g laws ended end (said_label outcome.stored label) s.last
-    label_given = label_moves g laws ended end outcome.stored label s.last outcome.labelled s.labels
+    abbrev gone : List (Gone D)
+    gone = gone_of g lasts s.stores.gone stored.filling.0
+
+    label_given : Reaches g laws ended s.labelled (said_label outcome.stored options.label) s.named
+    label_given = label_moves g laws ended s.labelled outcome.stored options.label s.named outcome.labelled s.labels
+
+    abbrev labelled_then : Stage D
+    labelled_then = stage_of s.labelled (label_given.0 ++ ended.in_doubt)
+
+    pin_given : Reaches g laws labelled_then end (said_pin outcome.stored options.pin) s.last
+    pin_given = pin_moves g laws labelled_then end outcome.stored options.pin s.last outcome.pinned s.pins
 
     abbrev last : Stage D
-    last = stage_of end (label_given.0 ++ ended.in_doubt)
+    last = stage_of end (pin_given.0 ++ labelled_then.in_doubt)
 
     ended_honest : IsTrue (g.is_honest s.ended.disk)
-    ended_honest = stored.moves.passes.honesty ∙ (stored.takes.honesty ∙ retiring_honest)
+    ended_honest = stored.moves.passes.honesty ∙ going_honest g lasts s.stores.gone retired stored.filling.0 filled stored.filling.2 retiring_honest
+
+    labelled_honest : IsTrue (g.is_honest s.labelled.disk)
+    labelled_honest = label_given.1.passes.honesty ∙ ended_honest
 
     end_honest : IsTrue (g.is_honest end.disk)
-    end_honest = label_given.1.passes.honesty ∙ ended_honest
+    end_honest = pin_given.1.passes.honesty ∙ labelled_honest
 
-    run : IsRunOfMarks g (mark_at g.seen first) (marks_of g.seen (retired ∷ filled ∷ ended ∷ []) last closed)
+    abbrev stages : List (Stage D)
+    stages = retired ∷ (stored.filling.0 ++ (filled ∷ ended ∷ labelled_then ∷ []))
+
+    moments_same : map (λ (x : Stage D). moment g x) stages ++ moment g last ∷ [] ≡ moment g retired ∷ (moments_of gone ++ (moment g filled ∷ moment g ended ∷ moment g labelled_then ∷ moment g last ∷ []))
+    moments_same = ap (λ (ms : List (Moment D)). moment g retired ∷ ms) (moments_are g lasts s.stores.gone retired stored.filling.0 filled (filled ∷ ended ∷ labelled_then ∷ []) (moment g last) stored.filling.2)
+
+    run : IsRunOfMarks g (mark_at g.seen first) (marks_of g.seen stages last closed)
     run = (
       retired_then.1.passes,
-      (laws.stays s.retired s.stores.filled retired.in_doubt stored.takes, (stored.moves.passes, (label_given.1.passes, (laws.stays end closed last.in_doubt drops.stays, tt)))),
+      filling_runs g laws s.stores.gone retired stored.filling.0 filled (ended ∷ labelled_then ∷ []) _ stored.filling.2 (stored.moves.passes, (label_given.1.passes, (pin_given.1.passes, (laws.stays end closed last.in_doubt drops.stays, tt)))),
     )
 
     settled : IsMarkSettled g (mark_at g.seen first)
@@ -322,36 +518,42 @@ module _ {D : Type 0} (g : disk.Ghosts D) (lasts : LastingLaws g) (laws : Laws g
       policy = s.retires_first.policy;
       told = s.told;
       retired = moment g retired;
+      gone = gone;
       filled = moment g filled;
       first = s.stores.first;
       reply = s.stores.rest;
       stored = outcome.stored;
       ended = moment g ended;
-      labels = s.last;
+      labels = s.named;
+      labelled = moment g labelled_then;
+      pins = s.last;
       end = moment g last;
     }
 
-    is_course : IsStoreCourse asked found label t.input t.input' course
+    is_course : IsStoreCourse asked found options t.input t.input' course
     is_course = record {
       clear = refl;
       chosen = is_chosen (state_of opened) asked found s.retires_first.policy s.retires_first.chosen;
       retires_first =
           leads_on g no_stream [] first retired (retire_line s.retires_first.policy) s.told (retiring_leads g lasts opened s.retired s.retires_first.policy s.told outcome.retired_first there s.retires_first.retires_first)
           (λ x disk may. retiring_would g lasts opened s.retires_first.policy x may) retired_then.1;
-      same = stored.takes.durable retiring_honest;
-      same_doubt = refl;
+      goes = go_in_turn g lasts s.stores.gone retired stored.filling.0 filled stored.filling.2 retiring_honest;
+      unasked = λ no. ap (λ (l : List (Going D)). gone_of g lasts l stored.filling.0) (s.stores.unasked no);
       stores = stored.stores;
-      sure = λ n is. retiring_clear (stored.awake n is);
+      sure = λ n is. (let sure = stored.awake n is in sure.1 ∙ retiring_clear sure.0);
       tells = stored.tells;
       doubts = stored.moves.doubts;
       in_doubt = stored.moves.in_doubt;
       doubted = stored.doubted;
       gives_label =
-          leads_on g no_stream [] ended last (said_label outcome.stored label) s.last (label_leads g lasts s.ended end outcome.stored label s.last outcome.labelled ended_honest s.labels)
-          (λ x disk may. label_would g lasts s.ended outcome.stored label x may) label_given.1;
+          leads_on g no_stream [] ended labelled_then (said_label outcome.stored options.label) s.named (label_leads g lasts s.ended s.labelled outcome.stored options.label s.named outcome.labelled ended_honest s.labels)
+          (λ x disk may. label_would g lasts s.ended outcome.stored options.label x may) label_given.1;
+      gives_pin =
+          leads_on g no_stream [] labelled_then last (said_pin outcome.stored options.pin) s.last (pin_leads g lasts s.labelled end outcome.stored options.pin s.last outcome.pinned labelled_honest s.pins)
+          (λ x disk may. pin_would g lasts s.labelled outcome.stored options.pin x may) pin_given.1;
     }
 
-    pub store_safe : IsStoreSafe g t asked found label before after r
+    pub store_safe : IsStoreSafe g t asked found options before after r
     store_safe = record {
       course = course;
       found_again = λ x stands. opening.found_again x honest stands;
@@ -359,16 +561,20 @@ module _ {D : Type 0} (g : disk.Ghosts D) (lasts : LastingLaws g) (laws : Laws g
       written = written;
       unwritten = unwritten;
       appended = appended;
-      text = s.all ∙ ap (λ (x : List ℕ). s.told ++ (x ++ s.last)) s.stores.text;
+      text =
+          s.all ∙ ap (λ (x : List ℕ). s.told ++ (x ++ (s.named ++ s.last))) s.stores.text
+          ∙ ap (λ (x : List ℕ). s.told ++ ((s.stores.first ++ (x ++ s.stores.rest)) ++ (s.named ++ s.last))) (lines_are g lasts s.stores.gone retired stored.filling.0 filled stored.filling.2);
       disk = disk ∙ drops.disk;
       answered = told;
       opening =
           subst
-          (λ (d : D). (left : List ℕ) → g.left_since d (g.clock before) left → g.may_leave before left ⊎ FindsSince left (moment g first) (moment g retired ∷ moment g filled ∷ moment g ended ∷ moment g last ∷ [])) (sym disk)
-          (since_opening g stays last closed end_honest drops.stays nothing_else first (retired ∷ filled ∷ ended ∷ []) there run before (opening.any_moment honest));
+          (λ (d : D). (left : List ℕ) → g.left_since d (g.clock before) left → g.may_leave before left ⊎ FindsSince left (moment g first) (moment g retired ∷ (moments_of gone ++ (moment g filled ∷ moment g ended ∷ moment g labelled_then ∷ moment g last ∷ [])))) (sym disk)
+          (subst (λ (ms : List (Moment D)). (left : List ℕ) → g.left_since closed.disk (g.clock before) left → g.may_leave before left ⊎ FindsSince left (moment g first) ms) moments_same
+          (since_opening g stays last closed end_honest drops.stays nothing_else first stages there run before (opening.any_moment honest)));
       safe =
-          subst (λ (d : D). AreSafe g d (moment g first) (moment g retired ∷ moment g filled ∷ moment g ended ∷ moment g last ∷ [])) (sym disk)
-          (are_safe g stays last closed end_honest drops.stays first (retired ∷ filled ∷ ended ∷ []) there settled run (law (mark_at g.seen first) (marks_of g.seen (retired ∷ filled ∷ ended ∷ []) last closed) there settled run));
+          subst (λ (d : D). AreSafe g d (moment g first) (moment g retired ∷ (moments_of gone ++ (moment g filled ∷ moment g ended ∷ moment g labelled_then ∷ moment g last ∷ [])))) (sym disk)
+          (subst (AreSafe g closed.disk (moment g first)) moments_same
+          (are_safe g stays last closed end_honest drops.stays first stages there settled run (law (mark_at g.seen first) (marks_of g.seen stages last closed) there settled run)));
     }
 
   -- the same answer of a life
@@ -376,19 +582,19 @@ module _ {D : Type 0} (g : disk.Ghosts D) (lasts : LastingLaws g) (laws : Laws g
   life_of (Ok outcome) = Ok outcome
   life_of (Err f) = Err (life.Session f)
 
-  pub ended_safe : (r : Result StoreOutcome SessionFault) → StoreEnds g t first asked found label closed r → IsStoreSafe g t asked found label before after (life_of r)
+  pub ended_safe : (r : Result StoreOutcome SessionFault) → StoreEnds g t first asked found options closed r → IsStoreSafe g t asked found options before after (life_of r)
   ended_safe (Ok outcome) e =
       store_safe (Ok outcome) e.0 [] e.1.archive outcome
-      (subst (λ (x : List ℕ). Stores g t.input t.input' t.fails t.fails' opened asked found label x e.1.archive outcome) (sym (append-nil e.0)) e.3) e.2 e.4 e.5 (refl, refl)
+      (subst (λ (x : List ℕ). Stores g t.input t.input' t.fails t.fails' opened asked found options x e.1.archive outcome) (sym (append-nil e.0)) e.3) e.2 e.4 e.5 (refl, refl)
   ended_safe (Err WriteFailed) e = store_safe (Err (life.Session WriteFailed)) e.0 e.1 e.2.archive e.3 e.5 e.4 e.6 e.7 tt
   ended_safe (Err ReadFailed) e = absurd e
   ended_safe (Err TooManyReads) e = absurd e
 
 module _ {D : Type 0} (g : disk.Ghosts D) (lasts : LastingLaws g) (laws : Laws g) (law : FoundAfterAStop g) (nothing_else : NothingElseIsLeft g) (stays : (d : D) → IsTrue (g.is_honest d) → g.may_leave d (g.seen d)) where
   pub stores_safe : StoresAreCrashSafe g
-  stores_safe limit t asked found label before after (Ok outcome) none lived = λ honest.
-      ended_safe g lasts laws law nothing_else stays limit t asked found label none before after lived.opened lived.closed lived.opening lived.disk honest (Ok outcome) lived.goes
-  stores_safe limit t asked found label before after (Err (life.Session f)) none lived = λ honest.
-      ended_safe g lasts laws law nothing_else stays limit t asked found label none before after lived.opened lived.closed lived.opening lived.disk honest (Err f) lived.goes
-  stores_safe limit t asked found label before after (Err (life.Open f)) none lived = λ honest.
+  stores_safe limit t asked found options before after (Ok outcome) none lived = λ honest.
+      ended_safe g lasts laws law nothing_else stays limit t asked found options none before after lived.opened lived.closed lived.opening lived.disk honest (Ok outcome) lived.goes
+  stores_safe limit t asked found options before after (Err (life.Session f)) none lived = λ honest.
+      ended_safe g lasts laws law nothing_else stays limit t asked found options none before after lived.opened lived.closed lived.opening lived.disk honest (Err f) lived.goes
+  stores_safe limit t asked found options before after (Err (life.Open f)) none lived = λ honest.
       (lived.0.opening.seen honest, λ left was. (lived.0.opening.any_moment honest).each left was)

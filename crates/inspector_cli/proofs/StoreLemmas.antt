@@ -1,8 +1,9 @@
--- One stream that is stored from its own input, with cases retired before it, and the label of its case.
+-- One stream that is stored from its own input, with cases retired before it, and the label and the pin of its case.
 use Rattle.std.proofs.Common.{◌≡◌, inl, ℕ, zero, suc, ◌+◌, ◌<◌, ◌≤◌, Bool, true, false, List, [], ◌∷◌, ◌++◌, length, Option, Some, None, Result, Ok, Err, is_ok, refl, sym, ap, subst, ◌∙◌, arith, length-append}
 use Rattle.std.proofs.lemmas.List.{append-nil, length-map}
 use Rattle.std.proofs.KnownBytes.{Consumes-trans}
 use Rattle.std.specs.Io.KnownBytes.{Consumes}
+use Rattle.std.specs.List.{flat_map}
 use Rattle.std.proofs.lemmas.Bool.{true≢false, false≢true}
 use Rattle.std.specs.Prelude.{slice_set, option_map}
 use Rattle.intake.specs.declared.faults.ArchiveFault.{ArchiveFault}
@@ -19,6 +20,11 @@ use Rattle.failure_count.specs.Counts.{HasRisen}
 use Rattle.script_streams.specs.Telling.{Sink, Told, IsDelivered}
 use Rattle.script_streams.specs.declared.streams.StreamFault.{StreamFault}
 use Rattle.script_lines.specs.Said.{silence, end_of}
+use Rattle.archive_replies.specs.Texts.{plain_reply}
+use Rattle.inspector_cli.specs.Fitting.{Going, GoesOn, TakesWhile, going_text}
+use Rattle.inspector_cli.proofs.FitLemmas.{texts_more, either}
+use Rattle.intake.specs.Marks.{Mark, IsRunOfMarks, Passes}
+use Rattle.std.specs.Prelude.{map}
 use Rattle.inspector_cli.specs.Reply.{Begins, TakeStep, TakeBytes, Takes}
 use Rattle.std.specs.Borrow.{Bor}
 use Rattle.stream_names.specs.Commands.{stream_found}
@@ -28,13 +34,13 @@ use Rattle.inspector_cli.specs.declared.session.StoreOutcome.{StoreOutcome}
 use Rattle.retention.specs.declared.Policy.{Policy}
 use Rattle.inspector_cli.specs.declared.store.TakeStop.{TakeStop}
 use Rattle.inspector_cli.specs.declared.store.TakeStop.TheVariants.{File, Refused}
-use Rattle.script_streams.specs.Replies.{Telling, TellsReply}
+use Rattle.script_streams.specs.Replies.{Telling, TellsReply, TellsText}
 use Rattle.inspector_cli.specs.Stages.{Stage, mark_at, marks_of}
 use Rattle.inspector_cli.specs.Session.{Streams}
-use Rattle.inspector_cli.specs.Storing.{TakesFile, TakesMore, FileReplies, RestReplies, StoresStream, RetiresFirst, RetiresForStream, LabelsCase, Stores, retire_line, said_label, StoreStages, StoreEnds}
+use Rattle.inspector_cli.specs.Storing.{TakesFile, TakesMore, TakesNext, TakesAll, FillsAndEnds, GoneStages, FileReplies, RestReplies, StoresStream, RetiresFirst, RetiresForStream, PinsCase, LabelsCase, Options, Stores, retire_line, said_pin, said_label, StoreStages, StoreEnds}
 use Rattle.intake.specs.StayLaws.{stays_none, stays_as, stays_then}
-use Rattle.inspector_cli.proofs.StageLemmas.{Laws, Reaches, stage_of, ends_moves, labels_moves, retires_moves, still, begins_stays}
-use Rattle.script_streams.specs.TellLaws.{tells_then}
+use Rattle.inspector_cli.proofs.StageLemmas.{Laws, Reaches, stage_of, ends_moves, deletes_moves, pins_moves, labels_moves, retires_moves, still, begins_stays}
+use Rattle.script_streams.specs.TellLaws.{tells_as, tells_then}
 use Rattle.inspector_cli.proofs.SlotLemmas.{set_again}
 
 -- the stream, if there is one, has no bytes yet
@@ -46,7 +52,7 @@ pub found_fresh : (r : Result NewStream (Bor (List ℕ))) → IsFresh (stream_fo
 found_fresh (Ok stream) = refl
 found_fresh (Err reason) = tt
 
-set_there : {X : Type 0} (xs : List (Option X)) (slot : ℕ) (a : Option X) → slot < length xs → stream_at (slice_set xs slot a) slot ≡ a
+pub set_there : {X : Type 0} (xs : List (Option X)) (slot : ℕ) (a : Option X) → slot < length xs → stream_at (slice_set xs slot a) slot ≡ a
 set_there [] slot a there = absurd (omega arith)
 set_there (x ∷ xs) zero a there = refl
 set_there (x ∷ xs) (suc slot) a there = set_there xs slot a (omega arith)
@@ -102,70 +108,133 @@ module _ {D : Type 0} (g : disk.Ghosts D) (old new : Parts D) (slot : ℕ) where
   begun_takes (Ok s) text accepted none begins is = ok_takes s begins.0 none begins.1 (sym is ∙ begins.3)
   begun_takes (Err reason) text accepted none begins is = absurd (true≢false (sym is ∙ begins.2))
 
--- each of a number of reads gave a byte, and the bytes are taken
-abbrev pub FileAlong : {D : Type 0} → disk.Ghosts D → Option (List ℕ) → Option (List ℕ) → ℕ → ℕ → Parts D → ℕ → Parts D → Type 0
-FileAlong g file file' fails fails' old reads new =
-    (raw : List ℕ) × Consumes file file' raw × (reads ≤ length raw) × (fails' ≡ fails) × Takes g old 0 raw (Ok tt) new
+-- each of a number of reads gave a byte, and the bytes are taken, while cases went and were told
+abbrev pub FileAlong : {D : Type 0} → disk.Ghosts D → Bool → Option (List ℕ) → Option (List ℕ) → ℕ → ℕ → Parts D → ℕ → Telling → Parts D → Type 0
+FileAlong {D} g fit file file' fails fails' old reads t new =
+    (gone : List (Going D)) × TellsText t (flat_map going_text gone) × (raw : List ℕ) × Consumes file file' raw × (reads ≤ length raw) × (fails' ≡ fails) × TakesWhile g old raw gone (Ok tt) new × (fit ≡ false → gone ≡ [])
 
 consumes_none : (a b c : Option (List ℕ)) (raw : List ℕ) → Consumes a b raw → Consumes b c [] → Consumes a c raw
 consumes_none a b c raw p q = subst (Consumes a c) (append-nil raw) (Consumes-trans a b c raw [] p q)
 
-module _ {D : Type 0} (g : disk.Ghosts D) (file mid file' : Option (List ℕ)) (fails fails' fails'' : ℕ) (old now new : Parts D) (reads : ℕ) (so_far : FileAlong g file mid fails fails' old reads now) where
-  pub file_went_on : (goes_on : Bool) → goes_on ≡ true → TakesMore g mid file' fails' fails'' old so_far.0 new (Ok goes_on)
-      → FileAlong g file file' fails fails'' old (reads + 1) new
-  file_went_on true is more =
-      let size = length-append so_far.0 more.0 in
-      let count = so_far.2 in
+module _ {D : Type 0} (g : disk.Ghosts D) (fit : Bool) (file mid file' : Option (List ℕ)) (fails fails' fails'' : ℕ) (a b c : Sink) (old now new : Parts D) (reads : ℕ)
+    (so_far : FileAlong g fit file mid fails fails' old reads (record { before = a; after = b }) now) where
+  none_both : (more : List (Going D)) → (fit ≡ false → more ≡ []) → fit ≡ false → so_far.0 ++ more ≡ []
+  none_both more none is = ap (λ (l : List (Going D)). l ++ more) (so_far.7 is) ∙ none is
+
+  told_both : (more : List (Going D)) → TellsText (record { before = b; after = c }) (flat_map going_text more) → TellsText (record { before = a; after = c }) (flat_map going_text (so_far.0 ++ more))
+  told_both more tells = tells_as (sym (texts_more so_far.0 more)) (tells_then so_far.1 tells)
+
+  pub file_went_on : (goes_on : Bool) → goes_on ≡ true → TakesNext g mid file' fails' fails'' old so_far.2 so_far.0 fit (record { before = b; after = c }) new (Ok goes_on)
+      → FileAlong g fit file file' fails fails'' old (reads + 1) (record { before = a; after = c }) new
+  file_went_on true is (gone, tells, more, none) =
+      let size = length-append so_far.2 more.0 in
+      let count = so_far.4 in
       let some = more.2 in
-      (so_far.0 ++ more.0, Consumes-trans file mid file' so_far.0 more.0 so_far.1 more.1, omega (arith, count, some, size), more.3 ∙ so_far.3, more.4)
+      (so_far.0 ++ gone, told_both gone tells, so_far.2 ++ more.0, Consumes-trans file mid file' so_far.2 more.0 so_far.3 more.1, omega (arith, count, some, size), more.3 ∙ so_far.5, more.4, none_both gone none)
   file_went_on false is more = absurd (false≢true is)
 
-  pub file_ended : (goes_on : Bool) → goes_on ≡ false → TakesMore g mid file' fails' fails'' old so_far.0 new (Ok goes_on)
-      → TakesFile g file file' fails fails'' old new (Ok tt)
+  pub file_ended : (goes_on : Bool) → goes_on ≡ false → TakesNext g mid file' fails' fails'' old so_far.2 so_far.0 fit (record { before = b; after = c }) new (Ok goes_on)
+      → TakesAll g fit file file' fails fails'' old (record { before = a; after = c }) new (Ok tt)
   file_ended true is more = absurd (true≢false is)
-  file_ended false is more = (so_far.0, consumes_none file mid file' so_far.0 so_far.1 more.0, more.1, more.3)
+  file_ended false is (gone, tells, more, none) =
+      (so_far.0 ++ gone, told_both gone tells, (so_far.2, consumes_none file mid file' so_far.2 so_far.3 more.0, more.1, more.3), none_both gone none)
 
-  pub file_stopped : (stop : TakeStop) → TakesMore g mid file' fails' fails'' old so_far.0 new (Err stop)
-      → TakesFile g file file' fails fails'' old new (Err stop)
-  file_stopped File more =
-      (so_far.0, consumes_none file mid file' so_far.0 so_far.1 more.0, inl (subst (λ (n : ℕ). HasRisen n fails'') so_far.3 more.1), more.2)
-  file_stopped (Refused fault) more =
-      (so_far.0 ++ more.0, Consumes-trans file mid file' so_far.0 more.0 so_far.1 more.1, more.3)
+  pub file_stopped : (stop : TakeStop) → TakesNext g mid file' fails' fails'' old so_far.2 so_far.0 fit (record { before = b; after = c }) new (Err stop)
+      → TakesAll g fit file file' fails fails'' old (record { before = a; after = c }) new (Err stop)
+  file_stopped File (gone, tells, more, none) = (
+    so_far.0 ++ gone,
+    told_both gone tells,
+    (so_far.2, consumes_none file mid file' so_far.2 so_far.3 more.0, inl (subst (λ (n : ℕ). HasRisen n fails'') so_far.5 more.1), more.2),
+    none_both gone none,
+  )
+  file_stopped (Refused fault) (gone, tells, more, none) =
+      (so_far.0 ++ gone, told_both gone tells, (so_far.2 ++ more.0, Consumes-trans file mid file' so_far.2 more.0 so_far.3 more.1, more.3), none_both gone none)
 
 module _ {D : Type 0} (g : disk.Ghosts D) where
   -- a stream that is begun, and its file
-  pub stores : (found : Result StreamFacts (List ℕ)) (file file' : Option (List ℕ)) (fails fails' : ℕ) (o p q : Sink) (old mid new : Parts D) (stored : Option ℕ)
+  pub stores : (fit : Bool) (found : Result StreamFacts (List ℕ)) (file file' : Option (List ℕ)) (fails fails' : ℕ) (o p q : Sink) (old mid new : Parts D) (stored : Option ℕ)
       → TellsReply (record { before = o; after = p }) (λ text. Begins g old 0 found text mid true)
-      → TellsReply (record { before = p; after = q }) (λ text. (filled : Parts D) × RestReplies g file file' fails fails' mid true filled text new stored)
-      → TellsReply (record { before = o; after = q }) (λ text. StoresStream g file file' fails fails' old found text new stored)
-  stores found file file' fails fails' o p q old mid new stored first rest = (
+      → TellsReply (record { before = p; after = q }) (λ text. FillsAndEnds g fit file file' fails fails' mid text new stored)
+      → TellsReply (record { before = o; after = q }) (λ text. StoresStream g fit file file' fails fails' old found text new stored)
+  stores fit found file file' fails fails' o p q old mid new stored first rest = (
     first.0 ++ rest.0,
-    record { first = first.0; mid = mid; accepted = true; begins = first.1; filled = rest.1.0; rest = rest.0; goes_on = rest.1.1; text = refl },
+    record {
+      first = first.0;
+      mid = mid;
+      accepted = true;
+      begins = first.1;
+      gone = rest.1.0;
+      unasked = rest.1.4;
+      filled = rest.1.1;
+      rest = rest.1.2;
+      goes_on = rest.1.5;
+      text = ap (λ (t : List ℕ). first.0 ++ t) rest.1.3;
+    },
     tells_then first.2 rest.2,
   )
 
-  pub stores_none : (found : Result StreamFacts (List ℕ)) (file : Option (List ℕ)) (fails : ℕ) (t : Telling) (old new : Parts D)
+  pub stores_none : (fit : Bool) (found : Result StreamFacts (List ℕ)) (file : Option (List ℕ)) (fails : ℕ) (t : Telling) (old new : Parts D)
       → TellsReply t (λ text. Begins g old 0 found text new false)
-      → TellsReply t (λ text. StoresStream g file file fails fails old found text new None)
-  stores_none found file fails t old new first = (
+      → TellsReply t (λ text. StoresStream g fit file file fails fails old found text new None)
+  stores_none fit found file fails t old new first = (
     first.0,
     record {
       first = first.0;
       mid = new;
       accepted = false;
       begins = first.1;
+      gone = [];
+      unasked = λ no. refl;
       filled = new;
       rest = [];
-      goes_on = (refl, refl, refl, refl, refl, refl);
+      goes_on = (refl, refl, refl, refl, refl, refl, refl);
       text = sym (append-nil first.0);
     },
     first.2,
   )
 
-  file_stays : (file file' : Option (List ℕ)) (fails fails' : ℕ) (old new : Parts D) (r : Result (Unit {0}) TakeStop) → TakesFile g file file' fails fails' old new r → ChangesNoCase g old new
-  file_stays file file' fails fails' old new (Ok u) takes = takes.3.stays
-  file_stays file file' fails fails' old new (Err File) takes = takes.3.stays
-  file_stays file file' fails fails' old new (Err (Refused fault)) takes = takes.2.stays
+  -- the stages while bytes are taken
+  abbrev pub Filling : (gone : List (Going D)) → Stage D → Parts D → Type 0
+  Filling gone old filled = (stages : List (Stage D)) × (doubt : List Durable) × GoneStages g old gone stages (stage_of filled doubt)
+
+  pub filling : (laws : Laws g) (gone : List (Going D)) (old : Stage D) (raw : List ℕ) (v : Result (Unit {0}) ArchiveFault) (filled : Parts D) → TakesWhile g old.archive raw gone v filled → Filling gone old filled
+  filling laws [] old raw v filled takes = ([], old.in_doubt, (takes.stays, refl))
+  filling laws (w ∷ ws) old raw v filled takes =
+      let before : Stage D = stage_of w.before old.in_doubt in
+      let d = deletes_moves g laws (stage_of w.before old.in_doubt) w.after w.seq (plain_reply w.answer) (w.answer, takes.4.deletes, refl) in
+      let m : Filling ws (stage_of w.after (d.0 ++ old.in_doubt)) filled =
+      either w.answer v ws takes.1 w.after filled (TakesWhile g w.after takes.1 ws v filled) (Filling ws (stage_of w.after (d.0 ++ old.in_doubt)) filled) takes.5
+      (λ t. filling laws ws (stage_of w.after (d.0 ++ old.in_doubt)) takes.1 v filled t)
+      (λ none same. subst (λ (l : List (Going D)). Filling l (stage_of w.after (d.0 ++ old.in_doubt)) filled) (sym none) ([], d.0 ++ old.in_doubt, (stays_as g w.after filled same, refl)))
+      in
+      (stage_of w.before old.in_doubt ∷ stage_of w.after (d.0 ++ old.in_doubt) ∷ m.0, m.1, (takes.3.stays, refl, refl, takes.4, d.1, refl, m.2))
+
+  -- bytes that are taken, or refused, from any stage on
+  file_filling : (laws : Laws g) (file file' : Option (List ℕ)) (fails fails' : ℕ) (gone : List (Going D)) (old : Stage D) (filled : Parts D) (r : Result (Unit {0}) TakeStop) → TakesFile file file' fails fails' (λ raw v. TakesWhile g old.archive raw gone v filled) r → Filling gone old filled
+  file_filling laws file file' fails fails' gone old filled (Ok u) takes = filling laws gone old takes.0 (Ok tt) filled takes.3
+  file_filling laws file file' fails fails' gone old filled (Err File) takes = filling laws gone old takes.0 (Ok tt) filled takes.3
+  file_filling laws file file' fails fails' gone old filled (Err (Refused fault)) takes = filling laws gone old takes.0 (Err fault) filled takes.2
+
+  -- the same from a stage before on that has the same cases
+  pub earlier : (gone : List (Going D)) (old : Stage D) (mid filled : Parts D) → ChangesNoCase g old.archive mid → Filling gone (stage_of mid old.in_doubt) filled → Filling gone old filled
+  earlier [] old mid filled stays (([], doubt, all)) = ([], doubt, (stays_then g old.archive mid filled stays all.0, all.1))
+  earlier [] old mid filled stays ((s ∷ ss, doubt, all)) = absurd all
+  earlier (w ∷ ws) old mid filled stays (([], doubt, all)) = absurd all
+  earlier (w ∷ ws) old mid filled stays ((s ∷ [], doubt, all)) = absurd all
+  earlier (w ∷ ws) old mid filled stays ((s ∷ t ∷ ss, doubt, all)) = (s ∷ t ∷ ss, doubt, (stays_then g old.archive mid s.archive stays all.0, all.1, all.2, all.3, all.4, all.5, all.6))
+
+  -- these stages are a run of marks
+  pub filling_runs : (laws : Laws g) (gone : List (Going D)) (old : Stage D) (stages : List (Stage D)) (filled : Stage D) (later : List (Stage D)) (tail : List (Mark D)) → GoneStages g old gone stages filled
+      → IsRunOfMarks g (mark_at g.seen filled) (map (mark_at g.seen) later ++ tail) → IsRunOfMarks g (mark_at g.seen old) (map (mark_at g.seen) (stages ++ filled ∷ later) ++ tail)
+  filling_runs laws [] old [] filled later tail all run =
+      (subst (λ (d : List Durable). Passes g (mark_at g.seen old) (mark_at g.seen (stage_of filled.archive d))) (sym all.1) (laws.stays old.archive filled.archive old.in_doubt all.0), run)
+  filling_runs laws [] old (s ∷ ss) filled later tail all run = absurd all
+  filling_runs laws (w ∷ ws) old [] filled later tail all run = absurd all
+  filling_runs laws (w ∷ ws) old (s ∷ []) filled later tail all run = absurd all
+  filling_runs laws (w ∷ ws) old (s ∷ t ∷ ss) filled later tail all run = (
+    subst (λ (d : List Durable). Passes g (mark_at g.seen old) (mark_at g.seen (stage_of s.archive d))) (sym all.1) (laws.stays old.archive s.archive old.in_doubt all.0),
+    (all.4.passes, filling_runs laws ws t ss filled later tail all.6 run),
+  )
 
   module _ (laws : Laws g) (old : Stage D) (new : Parts D) where
     -- the end of a stream, or why it has none
@@ -185,54 +254,68 @@ module _ {D : Type 0} (g : disk.Ghosts D) where
     label_moves (Some seq) None last done labels = still g laws old new silence last (stays_as g old.archive new labels.1)
     label_moves None label last done labels = still g laws old new silence last (stays_as g old.archive new labels.1)
 
-  rest_moves : (laws : Laws g) (file file' : Option (List ℕ)) (fails fails' : ℕ) (old : Stage D) (mid filled new : Parts D) (accepted : Bool) (rest : List ℕ) (stored : Option ℕ) → ChangesNoCase g old.archive mid
-      → RestReplies g file file' fails fails' mid accepted filled rest new stored → ChangesNoCase g old.archive filled × Reaches g laws (stage_of filled old.in_doubt) new (end_of 0) rest
-  rest_moves laws file file' fails fails' old mid filled new true rest stored begun goes = (
-    stays_then g old.archive mid filled begun (file_stays file file' fails fails' mid filled goes.0 goes.1),
-    end_reaches laws (stage_of filled old.in_doubt) new goes.0 rest stored goes.2,
-  )
-  rest_moves laws file file' fails fails' old mid filled new false rest stored begun goes = (
-    stays_then g old.archive mid filled begun (stays_as g mid filled goes.2),
-    still g laws (stage_of filled old.in_doubt) new (end_of 0) rest (stays_as g filled new (goes.4 ∙ sym goes.2)),
+    -- the pin of the case, or none
+    pub pin_moves : (stored : Option ℕ) (pin : Bool) (last : List ℕ) (done : Bool) → PinsCase g old.archive stored pin last new done → Reaches g laws old new (said_pin stored pin) last
+    pin_moves (Some seq) true last done pins = pins_moves g laws old new seq true last pins.0
+    pin_moves (Some seq) false last done pins = still g laws old new silence last (stays_as g old.archive new pins.1)
+    pin_moves None pin last done pins = still g laws old new silence last (stays_as g old.archive new pins.1)
+
+  rest_moves : (laws : Laws g) (file file' : Option (List ℕ)) (fails fails' : ℕ) (old : Stage D) (mid : Parts D) (gone : List (Going D)) (filled new : Parts D) (accepted : Bool) (rest : List ℕ) (stored : Option ℕ) → ChangesNoCase g old.archive mid
+      → RestReplies g file file' fails fails' mid accepted gone filled rest new stored → (f : Filling gone old filled) × Reaches g laws (stage_of filled f.1) new (end_of 0) rest
+  rest_moves laws file file' fails fails' old mid gone filled new true rest stored begun goes =
+      let f = earlier gone old mid filled begun (file_filling laws file file' fails fails' gone (stage_of mid old.in_doubt) filled goes.0 goes.1) in (
+        f,
+        end_reaches laws (stage_of filled f.1) new goes.0 rest stored goes.2,
+      )
+  rest_moves laws file file' fails fails' old mid gone filled new false rest stored begun goes = (
+    subst (λ (l : List (Going D)). Filling l old filled) (sym goes.6) ([], old.in_doubt, (stays_then g old.archive mid filled begun (stays_as g mid filled goes.2), refl)),
+    still g laws (stage_of filled _) new (end_of 0) rest (stays_as g filled new (goes.4 ∙ sym goes.2)),
   )
 
-  pub stages_of : (laws : Laws g) → FoundAfterAStop g → (file file' : Option (List ℕ)) (fails fails' : ℕ) (old : Stage D) (asked : Option Policy) (found : Result StreamFacts (List ℕ)) (label : Option (List ℕ))
+  pub stages_of : (laws : Laws g) → FoundAfterAStop g → (file file' : Option (List ℕ)) (fails fails' : ℕ) (old : Stage D) (asked : Option Policy) (found : Result StreamFacts (List ℕ)) (options : Options)
       (replies : List ℕ) (end : Parts D) (outcome : StoreOutcome) (new : Parts D)
-      → (s : Stores g file file' fails fails' old.archive asked found label replies end outcome) → ChangesNoCase g end new
-      → (in_doubt : List Durable) × StoreStages g old s.retires_first.policy s.told s.retired s.stores.filled s.stores.rest s.ended (said_label outcome.stored label) s.last (stage_of end in_doubt) new
-  stages_of laws law file file' fails fails' old asked found label replies end outcome new s closes =
+      → (s : Stores g file file' fails fails' old.archive asked found options replies end outcome) → ChangesNoCase g end new
+      → (in_doubt : List Durable) × StoreStages g old s.retires_first.policy s.told s.retired s.stores.gone s.stores.filled s.stores.rest s.ended (said_label outcome.stored options.label) s.named s.labelled (said_pin outcome.stored options.pin) s.last (stage_of end in_doubt) new
+  stages_of laws law file file' fails fails' old asked found options replies end outcome new s closes =
       let r = retiring_moves laws old s.retired s.retires_first.policy s.told outcome.retired_first s.retires_first.retires_first in
       let t = s.stores in
       let doubts : List Durable = r.0 ++ old.in_doubt in
       let m =
-      rest_moves laws file file' fails fails' (stage_of s.retired doubts) t.mid t.filled s.ended t.accepted t.rest outcome.stored
+      rest_moves laws file file' fails fails' (stage_of s.retired doubts) t.mid t.gone t.filled s.ended t.accepted t.rest outcome.stored
       (begins_stays g s.retired t.mid 0 found t.first t.accepted t.begins) t.goes_on in
-      let later : List Durable = m.1.0 ++ doubts in
-      let l = label_moves laws (stage_of s.ended later) end outcome.stored label s.last outcome.labelled s.labels in (
-        l.0 ++ later,
+      let later : List Durable = m.1.0 ++ m.0.1 in
+      let l = label_moves laws (stage_of s.ended later) s.labelled outcome.stored options.label s.named outcome.labelled s.labels in
+      let last : List Durable = l.0 ++ later in
+      let p = pin_moves laws (stage_of s.labelled last) end outcome.stored options.pin s.last outcome.pinned s.pins in (
+        p.0 ++ last,
         record {
           in_doubt = doubts;
           retires_first = r.1;
-          takes = m.0;
+          stages = m.0.0;
+          filled_doubt = m.0.1;
+          goes = m.0.2;
           later_doubt = later;
           moves = m.1.1;
-          labelled = l.1;
+          named_doubt = last;
+          gives_label = l.1;
+          gives_pin = p.1;
           found = λ honest settled.
-              law (mark_at g.seen old) (marks_of g.seen (stage_of s.retired doubts ∷ stage_of t.filled doubts ∷ stage_of s.ended later ∷ []) (stage_of end (l.0 ++ later)) new) honest settled
-              (r.1.passes, (laws.stays s.retired t.filled doubts m.0, (m.1.1.passes, (l.1.passes, (laws.stays end new (l.0 ++ later) closes, tt)))));
+              law (mark_at g.seen old) (marks_of g.seen (stage_of s.retired doubts ∷ (m.0.0 ++ (stage_of t.filled m.0.1 ∷ stage_of s.ended later ∷ stage_of s.labelled last ∷ []))) (stage_of end (p.0 ++ last)) new) honest settled
+              (r.1.passes, filling_runs laws t.gone (stage_of s.retired doubts) m.0.0 (stage_of t.filled m.0.1) (stage_of s.ended later ∷ stage_of s.labelled last ∷ []) _ m.0.2 (m.1.1.passes, (l.1.passes, (p.1.passes, (laws.stays end new (p.0 ++ last) closes, tt)))));
         },
       )
 
-  -- what is retired, the stream and its label
-  pub stores_all : (file file' : Option (List ℕ)) (fails fails' : ℕ) (o p q r : Sink) (old retired ended new : Parts D) (asked : Option Policy) (found : Result StreamFacts (List ℕ)) (label : Option (List ℕ))
-      (made : Bool) (stored : Option ℕ) (labelled : Bool)
+  -- what is retired, the stream, its label and its pin
+  pub stores_all : (file file' : Option (List ℕ)) (fails fails' : ℕ) (o p q r z : Sink) (old retired ended named new : Parts D) (asked : Option Policy) (found : Result StreamFacts (List ℕ)) (options : Options)
+      (made : Bool) (stored : Option ℕ) (labelled pinned : Bool)
       → TellsReply (record { before = o; after = p }) (λ text. RetiresForStream g old asked found text retired made)
-      → TellsReply (record { before = p; after = q }) (λ text. StoresStream g file file' fails fails' retired found text ended stored)
-      → TellsReply (record { before = q; after = r }) (λ text. LabelsCase g ended stored label text new labelled)
-      → TellsReply (record { before = o; after = r })
-      (λ text. Stores g file file' fails fails' old asked found label text new (record { retired_first = made; stored = stored; labelled = labelled }))
-  stores_all file file' fails fails' o p q r old retired ended new asked found label made stored labelled first rest last = (
-    first.0 ++ (rest.0 ++ last.0),
+      → TellsReply (record { before = p; after = q }) (λ text. StoresStream g options.fit file file' fails fails' retired found text ended stored)
+      → TellsReply (record { before = q; after = r }) (λ text. LabelsCase g ended stored options.label text named labelled)
+      → TellsReply (record { before = r; after = z }) (λ text. PinsCase g named stored options.pin text new pinned)
+      → TellsReply (record { before = o; after = z })
+      (λ text. Stores g file file' fails fails' old asked found options text new (record { retired_first = made; stored = stored; labelled = labelled; pinned = pinned }))
+  stores_all file file' fails fails' o p q r z old retired ended named new asked found options made stored labelled pinned first rest label last = (
+    first.0 ++ (rest.0 ++ (label.0 ++ last.0)),
     record {
       told = first.0;
       retired = retired;
@@ -240,18 +323,21 @@ module _ {D : Type 0} (g : disk.Ghosts D) where
       more = rest.0;
       ended = ended;
       stores = rest.1;
+      named = label.0;
+      labelled = named;
+      labels = label.1;
       last = last.0;
-      labels = last.1;
+      pins = last.1;
       all = refl;
     },
-    tells_then first.2 (tells_then rest.2 last.2),
+    tells_then first.2 (tells_then rest.2 (tells_then label.2 last.2)),
   )
 
 -- what was told is written, or a front of it
 module _ {D : Type 0} (g : disk.Ghosts D) (laws : Laws g) (law : FoundAfterAStop g) (file file' : Option (List ℕ)) (fails fails' : ℕ) (start : Option (List ℕ)) (count name : ℕ) (o p : Sink) (q : Option (List ℕ)) (h : ℕ)
-    (old : Stage D) (end new : Parts D) (asked : Option Policy) (found : Result StreamFacts (List ℕ)) (label : Option (List ℕ)) (outcome : StoreOutcome)
+    (old : Stage D) (end new : Parts D) (asked : Option Policy) (found : Result StreamFacts (List ℕ)) (options : Options) (outcome : StoreOutcome)
     (dropped : Result (Unit {0}) ArchiveFault) (begun : Told start count name o [])
-    (told : TellsReply (record { before = o; after = p }) (λ text. Stores g file file' fails fails' old.archive asked found label text end outcome))
+    (told : TellsReply (record { before = o; after = p }) (λ text. Stores g file file' fails fails' old.archive asked found options text end outcome))
     (drops : AbandonCall g end 0 dropped new) where
   abbrev pub streams : Streams
   streams = record { input = file; input' = file'; fails = fails; fails' = fails'; taken = start; taken' = q; lost = count; lost' = h }
@@ -259,14 +345,14 @@ module _ {D : Type 0} (g : disk.Ghosts D) (laws : Laws g) (law : FoundAfterAStop
   abbrev pub WritesOut : Result (Unit {0}) StreamFault → Type 0
   WritesOut r = (text : List ℕ) → Told start count name p text → IsDelivered start count q h text r
 
-  pub store_written : (s : Unit {0}) → WritesOut (Ok s) → StoreEnds g streams old asked found label new (Ok outcome)
+  pub store_written : (s : Unit {0}) → WritesOut (Ok s) → StoreEnds g streams old asked found options new (Ok outcome)
   store_written s d =
-      let stages = stages_of g laws law file file' fails fails' old asked found label told.0 end outcome new told.1 drops.stays in
+      let stages = stages_of g laws law file file' fails fails' old asked found options told.0 end outcome new told.1 drops.stays in
       (told.0, stage_of end stages.0, dropped, told.1, drops, d told.0 (told.2 start count name [] begun), stages.1)
 
-  pub store_failed : (fault : StreamFault) → WritesOut (Err fault) → StoreEnds g streams old asked found label new (Err WriteFailed)
+  pub store_failed : (fault : StreamFault) → WritesOut (Err fault) → StoreEnds g streams old asked found options new (Err WriteFailed)
   store_failed fault d =
       let t = d told.0 (told.2 start count name [] begun) in
-      let same = subst (λ (text : List ℕ). Stores g file file' fails fails' old.archive asked found label text end outcome) (sym t.2) told.1 in
-      let stages = stages_of g laws law file file' fails fails' old asked found label (t.0 ++ t.1) end outcome new same drops.stays in
+      let same = subst (λ (text : List ℕ). Stores g file file' fails fails' old.archive asked found options text end outcome) (sym t.2) told.1 in
+      let stages = stages_of g laws law file file' fails fails' old asked found options (t.0 ++ t.1) end outcome new same drops.stays in
       (t.0, t.1, stage_of end stages.0, outcome, dropped, same, drops, t.3, t.4, stages.1)

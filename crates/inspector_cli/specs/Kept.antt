@@ -1,6 +1,6 @@
 -- A stored case over the commands of the program, one after the other: over stops of the machine, and over processes that end or
 -- are killed.
-use Rattle.std.specs.Prelude.{◌≡◌, ◌⊎◌, ℕ, List, [], ◌∷◌, ◌++◌, ◌≤◌, ◌<◌, ◌^◌, map, Option, None, Some, Result, Ok, codes, IsTrue}
+use Rattle.std.specs.Prelude.{◌≡◌, ◌⊎◌, ℕ, true, List, [], ◌∷◌, ◌++◌, ◌≤◌, ◌<◌, ◌^◌, map, Option, None, Some, Result, Ok, codes, IsTrue}
 use Rattle.std.specs.List.{AllByRecursion}
 use Rattle.std.specs.Io.KnownBytes.{Consumes}
 use Rattle.disk_model.specs.Anew.{IsMadeAnew, Restarts}
@@ -9,16 +9,16 @@ use Rattle.intake.specs.Durable.{Durable, FoundCase, StandsFor}
 use Rattle.intake.specs.Lives.{IsAmong}
 use Rattle.intake.specs.State.{StreamFacts}
 use Rattle.retention.specs.declared.Policy.{Policy}
-use Rattle.script_lines.specs.Said.{Said, end_of, label_of}
+use Rattle.script_lines.specs.Said.{Said, end_of, delete_of, label_of}
 use Rattle.script_streams.specs.Replies.{no_reply, ok_reply}
 use Rattle.stream_names.specs.declared.naming.Naming.{Naming}
 use Rattle.archive_replies.specs.Texts.{end_reply}
 use Rattle.inspector_cli.specs.declared.session.LifeFault.{LifeFault}
 use Rattle.inspector_cli.specs.declared.session.StoreOutcome.{StoreOutcome}
-use Rattle.inspector_cli.specs.Headline.{Line, IsCrashSafe, answers_of, answer_of, begins_as, begun_in, last_moment}
+use Rattle.inspector_cli.specs.Headline.{Line, IsCrashSafe, HasFlag, answers_of, answer_of, begins_as, begun_in, last_moment}
 use Rattle.inspector_cli.specs.Session.{Streams}
-use Rattle.inspector_cli.specs.StoreHeadline.{IsStoreSafe}
-use Rattle.inspector_cli.specs.Storing.{retire_line, said_label}
+use Rattle.inspector_cli.specs.StoreHeadline.{Gone, IsStoreSafe}
+use Rattle.inspector_cli.specs.Storing.{Options, retire_line, said_label}
 use Rattle.inspector_cli.specs.Told.{Answer, MayDrop, what_of, parts_in}
 
 -- a case as it was stored: its number, its stream as it began, and its image; and its label, if one is named
@@ -73,16 +73,17 @@ pub record IsSession {D : Type 0} (g : disk.Ghosts D) (k : Kept) (c : Command D)
   pub lines : AllSpare k (answers_of safe.course)
   pub last : Spares k safe.course.last safe.course.reply
 
--- It stores a stream, and what it retires and the label that it gives spare the case.
+-- It stores a stream, and what it retires, the cases that go and the label that it gives spare the case.
 pub record IsStore {D : Type 0} (g : disk.Ghosts D) (k : Kept) (c : Command D) : Type 0 where
   pub streams : Streams
   pub asked : Option Policy
   pub found : Result StreamFacts (List ℕ)
-  pub given : Option (List ℕ)
+  pub given : Options
   pub answer : Result StoreOutcome LifeFault
   pub safe : IsStoreSafe g streams asked found given c.before c.after answer
   pub retired : Spares k (retire_line safe.course.policy) safe.course.told
-  pub gives : Spares k (said_label safe.course.stored given) safe.course.labels
+  pub gone : AllByRecursion (λ (x : Gone D). Spares k (delete_of x.seq) x.reply) safe.course.gone
+  pub gives : Spares k (said_label safe.course.stored given.label) safe.course.labels
 
 -- Its opening was refused: reads give what they gave, and a stop leaves what one before could have left.
 pub record IsRefused {D : Type 0} (g : disk.Ghosts D) (c : Command D) : Type 0 where
@@ -146,16 +147,17 @@ ALineStoresACase {D} g = (naming : Naming) (t : Streams) (before after : D) (ans
 
 -- The same of a store: the case is the stream that was begun, with the bytes of FILE.
 abbrev pub AStoreStoresACase : {D : Type 0} → disk.Ghosts D → Type 0
-AStoreStoresACase {D} g = (t : Streams) (asked : Option Policy) (found : Result StreamFacts (List ℕ)) (given : Option (List ℕ)) (before after : D) (answer : Result StoreOutcome LifeFault) (s : IsStoreSafe g t asked found given before after answer)
+AStoreStoresACase {D} g = (t : Streams) (asked : Option Policy) (found : Result StreamFacts (List ℕ)) (given : Options) (before after : D) (answer : Result StoreOutcome LifeFault) (s : IsStoreSafe g t asked found given before after answer)
     (n : ℕ) → s.course.stored ≡ Some n
     → (k : Kept) × (k.seq ≡ n) × (found ≡ Ok k.stream) × Consumes t.input t.input' k.image × (k.label ≡ Some []) × HoldsKept k s.course.ended.holds × (s.course.ended.in_doubt ≡ [])
 
--- A case that a store leaves, with nothing in doubt, is found whenever the machine stops from then on: after the case's end if the
--- label spares it, and after the label.
+-- A case that a store leaves, with nothing in doubt, is found whenever the machine stops from then on: after the case's end, if the
+-- label spares it, after the label, and after the pin.
 abbrev pub AStoreKeepsACase : {D : Type 0} → disk.Ghosts D → Type 0
-AStoreKeepsACase {D} g = (k : Kept) (t : Streams) (asked : Option Policy) (found : Result StreamFacts (List ℕ)) (given : Option (List ℕ)) (before after : D) (answer : Result StoreOutcome LifeFault) (s : IsStoreSafe g t asked found given before after answer)
+AStoreKeepsACase {D} g = (k : Kept) (t : Streams) (asked : Option Policy) (found : Result StreamFacts (List ℕ)) (given : Options) (before after : D) (answer : Result StoreOutcome LifeFault) (s : IsStoreSafe g t asked found given before after answer)
     (cs : List (Command D))
-    → (HoldsKept k s.course.ended.holds → s.course.ended.in_doubt ≡ [] → Spares k (said_label s.course.stored given) s.course.labels → AreNext g k after s.course.ended.disk cs → StaysFoundBehind g k after s.course.ended.disk cs)
+    → (HoldsKept k s.course.ended.holds → s.course.ended.in_doubt ≡ [] → Spares k (said_label s.course.stored given.label) s.course.labels → AreNext g k after s.course.ended.disk cs → StaysFoundBehind g k after s.course.ended.disk cs)
+    × (HoldsKept k s.course.labelled.holds → s.course.labelled.in_doubt ≡ [] → AreNext g k after s.course.labelled.disk cs → StaysFoundBehind g k after s.course.labelled.disk cs)
     × (HoldsKept k s.course.end.holds → s.course.end.in_doubt ≡ [] → AreNext g k after s.course.end.disk cs → StaysFoundBehind g k after s.course.end.disk cs)
 
 -- with this label
@@ -171,6 +173,13 @@ ALineLabelsACase {D} g = (k : Kept) (naming : Naming) (t : Streams) (before afte
 
 -- the same of the label that a store gives
 abbrev pub AStoreLabelsACase : {D : Type 0} → disk.Ghosts D → Type 0
-AStoreLabelsACase {D} g = (k : Kept) (t : Streams) (asked : Option Policy) (found : Result StreamFacts (List ℕ)) (given : Option (List ℕ)) (before after : D) (answer : Result StoreOutcome LifeFault) (s : IsStoreSafe g t asked found given before after answer)
-    (text : List ℕ) → s.course.stored ≡ Some k.seq → given ≡ Some text → s.course.labels ≡ ok_reply → HoldsKept k s.course.ended.holds → s.course.ended.in_doubt ≡ []
-    → HoldsKept (relabelled k text) s.course.end.holds × (s.course.end.in_doubt ≡ [])
+AStoreLabelsACase {D} g = (k : Kept) (t : Streams) (asked : Option Policy) (found : Result StreamFacts (List ℕ)) (given : Options) (before after : D) (answer : Result StoreOutcome LifeFault) (s : IsStoreSafe g t asked found given before after answer)
+    (text : List ℕ) → s.course.stored ≡ Some k.seq → given.label ≡ Some text → s.course.labels ≡ ok_reply → HoldsKept k s.course.ended.holds → s.course.ended.in_doubt ≡ []
+    → HoldsKept (relabelled k text) s.course.labelled.holds × (s.course.labelled.in_doubt ≡ [])
+
+-- A case whose pin was answered `ok` is pinned when the store ends, and has the label that it had. If nothing was in doubt before the
+-- pin, nothing is then.
+abbrev pub AStorePinsACase : {D : Type 0} → disk.Ghosts D → Type 0
+AStorePinsACase {D} g = (k : Kept) (t : Streams) (asked : Option Policy) (found : Result StreamFacts (List ℕ)) (given : Options) (before after : D) (answer : Result StoreOutcome LifeFault) (s : IsStoreSafe g t asked found given before after answer)
+    → s.course.stored ≡ Some k.seq → given.pin ≡ true → s.course.pins ≡ ok_reply → HoldsKept k s.course.labelled.holds
+    → HasFlag s.course.end.holds k.seq true × HoldsKept k s.course.end.holds × (s.course.labelled.in_doubt ≡ [] → s.course.end.in_doubt ≡ [])

@@ -17,3 +17,4 @@ pub mod Headline
 pub mod StoreHeadline
 pub mod Kept
 pub mod Agreement
+pub mod Fitting

@@ -15,7 +15,7 @@ use Rattle.inspector_cli.specs.declared.session.StoreOutcome.{StoreOutcome}
 use Rattle.inspector_cli.specs.declared.session.LifeFault.{LifeFault}
 use Rattle.inspector_cli.specs.declared.session.LifeFault.TheVariants.{Open, Session}
 use Rattle.inspector_cli.specs.Session.{Streams, SessionEnds}
-use Rattle.inspector_cli.specs.Storing.{StoreEnds}
+use Rattle.inspector_cli.specs.Storing.{Options, StoreEnds}
 
 -- The opening with all that it promises, of its moments too; and what was done over the archive that it answered.
 pub record OpensThen {D : Type 0} (g : disk.Ghosts D) (limit : ℕ) (before after : D) (Goes : Parts D → Parts D → Type 0) : Type 0 where
@@ -52,7 +52,7 @@ abbrev pub RunsOver : {D : Type 0} → disk.Ghosts D → Naming → Streams → 
 RunsOver g naming t r opened closed =
     SessionEnds g naming t (record { archive = opened; in_doubt = [] }) closed r
 
--- the same of one stream that is stored from its own input, with cases retired before it, and the label of its case
-abbrev pub StoresOver : {D : Type 0} → disk.Ghosts D → Option Policy → Result StreamFacts (List ℕ) → Option (List ℕ) → Streams → Result StoreOutcome SessionFault → Parts D → Parts D → Type 0
-StoresOver g asked found label t r opened closed =
-    StoreEnds g t (record { archive = opened; in_doubt = [] }) asked found label closed r
+-- the same of one stream that is stored from its own input, with cases retired before it, and with these options
+abbrev pub StoresOver : {D : Type 0} → disk.Ghosts D → Option Policy → Result StreamFacts (List ℕ) → Options → Streams → Result StoreOutcome SessionFault → Parts D → Parts D → Type 0
+StoresOver g asked found options t r opened closed =
+    StoreEnds g t (record { archive = opened; in_doubt = [] }) asked found options closed r

@@ -1,22 +1,25 @@
--- The headline of a store: what the archive holds when it begins, when cases are retired, when FILE is taken, when the case is stored,
--- and when it has its label; and what a stop of the machine leaves of it.
-use Rattle.std.specs.Prelude.{◌≡◌, ◌⊎◌, ℕ, List, [], ◌∷◌, ◌++◌, length, Option, None, Some, Result, Ok, Err, IsTrue, codes}
-use Rattle.std.specs.List.{AllByRecursion}
+-- The headline of a store: what the archive holds when it begins, when cases are retired, when others go while FILE is taken, when the case is stored,
+-- when it has its label, and when it is pinned; and what a stop of the machine leaves of it.
+use Rattle.std.specs.Prelude.{◌≡◌, ◌⊎◌, ℕ, Bool, true, false, List, [], ◌∷◌, ◌++◌, length, map, Option, None, Some, Result, Ok, Err, IsTrue, codes, if◌then◌else◌}
+use Rattle.std.specs.List.{AllByRecursion, flat_map}
 use Rattle.std.specs.Io.KnownBytes.{Consumes, Appends, IsAtEnd}
 use Rattle.disk_model.specs.declared.disk.Disk as disk
-use Rattle.intake.specs.Durable.{Durable, StandsFor, with_case}
+use Rattle.intake.specs.Durable.{Durable, FoundCase, StandsFor, with_case}
 use Rattle.intake.specs.State.{StreamFacts}
 use Rattle.retention.specs.declared.Policy.{Policy}
-use Rattle.archive_replies.specs.Texts.{end_reply}
-use Rattle.script_lines.specs.Said.{Said}
+use Rattle.archive_replies.specs.Texts.{dropped_line, end_reply}
+use Rattle.script_lines.specs.Said.{Said, delete_of}
 use Rattle.script_streams.specs.Replies.{no_reply}
+use Rattle.journal_layout.specs.Case.{Case}
+use Rattle.inspector_cli.specs.Fitting.{IsNext}
+use Rattle.inspector_cli.specs.Told.{is_no}
 use Rattle.inspector_cli.specs.declared.session.LifeFault.{LifeFault}
 use Rattle.inspector_cli.specs.declared.session.LifeFault.TheVariants as life
 use Rattle.inspector_cli.specs.declared.session.StoreOutcome.{StoreOutcome}
 use Rattle.inspector_cli.specs.Headline.{Moment, LeadsOn, AreSafe, FindsSince}
 use Rattle.inspector_cli.specs.Life.{LifeEnds, StoresOver}
 use Rattle.inspector_cli.specs.Session.{Streams}
-use Rattle.inspector_cli.specs.Storing.{retire_line, said_label}
+use Rattle.inspector_cli.specs.Storing.{Options, retire_line, said_pin, said_label}
 
 -- A case is added after x: the one that the stream was begun as, with all bytes of FILE as its image.
 pub record AddsCase (found : Result StreamFacts (List ℕ)) (file file' : Option (List ℕ)) (x : Durable) (n : ℕ) (y : Durable) : Type 0 where
@@ -34,7 +37,7 @@ abbrev pub StoresOrNot : Result StreamFacts (List ℕ) → Option (List ℕ) →
 StoresOrNot found file file' x (Some n) y = AddsCase found file file' x n y
 StoresOrNot found file file' x None y = y ≡ x
 
--- the lines that retire and give a label begin no stream
+-- the lines that retire, delete, give a label and pin begin no stream
 abbrev pub no_stream : Said → Option StreamFacts
 no_stream what = None
 
@@ -43,12 +46,40 @@ abbrev pub TellsStored : Option ℕ → List ℕ → List ℕ → Type 0
 TellsStored (Some n) first reply = reply ≡ end_reply (Ok n)
 TellsStored None first reply = ((reason : List ℕ) × (reply ≡ no_reply reason)) ⊎ ((reply ≡ []) × ((reason : List ℕ) × (first ≡ no_reply reason)))
 
+-- A case that goes so that the stream finds room: the moment when it does, its number, the reply that its deletion would have as a
+-- line, and the moment then.
+pub record Gone (D : Type 0) : Type 0 where
+  pub before : Moment D
+  pub seq : ℕ
+  pub reply : List ℕ
+  pub after : Moment D
+
+-- What is told of it is `dropped`. If it could not be deleted, the reason is the reply to the stream.
+abbrev pub gone_line : {D : Type 0} → Gone D → List ℕ
+gone_line x = if is_no x.reply then [] else dropped_line x.seq
+
+abbrev pub moments_of : {D : Type 0} → List (Gone D) → List (Moment D)
+moments_of [] = []
+moments_of (x ∷ xs) = x.before ∷ x.after ∷ moments_of xs
+
+abbrev pub case_in : FoundCase → Case
+case_in c = c.case
+
+-- While bytes are taken these cases go, one after the other: each is the next of those that are left then. Bytes change no case.
+abbrev pub GoInTurn : {D : Type 0} → Moment D → List (Gone D) → Moment D → Type 0
+GoInTurn m [] filled = (filled.holds ≡ m.holds) × (filled.in_doubt ≡ m.in_doubt)
+GoInTurn m (x ∷ xs) filled =
+    (x.before.holds ≡ m.holds) × (x.before.in_doubt ≡ m.in_doubt) × IsNext (map case_in x.before.holds.cases) x.seq
+    × LeadsOn no_stream [] x.before (delete_of x.seq) x.reply x.after × GoInTurn x.after xs filled
+
 pub record StoreCourse (D : Type 0) : Type 0 where
   pub begin : Moment D
   -- by which cases are retired, if there is one, and what is told of it
   pub policy : Option Policy
   pub told : List ℕ
   pub retired : Moment D
+  -- the cases that go while FILE is taken
+  pub gone : List (Gone D)
   -- when the bytes of FILE are taken
   pub filled : Moment D
   -- the reply to the stream's beginning, and to its end
@@ -56,26 +87,30 @@ pub record StoreCourse (D : Type 0) : Type 0 where
   pub reply : List ℕ
   pub stored : Option ℕ
   pub ended : Moment D
+  -- the reply to the label of the case, and to its pin
   pub labels : List ℕ
+  pub labelled : Moment D
+  pub pins : List ℕ
   pub end : Moment D
 
 -- Each step does what it says, from what the archive held before it, or is refused and changes nothing.
-pub record IsStoreCourse {D : Type 0} (asked : Option Policy) (found : Result StreamFacts (List ℕ)) (label : Option (List ℕ)) (file file' : Option (List ℕ)) (c : StoreCourse D) : Type 0 where
+pub record IsStoreCourse {D : Type 0} (asked : Option Policy) (found : Result StreamFacts (List ℕ)) (options : Options) (file file' : Option (List ℕ)) (c : StoreCourse D) : Type 0 where
   pub clear : c.begin.in_doubt ≡ []
   pub chosen : (c.policy ≡ asked) ⊎ (c.policy ≡ None)
   pub retires_first : LeadsOn no_stream [] c.begin (retire_line c.policy) c.told c.retired
-  -- taking bytes changes no case
-  pub same : c.filled.holds ≡ c.retired.holds
-  pub same_doubt : c.filled.in_doubt ≡ c.retired.in_doubt
-  pub stores : StoresOrNot found file file' c.retired.holds c.stored c.ended.holds
+  pub goes : GoInTurn c.retired c.gone c.filled
+  -- nothing goes unless that is asked for
+  pub unasked : options.fit ≡ false → c.gone ≡ []
+  pub stores : StoresOrNot found file file' c.filled.holds c.stored c.ended.holds
   -- a case is stored only if nothing is in doubt
-  pub sure : (n : ℕ) → c.stored ≡ Some n → c.retired.in_doubt ≡ []
+  pub sure : (n : ℕ) → c.stored ≡ Some n → c.filled.in_doubt ≡ []
   pub tells : TellsStored c.stored c.first c.reply
   -- only where the end is answered `no Disk` is a case in doubt
   pub doubts : List Durable
-  pub in_doubt : c.ended.in_doubt ≡ doubts ++ c.retired.in_doubt
-  pub doubted : (doubts ≡ []) ⊎ ((c.reply ≡ no_reply (codes "Disk")) × AllByRecursion (λ (z : Durable). (n : ℕ) × AddsCase found file file' c.retired.holds n z) doubts)
-  pub gives_label : LeadsOn no_stream [] c.ended (said_label c.stored label) c.labels c.end
+  pub in_doubt : c.ended.in_doubt ≡ doubts ++ c.filled.in_doubt
+  pub doubted : (doubts ≡ []) ⊎ ((c.reply ≡ no_reply (codes "Disk")) × AllByRecursion (λ (z : Durable). (n : ℕ) × AddsCase found file file' c.filled.holds n z) doubts)
+  pub gives_label : LeadsOn no_stream [] c.ended (said_label c.stored options.label) c.labels c.labelled
+  pub gives_pin : LeadsOn no_stream [] c.labelled (said_pin c.stored options.pin) c.pins c.end
 
 -- on `Ok` all replies are written, and the outcome says whether the case is stored
 abbrev pub IsTold : {E : Type 0} → Result StoreOutcome E → Option ℕ → List ℕ → Type 0
@@ -83,28 +118,28 @@ IsTold (Ok outcome) stored unwritten = (outcome.stored ≡ stored) × (unwritten
 IsTold (Err f) stored unwritten = Unit {0}
 
 -- The headline of a store over a disk, `before` it and `after` it.
-pub record IsStoreSafe {D : Type 0} (g : disk.Ghosts D) (t : Streams) (asked : Option Policy) (found : Result StreamFacts (List ℕ)) (label : Option (List ℕ)) (before after : D) (r : Result StoreOutcome LifeFault) : Type 0 where
+pub record IsStoreSafe {D : Type 0} (g : disk.Ghosts D) (t : Streams) (asked : Option Policy) (found : Result StreamFacts (List ℕ)) (options : Options) (before after : D) (r : Result StoreOutcome LifeFault) : Type 0 where
   pub course : StoreCourse D
   -- it begins with exactly what the disk encodes
   pub found_again : (x : Durable) → StandsFor (g.seen before) x → course.begin.holds ≡ x
-  pub is : IsStoreCourse asked found label t.input t.input' course
+  pub is : IsStoreCourse asked found options t.input t.input' course
   pub written : List ℕ
   pub unwritten : List ℕ
   pub appended : Appends t.taken t.taken' written
-  pub text : written ++ unwritten ≡ course.told ++ ((course.first ++ course.reply) ++ course.labels)
+  pub text : written ++ unwritten ≡ course.told ++ ((course.first ++ (flat_map gone_line course.gone ++ course.reply)) ++ (course.labels ++ course.pins))
   pub disk : after ≡ course.end.disk
   pub answered : IsTold r course.stored unwritten
   -- a stop at any moment since the opening began leaves what one before it could have left, or opens as one of these moments
   pub opening : (left : List ℕ) → g.left_since after (g.clock before) left
-      → g.may_leave before left ⊎ FindsSince left course.begin (course.retired ∷ course.filled ∷ course.ended ∷ course.end ∷ [])
-  pub safe : AreSafe g after course.begin (course.retired ∷ course.filled ∷ course.ended ∷ course.end ∷ [])
+      → g.may_leave before left ⊎ FindsSince left course.begin (course.retired ∷ (moments_of course.gone ++ (course.filled ∷ course.ended ∷ course.labelled ∷ course.end ∷ [])))
+  pub safe : AreSafe g after course.begin (course.retired ∷ (moments_of course.gone ++ (course.filled ∷ course.ended ∷ course.labelled ∷ course.end ∷ [])))
 
 -- What a store promises of stops, over an honest disk. An opening that is refused leaves what reads give, and what a stop may
 -- leave, as they were.
-abbrev pub StoreHeadline : {D : Type 0} → disk.Ghosts D → Streams → Option Policy → Result StreamFacts (List ℕ) → Option (List ℕ) → D → Result StoreOutcome LifeFault → D → Type 0
-StoreHeadline g t asked found label before (Ok x) after = IsTrue (g.is_honest before) → IsStoreSafe g t asked found label before after (Ok x)
-StoreHeadline g t asked found label before (Err (life.Session f)) after = IsTrue (g.is_honest before) → IsStoreSafe g t asked found label before after (Err (life.Session f))
-StoreHeadline g t asked found label before (Err (life.Open f)) after =
+abbrev pub StoreHeadline : {D : Type 0} → disk.Ghosts D → Streams → Option Policy → Result StreamFacts (List ℕ) → Options → D → Result StoreOutcome LifeFault → D → Type 0
+StoreHeadline g t asked found options before (Ok x) after = IsTrue (g.is_honest before) → IsStoreSafe g t asked found options before after (Ok x)
+StoreHeadline g t asked found options before (Err (life.Session f)) after = IsTrue (g.is_honest before) → IsStoreSafe g t asked found options before after (Err (life.Session f))
+StoreHeadline g t asked found options before (Err (life.Open f)) after =
     IsTrue (g.is_honest before) → (g.seen after ≡ g.seen before) × ((left : List ℕ) → g.left_since after (g.clock before) left → g.may_leave before left)
 
 -- a stream that is begun has no bytes yet
@@ -114,5 +149,5 @@ BeginsEmpty (Err reason) = Unit {0}
 
 -- So it is of each store from an opening on.
 abbrev pub StoresAreCrashSafe : {D : Type 0} → disk.Ghosts D → Type 0
-StoresAreCrashSafe {D} g = (limit : ℕ) (t : Streams) (asked : Option Policy) (found : Result StreamFacts (List ℕ)) (label : Option (List ℕ)) (before after : D) (r : Result StoreOutcome LifeFault)
-    → BeginsEmpty found → LifeEnds g limit t before r after (StoresOver g asked found label t) → StoreHeadline g t asked found label before r after
+StoresAreCrashSafe {D} g = (limit : ℕ) (t : Streams) (asked : Option Policy) (found : Result StreamFacts (List ℕ)) (options : Options) (before after : D) (r : Result StoreOutcome LifeFault)
+    → BeginsEmpty found → LifeEnds g limit t before r after (StoresOver g asked found options t) → StoreHeadline g t asked found options before r after

@@ -1,8 +1,9 @@
--- One stream that is stored from its own input, with cases retired before it, and the label of its case.
+-- One stream that is stored from its own input, with cases retired before it, and the label and the pin of its case.
 use Rattle.std.specs.Prelude.{◌≡◌, ◌⊎◌, ℕ, ◌^◌, ◌<◌, ◌≤◌, ◌==◌, Bool, true, false, List, [], ◌∷◌, ◌++◌, length, Option, None, Some, Result, Ok, Err, is_ok, option_map, codes, if◌then◌else◌}
 use Rattle.arrayvec.specs.ArrayVec.{ArrayVec}
 use Rattle.script_lines.specs.Commands.{label_bytes}
 use Rattle.std.specs.Io.KnownBytes.{Consumes, Appends, IsAtEnd}
+use Rattle.std.specs.List.{flat_map}
 use Rattle.intake.specs.declared.faults.ArchiveFault.{ArchiveFault}
 use Rattle.disk_model.specs.declared.disk.Disk as disk
 use Rattle.intake.specs.Calls.{ChangesNoCase, AbandonCall}
@@ -17,17 +18,20 @@ use Rattle.failure_count.specs.Counts.{HasRisen}
 use Rattle.stream_names.specs.declared.naming.Naming.{Naming}
 use Rattle.inspector_cli.specs.declared.session.SessionFault.{SessionFault}
 use Rattle.inspector_cli.specs.declared.session.StoreOutcome.{StoreOutcome}
+use Rattle.inspector_cli.specs.declared.session.StoreOptions.{StoreOptions}
 use Rattle.inspector_cli.specs.declared.session.SessionFault.TheVariants.{ReadFailed, WriteFailed, TooManyReads}
 use Rattle.inspector_cli.specs.declared.store.TakeStop.{TakeStop}
 use Rattle.inspector_cli.specs.declared.store.TakeStop.TheVariants.{File, Refused}
 use Rattle.retention.specs.declared.Policy.{Policy}
-use Rattle.script_lines.specs.Said.{Said, silence, begin_exec, begin_core, end_of, label_of, retire_by, long_line}
+use Rattle.script_lines.specs.Said.{Said, silence, begin_exec, begin_core, end_of, delete_of, pin_of, label_of, retire_by, long_line}
+use Rattle.inspector_cli.specs.Fitting.{Going, IsGoing, TakesWhile, going_text}
 use Rattle.inspector_cli.specs.Session.{Streams}
 use Rattle.inspector_cli.specs.Stages.{Stage, Moves, IsFoundAfterAStop}
-use Rattle.script_streams.specs.Replies.{no_reply}
-use Rattle.inspector_cli.specs.Reply.{Begins, Ends, Takes, Retires, Labels}
+use Rattle.script_streams.specs.Replies.{Telling, TellsText, no_reply}
+use Rattle.inspector_cli.specs.Reply.{Begins, Ends, Takes, Retires, Pins, Labels}
 use Rattle.stream_names.specs.Streams.{exec_stream, core_stream}
 use Rattle.archive_replies.specs.Reasons.{reason_of}
+use Rattle.archive_replies.specs.Texts.{plain_reply}
 
 -- The stream that a line begins in slot 0, or why it begins none there. Any other line is none that is known.
 abbrev pub line_stream : Naming → Said → Result StreamFacts (List ℕ)
@@ -36,26 +40,60 @@ line_stream naming (begin_core slot process) = if slot == 0 then core_stream nam
 line_stream naming long_line = Err (codes "LineTooLong")
 line_stream naming _ = Err (codes "BadLine")
 
+-- what it is that bytes are taken, or refused
+abbrev pub Taking : Type 1
+Taking = List ℕ → Result (Unit {0}) ArchiveFault → Type 0
+
 -- the bytes of a file are taken to its end; or to the first that are refused; or it could not be read on, or 2^40 reads
 -- were made and each gave a byte, and those that were read are taken
-abbrev pub TakesFile : {D : Type 0} → disk.Ghosts D → Option (List ℕ) → Option (List ℕ) → ℕ → ℕ → Parts D → Parts D → Result (Unit {0}) TakeStop → Type 0
-TakesFile g file file' fails fails' old new (Ok u) =
-    (raw : List ℕ) × Consumes file file' raw × IsAtEnd file' × Takes g old 0 raw (Ok tt) new
-TakesFile g file file' fails fails' old new (Err File) =
-    (raw : List ℕ) × Consumes file file' raw × (HasRisen fails fails' ⊎ (2 ^ 40 ≤ length raw)) × Takes g old 0 raw (Ok tt) new
-TakesFile g file file' fails fails' old new (Err (Refused fault)) =
-    (raw : List ℕ) × Consumes file file' raw × Takes g old 0 raw (Err fault) new
+abbrev pub TakesFile : Option (List ℕ) → Option (List ℕ) → ℕ → ℕ → Taking → Result (Unit {0}) TakeStop → Type 0
+TakesFile file file' fails fails' T (Ok u) =
+    (raw : List ℕ) × Consumes file file' raw × IsAtEnd file' × T raw (Ok tt)
+TakesFile file file' fails fails' T (Err File) =
+    (raw : List ℕ) × Consumes file file' raw × (HasRisen fails fails' ⊎ (2 ^ 40 ≤ length raw)) × T raw (Ok tt)
+TakesFile file file' fails fails' T (Err (Refused fault)) =
+    (raw : List ℕ) × Consumes file file' raw × T raw (Err fault)
 
 -- the next bytes of a file are taken after those so far, or there are none; or they are refused, or could not be read
-abbrev pub TakesMore : {D : Type 0} → disk.Ghosts D → Option (List ℕ) → Option (List ℕ) → ℕ → ℕ → Parts D → List ℕ → Parts D → Result Bool TakeStop → Type 0
-TakesMore g file file' fails fails' begun so_far new (Ok true) =
-    (raw : List ℕ) × Consumes file file' raw × (0 < length raw) × (fails' ≡ fails) × Takes g begun 0 (so_far ++ raw) (Ok tt) new
-TakesMore g file file' fails fails' begun so_far new (Ok false) =
-    Consumes file file' [] × IsAtEnd file' × (fails' ≡ fails) × Takes g begun 0 so_far (Ok tt) new
-TakesMore g file file' fails fails' begun so_far new (Err File) =
-    Consumes file file' [] × HasRisen fails fails' × Takes g begun 0 so_far (Ok tt) new
-TakesMore g file file' fails fails' begun so_far new (Err (Refused fault)) =
-    (raw : List ℕ) × Consumes file file' raw × (fails' ≡ fails) × Takes g begun 0 (so_far ++ raw) (Err fault) new
+abbrev pub TakesMore : Option (List ℕ) → Option (List ℕ) → ℕ → ℕ → List ℕ → Taking → Result Bool TakeStop → Type 0
+TakesMore file file' fails fails' so_far T (Ok true) =
+    (raw : List ℕ) × Consumes file file' raw × (0 < length raw) × (fails' ≡ fails) × T (so_far ++ raw) (Ok tt)
+TakesMore file file' fails fails' so_far T (Ok false) =
+    Consumes file file' [] × IsAtEnd file' × (fails' ≡ fails) × T so_far (Ok tt)
+TakesMore file file' fails fails' so_far T (Err File) =
+    Consumes file file' [] × HasRisen fails fails' × T so_far (Ok tt)
+TakesMore file file' fails fails' so_far T (Err (Refused fault)) =
+    (raw : List ℕ) × Consumes file file' raw × (fails' ≡ fails) × T (so_far ++ raw) (Err fault)
+
+-- What of the bytes so far remains true where cases went: they are taken, or the stream was refused, since a case could not be deleted.
+abbrev pub AfterRoom : Taking → List ℕ → Result (Unit {0}) TakeStop → Type 0
+AfterRoom T so_far (Ok u) = T so_far (Ok tt)
+AfterRoom T so_far (Err File) = ⊥
+AfterRoom T so_far (Err (Refused fault)) = T so_far (Err fault)
+
+-- Cases go, and are told, while this much was taken.
+abbrev pub MakesRoom : {D : Type 0} → disk.Ghosts D → Parts D → List ℕ → List (Going D) → Telling → Parts D → Result (Unit {0}) TakeStop → Type 0
+MakesRoom {D} g begun so_far gone t new r =
+    (more : List (Going D)) × TellsText t (flat_map going_text more) × AfterRoom (λ raw v. TakesWhile g begun raw (gone ++ more) v new) so_far r
+
+-- the answer of a step that may let a case go, as that of the whole
+abbrev pub stop_of : Result Bool TakeStop → Result (Unit {0}) TakeStop
+stop_of (Ok b) = Ok tt
+stop_of (Err stop) = Err stop
+
+-- the same of one case at most
+abbrev pub GoesNext : {D : Type 0} → disk.Ghosts D → Parts D → List ℕ → List (Going D) → Telling → Parts D → Result Bool TakeStop → Type 0
+GoesNext g begun so_far gone t new r = MakesRoom g begun so_far gone t new (stop_of r)
+
+-- the next bytes of a file are taken, and cases go, and are told
+abbrev pub TakesNext : {D : Type 0} → disk.Ghosts D → Option (List ℕ) → Option (List ℕ) → ℕ → ℕ → Parts D → List ℕ → List (Going D) → Bool → Telling → Parts D → Result Bool TakeStop → Type 0
+TakesNext {D} g file file' fails fails' begun so_far gone fit t new r =
+    (more : List (Going D)) × TellsText t (flat_map going_text more) × TakesMore file file' fails fails' so_far (λ raw v. TakesWhile g begun raw (gone ++ more) v new) r × (fit ≡ false → more ≡ [])
+
+-- all bytes of a file are taken, or the first that are refused, and cases go, and are told, if that is asked for
+abbrev pub TakesAll : {D : Type 0} → disk.Ghosts D → Bool → Option (List ℕ) → Option (List ℕ) → ℕ → ℕ → Parts D → Telling → Parts D → Result (Unit {0}) TakeStop → Type 0
+TakesAll {D} g fit file file' fails fails' old t new r =
+    (gone : List (Going D)) × TellsText t (flat_map going_text gone) × TakesFile file file' fails fails' (λ raw v. TakesWhile g old raw gone v new) r × (fit ≡ false → gone ≡ [])
 
 -- the reply after the bytes, and the case's number where it is stored
 abbrev pub FileReplies : {D : Type 0} → disk.Ghosts D → Parts D → Result (Unit {0}) TakeStop → List ℕ → Parts D → Option ℕ → Type 0
@@ -63,26 +101,35 @@ FileReplies g old (Ok u) reply new stored = Ends g old 0 reply new stored
 FileReplies g old (Err File) reply new stored = (reply ≡ no_reply (codes "File")) × (new ≡ old) × (stored ≡ None)
 FileReplies g old (Err (Refused fault)) reply new stored = (reply ≡ no_reply (reason_of fault)) × (new ≡ old) × (stored ≡ None)
 
--- a file after a first line that was accepted or not, with the archive when its bytes are taken: where the line was not
--- accepted, none is read
-abbrev pub RestReplies : {D : Type 0} → disk.Ghosts D → Option (List ℕ) → Option (List ℕ) → ℕ → ℕ → Parts D → Bool → Parts D → List ℕ → Parts D → Option ℕ → Type 0
-RestReplies g file file' fails fails' old true filled reply new stored =
-    (taken : Result (Unit {0}) TakeStop) × TakesFile g file file' fails fails' old filled taken × FileReplies g filled taken reply new stored
-RestReplies g file file' fails fails' old false filled reply new stored =
-    (file' ≡ file) × (fails' ≡ fails) × (filled ≡ old) × (reply ≡ []) × (new ≡ old) × (stored ≡ None)
+-- a file after a first line that was accepted or not, with the cases that go meanwhile, and the archive when its bytes are taken:
+-- where the line was not accepted, none is read
+abbrev pub RestReplies : {D : Type 0} → disk.Ghosts D → Option (List ℕ) → Option (List ℕ) → ℕ → ℕ → Parts D → Bool → List (Going D) → Parts D → List ℕ → Parts D → Option ℕ → Type 0
+RestReplies g file file' fails fails' old true gone filled reply new stored =
+    (taken : Result (Unit {0}) TakeStop) × TakesFile file file' fails fails' (λ raw r. TakesWhile g old raw gone r filled) taken × FileReplies g filled taken reply new stored
+RestReplies g file file' fails fails' old false gone filled reply new stored =
+    (file' ≡ file) × (fails' ≡ fails) × (filled ≡ old) × (reply ≡ []) × (new ≡ old) × (stored ≡ None) × (gone ≡ [])
+
+-- all of that for a stream that has begun: the cases that go are told, and then the reply
+abbrev pub FillsAndEnds : {D : Type 0} → disk.Ghosts D → Bool → Option (List ℕ) → Option (List ℕ) → ℕ → ℕ → Parts D → List ℕ → Parts D → Option ℕ → Type 0
+FillsAndEnds {D} g fit file file' fails fails' old text new stored =
+    (gone : List (Going D)) × (filled : Parts D) × (rest : List ℕ) × (text ≡ flat_map going_text gone ++ rest) × (fit ≡ false → gone ≡ [])
+    × RestReplies g file file' fails fails' old true gone filled rest new stored
 
 -- a stream that is begun, or why there is none, and its file: the replies, and the case's number where it is stored
-pub record StoresStream {D : Type 0} (g : disk.Ghosts D) (file file' : Option (List ℕ)) (fails fails' : ℕ) (old : Parts D) (found : Result StreamFacts (List ℕ))
+pub record StoresStream {D : Type 0} (g : disk.Ghosts D) (fit : Bool) (file file' : Option (List ℕ)) (fails fails' : ℕ) (old : Parts D) (found : Result StreamFacts (List ℕ))
     (replies : List ℕ) (new : Parts D) (stored : Option ℕ) : Type 0 where
   pub first : List ℕ
   pub mid : Parts D
   pub accepted : Bool
   pub begins : Begins g old 0 found first mid accepted
+  -- the cases that go meanwhile, which is so only if it is asked for
+  pub gone : List (Going D)
+  pub unasked : fit ≡ false → gone ≡ []
   -- when the file's bytes are taken
   pub filled : Parts D
   pub rest : List ℕ
-  pub goes_on : RestReplies g file file' fails fails' mid accepted filled rest new stored
-  pub text : replies ≡ first ++ rest
+  pub goes_on : RestReplies g file file' fails fails' mid accepted gone filled rest new stored
+  pub text : replies ≡ first ++ (flat_map going_text gone ++ rest)
 
 -- Cases are retired by a policy: what `retire` does in a session, and whether it was answered other than `no REASON`. Where there is no
 -- policy nothing is done and nothing is said.
@@ -119,6 +166,13 @@ RetiresForName g old policy name told new made =
     ((told ≡ []) × (new ≡ old) × (made ≡ true) × KeepsTheName (state_of old) policy name true × (is_named name (state_of old).cases ≡ true))
     ⊎ ((answered : Retires g old policy told new) × (made ≡ is_ok answered.0) × (made ≡ true → ((state_of new).stopped ≡ false) × (is_named name (state_of new).cases ≡ false)))
 
+-- The pin of the case that was stored: what `pin` does in a session, and whether it was answered other than `no REASON`. Where no
+-- pin is asked for, and where no case is stored, nothing is done and nothing is said.
+abbrev pub PinsCase : {D : Type 0} → disk.Ghosts D → Parts D → Option ℕ → Bool → List ℕ → Parts D → Bool → Type 0
+PinsCase g old (Some seq) true reply new done = (answered : Pins g old seq true reply new) × (done ≡ is_ok answered.0)
+PinsCase g old (Some seq) false reply new done = (reply ≡ []) × (new ≡ old) × (done ≡ true)
+PinsCase g old None pin reply new done = (reply ≡ []) × (new ≡ old) × (done ≡ true)
+
 -- The label of the case that was stored: what `label` does in a session, and whether it was answered other than `no REASON`. Where
 -- no label is asked for, and where no case is stored, nothing is done and nothing is said.
 abbrev pub LabelsCase : {D : Type 0} → disk.Ghosts D → Parts D → Option ℕ → Option (List ℕ) → List ℕ → Parts D → Bool → Type 0
@@ -130,8 +184,18 @@ LabelsCase g old None label reply new done = (reply ≡ []) × (new ≡ old) × 
 abbrev pub label_asked : Option (ArrayVec ℕ) → Option (List ℕ)
 label_asked label = option_map label_bytes label
 
--- what is retired for a stream by a policy, the stream with its file, and then the label of its case
-pub record Stores {D : Type 0} (g : disk.Ghosts D) (file file' : Option (List ℕ)) (fails fails' : ℕ) (old : Parts D) (asked : Option Policy) (found : Result StreamFacts (List ℕ)) (label : Option (List ℕ))
+-- what is asked for where a stream is stored
+pub record Options : Type 0 where
+  pub label : Option (List ℕ)
+  pub pin : Bool
+  -- cases go so that the stream finds room
+  pub fit : Bool
+
+abbrev pub options_asked : StoreOptions → Options
+options_asked options = record { label = label_asked options.label; pin = options.pin; fit = options.fit }
+
+-- what is retired for a stream by a policy, the stream with its file, and then the label and the pin of its case
+pub record Stores {D : Type 0} (g : disk.Ghosts D) (file file' : Option (List ℕ)) (fails fails' : ℕ) (old : Parts D) (asked : Option Policy) (found : Result StreamFacts (List ℕ)) (options : Options)
     (replies : List ℕ) (new : Parts D) (outcome : StoreOutcome) : Type 0 where
   pub told : List ℕ
   -- when cases are retired
@@ -140,10 +204,14 @@ pub record Stores {D : Type 0} (g : disk.Ghosts D) (file file' : Option (List �
   pub more : List ℕ
   -- when the case is stored, or the stream is refused
   pub ended : Parts D
-  pub stores : StoresStream g file file' fails fails' retired found more ended outcome.stored
+  pub stores : StoresStream g options.fit file file' fails fails' retired found more ended outcome.stored
+  pub named : List ℕ
+  -- when the case has its label, if it is to have one
+  pub labelled : Parts D
+  pub labels : LabelsCase g ended outcome.stored options.label named labelled outcome.labelled
   pub last : List ℕ
-  pub labels : LabelsCase g ended outcome.stored label last new outcome.labelled
-  pub all : replies ≡ told ++ (more ++ last)
+  pub pins : PinsCase g labelled outcome.stored options.pin last new outcome.pinned
+  pub all : replies ≡ told ++ (more ++ (named ++ last))
 
 -- no stream is open in slot 0
 abbrev pub IsSlotQuiet : ArchiveState → Type 0
@@ -154,68 +222,89 @@ abbrev pub retire_line : Option Policy → Said
 retire_line None = silence
 retire_line (Some policy) = retire_by policy
 
+-- the line of a session that pins the case, or no line
+abbrev pub said_pin : Option ℕ → Bool → Said
+said_pin (Some seq) true = pin_of seq true
+said_pin (Some seq) false = silence
+said_pin None pin = silence
+
 -- the line of a session that gives the case its label, or no line
 abbrev pub said_label : Option ℕ → Option (List ℕ) → Said
 said_label (Some seq) (Some label) = label_of seq label
 said_label (Some seq) None = silence
 said_label None label = silence
 
--- What a stop leaves of it, told as of lines of a session: cases are retired, then a case is stored, and only then it gets its label. The
--- stream's beginning and the file's bytes change no case, so only the end of the stream does.
-pub record StoreStages {D : Type 0} (g : disk.Ghosts D) (old : Stage D) (policy : Option Policy) (told : List ℕ) (retired filled : Parts D) (reply : List ℕ) (ended : Parts D)
-    (labels : Said) (last : List ℕ) (end : Stage D) (new : Parts D) : Type 0 where
+-- The stages while bytes are taken and cases go: two for each case, when it goes and then.
+abbrev pub GoneStages : {D : Type 0} → disk.Ghosts D → Stage D → List (Going D) → List (Stage D) → Stage D → Type 0
+GoneStages g old [] [] filled = ChangesNoCase g old.archive filled.archive × (filled.in_doubt ≡ old.in_doubt)
+GoneStages g old (w ∷ ws) (s ∷ t ∷ ss) filled =
+    ChangesNoCase g old.archive s.archive × (s.in_doubt ≡ old.in_doubt) × (s.archive ≡ w.before)
+    × IsGoing g w × Moves g s (delete_of w.seq) (plain_reply w.answer) t × (t.archive ≡ w.after) × GoneStages g t ws ss filled
+GoneStages g old _ _ filled = ⊥
+
+-- What a stop leaves of it, told as of lines of a session: cases are retired, then others go while bytes are taken, then a case is stored, and only then it gets
+-- its label, and is pinned. The stream's beginning and the file's bytes change no case.
+pub record StoreStages {D : Type 0} (g : disk.Ghosts D) (old : Stage D) (policy : Option Policy) (told : List ℕ) (retired : Parts D) (gone : List (Going D)) (filled : Parts D) (reply : List ℕ) (ended : Parts D)
+    (labels : Said) (named : List ℕ) (labelled : Parts D) (pins : Said) (last : List ℕ) (end : Stage D) (new : Parts D) : Type 0 where
   -- what is in doubt when cases are retired
   pub in_doubt : List Durable
   pub retires_first : Moves g old (retire_line policy) told (record { archive = retired; in_doubt = in_doubt })
-  pub takes : ChangesNoCase g retired filled
+  -- while bytes are taken and cases go
+  pub stages : List (Stage D)
+  -- and when all bytes are taken
+  pub filled_doubt : List Durable
+  pub goes : GoneStages g (record { archive = retired; in_doubt = in_doubt }) gone stages (record { archive = filled; in_doubt = filled_doubt })
   -- and when the stream has ended
   pub later_doubt : List Durable
-  pub moves : Moves g (record { archive = filled; in_doubt = in_doubt }) (end_of 0) reply (record { archive = ended; in_doubt = later_doubt })
-  pub labelled : Moves g (record { archive = ended; in_doubt = later_doubt }) labels last end
+  pub moves : Moves g (record { archive = filled; in_doubt = filled_doubt }) (end_of 0) reply (record { archive = ended; in_doubt = later_doubt })
+  -- and when the case has its label
+  pub named_doubt : List Durable
+  pub gives_label : Moves g (record { archive = ended; in_doubt = later_doubt }) labels named (record { archive = labelled; in_doubt = named_doubt })
+  pub gives_pin : Moves g (record { archive = labelled; in_doubt = named_doubt }) pins last end
   pub found : IsFoundAfterAStop g old
-      (record { archive = retired; in_doubt = in_doubt } ∷ record { archive = filled; in_doubt = in_doubt } ∷ record { archive = ended; in_doubt = later_doubt } ∷ []) end new
+      (record { archive = retired; in_doubt = in_doubt } ∷ (stages ++ (record { archive = filled; in_doubt = filled_doubt } ∷ record { archive = ended; in_doubt = later_doubt } ∷ record { archive = labelled; in_doubt = named_doubt } ∷ []))) end new
 
 -- What a stop leaves of a store.
-abbrev pub StopsStore : {D : Type 0} → (g : disk.Ghosts D) → (t : Streams) → (old : Stage D) → (asked : Option Policy) → (found : Result StreamFacts (List ℕ)) → (label : Option (List ℕ))
-    → (replies : List ℕ) → (end : Stage D) → (outcome : StoreOutcome) → Stores g t.input t.input' t.fails t.fails' old.archive asked found label replies end.archive outcome → Parts D → Type 0
-StopsStore g t old asked found label replies end outcome s new =
-    StoreStages g old s.retires_first.policy s.told s.retired s.stores.filled s.stores.rest s.ended (said_label outcome.stored label) s.last end new
+abbrev pub StopsStore : {D : Type 0} → (g : disk.Ghosts D) → (t : Streams) → (old : Stage D) → (asked : Option Policy) → (found : Result StreamFacts (List ℕ)) → (options : Options)
+    → (replies : List ℕ) → (end : Stage D) → (outcome : StoreOutcome) → Stores g t.input t.input' t.fails t.fails' old.archive asked found options replies end.archive outcome → Parts D → Type 0
+StopsStore g t old asked found options replies end outcome s new =
+    StoreStages g old s.retires_first.policy s.told s.retired s.stores.gone s.stores.filled s.stores.rest s.ended (said_label outcome.stored options.label) s.named s.labelled (said_pin outcome.stored options.pin) s.last end new
 
 -- What came of the store, where the replies were written; or the output failed, and has a front of them. A stream that is left in
 -- slot 0 is dropped. In each case what is found after a stop is told by the stages.
-abbrev pub StoreEnds : {D : Type 0} → disk.Ghosts D → Streams → Stage D → Option Policy → Result StreamFacts (List ℕ) → Option (List ℕ) → Parts D → Result StoreOutcome SessionFault → Type 0
-StoreEnds {D} g t old asked found label new (Ok outcome) =
+abbrev pub StoreEnds : {D : Type 0} → disk.Ghosts D → Streams → Stage D → Option Policy → Result StreamFacts (List ℕ) → Options → Parts D → Result StoreOutcome SessionFault → Type 0
+StoreEnds {D} g t old asked found options new (Ok outcome) =
     (replies : List ℕ) × (end : Stage D) × (dropped : Result (Unit {0}) ArchiveFault)
-    × (s : Stores g t.input t.input' t.fails t.fails' old.archive asked found label replies end.archive outcome) × AbandonCall g end.archive 0 dropped new × Appends t.taken t.taken' replies
-    × StopsStore g t old asked found label replies end outcome s new
-StoreEnds {D} g t old asked found label new (Err WriteFailed) =
+    × (s : Stores g t.input t.input' t.fails t.fails' old.archive asked found options replies end.archive outcome) × AbandonCall g end.archive 0 dropped new × Appends t.taken t.taken' replies
+    × StopsStore g t old asked found options replies end outcome s new
+StoreEnds {D} g t old asked found options new (Err WriteFailed) =
     (out : List ℕ) × (rest : List ℕ) × (end : Stage D) × (outcome : StoreOutcome) × (dropped : Result (Unit {0}) ArchiveFault)
-    × (s : Stores g t.input t.input' t.fails t.fails' old.archive asked found label (out ++ rest) end.archive outcome) × AbandonCall g end.archive 0 dropped new × Appends t.taken t.taken' out × HasRisen t.lost t.lost'
-    × StopsStore g t old asked found label (out ++ rest) end outcome s new
-StoreEnds g t old asked found label new (Err ReadFailed) = ⊥
-StoreEnds g t old asked found label new (Err TooManyReads) = ⊥
+    × (s : Stores g t.input t.input' t.fails t.fails' old.archive asked found options (out ++ rest) end.archive outcome) × AbandonCall g end.archive 0 dropped new × Appends t.taken t.taken' out × HasRisen t.lost t.lost'
+    × StopsStore g t old asked found options (out ++ rest) end outcome s new
+StoreEnds g t old asked found options new (Err ReadFailed) = ⊥
+StoreEnds g t old asked found options new (Err TooManyReads) = ⊥
 
 -- Nothing is retired but for a stream that is begun then. Over an archive without streams, as an opening answers it, a retirement
 -- is followed by the stream that it is for; only want of memory keeps it from beginning.
 abbrev pub RetiresForAStreamAlone : {D : Type 0} → disk.Ghosts D → Type 0
-RetiresForAStreamAlone {D} g = (file file' : Option (List ℕ)) (fails fails' : ℕ) (old : Parts D) (asked : Option Policy) (found : Result StreamFacts (List ℕ)) (label : Option (List ℕ))
+RetiresForAStreamAlone {D} g = (file file' : Option (List ℕ)) (fails fails' : ℕ) (old : Parts D) (asked : Option Policy) (found : Result StreamFacts (List ℕ)) (options : Options)
     (replies : List ℕ) (end : Parts D) (outcome : StoreOutcome) (limit : ℕ)
     → IsOpened limit old
-    → (s : Stores g file file' fails fails' old asked found label replies end outcome)
+    → (s : Stores g file file' fails fails' old asked found options replies end outcome)
     → outcome.retired_first ≡ true
     → (s.retired ≡ old) ⊎ (s.stores.accepted ≡ true) ⊎ (s.stores.first ≡ no_reply (codes "OutOfMemory"))
 
 -- A policy that was asked for is left out only where the stream is refused.
 abbrev pub RetiresUnlessRefused : {D : Type 0} → disk.Ghosts D → Type 0
-RetiresUnlessRefused {D} g = (file file' : Option (List ℕ)) (fails fails' : ℕ) (old : Parts D) (asked : Option Policy) (found : Result StreamFacts (List ℕ)) (label : Option (List ℕ))
+RetiresUnlessRefused {D} g = (file file' : Option (List ℕ)) (fails fails' : ℕ) (old : Parts D) (asked : Option Policy) (found : Result StreamFacts (List ℕ)) (options : Options)
     (replies : List ℕ) (end : Parts D) (outcome : StoreOutcome) (policy : Policy)
     → asked ≡ Some policy
-    → (s : Stores g file file' fails fails' old asked found label replies end outcome)
+    → (s : Stores g file file' fails fails' old asked found options replies end outcome)
     → (s.retires_first.policy ≡ Some policy) ⊎ (s.stores.accepted ≡ false)
 
 -- Where no policy is asked for, nothing is retired and nothing is told of it.
 abbrev pub RetiresNothingUnasked : {D : Type 0} → disk.Ghosts D → Type 0
-RetiresNothingUnasked {D} g = (file file' : Option (List ℕ)) (fails fails' : ℕ) (old : Parts D) (found : Result StreamFacts (List ℕ)) (label : Option (List ℕ))
+RetiresNothingUnasked {D} g = (file file' : Option (List ℕ)) (fails fails' : ℕ) (old : Parts D) (found : Result StreamFacts (List ℕ)) (options : Options)
     (replies : List ℕ) (end : Parts D) (outcome : StoreOutcome)
-    → (s : Stores g file file' fails fails' old None found label replies end outcome)
+    → (s : Stores g file file' fails fails' old None found options replies end outcome)
     → (s.told ≡ []) × (s.retired ≡ old) × (outcome.retired_first ≡ true)

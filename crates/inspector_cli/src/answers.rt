@@ -127,7 +127,7 @@ fn answer_delete<O: Output, D: Disk>(
 }
 
 // Answers `pin` and `unpin`. Says whether it was answered other than `no REASON`.
-fn answer_pin<O: Output, D: Disk>(
+pub(crate) fn answer_pin<O: Output, D: Disk>(
     seq: u32,
     flag: bool,
     reply: &mut Reply<'_, O>,

@@ -1,6 +1,7 @@
 //! What holds over every script and every session. These functions do nothing.
 ghost use Rattle.inspector_cli.specs.Agreement.{LinesAgree, ScriptsAgree};
 ghost use Rattle.inspector_cli.specs.Cuts.{HasOneCut, HasACut, HasOneFront};
+ghost use Rattle.inspector_cli.specs.Fitting.{TheFirstGoes, AllArePinned};
 ghost use Rattle.inspector_cli.specs.Headline.{SessionsAreCrashSafe};
 ghost use Rattle.inspector_cli.specs.StoreHeadline.{StoresAreCrashSafe};
 ghost use Rattle.inspector_cli.specs.Storing.{RetiresForAStreamAlone, RetiresUnlessRefused, RetiresNothingUnasked};
@@ -57,8 +58,8 @@ pub fn a_session_is_crash_safe<D: Disk>()
     sessions_are_runs::<D>();
 }
 
-/// The headline of each store from an opening on: what the archive holds when cases are retired, when the case is stored, and when it has
-/// its label. The case is the stream that was begun, with all bytes of FILE as its image.
+/// The headline of each store from an opening on: what the archive holds when cases are retired, when the case is stored, when it has
+/// its label, and when it is pinned. The case is the stream that was begun, with all bytes of FILE as its image.
 pub fn a_store_is_crash_safe<D: Disk>()
     ensures { StoresAreCrashSafe D.Disk }
 {
@@ -67,6 +68,13 @@ pub fn a_store_is_crash_safe<D: Disk>()
     nothing_else_is_left::<D>();
     what_calls_leave::<D>();
 }
+
+/// What goes where a stream finds no room: no pinned case, the oldest core before every other, and an executable only once all cores
+/// are pinned. If none goes, all cases are pinned.
+pub fn the_oldest_core_goes_first()
+    ensures first { TheFirstGoes }
+    ensures none { AllArePinned }
+{}
 
 /// `store_stream` retires no case in vain: over an archive as an opening answers it, what was retired is followed by the stream
 /// that it is for, and only want of memory keeps that from beginning; a policy that was asked for is left out only where the stream

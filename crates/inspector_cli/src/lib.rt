@@ -6,6 +6,7 @@ mod ask;
 mod begin;
 mod copying;
 mod extract;
+mod fitting;
 mod laws;
 mod life;
 mod memory_life;
@@ -25,14 +26,14 @@ pub use copying::{CopyFault, copy_image};
 pub use extract::{ImageFault, read_image, write_image};
 pub use laws::{
     a_script_has_one_cut, a_session_is_crash_safe, a_store_is_crash_safe, a_text_is_one,
-    retiring_is_for_a_stream, sessions_are_runs,
+    retiring_is_for_a_stream, sessions_are_runs, the_oldest_core_goes_first,
 };
 pub use life::open_and_run;
 pub use memory_life::memory_session;
 pub use run::run_session;
 pub use script_lines::{Call, Question, parse_question};
 pub use script_streams::{Input, Output, ReadInput, StreamFault, WriteOutput};
-pub use session::{LifeFault, MemoryFault, SessionFault, StoreOutcome};
+pub use session::{LifeFault, MemoryFault, SessionFault, StoreOptions, StoreOutcome};
 pub use store::store_stream;
 pub use store_life::open_and_store;
 pub use stored::{a_stored_case_is_found, a_stored_case_is_kept};

@@ -1,8 +1,21 @@
 //! A session: the commands of a script and the replies to them.
+use arrayvec::ArrayVec;
 use journal_layout::OpenFault;
 use thiserror::Error;
 
-/// What came of a stream that was to be stored, of what was to be retired before it, and of the label of its case.
+/// What is asked for where a stream is stored.
+#[derive(Drop)]
+pub struct StoreOptions {
+    /// The label of its case, if it is to have one.
+    pub label: Option<ArrayVec<u8, 64>>,
+    /// Its case is pinned: no deletion and no retirement takes it.
+    pub pin: bool,
+    /// Where the stream finds no room, cases that are not pinned are deleted: first the cores, then the executables, those of the
+    /// lowest numbers first.
+    pub fit: bool,
+}
+
+/// What came of a stream that was to be stored, of what was to be retired before it, and of the label and the pin of its case.
 #[derive(Clone, Copy, PartialEq, Eq, Debug)]
 pub struct StoreOutcome {
     /// False only if cases were to be retired first, and that was answered `no REASON`.
@@ -11,6 +24,8 @@ pub struct StoreOutcome {
     pub stored: Option<u32>,
     /// False only where the case was to have a label, and that was answered `no REASON`.
     pub labelled: bool,
+    /// False only where the case was to be pinned, and that was answered `no REASON`.
+    pub pinned: bool,
 }
 
 /// Why a session ended before its script.

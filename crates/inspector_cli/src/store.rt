@@ -1,17 +1,19 @@
-// One stream, stored from its own input, with cases retired before it, and the label of its case.
-ghost use Rattle.std.specs.Prelude.{◌≡◌, ℕ, true, List, [], Ok};
+// One stream, stored from its own input, with cases retired before it, and the label and the pin of its case.
+ghost use Rattle.std.specs.Prelude.{◌≡◌, ◌<◌, ℕ, true, List, [], Ok};
 ghost use Rattle.intake.specs.Durable.{Durable};
 ghost use Rattle.intake.specs.Parts.{Parts, state_of};
 ghost use Rattle.stream_names.specs.Commands.{stream_found};
+ghost use Rattle.inspector_cli.specs.Fitting.{Going, TakesWhile};
 ghost use Rattle.inspector_cli.specs.Reply.{Begins, Takes};
 ghost use Rattle.script_streams.specs.Replies.{TellsReply, telling};
 ghost use Rattle.inspector_cli.specs.Session.{streams_of};
-ghost use Rattle.inspector_cli.specs.Storing.{StoreEnds, Stores, StoresStream, RestReplies, LabelsCase, label_asked, TakesFile, TakesMore, IsSlotQuiet};
+ghost use Rattle.inspector_cli.specs.Storing.{StoreEnds, Stores, StoresStream, FillsAndEnds, PinsCase, LabelsCase, label_asked, options_asked, TakesAll, TakesNext, TakesMore, IsSlotQuiet};
 
-use crate::answers::{answer_end, answer_label};
+use crate::answers::{answer_end, answer_label, answer_pin};
 use crate::begin::answer_begin;
+use crate::fitting::{lacks_block, make_room};
 use crate::retiring::retire_first;
-use crate::session::{SessionFault, StoreOutcome};
+use crate::session::{SessionFault, StoreOptions, StoreOutcome};
 use archive_replies::reason;
 use arrayvec::ArrayVec;
 use disk_model::Disk;
@@ -20,19 +22,22 @@ use retention::Policy;
 use script_streams::{Input, Output, Reply, tell_no};
 use stream_names::NewStream;
 
+// The most bytes that one read takes: those of a block.
+const MOST_BYTES: usize = 4096;
+
 // How many reads a file may take.
 const MOST_READS: u64 = 1 << 40;
 
-// Why a file's bytes were not all taken.
+/// Why a file's bytes were not all taken.
 #[derive(Clone, Copy)]
-enum TakeStop {
-    // It could not be read, or did not end.
+pub(crate) enum TakeStop {
+    /// It could not be read, or did not end.
     File,
-    // The archive refused them.
+    /// The archive refused them.
     Refused(ArchiveFault),
 }
 
-/// Stores one stream. A policy, if one is given, is carried out before it. Gives its case this label, if one is given.
+/// Stores one stream, with these options. A policy, if one is given, is carried out before it.
 ///
 /// - Room is made as by the line `retire` of a session, if the stream can begin then: `found` is a stream, and no case that
 ///   stays has its name. Otherwise nothing is retired, and nothing is told of it. The stream is stored whatever was answered.
@@ -40,7 +45,11 @@ enum TakeStop {
 ///   and becomes a case. The reply is that of the line `begin`, and then that of the first step that was refused, or else
 ///   that of the line `end 0`. A `file` that cannot be read, or that has not ended after 2^40 reads, is a step that is
 ///   refused with the reply `no File`.
-/// - The label is set as by the line `label` of a session, once the case is stored. A case whose label is refused stays.
+/// - If cases may go so that it fits, and no data block is free where bytes come, the case that goes next is deleted, as by the
+///   line `delete` of a session, and told as `dropped N` after the reply to `begin`; and so on, until a block is free or all cases
+///   that are left are pinned. If one can't be deleted, that is the step that was refused.
+/// - Once the case is stored, it gets its label as by the line `label` of a session, and then it is pinned as by the line `pin`.
+///   A case whose label or pin is refused stays.
 ///
 /// No stream is open in slot 0 then.
 ///
@@ -50,19 +59,19 @@ enum TakeStop {
 pub fn store_stream<I: Input, O: Output, D: Disk>(
     policy: Option<Policy>,
     found: Result<NewStream, &'static [u8]>,
-    label: &Option<ArrayVec<u8, 64>>,
+    options: &StoreOptions,
     file: &mut I,
     output: &mut O,
     archive: &mut Archive<D>,
 ) -> Result<StoreOutcome, SessionFault>
     ensures ends { (doubts : List Durable) → StoreEnds D.Disk (streams_of I.Input O.Output file.old file.new output.old output.new)
-        (record { archive = archive.old; in_doubt = doubts }) policy (stream_found found.entry) (label_asked label.now) archive.new result }
+        (record { archive = archive.old; in_doubt = doubts }) policy (stream_found found.entry) (options_asked options.now) archive.new result }
     ensures quiet { IsSlotQuiet (state_of archive.new) }
 {
     calls_lead_from_mark_to_mark::<D>();
     found_after_a_stop::<D>();
     let mut reply = Reply::new(output);
-    let outcome = answer_all(policy, found, label, file, &mut reply, archive);
+    let outcome = answer_all(policy, found, options, file, &mut reply, archive);
     let _ = archive.abandon(0);
     let Ok(()) = reply.finish() else {
         return Err(SessionFault::WriteFailed);
@@ -70,26 +79,46 @@ pub fn store_stream<I: Input, O: Output, D: Disk>(
     Ok(outcome)
 }
 
-// Retires by the policy, stores the stream with its file, and then gives the case its label.
+// Retires by the policy, stores the stream with its file, and then gives the case its label and its pin.
 fn answer_all<I: Input, O: Output, D: Disk>(
     policy: Option<Policy>,
     found: Result<NewStream, &'static [u8]>,
-    label: &Option<ArrayVec<u8, 64>>,
+    options: &StoreOptions,
     file: &mut I,
     reply: &mut Reply<'_, O>,
     archive: &mut Archive<D>,
 ) -> StoreOutcome
     ensures { TellsReply (telling O.Output reply.old reply.new) (λ text. Stores D.Disk (I.remaining file.old) (I.remaining file.new) (I.failures file.old) (I.failures file.new)
-        archive.old policy (stream_found found.entry) (label_asked label.now) text archive.new result) }
+        archive.old policy (stream_found found.entry) (options_asked options.now) text archive.new result) }
 {
     let retired_first = retire_first(policy, &found, reply, archive);
-    let stored = answer_store(found, file, reply, archive);
-    let labelled = label_case(stored, label, reply, archive);
+    let stored = answer_store(options.fit, found, file, reply, archive);
+    let labelled = label_case(stored, &options.label, reply, archive);
+    let pinned = pin_case(stored, options.pin, reply, archive);
     StoreOutcome {
         retired_first,
         stored,
         labelled,
+        pinned,
     }
+}
+
+// Pins the case that is stored, if it is to be. Says whether that was answered other than `no REASON`.
+fn pin_case<O: Output, D: Disk>(
+    stored: Option<u32>,
+    pin: bool,
+    reply: &mut Reply<'_, O>,
+    archive: &mut Archive<D>,
+) -> bool
+    ensures { TellsReply (telling O.Output reply.old reply.new) (λ text. PinsCase D.Disk archive.old stored pin text archive.new result) }
+{
+    let Some(seq) = stored else {
+        return true;
+    };
+    if !pin {
+        return true;
+    }
+    answer_pin(seq, true, reply, archive)
 }
 
 // Gives the case that is stored its label, if there are both. Says whether that was answered other than `no REASON`.
@@ -112,19 +141,20 @@ fn label_case<O: Output, D: Disk>(
 
 // Begins this stream, or is refused for this reason, and then takes its file. Says the number of the case, where it is stored.
 fn answer_store<I: Input, O: Output, D: Disk>(
+    fit: bool,
     found: Result<NewStream, &'static [u8]>,
     file: &mut I,
     reply: &mut Reply<'_, O>,
     archive: &mut Archive<D>,
 ) -> Option<u32>
-    ensures { TellsReply (telling O.Output reply.old reply.new) (λ text. StoresStream D.Disk (I.remaining file.old) (I.remaining file.new) (I.failures file.old) (I.failures file.new)
+    ensures { TellsReply (telling O.Output reply.old reply.new) (λ text. StoresStream D.Disk fit (I.remaining file.old) (I.remaining file.new) (I.failures file.old) (I.failures file.new)
         archive.old (stream_found found.entry) text archive.new result) }
 {
     let is_begun = answer_first(found, reply, archive);
     if !is_begun {
         return None;
     }
-    answer_file(file, reply, archive)
+    answer_file(fit, file, reply, archive)
 }
 
 // Begins this stream, or is refused for this reason. Says whether it has begun: then it has no bytes yet.
@@ -141,15 +171,16 @@ fn answer_first<O: Output, D: Disk>(
 
 // Takes a file into the stream in slot 0, and makes it a case. Says its number, where it is stored.
 fn answer_file<I: Input, O: Output, D: Disk>(
+    fit: bool,
     file: &mut I,
     reply: &mut Reply<'_, O>,
     archive: &mut Archive<D>,
 ) -> Option<u32>
     requires { Takes D.Disk archive.old 0 [] (Ok tt) archive.old }
-    ensures { TellsReply (telling O.Output reply.old reply.new) (λ text. (filled : Parts D) × RestReplies D.Disk (I.remaining file.old) (I.remaining file.new) (I.failures file.old) (I.failures file.new)
-        archive.old true filled text archive.new result) }
+    ensures { TellsReply (telling O.Output reply.old reply.new) (λ text. FillsAndEnds D.Disk fit (I.remaining file.old) (I.remaining file.new) (I.failures file.old) (I.failures file.new)
+        archive.old text archive.new result) }
 {
-    match take_file(file, archive) {
+    match take_file(fit, file, reply, archive) {
         Ok(()) => answer_end(0, reply, archive),
         Err(TakeStop::File) => {
             tell_no(reply, b"File");
@@ -162,14 +193,19 @@ fn answer_file<I: Input, O: Output, D: Disk>(
     }
 }
 
-// Takes all bytes of a file into the stream in slot 0.
-fn take_file<I: Input, D: Disk>(file: &mut I, archive: &mut Archive<D>) -> Result<(), TakeStop>
+// Takes all bytes of a file into the stream in slot 0, for which cases go, if they may.
+fn take_file<I: Input, O: Output, D: Disk>(
+    fit: bool,
+    file: &mut I,
+    reply: &mut Reply<'_, O>,
+    archive: &mut Archive<D>,
+) -> Result<(), TakeStop>
     requires { Takes D.Disk archive.old 0 [] (Ok tt) archive.old }
-    ensures { TakesFile D.Disk (I.remaining file.old) (I.remaining file.new) (I.failures file.old) (I.failures file.new)
-        archive.old archive.new result }
+    ensures { TakesAll D.Disk fit (I.remaining file.old) (I.remaining file.new) (I.failures file.old) (I.failures file.new)
+        archive.old (telling O.Output reply.old reply.new) archive.new result }
 {
     for _ in 0..MOST_READS {
-        let goes_on = take_more(file, archive)?;
+        let goes_on = take_next(fit, file, reply, archive)?;
         if !goes_on {
             return Ok(());
         }
@@ -177,18 +213,78 @@ fn take_file<I: Input, D: Disk>(file: &mut I, archive: &mut Archive<D>) -> Resul
     Err(TakeStop::File)
 }
 
-// Takes the next bytes of a file into the stream in slot 0. Says whether there were any.
-fn take_more<I: Input, D: Disk>(file: &mut I, archive: &mut Archive<D>) -> Result<bool, TakeStop>
+// Takes the next bytes of a file into the stream in slot 0, for which cases go, if they may. Says whether there were any.
+fn take_next<I: Input, O: Output, D: Disk>(
+    fit: bool,
+    file: &mut I,
+    reply: &mut Reply<'_, O>,
+    archive: &mut Archive<D>,
+) -> Result<bool, TakeStop>
+    ensures { (begun : Parts D) (so_far : List ℕ) (gone : List (Going D))
+        → TakesWhile D.Disk begun so_far gone (Ok tt) archive.old
+        → TakesNext D.Disk (I.remaining file.old) (I.remaining file.new) (I.failures file.old) (I.failures file.new)
+        begun so_far gone fit (telling O.Output reply.old reply.new) archive.new result }
+{
+    if !fit {
+        return take_more(MOST_BYTES, file, archive);
+    }
+    take_fitting(file, reply, archive)
+}
+
+// The same where cases may go: they do where no data block is free.
+fn take_fitting<I: Input, O: Output, D: Disk>(
+    file: &mut I,
+    reply: &mut Reply<'_, O>,
+    archive: &mut Archive<D>,
+) -> Result<bool, TakeStop>
+    ensures { (begun : Parts D) (so_far : List ℕ) (gone : List (Going D))
+        → TakesWhile D.Disk begun so_far gone (Ok tt) archive.old
+        → TakesNext D.Disk (I.remaining file.old) (I.remaining file.new) (I.failures file.old) (I.failures file.new)
+        begun so_far gone true (telling O.Output reply.old reply.new) archive.new result }
+{
+    if !lacks_block(archive) {
+        return take_more(MOST_BYTES, file, archive);
+    }
+    take_one(file, reply, archive)
+}
+
+// Takes the next byte of a file into the stream in slot 0, where no data block is free: the block that it needs is not there, so cases go.
+fn take_one<I: Input, O: Output, D: Disk>(
+    file: &mut I,
+    reply: &mut Reply<'_, O>,
+    archive: &mut Archive<D>,
+) -> Result<bool, TakeStop>
+    ensures { (begun : Parts D) (so_far : List ℕ) (gone : List (Going D))
+        → TakesWhile D.Disk begun so_far gone (Ok tt) archive.old
+        → TakesNext D.Disk (I.remaining file.old) (I.remaining file.new) (I.failures file.old) (I.failures file.new)
+        begun so_far gone true (telling O.Output reply.old reply.new) archive.new result }
+{
+    let goes_on = take_more(1, file, archive)?;
+    if !goes_on {
+        return Ok(false);
+    }
+    make_room(reply, archive)?;
+    Ok(true)
+}
+
+// Takes the next bytes of a file into the stream in slot 0, `most` at most. Says whether there were any.
+fn take_more<I: Input, D: Disk>(
+    most: usize,
+    file: &mut I,
+    archive: &mut Archive<D>,
+) -> Result<bool, TakeStop>
+    requires { 0 < most }
     ensures { (begun : Parts D) (so_far : List ℕ)
         → Takes D.Disk begun 0 so_far (Ok tt) archive.old
-        → TakesMore D.Disk (I.remaining file.old) (I.remaining file.new) (I.failures file.old) (I.failures file.new)
-        begun so_far archive.new result }
+        → TakesMore (I.remaining file.old) (I.remaining file.new) (I.failures file.old) (I.failures file.new)
+        so_far (λ raw v. Takes D.Disk begun 0 raw v archive.new) result }
 {
     let (lent, room) = archive.room(0);
     if let Err(fault) = lent {
         return Err(TakeStop::Refused(fault));
     }
-    let Ok(count) = file.read(room) else {
+    let size = room.len().min(most);
+    let Ok(count) = file.read(&mut room[..size]) else {
         return Err(TakeStop::File);
     };
     if count == 0 {

@@ -3,12 +3,11 @@ ghost use Rattle.stream_names.specs.Commands.{stream_found};
 ghost use Rattle.inspector_cli.specs.Session.{streams_of};
 ghost use Rattle.inspector_cli.specs.StoreHeadline.{StoreHeadline};
 ghost use Rattle.inspector_cli.specs.Life.{LifeEnds, StoresOver};
-ghost use Rattle.inspector_cli.specs.Storing.{label_asked};
+ghost use Rattle.inspector_cli.specs.Storing.{options_asked};
 
 use crate::laws::a_store_is_crash_safe;
-use crate::session::{LifeFault, StoreOutcome};
+use crate::session::{LifeFault, StoreOptions, StoreOutcome};
 use crate::store::store_stream;
-use arrayvec::ArrayVec;
 use disk_model::Disk;
 use intake::{Archive, Settings};
 use retention::Policy;
@@ -17,9 +16,9 @@ use std::alloc::Global;
 use stream_names::NewStream;
 
 /// Opens the archive on a disk, stores one stream as `store_stream` does, and hands the disk back. Crash safety is that of
-/// `open_and_run` over the lines `retire`, `begin`, `end 0` and `label`, of which each is there that was carried out. So a machine
-/// that stops once cases are retired may have lost what was retired, and not have the new case; and one that stops once the case
-/// is stored may not have its label.
+/// `open_and_run` over the lines `retire`, `begin`, `end 0`, `label` and `pin`, of which each is there that was carried out. So a
+/// machine that stops once cases are retired may have lost what was retired, and not have the new case; and one that stops once the
+/// case is stored may not have its label, nor its pin.
 ///
 /// # Errors
 ///
@@ -31,15 +30,15 @@ pub fn open_and_store<I: Input, O: Output, D: Disk>(
     settings: Settings,
     policy: Option<Policy>,
     found: Result<NewStream, &'static [u8]>,
-    label: &Option<ArrayVec<u8, 64>>,
+    options: &StoreOptions,
     file: &mut I,
     output: &mut O,
 ) -> (Result<StoreOutcome, LifeFault>, D)
-    ensures crash_safe { let streams = streams_of I.Input O.Output file.old file.new output.old output.new in LifeEnds D.Disk settings.limit streams disk result.0 result.1 (StoresOver D.Disk policy (stream_found found.entry) (label_asked label.now) streams) }
-    ensures headline { StoreHeadline D.Disk (streams_of I.Input O.Output file.old file.new output.old output.new) policy (stream_found found.entry) (label_asked label.now) disk result.0 result.1 }
+    ensures crash_safe { let streams = streams_of I.Input O.Output file.old file.new output.old output.new in LifeEnds D.Disk settings.limit streams disk result.0 result.1 (StoresOver D.Disk policy (stream_found found.entry) (options_asked options.now) streams) }
+    ensures headline { StoreHeadline D.Disk (streams_of I.Input O.Output file.old file.new output.old output.new) policy (stream_found found.entry) (options_asked options.now) disk result.0 result.1 }
 {
     a_store_is_crash_safe::<D>();
-    open_then_store(alloc, disk, settings, policy, found, label, file, output)
+    open_then_store(alloc, disk, settings, policy, found, options, file, output)
 }
 
 // Opens the archive on a disk, stores one stream, and hands the disk back.
@@ -49,16 +48,16 @@ fn open_then_store<I: Input, O: Output, D: Disk>(
     settings: Settings,
     policy: Option<Policy>,
     found: Result<NewStream, &'static [u8]>,
-    label: &Option<ArrayVec<u8, 64>>,
+    options: &StoreOptions,
     file: &mut I,
     output: &mut O,
 ) -> (Result<StoreOutcome, LifeFault>, D)
-    ensures crash_safe { let streams = streams_of I.Input O.Output file.old file.new output.old output.new in LifeEnds D.Disk settings.limit streams disk result.0 result.1 (StoresOver D.Disk policy (stream_found found.entry) (label_asked label.now) streams) }
+    ensures crash_safe { let streams = streams_of I.Input O.Output file.old file.new output.old output.new in LifeEnds D.Disk settings.limit streams disk result.0 result.1 (StoresOver D.Disk policy (stream_found found.entry) (options_asked options.now) streams) }
 {
     match Archive::open(alloc, disk, settings) {
         Ok(archive) => {
             let mut archive = archive;
-            let ended = store_stream(policy, found, label, file, output, &mut archive);
+            let ended = store_stream(policy, found, options, file, output, &mut archive);
             let disk = archive.close();
             match ended {
                 Ok(outcome) => (Ok(outcome), disk),

@@ -1,5 +1,5 @@
 //! What becomes of a case that was answered `stored N`. This function does nothing.
-ghost use Rattle.inspector_cli.specs.Kept.{AStopIsTakenUp, AReopeningIsTakenUp, ALineStoresACase, ALineLabelsACase, ASessionKeepsACase, AStoreStoresACase, AStoreLabelsACase, AStoreKeepsACase};
+ghost use Rattle.inspector_cli.specs.Kept.{AStopIsTakenUp, AReopeningIsTakenUp, ALineStoresACase, ALineLabelsACase, ASessionKeepsACase, AStoreStoresACase, AStoreLabelsACase, AStorePinsACase, AStoreKeepsACase};
 ghost use Rattle.inspector_cli.specs.Stored.{AnOpeningIsQuiet, SessionsAreTold, StoredHasParts, StoredIsFound};
 
 use disk_model::Disk;
@@ -29,7 +29,7 @@ pub fn a_stored_case_is_found<D: Disk>()
 /// A stored case is found after every stop, whichever command stored it and whichever came after: sessions (`run`, `ask`) and stores,
 /// whose openings may be refused. It has the kind, the name and the facts with which its stream began, and its image is
 /// the bytes that its stream was given. So it stays as long as no line takes it away, whether the machine stops or the process
-/// ends or is killed, at any moment after the line, or the store, that was answered `stored N`. It keeps its label until a line gives it another.
+/// ends or is killed, at any moment after the line, or the store, that was answered `stored N`. It keeps its label until a line gives it another. A case whose pin was answered `ok` is pinned.
 ///
 /// `stop` and `reopening` say how a command may follow another: what it reads, and what a later stop leaves of it, is what a stop at
 /// a moment of the other could have left.
@@ -41,6 +41,7 @@ pub fn a_stored_case_is_kept<D: Disk>()
     ensures session { ASessionKeepsACase D.Disk }
     ensures store { AStoreStoresACase D.Disk }
     ensures store_label { AStoreLabelsACase D.Disk }
+    ensures store_pin { AStorePinsACase D.Disk }
     ensures kept { AStoreKeepsACase D.Disk }
 {
     the_next_number_is_above();

@@ -1,10 +1,10 @@
-// Room that is made before a case is stored, and the label that it gets then.
+// Room that is made before a case is stored, and the label and the pin that it gets then.
 use crate::archives::{fresh, fresh_disk, named, opened, tells, told};
 use arrayvec::ArrayVec;
 use disk_model::{Disk, MemDisk, OneFault, Pick};
 use inspector_cli::{
-    Input, LifeFault, Naming, Output, ReadInput, StoreOutcome, WriteOutput, line_stream,
-    open_and_store,
+    Input, LifeFault, Naming, Output, ReadInput, StoreOptions, StoreOutcome, WriteOutput,
+    line_stream, open_and_store,
 };
 use intake::Settings;
 use retention::Policy;
@@ -52,14 +52,14 @@ fn store<I: Input, O: Output, D: Disk>(
     disk: D,
     naming: &Naming,
     row: &Row,
-    label: &Option<ArrayVec<u8, 64>>,
+    options: &StoreOptions,
     file: &mut I,
     output: &mut O,
 ) -> (Result<StoreOutcome, LifeFault>, D) {
     let settings = Settings { limit: 1 << 30 };
     let found = line_stream(row.line, naming);
     open_and_store(
-        alloc, disk, settings, row.policy, found, label, file, output,
+        alloc, disk, settings, row.policy, found, options, file, output,
     )
 }
 
@@ -68,25 +68,30 @@ fn stored<D: Disk + Drop>(
     alloc: Global,
     disk: D,
     row: &Row,
-    label: &Option<ArrayVec<u8, 64>>,
+    options: &StoreOptions,
 ) -> Result<(String, StoreOutcome, D), Fail> {
     let naming = named(b"core.%e.%p")?;
     let mut text = Vec::new(alloc);
     let image = vec![in alloc; b'z'; row.size]?;
     let mut file = ReadInput::new(image.as_slice());
     let mut output = WriteOutput::new(&mut text);
-    let (ended, disk) = store(alloc, disk, &naming, row, label, &mut file, &mut output);
+    let (ended, disk) = store(alloc, disk, &naming, row, options, &mut file, &mut output);
     let outcome = ended?;
     Ok((String::from_utf8(text)?, outcome, disk))
 }
 
 // A store over the archive on a disk does what the row says. Answers its disk.
 fn stores<D: Disk + Drop>(rt: &(impl AllocGlobal + Abort), disk: D, row: &Row) -> Result<D, Fail> {
-    let (text, outcome, disk) = stored(rt.alloc(), disk, row, &None)?;
+    let options = StoreOptions {
+        label: None,
+        pin: false,
+        fit: false,
+    };
+    let (text, outcome, disk) = stored(rt.alloc(), disk, row, &options)?;
     assert_eq!(rt; text.as_str(), row.replies);
     assert_eq!(rt; outcome.retired_first, row.retired_first);
     assert_eq!(rt; outcome.stored, row.stored);
-    assert!(rt; outcome.labelled);
+    assert!(rt; outcome.labelled && outcome.pinned);
     Ok(disk)
 }
 
@@ -318,7 +323,12 @@ fn stores_labelled<D: Disk + Drop>(
     is_labelled: bool,
 ) -> Result<D, Fail> {
     let label = ArrayVec::try_from(b"red".as_slice()).ok();
-    let (text, outcome, disk) = stored(rt.alloc(), disk, row, &label)?;
+    let options = StoreOptions {
+        label,
+        pin: false,
+        fit: false,
+    };
+    let (text, outcome, disk) = stored(rt.alloc(), disk, row, &options)?;
     assert_eq!(rt; text.as_str(), row.replies);
     assert_eq!(rt; outcome.stored, row.stored);
     assert_eq!(rt; outcome.labelled, is_labelled);
@@ -343,4 +353,86 @@ fn a_case_is_stored_with_its_label(rt: HostRuntime) -> Result<(), Fail> {
 fn a_case_whose_label_is_refused_stays(rt: HostRuntime) -> Result<(), Fail> {
     let disk = stores_labelled(&rt, fresh_disk(rt.alloc())?, &NOT_LABELLED, false)?;
     lists(&rt, disk, "1 exec 5 0 0 0 - a\nok\n")
+}
+
+// The same of a store with a pin.
+fn stores_pinned<D: Disk + Drop>(
+    rt: &(impl AllocGlobal + Abort),
+    disk: D,
+    row: &Row,
+    is_pinned: bool,
+) -> Result<D, Fail> {
+    let options = StoreOptions {
+        label: None,
+        pin: true,
+        fit: false,
+    };
+    let (text, outcome, disk) = stored(rt.alloc(), disk, row, &options)?;
+    assert_eq!(rt; text.as_str(), row.replies);
+    assert_eq!(rt; outcome.stored, row.stored);
+    assert_eq!(rt; outcome.pinned, is_pinned);
+    Ok(disk)
+}
+
+#[test]
+fn a_case_is_stored_with_its_pin(rt: HostRuntime) -> Result<(), Fail> {
+    let disk = stores_pinned(&rt, fresh_disk(rt.alloc())?, &LABELLED, true)?;
+    let disk = stores_pinned(&rt, disk, &REFUSED, true)?;
+    lists(&rt, disk, "1 exec 5 0 0 0 pinned a\nok\n")
+}
+
+static UNRETIRED: Row = Row {
+    policy: None,
+    line: b"begin exec 0 b",
+    size: 8192,
+    replies: "name b\nok\nstored 2\nok\n",
+    retired_first: true,
+    stored: Some(2),
+};
+
+// A case goes where the four data blocks are full; none where what is there is pinned.
+static FITTED: Row = Row {
+    policy: None,
+    line: b"begin exec 0 c",
+    size: 8192,
+    replies: "name c\nok\ndropped 2\nstored 3\nok\n",
+    retired_first: true,
+    stored: Some(3),
+};
+
+static NOT_FITTED: Row = Row {
+    policy: None,
+    line: b"begin exec 0 d",
+    size: 8193,
+    replies: "name d\nok\ndropped 3\nno SpaceFull\n",
+    retired_first: true,
+    stored: None,
+};
+
+// The same of a store for which cases may go.
+fn stores_fitting<D: Disk + Drop>(
+    rt: &(impl AllocGlobal + Abort),
+    disk: D,
+    row: &Row,
+) -> Result<D, Fail> {
+    let options = StoreOptions {
+        label: None,
+        pin: false,
+        fit: true,
+    };
+    let (text, outcome, disk) = stored(rt.alloc(), disk, row, &options)?;
+    assert_eq!(rt; text.as_str(), row.replies);
+    assert_eq!(rt; outcome.stored, row.stored);
+    Ok(disk)
+}
+
+#[test]
+fn cases_go_so_that_a_stream_fits(rt: HostRuntime) -> Result<(), Fail> {
+    let disk = stores(&rt, fresh_disk(rt.alloc())?, &FULL[0])?;
+    let mut archive = opened(rt.alloc(), disk, 1 << 30)?;
+    tells(&rt, &mut archive, b"pin 1\n", "ok\n")?;
+    let disk = stores(&rt, archive.close(), &UNRETIRED)?;
+    let disk = stores_fitting(&rt, disk, &FITTED)?;
+    let disk = stores_fitting(&rt, disk, &NOT_FITTED)?;
+    lists(&rt, disk, "1 exec 8192 0 0 0 pinned a\nok\n")
 }

@@ -1,28 +1,33 @@
-use Rattle.std.proofs.Common.{refl, Ok, Err, ap}
+use Rattle.std.proofs.Common.{refl, ◌++◌, Ok, Err, ap}
+use Rattle.std.specs.List.{flat_map}
 use Rattle.std.specs.Prelude.{codes}
 use Rattle.inspector_cli.specs.declared.store.TakeStop.TheVariants.{File, Refused}
+use Rattle.inspector_cli.specs.Fitting.{going_text}
 use Rattle.script_streams.specs.Replies.{no_reply}
 use Rattle.archive_replies.specs.Reasons.{reason_of}
-use Rattle.script_streams.specs.TellLaws.{tells_as}
+use Rattle.script_streams.specs.TellLaws.{tells_as, tells_then}
 use Rattle.inspector_cli.proofs.store.answer_file.Goals as goal
 
 pub returns-in-Err-File : goal.returns-in-Err-File
-returns-in-Err-File g c = (
-  no_reply (codes "File"),
-  (c.take_file.new.archive, (Err File, rw c.in-Err-File.field-0-is at c.in-Err-File.ensures, (refl, refl, refl))),
-  c.tell_no.ensures,
-)
+returns-in-Err-File g c =
+    let t = rw c.in-Err-File.field-0-is at c.in-Err-File.ensures in (
+      flat_map going_text t.0 ++ no_reply (codes "File"),
+      (t.0, c.take_file.new.archive, no_reply (codes "File"), refl, t.3, (Err File, t.2, (refl, refl, refl))),
+      tells_then t.1 c.tell_no.ensures,
+    )
 
 pub returns-in-Err-Refused : goal.returns-in-Err-Refused
-returns-in-Err-Refused g c = (
-  no_reply (reason_of c.in-Err-Refused.fault),
-  (c.take_file.new.archive, (Err (Refused c.in-Err-Refused.fault), rw c.in-Err-Refused.field-0-is at c.in-Err-Refused.ensures, (refl, refl, refl))),
-  tells_as (ap no_reply c.reason.ensures) c.tell_no-in-Err-Refused.ensures,
-)
+returns-in-Err-Refused g c =
+    let t = rw c.in-Err-Refused.field-0-is at c.in-Err-Refused.ensures in (
+      flat_map going_text t.0 ++ no_reply (reason_of c.in-Err-Refused.fault),
+      (t.0, c.take_file.new.archive, no_reply (reason_of c.in-Err-Refused.fault), refl, t.3, (Err (Refused c.in-Err-Refused.fault), t.2, (refl, refl, refl))),
+      tells_then t.1 (tells_as (ap no_reply c.reason.ensures) c.tell_no-in-Err-Refused.ensures),
+    )
 
 pub returns-in-Ok : goal.returns-in-Ok
-returns-in-Ok g c = (
-  c.answer_end.ensures.0,
-  (c.take_file.new.archive, (Ok tt, c.in-Ok.ensures, c.answer_end.ensures.1)),
-  c.answer_end.ensures.2,
-)
+returns-in-Ok g c =
+    let t = c.in-Ok.ensures in (
+      flat_map going_text t.0 ++ c.answer_end.ensures.0,
+      (t.0, c.take_file.new.archive, c.answer_end.ensures.0, refl, t.3, (Ok tt, t.2, c.answer_end.ensures.1)),
+      tells_then t.1 c.answer_end.ensures.2,
+    )

@@ -1,7 +1,7 @@
 use Rattle.std.proofs.Common.{rules}
 use Rattle.script_streams.specs.Telling.{sink}
 use Rattle.stream_names.specs.Commands.{stream_found}
-use Rattle.inspector_cli.specs.Storing.{label_asked}
+use Rattle.inspector_cli.specs.Storing.{options_asked}
 use Rattle.inspector_cli.proofs.StoreLemmas.{store_written, store_failed}
 use Rattle.inspector_cli.proofs.StageLemmas.{laws_of, stage_of}
 use Rattle.inspector_cli.proofs.store.store_stream.Goals as goal
@@ -11,7 +11,7 @@ returns-in_default-clause-ends g c = λ doubts.
     store_failed g.D.Disk (laws_of g.D.Disk c.calls_lead_from_mark_to_mark.ensures.stays c.calls_lead_from_mark_to_mark.ensures.finish c.calls_lead_from_mark_to_mark.ensures.delete c.calls_lead_from_mark_to_mark.ensures.pin c.calls_lead_from_mark_to_mark.ensures.label c.calls_lead_from_mark_to_mark.ensures.upgrade c.calls_lead_from_mark_to_mark.ensures.retire) c.found_after_a_stop.ensures (g.I.Input.remaining c.args.file.now) (g.I.Input.remaining c.answer_all-outcome.new.file)
     (g.I.Input.failures c.args.file.now) (g.I.Input.failures c.answer_all-outcome.new.file)
     (g.O.Output.taken c.args.output.now) (g.O.Output.failures c.args.output.now) _ (sink g.O.Output c.new-reply.result) (sink g.O.Output c.answer_all-outcome.new.reply) _ _
-    (stage_of c.args.archive.now doubts) c.answer_all-outcome.new.archive c.abandon.new.self c.args.policy (stream_found c.args.found) (label_asked c.args.label.now) c.answer_all-outcome.result
+    (stage_of c.args.archive.now doubts) c.answer_all-outcome.new.archive c.abandon.new.self c.args.policy (stream_found c.args.found) (options_asked c.args.options.now) c.answer_all-outcome.result
     c.abandon.result c.new-reply.ensures.told c.answer_all-outcome.ensures
     c.abandon.ensures
     c.in_default.field-0 (λ told one. (let taken = c.in_default.ensures.delivered _ _ _ told one in search (one.same, c.finish.ensures.same, taken, rules)))
@@ -24,7 +24,7 @@ returns-clause-ends g c = λ doubts.
     store_written g.D.Disk (laws_of g.D.Disk c.calls_lead_from_mark_to_mark.ensures.stays c.calls_lead_from_mark_to_mark.ensures.finish c.calls_lead_from_mark_to_mark.ensures.delete c.calls_lead_from_mark_to_mark.ensures.pin c.calls_lead_from_mark_to_mark.ensures.label c.calls_lead_from_mark_to_mark.ensures.upgrade c.calls_lead_from_mark_to_mark.ensures.retire) c.found_after_a_stop.ensures (g.I.Input.remaining c.args.file.now) (g.I.Input.remaining c.answer_all-outcome.new.file)
     (g.I.Input.failures c.args.file.now) (g.I.Input.failures c.answer_all-outcome.new.file)
     (g.O.Output.taken c.args.output.now) (g.O.Output.failures c.args.output.now) _ (sink g.O.Output c.new-reply.result) (sink g.O.Output c.answer_all-outcome.new.reply) _ (g.O.Output.failures c.finish.new.self.output.now)
-    (stage_of c.args.archive.now doubts) c.answer_all-outcome.new.archive c.abandon.new.self c.args.policy (stream_found c.args.found) (label_asked c.args.label.now) c.answer_all-outcome.result
+    (stage_of c.args.archive.now doubts) c.answer_all-outcome.new.archive c.abandon.new.self c.args.policy (stream_found c.args.found) (options_asked c.args.options.now) c.answer_all-outcome.result
     c.abandon.result c.new-reply.ensures.told c.answer_all-outcome.ensures
     c.abandon.ensures
     c.in-Ok.field-0 (λ told one. (let taken = c.in-Ok.ensures.delivered _ _ _ told one in search (one.same, c.finish.ensures.same, taken, rules)))

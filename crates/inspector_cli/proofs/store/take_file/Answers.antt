@@ -1,4 +1,8 @@
+use Rattle.std.proofs.Common.{[], refl, arith}
+use Rattle.std.proofs.KnownBytes.{Consumes-nil}
+use Rattle.script_streams.specs.TellLaws.{tells_nothing}
 use Rattle.std.proofs.lemmas.Result.{err_from_is_err_and}
+use Rattle.script_streams.specs.Telling.{sink}
 use Rattle.inspector_cli.proofs.StoreLemmas.{file_went_on, file_ended, file_stopped}
 use Rattle.inspector_cli.proofs.store.take_file.Goals as goal
 
@@ -6,29 +10,47 @@ pub returns-in_err-goes_on : goal.returns-in_err-goes_on
 returns-in_err-goes_on g c =
     let p = err_from_is_err_and c.from_residual.result c.from_residual.ensures.1 in
     let i = c.loop.invariant in
-    rw (p.1, p.2) (file_stopped g.D.Disk (g.I.Input.remaining c.args.file.now) (g.I.Input.remaining c.loop.file) (g.I.Input.remaining c.take_more.new.file)
-    (g.I.Input.failures c.args.file.now) (g.I.Input.failures c.loop.file) (g.I.Input.failures c.take_more.new.file)
-    c.args.archive.now c.loop.archive c.take_more.new.archive c.loop.counter
-    (i.raw, i.consumed, i.counted, i.failures, i.takes) c.in_err-goes_on.field-0.0 (c.in_err-goes_on.ensures c.args.archive.now i.raw i.takes))
+    rw (p.1, p.2) (file_stopped g.D.Disk c.args.fit (g.I.Input.remaining c.args.file.now) (g.I.Input.remaining c.loop.file) (g.I.Input.remaining c.take_next.new.file)
+    (g.I.Input.failures c.args.file.now) (g.I.Input.failures c.loop.file) (g.I.Input.failures c.take_next.new.file)
+    (sink g.O.Output c.args.reply.now) (sink g.O.Output c.loop.reply) (sink g.O.Output c.take_next.new.reply)
+    c.args.archive.now c.loop.archive c.take_next.new.archive c.loop.counter
+    (i.gone, i.told, i.raw, i.consumed, i.counted, i.failures, i.takes, i.unasked) c.in_err-goes_on.field-0.0 (c.in_err-goes_on.ensures c.args.archive.now i.raw i.gone i.takes))
 
 pub returns-then-not-goes_on : goal.returns-then-not-goes_on
 returns-then-not-goes_on g c =
     let i = c.loop.invariant in
-    file_ended g.D.Disk (g.I.Input.remaining c.args.file.now) (g.I.Input.remaining c.loop.file) (g.I.Input.remaining c.take_more.new.file)
-    (g.I.Input.failures c.args.file.now) (g.I.Input.failures c.loop.file) (g.I.Input.failures c.take_more.new.file)
-    c.args.archive.now c.loop.archive c.take_more.new.archive c.loop.counter
-    (i.raw, i.consumed, i.counted, i.failures, i.takes) c.in_ok-goes_on.goes_on c.if-not-goes_on.true (c.in_ok-goes_on.ensures c.args.archive.now i.raw i.takes)
+    file_ended g.D.Disk c.args.fit (g.I.Input.remaining c.args.file.now) (g.I.Input.remaining c.loop.file) (g.I.Input.remaining c.take_next.new.file)
+    (g.I.Input.failures c.args.file.now) (g.I.Input.failures c.loop.file) (g.I.Input.failures c.take_next.new.file)
+    (sink g.O.Output c.args.reply.now) (sink g.O.Output c.loop.reply) (sink g.O.Output c.take_next.new.reply)
+    c.args.archive.now c.loop.archive c.take_next.new.archive c.loop.counter
+    (i.gone, i.told, i.raw, i.consumed, i.counted, i.failures, i.takes, i.unasked) c.in_ok-goes_on.goes_on c.if-not-goes_on.true (c.in_ok-goes_on.ensures c.args.archive.now i.raw i.gone i.takes)
+
+pub loop-init : goal.loop-init
+loop-init g c = record {
+  gone = [];
+  told = tells_nothing;
+  raw = [];
+  consumed = Consumes-nil (g.I.Input.remaining c.args.file.now);
+  counted = omega arith;
+  failures = refl;
+  takes = c.requires;
+  unasked = λ no. refl;
+}
 
 pub loop-preserved : goal.loop-preserved
 loop-preserved g c =
     let i = c.loop.invariant in
-    let w = file_went_on g.D.Disk (g.I.Input.remaining c.args.file.now) (g.I.Input.remaining c.loop.file) (g.I.Input.remaining c.take_more.new.file)
-    (g.I.Input.failures c.args.file.now) (g.I.Input.failures c.loop.file) (g.I.Input.failures c.take_more.new.file)
-    c.args.archive.now c.loop.archive c.take_more.new.archive c.loop.counter
-    (i.raw, i.consumed, i.counted, i.failures, i.takes) c.in_ok-goes_on.goes_on c.if-not-goes_on.false (c.in_ok-goes_on.ensures c.args.archive.now i.raw i.takes) in record {
-      raw = w.0;
-      consumed = w.1;
-      counted = w.2;
-      failures = w.3;
-      takes = w.4;
+    let w = file_went_on g.D.Disk c.args.fit (g.I.Input.remaining c.args.file.now) (g.I.Input.remaining c.loop.file) (g.I.Input.remaining c.take_next.new.file)
+    (g.I.Input.failures c.args.file.now) (g.I.Input.failures c.loop.file) (g.I.Input.failures c.take_next.new.file)
+    (sink g.O.Output c.args.reply.now) (sink g.O.Output c.loop.reply) (sink g.O.Output c.take_next.new.reply)
+    c.args.archive.now c.loop.archive c.take_next.new.archive c.loop.counter
+    (i.gone, i.told, i.raw, i.consumed, i.counted, i.failures, i.takes, i.unasked) c.in_ok-goes_on.goes_on c.if-not-goes_on.false (c.in_ok-goes_on.ensures c.args.archive.now i.raw i.gone i.takes) in record {
+      gone = w.0;
+      told = w.1;
+      raw = w.2;
+      consumed = w.3;
+      counted = w.4;
+      failures = w.5;
+      takes = w.6;
+      unasked = w.7;
     }

@@ -1,13 +1,18 @@
-use Rattle.std.proofs.Common.{◌≡◌, ◌≤◌, ℕ, List, length, Ok}
+use Rattle.std.proofs.Common.{◌≡◌, ◌≤◌, ℕ, false, List, [], length, Ok}
+use Rattle.std.specs.List.{flat_map}
 use Rattle.std.specs.Io.KnownBytes.{Consumes}
-use Rattle.inspector_cli.specs.Reply.{Takes}
+use Rattle.script_streams.specs.Replies.{TellsText, telling}
+use Rattle.inspector_cli.specs.Fitting.{Going, TakesWhile, going_text}
 use Rattle.inspector_cli.proofs.store.take_file.Given as goal
 
 abbrev pub invariant-loop : goal.invariant-loop
 invariant-loop g l = record {
+  gone : List (Going _);
+  told : TellsText (telling g.O.Output l.fn.reply l.reply) (flat_map going_text gone);
   raw : List ℕ;
   consumed : Consumes (g.I.Input.remaining l.initial.file) (g.I.Input.remaining l.file) raw;
   counted : l.counter ≤ length raw;
   failures : g.I.Input.failures l.file ≡ g.I.Input.failures l.initial.file;
-  takes : Takes g.D.Disk l.fn.archive 0 raw (Ok tt) l.archive;
+  takes : TakesWhile g.D.Disk l.fn.archive raw gone (Ok tt) l.archive;
+  unasked : l.fn.fit ≡ false → gone ≡ [];
 }

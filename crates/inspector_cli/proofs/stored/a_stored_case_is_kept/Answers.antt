@@ -1,4 +1,4 @@
-use Rattle.inspector_cli.proofs.KeepingLemmas.{stop_taken_up, reopening_taken_up, lines_store, lines_label, sessions_keep, stores_store, stores_label, stores_keep}
+use Rattle.inspector_cli.proofs.KeepingLemmas.{stop_taken_up, reopening_taken_up, lines_store, lines_label, sessions_keep, stores_store, stores_label, stores_pin, stores_keep}
 use Rattle.inspector_cli.proofs.stored.a_stored_case_is_kept.Goals as goal
 
 pub returns-clause-stop : goal.returns-clause-stop
@@ -21,6 +21,9 @@ returns-clause-store g c = stores_store g.D.Disk c.the_next_number_is_above.ensu
 
 pub returns-clause-store_label : goal.returns-clause-store_label
 returns-clause-store_label g c = stores_label g.D.Disk c.the_next_number_is_above.ensures
+
+pub returns-clause-store_pin : goal.returns-clause-store_pin
+returns-clause-store_pin g c = stores_pin g.D.Disk c.the_next_number_is_above.ensures
 
 pub returns-clause-kept : goal.returns-clause-kept
 returns-clause-kept g c = stores_keep g.D.Disk c.the_next_number_is_above.ensures

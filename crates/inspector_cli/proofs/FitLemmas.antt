@@ -1,0 +1,254 @@
+-- Bytes that are taken while cases go.
+use Rattle.std.proofs.Common.{◌≡◌, ◌⊎◌, inl, ℕ, zero, suc, ◌+◌, ◌<◌, ◌≤◌, Bool, true, false, cond, List, [], ◌∷◌, ◌++◌, length, Option, Some, None, Result, Ok, Err, refl, sym, ap, subst, ◌∙◌, arith, append_assoc, length-append}
+use Rattle.std.proofs.lemmas.List.{append-nil}
+use Rattle.std.proofs.lemmas.Bool.{true≢false}
+use Rattle.std.proofs.KnownBytes.{Consumes-trans}
+use Rattle.std.specs.List.{find, flat_map}
+use Rattle.std.specs.Io.KnownBytes.{Consumes}
+use Rattle.std.specs.Prelude.{slice_set, map, option_map, IsTrue}
+use Rattle.journal_layout.specs.Case.{Case, case_of}
+use Rattle.journal_layout.specs.declared.entry.Entry.{Entry}
+use Rattle.disk_model.specs.declared.disk.Disk as disk
+use Rattle.failure_count.specs.Counts.{HasRisen}
+use Rattle.intake.specs.declared.faults.ArchiveFault.{ArchiveFault}
+use Rattle.intake.specs.Calls.{DeleteCall}
+use Rattle.intake.specs.Contents.{Contents, Taken}
+use Rattle.intake.specs.Parts.{Parts, state_of, contents_of}
+use Rattle.intake.specs.Slots.{stream_at}
+use Rattle.intake.specs.State.{ArchiveState, StreamFacts}
+use Rattle.intake.specs.StayLaws.{stays_none}
+use Rattle.intake.specs.Step.{longer, with_stream}
+use Rattle.script_streams.specs.Replies.{Telling, TellsText}
+use Rattle.script_streams.specs.Telling.{Sink}
+use Rattle.script_streams.specs.TellLaws.{tells_then, tells_as, tells_nothing}
+use Rattle.inspector_cli.specs.declared.store.TakeStop.{TakeStop}
+use Rattle.inspector_cli.specs.declared.store.TakeStop.TheVariants.{File, Refused}
+use Rattle.inspector_cli.specs.Reply.{TakeStep, TakeBytes, Takes}
+use Rattle.inspector_cli.specs.Fitting.{Going, IsGoing, IsNext, GoesOn, TakesWhile, going_text, goes, goes_first, may_go, may_go_first, or_else}
+use Rattle.inspector_cli.specs.Storing.{TakesFile, TakesMore, AfterRoom, MakesRoom, GoesNext, TakesNext, TakesAll, stop_of}
+use Rattle.inspector_cli.proofs.SlotLemmas.{at_set, set_again, some_same}
+
+-- the first of these entries that is so, as a case
+find_mapped : (p : Case → Bool) (es : List Entry) → find p (map case_of es) ≡ option_map case_of (find (λ (e : Entry). p (case_of e)) es)
+find_mapped p [] = refl
+find_mapped p (e ∷ es) = elim (p (case_of e)) as (λ t. cond t (Some (case_of e)) (find p (map case_of es)) ≡ option_map case_of (cond t (Some e) (find (λ (x : Entry). p (case_of x)) es))) [ true ↦ refl | false ↦ find_mapped p es ]
+
+-- the core that goes next
+pub core_goes : (es : List Entry) (e : Entry) → Some e ≡ find goes_first es → IsNext (map case_of es) e.seq
+core_goes es e is = (
+  case_of e,
+  ap (λ (o : Option Case). or_else o (find may_go (map case_of es))) (find_mapped may_go_first es ∙ ap (option_map case_of) (sym is)),
+  refl,
+)
+
+-- or the executable
+pub case_goes : (es : List Entry) (e : Entry) → None ≡ find goes_first es → Some e ≡ find goes es → IsNext (map case_of es) e.seq
+case_goes es e none is = (
+  case_of e,
+  ap (λ (o : Option Case). or_else o (find may_go (map case_of es))) (find_mapped may_go_first es ∙ ap (option_map case_of) (sym none))
+      ∙ find_mapped may_go es ∙ ap (option_map case_of) (sym is),
+  refl,
+)
+
+ok_err : (u : Unit {0}) (f : ArchiveFault) → ◌≡◌ {A = Result (Unit {0}) ArchiveFault} (Ok u) (Err f) → ⊥
+ok_err u f is = cc
+
+-- what follows a case that went
+pub on : {D : Type 0} (a : Result (Unit {0}) ArchiveFault) (ws : List (Going D)) (rest : List ℕ) (after mid : Parts D) (T : Type 0) → GoesOn a ws rest (Ok tt) after mid T → T
+on (Ok u) ws rest after mid T goes = goes
+on (Err f) ws rest after mid T goes = absurd (ok_err tt f goes.2)
+
+back : {D : Type 0} (a v : Result (Unit {0}) ArchiveFault) (ws ws' : List (Going D)) (rest rest' : List ℕ) (after mid new : Parts D) (T T' : Type 0) → GoesOn a ws rest (Ok tt) after mid T → T' → GoesOn a ws' rest' v after new T'
+back (Ok u) v ws ws' rest rest' after mid new T T' goes t = t
+back (Err f) v ws ws' rest rest' after mid new T T' goes t = absurd (ok_err tt f goes.2)
+
+-- a case that is followed by bytes that are taken went
+pub answered : {D : Type 0} (a : Result (Unit {0}) ArchiveFault) (ws : List (Going D)) (rest : List ℕ) (after mid : Parts D) (T : Type 0) → GoesOn a ws rest (Ok tt) after mid T → (u : Unit {0}) × (a ≡ Ok u)
+answered (Ok u) ws rest after mid T goes = (u, refl)
+answered (Err f) ws rest after mid T goes = absurd (ok_err tt f goes.2)
+
+-- what follows a case that went, or could not be deleted
+pub either : {D : Type 0} (a v : Result (Unit {0}) ArchiveFault) (ws : List (Going D)) (rest : List ℕ) (after new : Parts D) (T R : Type 0) → GoesOn a ws rest v after new T → (T → R) → (ws ≡ [] → new ≡ after → R) → R
+either (Ok u) v ws rest after new T R goes f h = f goes
+either (Err e) v ws rest after new T R goes f h = h goes.0 goes.3
+
+module _ (file file' : Option (List ℕ)) (fails fails' : ℕ) (T T' : List ℕ → Result (Unit {0}) ArchiveFault → Type 0) (front rest : List ℕ) (more : (x : List ℕ) (v : Result (Unit {0}) ArchiveFault) → T x v → T' (front ++ x) v) where
+  map_more : (result : Result Bool TakeStop) → TakesMore file file' fails fails' rest T result → TakesMore file file' fails fails' (front ++ rest) T' result
+  map_more (Ok true) (raw, c, some, same, t) = (raw, c, some, same, subst (λ (x : List ℕ). T' x (Ok tt)) (sym (append_assoc front rest raw)) (more (rest ++ raw) (Ok tt) t))
+  map_more (Ok false) (c, ends, same, t) = (c, ends, same, more rest (Ok tt) t)
+  map_more (Err File) (c, rose, t) = (c, rose, more rest (Ok tt) t)
+  map_more (Err (Refused f)) (raw, c, same, t) = (raw, c, same, subst (λ (x : List ℕ). T' x (Err f)) (sym (append_assoc front rest raw)) (more (rest ++ raw) (Err f) t))
+
+module _ {D : Type 0} (g : disk.Ghosts D) where
+  -- the last bytes, which were taken since the last case went
+  pub last_takes : (gone : List (Going D)) (old mid : Parts D) (raw : List ℕ) → TakesWhile g old raw gone (Ok tt) mid → (begun : Parts D) × (so_far : List ℕ) × Takes g begun 0 so_far (Ok tt) mid
+  last_takes [] old mid raw takes = (old, raw, takes)
+  last_takes (w ∷ ws) old mid raw takes = last_takes ws w.after mid takes.1 (on w.answer ws takes.1 w.after mid (TakesWhile g w.after takes.1 ws (Ok tt) mid) takes.5)
+
+  -- a step of the stream alone is one while cases go
+  pub lift_more : (file file' : Option (List ℕ)) (fails fails' : ℕ) (gone : List (Going D)) (old mid new : Parts D) (raw : List ℕ) (result : Result Bool TakeStop) → TakesWhile g old raw gone (Ok tt) mid
+      → ((begun : Parts D) (so_far : List ℕ) → Takes g begun 0 so_far (Ok tt) mid → TakesMore file file' fails fails' so_far (λ x v. Takes g begun 0 x v new) result)
+      → TakesMore file file' fails fails' raw (λ x v. TakesWhile g old x gone v new) result
+  lift_more file file' fails fails' [] old mid new raw result takes step = step old raw takes
+  lift_more file file' fails fails' (w ∷ ws) old mid new raw result takes step =
+      let tail = on w.answer ws takes.1 w.after mid (TakesWhile g w.after takes.1 ws (Ok tt) mid) takes.5 in
+      subst (λ (x : List ℕ). TakesMore file file' fails fails' x (λ y v. TakesWhile g old y (w ∷ ws) v new) result) (sym takes.2)
+      (map_more file file' fails fails' (λ x v. TakesWhile g w.after x ws v new) (λ y v. TakesWhile g old y (w ∷ ws) v new) takes.0 takes.1
+      (λ x v t. (takes.0, x, refl, takes.3, takes.4, back w.answer v ws ws takes.1 x w.after mid new (TakesWhile g w.after takes.1 ws (Ok tt) mid) (TakesWhile g w.after x ws v new) takes.5 t))
+      result (lift_more file file' fails fails' ws w.after mid new takes.1 result tail step))
+
+  -- one case more goes
+  add_gone : (gone : List (Going D)) (old new : Parts D) (raw : List ℕ) (w : Going D) (v : Result (Unit {0}) ArchiveFault) → TakesWhile g old raw gone (Ok tt) w.before → IsGoing g w
+      → GoesOn w.answer [] [] v w.after new (Takes g w.after 0 [] v new) → TakesWhile g old raw (gone ++ w ∷ []) v new
+  add_gone [] old new raw w v takes going last = (raw, [], sym (append-nil raw), takes, going, last)
+  add_gone (x ∷ xs) old new raw w v takes going last =
+      let tail = on x.answer xs takes.1 x.after w.before (TakesWhile g x.after takes.1 xs (Ok tt) w.before) takes.5 in (
+        takes.0,
+        takes.1,
+        takes.2,
+        takes.3,
+        takes.4,
+        back x.answer v xs (xs ++ w ∷ []) takes.1 takes.1 x.after w.before new (TakesWhile g x.after takes.1 xs (Ok tt) w.before) (TakesWhile g x.after takes.1 (xs ++ w ∷ []) v new) takes.5
+            (add_gone xs x.after new takes.1 w v tail going last),
+      )
+
+at_again : {X : Type 0} (xs : List (Option X)) (slot : ℕ) (x : X) → stream_at xs slot ≡ Some x → slice_set xs slot (Some x) ≡ xs
+at_again [] slot x is = refl
+at_again (y ∷ ys) zero x is = ap (λ (o : Option _). o ∷ ys) (sym is)
+at_again (y ∷ ys) (suc slot) x is = ap (λ zs. y ∷ zs) (at_again ys slot x is)
+
+-- an open stream has taken no bytes since now
+open_step : (a : ArchiveState) (s : StreamFacts) → a.stopped ≡ false → stream_at a.streams 0 ≡ Some s → s.len ≤ a.limit → TakeStep a 0 0 (Ok tt) a
+open_step a s runs there small = (
+  s,
+  (runs, there),
+  (omega (arith, small), λ m wall. omega (arith, wall.1)),
+  s.blocks,
+  ap (λ (xs : List (Option StreamFacts)). record a { streams = xs })
+      (sym (ap (λ (n : ℕ). slice_set a.streams 0 (Some (record s { len = n }))) (omega arith) ∙ at_again a.streams 0 s there)),
+  (0, omega arith, refl),
+)
+
+open_bytes : (c : Contents) (t : Taken) → stream_at c.taken 0 ≡ Some t → TakeBytes c 0 [] (Ok tt) c
+open_bytes c t there = (
+  t,
+  t.free,
+  there,
+  ap (λ (xs : List (Option Taken)). record c { taken = xs })
+      (sym (ap (λ (bs : List ℕ). slice_set c.taken 0 (Some (record { bytes = bs; free = t.free }))) (append-nil t.bytes) ∙ at_again c.taken 0 t there)),
+)
+
+module _ {D : Type 0} (g : disk.Ghosts D) (begun before after : Parts D) (so_far : List ℕ) (seq : ℕ) (u : Unit {0}) (takes : Takes g begun 0 so_far (Ok tt) before) (deletes : DeleteCall g before seq (Ok u) after) where
+  -- the stream that takes bytes
+  abbrev stream : StreamFacts
+  stream = longer takes.step.0 (length so_far) takes.step.3
+
+  there_before : stream_at (state_of before).streams 0 ≡ Some stream
+  there_before =
+      ap (λ (x : ArchiveState). stream_at x.streams 0) takes.step.4 ∙ at_set (state_of begun).streams 0 takes.step.0 (Some stream) takes.step.1.1
+
+  state_then : TakeStep (state_of after) 0 0 (Ok tt) (state_of after)
+  state_then =
+      let e = deletes.step.4 in
+      open_step (state_of after) stream
+      (ap (λ (x : ArchiveState). x.stopped) e ∙ ap (λ (x : ArchiveState). x.stopped) takes.step.4 ∙ takes.step.1.0)
+      (ap (λ (x : ArchiveState). stream_at x.streams 0) e ∙ there_before)
+      (let small = takes.step.2.0 in let limit : (state_of after).limit ≡ (state_of begun).limit = ap (λ (x : ArchiveState). x.limit) e ∙ ap (λ (x : ArchiveState). x.limit) takes.step.4 in omega (arith, small, limit))
+
+  bytes_then : IsTrue (g.is_honest before.disk) → IsTrue (g.is_honest begun.disk) → TakeBytes (contents_of g.seen after) 0 [] (Ok tt) (contents_of g.seen after)
+  bytes_then honest first =
+      let b = takes.bytes first in
+      let t : Taken = record { bytes = b.0.bytes ++ so_far; free = b.1 } in
+      open_bytes (contents_of g.seen after) (record { bytes = b.0.bytes ++ so_far; free = b.1 })
+      (ap (λ (x : Contents). stream_at x.taken 0) (deletes.bytes honest) ∙ ap (λ (x : Contents). stream_at x.taken 0) b.3
+      ∙ at_set (contents_of g.seen begun).taken 0 b.0 (Some (record { bytes = b.0.bytes ++ so_far; free = b.1 })) b.2)
+
+  pub still_takes : Takes g after 0 [] (Ok tt) after
+  still_takes = record {
+    step = state_then;
+    bytes = λ honest.
+        (let was : IsTrue (g.is_honest before.disk) = sym deletes.changes.disk.honesty ∙ honest in
+        bytes_then was (sym takes.stays.honesty ∙ was));
+    cause = λ fault. absurd fault;
+    stays = stays_none g after;
+  }
+
+-- the answer after the byte, where room was made or was not
+abbrev pub first_then : Result (Unit {0}) TakeStop → Result Bool TakeStop
+first_then (Ok u) = Ok true
+first_then (Err stop) = Err stop
+
+pub texts_more : {D : Type 0} (xs ys : List (Going D)) → flat_map going_text (xs ++ ys) ≡ flat_map going_text xs ++ flat_map going_text ys
+texts_more [] ys = refl
+texts_more (x ∷ xs) ys = ap (λ (t : List ℕ). going_text x ++ t) (texts_more xs ys) ∙ sym (append_assoc (going_text x) (flat_map going_text xs) (flat_map going_text ys))
+
+-- nothing was lacking
+pub room_none : {D : Type 0} (g : disk.Ghosts D) (begun : Parts D) (so_far : List ℕ) (gone : List (Going D)) (a : Sink) (mid : Parts D) → TakesWhile g begun so_far gone (Ok tt) mid
+    → MakesRoom g begun so_far gone (record { before = a; after = a }) mid (Ok tt)
+room_none {D} g begun so_far gone a mid takes = ([], tells_nothing, subst (λ (l : List (Going D)). TakesWhile g begun so_far l (Ok tt) mid) (sym (append-nil gone)) takes)
+
+module _ {D : Type 0} (g : disk.Ghosts D) (begun : Parts D) (so_far : List ℕ) (gone : List (Going D)) (a b : Sink) (mid new : Parts D) (seq : ℕ) (takes : TakesWhile g begun so_far gone (Ok tt) mid) where
+  -- a case goes
+  pub one_gone : (u : Unit {0}) → IsGoing g (record { before = mid; seq = seq; answer = Ok u; after = new })
+      → TellsText (record { before = a; after = b }) (going_text (record { before = mid; seq = seq; answer = Ok u; after = new })) → GoesNext g begun so_far gone (record { before = a; after = b }) new (Ok true)
+  one_gone u going tells =
+      let l = last_takes g gone begun mid so_far takes in (
+        record { before = mid; seq = seq; answer = Ok u; after = new } ∷ [],
+        tells_as (sym (append-nil (going_text (record { before = mid; seq = seq; answer = Ok u; after = new })))) tells,
+        add_gone g gone begun new so_far (record { before = mid; seq = seq; answer = Ok u; after = new }) (Ok tt) takes going
+            (still_takes g l.0 mid new l.1 seq u l.2 going.deletes),
+      )
+
+  -- a case could not be deleted
+  pub one_stuck : (f : ArchiveFault) → IsGoing g (record { before = mid; seq = seq; answer = Err f; after = new })
+      → GoesNext g begun so_far gone (record { before = a; after = a }) new (Err (Refused f))
+  one_stuck f going = (
+    record { before = mid; seq = seq; answer = Err f; after = new } ∷ [],
+    tells_nothing,
+    add_gone g gone begun new so_far (record { before = mid; seq = seq; answer = Err f; after = new }) (Err f) takes going (refl, refl, refl, refl),
+  )
+
+-- what is taken next
+module _ {D : Type 0} (g : disk.Ghosts D) (file file' : Option (List ℕ)) (fails fails' : ℕ) (begun old mid new : Parts D) (so_far : List ℕ) (gone : List (Going D)) (fit : Bool) where
+  more_as : (xs ys : List (Going D)) (a : Parts D) → xs ≡ ys → (x : List ℕ) (r : Result Bool TakeStop) → TakesMore file file' fails fails' x (λ y v. TakesWhile g begun y xs v a) r → TakesMore file file' fails fails' x (λ y v. TakesWhile g begun y ys v a) r
+  more_as xs ys a is x r t = subst (λ (l : List (Going D)). TakesMore file file' fails fails' x (λ y v. TakesWhile g begun y l v a) r) is t
+
+  -- nothing goes
+  pub next_alone : (a : Sink) (r : Result Bool TakeStop) → TakesWhile g begun so_far gone (Ok tt) old
+      → ((b : Parts D) (x : List ℕ) → Takes g b 0 x (Ok tt) old → TakesMore file file' fails fails' x (λ y v. Takes g b 0 y v new) r)
+      → TakesNext g file file' fails fails' begun so_far gone fit (record { before = a; after = a }) new r
+  next_alone a r takes step =
+      ([], tells_nothing, more_as gone (gone ++ []) new (sym (append-nil gone)) so_far r (lift_more g file file' fails fails' gone begun old new so_far r takes step), λ no. refl)
+
+  -- cases may go
+  pub next_as : (a b : Sink) (r : Result Bool TakeStop) → fit ≡ true → TakesNext g file file' fails fails' begun so_far gone true (record { before = a; after = b }) new r
+      → TakesNext g file file' fails fails' begun so_far gone fit (record { before = a; after = b }) new r
+  next_as a b r is next = subst (λ (f : Bool). TakesNext g file file' fails fails' begun so_far gone f (record { before = a; after = b }) new r) (sym is) next
+
+  -- one byte is taken, and then cases go
+  room_then_next : (a b : Sink) (r : Result (Unit {0}) TakeStop) (first : TakesMore file file' fails fails' so_far (λ y v. TakesWhile g begun y gone v mid) (Ok true))
+      → MakesRoom g begun (so_far ++ first.0) gone (record { before = a; after = b }) new r → TakesNext g file file' fails fails' begun so_far gone true (record { before = a; after = b }) new (first_then r)
+  room_then_next a b (Ok u) first room = (room.0, room.1, (first.0, first.1, first.2, first.3, room.2), λ no. absurd (true≢false no))
+  room_then_next a b (Err File) first room = absurd room.2
+  room_then_next a b (Err (Refused f)) first room = (room.0, room.1, (first.0, first.1, first.3, room.2), λ no. absurd (true≢false no))
+
+  pub next_then : (a b : Sink) (r : Result (Unit {0}) TakeStop) → TakesWhile g begun so_far gone (Ok tt) old
+      → ((x : Parts D) (s : List ℕ) → Takes g x 0 s (Ok tt) old → TakesMore file file' fails fails' s (λ y v. Takes g x 0 y v mid) (Ok true))
+      → ((x : Parts D) (s : List ℕ) (l : List (Going D)) → TakesWhile g x s l (Ok tt) mid → MakesRoom g x s l (record { before = a; after = b }) new r)
+      → TakesNext g file file' fails fails' begun so_far gone true (record { before = a; after = b }) new (first_then r)
+  next_then a b r takes step room =
+      let first = lift_more g file file' fails fails' gone begun old mid so_far (Ok true) takes step in
+      room_then_next a b r first (room begun (so_far ++ first.0) gone first.4)
+
+module _ {D : Type 0} (g : disk.Ghosts D) (begun : Parts D) (so_far : List ℕ) (gone : List (Going D)) (a b c : Sink) (new : Parts D) where
+  after_as : (xs ys : List (Going D)) → xs ≡ ys → (r : Result (Unit {0}) TakeStop) → AfterRoom (λ raw v. TakesWhile g begun raw xs v new) so_far r → AfterRoom (λ raw v. TakesWhile g begun raw ys v new) so_far r
+  after_as xs ys is r t = subst (λ (l : List (Going D)). AfterRoom (λ raw v. TakesWhile g begun raw l v new) so_far r) is t
+
+  -- room that is made in two steps
+  pub room_then : (r : Result (Unit {0}) TakeStop) (first : List (Going D)) → TellsText (record { before = a; after = b }) (flat_map going_text first)
+      → MakesRoom g begun so_far (gone ++ first) (record { before = b; after = c }) new r → MakesRoom g begun so_far gone (record { before = a; after = c }) new r
+  room_then r first tells more = (
+    first ++ more.0,
+    tells_as (sym (texts_more first more.0)) (tells_then tells more.1),
+    after_as ((gone ++ first) ++ more.0) (gone ++ (first ++ more.0)) (append_assoc gone first more.0) r more.2,
+  )

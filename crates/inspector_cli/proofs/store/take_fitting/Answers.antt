@@ -1,0 +1,9 @@
+use Rattle.std.proofs.Common.{true}
+use Rattle.script_streams.specs.Telling.{sink}
+use Rattle.inspector_cli.proofs.FitLemmas.{next_alone}
+use Rattle.inspector_cli.proofs.store.take_fitting.Goals as goal
+
+pub returns-then-not-lacks_block : goal.returns-then-not-lacks_block
+returns-then-not-lacks_block g c = λ begun so_far gone takes.
+    next_alone g.D.Disk (g.I.Input.remaining c.args.file.now) (g.I.Input.remaining c.take_more.new.file) (g.I.Input.failures c.args.file.now) (g.I.Input.failures c.take_more.new.file)
+    begun c.args.archive.now c.args.archive.now c.take_more.new.archive so_far gone true (sink g.O.Output c.args.reply.now) c.take_more.result takes c.take_more.ensures

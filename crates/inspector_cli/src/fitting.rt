@@ -1,0 +1,124 @@
+// Cases that go, one by one, so that a stream finds room.
+ghost use Rattle.std.specs.Prelude.{◌≡◌, ℕ, List, Ok, IfSome, true, map, option_map};
+ghost use Rattle.std.specs.List.{find};
+ghost use Rattle.intake.specs.Parts.{Parts, state_of};
+ghost use Rattle.journal_layout.specs.Case.{case_of};
+ghost use Rattle.script_streams.specs.Replies.{TellsText, telling};
+ghost use Rattle.archive_replies.specs.Texts.{dropped_line};
+ghost use Rattle.inspector_cli.specs.Fitting.{Going, TakesWhile, HasNoBlock, IsNext, goes, goes_first};
+ghost use Rattle.inspector_cli.specs.Storing.{GoesNext, MakesRoom};
+
+use crate::store::TakeStop;
+use disk_model::Disk;
+use intake::Archive;
+use journal_layout::{Entry, Kind};
+use script_streams::{Output, Reply};
+
+// The most cases that an archive may have.
+const MOST_CASES: u64 = 1 << 32;
+
+// Deletes the cases that go next, and tells them, until a data block is free or no case may go. A case that can't be deleted refuses
+// the stream in slot 0.
+pub(crate) fn make_room<O: Output, D: Disk>(
+    reply: &mut Reply<'_, O>,
+    archive: &mut Archive<D>,
+) -> Result<(), TakeStop>
+    ensures { (begun : Parts D) (so_far : List ℕ) (gone : List (Going D))
+        → TakesWhile D.Disk begun so_far gone (Ok tt) archive.old
+        → MakesRoom D.Disk begun so_far gone (telling O.Output reply.old reply.new) archive.new result }
+{
+    for _ in 0..MOST_CASES {
+        let is_gone = drop_if_full(reply, archive)?;
+        if !is_gone {
+            return Ok(());
+        }
+    }
+    Ok(())
+}
+
+// Deletes the case that goes next, and tells it, if no data block is free. Says whether one went.
+fn drop_if_full<O: Output, D: Disk>(
+    reply: &mut Reply<'_, O>,
+    archive: &mut Archive<D>,
+) -> Result<bool, TakeStop>
+    ensures { (begun : Parts D) (so_far : List ℕ) (gone : List (Going D))
+        → TakesWhile D.Disk begun so_far gone (Ok tt) archive.old
+        → GoesNext D.Disk begun so_far gone (telling O.Output reply.old reply.new) archive.new result }
+{
+    if !lacks_block(archive) {
+        return Ok(false);
+    }
+    let Some(seq) = next_number(archive) else {
+        return Ok(false);
+    };
+    match archive.delete(seq) {
+        Ok(()) => {
+            tell_gone(reply, seq);
+            Ok(true)
+        }
+        Err(fault) => Err(TakeStop::Refused(fault)),
+    }
+}
+
+// Whether no data block is free.
+pub(crate) fn lacks_block<D: Disk>(archive: &Archive<D>) -> bool
+    ensures { result ≡ true → HasNoBlock (state_of archive.now) }
+{
+    match archive.free_blocks() {
+        Ok(space) => space.free == 0,
+        Err(_) => false,
+    }
+}
+
+// The number of the case that goes next, if one may.
+fn next_number<D: Disk>(archive: &Archive<D>) -> Option<u32>
+    ensures { IfSome result (λ seq. IsNext (state_of archive.now).cases seq) }
+{
+    match archive.cases() {
+        Ok(cases) => next_of(cases),
+        Err(_) => None,
+    }
+}
+
+// The number of the case that goes next, of cases in the order of their numbers.
+fn next_of(cases: &[Entry]) -> Option<u32>
+    ensures { IfSome result (λ seq. IsNext (map case_of cases.now) seq) }
+{
+    match first_core(cases) {
+        Some(core) => Some(core.seq),
+        None => match first_loose(cases) {
+            Some(case) => Some(case.seq),
+            None => None,
+        },
+    }
+}
+
+// The first core that is not pinned.
+fn first_core(cases: &[Entry]) -> Option<&Entry>
+    ensures { option_map (λ (e : _). e.now) result ≡ find goes_first cases.now }
+{
+    cases.iter().find(|case| is_loose_core(case))
+}
+
+// The first case that is not pinned.
+fn first_loose(cases: &[Entry]) -> Option<&Entry>
+    ensures { option_map (λ (e : _). e.now) result ≡ find goes cases.now }
+{
+    cases.iter().find(|case| !case.pinned)
+}
+
+// Whether this is a core that is not pinned.
+fn is_loose_core(case: &Entry) -> bool
+    ensures { result ≡ goes_first case.now }
+{
+    !case.pinned && case.kind == Kind::Core
+}
+
+// Tells a case that went.
+fn tell_gone<O: Output>(reply: &mut Reply<'_, O>, seq: u32)
+    ensures { TellsText (telling O.Output reply.old reply.new) (dropped_line seq) }
+{
+    reply.tell(b"dropped ");
+    reply.tell_decimal(u128::from(seq));
+    reply.tell(b"\n");
+}
