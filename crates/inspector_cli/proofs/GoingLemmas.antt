@@ -56,7 +56,7 @@ some_left : (y : Case) (ys : List Case) → y ∷ ys ≡ [] → ⊥
 some_left y ys e = cc
 
 fewer_step : (x : Case) (xs : List Case) (t : Bool) → x.pinned ≡ t → cond (not t) (x ∷ filter may_go xs) (filter may_go xs) ≡ [] → (filter may_go xs ≡ [] → filter may_go_first xs ≡ []) → filter may_go_first (x ∷ xs) ≡ []
-fewer_step x xs true so is more = ap (λ (b : Bool). cond (not b && is_core x.kind) (x ∷ filter may_go_first xs) (filter may_go_first xs)) so ∙ more is
+fewer_step x xs true so is more = ap (λ (b : Bool). cond (not b && is_core x.origin.kind) (x ∷ filter may_go_first xs) (filter may_go_first xs)) so ∙ more is
 fewer_step x xs false never is more = absurd (some_left x (filter may_go xs) is)
 
 -- a core that may go is a case that may
@@ -66,12 +66,12 @@ fewer (x ∷ xs) is = fewer_step x xs x.pinned refl is (λ e. fewer xs e)
 
 module _ (cases : List Case) (c : Case) where
   abbrev Goes : Type 0
-  Goes = (c.pinned ≡ false) × (front : List Case) × (back : List Case) × (cases ≡ front ++ c ∷ back) × (filter may_go_first front ≡ []) × (is_core c.kind ≡ false → (filter may_go_first cases ≡ []) × (filter may_go front ≡ []))
+  Goes = (c.pinned ≡ false) × (front : List Case) × (back : List Case) × (cases ≡ front ++ c ∷ back) × (filter may_go_first front ≡ []) × (is_core c.origin.kind ≡ false → (filter may_go_first cases ≡ []) × (filter may_go front ≡ []))
 
   goes_by : (o : Option Case) → find may_go_first cases ≡ o → or_else o (find may_go cases) ≡ Some c → Goes
   goes_by (Some x) found is =
       let m = found_first may_go_first cases c (found ∙ is) in
-      let both = both_true (not c.pinned) (is_core c.kind) m.is in
+      let both = both_true (not c.pinned) (is_core c.origin.kind) m.is in
       (loose c.pinned both.0, m.front, m.back, m.cut, m.none, λ exec. absurd (true≢false (sym both.1 ∙ exec)))
   goes_by None found is =
       let m = found_first may_go cases c is in

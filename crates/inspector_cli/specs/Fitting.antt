@@ -23,7 +23,7 @@ may_go c = not c.pinned
 
 -- a core that is not pinned
 abbrev pub may_go_first : Case → Bool
-may_go_first c = not c.pinned && is_core c.kind
+may_go_first c = not c.pinned && is_core c.origin.kind
 
 -- the same of the entry of a case
 abbrev pub goes : Entry → Bool
@@ -86,7 +86,7 @@ TakesWhile g old raw (w ∷ ws) r new =
 -- archive may go.
 abbrev pub TheFirstGoes : Type 0
 TheFirstGoes = (cases : List Case) (c : Case) → next_to_go cases ≡ Some c
-    → (c.pinned ≡ false) × (front : List Case) × (back : List Case) × (cases ≡ front ++ c ∷ back) × (filter may_go_first front ≡ []) × (is_core c.kind ≡ false → (filter may_go_first cases ≡ []) × (filter may_go front ≡ []))
+    → (c.pinned ≡ false) × (front : List Case) × (back : List Case) × (cases ≡ front ++ c ∷ back) × (filter may_go_first front ≡ []) × (is_core c.origin.kind ≡ false → (filter may_go_first cases ≡ []) × (filter may_go front ≡ []))
 
 -- Where none goes next, all are pinned.
 abbrev pub AllArePinned : Type 0
