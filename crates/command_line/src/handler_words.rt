@@ -2,18 +2,18 @@
 use std::alloc::{AllocError, Global};
 
 // What kind of word it is.
-#[derive(Clone, Copy, PartialEq, Eq)]
+#[derive(Clone, Copy, Debug, PartialEq, Eq)]
 enum Kind {
-    // An option, with its value if it has one.
+    // An option that is known, or the value of one.
     Known,
-    // An option whose value is the next word.
-    BeforeValue,
-    // Any other.
-    Other,
+    // Another word: the configuration, or a pair.
+    Plain,
+    // An option that is not known.
+    Unknown,
 }
 
-// The words of `handle` in an order in which none is refused: its options, and then, after `--`, the others. What is no pair of the
-// grammar is then told and left out. Nothing if the words are not those of `handle`.
+// The words of `handle` in an order in which none is refused: its options, and then, after `--`, the others, those last that are no
+// option that is known. These are then told and left out. Nothing if the words are not those of `handle`.
 pub(crate) fn in_order(alloc: Global, words: &[String]) -> Result<Option<Vec<String>>, AllocError> {
     let Some((command, rest)) = words.split_first() else {
         return Ok(None);
@@ -23,30 +23,32 @@ pub(crate) fn in_order(alloc: Global, words: &[String]) -> Result<Option<Vec<Str
     }
     let mut ordered = Vec::new(alloc);
     ordered.push(command.clone()?)?;
-    push_all(&mut ordered, rest, true)?;
+    push_all(&mut ordered, rest, Kind::Known)?;
     ordered.push(String::from_str(alloc, "--")?)?;
-    push_all(&mut ordered, rest, false)?;
+    push_all(&mut ordered, rest, Kind::Plain)?;
+    push_all(&mut ordered, rest, Kind::Unknown)?;
     Ok(Some(ordered))
 }
 
-// Adds the options with their values, or the other words.
-fn push_all(ordered: &mut Vec<String>, words: &[String], are_known: bool) -> Result<(), AllocError> {
+// Adds the words of this kind.
+fn push_all(ordered: &mut Vec<String>, words: &[String], wanted: Kind) -> Result<(), AllocError> {
     let mut is_value = false;
     for word in words {
-        let kind = kind_of(word);
-        if (is_value || kind != Kind::Other) == are_known {
+        let kind = if is_value { Kind::Known } else { kind_of(word) };
+        if kind == wanted {
             ordered.push(word.clone()?)?;
         }
-        is_value = !is_value && kind == Kind::BeforeValue;
+        is_value = !is_value && word.as_str() == "--archive";
     }
     Ok(())
 }
 
+// The kind of a word that is no option's value.
 fn kind_of(word: &str) -> Kind {
     match word {
-        "--check" | "--help" | "-h" => Kind::Known,
-        "--archive" => Kind::BeforeValue,
+        "--check" | "--help" | "-h" | "--archive" => Kind::Known,
         _ if word.starts_with("--archive=") => Kind::Known,
-        _ => Kind::Other,
+        _ if word.starts_with('-') => Kind::Unknown,
+        _ => Kind::Plain,
     }
 }
