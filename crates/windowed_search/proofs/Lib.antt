@@ -1,3 +1,6 @@
 pub mod Windowing
 pub mod Texting
 pub mod Memory
+pub mod Values
+pub mod MemorySearching
+pub mod RisingLemmas

@@ -3,3 +3,5 @@ pub mod SearchWords
 pub mod Texts
 pub mod TextWords
 pub mod Runs
+pub mod MemoryWords
+pub mod Rising
