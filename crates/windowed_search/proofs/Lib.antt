@@ -4,3 +4,4 @@ pub mod Memory
 pub mod Values
 pub mod MemorySearching
 pub mod RisingLemmas
+pub mod PlanLemmas

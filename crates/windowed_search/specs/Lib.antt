@@ -5,3 +5,4 @@ pub mod TextWords
 pub mod Runs
 pub mod MemoryWords
 pub mod Rising
+pub mod StepWords

@@ -5,6 +5,7 @@ mod laws;
 mod memory_search;
 mod rising;
 mod search;
+mod steps;
 mod text_search;
 mod within;
 
@@ -14,4 +15,5 @@ pub use laws::{
 };
 pub use memory_search::MemorySearch;
 pub use search::Search;
+pub use steps::{Step, plan};
 pub use text_search::TextSearch;
