@@ -1,17 +1,18 @@
 -- Steps for the stretches of a range.
-use Rattle.std.proofs.Common.{◌≡◌, ◌<◌, ◌≤◌, ℕ, zero, suc, ◌+◌, ◌-◌, ◌^◌, cond, Bool, true, false, List, [], ◌∷◌, ◌++◌, length, map, refl, sym, ap, subst, ◌∙◌, arith, inl, inr}
+use Rattle.std.proofs.Common.{◌≡◌, ◌<◌, ◌≤◌, ℕ, zero, suc, ◌+◌, ◌-◌, ◌^◌, cond, Bool, true, false, List, [], ◌∷◌, ◌++◌, length, map, replicate, refl, sym, ap, subst, ◌∙◌, arith, inl, inr}
 use Rattle.std.proofs.lemmas.Bool.{cases_Bool, cond-true, cond-false}
-use Rattle.std.proofs.lemmas.List.{append_cancel_right}
+use Rattle.std.proofs.lemmas.List.{append_cancel_right, length-append, length-replicate}
+use Rattle.std.proofs.Math.Seq.{take-append_seam}
 use Rattle.std.specs.List.{flat_map}
 use Rattle.elf_view.specs.Header.{SegmentView}
 use Rattle.address_space.specs.Source.{Space}
 use Rattle.address_space.specs.Pieces.{PieceView, grown, is_same_at, piece_of, pieces_of, stretches}
 use Rattle.address_space.specs.StretchWords.{IsWithin, piece_in}
-use Rattle.address_space.specs.Whole.{AreHeldWithin}
+use Rattle.address_space.specs.Whole.{AreHeldWithin, IsFrontOf}
 use Rattle.address_space.specs.declared.source.Stretch.{Stretch}
 use Rattle.memory_replies.specs.Texts.{content_bytes, values_between}
 use Rattle.memory_replies.proofs.PieceLemmas.{pieces_are}
-use Rattle.windowed_search.specs.StepWords.{IsNextStep, Leads, bytes_of, count_of, place_after}
+use Rattle.windowed_search.specs.StepWords.{IsNextStep, Leads, StepsFit, bytes_of, count_of, place_after}
 use Rattle.windowed_search.specs.Runs.{values_from}
 use Rattle.windowed_search.specs.declared.steps.Step.{Step}
 use Rattle.windowed_search.proofs.Values.{values_split}
@@ -138,3 +139,21 @@ at_end image space n p steps left so_far none =
     let done = nothing_left space so_far.address (n - so_far.address) (sym so_far.pieces ∙ none) in
     let last : so_far.address ≡ n = omega (arith, low, done) in
     subst (Leads image space 0 0 steps p) last so_far.leads
+
+leads_up : (image : List ℕ) (space : Space) (steps : List Step) (p a q b : ℕ) → Leads image space p a steps q b → a ≤ b
+leads_up image space [] p a q b leads = (let same = leads.1 in omega (arith, same))
+leads_up image space (s ∷ ss) p a q b leads = (let more = leads_up image space ss (place_after p s) (a + count_of s) q b leads.2 in omega (arith, more))
+
+pub leads_fit : (image : List ℕ) (space : Space) (size : ℕ) (steps : List Step) (p a q b : ℕ) → length image ≡ size → b < 2 ^ 64 → Leads image space p a steps q b → StepsFit size p a steps
+leads_fit image space size [] p a q b long bound leads = tt
+leads_fit image space size (s ∷ ss) p a q b long bound leads =
+    let low = leads_up image space ss (place_after p s) (a + count_of s) q b leads.2 in
+    let within = leads.1 in
+    (omega (arith, within, long), omega (arith, low, bound), leads_fit image space size ss (place_after p s) (a + count_of s) q b long bound leads.2)
+
+-- an image of that size which begins with these bytes
+pub some_image : (front : List ℕ) (size : ℕ) → length front ≤ size → IsFrontOf front size (front ++ replicate (size - length front) 0)
+some_image front size short =
+    let long = length-append front (replicate (size - length front) 0) in
+    let rest = length-replicate {A = ℕ} (size - length front) 0 in
+    (omega (arith, long, rest, short), sym (take-append_seam front (replicate (size - length front) 0)))

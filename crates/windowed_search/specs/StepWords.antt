@@ -1,5 +1,5 @@
 -- How the memory of a core is gone through while its image is read once, from the front to the end.
-use Rattle.std.specs.Prelude.{◌≡◌, ◌≤◌, ℕ, ◌+◌, ◌-◌, ◌^◌, List, [], ◌∷◌, length}
+use Rattle.std.specs.Prelude.{◌≡◌, ◌<◌, ◌≤◌, ℕ, ◌+◌, ◌-◌, ◌^◌, List, [], ◌∷◌, length, ⊤}
 use Rattle.elf_view.specs.Field.{part}
 use Rattle.address_space.specs.Source.{Space}
 use Rattle.address_space.specs.StretchWords.{IsWithin, shown_in}
@@ -42,3 +42,8 @@ pub record IsNextStep (p : ℕ) (s : Stretch) (step : Step) : Type 0 where
   pub count : count_of step ≡ s.length
   pub bytes : (image : List ℕ) → content_bytes (shown_in image s.length s.kind) ≡ bytes_of image p step
   pub fits : (past : ℕ) → p ≤ past → IsWithin 0 past s.length s.kind → place_after p step ≤ past
+
+-- The steps stay within an image of that size and below the end of the addresses.
+abbrev pub StepsFit : ℕ → ℕ → ℕ → List Step → Type 0
+StepsFit size p a [] = ⊤
+StepsFit size p a (s ∷ ss) = (place_after p s ≤ size) × (a + count_of s < 2 ^ 64) × StepsFit size (place_after p s) (a + count_of s) ss

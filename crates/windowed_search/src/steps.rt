@@ -1,10 +1,10 @@
 // How the memory of a core is gone through while its image is read once, from the front to the end.
-ghost use Rattle.std.specs.Prelude.{◌≡◌, ◌+◌, ◌<◌, ◌≤◌, ◌^◌, ◌-◌, ℕ, List, IfOk, IfSome, true};
+ghost use Rattle.std.specs.Prelude.{◌≡◌, ◌+◌, ◌<◌, ◌≤◌, ◌^◌, ◌-◌, ℕ, List, IfOk, IfSome, length, true};
 ghost use Rattle.address_space.specs.SpaceWords.{core_of, space_of};
 ghost use Rattle.address_space.specs.Whole.{IsFrontOf, space_in};
 ghost use Rattle.elf_view.specs.Header.{segments_of};
 ghost use Rattle.elf_view.specs.ViewWords.{image_of};
-ghost use Rattle.windowed_search.specs.StepWords.{IsNextStep, IsWholeWay, place_after};
+ghost use Rattle.windowed_search.specs.StepWords.{IsNextStep, IsWholeWay, StepsFit, place_after};
 ghost use Rattle.windowed_search.specs.Rising.{IsRising};
 
 use crate::rising::is_rising;
@@ -81,8 +81,9 @@ fn steps_of<'a>(
     space: &AddressSpace<'a>,
     size: u64,
 ) -> Result<Option<Vec<Step<'a>>>, AllocError>
-    ensures { IfOk result (λ o. IfSome o (λ v. (image : List ℕ) → IsFrontOf (core_of space.now) size image
+    ensures way { IfOk result (λ o. IfSome o (λ v. (image : List ℕ) → IsFrontOf (core_of space.now) size image
         → IsWholeWay image (space_in image (space_of space.now)) v.items)) }
+    ensures fits { IfOk result (λ o. IfSome o (λ v. length (core_of space.now) ≤ size → StepsFit size 0 0 v.items)) }
 {
     let mut steps = Vec::new(alloc);
     let mut at = 0;
@@ -110,6 +111,7 @@ pub fn plan<'a>(
         → IsWholeWay image (space_in image (space_of space.now)) v.items)) }
     ensures rising { IfOk result (λ o. IfSome o (λ v. (image : List ℕ) → IsFrontOf (core_of space.now) size image
         → IsRising 0 (segments_of image))) }
+    ensures fits { IfOk result (λ o. IfSome o (λ v. length (core_of space.now) ≤ size → StepsFit size 0 0 v.items)) }
 {
     a_sound_front_is_enough();
     if !is_rising(elf.segments()) {

@@ -1,4 +1,4 @@
-use Rattle.std.proofs.Common.{◌≡◌, ◌<◌, ◌≤◌, ℕ, ◌-◌, ◌^◌, List, [], ◌∷◌, ◌++◌, length, take, ap, sym, subst, ◌∙◌, arith}
+use Rattle.std.proofs.Common.{◌≡◌, ◌<◌, ◌≤◌, ℕ, ◌-◌, ◌^◌, List, [], ◌∷◌, ◌++◌, length, replicate, take, ap, sym, subst, ◌∙◌, arith}
 use Rattle.elf_view.specs.Header.{segments_of}
 use Rattle.address_space.specs.SpaceWords.{core_of, space_of}
 use Rattle.address_space.specs.StretchesWords.{AreLeft, front_of, pieces_left_in}
@@ -6,7 +6,7 @@ use Rattle.address_space.specs.Whole.{IsFrontOf, space_in}
 use Rattle.address_space.specs.declared.stretches.Stretches.{Stretches}
 use Rattle.windowed_search.specs.StepWords.{place_after}
 use Rattle.windowed_search.specs.declared.steps.Step.{Step}
-use Rattle.windowed_search.proofs.PlanLemmas.{LeadTo, all_within, at_end, none_yet, one_more}
+use Rattle.windowed_search.proofs.PlanLemmas.{LeadTo, all_within, at_end, leads_fit, none_yet, one_more, some_image}
 use Rattle.windowed_search.proofs.steps.steps_of.Goals as goal
 
 begins : (s : Stretches) (front : List ℕ) (size : ℕ) (image : List ℕ) → front_of s ≡ front → s.size ≡ size → IsFrontOf front size image → IsFrontOf (front_of s) s.size image
@@ -53,8 +53,20 @@ place_after-at-requires c =
     let fits = c.in-Some-next_step.ensures.step.fits c.args.size so_far.at (c.in-Some.ensures.steps.held 0 c.args.size so_far.within) in
     omega (arith, fits)
 
-pub returns : goal.returns
-returns c image front =
+pub returns-clause-way : goal.returns-clause-way
+returns-clause-way c image front =
     let so_far = c.loop-stretch.invariant in
     (c.loop-stretch.at, at_end image (space_in image (space_of c.args.space.now)) (2 ^ 64 - 1) c.loop-stretch.at c.loop-stretch.steps.items _ (so_far.led image front)
     (c.in-None.ensures.steps.pieces image (begins c.loop-stretch.stretch-iterator _ _ image so_far.front so_far.size front)).0)
+
+pub returns-clause-fits : goal.returns-clause-fits
+returns-clause-fits c short =
+    let so_far = c.loop-stretch.invariant in
+    let space = c.args.space.now in
+    let core = core_of space in
+    let image = core ++ replicate (c.args.size - length core) 0 in
+    let front = some_image core c.args.size short in
+    leads_fit image (space_in image (space_of space)) c.args.size c.loop-stretch.steps.items 0 0 c.loop-stretch.at (2 ^ 64 - 1) front.0 (omega arith)
+    (at_end image (space_in image (space_of space)) (2 ^ 64 - 1) c.loop-stretch.at c.loop-stretch.steps.items _ (so_far.led image front)
+    (c.in-None.ensures.steps.pieces image (begins c.loop-stretch.stretch-iterator _ _ image so_far.front so_far.size front)).0)
+
