@@ -8,6 +8,7 @@ mod inspect;
 mod kept_image;
 mod memory;
 mod stack;
+mod walk;
 mod wanted;
 mod window;
 

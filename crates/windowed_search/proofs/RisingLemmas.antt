@@ -98,3 +98,16 @@ module _ (space : Space) (test : ℕ → Bool) (wants : WantsValue space test) w
 pub occurs_by_address : (space : Space) (needle : List ℕ) → 0 < length needle → IsRising 0 space.segments → occurrences space needle ≡ filter (occurs space needle) (range_with_len 0 (2 ^ 64 - 1))
 unfolding occurrences decider
 occurs_by_address space needle some rises = by_address space (occurs space needle) (occurs_wants space needle some) space.segments 0 0 (2 ^ 64 - 1) (λ b low. refl) rises (omega arith)
+
+-- the last address of all is in none
+last_none : (ss : List SegmentView) (a i : ℕ) → IsRising a ss → first_from (is_covering (2 ^ 64 - 1)) i ss ≡ None
+last_none [] a i rises = refl
+last_none (s ∷ ss) a i rises =
+    ⊎_elim
+    (λ none. first_no (is_covering (2 ^ 64 - 1)) i s ss (covers_none (2 ^ 64 - 1) s none.0) ∙ last_none ss a (i + 1) none.1)
+    (λ some. (let end = rising_end ss (s.vaddr + span s) some.1 in first_no (is_covering (2 ^ 64 - 1)) i s ss (behind (2 ^ 64 - 1) s (omega (arith, end))) ∙ last_none ss (s.vaddr + span s) (i + 1) some.1))
+    rises
+
+pub last_value : (space : Space) → IsRising 0 space.segments → value_at space (2 ^ 64 - 1) ≡ None
+unfolding decider
+last_value space rises = ap (λ p. value_of (content_by (λ x j. get_or x j 0) (2 ^ 64 - 1) p)) (place_from space (2 ^ 64 - 1) None (last_none space.segments 0 0 rises))

@@ -1,9 +1,11 @@
 -- The values of addresses in a row, and where a needle occurs among them.
-use Rattle.std.proofs.Common.{◌≡◌, ◌⊎◌, ◌<◌, ◌≤◌, ℕ, zero, suc, ◌+◌, cond, Bool, true, false, List, [], ◌∷◌, ◌++◌, length, filter, Option, None, Some, refl, sym, ap, subst, ◌∙◌, arith, append_assoc, inl, inr}
+use Rattle.std.proofs.Common.{◌≡◌, ◌⊎◌, ◌<◌, ◌≤◌, ℕ, zero, suc, ◌+◌, cond, Bool, true, false, List, [], ◌∷◌, ◌++◌, length, filter, take, drop, Option, None, Some, refl, sym, ap, subst, ◌∙◌, arith, append_assoc, inl, inr}
 use Rattle.std.proofs.lemmas.Bool.{cond-false, cases_lt}
-use Rattle.std.proofs.lemmas.List.{append-nil, length-append}
+use Rattle.std.proofs.lemmas.List.{append-nil, length-append, length-take, length-drop, drop-drop}
+use Rattle.std.proofs.Math.Seq.{take-append_seam, take-add, drop-append_seam}
 use Rattle.std.proofs.lemmas.List.Elements.{filter-append, filter_map-append}
 use Rattle.std.specs.List.{cons_option, filter_map, range_with_len}
+use Rattle.elf_view.specs.Field.{part}
 use Rattle.address_space.specs.Source.{Space, value_at}
 use Rattle.address_space.specs.Occurrence.{occurs}
 use Rattle.address_space.specs.CursorWords.{WantsValue}
@@ -85,3 +87,33 @@ pub run_told : (space : Space) (needle : List ℕ) (base : ℕ) (run : List ℕ)
 run_told space needle base run values none =
     ap (λ x. filter (occurs space needle) (range_with_len 0 base) ++ x) (sym (places_here space needle run base (run_is space run base values none)))
     ∙ sym (filter_below (occurs space needle) base (length run))
+
+values_few : (space : Space) (n a : ℕ) → length (values_from space a n) ≤ n
+unfolding values_from
+values_few space n a = few space n a
+
+part_split : (b : List ℕ) (p m n : ℕ) → part b p (m + n) ≡ part b p m ++ part b (p + m) n
+part_split b p m n = take-add m n (drop p b) ∙ ap (λ xs. take m (drop p b) ++ take n xs) (drop-drop m p b)
+
+part_full : (b : List ℕ) (p n : ℕ) → p + n ≤ length b → length (part b p n) ≡ n
+part_full b p n fits = (let l = length-take n (drop p b) in let r = length-drop p b in omega (arith, l, r, fits))
+
+-- the values of addresses in a row that an image has: those of the first, and of the others
+pub values_cut : (space : Space) (b : List ℕ) (a p m n : ℕ) → p + (m + n) ≤ length b → values_from space a (m + n) ≡ part b p (m + n)
+    → (values_from space a m ≡ part b p m) × (values_from space (a + m) n ≡ part b (p + m) n)
+values_cut space b a p m n fits is =
+    let one = values_from space a m in
+    let two = values_from space (a + m) n in
+    let both : one ++ two ≡ part b p m ++ part b (p + m) n = sym (values_split space a m n) ∙ is ∙ part_split b p m n in
+    let few_one = values_few space m a in
+    let few_two = values_few space n (a + m) in
+    let long = length-append one two in
+    let parts = length-append (part b p m) (part b (p + m) n) in
+    let first = part_full b p m (omega (arith, fits)) in
+    let second = part_full b (p + m) n (omega (arith, fits)) in
+    let same = ap length both in
+    let all : length one ≡ m = omega (arith, few_one, few_two, long, parts, first, second, same) in
+    (
+      sym (take-append_seam one two) ∙ ap (λ k. take k (one ++ two)) (all ∙ sym first) ∙ ap (take (length (part b p m))) both ∙ take-append_seam (part b p m) (part b (p + m) n),
+      sym (drop-append_seam one two) ∙ ap (λ k. drop k (one ++ two)) (all ∙ sym first) ∙ ap (drop (length (part b p m))) both ∙ drop-append_seam (part b p m) (part b (p + m) n),
+    )
