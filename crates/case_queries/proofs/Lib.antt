@@ -5,3 +5,4 @@ pub mod ShowLemmas
 pub mod FrontLemmas
 pub mod WindowLemmas
 pub mod RestLemmas
+pub mod WalkLemmas

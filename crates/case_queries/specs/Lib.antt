@@ -9,3 +9,4 @@ pub mod Windows
 pub mod InspectLaws
 pub mod Steps
 pub mod Walking
+pub mod Finding

@@ -33,7 +33,7 @@ pub record IsAt {D : Type 0} (g : disk.Ghosts D) (before : Parts D) (space : Spa
   pub read : IsReadTo g before o w.at bytes now
   pub window : (image : List ℕ) → BeginsSo o bytes image → w.buffer.items ≡ part image (w.at - length w.buffer.items) (length w.buffer.items)
   pub searched : (image : List ℕ) → BeginsSo o bytes image → HasSearched (space_in image space) w.search
-  pub needle : needle_of w.search ≡ needle
+  pub asked : needle_of w.search ≡ needle
 
 -- what became of a walk
 abbrev pub Walks : {D : Type 0} → disk.Ghosts D → Parts D → Space → List ℕ → CaseImage → Walk → Parts D → Result (Unit {0}) WalkFault → Type 0

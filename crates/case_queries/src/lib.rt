@@ -3,6 +3,7 @@
 
 mod by_front;
 mod collect_executables;
+mod find;
 mod front;
 mod inspect;
 mod kept_image;
