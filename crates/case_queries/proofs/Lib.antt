@@ -6,3 +6,4 @@ pub mod FrontLemmas
 pub mod WindowLemmas
 pub mod RestLemmas
 pub mod WalkLemmas
+pub mod FindLemmas

@@ -30,7 +30,7 @@ use intake::Archive;
 use memory_replies::{Outcome, a_sound_front_names_the_files, space_with, tell_find};
 use script_streams::{Output, Reply, tell_no, tell_ok};
 use std::alloc::Global;
-use windowed_search::{MemorySearch, Step, a_rising_memory_is_searched_by_address, plan};
+use windowed_search::{MemorySearch, Step, plan};
 
 // The addresses at which a needle occurs in a core's memory, by the steps through it: the image is read once, window by window.
 fn search_windows<D: Disk>(
@@ -49,7 +49,6 @@ fn search_windows<D: Disk>(
         → ((b : List ℕ) → IsFrontOf image.entry.front.now image.entry.size b → IsRising 0 (segments_of b))
         → Finds D.Disk before space needle.now image.entry archive.new result }
 {
-    a_rising_memory_is_searched_by_address();
     let Ok(buffer) = Vec::with_capacity(alloc, PIECE as usize) else {
         return Err(WalkFault::OutOfMemory);
     };
