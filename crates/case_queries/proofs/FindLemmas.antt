@@ -191,18 +191,19 @@ module _ {D : Type 0} (g : disk.Ghosts D) (only : (d : D) (c : List ℕ) → g.l
   sees_all : (old new : Parts D) (seq : ℕ) (image : List ℕ) → SeesImage g old seq image new → LeavesAll g old new
   sees_all old new seq image sees = record { state = sees.state; contents = sees.contents; quiet = sees.quiet; stays = sees.stays }
 
+  one_all : (old mid new : Parts D) (x : Wanted) (xs : List Wanted) (image : List ℕ) (views : List ExecutableView) (r : Result (List ExecutableView) ArchiveFault)
+      → ((list : List ExecutableView) → Collects g mid xs (Ok list) new → LeavesAll g mid new) → SeesImage g old x.0 image mid → Collects g mid xs r new → Ok views ≡ with_executable x.1 image r → LeavesAll g old new
+  one_all old mid new x xs image views (Ok list) more looks collects is = all_then old mid new (sees_all old mid x.0 image looks) (more list collects)
+  one_all old mid new x xs image views (Err f) more looks collects is = absurd (given_not views f is)
+
   -- executables that are read leave all as it was
   collects_all : (old new : Parts D) (xs : List Wanted) (views : List ExecutableView) → Collects g old xs (Ok views) new → LeavesAll g old new
   collects_all old new [] views collects = all_as old new collects.1
   collects_all old new (x ∷ xs) views (Ok image, mid, looks, more) =
       ⊎_elim
-      (λ short. all_then old mid new (sees_all old mid x.0 image looks) (all_as mid new short.1))
-      (λ rest. others rest.0 rest.1 rest.2)
+      (λ short. absurd (given_not views _ short.0))
+      (λ rest. one_all old mid new x xs image views rest.0 (λ list. collects_all mid new xs list) looks rest.1 rest.2)
       more
-    where
-      others : (r : Result (List ExecutableView) ArchiveFault) → Collects g mid xs r new → Ok views ≡ with_executable x.1 image r → LeavesAll g old new
-      others (Ok list) collects is = all_then old mid new (sees_all old mid x.0 image looks) (collects_all mid new xs list collects)
-      others (Err f) collects is = cc
   collects_all old new (x ∷ xs) views (Err f, mid, looks, more) = absurd (given_not views f more.0)
 
   gathered_all : (old new : Parts D) (xs : List Wanted) (views : List ExecutableView) → CollectsAll g old xs (Ok views) new → LeavesAll g old new

@@ -7,3 +7,4 @@ pub mod WindowLemmas
 pub mod RestLemmas
 pub mod WalkLemmas
 pub mod FindLemmas
+pub mod FindAskLemmas

@@ -15,12 +15,15 @@ ghost use Rattle.script_streams.specs.Replies.{TellsOutcome, TellsReply, TellsTe
 ghost use Rattle.windowed_search.specs.Rising.{IsRising};
 ghost use Rattle.windowed_search.specs.StepWords.{StepsFit};
 ghost use Rattle.case_queries.specs.CollectingWords.{executable_view};
-ghost use Rattle.case_queries.specs.Finding.{Finds, ShowsFound, found_reply};
+ghost use Rattle.case_queries.specs.Finding.{AsksFront, Finds, IsFrontOfCase, ShowsFound, found_reply};
 ghost use Rattle.case_queries.specs.Fronts.{HasSize, IsSoundFront, ReadsFront};
+ghost use Rattle.case_queries.specs.Keeping.{StayCollected};
+ghost use Rattle.case_queries.specs.LeaveLaws.{Leaves};
 ghost use Rattle.case_queries.specs.Walking.{LeadsOn};
 
 use crate::collect_executables::{StoredExecutable, lent};
 use crate::front::read_up_to;
+use crate::memory::{collected, refused_by};
 use crate::walk::{CaseImage, PIECE, Walk, WalkFault};
 use address_space::Attached;
 use archive_replies::reason;
@@ -186,5 +189,69 @@ fn find_in_core<O: Output, D: Disk>(
         }
         Ok(None) => find_in_whole(alloc, image, attached, needle, reply, archive),
         Err(_) => tell_no_memory(reply),
+    }
+}
+
+// The same with these executables.
+fn find_with<O: Output, D: Disk>(
+    alloc: Global,
+    image: CaseImage<'_>,
+    core: &CoreImage<'_>,
+    executables: &[StoredExecutable],
+    needle: &[u8],
+    reply: &mut Reply<'_, O>,
+    archive: &mut Archive<D>,
+) -> Outcome
+    requires has { HasSize (state_of archive.old) image.seq image.size }
+    requires some { 0 < length needle.now }
+    requires short { length image.front.now ≤ image.size }
+    requires front { core_bytes core.now ≡ image.front.now }
+    requires sound { IsSoundFront Core image.front.now }
+    requires clean { core_fault_of image.front.now ≡ None }
+    ensures { (before : Parts D) → ReadsFront D.Disk before image.entry.seq image.entry.front.now archive.old
+        → TellsOutcome (telling O.Output reply.old reply.new) (λ text. ShowsFound D.Disk before image.entry (map executable_view executables.now) needle.now text archive.new) (is_done result) }
+{
+    match lent(alloc, executables) {
+        Ok(attached) => find_in_core(alloc, image, core, &attached, needle, reply, archive),
+        Err(_) => tell_no_memory(reply),
+    }
+}
+
+// The same with the executables that its process had mapped, where they are stored. They are kept for the lines over the same
+// core that come next.
+fn find_collected<O: Output, D: Disk>(
+    alloc: Global,
+    image: CaseImage<'_>,
+    core: &CoreImage<'_>,
+    needle: &[u8],
+    kept: &mut Option<Vec<StoredExecutable>>,
+    reply: &mut Reply<'_, O>,
+    archive: &mut Archive<D>,
+) -> Outcome
+    requires runs { archive.old.stopped ≡ false }
+    requires has { HasSize (state_of archive.old) image.seq image.size }
+    requires some { 0 < length needle.now }
+    requires short { length image.front.now ≤ image.size }
+    requires front { core_bytes core.now ≡ image.front.now }
+    requires sound { IsSoundFront Core image.front.now }
+    requires clean { core_fault_of image.front.now ≡ None }
+    requires own { IsFrontOfCase D.Disk archive.old image }
+    requires kept { StayCollected D.Disk archive.old image.front.now kept.old }
+    ensures answers { (before : Parts D) → ReadsFront D.Disk before image.entry.seq image.entry.front.now archive.old
+        → TellsOutcome (telling O.Output reply.old reply.new) (λ text. AsksFront D.Disk before image.entry needle.now text archive.new) (is_done result) }
+    ensures kept { StayCollected D.Disk archive.new image.entry.front.now kept.new }
+    ensures leaves { Leaves D.Disk archive.old archive.new }
+{
+    a_sound_front_names_the_files();
+    match collected(alloc, core, kept.take(), archive) {
+        Ok(executables) => {
+            let outcome = find_with(alloc, image, core, &executables, needle, reply, archive);
+            *kept = Some(executables);
+            outcome
+        }
+        Err(refusal) => {
+            tell_no(reply, reason(refusal));
+            refused_by(refusal)
+        }
     }
 }

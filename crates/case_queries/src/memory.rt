@@ -139,7 +139,7 @@ fn answer_core<O: Output, D: Disk>(
 }
 
 // What became of a line that the archive refused so.
-fn refused_by(fault: ArchiveFault) -> Outcome
+pub(crate) fn refused_by(fault: ArchiveFault) -> Outcome
     ensures { is_done result ≡ false }
 {
     match fault {
@@ -149,7 +149,7 @@ fn refused_by(fault: ArchiveFault) -> Outcome
 }
 
 // The executables of a core: those that are kept, or else they are read now.
-fn collected<D: Disk>(
+pub(crate) fn collected<D: Disk>(
     alloc: Global,
     core: &CoreImage<'_>,
     kept: Option<Vec<StoredExecutable>>,
