@@ -97,7 +97,7 @@ seen_enough (Frame thread frame) front size at bytes image by = inl by
 seen_enough Builds front size at bytes image by = inl by
 
 -- what enough bytes show, where sound first bytes show it
-enough_shows : {A : Type 0} (of : List ℕ → A) → ((b : List ℕ) (n : ℕ) → IsHeaderWhole (take n b) → IsSound Core (take n b) → of (take n b) ≡ of b) → (front image : List ℕ) → IsEnough Core front image → of front ≡ of image
+pub enough_shows : {A : Type 0} (of : List ℕ → A) → ((b : List ℕ) (n : ℕ) → IsHeaderWhole (take n b) → IsSound Core (take n b) → of (take n b) ≡ of b) → (front image : List ℕ) → IsEnough Core front image → of front ≡ of image
 enough_shows of law front image enough =
     ⊎_elim
     (λ is. ap of is)

@@ -1,5 +1,5 @@
 // The answer to `find` of a core that is read window by window.
-ghost use Rattle.std.specs.Prelude.{◌≡◌, ◌<◌, ◌≤◌, ◌-◌, ◌^◌, false, ℕ, List, None, Ok, map, is_ok, length};
+ghost use Rattle.std.specs.Prelude.{◌≡◌, ◌<◌, ◌≤◌, ◌-◌, ◌^◌, false, ℕ, List, None, Ok, Some, map, is_ok, length};
 ghost use Rattle.std.specs.List.{flat_map};
 ghost use Rattle.address_space.specs.Source.{Space};
 ghost use Rattle.address_space.specs.Whole.{IsFrontOf};
@@ -16,21 +16,29 @@ ghost use Rattle.windowed_search.specs.Rising.{IsRising};
 ghost use Rattle.windowed_search.specs.StepWords.{StepsFit};
 ghost use Rattle.case_queries.specs.CollectingWords.{executable_view};
 ghost use Rattle.case_queries.specs.Finding.{AsksFront, Finds, IsFrontOfCase, ShowsFound, found_reply};
-ghost use Rattle.case_queries.specs.Fronts.{HasSize, IsSoundFront, ReadsFront};
-ghost use Rattle.case_queries.specs.Keeping.{StayCollected};
+ghost use Rattle.case_queries.specs.Fronts.{HasSize, IsEnough, IsSoundFront, ReadsFront, SeesEnough};
+ghost use Rattle.script_lines.specs.Queries.{ask_find, memory_query};
+ghost use Rattle.case_queries.specs.Keeping.{AreKept, StayCollected};
+ghost use Rattle.case_queries.specs.Seeing.{IsKept};
+ghost use Rattle.case_queries.specs.Steps.{Asks};
+ghost use Rattle.journal_layout.specs.declared.entry.Kind.{Kind};
 ghost use Rattle.case_queries.specs.LeaveLaws.{Leaves};
 ghost use Rattle.case_queries.specs.Walking.{LeadsOn};
 
 use crate::collect_executables::{StoredExecutable, lent};
-use crate::front::read_up_to;
-use crate::memory::{collected, refused_by};
+use crate::front::{read_up_to, see_front};
+use crate::kept_image::{Images, KeptImage, kept_if};
+use crate::memory::{answer_memory, collected, refused_by};
 use crate::walk::{CaseImage, PIECE, Walk, WalkFault};
 use address_space::Attached;
 use archive_replies::reason;
 use disk_model::Disk;
-use image_replies::{CoreImage, a_sound_front_answers};
+use elf_view::Want;
+use image_replies::{CoreImage, a_sound_front_answers, tell_core_fault};
 use intake::Archive;
-use memory_replies::{Outcome, a_sound_front_names_the_files, space_with, tell_find};
+use journal_layout::Kind;
+use memory_replies::{Outcome, Window, a_sound_front_names_the_files, space_with, tell_find};
+use script_lines::MemoryQuery;
 use script_streams::{Output, Reply, tell_no, tell_ok};
 use std::alloc::Global;
 use windowed_search::{MemorySearch, Step, plan};
@@ -252,6 +260,129 @@ fn find_collected<O: Output, D: Disk>(
         Err(refusal) => {
             tell_no(reply, reason(refusal));
             refused_by(refusal)
+        }
+    }
+}
+
+// The same of a case whose first bytes are sound.
+fn find_front<O: Output, D: Disk>(
+    alloc: Global,
+    image: CaseImage<'_>,
+    needle: &[u8],
+    kept: &mut Option<Vec<StoredExecutable>>,
+    reply: &mut Reply<'_, O>,
+    archive: &mut Archive<D>,
+) -> Outcome
+    requires runs { archive.old.stopped ≡ false }
+    requires has { HasSize (state_of archive.old) image.seq image.size }
+    requires some { 0 < length needle.now }
+    requires short { length image.front.now ≤ image.size }
+    requires sound { IsSoundFront Core image.front.now }
+    requires own { IsFrontOfCase D.Disk archive.old image }
+    requires kept { StayCollected D.Disk archive.old image.front.now kept.old }
+    ensures answers { (before : Parts D) (kind : Kind) → ReadsFront D.Disk before image.entry.seq image.entry.front.now archive.old
+        → TellsOutcome (telling O.Output reply.old reply.new) (λ text. Asks D.Disk before image.entry.seq (ask_find needle.now) (Ok kind) text archive.new) (is_done result) }
+    ensures kept { StayCollected D.Disk archive.new image.entry.front.now kept.new }
+    ensures leaves { Leaves D.Disk archive.old archive.new }
+{
+    a_sound_front_answers();
+    match CoreImage::read(image.front) {
+        Ok(core) => find_collected(alloc, image, &core, needle, kept, reply, archive),
+        Err(fault) => {
+            tell_core_fault(reply, fault);
+            Outcome::Refused
+        }
+    }
+}
+
+// The same of a case of which as much is seen as the lines over headers and notes want.
+fn find_seen<O: Output, D: Disk>(
+    alloc: Global,
+    kind: Kind,
+    size: usize,
+    query: &MemoryQuery,
+    needle: &[u8],
+    kept: &mut KeptImage,
+    reply: &mut Reply<'_, O>,
+    archive: &mut Archive<D>,
+) -> Outcome
+    requires runs { archive.old.stopped ≡ false }
+    requires has { HasSize (state_of archive.old) kept.old.seq size }
+    requires some { 0 < length needle.now }
+    requires asked { memory_query query.now ≡ ask_find needle.now }
+    requires enough { (image : List ℕ) × IsEnough Core kept.old.image.items image × (length image ≡ size) }
+    requires kept { IsKept D.Disk archive.old (Some kept.old) }
+    requires are_kept { AreKept D.Disk archive.old (Some kept.old) }
+    ensures answers { (before : Parts D) → SeesEnough D.Disk before kept.old.seq Core (Ok kept.old) archive.old
+        → TellsOutcome (telling O.Output reply.old reply.new) (λ text. Asks D.Disk before kept.old.seq (memory_query query.now) (Ok kind) text archive.new) (is_done result) }
+    ensures kept { IsKept D.Disk archive.new (Some kept.new) }
+    ensures are_kept { AreKept D.Disk archive.new (Some kept.new) }
+{
+    if kept.image.len() == size {
+        let window = Window {
+            size: size as u64,
+            at: 0,
+            bytes: &kept.image,
+        };
+        return answer_memory(
+            alloc,
+            kind,
+            query,
+            &kept.image,
+            window,
+            &mut kept.executables,
+            reply,
+            archive,
+        );
+    }
+    let image = CaseImage {
+        seq: kept.seq,
+        size,
+        front: &kept.image,
+    };
+    find_front(alloc, image, needle, &mut kept.executables, reply, archive)
+}
+
+// Answers `find` of a case of this kind and size. Says whether it was done; if not, it was refused.
+pub(crate) fn answer_find<O: Output, D: Disk>(
+    seq: u32,
+    kind: Kind,
+    size: usize,
+    query: &MemoryQuery,
+    needle: &[u8],
+    images: &mut Images,
+    reply: &mut Reply<'_, O>,
+    archive: &mut Archive<D>,
+) -> bool
+    requires runs { archive.old.stopped ≡ false }
+    requires has { HasSize (state_of archive.old) seq size }
+    requires some { 0 < length needle.now }
+    requires asked { memory_query query.now ≡ ask_find needle.now }
+    requires kept { IsKept D.Disk archive.old images.old.kept }
+    requires are_kept { AreKept D.Disk archive.old images.old.kept }
+    ensures answers { TellsOutcome (telling O.Output reply.old reply.new) (λ text. Asks D.Disk archive.old seq (memory_query query.now) (Ok kind) text archive.new) result }
+    ensures kept { IsKept D.Disk archive.new images.new.kept }
+    ensures are_kept { AreKept D.Disk archive.new images.new.kept }
+{
+    match see_front(images.alloc, seq, Want::Core, images.kept.take(), archive) {
+        Ok(front) => {
+            let mut front = front;
+            let outcome = find_seen(
+                images.alloc,
+                kind,
+                size,
+                query,
+                needle,
+                &mut front,
+                reply,
+                archive,
+            );
+            images.kept = kept_if(outcome.had_memory(), front);
+            outcome.is_done()
+        }
+        Err(fault) => {
+            tell_no(reply, reason(fault));
+            false
         }
     }
 }
