@@ -58,33 +58,35 @@ module _ {D : Type 0} (g : disk.Ghosts D) where
   module _ (law : FilesLaw) (o : CaseImage) (sound : IsSoundFront Core o.front.now) (needle : List ℕ) where
     -- the answer is told
     pub found_asked : (before new : Parts D) (xs : Vec StoredExecutable Global) (text : List ℕ) → StayCollected g new o.front.now (Some xs) → ShowsFound g before o (map executable_view xs.items) needle text new → AsksFront g before o needle text new
-    found_asked before new xs text stay (Ok image, looks, told) =
-        (
-          Ok image, new, looks,
-          (
-            told.0,
-            λ kind. (
-            Ok (map executable_view xs.items),
-            inr (subst (λ (ws : List Wanted). Collects g new ws (Ok (map executable_view xs.items)) new) (wanted_front law o image sound told.0 (state_of new).cases) stay),
-            told.1,
-            ),
-          ),
-        )
+    found_asked before new xs text stay (Ok image, looks, told) = (
+      Ok image,
+      new,
+      looks,
+      (
+        told.0,
+        λ kind. (
+          Ok (map executable_view xs.items),
+          inr (subst (λ (ws : List Wanted). Collects g new ws (Ok (map executable_view xs.items)) new) (wanted_front law o image sound told.0 (state_of new).cases) stay),
+          told.1,
+        ),
+      ),
+    )
     found_asked before new xs text stay (Err f, looks, told) = (Err f, new, looks, (told, refl))
 
     -- an executable can't be read
     pub unread_asked : (before mid new : Parts D) (f : ArchiveFault) → HasSize (state_of mid) o.seq o.size → length o.front.now ≤ o.size → ReadsFront g before o.seq o.front.now mid → CollectsAll g mid (wanted_of o.front.now (state_of mid).cases) (Err f) new
         → AsksFront g before o needle (no_reply (reason_of f)) new
     unread_asked before mid new f sized short reads collects =
-        let x = some_seen g before o mid mid o.front.now 0 o.front.now sized reads (at_start g before o mid reads short) in
-        (
-          Ok x.0, mid, x.1,
+        let x = some_seen g before o mid mid o.front.now 0 o.front.now sized reads (at_start g before o mid reads short) in (
+          Ok x.0,
+          mid,
+          x.1,
           (
             x.2,
             λ kind. (
-            Err f,
-            subst (λ (ws : List Wanted). CollectsAll g mid ws (Err f) new) (wanted_front law o x.0 sound x.2 (state_of mid).cases) collects,
-            refl,
+              Err f,
+              subst (λ (ws : List Wanted). CollectsAll g mid ws (Err f) new) (wanted_front law o x.0 sound x.2 (state_of mid).cases) collects,
+              refl,
             ),
           ),
         )
@@ -92,8 +94,7 @@ module _ {D : Type 0} (g : disk.Ghosts D) where
 -- the whole image is seen, whatever the line
 pub whole_seen : (q : MemoryQuery) (image : List ℕ) → IsSeenBy q image (length image) 0 image image
 whole_seen (Dump first n) image =
-    let end : past_of 0 image ≡ length image = omega arith in
-    (
+    let end : past_of 0 image ≡ length image = omega arith in (
       inl refl,
       record {
         begins = (refl, sym (take_all (length image) image (omega arith)));

@@ -101,22 +101,23 @@ module _ {D : Type 0} (g : disk.Ghosts D) (before : Parts D) (o : CaseImage) whe
         let x = some_seen start now o.front.now w.at walked.bytes sized reads walked.read in
         let sp = space_in x.0 space in
         let there = address x.0 x.2 in
-        let last_is = means x.0 x.2 in
-        (
-          x.0, x.1, x.2,
+        let last_is = means x.0 x.2 in (
+          x.0,
+          x.1,
+          x.2,
           found sp (walked.searched x.0 x.3) (ap (value_at sp) there ∙ last_is.0)
-          ∙ ap (λ n. filter (occurs sp n) (range_with_len 0 (address_of w.search))) walked.asked
-          ∙ ap (λ a. filter (occurs sp needle) (range_with_len 0 a)) there
-          ∙ sym last_is.1,
+              ∙ ap (λ n. filter (occurs sp n) (range_with_len 0 (address_of w.search))) walked.asked
+              ∙ ap (λ a. filter (occurs sp needle) (range_with_len 0 a)) there
+              ∙ sym last_is.1,
         )
 
   -- the reply to what was found
   module _ (space : Space) (needle : List ℕ) (xs : List ExecutableView) (memory : (image : List ℕ) → IsFrontOf o.front.now o.size image → space_in image space ≡ memory_of image xs) where
     pub found_shown : (now : Parts D) (r : Result (Vec ℕ Global) WalkFault) → Finds g before space needle o now r → ShowsFound g before o xs needle (found_reply r) now
     found_shown now (Ok v) finds =
-        let lines = ap (λ (found : List ℕ). flat_map address_line found) finds.3 in
-        (
-          Ok finds.0, finds.1,
+        let lines = ap (λ (found : List ℕ). flat_map address_line found) finds.3 in (
+          Ok finds.0,
+          finds.1,
           (finds.2, inl (ap (λ (t : List ℕ). t ++ ok_reply) lines ∙ ap reply_of (matches_shown finds.0 xs needle (space_in finds.0 space) (memory finds.0 finds.2)))),
         )
     found_shown now (Err (Unread f)) finds = (Err f, finds, refl)

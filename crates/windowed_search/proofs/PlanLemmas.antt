@@ -66,13 +66,13 @@ first_by space a n (x ∷ xs) p ps is all goes maps =
     record {
       within = omega (arith, short, count);
       values = sym (append_cancel_right (content_bytes p.content) (values_from space a p.length) (values_from space (a + p.length) (n - p.length))
-      (
-      ap (λ t. content_bytes p.content ++ t) (sym (ap (flat_map (λ (q : PieceView). content_bytes q.content)) others ∙ pieces_are space (a + p.length) (n - p.length) ∙ values_same space (a + p.length) (n - p.length)))
-      ∙ sym (ap (flat_map (λ (q : PieceView). content_bytes q.content)) is)
-      ∙ pieces_are space a n ∙ values_same space a n
-      ∙ ap (values_from space a) (sym whole)
-      ∙ values_split space a p.length (n - p.length)
-      ));
+          (
+          ap (λ t. content_bytes p.content ++ t) (sym (ap (flat_map (λ (q : PieceView). content_bytes q.content)) others ∙ pieces_are space (a + p.length) (n - p.length) ∙ values_same space (a + p.length) (n - p.length)))
+          ∙ sym (ap (flat_map (λ (q : PieceView). content_bytes q.content)) is)
+          ∙ pieces_are space a n ∙ values_same space a n
+          ∙ ap (values_from space a) (sym whole)
+          ∙ values_split space a p.length (n - p.length)
+          ));
       others = others;
     }
 

@@ -112,8 +112,7 @@ values_cut space b a p m n fits is =
     let first = part_full b p m (omega (arith, fits)) in
     let second = part_full b (p + m) n (omega (arith, fits)) in
     let same = ap length both in
-    let all : length one ≡ m = omega (arith, few_one, few_two, long, parts, first, second, same) in
-    (
+    let all : length one ≡ m = omega (arith, few_one, few_two, long, parts, first, second, same) in (
       sym (take-append_seam one two) ∙ ap (λ k. take k (one ++ two)) (all ∙ sym first) ∙ ap (take (length (part b p m))) both ∙ take-append_seam (part b p m) (part b (p + m) n),
       sym (drop-append_seam one two) ∙ ap (λ k. drop k (one ++ two)) (all ∙ sym first) ∙ ap (drop (length (part b p m))) both ∙ drop-append_seam (part b p m) (part b (p + m) n),
     )

@@ -10,8 +10,8 @@ mod text_search;
 mod within;
 
 pub use laws::{
-    a_rising_memory_is_searched_by_address, a_text_ends_at_another_byte, places_are_occurrences, texts_are_those_in_memory,
-    windows_have_all_places,
+    a_rising_memory_is_searched_by_address, a_text_ends_at_another_byte, places_are_occurrences,
+    texts_are_those_in_memory, windows_have_all_places,
 };
 pub use memory_search::MemorySearch;
 pub use search::Search;

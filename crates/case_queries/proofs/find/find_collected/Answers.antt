@@ -23,8 +23,7 @@ returns-in-Ok-clause-answers g c before reads =
     let again = reads_again g.D.Disk mid image (g.met.D.Disk.only_now mid.disk) (own_after g.D.Disk now mid image leaves c.requires.own) in
     let after = found_leaves g.D.Disk mid new image _ c.args.needle.now _ (c.find_with-outcome.ensures mid again).1 in
     let stay = subst (λ b. StayCollected g.D.Disk mid b (Some c.in-Ok.executables)) c.requires.front c.in-Ok.ensures.kept in
-    let told = rw c.deref.ensures.value at (c.find_with-outcome.ensures before (still_front g.D.Disk g.met.D.Disk.only_now before now mid image.seq image.front.now ws views reads c.in-Ok.ensures.collected)) in
-    (
+    let told = rw c.deref.ensures.value at (c.find_with-outcome.ensures before (still_front g.D.Disk g.met.D.Disk.only_now before now mid image.seq image.front.now ws views reads c.in-Ok.ensures.collected)) in (
       told.0,
       found_asked g.D.Disk c.a_sound_front_names_the_files.ensures image c.requires.sound c.args.needle.now before new c.in-Ok.executables told.0 (stay_after g.D.Disk new (g.met.D.Disk.only_now new.disk) mid image.front.now (Some c.in-Ok.executables) after stay) told.1,
       told.2,
@@ -62,8 +61,7 @@ returns-in-Err-clause-answers g c before reads =
     let image = c.args.image in
     let f = c.in-Err.refusal in
     let now = c.args.archive.now in
-    let collects = subst (λ b. CollectsAll g.D.Disk now (wanted_of b (state_of now).cases) (Err f) c.collected.new.archive) c.requires.front c.in-Err.ensures.collected in
-    (
+    let collects = subst (λ b. CollectsAll g.D.Disk now (wanted_of b (state_of now).cases) (Err f) c.collected.new.archive) c.requires.front c.in-Err.ensures.collected in (
       _,
       unread_asked g.D.Disk c.a_sound_front_names_the_files.ensures image c.requires.sound c.args.needle.now before now c.collected.new.archive f c.requires.has c.requires.short reads collects,
       rw c.refused_by.ensures (reason_of f, refl),

@@ -55,9 +55,11 @@ place_after-at-requires c =
 
 pub returns-clause-way : goal.returns-clause-way
 returns-clause-way c image front =
-    let so_far = c.loop-stretch.invariant in
-    (c.loop-stretch.at, at_end image (space_in image (space_of c.args.space.now)) (2 ^ 64 - 1) c.loop-stretch.at c.loop-stretch.steps.items _ (so_far.led image front)
-    (c.in-None.ensures.steps.pieces image (begins c.loop-stretch.stretch-iterator _ _ image so_far.front so_far.size front)).0)
+    let so_far = c.loop-stretch.invariant in (
+      c.loop-stretch.at,
+      at_end image (space_in image (space_of c.args.space.now)) (2 ^ 64 - 1) c.loop-stretch.at c.loop-stretch.steps.items _ (so_far.led image front)
+          (c.in-None.ensures.steps.pieces image (begins c.loop-stretch.stretch-iterator _ _ image so_far.front so_far.size front)).0,
+    )
 
 pub returns-clause-fits : goal.returns-clause-fits
 returns-clause-fits c short =
@@ -69,4 +71,3 @@ returns-clause-fits c short =
     leads_fit image (space_in image (space_of space)) c.args.size c.loop-stretch.steps.items 0 0 c.loop-stretch.at (2 ^ 64 - 1) front.0 (omega arith)
     (at_end image (space_in image (space_of space)) (2 ^ 64 - 1) c.loop-stretch.at c.loop-stretch.steps.items _ (so_far.led image front)
     (c.in-None.ensures.steps.pieces image (begins c.loop-stretch.stretch-iterator _ _ image so_far.front so_far.size front)).0)
-

@@ -25,8 +25,7 @@ loop-left-preserved g c =
           let a = address_of c.loop-left.self.search in
           let p = c.loop-left.self.at in
           let whole : left ≡ piece + (left - piece) = omega (arith, c.min-piece.ensures) in
-          let both = has_cut space image a p piece (left - piece) (omega (arith, at, within, whole)) (subst (HasValues space image a p) whole now.1) in
-          (
+          let both = has_cut space image a p piece (left - piece) (omega (arith, at, within, whole)) (subst (HasValues space image a p) whole now.1) in (
             took.walks before space needle now.0 both.0,
             subst (λ b. HasValues space image b c.take_piece.new.self.at (left - piece)) (sym took.address) (subst (λ q. HasValues space image (a + piece) q (left - piece)) (sym took.at) both.1),
           );

@@ -19,8 +19,7 @@ loop-step-preserved g c =
       buffer = took.buffer;
       address = step_after steps i _ _ more refl a (address_of c.step.new.self.search) took.address ∙ so_far.address;
       walks = λ before space needle b start leads.
-          let now = so_far.walks before space needle b start leads in
-          (
+          let now = so_far.walks before space needle b start leads in (
             took.walks before space needle now.0 (step_has space c.args.image steps i _ _ more refl p a b now.1),
             step_leads space c.args.image steps i _ _ more refl p a b c.step.new.self.at (address_of c.step.new.self.search) took.at took.address now.1,
           );
