@@ -20,7 +20,7 @@ abbrev is_given : {A B : Type 0} → Result A B → Bool
 is_given (Ok x) = true
 is_given (Err f) = false
 
-given_not : {A B : Type 0} (x : A) (f : B) → Ok x ≡ Err f → ⊥
+pub given_not : {A B : Type 0} (x : A) (f : B) → Ok x ≡ Err f → ⊥
 given_not x f is = false≢true (sym (ap is_given is))
 
 module _ {D : Type 0} (g : disk.Ghosts D) (now : Parts D) (only : (c : List ℕ) → g.left_since now.disk (g.clock now.disk) c → g.may_leave now.disk c) where

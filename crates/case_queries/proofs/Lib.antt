@@ -5,3 +5,6 @@ pub mod ShowLemmas
 pub mod FrontLemmas
 pub mod WindowLemmas
 pub mod RestLemmas
+pub mod WalkLemmas
+pub mod FindLemmas
+pub mod FindAskLemmas

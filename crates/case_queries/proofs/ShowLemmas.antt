@@ -97,7 +97,7 @@ seen_enough (Frame thread frame) front size at bytes image by = inl by
 seen_enough Builds front size at bytes image by = inl by
 
 -- what enough bytes show, where sound first bytes show it
-enough_shows : {A : Type 0} (of : List ℕ → A) → ((b : List ℕ) (n : ℕ) → IsHeaderWhole (take n b) → IsSound Core (take n b) → of (take n b) ≡ of b) → (front image : List ℕ) → IsEnough Core front image → of front ≡ of image
+pub enough_shows : {A : Type 0} (of : List ℕ → A) → ((b : List ℕ) (n : ℕ) → IsHeaderWhole (take n b) → IsSound Core (take n b) → of (take n b) ≡ of b) → (front image : List ℕ) → IsEnough Core front image → of front ≡ of image
 enough_shows of law front image enough =
     ⊎_elim
     (λ is. ap of is)
@@ -108,7 +108,10 @@ pub fault_same : ((b : List ℕ) (n : ℕ) → IsHeaderWhole (take n b) → IsSo
     → core_fault_of front ≡ core_fault_of image
 fault_same law q front size at bytes image by = enough_shows core_fault_of law front image (seen_enough q front size at bytes image by)
 
+pub wanted_enough : ((b : List ℕ) (n : ℕ) → IsHeaderWhole (take n b) → IsSound Core (take n b) → mapped_files (take n b) ≡ mapped_files b) → (front image : List ℕ) → IsEnough Core front image → (cases : List Case) → wanted_of front cases ≡ wanted_of image cases
+wanted_enough law front image enough cases =
+    ap (λ files. map wanted_case (filter (λ (c : Case). is_exec c.origin.kind && list_any (has_name c.origin.name) files) cases)) (enough_shows mapped_files law front image enough)
+
 pub wanted_same : ((b : List ℕ) (n : ℕ) → IsHeaderWhole (take n b) → IsSound Core (take n b) → mapped_files (take n b) ≡ mapped_files b) → (q : MemoryQuery) (front : List ℕ) (size at : ℕ) (bytes image : List ℕ) → IsSeenBy q front size at bytes image
     → (cases : List Case) → wanted_of front cases ≡ wanted_of image cases
-wanted_same law q front size at bytes image by cases =
-    ap (λ files. map wanted_case (filter (λ (c : Case). is_exec c.origin.kind && list_any (has_name c.origin.name) files) cases)) (enough_shows mapped_files law front image (seen_enough q front size at bytes image by))
+wanted_same law q front size at bytes image by cases = wanted_enough law front image (seen_enough q front size at bytes image by) cases

@@ -132,7 +132,7 @@ front_short : (front image : List ℕ) → front ≡ take (length front) image �
 front_short front image cut = let same = ap length cut in let l = length-take (length front) image in omega (arith, same, l)
 
 -- all of an image stands in it
-all_within : (size first n : ℕ) (ss : List SegmentView) → AreHeldWithin size first n 0 size ss
+pub all_within : (size first n : ℕ) (ss : List SegmentView) → AreHeldWithin size first n 0 size ss
 all_within size first n [] = tt
 all_within size first n (s ∷ ss) = ((λ a after before covers file image. (omega arith, image)), all_within size first n ss)
 
@@ -155,7 +155,7 @@ module _ {D : Type 0} (g : disk.Ghosts D) where
     stays = sees.stays;
   }
 
-  sized : (old new : Parts D) (seq size : ℕ) (image : List ℕ) → HasSize (state_of old) seq size → SeesImage g old seq image new → length image ≡ size
+  pub sized : (old new : Parts D) (seq size : ℕ) (image : List ℕ) → HasSize (state_of old) seq size → SeesImage g old seq image new → length image ≡ size
   sized old new seq size image has sees = sees.own.long has.0 has.1.1 ∙ has.2
 
   -- The image of which the first bytes were read, and a part: of the case's own where the disk is honest, and of one of that length

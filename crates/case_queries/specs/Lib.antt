@@ -8,3 +8,5 @@ pub mod Fronts
 pub mod Windows
 pub mod InspectLaws
 pub mod Steps
+pub mod Walking
+pub mod Finding

@@ -3,11 +3,13 @@
 
 mod by_front;
 mod collect_executables;
+mod find;
 mod front;
 mod inspect;
 mod kept_image;
 mod memory;
 mod stack;
+mod walk;
 mod wanted;
 mod window;
 

@@ -15,6 +15,8 @@ ghost use Rattle.case_queries.specs.Seeing.{IsKept};
 ghost use Rattle.case_queries.specs.Windows.{IsSeenBy};
 
 use crate::collect_executables::{StoredExecutable, collect_executables, lent};
+use crate::find::answer_find;
+use crate::front::size_of;
 use crate::kept_image::{Images, kept_if};
 use crate::window::{lent_window, see_memory};
 use address_space::Attached;
@@ -34,6 +36,35 @@ use std::alloc::Global;
 
 // Answers a line over a core's memory of a case of this kind. Says whether it was done; if not, it was refused.
 pub(crate) fn answer_by_memory<O: Output, D: Disk>(
+    seq: u32,
+    kind: Kind,
+    query: &MemoryQuery,
+    images: &mut Images,
+    reply: &mut Reply<'_, O>,
+    archive: &mut Archive<D>,
+) -> bool
+    requires runs { archive.old.stopped ≡ false }
+    requires kept { IsKept D.Disk archive.old images.old.kept }
+    requires are_kept { AreKept D.Disk archive.old images.old.kept }
+    ensures answers { TellsOutcome (telling O.Output reply.old reply.new) (λ text. Asks D.Disk archive.old seq (memory_query query.now) (Ok kind) text archive.new) result }
+    ensures kept { IsKept D.Disk archive.new images.new.kept }
+    ensures are_kept { AreKept D.Disk archive.new images.new.kept }
+{
+    // If there is no such case, reading the whole image says why.
+    let Some(size) = size_of(seq, archive) else {
+        return answer_seen(seq, kind, query, images, reply, archive);
+    };
+    match query {
+        MemoryQuery::Find { needle } => {
+            let needle = needle.bytes.as_slice();
+            answer_find(seq, kind, size, query, needle, images, reply, archive)
+        }
+        _ => answer_seen(seq, kind, query, images, reply, archive),
+    }
+}
+
+// The same from as much of the image as the line wants in memory at once.
+fn answer_seen<O: Output, D: Disk>(
     seq: u32,
     kind: Kind,
     query: &MemoryQuery,
@@ -73,7 +104,7 @@ pub(crate) fn answer_by_memory<O: Output, D: Disk>(
 
 // The same of an image of which this much is seen, with the executables that its process had mapped, where they are stored. They
 // are kept for the lines over the same core that come next. Says what became of it.
-fn answer_memory<O: Output, D: Disk>(
+pub(crate) fn answer_memory<O: Output, D: Disk>(
     alloc: Global,
     kind: Kind,
     query: &MemoryQuery,
@@ -139,7 +170,7 @@ fn answer_core<O: Output, D: Disk>(
 }
 
 // What became of a line that the archive refused so.
-fn refused_by(fault: ArchiveFault) -> Outcome
+pub(crate) fn refused_by(fault: ArchiveFault) -> Outcome
     ensures { is_done result ≡ false }
 {
     match fault {
@@ -149,7 +180,7 @@ fn refused_by(fault: ArchiveFault) -> Outcome
 }
 
 // The executables of a core: those that are kept, or else they are read now.
-fn collected<D: Disk>(
+pub(crate) fn collected<D: Disk>(
     alloc: Global,
     core: &CoreImage<'_>,
     kept: Option<Vec<StoredExecutable>>,

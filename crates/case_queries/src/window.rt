@@ -146,6 +146,7 @@ pub(crate) fn read_range<D: Disk>(
     requires none { bytes.old.items ≡ [] }
     ensures reads { ReadsRange D.Disk archive.old seq front.now range.start (range.past - range.start) result bytes.new.items archive.new }
     ensures long { length bytes.new.items ≡ range.past - range.start }
+    ensures capacity { vec_capacity bytes.old ≤ vec_capacity bytes.new }
 {
     let count = range.past - range.start;
     bytes

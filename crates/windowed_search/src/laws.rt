@@ -1,9 +1,10 @@
 // What the definitions that the contracts cite say together.
 ghost use Rattle.std.specs.Prelude.{◌≡◌, ◌+◌, ◌-◌, ◌^◌, ◌<◌, ◌≤◌, ◌++◌, ◌∷◌, [], ℕ, Bool, List, drop, false, filter, length, map};
 ghost use Rattle.std.specs.List.{range_with_len};
-ghost use Rattle.address_space.specs.Occurrence.{begins_text, is_text_at, is_text_byte, occurs, text_from};
+ghost use Rattle.address_space.specs.Occurrence.{begins_text, is_text_at, is_text_byte, occurrences, occurs, text_from};
 ghost use Rattle.address_space.specs.Source.{Space};
 ghost use Rattle.windowed_search.specs.Places.{places};
+ghost use Rattle.windowed_search.specs.Rising.{IsRising};
 ghost use Rattle.windowed_search.specs.Runs.{IsRunOf};
 ghost use Rattle.windowed_search.specs.Texts.{texts};
 
@@ -33,4 +34,10 @@ pub fn texts_are_those_in_memory()
 pub fn a_text_ends_at_another_byte()
     ensures { (xs ys : List ℕ) (z a : ℕ) (within : Bool) → is_text_byte z ≡ false
         → texts within a (xs ++ z ∷ ys) ≡ texts within a (xs ++ z ∷ []) ++ texts false (a + (length xs + 1)) ys }
+{}
+
+/// Where the segments rise, the addresses at which bytes occur are in the order of the addresses. It does nothing.
+pub fn a_rising_memory_is_searched_by_address()
+    ensures { (space : Space) (needle : List ℕ) → 0 < length needle → IsRising 0 space.segments
+        → occurrences space needle ≡ filter (occurs space needle) (range_with_len 0 (2 ^ 64 - 1)) }
 {}

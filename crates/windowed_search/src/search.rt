@@ -11,7 +11,7 @@ use std::alloc::{AllocError, Global};
 pub struct Search<'n> {
     pub(crate) needle: &'n [u8],
     finder: Finder<'n>,
-    // How many bytes were fed before those of the tail.
+    // The place of the tail's first byte.
     pub(crate) first: u64,
     // The last bytes that were fed: with them a match across the end of a window is found.
     pub(crate) tail: Vec<u8>,
@@ -24,11 +24,12 @@ pub struct Search<'n> {
 impl<'n> Search<'n> {
     ghost use Rattle.windowed_search.specs.SearchWords.{WasFed};
 
-    /// A search that was fed nothing yet.
+    /// A search that was fed nothing yet, of bytes that begin at place 0.
     pub fn new(alloc: Global, needle: &'n [u8]) -> Search<'n>
         requires { 0 < length needle.now }
         ensures needle { result.needle.now ≡ needle.now }
-        ensures fed { WasFed result [] }
+        ensures fed { WasFed result 0 [] }
+        ensures next { (result.first ≡ 0) × (result.tail.items ≡ []) }
     {
         Search {
             needle,
@@ -37,6 +38,16 @@ impl<'n> Search<'n> {
             tail: Vec::new(alloc),
             bytes: Vec::new(alloc),
         }
+    }
+
+    /// Begins anew: what is fed next begins at place `base`.
+    pub fn restart(&mut self, base: u64)
+        ensures needle { self.new.needle ≡ self.old.needle }
+        ensures fed { WasFed self.new base [] }
+        ensures next { (self.new.first ≡ base) × (self.new.tail.items ≡ []) }
+    {
+        self.tail.clear();
+        self.first = base;
     }
 
     // Puts the window after the tail.
@@ -64,14 +75,15 @@ impl<'n> Search<'n> {
         Ok(())
     }
 
-    /// Appends each place at which the needle occurs that ends in this window, as the number of bytes that were fed before it. The
-    /// error is that there is no memory: the search is of no use then.
+    /// Appends each place at which the needle occurs and ends in this window. The error is that there is no memory: the search is of
+    /// no use until it begins anew.
     pub fn feed(&mut self, window: &[u8], found: &mut Vec<u64>) -> Result<(), AllocError>
         requires fits { self.old.first + length self.old.tail.items + length window.now < 2 ^ 64 }
         ensures needle { self.new.needle ≡ self.old.needle }
-        ensures fed { (xs : List ℕ) → WasFed self.old xs → OnOk result (WasFed self.new (xs ++ window.now)) }
-        ensures found { (xs : List ℕ) → WasFed self.old xs → found.old.items ≡ places self.old.needle.now 0 xs
-            → OnOk result (found.new.items ≡ places self.old.needle.now 0 (xs ++ window.now)) }
+        ensures next { OnOk result (self.new.first + length self.new.tail.items ≡ self.old.first + length self.old.tail.items + length window.now) }
+        ensures fed { (base : ℕ) (xs : List ℕ) → WasFed self.old base xs → OnOk result (WasFed self.new base (xs ++ window.now)) }
+        ensures found { (base : ℕ) (xs before : List ℕ) → WasFed self.old base xs → found.old.items ≡ before ++ places self.old.needle.now base xs
+            → OnOk result (found.new.items ≡ before ++ places self.old.needle.now base (xs ++ window.now)) }
     {
         self.take_in(window)?;
         add_places(&self.finder, self.needle, self.first, &self.bytes, found)?;

@@ -5,7 +5,7 @@ use Rattle.archive_replies.specs.Reasons.{reason_of}
 use Rattle.case_queries.specs.Windows.{part_at, part_bytes}
 use Rattle.case_queries.proofs.AskLemmas.{collected_if, held_if, kept_still}
 use Rattle.case_queries.proofs.WindowLemmas.{seen_by}
-use Rattle.case_queries.proofs.memory.answer_by_memory.Goals as goal
+use Rattle.case_queries.proofs.memory.answer_seen.Goals as goal
 
 pub returns-in-Ok-clause-answers : goal.returns-in-Ok-clause-answers
 returns-in-Ok-clause-answers g c =

@@ -1,0 +1,224 @@
+-- A needle in the memory of a core whose image is read window by window.
+use Rattle.std.proofs.Common.{◌≡◌, inl, inr, ⊎_elim, ℕ, ◌+◌, ◌-◌, ◌<◌, ◌≤◌, ◌^◌, Bool, true, false, List, [], ◌∷◌, ◌++◌, take, drop, length, filter, Option, None, Some, Result, Ok, Err, Vec, Global, refl, ap, sym, ◌∙◌, subst, arith}
+use Rattle.std.specs.Prelude.{IsTrue, codes, is_ok}
+use Rattle.std.specs.List.{flat_map, range_with_len}
+use Rattle.std.proofs.lemmas.List.{take_all}
+use Rattle.std.proofs.Math.Seq.{take-append_seam}
+use Rattle.disk_model.specs.declared.disk.Disk as disk
+use Rattle.elf_view.specs.Field.{part}
+use Rattle.elf_view.specs.Header.{segments_of}
+use Rattle.elf_view.specs.Sound.{IsHeaderWhole, IsSound}
+use Rattle.elf_view.specs.declared.faults.Want.TheVariants.{Core}
+use Rattle.address_space.specs.Occurrence.{occurrences, occurs}
+use Rattle.address_space.specs.Source.{ExecutableView, Space, value_at}
+use Rattle.address_space.specs.Whole.{IsFrontOf, space_in}
+use Rattle.archive_replies.specs.Reasons.{reason_of}
+use Rattle.image_replies.specs.Core.{core_fault_of}
+use Rattle.image_replies.specs.declared.core_image.CoreFault.{CoreFault}
+use Rattle.case_journal.specs.Viewing.{OnlyReads}
+use Rattle.intake.specs.Calls.{ChangesNoCase}
+use Rattle.intake.specs.Parts.{Parts, contents_of, state_of}
+use Rattle.intake.specs.QuietLaws.{quiet_then}
+use Rattle.intake.specs.StayLaws.{stays_as, stays_then}
+use Rattle.intake.specs.State.{ArchiveState}
+use Rattle.intake.specs.declared.faults.ArchiveFault.{ArchiveFault}
+use Rattle.memory_replies.specs.Answers.{Answers, AnswersWith, is_done, memory_reply}
+use Rattle.memory_replies.specs.Find.{address_line, find_answer}
+use Rattle.memory_replies.specs.Memory.{memory_of}
+use Rattle.memory_replies.specs.declared.outcome.Outcome.{Outcome}
+use Rattle.memory_replies.proofs.AnswerLemmas.{matches_shown}
+use Rattle.script_streams.specs.Replies.{IsOutcome, Telling, TellsOutcome, TellsReply, TellsText, no_reply, ok_reply, reply_of}
+use Rattle.case_queries.specs.Collecting.{Collects, CollectsAll, Wanted, with_executable}
+use Rattle.case_queries.specs.LeaveLaws.{quiet_as}
+use Rattle.case_queries.specs.Finding.{Finds, ShowsFound, ToldFound, found_reply}
+use Rattle.case_queries.specs.Fronts.{HasSize, IsSoundFront, ReadsFront, ReadsUpTo}
+use Rattle.case_queries.specs.Seeing.{LooksAt, SeesImage}
+use Rattle.case_queries.specs.Walking.{BeginsSo, IsAt, IsReadTo, LeadsOn, Walks, address_after}
+use Rattle.case_queries.specs.declared.walk.CaseImage.{CaseImage}
+use Rattle.case_queries.specs.declared.walk.Walk.{Walk}
+use Rattle.case_queries.specs.declared.walk.WalkFault.{WalkFault}
+use Rattle.case_queries.specs.declared.walk.WalkFault.TheVariants.{Unread, OutOfMemory}
+use Rattle.case_queries.proofs.AgainLemmas.{given_not}
+use Rattle.case_queries.proofs.FrontLemmas.{front_by}
+use Rattle.case_queries.proofs.RestLemmas.{reads_on}
+use Rattle.case_queries.proofs.WindowLemmas.{all_read}
+use Rattle.case_queries.proofs.ShowLemmas.{answered, outcome_with}
+use Rattle.case_queries.proofs.WalkLemmas.{begins_front}
+use Rattle.windowed_search.specs.MemoryWords.{HasSearched, address_of, needle_of}
+use Rattle.windowed_search.specs.StepWords.{Leads, count_of, place_after}
+use Rattle.windowed_search.specs.declared.memory_search.MemorySearch.{MemorySearch}
+use Rattle.windowed_search.specs.declared.steps.Step.{Step}
+
+pub leads_address : (image : List ℕ) (space : Space) (steps : List Step) (p a q b : ℕ) → Leads image space p a steps q b → address_after a steps ≡ b
+leads_address image space [] p a q b leads = leads.1
+leads_address image space (s ∷ ss) p a q b leads = leads_address image space ss (place_after p s) (a + count_of s) q b leads.2
+
+module _ {D : Type 0} (g : disk.Ghosts D) (before : Parts D) (o : CaseImage) where
+  -- the first bytes alone are read
+  pub at_start : (start : Parts D) → ReadsFront g before o.seq o.front.now start → length o.front.now ≤ o.size → IsReadTo g before o 0 o.front.now start
+  at_start start reads short = record {
+    reads = reads;
+    long = omega arith;
+    begins = sym (take_all (length o.front.now) o.front.now (omega arith));
+    within = short;
+  }
+
+  -- an image that is seen, whatever was read of it
+  pub some_seen : (start now : Parts D) (first : List ℕ) (at : ℕ) (bytes : List ℕ) → HasSize (state_of start) o.seq o.size → ReadsFront g before o.seq first start → IsReadTo g before o at bytes now
+      → (image : List ℕ) × SeesImage g before o.seq image now × IsFrontOf o.front.now o.size image × BeginsSo o bytes image
+  some_seen start now first at bytes sized reads read =
+      let has = subst (λ (s : ArchiveState). HasSize s o.seq o.size) reads.state sized in
+      let within = read.within in
+      let x = front_by g before now o.seq bytes has.0 has.1.1 (omega (arith, within, has.2)) read.reads (g.is_honest before.disk) refl in
+      let begins : BeginsSo o bytes x.0 = (x.3 ∙ has.2, x.2) in
+      (x.0, x.1, begins_front g before o at bytes x.0 now read begins, begins)
+
+  module _ (space : Space) (needle : List ℕ) where
+    -- nothing is searched yet
+    pub walk_begins : (start : Parts D) (w : Walk) → ReadsFront g before o.seq o.front.now start → length o.front.now ≤ o.size → w.at ≡ 0 → w.buffer.items ≡ [] → needle_of w.search ≡ needle → ((sp : Space) → HasSearched sp w.search) → IsAt g before space needle o w start
+    walk_begins start w reads short at none asked searched = record {
+      bytes = o.front.now;
+      read = subst (λ p. IsReadTo g before o p o.front.now start) (sym at) (at_start start reads short);
+      window = λ image begins. subst (λ (xs : List ℕ). xs ≡ part image (w.at - length xs) (length xs)) (sym none) refl;
+      searched = λ image begins. searched (space_in image space);
+      asked = asked;
+    }
+
+    -- a walk that stopped
+    pub finds_none : (start now : Parts D) (w : Walk) (f : WalkFault) → HasSize (state_of start) o.seq o.size → ReadsFront g before o.seq o.front.now start → Walks g before space needle o w now (Err f) → Finds g before space needle o now (Err f)
+    finds_none start now w (Unread f) sized reads walked = walked
+    finds_none start now w OutOfMemory sized reads walked =
+        let x = some_seen start now o.front.now walked.0 walked.1 sized reads walked.2 in
+        (x.0, x.1, x.2)
+
+    -- one that came to the end
+    pub finds_all : (start now : Parts D) (w : Walk) (v : Vec ℕ Global) (last : ℕ) → HasSize (state_of start) o.seq o.size → ReadsFront g before o.seq o.front.now start → IsAt g before space needle o w now
+        → ((image : List ℕ) → IsFrontOf o.front.now o.size image → address_of w.search ≡ last)
+        → ((image : List ℕ) → IsFrontOf o.front.now o.size image → (value_at (space_in image space) last ≡ None) × (occurrences (space_in image space) needle ≡ filter (occurs (space_in image space) needle) (range_with_len 0 last)))
+        → ((sp : Space) → HasSearched sp w.search → value_at sp (address_of w.search) ≡ None → v.items ≡ filter (occurs sp (needle_of w.search)) (range_with_len 0 (address_of w.search)))
+        → Finds g before space needle o now (Ok v)
+    finds_all start now w v last sized reads walked address means found =
+        let x = some_seen start now o.front.now w.at walked.bytes sized reads walked.read in
+        let sp = space_in x.0 space in
+        let there = address x.0 x.2 in
+        let last_is = means x.0 x.2 in (
+          x.0,
+          x.1,
+          x.2,
+          found sp (walked.searched x.0 x.3) (ap (value_at sp) there ∙ last_is.0)
+              ∙ ap (λ n. filter (occurs sp n) (range_with_len 0 (address_of w.search))) walked.asked
+              ∙ ap (λ a. filter (occurs sp needle) (range_with_len 0 a)) there
+              ∙ sym last_is.1,
+        )
+
+  -- the reply to what was found
+  module _ (space : Space) (needle : List ℕ) (xs : List ExecutableView) (memory : (image : List ℕ) → IsFrontOf o.front.now o.size image → space_in image space ≡ memory_of image xs) where
+    pub found_shown : (now : Parts D) (r : Result (Vec ℕ Global) WalkFault) → Finds g before space needle o now r → ShowsFound g before o xs needle (found_reply r) now
+    found_shown now (Ok v) finds =
+        let lines = ap (λ (found : List ℕ). flat_map address_line found) finds.3 in (
+          Ok finds.0,
+          finds.1,
+          (finds.2, inl (ap (λ (t : List ℕ). t ++ ok_reply) lines ∙ ap reply_of (matches_shown finds.0 xs needle (space_in finds.0 space) (memory finds.0 finds.2)))),
+        )
+    found_shown now (Err (Unread f)) finds = (Err f, finds, refl)
+    found_shown now (Err OutOfMemory) finds = (Ok finds.0, finds.1, (finds.2, inr refl))
+
+  -- there is no memory before anything else is read
+  pub none_shown : (start : Parts D) (xs : List ExecutableView) (needle : List ℕ) → HasSize (state_of start) o.seq o.size → length o.front.now ≤ o.size → ReadsFront g before o.seq o.front.now start → ShowsFound g before o xs needle memory_reply start
+  none_shown start xs needle sized short reads =
+      let x = some_seen start start o.front.now 0 o.front.now sized reads (at_start start reads short) in
+      (Ok x.0, x.1, (x.2, inr refl))
+
+-- the first bytes stay the first
+pub front_kept : (front bytes all : List ℕ) → all ≡ front ++ bytes → front ≡ take (length front) all
+front_kept front bytes all is = sym (take-append_seam front bytes) ∙ ap (take (length front)) (sym is)
+
+module _ {D : Type 0} (g : disk.Ghosts D) (before now new : Parts D) (o : CaseImage) (xs : List ExecutableView) (needle : List ℕ) (sized : HasSize (state_of now) o.seq o.size) (reads : ReadsFront g before o.seq o.front.now now) where
+  has_before : HasSize (state_of before) o.seq o.size
+  has_before = subst (λ (s : ArchiveState). HasSize s o.seq o.size) reads.state sized
+
+  -- an image that was read whole
+  pub whole_found : (bytes : List ℕ) (outcome : Outcome) (t : Telling) → ReadsUpTo g now o.seq o.front.now o.size (Ok tt) bytes new → length bytes ≡ o.size → TellsReply t (AnswersWith outcome (find_answer bytes xs needle))
+      → TellsOutcome t (λ text. ShowsFound g before o xs needle text new) (is_done outcome)
+  whole_found bytes outcome t up long told =
+      let all = reads_on g before now new o.seq o.size o.size o.front.now bytes (Ok tt) has_before reads up in
+      let sees = all_read g before new o.seq o.size bytes has_before all long in
+      let begins : IsFrontOf o.front.now o.size bytes = (long, front_kept o.front.now up.0 bytes up.2) in
+      (told.0, (Ok bytes, sees, (begins, answered outcome (find_answer bytes xs needle) told.0 told.1)), outcome_with outcome (find_answer bytes xs needle) told.0 told.1, told.2)
+
+  pub whole_unread : (bytes : List ℕ) (f : ArchiveFault) → ReadsUpTo g now o.seq o.front.now o.size (Err f) bytes new → ShowsFound g before o xs needle (no_reply (reason_of f)) new
+  whole_unread bytes f up = (Err f, reads_on g before now new o.seq o.size o.size o.front.now bytes (Err f) has_before reads up, refl)
+
+pub found_outcome : (r : Result (Vec ℕ Global) WalkFault) (done : Bool) → done ≡ is_ok r → IsOutcome done (found_reply r)
+found_outcome (Ok v) done is = subst (λ t. IsOutcome t (found_reply (Ok v))) (sym is) (flat_map address_line v.items, refl)
+found_outcome (Err (Unread f)) done is = subst (λ t. IsOutcome t (no_reply (reason_of f))) (sym is) (reason_of f, refl)
+found_outcome (Err OutOfMemory) done is = subst (λ t. IsOutcome t memory_reply) (sym is) (codes "OutOfMemory", refl)
+
+pub memory_outcome : (done : Bool) → done ≡ false → IsOutcome done memory_reply
+memory_outcome done is = subst (λ t. IsOutcome t memory_reply) (sym is) (codes "OutOfMemory", refl)
+
+pub refused_outcome : (reason : List ℕ) → IsOutcome false (no_reply reason)
+refused_outcome reason = (reason, refl)
+
+-- a core whose first bytes are sound, and have no fault
+pub still_clean : (front image : List ℕ) → ((b : List ℕ) (n : ℕ) → IsHeaderWhole (take n b) → IsSound Core (take n b) → core_fault_of (take n b) ≡ core_fault_of b) → front ≡ take (length front) image → IsSoundFront Core front → core_fault_of front ≡ None → core_fault_of image ≡ None
+still_clean front image law cut sound clean =
+    sym (law image (length front) (subst IsHeaderWhole cut sound.0) (subst (IsSound Core) cut sound.1)) ∙ ap core_fault_of (sym cut) ∙ clean
+
+-- what reads leave as it was
+pub record LeavesAll {D : Type 0} (g : disk.Ghosts D) (old new : Parts D) : Type 0 where
+  pub state : state_of new ≡ state_of old
+  pub contents : IsTrue (g.is_honest old.disk) → contents_of g.seen new ≡ contents_of g.seen old
+  pub quiet : OnlyReads g old.disk new.disk
+  pub stays : ChangesNoCase g old new
+
+module _ {D : Type 0} (g : disk.Ghosts D) (only : (d : D) (c : List ℕ) → g.left_since d (g.clock d) c → g.may_leave d c) where
+  all_as : (old new : Parts D) → new ≡ old → LeavesAll g old new
+  all_as old new is = record {
+    state = ap state_of is;
+    contents = λ honest. ap (contents_of g.seen) is;
+    quiet = quiet_as g only old new is;
+    stays = stays_as g old new is;
+  }
+
+  all_then : (a b c : Parts D) → LeavesAll g a b → LeavesAll g b c → LeavesAll g a c
+  all_then a b c first second = record {
+    state = second.state ∙ first.state;
+    contents = λ honest. second.contents (first.stays.honesty ∙ honest) ∙ first.contents honest;
+    quiet = quiet_then g a.disk b.disk c.disk first.quiet second.quiet;
+    stays = stays_then g a b c first.stays second.stays;
+  }
+
+  sees_all : (old new : Parts D) (seq : ℕ) (image : List ℕ) → SeesImage g old seq image new → LeavesAll g old new
+  sees_all old new seq image sees = record { state = sees.state; contents = sees.contents; quiet = sees.quiet; stays = sees.stays }
+
+  one_all : (old mid new : Parts D) (x : Wanted) (xs : List Wanted) (image : List ℕ) (views : List ExecutableView) (r : Result (List ExecutableView) ArchiveFault)
+      → ((list : List ExecutableView) → Collects g mid xs (Ok list) new → LeavesAll g mid new) → SeesImage g old x.0 image mid → Collects g mid xs r new → Ok views ≡ with_executable x.1 image r → LeavesAll g old new
+  one_all old mid new x xs image views (Ok list) more looks collects is = all_then old mid new (sees_all old mid x.0 image looks) (more list collects)
+  one_all old mid new x xs image views (Err f) more looks collects is = absurd (given_not views f is)
+
+  -- executables that are read leave all as it was
+  collects_all : (old new : Parts D) (xs : List Wanted) (views : List ExecutableView) → Collects g old xs (Ok views) new → LeavesAll g old new
+  collects_all old new [] views collects = all_as old new collects.1
+  collects_all old new (x ∷ xs) views (Ok image, mid, looks, more) =
+      ⊎_elim
+      (λ short. absurd (given_not views _ short.0))
+      (λ rest. one_all old mid new x xs image views rest.0 (λ list. collects_all mid new xs list) looks rest.1 rest.2)
+      more
+  collects_all old new (x ∷ xs) views (Err f, mid, looks, more) = absurd (given_not views f more.0)
+
+  gathered_all : (old new : Parts D) (xs : List Wanted) (views : List ExecutableView) → CollectsAll g old xs (Ok views) new → LeavesAll g old new
+  gathered_all old new xs views all = ⊎_elim (λ short. absurd (given_not views _ short.0)) (λ collects. collects_all old new xs views collects) all
+
+  pub still_front : (before mid new : Parts D) (seq : ℕ) (front : List ℕ) (xs : List Wanted) (views : List ExecutableView) → ReadsFront g before seq front mid → CollectsAll g mid xs (Ok views) new → ReadsFront g before seq front new
+  still_front before mid new seq front xs views reads all =
+      let left = gathered_all mid new xs views all in record {
+        own = reads.own;
+        state = left.state ∙ reads.state;
+        contents = λ honest. left.contents (reads.stays.honesty ∙ honest) ∙ reads.contents honest;
+        quiet = quiet_then g before.disk mid.disk new.disk reads.quiet left.quiet;
+        stays = stays_then g before mid new reads.stays left.stays;
+      }
+
+  pub still_sized : (old new : Parts D) (seq size : ℕ) (xs : List Wanted) (views : List ExecutableView) → HasSize (state_of old) seq size → CollectsAll g old xs (Ok views) new → HasSize (state_of new) seq size
+  still_sized old new seq size xs views has all = subst (λ (s : ArchiveState). HasSize s seq size) (sym (gathered_all old new xs views all).state) has
