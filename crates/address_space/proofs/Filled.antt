@@ -86,11 +86,11 @@ unfolding executable_named
 filed_in b space a i None = refl
 filed_in b space a i (Some e) = refl
 
-entries_in : (b : List ℕ) (space : Space) (a : ℕ) → entry_at (space_in b space) a ≡ entry_at space.files a
+entries_in : (b : List ℕ) (space : Space) (a : ℕ) → entry_at (space_in b space).files a ≡ entry_at space.files a
 unfolding entry_at
 entries_in b space a = refl
 
-undumped_in : (b : List ℕ) (space : Space) (a i : ℕ) → undumped (space_in b space) a i (entry_at (space_in b space) a) ≡ undumped space a i (entry_at space.files a)
+undumped_in : (b : List ℕ) (space : Space) (a i : ℕ) → undumped (space_in b space) a i (entry_at (space_in b space).files a) ≡ undumped space a i (entry_at space.files a)
 undumped_in b space a i = ap (undumped (space_in b space) a i) (entries_in b space a) ∙ filed_in b space a i (entry_at space.files a)
 
 pub placed_in : (b : List ℕ) (space : Space) (a : ℕ) (o : Option (ℕ × SegmentView)) → placed (space_in b space) a o ≡ placed space a o
