@@ -7,6 +7,7 @@ pub mod LabelLemmas
 pub mod OpenLemmas
 pub mod PublishLemmas
 pub mod PutLemmas
+pub mod RoomLemmas
 pub mod SeqLemmas
 pub mod StandLemmas
 pub mod ViewLemmas

@@ -10,4 +10,5 @@ pub mod Opening
 pub mod Publishing
 pub mod Putting
 pub mod Refusing
+pub mod Rooming
 pub mod Viewing

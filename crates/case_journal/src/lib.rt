@@ -12,6 +12,7 @@ mod laws;
 mod live_entries;
 mod open;
 mod publish;
+mod room;
 
 pub use faults::{FormatFault, JournalFault};
 pub use formatting::format;

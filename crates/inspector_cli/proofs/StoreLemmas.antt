@@ -37,7 +37,7 @@ use Rattle.inspector_cli.specs.declared.store.TakeStop.TheVariants.{File, Refuse
 use Rattle.script_streams.specs.Replies.{Telling, TellsReply, TellsText}
 use Rattle.inspector_cli.specs.Stages.{Stage, mark_at, marks_of}
 use Rattle.inspector_cli.specs.Session.{Streams}
-use Rattle.inspector_cli.specs.Storing.{TakesFile, TakesMore, TakesNext, TakesAll, FillsAndEnds, GoneStages, FileReplies, RestReplies, StoresStream, RetiresFirst, RetiresForStream, PinsCase, LabelsCase, Options, Stores, retire_line, said_pin, said_label, StoreStages, StoreEnds}
+use Rattle.inspector_cli.specs.Storing.{TakesFile, TakesMore, TakesNext, TakesAll, MakesRoom, FillsAndEnds, GoneStages, FileReplies, RestReplies, StoresStream, RetiresFirst, RetiresForStream, PinsCase, LabelsCase, Options, Stores, retire_line, said_pin, said_label, StoreStages, StoreEnds}
 use Rattle.intake.specs.StayLaws.{stays_none, stays_as, stays_then}
 use Rattle.inspector_cli.proofs.StageLemmas.{Laws, Reaches, stage_of, ends_moves, deletes_moves, pins_moves, labels_moves, retires_moves, still, begins_stays}
 use Rattle.script_streams.specs.TellLaws.{tells_as, tells_then}
@@ -149,6 +149,21 @@ module _ {D : Type 0} (g : disk.Ghosts D) (fit : Bool) (file mid file' : Option 
   )
   file_stopped (Refused fault) (gone, tells, more, none) =
       (so_far.0 ++ gone, told_both gone tells, (so_far.2 ++ more.0, Consumes-trans file mid file' so_far.2 more.0 so_far.3 more.1, more.3), none_both gone none)
+
+-- room for the record, once all bytes are taken
+pub room_at_end : {D : Type 0} (g : disk.Ghosts D) (fit : Bool) (file file' : Option (List ℕ)) (fails fails' : ℕ) (a b c : Sink) (old mid new : Parts D) → fit ≡ true
+    → TakesAll g fit file file' fails fails' old (record { before = a; after = b }) mid (Ok tt) → (r : Result (Unit {0}) TakeStop)
+    → ((begun : Parts D) (so_far : List ℕ) (gone : List (Going D)) → TakesWhile g begun so_far gone (Ok tt) mid → MakesRoom g begun so_far gone (record { before = b; after = c }) new r)
+    → TakesAll g fit file file' fails fails' old (record { before = a; after = c }) new r
+room_at_end g fit file file' fails fails' a b c old mid new asked (gone, tells, taken, none) r room =
+    made r (room old taken.0 gone taken.3)
+  where
+    made : (r : Result (Unit {0}) TakeStop) → MakesRoom g old taken.0 gone (record { before = b; after = c }) new r → TakesAll g fit file file' fails fails' old (record { before = a; after = c }) new r
+    made (Ok u) (more, told, takes) =
+        (gone ++ more, tells_as (sym (texts_more gone more)) (tells_then tells told), (taken.0, taken.1, taken.2, takes), λ never. absurd (true≢false (sym asked ∙ never)))
+    made (Err File) (more, told, takes) = absurd takes
+    made (Err (Refused fault)) (more, told, takes) =
+        (gone ++ more, tells_as (sym (texts_more gone more)) (tells_then tells told), (taken.0, taken.1, takes), λ never. absurd (true≢false (sym asked ∙ never)))
 
 module _ {D : Type 0} (g : disk.Ghosts D) where
   -- a stream that is begun, and its file

@@ -1,5 +1,5 @@
 -- Cases that go so that a stream finds room: which goes next, and what comes of the bytes that the stream takes meanwhile.
-use Rattle.std.specs.Prelude.{◌≡◌, ℕ, Bool, true, false, not, ◌&&◌, List, [], ◌∷◌, ◌++◌, Option, None, Some, Result, Ok, Err}
+use Rattle.std.specs.Prelude.{◌≡◌, ◌⊎◌, ℕ, Bool, true, false, not, ◌&&◌, List, [], ◌∷◌, ◌++◌, Option, None, Some, Result, Ok, Err}
 use Rattle.std.specs.List.{find, filter}
 use Rattle.disk_model.specs.declared.disk.Disk as disk
 use Rattle.journal_layout.specs.Case.{Case, case_of}
@@ -7,6 +7,7 @@ use Rattle.journal_layout.specs.declared.entry.Entry.{Entry}
 use Rattle.journal_layout.specs.declared.entry.Kind.{Kind}
 use Rattle.journal_layout.specs.declared.entry.Kind.TheVariants.{Core, Exec}
 use Rattle.intake.specs.Calls.{DeleteCall}
+use Rattle.intake.specs.Needs.{lacks_record_room}
 use Rattle.intake.specs.Parts.{Parts, state_of}
 use Rattle.intake.specs.State.{ArchiveState, blocks_in}
 use Rattle.intake.specs.declared.faults.ArchiveFault.{ArchiveFault}
@@ -49,6 +50,10 @@ IsNext cases seq = (c : Case) × (next_to_go cases ≡ Some c) × (c.seq ≡ seq
 abbrev pub HasNoBlock : ArchiveState → Type 0
 HasNoBlock s = blocks_in s ≡ s.shape.data_blocks
 
+-- The stream in slot 0 finds no room: no data block is free, or the journal has none for its record.
+abbrev pub FindsNoRoom : ArchiveState → Type 0
+FindsNoRoom s = HasNoBlock s ⊎ (lacks_record_room s 0 ≡ true)
+
 -- A case goes: the archive when it does, its number, what its deletion is answered, and the archive then.
 pub record Going (D : Type 0) : Type 0 where
   pub before : Parts D
@@ -56,10 +61,10 @@ pub record Going (D : Type 0) : Type 0 where
   pub answer : Result (Unit {0}) ArchiveFault
   pub after : Parts D
 
--- It is the next one, and something goes only if no block is free.
+-- It is the next one, and something goes only if the stream finds no room.
 pub record IsGoing {D : Type 0} (g : disk.Ghosts D) (w : Going D) : Type 0 where
   pub next : IsNext (state_of w.before).cases w.seq
-  pub needed : HasNoBlock (state_of w.before)
+  pub needed : FindsNoRoom (state_of w.before)
   pub deletes : DeleteCall g w.before w.seq w.answer w.after
 
 -- what is told of it; of a case that could not be deleted the reason is the reply to the stream

@@ -5,7 +5,7 @@ ghost use Rattle.intake.specs.Parts.{Parts, state_of};
 ghost use Rattle.journal_layout.specs.Case.{case_of};
 ghost use Rattle.script_streams.specs.Replies.{TellsText, telling};
 ghost use Rattle.archive_replies.specs.Texts.{dropped_line};
-ghost use Rattle.inspector_cli.specs.Fitting.{Going, TakesWhile, HasNoBlock, IsNext, goes, goes_first};
+ghost use Rattle.inspector_cli.specs.Fitting.{Going, TakesWhile, HasNoBlock, FindsNoRoom, IsNext, goes, goes_first};
 ghost use Rattle.inspector_cli.specs.Storing.{GoesNext, MakesRoom};
 
 use crate::store::TakeStop;
@@ -17,9 +17,19 @@ use script_streams::{Output, Reply};
 // The most cases that an archive may have.
 const MOST_CASES: u64 = 1 << 32;
 
-// Deletes the cases that go next, and tells them, until a data block is free or no case may go. A case that can't be deleted refuses
-// the stream in slot 0.
+// What a stream may find no room for.
+#[derive(Clone, Copy)]
+pub(crate) enum Need {
+    // A data block.
+    Block,
+    // The record of its case.
+    Record,
+}
+
+// Deletes the cases that go next, and tells them, until there is room for this or no case may go. A case that can't be deleted
+// refuses the stream in slot 0.
 pub(crate) fn make_room<O: Output, D: Disk>(
+    need: Need,
     reply: &mut Reply<'_, O>,
     archive: &mut Archive<D>,
 ) -> Result<(), TakeStop>
@@ -28,7 +38,7 @@ pub(crate) fn make_room<O: Output, D: Disk>(
         → MakesRoom D.Disk begun so_far gone (telling O.Output reply.old reply.new) archive.new result }
 {
     for _ in 0..MOST_CASES {
-        let is_gone = drop_if_full(reply, archive)?;
+        let is_gone = drop_if_full(need, reply, archive)?;
         if !is_gone {
             return Ok(());
         }
@@ -36,8 +46,9 @@ pub(crate) fn make_room<O: Output, D: Disk>(
     Ok(())
 }
 
-// Deletes the case that goes next, and tells it, if no data block is free. Says whether one went.
+// Deletes the case that goes next, and tells it, if there is no room for this. Says whether one went.
 fn drop_if_full<O: Output, D: Disk>(
+    need: Need,
     reply: &mut Reply<'_, O>,
     archive: &mut Archive<D>,
 ) -> Result<bool, TakeStop>
@@ -45,7 +56,7 @@ fn drop_if_full<O: Output, D: Disk>(
         → TakesWhile D.Disk begun so_far gone (Ok tt) archive.old
         → GoesNext D.Disk begun so_far gone (telling O.Output reply.old reply.new) archive.new result }
 {
-    if !lacks_block(archive) {
+    if !lacks_room(need, archive) {
         return Ok(false);
     }
     let Some(seq) = next_number(archive) else {
@@ -57,6 +68,16 @@ fn drop_if_full<O: Output, D: Disk>(
             Ok(true)
         }
         Err(fault) => Err(TakeStop::Refused(fault)),
+    }
+}
+
+// Whether there is no room for this.
+fn lacks_room<D: Disk>(need: Need, archive: &Archive<D>) -> bool
+    ensures { result ≡ true → FindsNoRoom (state_of archive.now) }
+{
+    match need {
+        Need::Block => lacks_block(archive),
+        Need::Record => archive.lacks_record_room(0),
     }
 }
 

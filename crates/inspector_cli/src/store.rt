@@ -11,7 +11,7 @@ ghost use Rattle.inspector_cli.specs.Storing.{StoreEnds, Stores, StoresStream, F
 
 use crate::answers::{answer_end, answer_label, answer_pin};
 use crate::begin::answer_begin;
-use crate::fitting::{lacks_block, make_room};
+use crate::fitting::{Need, lacks_block, make_room};
 use crate::retiring::retire_first;
 use crate::session::{SessionFault, StoreOptions, StoreOutcome};
 use archive_replies::reason;
@@ -45,9 +45,10 @@ pub(crate) enum TakeStop {
 ///   and becomes a case. The reply is that of the line `begin`, and then that of the first step that was refused, or else
 ///   that of the line `end 0`. A `file` that cannot be read, or that has not ended after 2^40 reads, is a step that is
 ///   refused with the reply `no File`.
-/// - If cases may go so that it fits, and no data block is free where bytes come, the case that goes next is deleted, as by the
-///   line `delete` of a session, and told as `dropped N` after the reply to `begin`; and so on, until a block is free or all cases
-///   that are left are pinned. If one can't be deleted, that is the step that was refused.
+/// - If cases may go so that it fits, and no data block is free where bytes come, or the journal has no room for the case's record
+///   at the end, the case that goes next is deleted, as by the line `delete` of a session, and told as `dropped N` after the reply to
+///   `begin`; and so on, until there is room or all cases that are left are pinned. If one can't be deleted, that is the step that
+///   was refused. The record is taken to lie in one run of blocks more than the image has so far.
 /// - Once the case is stored, it gets its label as by the line `label` of a session, and then it is pinned as by the line `pin`.
 ///   A case whose label or pin is refused stays.
 ///
@@ -180,7 +181,7 @@ fn answer_file<I: Input, O: Output, D: Disk>(
     ensures { TellsReply (telling O.Output reply.old reply.new) (λ text. FillsAndEnds D.Disk fit (I.remaining file.old) (I.remaining file.new) (I.failures file.old) (I.failures file.new)
         archive.old text archive.new result) }
 {
-    match take_file(fit, file, reply, archive) {
+    match fill_stream(fit, file, reply, archive) {
         Ok(()) => answer_end(0, reply, archive),
         Err(TakeStop::File) => {
             tell_no(reply, b"File");
@@ -191,6 +192,24 @@ fn answer_file<I: Input, O: Output, D: Disk>(
             None
         }
     }
+}
+
+// Takes all bytes of a file into the stream in slot 0, and makes room for the record of its case. For both cases go, if they may.
+fn fill_stream<I: Input, O: Output, D: Disk>(
+    fit: bool,
+    file: &mut I,
+    reply: &mut Reply<'_, O>,
+    archive: &mut Archive<D>,
+) -> Result<(), TakeStop>
+    requires { Takes D.Disk archive.old 0 [] (Ok tt) archive.old }
+    ensures { TakesAll D.Disk fit (I.remaining file.old) (I.remaining file.new) (I.failures file.old) (I.failures file.new)
+        archive.old (telling O.Output reply.old reply.new) archive.new result }
+{
+    take_file(fit, file, reply, archive)?;
+    if !fit {
+        return Ok(());
+    }
+    make_room(Need::Record, reply, archive)
 }
 
 // Takes all bytes of a file into the stream in slot 0, for which cases go, if they may.
@@ -263,7 +282,7 @@ fn take_one<I: Input, O: Output, D: Disk>(
     if !goes_on {
         return Ok(false);
     }
-    make_room(reply, archive)?;
+    make_room(Need::Block, reply, archive)?;
     Ok(true)
 }
 

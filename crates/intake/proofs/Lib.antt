@@ -35,6 +35,7 @@ pub mod RunCountLemmas
 pub mod AnswerLemmas
 pub mod FactLemmas
 pub mod NameLemmas
+pub mod NeedLemmas
 pub mod LabelLemmas
 pub mod UpgradeLemmas
 pub mod RangeLemmas

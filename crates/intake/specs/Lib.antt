@@ -16,6 +16,7 @@ pub mod Lives
 pub mod Making
 pub mod Marks
 pub mod Names
+pub mod Needs
 pub mod Opened
 pub mod Part
 pub mod Parts

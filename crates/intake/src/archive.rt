@@ -93,6 +93,7 @@ impl<D: Disk> Archive<D> {
     ghost use Rattle.intake.specs.Ranges.{RangesReply};
     ghost use Rattle.intake.specs.Retiring.{NameReply};
     ghost use Rattle.intake.specs.Room.{LendsRoom, room_of, FitsFree};
+    ghost use Rattle.intake.specs.Needs.{lacks_record_room};
     ghost use Rattle.intake.specs.Slots.{stream_at};
     ghost use Rattle.std.specs.Borrow.{sem};
 
@@ -289,6 +290,18 @@ impl<D: Disk> Archive<D> {
                 self.stopped = end_streams(fault, &mut self.slots);
                 Err(fault)
             }
+        }
+    }
+
+    /// Whether the record of the case that the stream in a slot becomes has no room in the journal, if its image lies in one run of
+    /// blocks more than the stream has: after the records that are there, or after the cases that are written anew. So `finish` may be
+    /// refused as `JournalFull`; if it has, `finish` is refused so only where no generation is left. False if no stream is there.
+    pub fn lacks_record_room(&self, slot: u8) -> bool
+        ensures { result ≡ lacks_record_room (state_of self.now) slot }
+    {
+        match self.slots.longest_record(slot) {
+            Some(size) => !self.journal.has_room(size),
+            None => false,
         }
     }
 

@@ -1,11 +1,13 @@
 // The eight slots for streams.
-ghost use Rattle.std.specs.Prelude.{◌≡◌, ◌<◌, ◌≤◌, ◌≢◌, false, ◌↔◌, None, Some, IfOk, IsTrue, IsSome, replicate, length, map, drop, option_map, option_copied, slice_set};
+ghost use Rattle.std.specs.Prelude.{◌≡◌, ◌<◌, ◌≤◌, ◌^◌, ◌≢◌, false, ◌↔◌, None, Some, IfOk, IsTrue, IsSome, replicate, length, map, drop, option_map, option_copied, slice_set};
 ghost use Rattle.std.specs.List.{All};
 ghost use Rattle.intake.specs.declared.slots.Slot.{Slot};
 ghost use Rattle.std.specs.Borrow.{sem};
 ghost use Rattle.intake.specs.Slots.{stream_at, closed};
 ghost use Rattle.intake.specs.Room.{IsFreeFrom};
 ghost use Rattle.intake.specs.StreamView.{parts_of, parts_in, taken_parts};
+ghost use Rattle.intake.specs.Parts.{StreamParts};
+ghost use Rattle.intake.specs.Needs.{longest_of};
 
 use crate::ArchiveFault;
 use crate::buffer::Buffer;
@@ -47,6 +49,8 @@ impl Model for Slots {
 impl Slots {
     ghost use Rattle.intake.specs.Lending.{LendsSlot};
     ghost use Rattle.intake.specs.Room.{SlotReply, HasBlock, room_in};
+    ghost use Rattle.intake.specs.Parts.{StreamParts};
+    ghost use Rattle.intake.specs.Needs.{longest_of};
 
     /// Eight slots with nothing in them.
     pub(crate) fn new(alloc: Global) -> Result<Slots, AllocError>
@@ -69,6 +73,18 @@ impl Slots {
     {
         let slot = &self.slots[usize::from(slot)];
         slot.stream.is_some()
+    }
+
+    /// The bytes of the record of the case that the stream in a slot becomes, if there is one and its image lies in one run of
+    /// blocks more.
+    pub(crate) fn longest_record(&self, slot: u8) -> Option<u64>
+        requires { (s : StreamParts) → stream_at self.now slot ≡ Some s → length s.facts.blocks ≤ 2 ^ 52 }
+        ensures { result ≡ option_map longest_of (stream_at self.now slot) }
+    {
+        if usize::from(slot) >= self.slots.len() {
+            return None;
+        }
+        longest_in(&self.slots[usize::from(slot)])
     }
 
     /// Takes the stream out of a slot, with its block, if there is one.
@@ -144,6 +160,17 @@ fn free_from(stopped: bool, there: bool, slot: &Slot) -> (Result<(), ArchiveFaul
     match &slot.stream {
         Some(stream) if there => (Ok(()), (stream.length % 4096) as usize),
         _ => (Err(ArchiveFault::NoStream), end),
+    }
+}
+
+// The bytes of the record of the case that the stream in a slot becomes, if there is one and its image lies in one run of blocks more.
+fn longest_in(slot: &Slot) -> Option<u64>
+    requires { (s : StreamParts) → parts_in slot.now ≡ Some s → length s.facts.blocks ≤ 2 ^ 52 }
+    ensures { result ≡ option_map longest_of (parts_in slot.now) }
+{
+    match &slot.stream {
+        Some(stream) => Some(stream.longest_record()),
+        None => None,
     }
 }
 

@@ -1,7 +1,8 @@
 // A stream: an image on its way into the archive.
-ghost use Rattle.std.specs.Prelude.{◌≡◌};
+ghost use Rattle.std.specs.Prelude.{◌≡◌, ◌≤◌, ◌^◌, length};
 ghost use Rattle.journal_layout.specs.Case.{case_of};
-ghost use Rattle.intake.specs.StreamView.{case_from_parts, parts_of};
+ghost use Rattle.intake.specs.StreamView.{case_from_parts, facts_of, parts_of};
+ghost use Rattle.intake.specs.Needs.{longest_record};
 
 use extents::RunList;
 use journal_layout::{Entry, Kind, Label, Name};
@@ -22,6 +23,15 @@ pub(crate) struct Stream {
 
 impl Stream {
     ghost use Rattle.std.specs.Prelude.{[]};
+
+    /// The bytes of the record of the case that the stream becomes, if its image lies in one run of blocks more than the stream has.
+    pub(crate) fn longest_record(&self) -> u64
+        requires { length self.now.runs ≤ 2 ^ 52 }
+        ensures { result ≡ longest_record (facts_of self.now) }
+    {
+        let runs = self.runs.runs().len() as u64 + 1;
+        (48 + 8 * runs + self.name.len() as u64 + 15) / 16 * 16
+    }
 
     /// The case that the stream becomes, with no label. Its number is given later.
     pub(crate) fn into_entry(self) -> Entry

@@ -12,7 +12,7 @@ pub returns-in-Err-File : goal.returns-in-Err-File
 returns-in-Err-File g c =
     let t = rw c.in-Err-File.field-0-is at c.in-Err-File.ensures in (
       flat_map going_text t.0 ++ no_reply (codes "File"),
-      (t.0, c.take_file.new.archive, no_reply (codes "File"), refl, t.3, (Err File, t.2, (refl, refl, refl))),
+      (t.0, c.fill_stream.new.archive, no_reply (codes "File"), refl, t.3, (Err File, t.2, (refl, refl, refl))),
       tells_then t.1 c.tell_no.ensures,
     )
 
@@ -20,7 +20,7 @@ pub returns-in-Err-Refused : goal.returns-in-Err-Refused
 returns-in-Err-Refused g c =
     let t = rw c.in-Err-Refused.field-0-is at c.in-Err-Refused.ensures in (
       flat_map going_text t.0 ++ no_reply (reason_of c.in-Err-Refused.fault),
-      (t.0, c.take_file.new.archive, no_reply (reason_of c.in-Err-Refused.fault), refl, t.3, (Err (Refused c.in-Err-Refused.fault), t.2, (refl, refl, refl))),
+      (t.0, c.fill_stream.new.archive, no_reply (reason_of c.in-Err-Refused.fault), refl, t.3, (Err (Refused c.in-Err-Refused.fault), t.2, (refl, refl, refl))),
       tells_then t.1 (tells_as (ap no_reply c.reason.ensures) c.tell_no-in-Err-Refused.ensures),
     )
 
@@ -28,6 +28,6 @@ pub returns-in-Ok : goal.returns-in-Ok
 returns-in-Ok g c =
     let t = c.in-Ok.ensures in (
       flat_map going_text t.0 ++ c.answer_end.ensures.0,
-      (t.0, c.take_file.new.archive, c.answer_end.ensures.0, refl, t.3, (Ok tt, t.2, c.answer_end.ensures.1)),
+      (t.0, c.fill_stream.new.archive, c.answer_end.ensures.0, refl, t.3, (Ok tt, t.2, c.answer_end.ensures.1)),
       tells_then t.1 c.answer_end.ensures.2,
     )
