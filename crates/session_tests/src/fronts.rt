@@ -238,8 +238,47 @@ fn a_range_that_is_scattered_is_read_with_each_byte_once(rt: HostRuntime) -> Res
 fn a_search_after_a_dump_reads_what_is_left(rt: HostRuntime) -> Result<(), Fail> {
     let alloc = rt.alloc();
     let core = large_core(alloc)?;
-    let lines = "dump 1 0x60000 4096\nfind 1 0708\nstrings 1 1024\n";
+    let lines = "dump 1 0x60000 4096\nfind 1 0708\n";
     assert_eq!(rt; read_for(alloc, &core, lines)?, core.len() as u64 + 4096);
+    Ok(())
+}
+
+#[test]
+fn a_search_reads_each_byte_once(rt: HostRuntime) -> Result<(), Fail> {
+    let alloc = rt.alloc();
+    let core = large_core(alloc)?;
+    assert_eq!(rt; read_for(alloc, &core, "find 1 0708\n")?, core.len() as u64);
+    Ok(())
+}
+
+// What is found of four bytes in a core of these segments.
+fn found_in(alloc: Global, loads: &[LoadPart<'_>]) -> Result<String, Fail> {
+    let core = core_image(alloc, &[], loads)?;
+    let mut archive = opened(alloc, with_core(alloc, &core)?, 1 << 30)?;
+    told(alloc, &mut archive, b"find 1 01020304\n".as_slice())
+}
+
+// Memory that ends with the first two of the four bytes, and has all of them where one piece of it is read after another.
+fn searched_memory(alloc: Global) -> Result<Vec<u8>, Fail> {
+    let mut memory = vec![in alloc; 7u8; 131_070]?;
+    memory.extend_from_slice(&[1, 2, 3, 4])?;
+    memory.extend_from_slice(&vec![in alloc; 7u8; 65_532]?)?;
+    memory.extend_from_slice(&[1, 2])?;
+    Ok(memory)
+}
+
+#[test]
+fn matches_go_across_pieces_and_segments(rt: HostRuntime) -> Result<(), Fail> {
+    let alloc = rt.alloc();
+    let memory = searched_memory(alloc)?;
+    let next = 0x10000 + memory.len() as u64;
+    let found = "0x2fffe\n0x3fffe\nok\n";
+    let rising = [segment(0x10000, &memory), segment(next, &[3, 4])];
+    assert!(rt; found_in(alloc, &rising)?.as_str() == found);
+    let apart = [segment(0x10000, &memory), segment(next + 1, &[3, 4])];
+    assert!(rt; found_in(alloc, &apart)?.as_str() == "0x2fffe\nok\n");
+    let falling = [segment(next, &[3, 4]), segment(0x10000, &memory)];
+    assert!(rt; found_in(alloc, &falling)?.as_str() == found);
     Ok(())
 }
 
