@@ -34,6 +34,10 @@ use script_lines::MemoryQuery;
 use script_streams::{Output, Reply, tell_no};
 use std::alloc::Global;
 
+// The most bytes of an image that is searched whole, in memory: each match is then told as it is found. Of a larger one the matches
+// are held until all of it is read.
+const SMALL: usize = 8_388_608;
+
 // Answers a line over a core's memory of a case of this kind. Says whether it was done; if not, it was refused.
 pub(crate) fn answer_by_memory<O: Output, D: Disk>(
     seq: u32,
@@ -56,6 +60,9 @@ pub(crate) fn answer_by_memory<O: Output, D: Disk>(
     };
     match query {
         MemoryQuery::Find { needle } => {
+            if size <= SMALL {
+                return answer_seen(seq, kind, query, images, reply, archive);
+            }
             let needle = needle.bytes.as_slice();
             answer_find(seq, kind, size, query, needle, images, reply, archive)
         }

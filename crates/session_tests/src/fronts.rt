@@ -114,7 +114,8 @@ fn notes_last(alloc: Global) -> Result<Vec<u8>, Fail> {
 
 // The disk of an archive whose first case is this core.
 fn with_core(alloc: Global, image: &[u8]) -> Result<MemDisk, Fail> {
-    let mut archive = opened(alloc, disk_of(alloc, 260)?, 1 << 30)?;
+    let blocks = image.len().div_ceil(4096) as u32;
+    let mut archive = opened(alloc, disk_of(alloc, blocks.max(260))?, 1 << 30)?;
     let mut script = b"begin core 0 comm=demo pid=1\n".to_vec(alloc)?;
     for piece in image.chunks(4000) {
         let part = format!(in alloc; "part 0 {}\n", piece.len())?;
@@ -246,7 +247,8 @@ fn a_search_after_a_dump_reads_what_is_left(rt: HostRuntime) -> Result<(), Fail>
 #[test]
 fn a_search_reads_each_byte_once(rt: HostRuntime) -> Result<(), Fail> {
     let alloc = rt.alloc();
-    let core = large_core(alloc)?;
+    let memory = vec![in alloc; 7u8; 9 << 20]?;
+    let core = core_image(alloc, &[], &[segment(0x10000, &memory)])?;
     assert_eq!(rt; read_for(alloc, &core, "find 1 0708\n")?, core.len() as u64);
     Ok(())
 }
@@ -258,9 +260,10 @@ fn found_in(alloc: Global, loads: &[LoadPart<'_>]) -> Result<String, Fail> {
     told(alloc, &mut archive, b"find 1 01020304\n".as_slice())
 }
 
-// Memory that ends with the first two of the four bytes, and has all of them where one piece of it is read after another.
+// Memory that ends with the first two of the four bytes, and has all of them where one piece of it is read after another. It is large
+// enough to be read in pieces.
 fn searched_memory(alloc: Global) -> Result<Vec<u8>, Fail> {
-    let mut memory = vec![in alloc; 7u8; 131_070]?;
+    let mut memory = vec![in alloc; 7u8; 8_519_678]?;
     memory.extend_from_slice(&[1, 2, 3, 4])?;
     memory.extend_from_slice(&vec![in alloc; 7u8; 65_532]?)?;
     memory.extend_from_slice(&[1, 2])?;
@@ -272,11 +275,11 @@ fn matches_go_across_pieces_and_segments(rt: HostRuntime) -> Result<(), Fail> {
     let alloc = rt.alloc();
     let memory = searched_memory(alloc)?;
     let next = 0x10000 + memory.len() as u64;
-    let found = "0x2fffe\n0x3fffe\nok\n";
+    let found = "0x82fffe\n0x83fffe\nok\n";
     let rising = [segment(0x10000, &memory), segment(next, &[3, 4])];
     assert!(rt; found_in(alloc, &rising)?.as_str() == found);
     let apart = [segment(0x10000, &memory), segment(next + 1, &[3, 4])];
-    assert!(rt; found_in(alloc, &apart)?.as_str() == "0x2fffe\nok\n");
+    assert!(rt; found_in(alloc, &apart)?.as_str() == "0x82fffe\nok\n");
     let falling = [segment(next, &[3, 4]), segment(0x10000, &memory)];
     assert!(rt; found_in(alloc, &falling)?.as_str() == found);
     Ok(())
