@@ -28,10 +28,12 @@ returns-in_err-stay-in-Ok g c =
     (refused_last S _ s (question_said c.args.question) (O.taken c.args.output.now) (O.taken c.open_and_ask-asked.new.output) (O.failures c.args.output.now) (O.failures c.open_and_ask-asked.new.output)
     c.deref.result.now c.in_err-stay-in-Ok.field-0.0 (
       c.in-Ok.is_done,
-      (c.unlocked-disk.result,
-      c.unlocked-disk.ensures.under,
-      as_answered _ (question_said c.args.question) (O.taken c.args.output.now) (O.taken c.open_and_ask-asked.new.output) (O.failures c.args.output.now) (O.failures c.open_and_ask-asked.new.output)
-          c.unlocked-disk.result c.open_and_ask-asked.result.1 c.open_and_ask-asked.result.0 (Ok c.in-Ok.is_done) c.open_and_ask-asked.ensures.outcome c.in-Ok.is),
+      (
+        c.unlocked-disk.result,
+        c.unlocked-disk.ensures.under,
+        as_answered _ (question_said c.args.question) (O.taken c.args.output.now) (O.taken c.open_and_ask-asked.new.output) (O.failures c.args.output.now) (O.failures c.open_and_ask-asked.new.output)
+            c.unlocked-disk.result c.open_and_ask-asked.result.1 c.open_and_ask-asked.result.0 (Ok c.in-Ok.is_done) c.open_and_ask-asked.ensures.outcome c.in-Ok.is,
+      ),
     )
     (subst (λ (y : _). LeavesAllThere S _ y c.deref.result.now (Err c.in_err-stay-in-Ok.field-0.0)) c.into_shared.ensures c.in_err-stay-in-Ok.ensures)
     (λ n among shape x ys honest holds.
