@@ -10,7 +10,7 @@ use journal_layout::Shape;
 use name_template::Template;
 use script_streams::{Output, Reply};
 use std::fs::File;
-use std::io::ErrorKind;
+use std::os::unix::fs::OpenOptionsExt;
 use std::rt::Files;
 
 // The bytes of a block.
@@ -129,15 +129,17 @@ fn tell_values<R: AllocGlobal + Files<File = File>, O: Output>(
     is_template && is_label && is_log
 }
 
-// Whether a log can be written. One that is not there is made when the first line comes.
+// Whether a log can be written. It is made if it is not there, as with the first line.
 fn takes_lines<R: Files<File = File>>(rt: &R, path: &str) -> bool {
     if path.is_empty() {
         return true;
     }
-    match File::options().append(true).open(rt, path) {
-        Ok(_) => true,
-        Err(error) => error.kind() == ErrorKind::NotFound,
-    }
+    let opened = File::options()
+        .append(true)
+        .create(true)
+        .mode(0o600)
+        .open(rt, path);
+    opened.is_ok()
 }
 
 // Tells whether the archive can keep what is asked. Says whether it can.
@@ -177,7 +179,7 @@ fn tell_blocks<O: Output>(
         return false;
     };
     let Some(wanted) = blocks_wanted(config) else {
-        reply.tell(b"fault keep is not set: a full archive refuses each new core\n");
+        reply.tell(b"fault neither fit nor keep is set: a full archive refuses each new core\n");
         return false;
     };
     let is_large = wanted <= u128::from(shape.data_blocks);

@@ -30,17 +30,39 @@ pub(crate) fn in_order(alloc: Global, words: &[String]) -> Result<Option<Vec<Str
     Ok(Some(ordered))
 }
 
-// Adds the words of this kind.
+// Adds the words of this kind. A value is of the kind of its option.
 fn push_all(ordered: &mut Vec<String>, words: &[String], wanted: Kind) -> Result<(), AllocError> {
-    let mut is_value = false;
+    let mut of_option = None;
     for word in words {
-        let kind = if is_value { Kind::Known } else { kind_of(word) };
+        let kind = match of_option {
+            Some(kind) => kind,
+            None => kind_of(word),
+        };
         if kind == wanted {
             ordered.push(word.clone()?)?;
         }
-        is_value = !is_value && word.as_str() == "--archive";
+        of_option = match of_option {
+            Some(_) => None,
+            None => kind_of_value(word),
+        };
     }
     Ok(())
+}
+
+// The kind of the word after this one, if that is this option's value. `store` has options that a handler has not.
+fn kind_of_value(word: &str) -> Option<Kind> {
+    match word {
+        "--archive" => Some(Kind::Known),
+        "--keep"
+        | "--bytes"
+        | "--before"
+        | "--label"
+        | "--log"
+        | "--template"
+        | "--limit"
+        | "--exec" => { Some(Kind::Unknown) }
+        _ => None,
+    }
 }
 
 // The kind of a word that is no option's value.

@@ -86,7 +86,9 @@ pub(crate) static COMMANDS: [CommandWords; 9] = [
     CommandWords {
         name: "look",
         about: "answers the lines on standard input that change nothing, while others may store cores",
-        after_help: None,
+        after_help: Some(
+            "It ends with its input: on a terminal by Ctrl-D. `ask --help` lists the lines.",
+        ),
         words: &[ARCHIVE, NO_WAIT],
     },
     CommandWords {

@@ -24,7 +24,7 @@ returns-then-has_failed g c = record {
   quiet = quiet_read g.D.Disk c.args.disk.now c.read_at.new.self (g.met.D.Disk.only_now c.args.disk.now) c.in-Ok.ensures.seen c.in-Ok.ensures.crash c.in-Ok.ensures.time c.in-Ok.ensures.honesty c.in-Ok.ensures.size;
   later = omega (arith, c.in-Ok.ensures.cause.ok);
   cause = search rules;
-  blamed = λ is. sym c.has_failed.ensures ∙ c.if-has_failed.true;
+  blamed = λ is. sym c.has_failed.ensures.failed ∙ c.if-has_failed.true;
 }
 
 pub returns-else-has_failed : goal.returns-else-has_failed
