@@ -114,7 +114,7 @@ fn notes_last(alloc: Global) -> Result<Vec<u8>, Fail> {
 
 // The disk of an archive whose first case is this core.
 fn with_core(alloc: Global, image: &[u8]) -> Result<MemDisk, Fail> {
-    let blocks = image.len().div_ceil(4096) as u32;
+    let blocks = u32::try_from(image.len().div_ceil(4096)).unwrap_or(4096);
     let mut archive = opened(alloc, disk_of(alloc, blocks.max(260))?, 1 << 30)?;
     let mut script = b"begin core 0 comm=demo pid=1\n".to_vec(alloc)?;
     for piece in image.chunks(4000) {
