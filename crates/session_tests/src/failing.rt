@@ -1,122 +1,23 @@
-// A script whose input fails after each of its lines, and whose output fails at each of its bytes.
-use crate::archives::{fresh, named, session, tells};
+// The course, whose input fails at each read, and whose output fails at each byte.
+use crate::archives::{named, session};
+use crate::course::{Course, course_archive, whole_course};
 use disk_model::Disk;
 use inspector_cli::{Input, Output, SessionFault, StreamFault};
 use intake::Archive;
 use std::process::Abort;
 use std::test::Fail;
 
-// A line with the bytes that follow it, the reply to it, and what `list` tells then.
-struct Row {
-    line: &'static [u8],
-    reply: &'static [u8],
-    cases: &'static str,
-}
-
-static ROWS: [Row; 13] = [
-    Row {
-        line: b"begin exec 0 a\n",
-        reply: b"name a\nok\n",
-        cases: "ok\n",
-    },
-    Row {
-        line: b"part 0 5\nhello",
-        reply: b"ok\n",
-        cases: "ok\n",
-    },
-    Row {
-        line: b"end 0\n",
-        reply: b"stored 1\nok\n",
-        cases: "1 exec 5 0 0 0 - a\nok\n",
-    },
-    Row {
-        line: b"pin 1\n",
-        reply: b"ok\n",
-        cases: "1 exec 5 0 0 0 pinned a\nok\n",
-    },
-    Row {
-        line: b"begin exec 0 b\n",
-        reply: b"name b\nok\n",
-        cases: "1 exec 5 0 0 0 pinned a\nok\n",
-    },
-    Row {
-        line: b"end 0\n",
-        reply: b"stored 2\nok\n",
-        cases: "1 exec 5 0 0 0 pinned a\n2 exec 0 0 0 0 - b\nok\n",
-    },
-    Row {
-        line: b"delete 2\n",
-        reply: b"ok\n",
-        cases: "1 exec 5 0 0 0 pinned a\nok\n",
-    },
-    Row {
-        line: b"begin exec 1 c\n",
-        reply: b"name c\nok\n",
-        cases: "1 exec 5 0 0 0 pinned a\nok\n",
-    },
-    Row {
-        line: b"begin exec 2 d\n",
-        reply: b"name d\nok\n",
-        cases: "1 exec 5 0 0 0 pinned a\nok\n",
-    },
-    Row {
-        line: b"part 1 2\nhi",
-        reply: b"ok\n",
-        cases: "1 exec 5 0 0 0 pinned a\nok\n",
-    },
-    Row {
-        line: b"end 1\n",
-        reply: b"stored 3\nok\n",
-        cases: "1 exec 5 0 0 0 pinned a\n3 exec 2 0 0 0 - c\nok\n",
-    },
-    Row {
-        line: b"end 2\n",
-        reply: b"stored 4\nok\n",
-        cases: "1 exec 5 0 0 0 pinned a\n3 exec 2 0 0 0 - c\n4 exec 0 0 0 0 - d\nok\n",
-    },
-    Row {
-        line: b"retire keep=1\n",
-        reply: b"dropped 3\ndropped 4\nok\n",
-        cases: "1 exec 5 0 0 0 pinned a\nok\n",
-    },
-];
-
-// The line of a row.
-fn line_of(row: usize) -> &'static [u8] {
-    match ROWS.get(row) {
-        Some(row) => row.line,
-        None => &[],
-    }
-}
-
-// The reply to a row.
-fn reply_of(row: usize) -> &'static [u8] {
-    match ROWS.get(row) {
-        Some(row) => row.reply,
-        None => &[],
-    }
-}
-
-// What `list` tells after this many rows.
-fn cases_behind(rows: usize) -> &'static str {
-    match rows.checked_sub(1) {
-        Some(last) => match ROWS.get(last) {
-            Some(row) => row.cases,
-            None => "",
-        },
-        None => "ok\n",
-    }
-}
-
-// An input that gives a row at each read, and fails after this many of them.
+// An input that gives a line with its bytes at each read, or as much of it as there is room for, and fails after this many reads.
 #[derive(Drop)]
-struct Rows {
-    given: usize,
-    last: usize,
+struct Lines<'a> {
+    course: &'a Course,
+    row: usize,
+    at: usize,
+    reads: usize,
     failures: u64,
 }
 
-impl Input for Rows {
+impl Input for Lines<'_> {
     ghost use Rattle.std.specs.Prelude.{None};
 
     ghost remaining = { λ _. None };
@@ -124,31 +25,33 @@ impl Input for Rows {
     ghost failures = { λ s. s.failures };
 
     fn read(&mut self, into: &mut [u8]) -> Result<usize, StreamFault> {
-        if self.given >= self.last {
+        if self.reads == 0 {
             self.failures = self.failures.saturating_add(1);
             return Err(StreamFault);
         }
-        let line = line_of(self.given);
-        let count = line.len().min(into.len());
-        into[..count].copy_from_slice(&line[..count]);
-        self.given += 1;
+        self.reads -= 1;
+        let end = self.course.line_end(self.row);
+        let rest = self.course.script.get(self.at..end).unwrap_or(&[]);
+        let count = rest.len().min(into.len());
+        into[..count].copy_from_slice(&rest[..count]);
+        self.at = self.at.saturating_add(count);
+        let is_whole = count > 0 && self.at >= end;
+        self.row = self.row.saturating_add(usize::from(is_whole));
         Ok(count)
     }
 }
 
-// An output that takes a byte at a time, and fails within the reply to a row, after this many bytes of it. It counts bytes that
-// are not those of the replies to the rows.
+// An output that takes a byte at a time, and fails after this many. It counts bytes that are not those of the replies.
 #[derive(Drop)]
-struct Bytes {
-    row: usize,
+struct Bytes<'a> {
+    wanted: &'a [u8],
     at: usize,
-    last_row: usize,
-    last_at: usize,
+    last: usize,
     wrong: u64,
     failures: u64,
 }
 
-impl Output for Bytes {
+impl Output for Bytes<'_> {
     ghost use Rattle.std.specs.Prelude.{None};
 
     ghost taken = { λ _. None };
@@ -156,119 +59,107 @@ impl Output for Bytes {
     ghost failures = { λ s. s.failures };
 
     fn write(&mut self, from: &[u8]) -> Result<usize, StreamFault> {
-        if self.row == self.last_row && self.at == self.last_at {
+        if self.at >= self.last {
             self.failures = self.failures.saturating_add(1);
             return Err(StreamFault);
         }
-        if !has_byte(self.row, self.at, from[0]) {
-            self.wrong = self.wrong.saturating_add(1);
-        }
-        let (row, at) = next_place(self.row, self.at);
-        self.row = row;
-        self.at = at;
+        let is_right = self.wanted.get(self.at) == Some(&from[0]);
+        self.wrong = self.wrong.saturating_add(u64::from(!is_right));
+        self.at += 1;
         Ok(1)
     }
 }
 
-// Whether the reply to a row has this byte there.
-fn has_byte(row: usize, at: usize, byte: u8) -> bool {
-    match reply_of(row).get(at) {
-        Some(wanted) => *wanted == byte,
-        None => false,
-    }
-}
-
-// Where the byte after this one is, in the replies to the rows.
-fn next_place(row: usize, at: usize) -> (usize, usize) {
-    let next = at.saturating_add(1);
-    if next < reply_of(row).len() {
-        (row, next)
-    } else {
-        (row.saturating_add(1), 0)
-    }
-}
-
 // The streams of a session that fail there.
-fn streams(rows: usize, last_row: usize, last_at: usize) -> (Rows, Bytes) {
-    let input = Rows {
-        given: 0,
-        last: rows,
+fn streams(course: &Course, reads: usize, last: usize) -> (Lines<'_>, Bytes<'_>) {
+    let input = Lines {
+        course,
+        row: 0,
+        at: 0,
+        reads,
         failures: 0,
     };
     let output = Bytes {
-        row: 0,
+        wanted: &course.replies,
         at: 0,
-        last_row,
-        last_at,
+        last,
         wrong: 0,
         failures: 0,
     };
     (input, output)
 }
 
-// A session over the rows up to there, whose streams fail. It ends so, with the output at the first byte that it did not take; and
-// then the archive has what it had after the rows that were carried out.
-fn ends<D: Disk>(
+// A session whose streams fail there, over a fresh archive: how it ends, how many lines were read whole, and how many bytes of the
+// replies were written. The archive then has what it is to have after `rows` lines, or, where that is none, after those that were read.
+fn ends(
     rt: &(impl AllocGlobal + Abort),
-    archive: &mut Archive<D>,
-    rows: usize,
-    place: (usize, usize),
-    fault: SessionFault,
-) -> Result<(), Fail> {
+    course: &Course,
+    places: (usize, usize),
+    rows: Option<usize>,
+) -> Result<(Result<(), SessionFault>, usize, usize), Fail> {
+    let mut archive = course_archive(rt.alloc())?;
     let naming = named(b"core.%p")?;
-    let (mut input, mut output) = streams(rows, place.0, place.1);
-    let ended = session(rt.alloc(), &mut input, &mut output, archive, &naming);
-    assert_eq!(rt; ended, Err(fault));
+    let (mut input, mut output) = streams(course, places.0, places.1);
+    let ended = session(rt.alloc(), &mut input, &mut output, &mut archive, &naming);
     assert_eq!(rt; output.wrong, 0);
-    assert_eq!(rt; (output.row, output.at), place);
-    Ok(())
+    let rows = rows.unwrap_or(input.row);
+    assert!(rt; course.is_shown(rt.alloc(), &mut archive, rows, 0)?);
+    Ok((ended, input.row, output.at))
 }
 
-// The input fails after this many rows: all of them are carried out and answered.
-fn fails_behind(rt: &(impl AllocGlobal + Abort), rows: usize) -> Result<(), Fail> {
-    let mut archive = fresh(rt.alloc(), 1 << 30)?;
-    ends(rt, &mut archive, rows, (rows, 0), SessionFault::ReadFailed)?;
-    tells(rt, &mut archive, b"list\n", cases_behind(rows))
+// The input fails after this many reads, if the script was not read to its end before: all lines that were read whole are answered
+// and carried out. Answers whether it was.
+fn fails_at_read(
+    rt: &(impl AllocGlobal + Abort),
+    course: &Course,
+    reads: usize,
+) -> Result<bool, Fail> {
+    let (ended, rows, written) = ends(rt, course, (reads, usize::MAX), None)?;
+    let is_whole = ended == Ok(());
+    assert_eq!(rt; written, course.reply_end(rows));
+    assert!(rt; is_whole || ended == Err(SessionFault::ReadFailed));
+    assert!(rt; !is_whole || rows == course.len());
+    Ok(is_whole)
 }
 
 #[test]
 fn an_input_that_fails_at_each_read(rt: HostRuntime) -> Result<(), Fail> {
-    for rows in 0..=ROWS.len() {
-        fails_behind(&rt, rows)?;
+    let course = whole_course(rt.alloc())?;
+    let mut is_whole = false;
+    for reads in 0..160usize {
+        is_whole = fails_at_read(&rt, &course, reads)?;
     }
+    assert!(rt; is_whole);
     Ok(())
 }
 
-// The output fails at this byte of the reply to a row: no row is carried out after that one.
-fn fails_within(rt: &(impl AllocGlobal + Abort), row: usize, at: usize) -> Result<(), Fail> {
-    let mut archive = fresh(rt.alloc(), 1 << 30)?;
-    ends(
-        rt,
-        &mut archive,
-        ROWS.len(),
-        (row, at),
-        SessionFault::WriteFailed,
-    )?;
-    tells(
-        rt,
-        &mut archive,
-        b"list\n",
-        cases_behind(row.saturating_add(1)),
-    )
+// The output fails at this byte of the replies: the line whose reply has it is carried out, and none after it.
+fn fails_at_byte(
+    rt: &(impl AllocGlobal + Abort),
+    course: &Course,
+    byte: usize,
+) -> Result<(), Fail> {
+    let rows = course.rows_with(byte);
+    let (ended, _, written) = ends(rt, course, (usize::MAX, byte), Some(rows))?;
+    assert_eq!(rt; ended, Err(SessionFault::WriteFailed));
+    assert_eq!(rt; written, byte);
+    Ok(())
 }
 
-// The output fails at each byte of the reply to a row.
-fn fails_throughout(rt: &(impl AllocGlobal + Abort), row: usize) -> Result<(), Fail> {
-    for at in 0..reply_of(row).len() {
-        fails_within(rt, row, at)?;
+#[test]
+fn an_output_that_fails_at_each_byte_of_the_first_replies(rt: HostRuntime) -> Result<(), Fail> {
+    let course = whole_course(rt.alloc())?;
+    for byte in 0..course.reply_end(20) {
+        fails_at_byte(&rt, &course, byte)?;
     }
     Ok(())
 }
 
 #[test]
-fn an_output_that_fails_at_each_byte(rt: HostRuntime) -> Result<(), Fail> {
-    for row in 0..ROWS.len() {
-        fails_throughout(&rt, row)?;
+fn an_output_that_fails_at_each_reply(rt: HostRuntime) -> Result<(), Fail> {
+    let course = whole_course(rt.alloc())?;
+    for rows in 20..course.len() {
+        fails_at_byte(&rt, &course, course.reply_end(rows))?;
     }
     Ok(())
 }

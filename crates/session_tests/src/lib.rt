@@ -7,6 +7,10 @@ mod again;
 #[cfg(test)]
 mod archives;
 #[cfg(test)]
+mod course;
+#[cfg(test)]
+mod course_stops;
+#[cfg(test)]
 mod executables;
 #[cfg(test)]
 mod failing;
