@@ -100,6 +100,7 @@ pub(crate) fn read_words<'a>(alloc: Global, words: &'a [String]) -> Result<Asked
                     label: label_of(alloc, found)?,
                     pin: found.get_flag("pin"),
                     fit: found.get_flag("fit"),
+                    burst: None,
                 },
             },
             settings: settings_of(found)?,

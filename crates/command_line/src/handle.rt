@@ -165,6 +165,7 @@ impl<'a> Handler<'a> {
                 label: self.label(rt),
                 pin: false,
                 fit: self.config.fit,
+                burst: None,
             },
         };
         let limit = self.config.limit.unwrap_or(HANDLER_LIMIT);

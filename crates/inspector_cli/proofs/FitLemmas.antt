@@ -1,15 +1,12 @@
 -- Bytes that are taken while cases go.
-use Rattle.std.proofs.Common.{◌≡◌, ◌⊎◌, inl, ℕ, zero, suc, ◌+◌, ◌<◌, ◌≤◌, Bool, true, false, cond, List, [], ◌∷◌, ◌++◌, length, Option, Some, None, Result, Ok, Err, refl, sym, ap, subst, ◌∙◌, arith, append_assoc, length-append}
+use Rattle.std.proofs.Common.{◌≡◌, ℕ, zero, suc, ◌≤◌, Bool, true, false, cond, List, [], ◌∷◌, ◌++◌, length, Option, Some, None, Result, Ok, Err, refl, sym, ap, subst, ◌∙◌, arith, append_assoc}
 use Rattle.std.proofs.lemmas.List.{append-nil}
 use Rattle.std.proofs.lemmas.Bool.{true≢false}
-use Rattle.std.proofs.KnownBytes.{Consumes-trans}
 use Rattle.std.specs.List.{find, flat_map}
-use Rattle.std.specs.Io.KnownBytes.{Consumes}
 use Rattle.std.specs.Prelude.{slice_set, map, option_map, IsTrue}
 use Rattle.journal_layout.specs.Case.{Case, case_of}
 use Rattle.journal_layout.specs.declared.entry.Entry.{Entry}
 use Rattle.disk_model.specs.declared.disk.Disk as disk
-use Rattle.failure_count.specs.Counts.{HasRisen}
 use Rattle.intake.specs.declared.faults.ArchiveFault.{ArchiveFault}
 use Rattle.intake.specs.Calls.{DeleteCall}
 use Rattle.intake.specs.Contents.{Contents, Taken}
@@ -17,16 +14,16 @@ use Rattle.intake.specs.Parts.{Parts, state_of, contents_of}
 use Rattle.intake.specs.Slots.{stream_at}
 use Rattle.intake.specs.State.{ArchiveState, StreamFacts}
 use Rattle.intake.specs.StayLaws.{stays_none}
-use Rattle.intake.specs.Step.{longer, with_stream}
-use Rattle.script_streams.specs.Replies.{Telling, TellsText}
+use Rattle.intake.specs.Step.{longer}
+use Rattle.script_streams.specs.Replies.{TellsText}
 use Rattle.script_streams.specs.Telling.{Sink}
 use Rattle.script_streams.specs.TellLaws.{tells_then, tells_as, tells_nothing}
 use Rattle.inspector_cli.specs.declared.store.TakeStop.{TakeStop}
 use Rattle.inspector_cli.specs.declared.store.TakeStop.TheVariants.{File, Refused}
 use Rattle.inspector_cli.specs.Reply.{TakeStep, TakeBytes, Takes}
-use Rattle.inspector_cli.specs.Fitting.{Going, IsGoing, IsNext, GoesOn, TakesWhile, going_text, goes, goes_first, may_go, may_go_first, or_else}
-use Rattle.inspector_cli.specs.Storing.{TakesFile, TakesMore, AfterRoom, MakesRoom, GoesNext, TakesNext, TakesAll, stop_of}
-use Rattle.inspector_cli.proofs.SlotLemmas.{at_set, set_again, some_same}
+use Rattle.inspector_cli.specs.Fitting.{Going, IsGoing, IsNext, GoesOn, TakesWhile, going_text, goes, goes_first, may_go, may_go_first, next_to_go, or_else}
+use Rattle.inspector_cli.specs.Storing.{TakesMore, AfterRoom, MakesRoom, GoesNext, TakesNext}
+use Rattle.inspector_cli.proofs.SlotLemmas.{at_set}
 
 -- the first of these entries that is so, as a case
 find_mapped : (p : Case → Bool) (es : List Entry) → find p (map case_of es) ≡ option_map case_of (find (λ (e : Entry). p (case_of e)) es)
@@ -49,6 +46,12 @@ case_goes es e none is = (
       ∙ find_mapped may_go es ∙ ap (option_map case_of) (sym is),
   refl,
 )
+
+-- or none
+pub none_goes : (es : List Entry) → None ≡ find goes_first es → None ≡ find goes es → next_to_go (map case_of es) ≡ None
+none_goes es first other =
+    ap (λ (o : Option Case). or_else o (find may_go (map case_of es))) (find_mapped may_go_first es ∙ ap (option_map case_of) (sym first))
+    ∙ find_mapped may_go es ∙ ap (option_map case_of) (sym other)
 
 ok_err : (u : Unit {0}) (f : ArchiveFault) → ◌≡◌ {A = Result (Unit {0}) ArchiveFault} (Ok u) (Err f) → ⊥
 ok_err u f is = cc

@@ -12,6 +12,8 @@ pub mod StageLemmas
 pub mod FeedLemmas
 pub mod FitLemmas
 pub mod GoingLemmas
+pub mod SpentLemmas
+pub mod BurstLemmas
 pub mod StoreLemmas
 pub mod CutLemmas
 pub mod ClearLemmas

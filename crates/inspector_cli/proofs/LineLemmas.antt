@@ -23,7 +23,7 @@ use Rattle.script_lines.specs.declared.question.Question.TheVariants as asked
 use Rattle.inspector_cli.specs.Reply.{Replies}
 use Rattle.inspector_cli.specs.Session.{cut_part, LastReplies, Truncates}
 use Rattle.script_streams.specs.Replies.{Telling}
-use Rattle.inspector_cli.specs.Answering.{Halts, Reading, AnswersTo, PartAnswers, LastAnswers, CommandEnds}
+use Rattle.inspector_cli.specs.Answering.{Halts, AnswersTo, PartAnswers, LastAnswers, CommandEnds}
 use Rattle.inspector_cli.specs.Asking.{AnswersAsked}
 use Rattle.script_streams.specs.TellLaws.{tells_then}
 use Rattle.inspector_cli.specs.Heard.{IsReady, TellsReady}

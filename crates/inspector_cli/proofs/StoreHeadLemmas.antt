@@ -1,9 +1,9 @@
 -- A store, step by step, and what a stop of the machine leaves of it.
-use Rattle.std.proofs.Common.{◌≡◌, ◌≢◌, ◌⊎◌, inl, inr, ⊎_elim, ℕ, zero, suc, Bool, true, false, List, [], ◌∷◌, ◌++◌, length, map, Option, Some, None, Result, Ok, Err, refl, sym, ap, subst, ◌∙◌, arith, append_assoc, length-append}
+use Rattle.std.proofs.Common.{◌≡◌, ◌≢◌, ◌⊎◌, inl, inr, ⊎_elim, ℕ, Bool, true, false, cond, List, [], ◌∷◌, ◌++◌, length, map, Option, Some, None, Result, Ok, Err, refl, sym, ap, subst, ◌∙◌, arith, append_assoc, length-append}
 use Rattle.std.proofs.lemmas.Bool.{false≢true, true≢false, eqb-false}
 use Rattle.std.proofs.lemmas.List.{append-nil, length-map}
-use Rattle.std.specs.Prelude.{codes, slice_set, option_map, IsTrue, ◌<◌, if◌then◌else◌}
-use Rattle.std.specs.List.{AllByRecursion, flat_map}
+use Rattle.std.specs.Prelude.{codes, option_map, IsTrue, ◌<◌, if◌then◌else◌}
+use Rattle.std.specs.List.{AllByRecursion, filter, flat_map}
 use Rattle.std.specs.Result.{result_ok}
 use Rattle.std.specs.Io.KnownBytes.{Appends}
 use Rattle.disk_model.specs.declared.disk.Disk as disk
@@ -38,11 +38,17 @@ use Rattle.inspector_cli.specs.declared.store.TakeStop.{TakeStop}
 use Rattle.inspector_cli.specs.declared.store.TakeStop.TheVariants.{File, Refused}
 use Rattle.inspector_cli.specs.Headline.{AreSafe, FindsSince, HasFlag, Leads, LeadsOn, Moment, WouldLeave, brief_of}
 use Rattle.archive_replies.specs.Texts.{dropped_line, end_reply, plain_reply}
-use Rattle.inspector_cli.specs.Fitting.{Going, IsGoing, IsNext, TakesWhile, going_text, gone_text}
+use Rattle.inspector_cli.specs.Fitting.{Going, IsGoing, IsNext, NoneMayGo, TakesWhile, going_text, gone_text, may_go}
+use Rattle.inspector_cli.proofs.GoingLemmas.{all_pinned}
+use Rattle.intake.specs.declared.faults.ArchiveFault.TheVariants.{SpaceFull}
+use Rattle.inspector_cli.specs.Bursts.{admitted, is_over}
+use Rattle.inspector_cli.specs.declared.burst.Burst.{Burst}
+use Rattle.inspector_cli.specs.Life.{OpensThen, StoresOver}
+use Rattle.intake.specs.Opened.{IsOpened}
 use Rattle.inspector_cli.specs.Reply.{Begins, Takes}
 use Rattle.inspector_cli.specs.Session.{Streams}
 use Rattle.inspector_cli.specs.Stages.{Stage, Moves, MayLeave, mark_at, marks_of}
-use Rattle.inspector_cli.specs.StoreHeadline.{Gone, GoInTurn, case_in, gone_line, moments_of, TellsStored, AddsCase, StoresOrNot, StoreCourse, IsStoreCourse, IsTold, IsStoreSafe, StoresAreCrashSafe, BeginsEmpty, no_stream}
+use Rattle.inspector_cli.specs.StoreHeadline.{Gone, GoInTurn, case_in, gone_line, moments_of, TellsStored, AddsCase, StoresOrNot, StoreCourse, IsStoreCourse, IsTold, IsAdmittedSafe, IsStoreSafe, StoresAreCrashSafe, BeginsEmpty, no_stream}
 use Rattle.inspector_cli.specs.Storing.{GoneStages, TakesFile, FileReplies, RestReplies, RetiresFirst, IsChosen, PinsCase, LabelsCase, Options, Stores, StoreEnds, retire_line, said_pin, said_label}
 use Rattle.inspector_cli.proofs.CaseLemmas.{is_found, briefs_are, cases_are}
 use Rattle.inspector_cli.proofs.ClearLemmas.{first_apart, plain_told, retire_told, retire_stops}
@@ -207,6 +213,10 @@ module _ {D : Type 0} (g : disk.Ghosts D) (lasts : LastingLaws g) where
   -- the case that goes next, of those that the archive holds
   next_held : (a : Parts D) (seq : ℕ) → IsNext (state_of a).cases seq → IsNext (map case_in (durable_of g.seen a).cases) seq
   next_held a seq next = subst (λ (cs : List Case). IsNext cs seq) (cases_are a.journal.standing.shape (g.seen a.disk) a.journal.standing.cases) next
+
+  -- where none goes next, all cases that the archive holds are pinned
+  none_held : (a : Parts D) → NoneMayGo (state_of a) → filter may_go (map case_in (durable_of g.seen a).cases) ≡ []
+  none_held a none = subst (λ (cs : List Case). filter may_go cs ≡ []) (cases_are a.journal.standing.shape (g.seen a.disk) a.journal.standing.cases) (all_pinned (state_of a).cases none)
 
   -- what goes, as the course tells it
   abbrev gone_of : List (Going D) → List (Stage D) → List (Gone D)
@@ -424,6 +434,11 @@ module _ {D : Type 0} (g : disk.Ghosts D) (lasts : LastingLaws g) where
   pin_would old (Some seq) false x may = absurd may
   pin_would old None pin x may = absurd may
 
+-- the same answer of a life
+abbrev pub life_of : Result StoreOutcome SessionFault → Result StoreOutcome LifeFault
+life_of (Ok outcome) = Ok outcome
+life_of (Err f) = Err (life.Session f)
+
 -- a stream that a line or the words of a command begin has no bytes yet
 pub found_empty : (r : Result NewStream (Bor (List ℕ))) → BeginsEmpty (stream_found r)
 found_empty (Ok stream) = refl
@@ -542,6 +557,7 @@ module _ {D : Type 0} (g : disk.Ghosts D) (lasts : LastingLaws g) (laws : Laws g
       stores = stored.stores;
       sure = λ n is. (let sure = stored.awake n is in sure.1 ∙ retiring_clear sure.0);
       tells = stored.tells;
+      spent = λ fits refused. none_held g lasts s.stores.filled (s.stores.spent fits SpaceFull refused);
       doubts = stored.moves.doubts;
       in_doubt = stored.moves.in_doubt;
       doubted = stored.doubted;
@@ -553,36 +569,35 @@ module _ {D : Type 0} (g : disk.Ghosts D) (lasts : LastingLaws g) (laws : Laws g
           (λ x disk may. pin_would g lasts s.labelled outcome.stored options.pin x may) pin_given.1;
     }
 
-    pub store_safe : IsStoreSafe g t asked found options before after r
-    store_safe = record {
-      course = course;
-      found_again = λ x stands. opening.found_again x honest stands;
-      is = is_course;
-      written = written;
-      unwritten = unwritten;
-      appended = appended;
-      text =
-          s.all ∙ ap (λ (x : List ℕ). s.told ++ (x ++ (s.named ++ s.last))) s.stores.text
-          ∙ ap (λ (x : List ℕ). s.told ++ ((s.stores.first ++ (x ++ s.stores.rest)) ++ (s.named ++ s.last))) (lines_are g lasts s.stores.gone retired stored.filling.0 filled stored.filling.2);
-      disk = disk ∙ drops.disk;
-      answered = told;
-      opening =
-          subst
-          (λ (d : D). (left : List ℕ) → g.left_since d (g.clock before) left → g.may_leave before left ⊎ FindsSince left (moment g first) (moment g retired ∷ (moments_of gone ++ (moment g filled ∷ moment g ended ∷ moment g labelled_then ∷ moment g last ∷ [])))) (sym disk)
-          (subst (λ (ms : List (Moment D)). (left : List ℕ) → g.left_since closed.disk (g.clock before) left → g.may_leave before left ⊎ FindsSince left (moment g first) ms) moments_same
-          (since_opening g stays last closed end_honest drops.stays nothing_else first stages there run before (opening.any_moment honest)));
-      safe =
-          subst (λ (d : D). AreSafe g d (moment g first) (moment g retired ∷ (moments_of gone ++ (moment g filled ∷ moment g ended ∷ moment g labelled_then ∷ moment g last ∷ [])))) (sym disk)
-          (subst (AreSafe g closed.disk (moment g first)) moments_same
-          (are_safe g stays last closed end_honest drops.stays first stages there settled run (law (mark_at g.seen first) (marks_of g.seen stages last closed) there settled run)));
-    }
+    -- it begins with what the opening found
+    pub store_safe : (s : IsStoreSafe g t asked found options before after r) × (s.course.begin.holds ≡ durable_of g.seen opened)
+    store_safe = (
+      record {
+        course = course;
+        found_again = λ x stands. opening.found_again x honest stands;
+        is = is_course;
+        written = written;
+        unwritten = unwritten;
+        appended = appended;
+        text =
+            s.all ∙ ap (λ (x : List ℕ). s.told ++ (x ++ (s.named ++ s.last))) s.stores.text
+            ∙ ap (λ (x : List ℕ). s.told ++ ((s.stores.first ++ (x ++ s.stores.rest)) ++ (s.named ++ s.last))) (lines_are g lasts s.stores.gone retired stored.filling.0 filled stored.filling.2);
+        disk = disk ∙ drops.disk;
+        answered = told;
+        opening =
+            subst
+            (λ (d : D). (left : List ℕ) → g.left_since d (g.clock before) left → g.may_leave before left ⊎ FindsSince left (moment g first) (moment g retired ∷ (moments_of gone ++ (moment g filled ∷ moment g ended ∷ moment g labelled_then ∷ moment g last ∷ [])))) (sym disk)
+            (subst (λ (ms : List (Moment D)). (left : List ℕ) → g.left_since closed.disk (g.clock before) left → g.may_leave before left ⊎ FindsSince left (moment g first) ms) moments_same
+            (since_opening g stays last closed end_honest drops.stays nothing_else first stages there run before (opening.any_moment honest)));
+        safe =
+            subst (λ (d : D). AreSafe g d (moment g first) (moment g retired ∷ (moments_of gone ++ (moment g filled ∷ moment g ended ∷ moment g labelled_then ∷ moment g last ∷ [])))) (sym disk)
+            (subst (AreSafe g closed.disk (moment g first)) moments_same
+            (are_safe g stays last closed end_honest drops.stays first stages there settled run (law (mark_at g.seen first) (marks_of g.seen stages last closed) there settled run)));
+      },
+      refl,
+    )
 
-  -- the same answer of a life
-  abbrev pub life_of : Result StoreOutcome SessionFault → Result StoreOutcome LifeFault
-  life_of (Ok outcome) = Ok outcome
-  life_of (Err f) = Err (life.Session f)
-
-  pub ended_safe : (r : Result StoreOutcome SessionFault) → StoreEnds g t first asked found options closed r → IsStoreSafe g t asked found options before after (life_of r)
+  pub ended_safe : (r : Result StoreOutcome SessionFault) → StoreEnds g t first asked found options closed r → (s : IsStoreSafe g t asked found options before after (life_of r)) × (s.course.begin.holds ≡ durable_of g.seen opened)
   ended_safe (Ok outcome) e =
       store_safe (Ok outcome) e.0 [] e.1.archive outcome
       (subst (λ (x : List ℕ). Stores g t.input t.input' t.fails t.fails' opened asked found options x e.1.archive outcome) (sym (append-nil e.0)) e.3) e.2 e.4 e.5 (refl, refl)
@@ -590,11 +605,33 @@ module _ {D : Type 0} (g : disk.Ghosts D) (lasts : LastingLaws g) (laws : Laws g
   ended_safe (Err ReadFailed) e = absurd e
   ended_safe (Err TooManyReads) e = absurd e
 
+-- a stream that is admitted has no bytes yet
+admitted_empty : (burst : Option Burst) (stopped : Bool) (cases : List Case) (found : Result StreamFacts (List ℕ)) → BeginsEmpty found → BeginsEmpty (admitted burst stopped cases found)
+admitted_empty None stopped cases found empty = empty
+admitted_empty (Some burst) stopped cases (Err reason) empty = tt
+admitted_empty (Some burst) stopped cases (Ok stream) empty =
+    elim (is_over burst stopped cases stream) as (λ t. BeginsEmpty (cond t (Err (codes "Burst")) (Ok stream))) [ true ↦ tt | false ↦ empty ]
+
+-- what an archive that was just opened admits, by what it holds
+admitted_by : {D : Type 0} (g : disk.Ghosts D) (limit : ℕ) (opened : Parts D) (burst : Option Burst) (found : Result StreamFacts (List ℕ)) (held : Durable) → IsOpened limit opened → held ≡ durable_of g.seen opened
+    → admitted burst (state_of opened).stopped (state_of opened).cases found ≡ admitted burst false (map case_in held.cases) found
+admitted_by g limit opened burst found held is same =
+    ap (λ (t : Bool). admitted burst t (state_of opened).cases found) is.runs
+    ∙ ap (λ (cs : List Case). admitted burst false cs found) (cases_are opened.journal.standing.shape (g.seen opened.disk) opened.journal.standing.cases)
+    ∙ ap (λ (x : Durable). admitted burst false (map case_in x.cases) found) (sym same)
+
 module _ {D : Type 0} (g : disk.Ghosts D) (lasts : LastingLaws g) (laws : Laws g) (law : FoundAfterAStop g) (nothing_else : NothingElseIsLeft g) (stays : (d : D) → IsTrue (g.is_honest d) → g.may_leave d (g.seen d)) where
+  -- the answer of a store over an archive that was just opened
+  opened_safe : (limit : ℕ) (t : Streams) (asked : Option Policy) (found : Result StreamFacts (List ℕ)) (options : Options) (before after : D) (r : Result StoreOutcome SessionFault) → BeginsEmpty found
+      → OpensThen g limit before after (StoresOver g asked found options t r) → IsTrue (g.is_honest before) → IsAdmittedSafe g t asked found options before after (life_of r)
+  opened_safe limit t asked found options before after r none lived honest =
+      let stream : Result StreamFacts (List ℕ) = admitted options.burst (state_of lived.opened).stopped (state_of lived.opened).cases found in
+      let empty : BeginsEmpty stream = admitted_empty options.burst (state_of lived.opened).stopped (state_of lived.opened).cases found none in
+      let safe = ended_safe g lasts laws law nothing_else stays limit t asked stream options empty before after lived.opened lived.closed lived.opening lived.disk honest r lived.goes in
+      (stream, safe.0, admitted_by g limit lived.opened options.burst found safe.0.course.begin.holds lived.opening.state safe.1)
+
   pub stores_safe : StoresAreCrashSafe g
-  stores_safe limit t asked found options before after (Ok outcome) none lived = λ honest.
-      ended_safe g lasts laws law nothing_else stays limit t asked found options none before after lived.opened lived.closed lived.opening lived.disk honest (Ok outcome) lived.goes
-  stores_safe limit t asked found options before after (Err (life.Session f)) none lived = λ honest.
-      ended_safe g lasts laws law nothing_else stays limit t asked found options none before after lived.opened lived.closed lived.opening lived.disk honest (Err f) lived.goes
+  stores_safe limit t asked found options before after (Ok outcome) none lived = λ honest. opened_safe limit t asked found options before after (Ok outcome) none lived honest
+  stores_safe limit t asked found options before after (Err (life.Session f)) none lived = λ honest. opened_safe limit t asked found options before after (Err f) none lived honest
   stores_safe limit t asked found options before after (Err (life.Open f)) none lived = λ honest.
       (lived.0.opening.seen honest, λ left was. (lived.0.opening.any_moment honest).each left was)

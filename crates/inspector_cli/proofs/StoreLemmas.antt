@@ -1,5 +1,5 @@
 -- One stream that is stored from its own input, with cases retired before it, and the label and the pin of its case.
-use Rattle.std.proofs.Common.{◌≡◌, inl, ℕ, zero, suc, ◌+◌, ◌<◌, ◌≤◌, Bool, true, false, List, [], ◌∷◌, ◌++◌, length, Option, Some, None, Result, Ok, Err, is_ok, refl, sym, ap, subst, ◌∙◌, arith, length-append}
+use Rattle.std.proofs.Common.{◌≡◌, inl, inr, ℕ, zero, suc, ◌+◌, ◌%◌, ◌<◌, ◌≤◌, Bool, true, false, List, [], ◌∷◌, ◌++◌, length, Option, Some, None, Result, Ok, Err, is_ok, refl, sym, ap, subst, ◌∙◌, arith, length-append}
 use Rattle.std.proofs.lemmas.List.{append-nil, length-map}
 use Rattle.std.proofs.KnownBytes.{Consumes-trans}
 use Rattle.std.specs.Io.KnownBytes.{Consumes}
@@ -21,7 +21,8 @@ use Rattle.script_streams.specs.Telling.{Sink, Told, IsDelivered}
 use Rattle.script_streams.specs.declared.streams.StreamFault.{StreamFault}
 use Rattle.script_lines.specs.Said.{silence, end_of}
 use Rattle.archive_replies.specs.Texts.{plain_reply}
-use Rattle.inspector_cli.specs.Fitting.{Going, GoesOn, TakesWhile, going_text}
+use Rattle.inspector_cli.specs.Fitting.{FillsWhole, Going, IsServed, TakesWhile, going_text}
+use Rattle.inspector_cli.proofs.SpentLemmas.{silence_unspent}
 use Rattle.inspector_cli.proofs.FitLemmas.{texts_more, either}
 use Rattle.intake.specs.Marks.{Mark, IsRunOfMarks, Passes}
 use Rattle.std.specs.Prelude.{map}
@@ -37,7 +38,7 @@ use Rattle.inspector_cli.specs.declared.store.TakeStop.TheVariants.{File, Refuse
 use Rattle.script_streams.specs.Replies.{Telling, TellsReply, TellsText}
 use Rattle.inspector_cli.specs.Stages.{Stage, mark_at, marks_of}
 use Rattle.inspector_cli.specs.Session.{Streams}
-use Rattle.inspector_cli.specs.Storing.{TakesFile, TakesMore, TakesNext, TakesAll, MakesRoom, FillsAndEnds, GoneStages, FileReplies, RestReplies, StoresStream, RetiresFirst, RetiresForStream, PinsCase, LabelsCase, Options, Stores, retire_line, said_pin, said_label, StoreStages, StoreEnds}
+use Rattle.inspector_cli.specs.Storing.{TakesFile, TakesNext, TakesAll, MakesRoom, FillsAndEnds, GoneStages, FileReplies, RestReplies, StoresStream, RetiresFirst, RetiresForStream, PinsCase, LabelsCase, Options, Stores, retire_line, said_pin, said_label, StoreStages, StoreEnds}
 use Rattle.intake.specs.StayLaws.{stays_none, stays_as, stays_then}
 use Rattle.inspector_cli.proofs.StageLemmas.{Laws, Reaches, stage_of, ends_moves, deletes_moves, pins_moves, labels_moves, retires_moves, still, begins_stays}
 use Rattle.script_streams.specs.TellLaws.{tells_as, tells_then}
@@ -108,6 +109,17 @@ module _ {D : Type 0} (g : disk.Ghosts D) (old new : Parts D) (slot : ℕ) where
   begun_takes (Ok s) text accepted none begins is = ok_takes s begins.0 none begins.1 (sym is ∙ begins.3)
   begun_takes (Err reason) text accepted none begins is = absurd (true≢false (sym is ∙ begins.2))
 
+  -- a stream that has begun wants no block
+  ok_serves : (s : StreamFacts) (r : Result (Unit {0}) ArchiveFault) → s.len ≡ 0 → BeginCall g old 0 s r new → true ≡ is_ok r → IsServed (state_of new)
+  ok_serves s (Ok u) none call is = λ awake full.
+      inr (subst FillsWhole (sym (ap (λ (b : ArchiveState). stream_at b.streams 0) call.step.1 ∙ set_there (state_of old).streams 0 (Some s) call.step.0.1)) (ap (λ (n : ℕ). n % 4096) none))
+  ok_serves s (Err fault) none call is = absurd (true≢false is)
+
+  pub begun_serves : (found : Result StreamFacts (List ℕ)) (text : List ℕ) (accepted : Bool) → IsFresh found
+      → Begins g old 0 found text new accepted → accepted ≡ true → IsServed (state_of new)
+  begun_serves (Ok s) text accepted none begins is = ok_serves s begins.0 none begins.1 (sym is ∙ begins.3)
+  begun_serves (Err reason) text accepted none begins is = absurd (true≢false (sym is ∙ begins.2))
+
 -- each of a number of reads gave a byte, and the bytes are taken, while cases went and were told
 abbrev pub FileAlong : {D : Type 0} → disk.Ghosts D → Bool → Option (List ℕ) → Option (List ℕ) → ℕ → ℕ → Parts D → ℕ → Telling → Parts D → Type 0
 FileAlong {D} g fit file file' fails fails' old reads t new =
@@ -169,9 +181,10 @@ module _ {D : Type 0} (g : disk.Ghosts D) where
   -- a stream that is begun, and its file
   pub stores : (fit : Bool) (found : Result StreamFacts (List ℕ)) (file file' : Option (List ℕ)) (fails fails' : ℕ) (o p q : Sink) (old mid new : Parts D) (stored : Option ℕ)
       → TellsReply (record { before = o; after = p }) (λ text. Begins g old 0 found text mid true)
+      → IsServed (state_of mid)
       → TellsReply (record { before = p; after = q }) (λ text. FillsAndEnds g fit file file' fails fails' mid text new stored)
       → TellsReply (record { before = o; after = q }) (λ text. StoresStream g fit file file' fails fails' old found text new stored)
-  stores fit found file file' fails fails' o p q old mid new stored first rest = (
+  stores fit found file file' fails fails' o p q old mid new stored first served rest = (
     first.0 ++ rest.0,
     record {
       first = first.0;
@@ -183,6 +196,7 @@ module _ {D : Type 0} (g : disk.Ghosts D) where
       filled = rest.1.1;
       rest = rest.1.2;
       goes_on = rest.1.5;
+      spent = λ fits. rest.1.6 fits served;
       text = ap (λ (t : List ℕ). first.0 ++ t) rest.1.3;
     },
     tells_then first.2 rest.2,
@@ -203,6 +217,7 @@ module _ {D : Type 0} (g : disk.Ghosts D) where
       filled = new;
       rest = [];
       goes_on = (refl, refl, refl, refl, refl, refl, refl);
+      spent = λ fits. silence_unspent (state_of new);
       text = sym (append-nil first.0);
     },
     first.2,

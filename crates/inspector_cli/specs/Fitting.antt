@@ -1,5 +1,5 @@
 -- Cases that go so that a stream finds room: which goes next, and what comes of the bytes that the stream takes meanwhile.
-use Rattle.std.specs.Prelude.{◌≡◌, ◌⊎◌, ℕ, Bool, true, false, not, ◌&&◌, List, [], ◌∷◌, ◌++◌, Option, None, Some, Result, Ok, Err}
+use Rattle.std.specs.Prelude.{◌≡◌, ◌⊎◌, ℕ, ◌+◌, ◌%◌, ◌<◌, ◌≤◌, Bool, true, false, not, ◌&&◌, List, [], ◌∷◌, ◌++◌, length, Option, None, Some, Result, Ok, Err}
 use Rattle.std.specs.List.{find, filter}
 use Rattle.disk_model.specs.declared.disk.Disk as disk
 use Rattle.journal_layout.specs.Case.{Case, case_of}
@@ -9,8 +9,17 @@ use Rattle.journal_layout.specs.declared.entry.Kind.TheVariants.{Core, Exec}
 use Rattle.intake.specs.Calls.{DeleteCall}
 use Rattle.intake.specs.Needs.{lacks_record_room}
 use Rattle.intake.specs.Parts.{Parts, state_of}
-use Rattle.intake.specs.State.{ArchiveState, blocks_in}
+use Rattle.intake.specs.Slots.{stream_at}
+use Rattle.intake.specs.State.{ArchiveState, StreamFacts, blocks_in}
+use Rattle.intake.specs.Step.{AdvanceStep, RoomReply, IsFull, IsLastGeneration, cases_without, drop_size}
 use Rattle.intake.specs.declared.faults.ArchiveFault.{ArchiveFault}
+use Rattle.intake.specs.declared.faults.ArchiveFault.TheVariants.{SpaceFull, JournalFull}
+use Rattle.inspector_cli.specs.declared.fitting.Need.{Need}
+use Rattle.inspector_cli.specs.declared.fitting.Need.TheVariants.{Block, Record}
+use Rattle.inspector_cli.specs.declared.store.TakeStop.{TakeStop}
+use Rattle.inspector_cli.specs.declared.store.TakeStop.TheVariants.{File, Refused}
+use Rattle.script_streams.specs.Replies.{no_reply}
+use Rattle.archive_replies.specs.Reasons.{reason_of}
 use Rattle.archive_replies.specs.Texts.{dropped_line}
 use Rattle.inspector_cli.specs.Reply.{Takes}
 
@@ -96,3 +105,82 @@ TheFirstGoes = (cases : List Case) (c : Case) → next_to_go cases ≡ Some c
 -- Where none goes next, all are pinned.
 abbrev pub AllArePinned : Type 0
 AllArePinned = (cases : List Case) → next_to_go cases ≡ None → filter may_go cases ≡ []
+
+-- No case may go any more.
+abbrev pub NoneMayGo : ArchiveState → Type 0
+NoneMayGo s = next_to_go s.cases ≡ None
+
+-- A case goes next, and the journal has no room for the record of its deletion.
+abbrev pub NextMustStay : ArchiveState → Type 0
+NextMustStay s = (c : Case) × (next_to_go s.cases ≡ Some c) × IsFull s (drop_size 1) (cases_without s (c.seq ∷ []))
+
+-- How the archive is where a stream is refused for this reason, if cases may go so that it finds room. No data block is free: no case may
+-- go any more. The journal has no room for the record of its case: so it is too, or the journal was written anew as often as it can be,
+-- or the next case can't go for want of room in the journal.
+abbrev pub IsSpent : ArchiveFault → ArchiveState → Type 0
+IsSpent SpaceFull s = NoneMayGo s
+IsSpent JournalFull s = NoneMayGo s ⊎ IsLastGeneration s ⊎ NextMustStay s
+IsSpent _ s = Unit {0}
+
+-- The same by the reply.
+abbrev pub RefusedIfSpent : List ℕ → ArchiveState → Type 0
+RefusedIfSpent reply s = (fault : ArchiveFault) → reply ≡ no_reply (reason_of fault) → IsSpent fault s
+
+-- the bytes of the stream fill whole blocks
+abbrev pub FillsWhole : Option StreamFacts → Type 0
+FillsWhole None = Unit {0}
+FillsWhole (Some x) = x.len % 4096 ≡ 0
+
+-- If no data block is free, none is wanted by the stream in slot 0 so far, or no case may go any more.
+abbrev pub IsServed : ArchiveState → Type 0
+IsServed s = s.stopped ≡ false → s.shape.data_blocks ≤ blocks_in s → NoneMayGo s ⊎ FillsWhole (stream_at s.streams 0)
+
+-- a data block is free, or the journal has room for the record of the stream in slot 0
+abbrev pub FindsRoom : Need → ArchiveState → Type 0
+FindsRoom Block s = s.stopped ≡ false → blocks_in s < s.shape.data_blocks
+FindsRoom Record s = lacks_record_room s 0 ≡ false
+
+-- There is room for this, or no case may go any more.
+abbrev pub HasMadeRoom : Need → ArchiveState → Type 0
+HasMadeRoom need s = (s.stopped ≡ false → NoneMayGo s) ⊎ FindsRoom need s
+
+-- n bytes are no more than the free part of the block of this stream
+abbrev pub FitsPart : Option StreamFacts → ℕ → Type 0
+FitsPart None n = Unit {0}
+FitsPart (Some x) n = x.len % 4096 + n ≤ 4096
+
+-- bytes are taken into slot 0, `most` at most, and no more than the free part of the block
+abbrev pub AdvancesBy : ℕ → ArchiveState → Result (Unit {0}) ArchiveFault → ArchiveState → Type 0
+AdvancesBy most s r s' = (n : ℕ) × (n ≤ most) × FitsPart (stream_at s.streams 0) n × AdvanceStep s 0 n r s'
+
+-- the state after bytes are taken, or are not
+abbrev pub Advances : ℕ → ArchiveState → Result Bool TakeStop → ArchiveState → Type 0
+Advances most s (Ok true) s' = AdvancesBy most s (Ok tt) s'
+Advances most s (Ok false) s' = s' ≡ s
+Advances most s (Err File) s' = s' ≡ s
+Advances most s (Err (Refused fault)) s' = RoomReply s 0 (Err fault) ⊎ AdvancesBy most s (Err fault) s'
+
+-- a step for a stream that is so far served: it is so then too, or it is refused as it may be
+abbrev pub ServesOn : {A : Type 0} → Result A TakeStop → ArchiveState → Type 0
+ServesOn (Ok x) s = IsServed s
+ServesOn (Err File) s = Unit {0}
+ServesOn (Err (Refused fault)) s = IsSpent fault s
+
+-- A case goes, if there is no room for this and one may: there are fewer then.
+abbrev pub DropsOne : Need → ArchiveState → Result Bool TakeStop → ArchiveState → Type 0
+DropsOne need s (Ok true) s' = (IsServed s → IsServed s') × (length s'.cases < length s.cases)
+DropsOne need s (Ok false) s' = (s' ≡ s) × HasMadeRoom need s'
+DropsOne need s (Err File) s' = Unit {0}
+DropsOne need s (Err (Refused fault)) s' = IsSpent fault s'
+
+-- cases go until there is room for this, or none may go any more
+abbrev pub DropsAll : Need → ArchiveState → Result (Unit {0}) TakeStop → ArchiveState → Type 0
+DropsAll need s (Ok u) s' = (IsServed s → IsServed s') × HasMadeRoom need s'
+DropsAll need s (Err File) s' = Unit {0}
+DropsAll need s (Err (Refused fault)) s' = IsSpent fault s'
+
+-- all bytes are taken: a block for the last ones is there, and room for the record, unless no case may go any more
+abbrev pub FillsServed : Result (Unit {0}) TakeStop → ArchiveState → Type 0
+FillsServed (Ok u) s = IsServed s × HasMadeRoom Record s
+FillsServed (Err File) s = Unit {0}
+FillsServed (Err (Refused fault)) s = IsSpent fault s

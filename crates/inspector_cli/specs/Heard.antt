@@ -1,5 +1,5 @@
 -- How much of what is told is heard: a reply is held until there is no room for it, or more of the script has to be read.
-use Rattle.std.specs.Prelude.{◌≡◌, ℕ, ◌+◌, ◌≤◌, List, [], ◌++◌, length, Option, false}
+use Rattle.std.specs.Prelude.{◌≡◌, ℕ, ◌+◌, ◌≤◌, List, [], length, Option, false}
 use Rattle.script_streams.specs.Replies.{Telling}
 use Rattle.script_streams.specs.Telling.{Sink, Told, Tells}
 

@@ -18,3 +18,4 @@ pub mod StoreHeadline
 pub mod Kept
 pub mod Agreement
 pub mod Fitting
+pub mod Bursts

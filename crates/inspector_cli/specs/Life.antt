@@ -6,10 +6,11 @@ use Rattle.journal_layout.specs.declared.faults.OpenFault.TheVariants as fault
 use Rattle.intake.specs.Calls.{OpenCall}
 use Rattle.intake.specs.Durable.{Durable, StandsFor}
 use Rattle.intake.specs.Marks.{IsMarkSettled, mark_of}
-use Rattle.intake.specs.Parts.{Parts}
+use Rattle.intake.specs.Parts.{Parts, state_of}
 use Rattle.intake.specs.State.{StreamFacts}
 use Rattle.retention.specs.declared.Policy.{Policy}
 use Rattle.stream_names.specs.declared.naming.Naming.{Naming}
+use Rattle.inspector_cli.specs.Bursts.{admitted}
 use Rattle.inspector_cli.specs.declared.session.SessionFault.{SessionFault}
 use Rattle.inspector_cli.specs.declared.session.StoreOutcome.{StoreOutcome}
 use Rattle.inspector_cli.specs.declared.session.LifeFault.{LifeFault}
@@ -52,7 +53,8 @@ abbrev pub RunsOver : {D : Type 0} → disk.Ghosts D → Naming → Streams → 
 RunsOver g naming t r opened closed =
     SessionEnds g naming t (record { archive = opened; in_doubt = [] }) closed r
 
--- the same of one stream that is stored from its own input, with cases retired before it, and with these options
+-- The same of one stream that is stored from its own input, with cases retired before it, and with these options. It begins if the
+-- cases of the archive admit it.
 abbrev pub StoresOver : {D : Type 0} → disk.Ghosts D → Option Policy → Result StreamFacts (List ℕ) → Options → Streams → Result StoreOutcome SessionFault → Parts D → Parts D → Type 0
 StoresOver g asked found options t r opened closed =
-    StoreEnds g t (record { archive = opened; in_doubt = [] }) asked found options closed r
+    StoreEnds g t (record { archive = opened; in_doubt = [] }) asked (admitted options.burst (state_of opened).stopped (state_of opened).cases found) options closed r

@@ -1,7 +1,7 @@
 -- The headline of a store: what the archive holds when it begins, when cases are retired, when others go while FILE is taken, when the case is stored,
 -- when it has its label, and when it is pinned; and what a stop of the machine leaves of it.
-use Rattle.std.specs.Prelude.{◌≡◌, ◌⊎◌, ℕ, Bool, true, false, List, [], ◌∷◌, ◌++◌, length, map, Option, None, Some, Result, Ok, Err, IsTrue, codes, if◌then◌else◌}
-use Rattle.std.specs.List.{AllByRecursion, flat_map}
+use Rattle.std.specs.Prelude.{◌≡◌, ◌⊎◌, ℕ, true, false, List, [], ◌∷◌, ◌++◌, length, map, Option, None, Some, Result, Ok, Err, IsTrue, codes, if◌then◌else◌}
+use Rattle.std.specs.List.{AllByRecursion, filter, flat_map}
 use Rattle.std.specs.Io.KnownBytes.{Consumes, Appends, IsAtEnd}
 use Rattle.disk_model.specs.declared.disk.Disk as disk
 use Rattle.intake.specs.Durable.{Durable, FoundCase, StandsFor, with_case}
@@ -11,7 +11,8 @@ use Rattle.archive_replies.specs.Texts.{dropped_line, end_reply}
 use Rattle.script_lines.specs.Said.{Said, delete_of}
 use Rattle.script_streams.specs.Replies.{no_reply}
 use Rattle.journal_layout.specs.Case.{Case}
-use Rattle.inspector_cli.specs.Fitting.{IsNext}
+use Rattle.inspector_cli.specs.Bursts.{admitted}
+use Rattle.inspector_cli.specs.Fitting.{IsNext, may_go}
 use Rattle.inspector_cli.specs.Told.{is_no}
 use Rattle.inspector_cli.specs.declared.session.LifeFault.{LifeFault}
 use Rattle.inspector_cli.specs.declared.session.LifeFault.TheVariants as life
@@ -105,6 +106,8 @@ pub record IsStoreCourse {D : Type 0} (asked : Option Policy) (found : Result St
   -- a case is stored only if nothing is in doubt
   pub sure : (n : ℕ) → c.stored ≡ Some n → c.filled.in_doubt ≡ []
   pub tells : TellsStored c.stored c.first c.reply
+  -- if cases may go, the stream is refused for want of a data block only where all cases that are left are pinned
+  pub spent : options.fit ≡ true → c.reply ≡ no_reply (codes "SpaceFull") → filter may_go (map case_in c.filled.holds.cases) ≡ []
   -- only where the end is answered `no Disk` is a case in doubt
   pub doubts : List Durable
   pub in_doubt : c.ended.in_doubt ≡ doubts ++ c.filled.in_doubt
@@ -134,11 +137,16 @@ pub record IsStoreSafe {D : Type 0} (g : disk.Ghosts D) (t : Streams) (asked : O
       → g.may_leave before left ⊎ FindsSince left course.begin (course.retired ∷ (moments_of course.gone ++ (course.filled ∷ course.ended ∷ course.labelled ∷ course.end ∷ [])))
   pub safe : AreSafe g after course.begin (course.retired ∷ (moments_of course.gone ++ (course.filled ∷ course.ended ∷ course.labelled ∷ course.end ∷ [])))
 
+-- The same with the stream that is admitted by what the archive holds when the store begins.
+abbrev pub IsAdmittedSafe : {D : Type 0} → disk.Ghosts D → Streams → Option Policy → Result StreamFacts (List ℕ) → Options → D → D → Result StoreOutcome LifeFault → Type 0
+IsAdmittedSafe g t asked found options before after r =
+    (stream : Result StreamFacts (List ℕ)) × (s : IsStoreSafe g t asked stream options before after r) × (stream ≡ admitted options.burst false (map case_in s.course.begin.holds.cases) found)
+
 -- What a store promises of stops, over an honest disk. An opening that is refused leaves what reads give, and what a stop may
 -- leave, as they were.
 abbrev pub StoreHeadline : {D : Type 0} → disk.Ghosts D → Streams → Option Policy → Result StreamFacts (List ℕ) → Options → D → Result StoreOutcome LifeFault → D → Type 0
-StoreHeadline g t asked found options before (Ok x) after = IsTrue (g.is_honest before) → IsStoreSafe g t asked found options before after (Ok x)
-StoreHeadline g t asked found options before (Err (life.Session f)) after = IsTrue (g.is_honest before) → IsStoreSafe g t asked found options before after (Err (life.Session f))
+StoreHeadline g t asked found options before (Ok x) after = IsTrue (g.is_honest before) → IsAdmittedSafe g t asked found options before after (Ok x)
+StoreHeadline g t asked found options before (Err (life.Session f)) after = IsTrue (g.is_honest before) → IsAdmittedSafe g t asked found options before after (Err (life.Session f))
 StoreHeadline g t asked found options before (Err (life.Open f)) after =
     IsTrue (g.is_honest before) → (g.seen after ≡ g.seen before) × ((left : List ℕ) → g.left_since after (g.clock before) left → g.may_leave before left)
 

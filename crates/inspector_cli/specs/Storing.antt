@@ -16,6 +16,7 @@ use Rattle.intake.specs.State.{ArchiveState, StreamFacts}
 use Rattle.intake.specs.Step.{is_named}
 use Rattle.failure_count.specs.Counts.{HasRisen}
 use Rattle.stream_names.specs.declared.naming.Naming.{Naming}
+use Rattle.inspector_cli.specs.declared.burst.Burst.{Burst}
 use Rattle.inspector_cli.specs.declared.session.SessionFault.{SessionFault}
 use Rattle.inspector_cli.specs.declared.session.StoreOutcome.{StoreOutcome}
 use Rattle.inspector_cli.specs.declared.session.StoreOptions.{StoreOptions}
@@ -24,11 +25,11 @@ use Rattle.inspector_cli.specs.declared.store.TakeStop.{TakeStop}
 use Rattle.inspector_cli.specs.declared.store.TakeStop.TheVariants.{File, Refused}
 use Rattle.retention.specs.declared.Policy.{Policy}
 use Rattle.script_lines.specs.Said.{Said, silence, begin_exec, begin_core, end_of, delete_of, pin_of, label_of, retire_by, long_line}
-use Rattle.inspector_cli.specs.Fitting.{Going, IsGoing, TakesWhile, going_text}
+use Rattle.inspector_cli.specs.Fitting.{Going, IsGoing, IsServed, RefusedIfSpent, TakesWhile, going_text}
 use Rattle.inspector_cli.specs.Session.{Streams}
 use Rattle.inspector_cli.specs.Stages.{Stage, Moves, IsFoundAfterAStop}
 use Rattle.script_streams.specs.Replies.{Telling, TellsText, no_reply}
-use Rattle.inspector_cli.specs.Reply.{Begins, Ends, Takes, Retires, Pins, Labels}
+use Rattle.inspector_cli.specs.Reply.{Begins, Ends, Retires, Pins, Labels}
 use Rattle.stream_names.specs.Streams.{exec_stream, core_stream}
 use Rattle.archive_replies.specs.Reasons.{reason_of}
 use Rattle.archive_replies.specs.Texts.{plain_reply}
@@ -114,6 +115,7 @@ abbrev pub FillsAndEnds : {D : Type 0} → disk.Ghosts D → Bool → Option (Li
 FillsAndEnds {D} g fit file file' fails fails' old text new stored =
     (gone : List (Going D)) × (filled : Parts D) × (rest : List ℕ) × (text ≡ flat_map going_text gone ++ rest) × (fit ≡ false → gone ≡ [])
     × RestReplies g file file' fails fails' old true gone filled rest new stored
+    × (fit ≡ true → IsServed (state_of old) → RefusedIfSpent rest (state_of filled))
 
 -- a stream that is begun, or why there is none, and its file: the replies, and the case's number where it is stored
 pub record StoresStream {D : Type 0} (g : disk.Ghosts D) (fit : Bool) (file file' : Option (List ℕ)) (fails fails' : ℕ) (old : Parts D) (found : Result StreamFacts (List ℕ))
@@ -129,6 +131,8 @@ pub record StoresStream {D : Type 0} (g : disk.Ghosts D) (fit : Bool) (file file
   pub filled : Parts D
   pub rest : List ℕ
   pub goes_on : RestReplies g file file' fails fails' mid accepted gone filled rest new stored
+  -- a stream for which cases may go is refused for want of room only where none may go any more
+  pub spent : fit ≡ true → RefusedIfSpent rest (state_of filled)
   pub text : replies ≡ first ++ (flat_map going_text gone ++ rest)
 
 -- Cases are retired by a policy: what `retire` does in a session, and whether it was answered other than `no REASON`. Where there is no
@@ -190,9 +194,11 @@ pub record Options : Type 0 where
   pub pin : Bool
   -- cases go so that the stream finds room
   pub fit : Bool
+  -- how many cores of one program may be stored
+  pub burst : Option Burst
 
 abbrev pub options_asked : StoreOptions → Options
-options_asked options = record { label = label_asked options.label; pin = options.pin; fit = options.fit }
+options_asked options = record { label = label_asked options.label; pin = options.pin; fit = options.fit; burst = options.burst }
 
 -- what is retired for a stream by a policy, the stream with its file, and then the label and the pin of its case
 pub record Stores {D : Type 0} (g : disk.Ghosts D) (file file' : Option (List ℕ)) (fails fails' : ℕ) (old : Parts D) (asked : Option Policy) (found : Result StreamFacts (List ℕ)) (options : Options)

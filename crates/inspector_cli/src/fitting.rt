@@ -1,11 +1,12 @@
 // Cases that go, one by one, so that a stream finds room.
-ghost use Rattle.std.specs.Prelude.{◌≡◌, ℕ, List, Ok, IfSome, true, map, option_map};
+ghost use Rattle.std.specs.Prelude.{◌≡◌, ◌<◌, ℕ, List, Ok, None, IfSome, true, false, map, option_map};
 ghost use Rattle.std.specs.List.{find};
 ghost use Rattle.intake.specs.Parts.{Parts, state_of};
 ghost use Rattle.journal_layout.specs.Case.{case_of};
 ghost use Rattle.script_streams.specs.Replies.{TellsText, telling};
 ghost use Rattle.archive_replies.specs.Texts.{dropped_line};
-ghost use Rattle.inspector_cli.specs.Fitting.{Going, TakesWhile, HasNoBlock, FindsNoRoom, IsNext, goes, goes_first};
+ghost use Rattle.intake.specs.State.{blocks_in};
+ghost use Rattle.inspector_cli.specs.Fitting.{Going, TakesWhile, HasNoBlock, FindsNoRoom, FindsRoom, NoneMayGo, DropsOne, DropsAll, IsNext, goes, goes_first, next_to_go};
 ghost use Rattle.inspector_cli.specs.Storing.{GoesNext, MakesRoom};
 
 use crate::store::TakeStop;
@@ -13,9 +14,6 @@ use disk_model::Disk;
 use intake::Archive;
 use journal_layout::{Entry, Kind};
 use script_streams::{Output, Reply};
-
-// The most cases that an archive may have.
-const MOST_CASES: u64 = 1 << 32;
 
 // What a stream may find no room for.
 #[derive(Clone, Copy)]
@@ -33,17 +31,17 @@ pub(crate) fn make_room<O: Output, D: Disk>(
     reply: &mut Reply<'_, O>,
     archive: &mut Archive<D>,
 ) -> Result<(), TakeStop>
-    ensures { (begun : Parts D) (so_far : List ℕ) (gone : List (Going D))
+    ensures room { (begun : Parts D) (so_far : List ℕ) (gone : List (Going D))
         → TakesWhile D.Disk begun so_far gone (Ok tt) archive.old
         → MakesRoom D.Disk begun so_far gone (telling O.Output reply.old reply.new) archive.new result }
+    ensures served { DropsAll need (state_of archive.old) result (state_of archive.new) }
 {
-    for _ in 0..MOST_CASES {
+    loop {
         let is_gone = drop_if_full(need, reply, archive)?;
         if !is_gone {
             return Ok(());
         }
     }
-    Ok(())
 }
 
 // Deletes the case that goes next, and tells it, if there is no room for this. Says whether one went.
@@ -52,9 +50,10 @@ fn drop_if_full<O: Output, D: Disk>(
     reply: &mut Reply<'_, O>,
     archive: &mut Archive<D>,
 ) -> Result<bool, TakeStop>
-    ensures { (begun : Parts D) (so_far : List ℕ) (gone : List (Going D))
+    ensures goes { (begun : Parts D) (so_far : List ℕ) (gone : List (Going D))
         → TakesWhile D.Disk begun so_far gone (Ok tt) archive.old
         → GoesNext D.Disk begun so_far gone (telling O.Output reply.old reply.new) archive.new result }
+    ensures served { DropsOne need (state_of archive.old) result (state_of archive.new) }
 {
     if !lacks_room(need, archive) {
         return Ok(false);
@@ -73,7 +72,8 @@ fn drop_if_full<O: Output, D: Disk>(
 
 // Whether there is no room for this.
 fn lacks_room<D: Disk>(need: Need, archive: &Archive<D>) -> bool
-    ensures { result ≡ true → FindsNoRoom (state_of archive.now) }
+    ensures lacks { result ≡ true → FindsNoRoom (state_of archive.now) }
+    ensures finds { result ≡ false → FindsRoom need (state_of archive.now) }
 {
     match need {
         Need::Block => lacks_block(archive),
@@ -83,7 +83,9 @@ fn lacks_room<D: Disk>(need: Need, archive: &Archive<D>) -> bool
 
 // Whether no data block is free.
 pub(crate) fn lacks_block<D: Disk>(archive: &Archive<D>) -> bool
-    ensures { result ≡ true → HasNoBlock (state_of archive.now) }
+    ensures lacks { result ≡ true → HasNoBlock (state_of archive.now) }
+    ensures finds { result ≡ false → (state_of archive.now).stopped ≡ false
+        → blocks_in (state_of archive.now) < (state_of archive.now).shape.data_blocks }
 {
     match archive.free_blocks() {
         Ok(space) => space.free == 0,
@@ -93,7 +95,8 @@ pub(crate) fn lacks_block<D: Disk>(archive: &Archive<D>) -> bool
 
 // The number of the case that goes next, if one may.
 fn next_number<D: Disk>(archive: &Archive<D>) -> Option<u32>
-    ensures { IfSome result (λ seq. IsNext (state_of archive.now).cases seq) }
+    ensures next { IfSome result (λ seq. IsNext (state_of archive.now).cases seq) }
+    ensures none { result ≡ None → (state_of archive.now).stopped ≡ false → NoneMayGo (state_of archive.now) }
 {
     match archive.cases() {
         Ok(cases) => next_of(cases),
@@ -103,7 +106,8 @@ fn next_number<D: Disk>(archive: &Archive<D>) -> Option<u32>
 
 // The number of the case that goes next, of cases in the order of their numbers.
 fn next_of(cases: &[Entry]) -> Option<u32>
-    ensures { IfSome result (λ seq. IsNext (map case_of cases.now) seq) }
+    ensures next { IfSome result (λ seq. IsNext (map case_of cases.now) seq) }
+    ensures none { result ≡ None → next_to_go (map case_of cases.now) ≡ None }
 {
     match first_core(cases) {
         Some(core) => Some(core.seq),

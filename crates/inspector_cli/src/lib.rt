@@ -4,6 +4,7 @@
 mod answers;
 mod ask;
 mod begin;
+mod burst;
 mod copying;
 mod extract;
 mod fitting;
@@ -22,6 +23,7 @@ mod stored;
 pub use archive_replies::reason;
 pub use ask::open_and_ask;
 pub use begin::line_stream;
+pub use burst::Burst;
 pub use copying::{CopyFault, copy_image};
 pub use extract::{ImageFault, read_image, write_image};
 pub use laws::{

@@ -1,4 +1,5 @@
 //! A session: the commands of a script and the replies to them.
+use crate::burst::Burst;
 use arrayvec::ArrayVec;
 use journal_layout::OpenFault;
 use thiserror::Error;
@@ -13,6 +14,8 @@ pub struct StoreOptions {
     /// Where the stream finds no room, cases that are not pinned are deleted: first the cores, then the executables, those of the
     /// lowest numbers first.
     pub fit: bool,
+    /// A core is not stored if that would be one too many of its program: the reason is `Burst`.
+    pub burst: Option<Burst>,
 }
 
 /// What came of a stream that was to be stored, of what was to be retired before it, and of the label and the pin of its case.

@@ -3,7 +3,8 @@ ghost use Rattle.std.specs.Prelude.{◌≡◌, ◌<◌, ℕ, true, List, [], Ok}
 ghost use Rattle.intake.specs.Durable.{Durable};
 ghost use Rattle.intake.specs.Parts.{Parts, state_of};
 ghost use Rattle.stream_names.specs.Commands.{stream_found};
-ghost use Rattle.inspector_cli.specs.Fitting.{Going, TakesWhile};
+ghost use Rattle.inspector_cli.specs.Fitting.{Going, TakesWhile, Advances, IsServed, ServesOn, FillsServed};
+ghost use Rattle.inspector_cli.specs.Bursts.{admitted};
 ghost use Rattle.inspector_cli.specs.Reply.{Begins, Takes};
 ghost use Rattle.script_streams.specs.Replies.{TellsReply, telling};
 ghost use Rattle.inspector_cli.specs.Session.{streams_of};
@@ -11,6 +12,7 @@ ghost use Rattle.inspector_cli.specs.Storing.{StoreEnds, Stores, StoresStream, F
 
 use crate::answers::{answer_end, answer_label, answer_pin};
 use crate::begin::answer_begin;
+use crate::burst::admitted;
 use crate::fitting::{Need, lacks_block, make_room};
 use crate::retiring::retire_first;
 use crate::session::{SessionFault, StoreOptions, StoreOutcome};
@@ -41,6 +43,8 @@ pub(crate) enum TakeStop {
 ///
 /// - Room is made as by the line `retire` of a session, if the stream can begin then: `found` is a stream, and no case that
 ///   stays has its name. Otherwise nothing is retired, and nothing is told of it. The stream is stored whatever was answered.
+/// - If the options have a burst, and the stream is a core that would be one too many of its program, no stream is found, for the
+///   reason `Burst`: all that follows is as of a `found` with that reason.
 /// - The stream begins in slot 0, or is refused for the reason that `found` has. Where it begins, it takes all bytes of `file`
 ///   and becomes a case. The reply is that of the line `begin`, and then that of the first step that was refused, or else
 ///   that of the line `end 0`. A `file` that cannot be read, or that has not ended after 2^40 reads, is a step that is
@@ -66,11 +70,13 @@ pub fn store_stream<I: Input, O: Output, D: Disk>(
     archive: &mut Archive<D>,
 ) -> Result<StoreOutcome, SessionFault>
     ensures ends { (doubts : List Durable) → StoreEnds D.Disk (streams_of I.Input O.Output file.old file.new output.old output.new)
-        (record { archive = archive.old; in_doubt = doubts }) policy (stream_found found.entry) (options_asked options.now) archive.new result }
+        (record { archive = archive.old; in_doubt = doubts }) policy
+        (admitted options.now.burst (state_of archive.old).stopped (state_of archive.old).cases (stream_found found.entry)) (options_asked options.now) archive.new result }
     ensures quiet { IsSlotQuiet (state_of archive.new) }
 {
     calls_lead_from_mark_to_mark::<D>();
     found_after_a_stop::<D>();
+    let found = admitted(&options.burst, found, archive);
     let mut reply = Reply::new(output);
     let outcome = answer_all(policy, found, options, file, &mut reply, archive);
     let _ = archive.abandon(0);
@@ -166,6 +172,7 @@ fn answer_first<O: Output, D: Disk>(
 ) -> bool
     ensures first { TellsReply (telling O.Output reply.old reply.new) (λ text. Begins D.Disk archive.old 0 (stream_found found.entry) text archive.new result) }
     ensures begun { result ≡ true → Takes D.Disk archive.new 0 [] (Ok tt) archive.new }
+    ensures served { result ≡ true → IsServed (state_of archive.new) }
 {
     answer_begin(0, found, reply, archive)
 }
@@ -202,8 +209,9 @@ fn fill_stream<I: Input, O: Output, D: Disk>(
     archive: &mut Archive<D>,
 ) -> Result<(), TakeStop>
     requires { Takes D.Disk archive.old 0 [] (Ok tt) archive.old }
-    ensures { TakesAll D.Disk fit (I.remaining file.old) (I.remaining file.new) (I.failures file.old) (I.failures file.new)
+    ensures all { TakesAll D.Disk fit (I.remaining file.old) (I.remaining file.new) (I.failures file.old) (I.failures file.new)
         archive.old (telling O.Output reply.old reply.new) archive.new result }
+    ensures served { fit ≡ true → IsServed (state_of archive.old) → FillsServed result (state_of archive.new) }
 {
     take_file(fit, file, reply, archive)?;
     if !fit {
@@ -220,8 +228,9 @@ fn take_file<I: Input, O: Output, D: Disk>(
     archive: &mut Archive<D>,
 ) -> Result<(), TakeStop>
     requires { Takes D.Disk archive.old 0 [] (Ok tt) archive.old }
-    ensures { TakesAll D.Disk fit (I.remaining file.old) (I.remaining file.new) (I.failures file.old) (I.failures file.new)
+    ensures all { TakesAll D.Disk fit (I.remaining file.old) (I.remaining file.new) (I.failures file.old) (I.failures file.new)
         archive.old (telling O.Output reply.old reply.new) archive.new result }
+    ensures served { fit ≡ true → IsServed (state_of archive.old) → ServesOn result (state_of archive.new) }
 {
     for _ in 0..MOST_READS {
         let goes_on = take_next(fit, file, reply, archive)?;
@@ -239,10 +248,11 @@ fn take_next<I: Input, O: Output, D: Disk>(
     reply: &mut Reply<'_, O>,
     archive: &mut Archive<D>,
 ) -> Result<bool, TakeStop>
-    ensures { (begun : Parts D) (so_far : List ℕ) (gone : List (Going D))
+    ensures next { (begun : Parts D) (so_far : List ℕ) (gone : List (Going D))
         → TakesWhile D.Disk begun so_far gone (Ok tt) archive.old
         → TakesNext D.Disk (I.remaining file.old) (I.remaining file.new) (I.failures file.old) (I.failures file.new)
         begun so_far gone fit (telling O.Output reply.old reply.new) archive.new result }
+    ensures served { fit ≡ true → IsServed (state_of archive.old) → ServesOn result (state_of archive.new) }
 {
     if !fit {
         return take_more(MOST_BYTES, file, archive);
@@ -256,10 +266,11 @@ fn take_fitting<I: Input, O: Output, D: Disk>(
     reply: &mut Reply<'_, O>,
     archive: &mut Archive<D>,
 ) -> Result<bool, TakeStop>
-    ensures { (begun : Parts D) (so_far : List ℕ) (gone : List (Going D))
+    ensures next { (begun : Parts D) (so_far : List ℕ) (gone : List (Going D))
         → TakesWhile D.Disk begun so_far gone (Ok tt) archive.old
         → TakesNext D.Disk (I.remaining file.old) (I.remaining file.new) (I.failures file.old) (I.failures file.new)
         begun so_far gone true (telling O.Output reply.old reply.new) archive.new result }
+    ensures served { IsServed (state_of archive.old) → ServesOn result (state_of archive.new) }
 {
     if !lacks_block(archive) {
         return take_more(MOST_BYTES, file, archive);
@@ -273,10 +284,11 @@ fn take_one<I: Input, O: Output, D: Disk>(
     reply: &mut Reply<'_, O>,
     archive: &mut Archive<D>,
 ) -> Result<bool, TakeStop>
-    ensures { (begun : Parts D) (so_far : List ℕ) (gone : List (Going D))
+    ensures next { (begun : Parts D) (so_far : List ℕ) (gone : List (Going D))
         → TakesWhile D.Disk begun so_far gone (Ok tt) archive.old
         → TakesNext D.Disk (I.remaining file.old) (I.remaining file.new) (I.failures file.old) (I.failures file.new)
         begun so_far gone true (telling O.Output reply.old reply.new) archive.new result }
+    ensures served { IsServed (state_of archive.old) → ServesOn result (state_of archive.new) }
 {
     let goes_on = take_more(1, file, archive)?;
     if !goes_on {
@@ -293,10 +305,11 @@ fn take_more<I: Input, D: Disk>(
     archive: &mut Archive<D>,
 ) -> Result<bool, TakeStop>
     requires { 0 < most }
-    ensures { (begun : Parts D) (so_far : List ℕ)
+    ensures more { (begun : Parts D) (so_far : List ℕ)
         → Takes D.Disk begun 0 so_far (Ok tt) archive.old
         → TakesMore (I.remaining file.old) (I.remaining file.new) (I.failures file.old) (I.failures file.new)
         so_far (λ raw v. Takes D.Disk begun 0 raw v archive.new) result }
+    ensures advances { Advances most (state_of archive.old) result (state_of archive.new) }
 {
     let (lent, room) = archive.room(0);
     if let Err(fault) = lent {

@@ -86,6 +86,7 @@ fn stores<D: Disk + Drop>(rt: &(impl AllocGlobal + Abort), disk: D, row: &Row) -
         label: None,
         pin: false,
         fit: false,
+        burst: None,
     };
     let (text, outcome, disk) = stored(rt.alloc(), disk, row, &options)?;
     assert_eq!(rt; text.as_str(), row.replies);
@@ -327,6 +328,7 @@ fn stores_labelled<D: Disk + Drop>(
         label,
         pin: false,
         fit: false,
+        burst: None,
     };
     let (text, outcome, disk) = stored(rt.alloc(), disk, row, &options)?;
     assert_eq!(rt; text.as_str(), row.replies);
@@ -366,6 +368,7 @@ fn stores_pinned<D: Disk + Drop>(
         label: None,
         pin: true,
         fit: false,
+        burst: None,
     };
     let (text, outcome, disk) = stored(rt.alloc(), disk, row, &options)?;
     assert_eq!(rt; text.as_str(), row.replies);
@@ -419,6 +422,7 @@ fn stores_fitting<D: Disk + Drop>(
         label: None,
         pin: false,
         fit: true,
+        burst: None,
     };
     let (text, outcome, disk) = stored(rt.alloc(), disk, row, &options)?;
     assert_eq!(rt; text.as_str(), row.replies);

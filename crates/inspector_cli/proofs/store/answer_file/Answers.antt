@@ -3,31 +3,50 @@ use Rattle.std.specs.List.{flat_map}
 use Rattle.std.specs.Prelude.{codes}
 use Rattle.inspector_cli.specs.declared.store.TakeStop.TheVariants.{File, Refused}
 use Rattle.inspector_cli.specs.Fitting.{going_text}
+use Rattle.intake.specs.Parts.{state_of}
 use Rattle.script_streams.specs.Replies.{no_reply}
 use Rattle.archive_replies.specs.Reasons.{reason_of}
 use Rattle.script_streams.specs.TellLaws.{tells_as, tells_then}
+use Rattle.inspector_cli.proofs.SpentLemmas.{ended_spent, file_unspent, refused_spent}
 use Rattle.inspector_cli.proofs.store.answer_file.Goals as goal
 
 pub returns-in-Err-File : goal.returns-in-Err-File
 returns-in-Err-File g c =
-    let t = rw c.in-Err-File.field-0-is at c.in-Err-File.ensures in (
+    let t = rw c.in-Err-File.field-0-is at c.in-Err-File.ensures.all in (
       flat_map going_text t.0 ++ no_reply (codes "File"),
-      (t.0, c.fill_stream.new.archive, no_reply (codes "File"), refl, t.3, (Err File, t.2, (refl, refl, refl))),
+      (t.0, c.fill_stream.new.archive, no_reply (codes "File"), refl, t.3, (Err File, t.2, (refl, refl, refl)), λ fits was. file_unspent (state_of c.fill_stream.new.archive)),
       tells_then t.1 c.tell_no.ensures,
     )
 
 pub returns-in-Err-Refused : goal.returns-in-Err-Refused
 returns-in-Err-Refused g c =
-    let t = rw c.in-Err-Refused.field-0-is at c.in-Err-Refused.ensures in (
+    let t = rw c.in-Err-Refused.field-0-is at c.in-Err-Refused.ensures.all in (
       flat_map going_text t.0 ++ no_reply (reason_of c.in-Err-Refused.fault),
-      (t.0, c.fill_stream.new.archive, no_reply (reason_of c.in-Err-Refused.fault), refl, t.3, (Err (Refused c.in-Err-Refused.fault), t.2, (refl, refl, refl))),
+      (
+        t.0,
+        c.fill_stream.new.archive,
+        no_reply (reason_of c.in-Err-Refused.fault),
+        refl,
+        t.3,
+        (Err (Refused c.in-Err-Refused.fault), t.2, (refl, refl, refl)),
+        λ fits was. refused_spent c.in-Err-Refused.fault (state_of c.fill_stream.new.archive) (rw c.in-Err-Refused.field-0-is at (c.in-Err-Refused.ensures.served fits was)),
+      ),
       tells_then t.1 (tells_as (ap no_reply c.reason.ensures) c.tell_no-in-Err-Refused.ensures),
     )
 
 pub returns-in-Ok : goal.returns-in-Ok
 returns-in-Ok g c =
-    let t = c.in-Ok.ensures in (
+    let t = c.in-Ok.ensures.all in (
       flat_map going_text t.0 ++ c.answer_end.ensures.0,
-      (t.0, c.fill_stream.new.archive, c.answer_end.ensures.0, refl, t.3, (Ok tt, t.2, c.answer_end.ensures.1)),
+      (
+        t.0,
+        c.fill_stream.new.archive,
+        c.answer_end.ensures.0,
+        refl,
+        t.3,
+        (Ok tt, t.2, c.answer_end.ensures.1),
+        λ fits was. (let s = c.in-Ok.ensures.served fits was in let e = c.answer_end.ensures.1 in
+            rw e.2 (ended_spent (state_of c.fill_stream.new.archive) (state_of c.answer_end.new.archive) e.0 s.0 s.1 e.1.step)),
+      ),
       tells_then t.1 c.answer_end.ensures.2,
     )

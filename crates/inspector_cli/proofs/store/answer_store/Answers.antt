@@ -30,4 +30,4 @@ returns g c =
           c.if-not-is_begun.false first.1,
       first.2,
     ))
-    c.answer_file.ensures
+    (c.answer_first-is_begun.ensures.served c.if-not-is_begun.false) c.answer_file.ensures

@@ -1,8 +1,9 @@
-use Rattle.std.proofs.Common.{◌≡◌, ◌≤◌, ℕ, false, List, [], length, Ok}
+use Rattle.std.proofs.Common.{◌≡◌, ◌≤◌, ℕ, false, true, List, [], length, Ok}
 use Rattle.std.specs.List.{flat_map}
 use Rattle.std.specs.Io.KnownBytes.{Consumes}
+use Rattle.intake.specs.Parts.{state_of}
 use Rattle.script_streams.specs.Replies.{TellsText, telling}
-use Rattle.inspector_cli.specs.Fitting.{Going, TakesWhile, going_text}
+use Rattle.inspector_cli.specs.Fitting.{Going, IsServed, TakesWhile, going_text}
 use Rattle.inspector_cli.proofs.store.take_file.Given as goal
 
 abbrev pub invariant-loop : goal.invariant-loop
@@ -15,4 +16,5 @@ invariant-loop g l = record {
   failures : g.I.Input.failures l.file ≡ g.I.Input.failures l.initial.file;
   takes : TakesWhile g.D.Disk l.fn.archive raw gone (Ok tt) l.archive;
   unasked : l.fn.fit ≡ false → gone ≡ [];
+  served : l.fn.fit ≡ true → IsServed (state_of l.fn.archive) → IsServed (state_of l.archive);
 }

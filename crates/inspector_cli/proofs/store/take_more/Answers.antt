@@ -1,12 +1,14 @@
-use Rattle.std.proofs.Common.{◌≡◌, ◌++◌, [], length, take, drop, ap, sym, ◌∙◌, refl, arith, length-take-le}
+use Rattle.std.proofs.Common.{inr, ◌++◌, [], length, take, drop, ap, sym, ◌∙◌, arith, length-take-le}
 use Rattle.std.proofs.lemmas.List.{take-append-le}
 use Rattle.std.proofs.KnownBytes.{Consumes-kept, Consumes-nil}
+use Rattle.intake.specs.Parts.{state_of}
 use Rattle.inspector_cli.proofs.FeedLemmas.{lent_takes, lent_length, lent_some, lent_few, fed}
-use Rattle.inspector_cli.proofs.RoomLemmas.{still_fits}
+use Rattle.inspector_cli.proofs.RoomLemmas.{states_agree, still_fits}
+use Rattle.inspector_cli.proofs.SpentLemmas.{advanced_by, read_few}
 use Rattle.inspector_cli.proofs.store.take_more.Goals as goal
 
-pub returns-in_default-read : goal.returns-in_default-read
-returns-in_default-read g c = λ begun so_far taken.
+pub returns-in_default-read-clause-more : goal.returns-in_default-read-clause-more
+returns-in_default-read-clause-more g c = λ begun so_far taken.
     let is = c.in_default.is in
     let long = lent_length c.read.new.into c.room-lent.result.1.now c.min-size.result c.args.most c.read.auto.into c.min-size.ensures in
     let lent = rw is at c.room-lent.ensures.lent in
@@ -17,8 +19,8 @@ returns-in_default-read g c = λ begun so_far taken.
       lent_takes g.D.Disk begun c.args.archive.now 0 so_far (c.read.new.into ++ drop c.min-size.result c.room-lent.result.1.now) tt taken (long ∙ ap length lent) (omega (arith, long, some)),
     )
 
-pub returns-then-count-eq0 : goal.returns-then-count-eq0
-returns-then-count-eq0 g c = λ begun so_far taken.
+pub returns-then-count-eq0-clause-more : goal.returns-then-count-eq0-clause-more
+returns-then-count-eq0-clause-more g c = λ begun so_far taken.
     let is = c.in_default.is in
     let long = lent_length c.read.new.into c.room-lent.result.1.now c.min-size.result c.args.most c.read.auto.into c.min-size.ensures in
     let lent = rw is at c.room-lent.ensures.lent in
@@ -37,8 +39,8 @@ advance-requires g c =
     (lent_few c.read.new.into c.room-lent.result.1.now c.min-size.result c.args.most c.in-Ok.count c.read.auto.into c.min-size.ensures c.in-Ok.ensures.count)
     (rw c.in_default.is at c.room-lent.ensures.fits)
 
-pub returns-in-Err-advance : goal.returns-in-Err-advance
-returns-in-Err-advance g c = λ begun so_far taken.
+pub returns-in-Err-advance-clause-more : goal.returns-in-Err-advance-clause-more
+returns-in-Err-advance-clause-more g c = λ begun so_far taken.
     let is = c.in_default.is in
     let few = c.in-Ok.ensures.count in
     let long = lent_length c.read.new.into c.room-lent.result.1.now c.min-size.result c.args.most c.read.auto.into c.min-size.ensures in
@@ -55,8 +57,8 @@ returns-in-Err-advance g c = λ begun so_far taken.
           (lent_few c.read.new.into c.room-lent.result.1.now c.min-size.result c.args.most c.in-Ok.count c.read.auto.into c.min-size.ensures few) (rw is at c.room-lent.ensures.fits) call),
     )
 
-pub returns : goal.returns
-returns g c = λ begun so_far taken.
+pub returns-clause-more : goal.returns-clause-more
+returns-clause-more g c = λ begun so_far taken.
     let is = c.in_default.is in
     let few = c.in-Ok.ensures.count in
     let long = lent_length c.read.new.into c.room-lent.result.1.now c.min-size.result c.args.most c.read.auto.into c.min-size.ensures in
@@ -74,3 +76,23 @@ returns g c = λ begun so_far taken.
           (sym (take-append-le c.in-Ok.count c.read.new.into (drop c.min-size.result c.room-lent.result.1.now) few)) size
           (lent_few c.read.new.into c.room-lent.result.1.now c.min-size.result c.args.most c.in-Ok.count c.read.auto.into c.min-size.ensures few) (rw is at c.room-lent.ensures.fits) call),
     )
+
+pub returns-in_default-read-clause-advances : goal.returns-in_default-read-clause-advances
+returns-in_default-read-clause-advances g c = states_agree c.args.archive.now 0 c.room-lent.result.0 _
+
+pub returns-then-count-eq0-clause-advances : goal.returns-then-count-eq0-clause-advances
+returns-then-count-eq0-clause-advances g c = states_agree c.args.archive.now 0 c.room-lent.result.0 _
+
+pub returns-in-Err-advance-clause-advances : goal.returns-in-Err-advance-clause-advances
+returns-in-Err-advance-clause-advances g c =
+    inr (rw c.in-Err-advance.is at (advanced_by c.args.archive.now c.room-lent.result.0 (c.read.new.into ++ drop c.min-size.result c.room-lent.result.1.now) c.in-Ok.count c.args.most (length c.room-lent.result.1.now) c.advance.result (state_of c.advance.new.self)
+    (lent_few c.read.new.into c.room-lent.result.1.now c.min-size.result c.args.most c.in-Ok.count c.read.auto.into c.min-size.ensures c.in-Ok.ensures.count)
+    (read_few c.read.new.into c.room-lent.result.1.now c.min-size.result c.args.most c.in-Ok.count c.read.auto.into c.min-size.ensures c.in-Ok.ensures.count)
+    (rw c.in_default.is at c.room-lent.ensures.fits) c.advance.ensures.step))
+
+pub returns-clause-advances : goal.returns-clause-advances
+returns-clause-advances g c =
+    rw c.in_default-advance.is at (advanced_by c.args.archive.now c.room-lent.result.0 (c.read.new.into ++ drop c.min-size.result c.room-lent.result.1.now) c.in-Ok.count c.args.most (length c.room-lent.result.1.now) c.advance.result (state_of c.advance.new.self)
+    (lent_few c.read.new.into c.room-lent.result.1.now c.min-size.result c.args.most c.in-Ok.count c.read.auto.into c.min-size.ensures c.in-Ok.ensures.count)
+    (read_few c.read.new.into c.room-lent.result.1.now c.min-size.result c.args.most c.in-Ok.count c.read.auto.into c.min-size.ensures c.in-Ok.ensures.count)
+    (rw c.in_default.is at c.room-lent.ensures.fits) c.advance.ensures.step)
