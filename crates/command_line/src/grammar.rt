@@ -58,6 +58,8 @@ fn argument<'a>(alloc: Global, word: &Word) -> Arg<'a> {
         Takes::Blocks => named(argument, word)
             .required(true)
             .value_parser(value_parser!(u32)),
+        Takes::NewBlocks => named(argument, word).value_parser(value_parser!(u32)),
+        Takes::NewLayout => named(argument, word).value_parser(value_parser!(u32).range(2..=2)),
         Takes::Bytes => named(argument, word).value_parser(value_parser!(u64)),
         Takes::Layout => named(argument, word).value_parser(value_parser!(u32).range(1..=2)),
     }

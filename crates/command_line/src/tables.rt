@@ -1,5 +1,6 @@
 // The program's commands and their words, as tables.
 use crate::ask_help::ASK_HELP;
+use crate::care_tables::{CHECK as CHECK_ARCHIVE, COPY, RESIZE};
 
 // What replaces a word.
 #[derive(Clone, Copy)]
@@ -18,6 +19,10 @@ pub(crate) enum Takes {
     Text,
     // A number below 2^32 after its name, which has to be there.
     Blocks,
+    // The same, which may be left out.
+    NewBlocks,
+    // 2 after its name.
+    NewLayout,
     // A number below 2^64 after its name.
     Bytes,
     // 1 or 2 after its name.
@@ -43,7 +48,7 @@ pub(crate) struct CommandWords {
 }
 
 // The commands, in the order in which help shows them.
-pub(crate) static COMMANDS: [CommandWords; 9] = [
+pub(crate) static COMMANDS: [CommandWords; 12] = [
     CommandWords {
         name: "format",
         about: "makes an archive in a new file, with no case in it",
@@ -97,6 +102,9 @@ pub(crate) static COMMANDS: [CommandWords; 9] = [
         after_help: None,
         words: &[ARCHIVE, CASE, NEW_FILE, NO_WAIT],
     },
+    CHECK_ARCHIVE,
+    COPY,
+    RESIZE,
     CommandWords {
         name: "memory",
         about: "runs the script on standard input over a fresh archive in memory, which is gone at its end",
@@ -115,7 +123,7 @@ const NEW_ARCHIVE: Word = Word {
 };
 
 // The file of an archive.
-const ARCHIVE: Word = Word {
+pub(crate) const ARCHIVE: Word = Word {
     id: "archive",
     shown: "ARCHIVE",
     takes: Takes::Place,
@@ -160,7 +168,7 @@ const DATA: Word = Word {
 };
 
 // Whether to be refused where another process has the archive.
-const NO_WAIT: Word = Word {
+pub(crate) const NO_WAIT: Word = Word {
     id: "no-wait",
     shown: "",
     takes: Takes::Flag,
