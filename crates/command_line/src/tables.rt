@@ -1,6 +1,5 @@
 // The program's commands and their words, as tables.
 use crate::ask_help::ASK_HELP;
-use crate::care_tables::{CHECK as CHECK_ARCHIVE, COPY, RESIZE};
 
 // What replaces a word.
 #[derive(Clone, Copy)]
@@ -48,7 +47,7 @@ pub(crate) struct CommandWords {
 }
 
 // The commands, in the order in which help shows them.
-pub(crate) static COMMANDS: [CommandWords; 12] = [
+pub(crate) static COMMANDS: [CommandWords; 9] = [
     CommandWords {
         name: "format",
         about: "makes an archive in a new file, with no case in it",
@@ -102,9 +101,6 @@ pub(crate) static COMMANDS: [CommandWords; 12] = [
         after_help: None,
         words: &[ARCHIVE, CASE, NEW_FILE, NO_WAIT],
     },
-    CHECK_ARCHIVE,
-    COPY,
-    RESIZE,
     CommandWords {
         name: "memory",
         about: "runs the script on standard input over a fresh archive in memory, which is gone at its end",
