@@ -7,3 +7,5 @@ pub mod Looking
 pub mod Asking
 pub mod Look
 pub mod Taken
+pub mod Checks
+pub mod Copying

@@ -1,6 +1,5 @@
 -- What the program tells of a failure: `no REASON` for what is refused, and `fault NAME` where a session ended before its script.
 use Rattle.std.specs.Prelude.{ℕ, Bool, true, false, List, [], ◌∷◌, ◌++◌, Option, Result, codes, decimal}
-use Rattle.intake.specs.declared.faults.ArchiveFault.{ArchiveFault}
 use Rattle.archive_replies.specs.Reasons.{reason_of}
 use Rattle.disk_model.specs.declared.file_disk.FileFault.{FileFault}
 use Rattle.disk_model.specs.declared.file_disk.FileFault.TheVariants as file

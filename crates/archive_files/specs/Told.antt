@@ -1,5 +1,5 @@
 -- How the end of what is done over a disk is told.
-use Rattle.std.specs.Prelude.{ℕ, Bool, true, false, ◌&&◌, Result, Ok, Err, is_some, if◌then◌else◌}
+use Rattle.std.specs.Prelude.{Bool, true, false, ◌&&◌, Result, Ok, Err, is_some, if◌then◌else◌}
 use Rattle.inspector_cli.specs.declared.session.LifeFault.{LifeFault}
 use Rattle.inspector_cli.specs.declared.session.LifeFault.TheVariants as life
 use Rattle.inspector_cli.specs.declared.session.StoreOutcome.{StoreOutcome}

@@ -61,7 +61,7 @@ pub fn make_archive<R: AllocGlobal + Files<File = File>>(
 }
 
 // Makes the file of an archive. One that can't be made whole is removed, unless another process made it.
-fn make_file<R: AllocGlobal + Files<File = File>>(
+pub(crate) fn make_file<R: AllocGlobal + Files<File = File>>(
     rt: &R,
     part: &str,
     length: u64,
@@ -178,7 +178,16 @@ pub fn names_output<R: Files<File = File>>(rt: &R, words: &[String]) -> bool {
 fn takes_archive(command: &str) -> bool {
     matches!(
         command,
-        "format" | "run" | "store" | "extract" | "list" | "ask" | "look"
+        "format"
+            | "run"
+            | "store"
+            | "extract"
+            | "list"
+            | "ask"
+            | "look"
+            | "check"
+            | "copy"
+            | "resize"
     )
 }
 

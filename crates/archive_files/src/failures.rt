@@ -38,6 +38,8 @@ pub enum Failure {
 pub enum FileWord {
     Archive,
     File,
+    /// The file of a new archive.
+    New,
 }
 
 /// Which part of the command line is not UTF-8.
@@ -194,6 +196,7 @@ fn tell_in_words<E: Output>(alloc: Global, refusal: Refusal, errors: &mut E) {
             "corekeep: ARCHIVE: {fault}\n"
         ),
         Refusal::File(FileWord::File, fault) => format!(in alloc; "corekeep: FILE: {fault}\n"),
+        Refusal::File(FileWord::New, fault) => format!(in alloc; "corekeep: NEW: {fault}\n"),
         Refusal::NoLine("") => format!(in alloc;
             "corekeep: no line begins so: corekeep ask --help lists them\n"
         ),

@@ -3,7 +3,7 @@ use disk_model::FileFault;
 use std::alloc::{AllocError, Global};
 use std::fs::{File, Metadata, Permissions, TryLockError};
 use std::io::ErrorKind;
-use std::os::unix::fs::{MetadataExt, OpenOptionsExt, PermissionsExt};
+use std::os::unix::fs::{MetadataExt, OpenOptionsExt, PermissionsExt, chown};
 use std::path::Path;
 use std::rt::Files;
 use std::{fs, io};
@@ -24,6 +24,11 @@ pub fn clear<R: Files<File = File>>(rt: &R, path: &str, part: &str) -> Result<()
     if fs::metadata(rt, path).is_ok() {
         return Err(FileFault::Exists);
     }
+    clear_part(rt, part)
+}
+
+/// Removes what a process that ended has left under PATH.part. A process that still writes it keeps its lock: then the file is busy.
+pub fn clear_part<R: Files<File = File>>(rt: &R, part: &str) -> Result<(), FileFault> {
     match File::open(rt, part) {
         Ok(file) => remove_stale(rt, part, &file),
         Err(error) if error.kind() == ErrorKind::NotFound => Ok(()),
@@ -75,6 +80,25 @@ fn link<R: Files<File = File>>(rt: &R, path: &str, part: &str) -> io::Result<()>
         Err(error) if error.kind() == ErrorKind::AlreadyExists => Err(error),
         Err(_) => fs::rename(rt, part, path),
     }
+}
+
+/// Puts a file that is whole and synced in the place of another, and makes that durable. It gets the other's owner and mode. A stop
+/// leaves the one or the other under PATH.
+pub fn take_place<R: Files<File = File>>(rt: &R, path: &str, part: &str) -> Result<(), FileFault> {
+    let placed = replace(rt, path, part);
+    if placed.is_err() {
+        let _ = fs::remove_file(rt, part);
+    }
+    placed?;
+    sync_folder(rt, path).map_err(|_| FileFault::Sync)
+}
+
+fn replace<R: Files<File = File>>(rt: &R, path: &str, part: &str) -> io::Result<()> {
+    let old = fs::metadata(rt, path)?;
+    chown(rt, part, Some(old.uid()), Some(old.gid()))?;
+    fs::set_permissions(rt, part, old.permissions())?;
+    File::open(rt, part)?.sync_all()?;
+    fs::rename(rt, part, path)
 }
 
 // Makes the names in the file's folder durable.

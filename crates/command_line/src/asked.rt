@@ -3,7 +3,7 @@ use crate::endings::Ending;
 use crate::grammar::program;
 use crate::handle::HandleWords;
 use crate::raw_words::{is_text, push_escaped};
-use archive_files::{ArchivePath, NewArchive, Refusal, StoreWords, WordPart};
+use archive_files::{ArchivePath, CopyWords, NewArchive, Refusal, StoreWords, WordPart};
 use arrayvec::ArrayVec;
 use clap::ArgMatches;
 use inspector_cli::StoreOptions;
@@ -60,6 +60,22 @@ pub(crate) enum Asked<'a> {
     // The lines of the input that only look, and their replies.
     Look {
         archive: ArchivePath<'a>,
+    },
+    // Whether an archive is sound.
+    Check {
+        archive: ArchivePath<'a>,
+        sees_images: bool,
+    },
+    // An archive in a new file.
+    Copy {
+        archive: ArchivePath<'a>,
+        new: &'a str,
+        wanted: CopyWords,
+    },
+    // An archive of another size, in its place.
+    Resize {
+        archive: ArchivePath<'a>,
+        wanted: CopyWords,
     },
     // Nothing.
     Nothing,
@@ -123,7 +139,29 @@ pub(crate) fn read_words<'a>(alloc: Global, words: &'a [String]) -> Result<Asked
         Some(("look", found)) => Ok(Asked::Look {
             archive: place_of(found)?,
         }),
+        Some(("check", found)) => Ok(Asked::Check {
+            archive: place_of(found)?,
+            sees_images: found.get_flag("images"),
+        }),
+        Some(("copy", found)) => Ok(Asked::Copy {
+            archive: place_of(found)?,
+            new: text_of(found, "new")?,
+            wanted: copy_of(found, found.get_one::<u32>("layout") == Some(2)),
+        }),
+        Some(("resize", found)) => Ok(Asked::Resize {
+            archive: place_of(found)?,
+            wanted: copy_of(found, false),
+        }),
         _ => Ok(Asked::Nothing),
+    }
+}
+
+fn copy_of(found: &ArgMatches<'_>, keeps_labels: bool) -> CopyWords {
+    CopyWords {
+        half_blocks: found.get_one::<u32>("half"),
+        data_blocks: found.get_one::<u32>("data"),
+        keeps_labels,
+        is_sparse: found.get_flag("sparse"),
     }
 }
 

@@ -1,4 +1,5 @@
 // The grammar of the program's words: what the tables say of them.
+use crate::care_tables::CARE_COMMANDS;
 use crate::tables::{COMMANDS, CommandWords, Takes, Word};
 use clap::{Arg, ArgAction, Command, Error, value_parser};
 use std::alloc::Global;
@@ -7,6 +8,15 @@ use std::alloc::Global;
 pub(crate) fn program<'a>(alloc: Global) -> Result<Command<'a>, Error> {
     let mut command = whole_program(alloc)?;
     for words in &COMMANDS {
+        command = command.subcommand(command_of(alloc, words)?)?;
+    }
+    with_care(alloc, command)
+}
+
+// The same with the commands that care for an archive.
+fn with_care<'a>(alloc: Global, command: Command<'a>) -> Result<Command<'a>, Error> {
+    let mut command = command;
+    for words in &CARE_COMMANDS {
         command = command.subcommand(command_of(alloc, words)?)?;
     }
     Ok(command)
@@ -58,6 +68,8 @@ fn argument<'a>(alloc: Global, word: &Word) -> Arg<'a> {
         Takes::Blocks => named(argument, word)
             .required(true)
             .value_parser(value_parser!(u32)),
+        Takes::NewBlocks => named(argument, word).value_parser(value_parser!(u32)),
+        Takes::NewLayout => named(argument, word).value_parser(value_parser!(u32).range(2..=2)),
         Takes::Bytes => named(argument, word).value_parser(value_parser!(u64)),
         Takes::Layout => named(argument, word).value_parser(value_parser!(u32).range(1..=2)),
     }

@@ -3,6 +3,7 @@
 
 mod ask_help;
 mod asked;
+mod care_tables;
 mod checking;
 mod config_file;
 mod endings;

@@ -1,4 +1,5 @@
 // `corekeep help LINE`: what a line of a script is for.
+use crate::care_tables::CARE_COMMANDS;
 use crate::tables::COMMANDS;
 use line_help::{LineHelp, help_of};
 use script_streams::{Output, Reply, StreamFault};
@@ -33,7 +34,11 @@ pub(crate) fn tell_how_it_is_asked<E: Output>(line: &LineHelp, errors: &mut E) {
 }
 
 fn is_command(name: &str) -> bool {
-    COMMANDS.iter().any(|command| command.name == name)
+    COMMANDS.iter().any(|command| command.name == name) || cares(name)
+}
+
+fn cares(name: &str) -> bool {
+    CARE_COMMANDS.iter().any(|command| command.name == name)
 }
 
 // Tells what a line is for.

@@ -18,6 +18,10 @@ pub(crate) enum Takes {
     Text,
     // A number below 2^32 after its name, which has to be there.
     Blocks,
+    // The same, which may be left out.
+    NewBlocks,
+    // 2 after its name.
+    NewLayout,
     // A number below 2^64 after its name.
     Bytes,
     // 1 or 2 after its name.
@@ -115,7 +119,7 @@ const NEW_ARCHIVE: Word = Word {
 };
 
 // The file of an archive.
-const ARCHIVE: Word = Word {
+pub(crate) const ARCHIVE: Word = Word {
     id: "archive",
     shown: "ARCHIVE",
     takes: Takes::Place,
@@ -160,7 +164,7 @@ const DATA: Word = Word {
 };
 
 // Whether to be refused where another process has the archive.
-const NO_WAIT: Word = Word {
+pub(crate) const NO_WAIT: Word = Word {
     id: "no-wait",
     shown: "",
     takes: Takes::Flag,

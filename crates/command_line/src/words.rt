@@ -11,8 +11,8 @@ use crate::raw_words::words_of;
 use crate::teller::{Teller, store_told};
 use crate::watched::Watched;
 use archive_files::{
-    Access, ArchivePath, Failure, Refusal, StoreRequest, ask, extract, look, make_archive,
-    names_output, run_over, store_file, take_disk,
+    Access, ArchivePath, Failure, Refusal, StoreRequest, ask, check, copy_archive_file, extract,
+    look, make_archive, names_output, resize_archive_file, run_over, store_file, take_disk,
 };
 use inspector_cli::{Naming, memory_session};
 use intake::Settings;
@@ -70,6 +70,9 @@ pub fn run_program<
 ///   case. A line that changes no case, and `extract`, need no right to write the archive's file, and hold its lock only while they
 ///   read its journal.
 /// - `look ARCHIVE` answers the lines of `input` that change no case, each as `ask` does.
+/// - `check ARCHIVE` tells what an archive holds and that it is sound, or where it is damaged.
+/// - `copy ARCHIVE NEW` copies it into a new file, and `resize ARCHIVE` into one that takes its place; `--half N` and `--data N` give
+///   the new archive another size.
 ///
 /// `run`, `memory` and `store` take `--template T` and `--uses-pid`, by which cores are named, and `--limit N`, the most bytes of an
 /// image. Statuses: 0; 1 where something is refused, with one line `no REASON` on `output` (and what it means in words on
@@ -161,6 +164,16 @@ fn answer_asked<R: AllocGlobal + Files<File = File> + Clock, I: Read, O: Output>
         Asked::Handle(words) => handle(rt, words, input, output),
         Asked::Ask { archive, question } => ask(rt, archive, question, output),
         Asked::Look { archive } => look(rt, archive, &mut ReadInput::new(input), output),
+        Asked::Check {
+            archive,
+            sees_images,
+        } => check(rt, archive, sees_images, output),
+        Asked::Copy {
+            archive,
+            new,
+            wanted,
+        } => Ok(copy_archive_file(rt, archive, new, wanted)?),
+        Asked::Resize { archive, wanted } => Ok(resize_archive_file(rt, archive, wanted)?),
         Asked::Nothing => Ok(()),
     }
 }

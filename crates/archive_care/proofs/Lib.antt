@@ -1,0 +1,6 @@
+mod ByteLemmas
+mod CallLemmas
+mod CopyLemmas
+mod PlaceLemmas
+mod PlanLemmas
+mod RunLemmas

@@ -1,0 +1,17 @@
+use Rattle.script_streams.specs.TellLaws.{tells_then}
+use Rattle.std.proofs.Common.{ap, decimal}
+use Rattle.script_streams.specs.TellLaws.{tells_as}
+use Rattle.archive_checks.proofs.lines.tell_facts.Goals as goal
+
+pub returns : goal.returns
+returns g c =
+    tells_then c.tell.ensures
+    (tells_then (tells_as (ap decimal c.from.ensures) c.tell_decimal.ensures)
+    (tells_then c.tell-2.ensures
+    (tells_then c.tell-3.ensures
+    (tells_then (tells_as (ap decimal c.from-2.ensures) c.tell_decimal-2.ensures)
+    (tells_then c.tell-4.ensures
+    (tells_then c.tell-5.ensures
+    (tells_then (tells_as (ap decimal c.from-3.ensures) c.tell_decimal-3.ensures)
+    (tells_then c.tell-6.ensures
+    (tells_then (tells_as (ap decimal c.from-4.ensures) c.tell_decimal-4.ensures) c.tell-7.ensures)))))))))

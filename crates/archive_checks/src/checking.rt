@@ -1,0 +1,208 @@
+// Whether an archive is sound, and where it is not.
+ghost use Rattle.std.specs.Prelude.{◌≤◌};
+ghost use Rattle.archive_checks.specs.Checking.{ChecksOnDisk, IsReadEnd};
+ghost use Rattle.case_journal.specs.Viewing.{OnlyReads};
+
+use crate::lines::{Place, tell_facts, tell_image, tell_place};
+use crate::shapes::shape_on;
+use disk_model::Disk;
+use intake::{Archive, ArchiveFault, Settings};
+use journal_layout::{Half, Kind, OpenFault, Shape};
+use script_streams::{Output, Reply};
+use std::alloc::Global;
+
+/// Why an archive was not found sound.
+#[derive(Clone, Copy, Debug, PartialEq, Eq)]
+pub enum CheckFault {
+    /// Its opening is refused so.
+    Open(OpenFault),
+    /// It could not be read, or there was no memory for an image.
+    Archive(ArchiveFault),
+    /// What is told could not be written.
+    Output,
+}
+
+// The bytes of a half's header, and of the part of a record that has its length.
+const HEADER: u64 = 32;
+
+const HEAD: usize = 8;
+
+// The bytes of the shortest record, and the most records of a half.
+const LEAST: u64 = 16;
+
+const MOST_RECORDS: u64 = 1_048_576;
+
+// The bytes of a block.
+const BLOCK: u64 = 4096;
+
+/// Opens the archive on a disk, and tells what it holds and that it is sound, or where it is damaged; and hands the disk back. With
+/// `sees_images` it reads each image too, and tells whether its headers and notes are sound, or the first faulty field: that takes
+/// as much memory as the longest image has bytes. The disk is only read.
+pub fn check_archive<D: Disk, O: Output>(
+    alloc: Global,
+    disk: D,
+    sees_images: bool,
+    output: &mut O,
+) -> (Result<(), CheckFault>, D)
+    ensures { ChecksOnDisk D.Disk disk result.0 result.1 }
+{
+    match Archive::open(alloc, disk, Settings { limit: 0 }) {
+        Ok(archive) => {
+            let mut archive = archive;
+            let told = tell_archive(&mut archive, sees_images, output);
+            let disk = archive.close();
+            (told, disk)
+        }
+        Err((fault, disk)) => {
+            let mut disk = disk;
+            tell_damage(&mut disk, fault, output);
+            (Err(CheckFault::Open(fault)), disk)
+        }
+    }
+}
+
+// Tells what an archive holds.
+fn tell_archive<D: Disk, O: Output>(
+    archive: &mut Archive<D>,
+    sees_images: bool,
+    output: &mut O,
+) -> Result<(), CheckFault>
+    ensures only { IsReadEnd result }
+    ensures quiet { OnlyReads D.Disk archive.old.disk archive.new.disk }
+{
+    let mut reply = Reply::new(output);
+    let told = tell_holdings(archive, sees_images, &mut reply);
+    let Ok(()) = reply.finish() else {
+        return Err(CheckFault::Output);
+    };
+    match told {
+        Ok(()) => Ok(()),
+        Err(fault) => Err(CheckFault::Archive(fault)),
+    }
+}
+
+fn tell_holdings<D: Disk, O: Output>(
+    archive: &mut Archive<D>,
+    sees_images: bool,
+    reply: &mut Reply<'_, O>,
+) -> Result<(), ArchiveFault>
+    ensures quiet { OnlyReads D.Disk archive.old.disk archive.new.disk }
+{
+    let version = archive.version()?;
+    let count = archive.cases()?.len();
+    let space = archive.free_blocks()?;
+    tell_facts(reply, version, count as u64, space);
+    if sees_images {
+        tell_images(archive, count, reply)?;
+    }
+    reply.tell(b"sound\n");
+    Ok(())
+}
+
+// Tells of the image of each case, in the order of their numbers.
+fn tell_images<D: Disk, O: Output>(
+    archive: &mut Archive<D>,
+    count: usize,
+    reply: &mut Reply<'_, O>,
+) -> Result<(), ArchiveFault>
+    ensures quiet { OnlyReads D.Disk archive.old.disk archive.new.disk }
+{
+    for place in 0..count {
+        see_image(archive, place, reply)?;
+    }
+    Ok(())
+}
+
+// Reads the image of a case, and tells of it. It takes as much memory as the image has bytes.
+fn see_image<D: Disk, O: Output>(
+    archive: &mut Archive<D>,
+    place: usize,
+    reply: &mut Reply<'_, O>,
+) -> Result<(), ArchiveFault>
+    ensures quiet { OnlyReads D.Disk archive.old.disk archive.new.disk }
+{
+    let Some((seq, kind)) = case_at(archive, place)? else {
+        return Ok(());
+    };
+    let image = archive.image(seq)?;
+    tell_image(reply, seq, kind, &image);
+    Ok(())
+}
+
+// The number and the kind of the case at a place of the list.
+fn case_at<D: Disk>(
+    archive: &Archive<D>,
+    place: usize,
+) -> Result<Option<(u32, Kind)>, ArchiveFault> {
+    match archive.cases()?.get(place) {
+        Some(entry) => Ok(Some((entry.seq, entry.kind))),
+        None => Ok(None),
+    }
+}
+
+// Tells where the first faulty field is, if there is one.
+fn tell_damage<D: Disk, O: Output>(disk: &mut D, fault: OpenFault, output: &mut O)
+    ensures quiet { OnlyReads D.Disk disk.old disk.new }
+{
+    let OpenFault::Damaged { at, .. } = fault else {
+        return;
+    };
+    let Some(shape) = shape_on(disk) else {
+        return;
+    };
+    let place = place_of(disk, shape, at);
+    let mut reply = Reply::new(output);
+    tell_place(&mut reply, at / BLOCK, place);
+    let _ = reply.finish();
+}
+
+// What a byte of the journal, or of the superblock, is a part of.
+fn place_of<D: Disk>(disk: &mut D, shape: Shape, at: u64) -> Place
+    ensures quiet { OnlyReads D.Disk disk.old disk.new }
+{
+    if at < BLOCK {
+        return Place::Superblock;
+    }
+    let half = if at < shape.half_start(Half::B) {
+        Half::A
+    } else {
+        Half::B
+    };
+    let records = shape.half_start(half) + HEADER;
+    if at < records {
+        return Place::Header(half);
+    }
+    Place::Record(half, record_at(disk, records, at))
+}
+
+// The number of the record that has a byte, of those from a place on, by the length that each has.
+fn record_at<D: Disk>(disk: &mut D, records: u64, at: u64) -> u64
+    requires { records ≤ at }
+    ensures quiet { OnlyReads D.Disk disk.old disk.new }
+{
+    let mut number = 1;
+    let mut place = records;
+    for _ in 0..MOST_RECORDS {
+        let length = record_length(disk, place);
+        if length < LEAST || at - place < length {
+            return number;
+        }
+        place += length;
+        number += 1;
+    }
+    number
+}
+
+// The length that the record at a place has; 0 if it can't be read.
+fn record_length<D: Disk>(disk: &mut D, place: u64) -> u64
+    ensures quiet { OnlyReads D.Disk disk.old disk.new }
+{
+    let mut head = [0u8; HEAD];
+    if disk.length().saturating_sub(place) < HEAD as u64 {
+        return 0;
+    }
+    match disk.read_at(place, &mut head) {
+        Ok(()) => u64::from(u32::from_le_bytes([head[4], head[5], head[6], head[7]])),
+        Err(_) => 0,
+    }
+}

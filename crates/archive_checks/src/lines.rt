@@ -1,0 +1,112 @@
+// What `check` tells of an archive, line by line.
+ghost use Rattle.std.specs.Prelude.{◌≡◌};
+ghost use Rattle.script_streams.specs.Replies.{TellsText, telling};
+ghost use Rattle.archive_checks.specs.Texts.{core_words, exec_words, facts_lines, half_name, image_line, place_line, place_words};
+
+use elf_view::{Elf, Want};
+use image_replies::{CoreImage, tell_core_fault, tell_elf_fault};
+use intake::Space;
+use journal_layout::{Half, Kind};
+use script_streams::{Output, Reply};
+
+/// Where the first faulty field of an archive is.
+#[derive(Clone, Copy)]
+pub(crate) enum Place {
+    Superblock,
+    /// The header of a half of the journal.
+    Header(Half),
+    /// A record of a half, counted from 1.
+    Record(Half, u64),
+}
+
+/// Tells the version of the layout, how many cases there are, and how many data blocks are free.
+pub(crate) fn tell_facts<O: Output>(
+    reply: &mut Reply<'_, O>,
+    version: u32,
+    count: u64,
+    space: Space,
+)
+    ensures { TellsText (telling O.Output reply.old reply.new) (facts_lines version count space) }
+{
+    reply.tell(b"version ");
+    reply.tell_decimal(u128::from(version));
+    reply.tell(b"\n");
+    reply.tell(b"cases ");
+    reply.tell_decimal(u128::from(count));
+    reply.tell(b"\n");
+    reply.tell(b"free ");
+    reply.tell_decimal(u128::from(space.free));
+    reply.tell(b" of ");
+    reply.tell_decimal(u128::from(space.data_blocks));
+    reply.tell(b"\n");
+}
+
+/// Tells of a case's image that its headers and notes are sound, or the first faulty field.
+pub(crate) fn tell_image<O: Output>(reply: &mut Reply<'_, O>, seq: u32, kind: Kind, image: &[u8])
+    ensures { TellsText (telling O.Output reply.old reply.new) (image_line seq kind image.now) }
+{
+    reply.tell(b"case ");
+    reply.tell_decimal(u128::from(seq));
+    reply.tell(b" ");
+    match kind {
+        Kind::Core => tell_core(reply, image),
+        Kind::Exec => tell_exec(reply, image),
+    }
+}
+
+fn tell_core<O: Output>(reply: &mut Reply<'_, O>, image: &[u8])
+    ensures { TellsText (telling O.Output reply.old reply.new) (core_words image.now) }
+{
+    match CoreImage::read(image) {
+        Ok(_) => reply.tell(b"sound\n"),
+        Err(fault) => tell_core_fault(reply, fault),
+    }
+}
+
+fn tell_exec<O: Output>(reply: &mut Reply<'_, O>, image: &[u8])
+    ensures { TellsText (telling O.Output reply.old reply.new) (exec_words image.now) }
+{
+    match Elf::read(image, Want::Exec) {
+        Ok(_) => reply.tell(b"sound\n"),
+        Err(fault) => tell_elf_fault(reply, fault),
+    }
+}
+
+/// Tells in words where a byte of the archive is.
+pub(crate) fn tell_place<O: Output>(reply: &mut Reply<'_, O>, block: u64, place: Place)
+    ensures { TellsText (telling O.Output reply.old reply.new) (place_line block place) }
+{
+    reply.tell(b"damaged in block ");
+    reply.tell_decimal(u128::from(block));
+    tell_part(reply, place);
+}
+
+// Tells what a byte is a part of.
+fn tell_part<O: Output>(reply: &mut Reply<'_, O>, place: Place)
+    ensures { TellsText (telling O.Output reply.old reply.new) (place_words place) }
+{
+    match place {
+        Place::Superblock => reply.tell(b", the superblock\n"),
+        Place::Header(half) => {
+            reply.tell(b", the header of half ");
+            reply.tell(half_word(half));
+            reply.tell(b" of the journal\n");
+        }
+        Place::Record(half, number) => {
+            reply.tell(b", record ");
+            reply.tell_decimal(u128::from(number));
+            reply.tell(b" of half ");
+            reply.tell(half_word(half));
+            reply.tell(b" of the journal\n");
+        }
+    }
+}
+
+fn half_word(half: Half) -> &'static [u8]
+    ensures { result.now ≡ half_name half }
+{
+    match half {
+        Half::A => b"A",
+        Half::B => b"B",
+    }
+}

@@ -1,0 +1,29 @@
+-- Archives that are copied onto new disks, and how that is told.
+use Rattle.std.specs.Prelude.{◌≡◌, Result, Ok, Err}
+use Rattle.archive_care.specs.Copied.{CopyCall}
+use Rattle.archive_care.specs.declared.copying.CopyWish.{CopyWish}
+use Rattle.archive_care.specs.declared.faults.CopyFault.{CopyFault}
+use Rattle.archive_care.specs.declared.faults.CopyFault.TheVariants as care
+use Rattle.disk_model.specs.declared.disk.Disk as disk
+use Rattle.intake.specs.declared.faults.ArchiveFault.TheVariants as archive
+use Rattle.archive_files.specs.declared.failures.Refusal.{Refusal}
+use Rattle.archive_files.specs.declared.failures.Refusal.TheVariants.{BadShape, OutOfMemory, Disk, Open, Call}
+
+-- why an archive was not copied
+abbrev pub copy_refusal : CopyFault → Refusal
+copy_refusal (care.Open fault) = Open fault
+copy_refusal care.BadShape = BadShape
+copy_refusal care.SpaceFull = Call archive.SpaceFull
+copy_refusal care.JournalFull = Call archive.JournalFull
+copy_refusal care.OutOfMemory = OutOfMemory
+copy_refusal care.Source = Call archive.Disk
+copy_refusal care.Target = Disk
+
+abbrev pub copy_told : Result (Unit {0}) CopyFault → Result (Unit {0}) Refusal
+copy_told (Ok u) = Ok u
+copy_told (Err fault) = Err (copy_refusal fault)
+
+-- An archive is copied onto a new disk, as a wish says, and how that is told.
+abbrev pub CopiesDisk : {D N : Type 0} → disk.Ghosts D → disk.Ghosts N → CopyWish → D → N → Result (Unit {0}) Refusal → D → N → Type 0
+CopiesDisk g h wanted from onto r from' onto' =
+    (done : Result (Unit {0}) CopyFault) × CopyCall g h wanted from from' onto onto' done × (r ≡ copy_told done)

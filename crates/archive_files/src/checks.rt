@@ -1,0 +1,37 @@
+// Whether the archive in a file is sound.
+ghost use Rattle.std.specs.Prelude.{◌≡◌};
+ghost use Rattle.archive_files.specs.Checks.{check_told};
+
+use crate::archive_path::ArchivePath;
+use crate::archives::{Access, take_disk};
+use crate::failures::{Failure, Refusal};
+use archive_checks::{CheckFault, check_archive};
+use inspector_cli::SessionFault;
+use script_streams::Output;
+use std::fs::File;
+use std::rt::Files;
+
+/// Tells what the archive in a file holds and that it is sound, or where it is damaged. The file's lock is shared meanwhile with
+/// others that only look. With `sees_images` each image is read too.
+pub fn check<R: AllocGlobal + Files<File = File>, O: Output>(
+    rt: &R,
+    place: ArchivePath<'_>,
+    sees_images: bool,
+    output: &mut O,
+) -> Result<(), Failure> {
+    let disk = take_disk(rt, place, Access::Looking)?;
+    let (checked, _) = check_archive(rt.alloc(), disk, sees_images, output);
+    check_told(checked)
+}
+
+// How it is told whether an archive is sound.
+fn check_told(checked: Result<(), CheckFault>) -> Result<(), Failure>
+    ensures { result ≡ check_told checked }
+{
+    match checked {
+        Ok(()) => Ok(()),
+        Err(CheckFault::Open(fault)) => Err(Failure::Refused(Refusal::Open(fault))),
+        Err(CheckFault::Archive(fault)) => Err(Failure::Refused(Refusal::Call(fault))),
+        Err(CheckFault::Output) => Err(Failure::Faulted(SessionFault::WriteFailed)),
+    }
+}

@@ -1,0 +1,80 @@
+// The commands that care for an archive.
+use crate::tables::{ARCHIVE, CommandWords, NO_WAIT, Takes, Word};
+
+// They are a table of their own: one table of all commands is too large for the prover.
+pub(crate) static CARE_COMMANDS: [CommandWords; 3] = [
+    CommandWords {
+        name: "check",
+        about: "tells what an archive holds and that it is sound, or where it is damaged",
+        after_help: None,
+        words: &[ARCHIVE, IMAGES, NO_WAIT],
+    },
+    CommandWords {
+        name: "copy",
+        about: "copies an archive into a new file, each case under its number; its size may be another",
+        after_help: None,
+        words: &[
+            ARCHIVE, NEW, NEW_HALF, NEW_DATA, NEW_LAYOUT, NEW_SPARSE, NO_WAIT,
+        ],
+    },
+    CommandWords {
+        name: "resize",
+        about: "makes an archive larger or smaller: copies it into a file beside it, which takes its place",
+        after_help: None,
+        words: &[ARCHIVE, NEW_HALF, NEW_DATA, NEW_SPARSE, NO_WAIT],
+    },
+];
+
+// Whether images are read.
+const IMAGES: Word = Word {
+    id: "images",
+    shown: "",
+    takes: Takes::Flag,
+    default: None,
+    help: "reads each image too, and tells whether its headers and notes are sound, or the first faulty field",
+};
+
+// The file of a copy.
+const NEW: Word = Word {
+    id: "new",
+    shown: "NEW",
+    takes: Takes::Place,
+    default: None,
+    help: "the file to make, which only its owner may read and write; one that exists is refused",
+};
+
+// The blocks in each half of a copy's journal.
+const NEW_HALF: Word = Word {
+    id: "half",
+    shown: "N",
+    takes: Takes::NewBlocks,
+    default: None,
+    help: "blocks of 4096 bytes in each half of the new journal; as many as there are, if this is left out",
+};
+
+// The data blocks of a copy.
+const NEW_DATA: Word = Word {
+    id: "data",
+    shown: "N",
+    takes: Takes::NewBlocks,
+    default: None,
+    help: "data blocks of 4096 bytes of the new archive; as many as there are, if this is left out",
+};
+
+// The version of a copy's layout.
+const NEW_LAYOUT: Word = Word {
+    id: "layout",
+    shown: "VERSION",
+    takes: Takes::NewLayout,
+    default: None,
+    help: "2: the copy keeps labels, whatever the archive's version is",
+};
+
+// Whether a copy's zeros are left out.
+const NEW_SPARSE: Word = Word {
+    id: "sparse",
+    shown: "",
+    takes: Takes::Flag,
+    default: None,
+    help: "does not write the new file's zeros: quick, but the file system may be full when a core file comes",
+};
