@@ -17,7 +17,7 @@ use Rattle.case_queries.specs.declared.kept_image.KeptImage.{KeptImage}
 module _ {D : Type 0} (g : disk.Ghosts D) where
   pub kept_still : (old new : Parts D) (kind : Kind) (q : QuerySaid) (image : List ℕ) (reply : List ℕ) (kept : KeptImage) → Shows g old kind q image reply new → IsKept g old (Some kept) → IsKept g new (Some kept)
   kept_still old new kind q image reply kept shows held =
-      (held.0, own_still g old new kept.seq held.0 (shows_leaves g old new kind q image (reads_executables q) reply shows) held.1, held.2, held.3, held.4)
+      (held.0, own_still g old new kept.seq held.0 (shows_leaves g old new kind q image (reads_executables q) reply shows) held.1, held.2, held.3)
 
   -- an image that is kept, if it is
   pub held_if : (a : Parts D) (o : Option KeptImage) (k : KeptImage) → IfSome o (λ (x : KeptImage). x ≡ k) → IsKept g a (Some k) → IsKept g a o

@@ -1,5 +1,5 @@
 -- The first bytes of an image, read one part after the other.
-use Rattle.std.proofs.Common.{◌≡◌, ◌⊎◌, inl, inr, ⊎_elim, ℕ, ◌+◌, ◌-◌, ◌≤◌, Bool, true, false, List, [], ◌∷◌, ◌++◌, take, length, replicate, Option, None, Some, Result, Ok, Err, Vec, Global, vec_capacity, refl, ap, sym, ◌∙◌, subst, arith}
+use Rattle.std.proofs.Common.{◌≡◌, ◌⊎◌, inl, inr, ⊎_elim, ℕ, ◌+◌, ◌-◌, ◌≤◌, Bool, true, false, List, [], ◌∷◌, ◌++◌, take, length, replicate, Option, None, Some, Result, Ok, Err, Vec, Global, refl, ap, sym, ◌∙◌, subst, arith}
 use Rattle.std.proofs.lemmas.Bool.{false≢true}
 use Rattle.std.proofs.lemmas.Option.{same_Some}
 use Rattle.std.proofs.lemmas.List.{length-append, length-replicate, take_all}
@@ -15,7 +15,6 @@ use Rattle.intake.specs.QuietLaws.{quiet_none, quiet_then}
 use Rattle.intake.specs.State.{ArchiveState}
 use Rattle.intake.specs.StayLaws.{stays_none, stays_then}
 use Rattle.intake.specs.Step.{ImageStep, HasCase}
-use Rattle.intake.specs.Untouched.{RefusalSpares}
 use Rattle.intake.specs.declared.faults.ArchiveFault.{ArchiveFault}
 use Rattle.intake.specs.declared.faults.ArchiveFault.TheVariants.{Stopped, NoCase, OutOfMemory, Disk}
 use Rattle.case_queries.specs.Fronts.{HasSize, IsSoundFront, ReadsEnough, ReadsFront, ReadsUpTo, SeesEnough}
@@ -38,6 +37,9 @@ behind image front bytes n first second long =
 begins : (image bytes : List ℕ) (n : ℕ) → bytes ≡ part image 0 n → length bytes ≡ n → bytes ≡ take (length bytes) image
 begins image bytes n is long = is ∙ part_is image 0 n ∙ ap (λ k. take k image) (sym long)
 
+memory_not : OutOfMemory ≡ Disk → ⊥
+memory_not e = cc
+
 -- Reading a part of a case's image fails by the disk alone.
 module _ (s t : ArchiveState) (seq : ℕ) (c : Case) (has : HasCase s seq c) where
   part_step : (f : ArchiveFault) → ImageStep {T = Unit {0}} s seq (Err f) t → ImageStep {T = Vec ℕ Global} s seq (Err f) t
@@ -47,16 +49,6 @@ module _ (s t : ArchiveState) (seq : ℕ) (c : Case) (has : HasCase s seq c) whe
   part_step Disk step = step
   part_step _ step = absurd step
 
-  part_spares : {D : Type 0} (old new : D) (f : ArchiveFault) → ImageStep {T = Unit {0}} s seq (Err f) t → (◌≡◌ {A = Result (Unit {0}) ArchiveFault} (Err f) (Err OutOfMemory) → ⊥) → RefusalSpares {T = Vec ℕ Global} (Err f) old new
-  part_spares old new Disk step never = tt
-  part_spares old new Stopped step never = absurd (false≢true (sym has.0 ∙ step.0))
-  part_spares old new NoCase step never = absurd (none_some (sym step.1 ∙ has.1))
-    where
-      none_some : ◌≡◌ {A = Option Case} None (Some c) → ⊥
-      none_some e = cc
-  part_spares old new OutOfMemory step never = absurd (never refl)
-  part_spares old new _ step never = absurd step
-
 module _ {D : Type 0} (g : disk.Ghosts D) where
   -- nothing is read yet
   pub none_refused : (old : Parts D) (seq : ℕ) (c : Case) → ((x : List ℕ) → g.left_since old.disk (g.clock old.disk) x → g.may_leave old.disk x) → HasCase (state_of old) seq c → LooksAt g old seq (Err OutOfMemory) old
@@ -64,24 +56,27 @@ module _ {D : Type 0} (g : disk.Ghosts D) where
     step = (c, has, refl);
     bytes = λ honest. refl;
     cause = λ is. absurd (memory_not is);
-    long = tt;
     quiet = quiet_none g old.disk only;
     stays = stays_none g old;
-    untouched = refl;
   }
-    where
-      memory_not : OutOfMemory ≡ Disk → ⊥
-      memory_not e = cc
+
+  -- no memory for more than these bytes, which are read
+  pub memory_refused : (old new : Parts D) (seq size : ℕ) (front : List ℕ) → HasSize (state_of old) seq size → ReadsFront g old seq front new → LooksAt g old seq (Err OutOfMemory) new
+  memory_refused old new seq size front has reads = record {
+    step = (has.0, has.1, reads.state);
+    bytes = reads.contents;
+    cause = λ is. absurd (memory_not is);
+    quiet = reads.quiet;
+    stays = reads.stays;
+  }
 
   pub first_refused : (old new : Parts D) (seq at n : ℕ) (bytes : List ℕ) (f : ArchiveFault) (c : Case) → HasCase (state_of old) seq c → PartCall g old seq at n (Err f) bytes new → LooksAt g old seq (Err f) new
   first_refused old new seq at n bytes f c has call = record {
     step = part_step (state_of old) (state_of new) seq c has f call.step;
     bytes = call.bytes;
     cause = call.cause;
-    long = tt;
     quiet = call.quiet;
     stays = call.stays;
-    untouched = part_spares (state_of old) (state_of new) seq c has old.disk new.disk f call.step call.never;
   }
 
   -- a part that can't be read, of an image of which the first bytes were
@@ -94,11 +89,17 @@ module _ {D : Type 0} (g : disk.Ghosts D) where
         step = part_step (state_of old) (state_of new) seq c has f step;
         bytes = λ honest. subst (λ (x : Contents). UnmovedBytes x f (contents_of g.seen new)) (reads.contents honest) (call.bytes (reads.stays.honesty ∙ honest));
         cause = λ is. (let risen = call.cause is in grind (arith, risen, later));
-        long = tt;
         quiet = quiet_then g old.disk mid.disk new.disk reads.quiet call.quiet;
         stays = stays_then g old mid new reads.stays call.stays;
-        untouched = part_spares (state_of old) (state_of new) seq c has old.disk new.disk f step call.never;
       }
+
+  -- more can't be read of an image of which the first bytes were
+  pub up_refused : (old mid new : Parts D) (seq size end : ℕ) (front front' : List ℕ) (f : ArchiveFault) → HasSize (state_of old) seq size → ReadsFront g old seq front mid → ReadsUpTo g mid seq front end (Err f) front' new → LooksAt g old seq (Err f) new
+  up_refused old mid new seq size end front front' f has reads up =
+      ⊎_elim
+      (λ memory. subst (λ e. LooksAt g old seq (Err e) new) (sym memory.0) (subst (LooksAt g old seq (Err OutOfMemory)) (sym memory.1) (memory_refused old mid seq size front has reads)))
+      (λ call. later_refused old mid new seq (length front) (end - length front) front call.0 f has.0 has.1 reads call.1)
+      up
 
   pub first_read : (old new : Parts D) (seq n : ℕ) (bytes : List ℕ) → PartCall g old seq 0 n (Ok tt) bytes new → ReadsFront g old seq bytes new
   first_read old new seq n bytes call = record {
@@ -154,11 +155,10 @@ module _ {D : Type 0} (g : disk.Ghosts D) where
       } in
       (image, sees, sym (take-append_seam front (replicate (c.len - length front) 0)), long)
 
-  -- What is read so far: it is short of the image's size, for which there is room.
-  pub record FrontIsRead (old : Parts D) (seq size : ℕ) (front : List ℕ) (buffer : ℕ) (now : Parts D) : Type 0 where
+  -- What is read so far: it is no longer than the image.
+  pub record FrontIsRead (old : Parts D) (seq size : ℕ) (front : List ℕ) (now : Parts D) : Type 0 where
     pub reads : ReadsFront g old seq front now
     pub short : length front ≤ size
-    pub fits : size ≤ buffer
 
   -- no more is asked for than there is
   pub size_fits : (s t : ArchiveState) (seq size end : ℕ) → HasSize s seq size → t ≡ s → end ≤ size → (c : Case) → case_numbered seq t.cases ≡ Some c → end ≤ c.len
@@ -167,35 +167,38 @@ module _ {D : Type 0} (g : disk.Ghosts D) where
       let is = ap (λ (x : Case). x.len) (same_Some has.0 c (sym has.1.1 ∙ found)) in
       omega (arith, within, is, has.2)
 
-  pub read_first : (old new : Parts D) (seq size end buffer : ℕ) (front front' : List ℕ) → length front ≡ 0 → ReadsUpTo g old seq front end (Ok tt) front' new → length front' ≤ size → size ≤ buffer → FrontIsRead old seq size front' buffer new
-  read_first old new seq size end buffer [] front' none up short fits = record {
+  pub read_first : (old new : Parts D) (seq size end : ℕ) (front front' : List ℕ) → length front ≡ 0 → ReadsUpTo g old seq front end (Ok tt) front' new → length front' ≤ size → FrontIsRead old seq size front' new
+  read_first old new seq size end [] front' none up short = record {
     reads = subst (λ x. ReadsFront g old seq x new) (sym up.2) (first_read old new seq (end - 0) up.0 up.1);
     short = short;
-    fits = fits;
   }
-  read_first old new seq size end buffer (x ∷ xs) front' none up short fits = absurd (omega (arith, none))
+  read_first old new seq size end (x ∷ xs) front' none up short = absurd (omega (arith, none))
 
-  pub read_next : (old mid new : Parts D) (seq size end buffer buffer' : ℕ) (front front' : List ℕ) → FrontIsRead old seq size front buffer mid → ReadsUpTo g mid seq front end (Ok tt) front' new → length front' ≤ size → buffer ≤ buffer'
-      → FrontIsRead old seq size front' buffer' new
-  read_next old mid new seq size end buffer buffer' front front' so_far up short more = record {
+  pub read_next : (old mid new : Parts D) (seq size end : ℕ) (front front' : List ℕ) → FrontIsRead old seq size front mid → ReadsUpTo g mid seq front end (Ok tt) front' new → length front' ≤ size
+      → FrontIsRead old seq size front' new
+  read_next old mid new seq size end front front' so_far up short = record {
     reads = subst (λ x. ReadsFront g old seq x new) (sym up.2) (next_read old mid new seq (end - length front) front up.0 so_far.reads up.1);
     short = short;
-    fits = (let f = so_far.fits in omega arith);
   }
 
-  pub refused_first : (old new : Parts D) (seq size end : ℕ) (front front' : List ℕ) (f : ArchiveFault) → HasSize (state_of old) seq size → ReadsUpTo g old seq front end (Err f) front' new → LooksAt g old seq (Err f) new
-  refused_first old new seq size end front front' f has up = first_refused old new seq (length front) (end - length front) up.0 f has.0 has.1 up.1
+  pub refused_first : (old new : Parts D) (seq size end : ℕ) (front front' : List ℕ) (f : ArchiveFault) → ((x : List ℕ) → g.left_since old.disk (g.clock old.disk) x → g.may_leave old.disk x) → HasSize (state_of old) seq size
+      → ReadsUpTo g old seq front end (Err f) front' new → LooksAt g old seq (Err f) new
+  refused_first old new seq size end front front' f only has up =
+      ⊎_elim
+      (λ memory. subst (λ e. LooksAt g old seq (Err e) new) (sym memory.0) (subst (LooksAt g old seq (Err OutOfMemory)) (sym memory.1) (none_refused old seq has.0 only has.1)))
+      (λ call. first_refused old new seq (length front) (end - length front) call.0 f has.0 has.1 call.1)
+      up
 
-  pub refused_next : (old mid new : Parts D) (seq size end buffer : ℕ) (front front' : List ℕ) (f : ArchiveFault) → HasSize (state_of old) seq size → FrontIsRead old seq size front buffer mid
+  pub refused_next : (old mid new : Parts D) (seq size end : ℕ) (front front' : List ℕ) (f : ArchiveFault) → HasSize (state_of old) seq size → FrontIsRead old seq size front mid
       → ReadsUpTo g mid seq front end (Err f) front' new → LooksAt g old seq (Err f) new
-  refused_next old mid new seq size end buffer front front' f has so_far up = later_refused old mid new seq (length front) (end - length front) front up.0 f has.0 has.1 so_far.reads up.1
+  refused_next old mid new seq size end front front' f has so_far up = up_refused old mid new seq size end front front' f has so_far.reads up
 
-  pub read_enough : (old new : Parts D) (seq size : ℕ) (want : Want) (image : Vec ℕ Global) → HasSize (state_of old) seq size → FrontIsRead old seq size image.items (vec_capacity image) new
+  pub read_enough : (old new : Parts D) (seq size : ℕ) (want : Want) (image : Vec ℕ Global) → HasSize (state_of old) seq size → FrontIsRead old seq size image.items new
       → (length image.items ≡ size) ⊎ IsSoundFront want image.items → ReadsEnough g old seq want size (Ok image) new
   read_enough old new seq size want image has so_far enough =
       let short = so_far.short in
       let p = front_by old new seq image.items has.0 has.1.1 (omega (arith, short, has.2)) so_far.reads (g.is_honest old.disk) refl in
-      (p.0, p.1, p.2, p.3 ∙ has.2, enough, so_far.fits)
+      (p.0, p.1, p.2, p.3 ∙ has.2, enough)
 
   -- an image that was read now, or its first bytes
   pub enough_read : (old new : Parts D) (seq size : ℕ) (want : Want) (k : KeptImage) → ReadsEnough g old seq want size (Ok k.image) new → SeesEnough g old seq want (Ok k) new
@@ -205,13 +208,13 @@ module _ {D : Type 0} (g : disk.Ghosts D) where
   pub read_is_kept : (old new : Parts D) (seq size : ℕ) (want : Want) (k : KeptImage) → k.seq ≡ seq → (k.is_whole ≡ true → length k.image.items ≡ size) → ReadsEnough g old seq want size (Ok k.image) new → IsKept g new (Some k)
   read_is_kept old new seq size want k at whole reads =
       let own = own_still g old new seq reads.0 (looks_leaves g old new seq (Ok reads.0) reads.1) reads.1.own in
-      (reads.0, subst (λ n. AreOfCase g new n reads.0) (sym at) own, reads.2, λ is. reads.2 ∙ ap (λ n. take n reads.0) (whole is ∙ sym reads.3) ∙ take_all (length reads.0) reads.0 (omega arith), λ cut. (let long = reads.3 in let buffer = reads.5 in omega arith))
+      (reads.0, subst (λ n. AreOfCase g new n reads.0) (sym at) own, reads.2, λ is. reads.2 ∙ ap (λ n. take n reads.0) (whole is ∙ sym reads.3) ∙ take_all (length reads.0) reads.0 (omega arith))
 
   -- the whole image, read now
   pub whole_is_kept : (old new : Parts D) (seq : ℕ) (k : KeptImage) → k.seq ≡ seq → k.is_whole ≡ true → SeesImage g old seq k.image.items new → IsKept g new (Some k)
   whole_is_kept old new seq k at whole sees =
       let own = own_still g old new seq k.image.items (looks_leaves g old new seq (Ok k.image.items) sees) sees.own in
-      (k.image.items, subst (λ n. AreOfCase g new n k.image.items) (sym at) own, sym (take_all (length k.image.items) k.image.items (omega arith)), λ is. refl, λ cut. absurd (false≢true (sym cut ∙ whole)))
+      (k.image.items, subst (λ n. AreOfCase g new n k.image.items) (sym at) own, sym (take_all (length k.image.items) k.image.items (omega arith)), λ is. refl)
 
   -- what is kept is seen without a read
   module _ (now : Parts D) (only : (x : List ℕ) → g.left_since now.disk (g.clock now.disk) x → g.may_leave now.disk x) where

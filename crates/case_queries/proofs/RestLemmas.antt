@@ -16,7 +16,7 @@ use Rattle.intake.specs.StayLaws.{stays_then}
 use Rattle.intake.specs.declared.faults.ArchiveFault.{ArchiveFault}
 use Rattle.case_queries.specs.Fronts.{HasSize, ReadsFront, ReadsUpTo}
 use Rattle.case_queries.specs.Windows.{ReadsOn, ReadsRange}
-use Rattle.case_queries.proofs.FrontLemmas.{later_refused, next_read}
+use Rattle.case_queries.proofs.FrontLemmas.{next_read, up_refused}
 use Rattle.case_queries.proofs.WindowLemmas.{front_part, range_is}
 
 -- first bytes, and those of a part that they reach
@@ -82,4 +82,4 @@ module _ {D : Type 0} (g : disk.Ghosts D) where
   -- more first bytes, or why they can't be read
   pub reads_on : (before mid new : Parts D) (seq size end : ℕ) (front front' : List ℕ) (r : Result (Unit {0}) ArchiveFault) → HasSize (state_of before) seq size → ReadsFront g before seq front mid → ReadsUpTo g mid seq front end r front' new → ReadsOn g before seq r front' new
   reads_on before mid new seq size end front front' (Ok u) has reads up = subst (λ x. ReadsFront g before seq x new) (sym up.2) (next_read g before mid new seq (end - length front) front up.0 reads up.1)
-  reads_on before mid new seq size end front front' (Err f) has reads up = later_refused g before mid new seq (length front) (end - length front) front up.0 f has.0 has.1 reads up.1
+  reads_on before mid new seq size end front front' (Err f) has reads up = up_refused g before mid new seq size end front front' f has reads up

@@ -1,5 +1,5 @@
 -- An image of which the first bytes are seen, and one part after them.
-use Rattle.std.proofs.Common.{◌≡◌, inl, inr, ⊎_elim, ℕ, zero, suc, ◌+◌, ◌-◌, ◌<◌, ◌≤◌, min, Bool, true, false, List, [], ◌∷◌, ◌++◌, take, drop, length, replicate, Some, Ok, Err, Vec, Global, vec_capacity, refl, ap, sym, ◌∙◌, subst, arith}
+use Rattle.std.proofs.Common.{◌≡◌, inl, inr, ⊎_elim, ℕ, zero, suc, ◌+◌, ◌-◌, ◌<◌, ◌≤◌, min, Bool, true, false, List, [], ◌∷◌, ◌++◌, take, drop, length, replicate, Some, Ok, Err, Vec, Global, refl, ap, sym, ◌∙◌, subst, arith}
 use Rattle.std.proofs.lemmas.Bool.{cases_lt, false≢true}
 use Rattle.std.proofs.lemmas.Option.{same_Some}
 use Rattle.std.proofs.lemmas.List.{length-append, length-replicate, length-take, length-drop, take_all, take_min, take-take, drop-take, drop-drop}
@@ -29,7 +29,7 @@ use Rattle.case_queries.specs.Seeing.{IsKept, SeesImage}
 use Rattle.case_queries.specs.Windows.{IsSeenBy, IsWanted, ReadsRange, SeesDump, SeesFor, part_at, part_bytes}
 use Rattle.case_queries.specs.declared.kept_image.KeptImage.{KeptImage}
 use Rattle.case_queries.specs.declared.window.Seen.{Seen}
-use Rattle.case_queries.proofs.FrontLemmas.{front_by, later_refused, next_read}
+use Rattle.case_queries.proofs.FrontLemmas.{front_by, later_refused, next_read, up_refused}
 use Rattle.journal_layout.specs.Soundness.{case_numbered}
 use Rattle.journal_layout.specs.Case.{Case}
 
@@ -254,7 +254,7 @@ module _ {D : Type 0} (g : disk.Ghosts D) where
       → SeesFor g before seq q (Err f) new
   rest_refused before mid new seq size q k bytes f has seen up =
       let front = k.image.items in
-      later_refused g before mid new seq (length front) (size - length front) front up.0 f has.0 has.1 (seen_reads before mid seq seen.0 front seen.1 (enough_cut Core front seen.0 seen.2)) up.1
+      up_refused g before mid new seq size size front bytes f has (seen_reads before mid seq seen.0 front seen.1 (enough_cut Core front seen.0 seen.2)) up
 
   -- all of an image
   pub all_seen : (old new : Parts D) (seq : ℕ) (q : MemoryQuery) (s : Seen) (image : List ℕ) → SeesImage g old seq image new → s.kept.image.items ≡ image → s.size ≡ length image → part_at s.part ≡ 0 → part_bytes s.kept.image.items s.part ≡ image
@@ -289,14 +289,13 @@ module _ {D : Type 0} (g : disk.Ghosts D) where
       let all : k.image.items ≡ seen.0 = enough_cut want k.image.items seen.0 seen.2 ∙ take_all (length k.image.items) seen.0 (omega (arith, long, own, same, has.2)) in
       subst (λ b. SeesImage g old seq b new) (sym all) seen.1
 
-  -- there is room for what is left
-  pub kept_buffer : (a : Parts D) (seq size : ℕ) (k : KeptImage) → HasSize (state_of a) seq size → IsKept g a (Some k) → k.seq ≡ seq → k.is_whole ≡ false → (length k.image.items ≤ size) × (size ≤ vec_capacity k.image)
-  kept_buffer a seq size k has kept at cut =
+  -- no more is kept than there is
+  pub kept_short : (a : Parts D) (seq size : ℕ) (k : KeptImage) → HasSize (state_of a) seq size → IsKept g a (Some k) → k.seq ≡ seq → length k.image.items ≤ size
+  kept_short a seq size k has kept at =
       let found : case_numbered k.seq (state_of a).cases ≡ Some has.0 = ap (λ i. case_numbered i (state_of a).cases) at ∙ has.1.1 in
       let own = kept.1.long has.0 found in
       let short = front_short k.image.items kept.0 kept.2 in
-      let buffer = kept.4 cut in
-      (omega (arith, own, short, has.2), omega (arith, own, buffer, has.2))
+      omega (arith, own, short, has.2)
 
   pub still_sized : (old new : Parts D) (seq size : ℕ) (want : Want) (k : KeptImage) → HasSize (state_of old) seq size → SeesEnough g old seq want (Ok k) new → HasSize (state_of new) seq size
   still_sized old new seq size want k has seen = subst (λ (s : ArchiveState). HasSize s seq size) (sym seen.1.state) has
@@ -316,4 +315,4 @@ module _ {D : Type 0} (g : disk.Ghosts D) where
   range_leaves old new seq start n front bytes reads = part_leaves old new seq _ _ reads.0 reads.1
 
   pub kept_after : (old new : Parts D) (k : KeptImage) → Leaves g old new → IsKept g old (Some k) → IsKept g new (Some k)
-  kept_after old new k leaves kept = (kept.0, own_still g old new k.seq kept.0 leaves kept.1, kept.2, kept.3, kept.4)
+  kept_after old new k leaves kept = (kept.0, own_still g old new k.seq kept.0 leaves kept.1, kept.2, kept.3)

@@ -1,5 +1,5 @@
 -- The first bytes of an image, for the lines that ask no more of it.
-use Rattle.std.specs.Prelude.{◌≡◌, ◌⊎◌, ◌≤◌, ℕ, ◌-◌, ◌++◌, List, length, take, OnOk, Some, Result, Ok, Err, IsTrue, Vec, vec_capacity}
+use Rattle.std.specs.Prelude.{◌≡◌, ◌⊎◌, ◌≤◌, ℕ, ◌-◌, ◌++◌, List, length, take, Some, Result, Ok, Err, IsTrue, Vec}
 use Rattle.std.specs.Global.{Global}
 use Rattle.case_journal.specs.Viewing.{OnlyReads}
 use Rattle.disk_model.specs.declared.disk.Disk as disk
@@ -13,6 +13,7 @@ use Rattle.intake.specs.Parts.{Parts, state_of, contents_of}
 use Rattle.intake.specs.State.{ArchiveState}
 use Rattle.intake.specs.Step.{HasCase}
 use Rattle.intake.specs.declared.faults.ArchiveFault.{ArchiveFault}
+use Rattle.intake.specs.declared.faults.ArchiveFault.TheVariants.{OutOfMemory}
 use Rattle.journal_layout.specs.Soundness.{case_numbered}
 use Rattle.journal_layout.specs.Case.{Case}
 use Rattle.journal_layout.specs.declared.entry.Kind.{Kind}
@@ -44,17 +45,20 @@ SeesEnough g old seq want (Err f) new = LooksAt g old seq (Err f) new
 abbrev pub ReadsEnough : {D : Type 0} → disk.Ghosts D → Parts D → ℕ → Want → ℕ → Result (Vec ℕ Global) ArchiveFault → Parts D → Type 0
 ReadsEnough g old seq want size (Ok v) new =
     (image : List ℕ) × SeesImage g old seq image new × (v.items ≡ take (length v.items) image) × (length image ≡ size)
-    × ((length v.items ≡ size) ⊎ IsSoundFront want v.items) × (size ≤ vec_capacity v)
+    × ((length v.items ≡ size) ⊎ IsSoundFront want v.items)
 ReadsEnough g old seq want size (Err f) new = LooksAt g old seq (Err f) new
 
 -- a case of this number has an image of this size
 abbrev pub HasSize : ArchiveState → ℕ → ℕ → Type 0
 HasSize s seq size = (c : Case) × HasCase s seq c × (c.len ≡ size)
 
--- the bytes of an image up to place `end`, of which these are read
+-- The bytes of an image up to place `end`, of which these are read; or why the others are not. If there is no memory for them, none is
+-- asked for.
 abbrev pub ReadsUpTo : {D : Type 0} → disk.Ghosts D → Parts D → ℕ → List ℕ → ℕ → Result (Unit {0}) ArchiveFault → List ℕ → Parts D → Type 0
-ReadsUpTo g old seq front end r front' new =
-    (bytes : List ℕ) × PartCall g old seq (length front) (end - length front) r bytes new × OnOk r (front' ≡ front ++ bytes)
+ReadsUpTo g old seq front end (Ok u) front' new =
+    (bytes : List ℕ) × PartCall g old seq (length front) (end - length front) (Ok u) bytes new × (front' ≡ front ++ bytes)
+ReadsUpTo g old seq front end (Err f) front' new =
+    ((f ≡ OutOfMemory) × (new ≡ old)) ⊎ ((bytes : List ℕ) × PartCall g old seq (length front) (end - length front) (Err f) bytes new)
 
 -- The first bytes of the image of a case are read: the archive shows what it showed, and a crash leaves what it left.
 pub record ReadsFront {D : Type 0} (g : disk.Ghosts D) (old : Parts D) (seq : ℕ) (front : List ℕ) (new : Parts D) : Type 0 where

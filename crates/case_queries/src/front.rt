@@ -1,5 +1,5 @@
 // The first bytes of an image, for the lines that ask no more of it.
-ghost use Rattle.std.specs.Prelude.{◌≡◌, ◌⊎◌, ◌-◌, ◌<◌, ◌≤◌, Some, IfOk, IfSome, drop, length, take, true, false, vec_len, vec_capacity};
+ghost use Rattle.std.specs.Prelude.{◌≡◌, ◌⊎◌, ◌-◌, ◌<◌, ◌≤◌, Some, IfOk, IfSome, OnOk, drop, length, take, true, false, vec_len};
 ghost use Rattle.intake.specs.Part.{PartCall};
 ghost use Rattle.intake.specs.Parts.{state_of};
 ghost use Rattle.case_queries.specs.Fronts.{HasSize, IsSoundFront, ReadsEnough, ReadsUpTo, SeesEnough};
@@ -55,28 +55,28 @@ fn read_behind<D: Disk>(
     archive.image_part(seq, at as u64, &mut image[at..])
 }
 
-// Reads a case's image up to place `end`, of which these bytes are read. They have room for it.
+// Reads a case's image up to place `end`, of which these bytes are read. Room for the others is taken first.
 pub(crate) fn read_up_to<D: Disk>(
     seq: u32,
     end: usize,
     image: &mut Vec<u8>,
     archive: &mut Archive<D>,
 ) -> Result<(), ArchiveFault>
-    requires buffer { end ≤ vec_capacity image.old }
     requires more { vec_len image.old ≤ end }
     requires fits { (c : Case) → case_numbered seq (state_of archive.old).cases ≡ Some c → end ≤ c.len }
     ensures read { ReadsUpTo D.Disk archive.old seq image.old.items end result image.new.items archive.new }
-    ensures long { vec_len image.new ≡ end }
-    ensures capacity { vec_capacity image.old ≤ vec_capacity image.new }
+    ensures long { OnOk result (vec_len image.new ≡ end) }
 {
     let at = image.len();
+    if image.reserve_exact(end - at).is_err() {
+        return Err(ArchiveFault::OutOfMemory);
+    }
     image.resize(end, 0).unwrap();
     read_behind(seq, at, image, archive)
 }
 
-// Reads the first bytes of an image of `size` bytes until they are enough, each byte once at most. Room for all of them is taken
-// before the first read, because `OutOfMemory` promises that the disk is untouched. Room that is not read into costs address
-// space alone: the system gives it no page.
+// Reads the first bytes of an image of `size` bytes until they are enough, each byte once at most. Room is taken as they are wanted, so
+// that an image which is larger than the memory can be asked.
 fn read_front<D: Disk>(
     alloc: Global,
     seq: u32,
@@ -87,9 +87,7 @@ fn read_front<D: Disk>(
     requires { HasSize (state_of archive.old) seq size }
     ensures { ReadsEnough D.Disk archive.old seq want size result archive.new }
 {
-    let Ok(mut image) = Vec::with_capacity(alloc, size) else {
-        return Err(ArchiveFault::OutOfMemory);
-    };
+    let mut image = Vec::new(alloc);
     read_up_to(seq, size.min(FRONT), &mut image, archive)?;
     while !is_enough(want, &image, size) {
         let end = next_end(&image, size);

@@ -60,14 +60,12 @@ fn read_on<D: Disk>(
     archive: &mut Archive<D>,
 ) -> Result<(), ArchiveFault>
     requires has { HasSize (state_of archive.old) seq size }
-    requires buffer { end ≤ vec_capacity image.old }
     requires more { vec_len image.old ≤ end }
     requires within { end ≤ size }
     ensures reads { (before : Parts D) → HasSize (state_of before) seq size → ReadsFront D.Disk before seq image.old.items archive.old
         → ReadsOn D.Disk before seq result image.new.items archive.new }
     ensures has { OnOk result (HasSize (state_of archive.new) seq size) }
-    ensures long { vec_len image.new ≡ end }
-    ensures capacity { vec_capacity image.old ≤ vec_capacity image.new }
+    ensures long { OnOk result (vec_len image.new ≡ end) }
 {
     read_up_to(seq, end, image, archive)
 }
@@ -81,7 +79,6 @@ fn read_to_part<D: Disk>(
     archive: &mut Archive<D>,
 ) -> Result<(), ArchiveFault>
     requires has { HasSize (state_of archive.old) seq size }
-    requires buffer { size ≤ vec_capacity image.old }
     requires short { vec_len image.old ≤ size }
     requires within { stack.now.at + length stack.now.bytes.items ≤ size }
     ensures reads { (before mid : Parts D) → HasSize (state_of before) seq size → ReadsFront D.Disk before seq image.old.items mid
@@ -89,14 +86,14 @@ fn read_to_part<D: Disk>(
         → ReadsOn D.Disk before seq result image.new.items archive.new }
     ensures has { OnOk result (HasSize (state_of archive.new) seq size) }
     ensures short { OnOk result (vec_len image.new ≤ size) }
-    ensures capacity { vec_capacity image.old ≤ vec_capacity image.new }
 {
     let end = image.len().max(stack.at as usize);
     read_on(seq, size, end, image, archive)?;
     let skipped = end as u64 - stack.at;
-    image
-        .extend_from_slice(part(&stack.bytes, skipped, stack.bytes.len() as u64))
-        .unwrap();
+    let rest = part(&stack.bytes, skipped, stack.bytes.len() as u64);
+    if image.extend_from_slice(rest).is_err() {
+        return Err(ArchiveFault::OutOfMemory);
+    }
     Ok(())
 }
 
@@ -109,7 +106,6 @@ fn read_others<D: Disk>(
     archive: &mut Archive<D>,
 ) -> Result<Seen, ArchiveFault>
     requires has { HasSize (state_of archive.old) seq size }
-    requires buffer { size ≤ vec_capacity front.image }
     requires short { length front.image.items ≤ size }
     requires within { stack.now.at + length stack.now.bytes.items ≤ size }
     ensures seen { (before mid : Parts D) (query : MemoryQuery) → HasSize (state_of before) seq size → SeesEnough D.Disk before seq Core (Ok front) mid
@@ -143,7 +139,6 @@ fn read_stack<D: Disk>(
 ) -> Result<Seen, ArchiveFault>
     requires has { HasSize (state_of archive.old) seq size }
     requires short { length front.image.items ≤ size }
-    requires large_enough { size ≤ vec_capacity front.image }
     requires range { (range.start ≤ range.past) × (range.past ≤ size) }
     requires buffer { range.past - range.start ≤ vec_capacity buffer }
     requires none { buffer.items ≡ [] }
@@ -181,7 +176,6 @@ pub(crate) fn see_stack<D: Disk>(
 ) -> Result<Seen, ArchiveFault>
     requires has { HasSize (state_of archive.old) seq size }
     requires short { length front.image.items ≤ size }
-    requires large_enough { size ≤ vec_capacity front.image }
     requires buffer { 1048576 ≤ vec_capacity buffer }
     requires none { buffer.items ≡ [] }
     requires kept { IsKept D.Disk archive.old (Some front) }

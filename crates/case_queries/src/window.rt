@@ -197,7 +197,6 @@ pub(crate) fn read_rest<D: Disk>(
 ) -> Result<Seen, ArchiveFault>
     requires has { HasSize (state_of archive.old) seq size }
     requires short { length front.image.items ≤ size }
-    requires buffer { size ≤ vec_capacity front.image }
     ensures seen { (before : Parts D) (query : MemoryQuery) → HasSize (state_of before) seq size → SeesEnough D.Disk before seq Core (Ok front) archive.old
         → SeesFor D.Disk before seq query result archive.new }
     ensures kept { (before : Parts D) → HasSize (state_of before) seq size → SeesEnough D.Disk before seq Core (Ok front) archive.old
@@ -227,7 +226,6 @@ fn see_range<D: Disk>(
     requires has { HasSize (state_of archive.old) seq size }
     requires cut { front.is_whole ≡ false }
     requires short { length front.image.items ≤ size }
-    requires large_enough { size ≤ vec_capacity front.image }
     requires buffer { 65536 ≤ vec_capacity buffer }
     requires none { buffer.items ≡ [] }
     requires kept { IsKept D.Disk archive.old (Some front) }
@@ -256,7 +254,6 @@ fn see_more<D: Disk>(
     requires has { HasSize (state_of archive.old) seq size }
     requires cut { front.is_whole ≡ false }
     requires short { length front.image.items ≤ size }
-    requires large_enough { size ≤ vec_capacity front.image }
     requires buffer { most_for query.now ≤ vec_capacity buffer }
     requires none { buffer.items ≡ [] }
     requires kept { IsKept D.Disk archive.old (Some front) }
@@ -296,8 +293,7 @@ fn most_for(query: &MemoryQuery) -> usize
 }
 
 // As much of an image of `size` bytes as a line over a core's memory wants: its first bytes, as the lines over headers want them,
-// and the part that has the bytes of a dump's addresses or of a thread's stack; or all of it. Room is taken before the first read,
-// because `OutOfMemory` promises that the disk is untouched.
+// and the part that has the bytes of a dump's addresses or of a thread's stack; or all of it.
 fn see_parts<D: Disk>(
     alloc: Global,
     seq: u32,

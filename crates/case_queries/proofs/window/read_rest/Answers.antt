@@ -1,9 +1,16 @@
 use Rattle.std.proofs.Common.{true, None, Some, refl, ap, sym, subst, arith}
+use Rattle.std.proofs.lemmas.Result.{err_from_is_err_and}
 use Rattle.case_queries.specs.Seeing.{IsKept}
 use Rattle.case_queries.specs.declared.kept_image.KeptImage.{KeptImage}
 use Rattle.case_queries.proofs.FrontLemmas.{whole_is_kept}
-use Rattle.case_queries.proofs.WindowLemmas.{all_seen, rest_sees}
+use Rattle.case_queries.proofs.WindowLemmas.{all_seen, rest_refused, rest_sees}
 use Rattle.case_queries.proofs.window.read_rest.Goals as goal
+
+pub returns-in_err-read_up_to-clause-seen : goal.returns-in_err-read_up_to-clause-seen
+returns-in_err-read_up_to-clause-seen g c before query has seen =
+    let p = err_from_is_err_and c.from_residual.result c.from_residual.ensures.1 in
+    rw (p.1, p.2)
+    (rest_refused g.D.Disk before c.args.archive.now c.read_up_to.new.archive c.args.seq c.args.size query c.args.front c.read_up_to.new.image.items c.in_err-read_up_to.field-0.0 has seen c.in_err-read_up_to.ensures.read)
 
 pub returns-clause-seen : goal.returns-clause-seen
 returns-clause-seen g c before query has seen =
