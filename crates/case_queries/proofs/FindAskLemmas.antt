@@ -1,5 +1,5 @@
 -- What a line that searches a core shows, with the executables that are read beside it.
-use Rattle.std.proofs.Common.{◌≡◌, ◌≤◌, ◌+◌, arith, inl, inr, ⊎_elim, ℕ, Bool, true, false, List, [], ◌∷◌, take, length, map, Option, None, Some, Result, Ok, Err, Vec, Global, refl, ap, sym, ◌∙◌, subst}
+use Rattle.std.proofs.Common.{◌≡◌, ◌≤◌, arith, inl, inr, ⊎_elim, ℕ, List, take, length, map, Option, None, Some, Ok, Err, Vec, Global, refl, ap, sym, ◌∙◌, subst}
 use Rattle.std.proofs.lemmas.List.{length-take, take_all}
 use Rattle.elf_view.specs.Header.{segments_of}
 use Rattle.elf_view.specs.Sound.{IsHeaderWhole, IsSound}
@@ -21,14 +21,13 @@ use Rattle.intake.specs.Parts.{Parts, state_of}
 use Rattle.intake.specs.declared.faults.ArchiveFault.{ArchiveFault}
 use Rattle.journal_layout.specs.Case.{Case}
 use Rattle.memory_replies.specs.Memory.{mapped_files}
-use Rattle.script_streams.specs.Replies.{IsOutcome, Telling, TellsOutcome, TellsText, no_reply}
+use Rattle.script_streams.specs.Replies.{no_reply}
 use Rattle.case_queries.specs.Collecting.{Collects, CollectsAll, Wanted, wanted_of}
 use Rattle.case_queries.specs.CollectingWords.{executable_view}
-use Rattle.case_queries.specs.Finding.{AsksFront, IsFrontOfCase, ShowsFound, ShowsFront}
+use Rattle.case_queries.specs.Finding.{AsksFront, IsFrontOfCase, ShowsFound}
 use Rattle.case_queries.specs.Fronts.{HasSize, IsEnough, IsSoundFront, ReadsFront}
 use Rattle.case_queries.specs.Keeping.{StayCollected}
-use Rattle.case_queries.specs.LeaveLaws.{Leaves, leaves_then, looks_leaves, own_still}
-use Rattle.case_queries.specs.Seeing.{LooksAt}
+use Rattle.case_queries.specs.LeaveLaws.{Leaves, looks_leaves, own_still}
 use Rattle.case_queries.specs.Windows.{IsSeenBy}
 use Rattle.case_queries.specs.declared.collect_executables.StoredExecutable.{StoredExecutable}
 use Rattle.case_queries.specs.declared.walk.CaseImage.{CaseImage}

@@ -1,12 +1,11 @@
 -- A needle in the memory of a core whose image is read window by window.
-use Rattle.std.proofs.Common.{◌≡◌, inl, inr, ⊎_elim, ℕ, ◌+◌, ◌-◌, ◌<◌, ◌≤◌, ◌^◌, Bool, true, false, List, [], ◌∷◌, ◌++◌, take, drop, length, filter, Option, None, Some, Result, Ok, Err, Vec, Global, refl, ap, sym, ◌∙◌, subst, arith}
+use Rattle.std.proofs.Common.{◌≡◌, inl, inr, ⊎_elim, ℕ, ◌+◌, ◌-◌, ◌≤◌, Bool, false, List, [], ◌∷◌, ◌++◌, take, length, filter, None, Result, Ok, Err, Vec, Global, refl, ap, sym, ◌∙◌, subst, arith}
 use Rattle.std.specs.Prelude.{IsTrue, codes, is_ok}
 use Rattle.std.specs.List.{flat_map, range_with_len}
 use Rattle.std.proofs.lemmas.List.{take_all}
 use Rattle.std.proofs.Math.Seq.{take-append_seam}
 use Rattle.disk_model.specs.declared.disk.Disk as disk
 use Rattle.elf_view.specs.Field.{part}
-use Rattle.elf_view.specs.Header.{segments_of}
 use Rattle.elf_view.specs.Sound.{IsHeaderWhole, IsSound}
 use Rattle.elf_view.specs.declared.faults.Want.TheVariants.{Core}
 use Rattle.address_space.specs.Occurrence.{occurrences, occurs}
@@ -14,7 +13,6 @@ use Rattle.address_space.specs.Source.{ExecutableView, Space, value_at}
 use Rattle.address_space.specs.Whole.{IsFrontOf, space_in}
 use Rattle.archive_replies.specs.Reasons.{reason_of}
 use Rattle.image_replies.specs.Core.{core_fault_of}
-use Rattle.image_replies.specs.declared.core_image.CoreFault.{CoreFault}
 use Rattle.case_journal.specs.Viewing.{OnlyReads}
 use Rattle.intake.specs.Calls.{ChangesNoCase}
 use Rattle.intake.specs.Parts.{Parts, contents_of, state_of}
@@ -22,18 +20,18 @@ use Rattle.intake.specs.QuietLaws.{quiet_then}
 use Rattle.intake.specs.StayLaws.{stays_as, stays_then}
 use Rattle.intake.specs.State.{ArchiveState}
 use Rattle.intake.specs.declared.faults.ArchiveFault.{ArchiveFault}
-use Rattle.memory_replies.specs.Answers.{Answers, AnswersWith, is_done, memory_reply}
+use Rattle.memory_replies.specs.Answers.{AnswersWith, is_done, memory_reply}
 use Rattle.memory_replies.specs.Find.{address_line, find_answer}
 use Rattle.memory_replies.specs.Memory.{memory_of}
 use Rattle.memory_replies.specs.declared.outcome.Outcome.{Outcome}
 use Rattle.memory_replies.proofs.AnswerLemmas.{matches_shown}
-use Rattle.script_streams.specs.Replies.{IsOutcome, Telling, TellsOutcome, TellsReply, TellsText, no_reply, ok_reply, reply_of}
+use Rattle.script_streams.specs.Replies.{IsOutcome, Telling, TellsOutcome, TellsReply, no_reply, ok_reply, reply_of}
 use Rattle.case_queries.specs.Collecting.{Collects, CollectsAll, Wanted, with_executable}
 use Rattle.case_queries.specs.LeaveLaws.{quiet_as}
-use Rattle.case_queries.specs.Finding.{Finds, ShowsFound, ToldFound, found_reply}
+use Rattle.case_queries.specs.Finding.{Finds, ShowsFound, found_reply}
 use Rattle.case_queries.specs.Fronts.{HasSize, IsSoundFront, ReadsFront, ReadsUpTo}
-use Rattle.case_queries.specs.Seeing.{LooksAt, SeesImage}
-use Rattle.case_queries.specs.Walking.{BeginsSo, IsAt, IsReadTo, LeadsOn, Walks, address_after}
+use Rattle.case_queries.specs.Seeing.{SeesImage}
+use Rattle.case_queries.specs.Walking.{BeginsSo, IsAt, IsReadTo, Walks, address_after}
 use Rattle.case_queries.specs.declared.walk.CaseImage.{CaseImage}
 use Rattle.case_queries.specs.declared.walk.Walk.{Walk}
 use Rattle.case_queries.specs.declared.walk.WalkFault.{WalkFault}
@@ -46,7 +44,6 @@ use Rattle.case_queries.proofs.ShowLemmas.{answered, outcome_with}
 use Rattle.case_queries.proofs.WalkLemmas.{begins_front}
 use Rattle.windowed_search.specs.MemoryWords.{HasSearched, address_of, needle_of}
 use Rattle.windowed_search.specs.StepWords.{Leads, count_of, place_after}
-use Rattle.windowed_search.specs.declared.memory_search.MemorySearch.{MemorySearch}
 use Rattle.windowed_search.specs.declared.steps.Step.{Step}
 
 pub leads_address : (image : List ℕ) (space : Space) (steps : List Step) (p a q b : ℕ) → Leads image space p a steps q b → address_after a steps ≡ b

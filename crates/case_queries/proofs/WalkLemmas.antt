@@ -1,8 +1,8 @@
 -- The image of a core, read window by window while its memory is searched.
-use Rattle.std.proofs.Common.{◌≡◌, inl, inr, ℕ, zero, suc, ◌+◌, ◌-◌, ◌<◌, ◌≤◌, ◌^◌, List, [], ◌∷◌, ◌++◌, take, drop, get_or, length, Result, Ok, Err, refl, ap, sym, ◌∙◌, subst, arith}
+use Rattle.std.proofs.Common.{◌≡◌, inl, inr, ℕ, suc, ◌+◌, ◌-◌, ◌<◌, ◌≤◌, List, [], ◌∷◌, ◌++◌, take, drop, get_or, length, Result, Ok, Err, refl, ap, sym, ◌∙◌, subst, arith}
 use Rattle.std.specs.Prelude.{OnErr, OnOk}
 use Rattle.std.proofs.lemmas.Bool.{cases_lt}
-use Rattle.std.proofs.lemmas.List.{append-nil, length-append, take-append-le, take-take, drop-take, drop_all}
+use Rattle.std.proofs.lemmas.List.{append-nil, length-append, take-append-le, take-take, drop-take}
 use Rattle.std.proofs.Math.Seq.{drop-append_seam, drop-cons}
 use Rattle.disk_model.specs.declared.disk.Disk as disk
 use Rattle.elf_view.specs.Field.{part}
@@ -26,8 +26,7 @@ use Rattle.case_queries.proofs.FrontLemmas.{later_refused, next_read}
 use Rattle.case_queries.proofs.WindowLemmas.{part_long, range_is}
 use Rattle.windowed_search.specs.MemoryWords.{HasSearched, address_of, needle_of}
 use Rattle.windowed_search.specs.Runs.{values_from}
-use Rattle.windowed_search.specs.StepWords.{Leads, StepsFit, bytes_of, count_of, place_after}
-use Rattle.windowed_search.specs.declared.memory_search.MemorySearch.{MemorySearch}
+use Rattle.windowed_search.specs.StepWords.{Leads, StepsFit, count_of, place_after}
 use Rattle.windowed_search.specs.declared.steps.Step.{Step}
 use Rattle.windowed_search.proofs.Values.{values_cut}
 

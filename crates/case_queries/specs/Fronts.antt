@@ -1,5 +1,5 @@
 -- The first bytes of an image, for the lines that ask no more of it.
-use Rattle.std.specs.Prelude.{◌≡◌, ◌⊎◌, ◌≤◌, ℕ, ◌-◌, ◌++◌, List, length, take, Some, Result, Ok, Err, IsTrue, Vec}
+use Rattle.std.specs.Prelude.{◌≡◌, ◌⊎◌, ℕ, ◌-◌, ◌++◌, List, length, take, Some, Result, Ok, Err, IsTrue, Vec}
 use Rattle.std.specs.Global.{Global}
 use Rattle.case_journal.specs.Viewing.{OnlyReads}
 use Rattle.disk_model.specs.declared.disk.Disk as disk

@@ -1,4 +1,4 @@
-use Rattle.std.proofs.Common.{◌≡◌, Ok, Err, refl, ap, sym, subst, ◌∙◌}
+use Rattle.std.proofs.Common.{Ok, Err, refl, ap, sym, subst, ◌∙◌}
 use Rattle.elf_view.specs.declared.faults.Want.TheVariants.{Core}
 use Rattle.archive_replies.specs.Reasons.{reason_of}
 use Rattle.intake.specs.Parts.{state_of}

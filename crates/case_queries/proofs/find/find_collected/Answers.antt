@@ -1,4 +1,4 @@
-use Rattle.std.proofs.Common.{List, ℕ, Some, Ok, Err, map, refl, subst}
+use Rattle.std.proofs.Common.{Some, Ok, Err, map, refl, subst}
 use Rattle.archive_replies.specs.Reasons.{reason_of}
 use Rattle.image_replies.specs.CoreWords.{core_bytes}
 use Rattle.intake.specs.Parts.{state_of}

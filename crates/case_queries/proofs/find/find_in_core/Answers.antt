@@ -1,5 +1,5 @@
 use Rattle.std.specs.Prelude.{IfOk, IfSome}
-use Rattle.std.proofs.Common.{Option, Some, Result, Ok, ◌≡◌, ◌-◌, ◌^◌, List, ℕ, length, take, map, ap, sym, subst, ◌∙◌}
+use Rattle.std.proofs.Common.{Option, Some, Result, Ok, ◌≡◌, ◌-◌, ◌^◌, List, ℕ, map, sym, subst, ◌∙◌}
 use Rattle.address_space.specs.SpaceWords.{core_of, space_of}
 use Rattle.address_space.specs.Whole.{IsFrontOf, space_in}
 use Rattle.image_replies.specs.CoreWords.{core_bytes}

@@ -1,11 +1,8 @@
 use Rattle.std.specs.Result.{is_ok}
-use Rattle.std.proofs.Common.{◌≡◌, true, ◌++◌, length, Result, Ok, Err, List, ℕ, map, refl, ap, subst, ◌∙◌, arith}
+use Rattle.std.proofs.Common.{◌≡◌, true, ◌++◌, length, Ok, Err, List, ℕ, map, refl, ap, subst, ◌∙◌, arith}
 use Rattle.archive_replies.specs.Reasons.{reason_of}
 use Rattle.case_queries.specs.Fronts.{ReadsUpTo}
-use Rattle.memory_replies.specs.Find.{find_answer}
 use Rattle.memory_replies.specs.Memory.{attached_view}
-use Rattle.memory_replies.specs.Answers.{AnswersWith}
-use Rattle.script_streams.specs.Replies.{TellsReply, telling}
 use Rattle.case_queries.proofs.FindLemmas.{front_kept, memory_outcome, none_shown, still_clean, whole_found, whole_unread}
 use Rattle.case_queries.proofs.find.find_in_whole.Goals as goal
 

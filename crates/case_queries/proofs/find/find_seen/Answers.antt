@@ -1,6 +1,5 @@
-use Rattle.std.proofs.Common.{◌≡◌, Ok, Some, List, ℕ, length, take, refl, sym, subst, ◌∙◌, arith}
+use Rattle.std.proofs.Common.{◌≡◌, Ok, List, ℕ, length, take, refl, sym, subst, ◌∙◌, arith}
 use Rattle.elf_view.specs.declared.faults.Want.TheVariants.{Core}
-use Rattle.intake.specs.Parts.{state_of}
 use Rattle.intake.specs.State.{ArchiveState}
 use Rattle.script_lines.specs.Queries.{QuerySaid, memory_query}
 use Rattle.case_queries.specs.Fronts.{HasSize, IsSoundFront, ReadsFront}

@@ -1,5 +1,5 @@
 use Rattle.std.specs.Result.{is_ok}
-use Rattle.std.proofs.Common.{true, ◌≡◌, ◌-◌, ◌++◌, length, refl, ap, sym, subst, ◌∙◌, arith}
+use Rattle.std.proofs.Common.{true, ◌≡◌, ◌-◌, ◌++◌, length, ap, sym, subst, ◌∙◌, arith}
 use Rattle.std.proofs.lemmas.Result.{err_from_is_err_and}
 use Rattle.elf_view.specs.Field.{part}
 use Rattle.case_queries.specs.Fronts.{ReadsFront}

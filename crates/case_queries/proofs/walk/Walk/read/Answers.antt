@@ -1,4 +1,4 @@
-use Rattle.std.proofs.Common.{◌≡◌, ◌+◌, ◌-◌, Ok, Err, subst, refl, arith, ◌∙◌}
+use Rattle.std.proofs.Common.{◌≡◌, ◌+◌, ◌-◌, Ok, subst, refl, arith, ◌∙◌}
 use Rattle.case_queries.specs.Windows.{ReadsRange}
 use Rattle.case_queries.proofs.WalkLemmas.{walk_reads, walk_refused}
 use Rattle.case_queries.proofs.walk.Walk.read.Goals as goal

@@ -1,4 +1,4 @@
-use Rattle.std.proofs.Common.{◌≡◌, ◌≤◌, ◌<◌, ◌^◌, ◌+◌, ℕ, List, vec_capacity}
+use Rattle.std.proofs.Common.{◌≡◌, ◌≤◌, ◌+◌, ℕ, List, vec_capacity}
 use Rattle.address_space.specs.Source.{Space}
 use Rattle.intake.specs.Parts.{Parts, state_of}
 use Rattle.case_queries.specs.Fronts.{HasSize}

@@ -1,4 +1,4 @@
-use Rattle.std.proofs.Common.{◌+◌, ℕ, drop, refl, ◌∙◌, arith}
+use Rattle.std.proofs.Common.{refl, ◌∙◌}
 use Rattle.std.proofs.lemmas.Result.{err_from_is_err_and}
 use Rattle.windowed_search.specs.MemoryWords.{address_of}
 use Rattle.case_queries.proofs.WalkLemmas.{step_after, step_fits, step_has, step_leads}
