@@ -235,12 +235,15 @@ fn a_range_that_is_scattered_is_read_with_each_byte_once(rt: HostRuntime) -> Res
     Ok(())
 }
 
+// A dump, and two searches after it.
+static SEARCHES: &str = "dump 1 0x60000 4096\nfind 1 0708\nstrings 1 1024\n";
+
 #[test]
 fn a_search_after_a_dump_reads_what_is_left(rt: HostRuntime) -> Result<(), Fail> {
     let alloc = rt.alloc();
     let core = large_core(alloc)?;
-    let lines = "dump 1 0x60000 4096\nfind 1 0708\n";
-    assert_eq!(rt; read_for(alloc, &core, lines)?, core.len() as u64 + 4096);
+    let read = read_for(alloc, &core, SEARCHES)?;
+    assert_eq!(rt; read, core.len() as u64 + 4096);
     Ok(())
 }
 
