@@ -1,5 +1,5 @@
 -- What the program does over the archive on a disk, by the values that its words say.
-use Rattle.std.specs.Prelude.{◌≡◌, ◌⊎◌, ℕ, Bool, List, [], Option, None, Result, Ok, Err}
+use Rattle.std.specs.Prelude.{◌≡◌, ◌⊎◌, ℕ, Bool, List, [], Option, None, Some, Result, Ok, Err}
 use Rattle.std.specs.Io.KnownBytes.{Keeps}
 use Rattle.disk_model.specs.declared.disk.Disk as disk
 use Rattle.inspector_cli.specs.Asking.{AsksAlone, as_session, line_streams}
@@ -10,6 +10,7 @@ use Rattle.inspector_cli.specs.declared.session.LifeFault.{LifeFault}
 use Rattle.inspector_cli.specs.declared.session.StoreOutcome.{StoreOutcome}
 use Rattle.intake.specs.Calls.{OpenCall}
 use Rattle.intake.specs.Parts.{Parts}
+use Rattle.intake.specs.State.{StreamFacts}
 use Rattle.script_lines.specs.Said.{Said, said}
 use Rattle.script_streams.specs.Lines.{IsLine}
 use Rattle.stream_names.specs.Commands.{stream_found}
@@ -55,6 +56,11 @@ StoresOnDisk g request t before r after =
     (ended : Result StoreOutcome LifeFault)
     × LifeEnds g request.limit t before ended after (StoresOver g request.policy (stream_found request.found) (options_asked request.options) t)
     × (r ≡ store_told ended)
+
+-- why no stream can begin, if none can
+abbrev pub reason_found : Result StreamFacts (List ℕ) → Option (List ℕ)
+reason_found (Ok stream) = None
+reason_found (Err reason) = Some reason
 
 -- the same request, or without its policy
 abbrev pub IsFitted : StoreRequest → StoreRequest → Type 0

@@ -1,5 +1,5 @@
 -- What the program tells of a failure: `no REASON` for what is refused, and `fault NAME` where a session ended before its script.
-use Rattle.std.specs.Prelude.{ℕ, Bool, true, false, List, [], ◌∷◌, ◌++◌, Option, Result, codes, decimal}
+use Rattle.std.specs.Prelude.{ℕ, Bool, true, false, List, [], ◌∷◌, ◌++◌, Option, Some, Result, codes, decimal}
 use Rattle.archive_replies.specs.Reasons.{reason_of}
 use Rattle.disk_model.specs.declared.file_disk.FileFault.{FileFault}
 use Rattle.disk_model.specs.declared.file_disk.FileFault.TheVariants as file
@@ -18,6 +18,10 @@ use Rattle.archive_files.specs.declared.failures.Refusal.TheVariants.{BadLine, N
 -- A text goes to an output that had taken `before`: it takes all of it, or a front of it until a write fails.
 abbrev pub IsToldAs : Option (List ℕ) → Option (List ℕ) → ℕ → ℕ → List ℕ → Type 0
 IsToldAs before after count count' text = (r : Result (Unit {0}) StreamFault) × IsDelivered before count after count' text r
+
+-- A text is kept, all of it or a front of it until there is no memory.
+abbrev pub IsKeptAs : Option (List ℕ) → ℕ → List ℕ → Type 0
+IsKeptAs kept count text = (before : ℕ) × IsToldAs (Some []) kept before count text
 
 -- why an archive could not be opened: a damaged one by the place and the name of its first faulty field
 abbrev pub open_words : OpenFault → List ℕ

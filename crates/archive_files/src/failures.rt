@@ -2,7 +2,7 @@
 ghost use Rattle.std.specs.Prelude.{◌≡◌, ◌≢◌, ◌≤◌, true};
 ghost use Rattle.script_streams.specs.Replies.{TellsText, telling, no_reply};
 ghost use Rattle.script_streams.specs.Telling.{IsDelivered};
-ghost use Rattle.archive_files.specs.Telling.{IfFaulted, IfRefused, IsToldAs, fault_line, fault_words, file_words, is_aside, open_words, refusal_words};
+ghost use Rattle.archive_files.specs.Telling.{IfFaulted, IfRefused, IsKeptAs, IsToldAs, fault_line, fault_words, file_words, is_aside, open_words, refusal_words};
 ghost use Rattle.archive_files.specs.declared.failures.Failure.TheVariants.{Faulted, Refused};
 ghost use Rattle.archive_files.specs.declared.failures.Refusal.{Refusal};
 ghost use Rattle.inspector_cli.specs.declared.session.SessionFault.{SessionFault};
@@ -238,8 +238,10 @@ pub(crate) fn write_refusal<O: Output>(refusal: Refusal, output: &mut O) -> Resu
     reply.finish()
 }
 
-/// The reason of a refusal.
-pub fn reason_of(alloc: Global, refusal: Refusal) -> Collected {
+/// The reason of a refusal, or a front of it if there is no memory.
+pub fn reason_of(alloc: Global, refusal: Refusal) -> Collected
+    ensures { IsKeptAs (⟦<Collected as Output>⟧.taken result) (⟦<Collected as Output>⟧.failures result) (refusal_words refusal) }
+{
     let mut words = Collected::new(alloc);
     let mut reply = Reply::new(&mut words);
     tell_reason(&mut reply, refusal);

@@ -1,11 +1,12 @@
 // What `store` does over the archive on a disk.
 ghost use Rattle.std.specs.Prelude.{◌≡◌, None};
+ghost use Rattle.std.specs.Option.{option_map};
 ghost use Rattle.std.specs.Io.KnownBytes.{Keeps};
 ghost use Rattle.script_lines.specs.Said.{said};
 ghost use Rattle.stream_names.specs.Commands.{stream_found};
 ghost use Rattle.inspector_cli.specs.Session.{streams_of};
 ghost use Rattle.inspector_cli.specs.Storing.{line_stream};
-ghost use Rattle.archive_files.specs.OverDisks.{StoresOnDisk, StoresFile, IsFitted};
+ghost use Rattle.archive_files.specs.OverDisks.{StoresOnDisk, StoresFile, IsFitted, reason_found};
 
 use crate::collected::Collected;
 use crate::failures::{Failure, Refusal};
@@ -74,7 +75,9 @@ impl StoreRequest {
     }
 
     /// Why no stream can begin, if none can.
-    pub fn refusal(&self) -> Option<&'static [u8]> {
+    pub fn refusal(&self) -> Option<&'static [u8]>
+        ensures { option_map (λ r. r.now) result ≡ reason_found (stream_found self.now.found) }
+    {
         match &self.found {
             Ok(_) => None,
             Err(reason) => Some(*reason),

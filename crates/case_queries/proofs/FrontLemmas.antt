@@ -1,5 +1,5 @@
 -- The first bytes of an image, read one part after the other.
-use Rattle.std.proofs.Common.{◌≡◌, ◌⊎◌, inl, inr, ⊎_elim, ℕ, ◌+◌, ◌-◌, ◌≤◌, Bool, true, false, List, [], ◌∷◌, ◌++◌, take, length, replicate, Option, Some, Result, Ok, Err, Vec, Global, refl, ap, sym, ◌∙◌, subst, arith}
+use Rattle.std.proofs.Common.{◌≡◌, ◌≢◌, ◌⊎◌, inl, inr, ⊎_elim, ℕ, ◌+◌, ◌-◌, ◌≤◌, Bool, true, false, List, [], ◌∷◌, ◌++◌, take, length, replicate, Option, None, Some, Result, Ok, Err, Vec, Global, refl, ap, sym, ◌∙◌, subst, arith}
 use Rattle.std.proofs.lemmas.Bool.{false≢true}
 use Rattle.std.proofs.lemmas.Option.{same_Some}
 use Rattle.std.proofs.lemmas.List.{length-append, length-replicate, take_all}
@@ -15,6 +15,7 @@ use Rattle.intake.specs.QuietLaws.{quiet_none, quiet_then}
 use Rattle.intake.specs.State.{ArchiveState}
 use Rattle.intake.specs.StayLaws.{stays_none, stays_then}
 use Rattle.intake.specs.Step.{ImageStep, HasCase}
+use Rattle.intake.specs.Untouched.{RefusalSpares}
 use Rattle.intake.specs.declared.faults.ArchiveFault.{ArchiveFault}
 use Rattle.intake.specs.declared.faults.ArchiveFault.TheVariants.{Stopped, NoCase, OutOfMemory, Disk}
 use Rattle.case_queries.specs.Fronts.{HasSize, IsSoundFront, ReadsEnough, ReadsFront, ReadsUpTo, SeesEnough}
@@ -49,6 +50,16 @@ module _ (s t : ArchiveState) (seq : ℕ) (c : Case) (has : HasCase s seq c) whe
   part_step Disk step = step
   part_step _ step = absurd step
 
+  part_spares : {D : Type 0} (old new : D) (f : ArchiveFault) → ImageStep {T = Unit {0}} s seq (Err f) t → f ≢ OutOfMemory → RefusalSpares {T = Vec ℕ Global} (Err f) old new
+  part_spares old new Disk step never = tt
+  part_spares old new Stopped step never = absurd (false≢true (sym has.0 ∙ step.0))
+  part_spares old new NoCase step never = absurd (none_some (sym step.1 ∙ has.1))
+    where
+      none_some : ◌≡◌ {A = Option Case} None (Some c) → ⊥
+      none_some e = cc
+  part_spares old new OutOfMemory step never = absurd (never refl)
+  part_spares old new _ step never = absurd step
+
 module _ {D : Type 0} (g : disk.Ghosts D) where
   -- nothing is read yet
   pub none_refused : (old : Parts D) (seq : ℕ) (c : Case) → ((x : List ℕ) → g.left_since old.disk (g.clock old.disk) x → g.may_leave old.disk x) → HasCase (state_of old) seq c → LooksAt g old seq (Err OutOfMemory) old
@@ -58,6 +69,7 @@ module _ {D : Type 0} (g : disk.Ghosts D) where
     cause = λ is. absurd (memory_not is);
     quiet = quiet_none g old.disk only;
     stays = stays_none g old;
+    untouched = λ never. absurd (never refl);
   }
 
   -- no memory for more than these bytes, which are read
@@ -68,6 +80,7 @@ module _ {D : Type 0} (g : disk.Ghosts D) where
     cause = λ is. absurd (memory_not is);
     quiet = reads.quiet;
     stays = reads.stays;
+    untouched = λ never. absurd (never refl);
   }
 
   pub first_refused : (old new : Parts D) (seq at n : ℕ) (bytes : List ℕ) (f : ArchiveFault) (c : Case) → HasCase (state_of old) seq c → PartCall g old seq at n (Err f) bytes new → LooksAt g old seq (Err f) new
@@ -77,6 +90,7 @@ module _ {D : Type 0} (g : disk.Ghosts D) where
     cause = call.cause;
     quiet = call.quiet;
     stays = call.stays;
+    untouched = λ never. part_spares (state_of old) (state_of new) seq c has old.disk new.disk f call.step never;
   }
 
   -- a part that can't be read, of an image of which the first bytes were
@@ -91,6 +105,7 @@ module _ {D : Type 0} (g : disk.Ghosts D) where
         cause = λ is. (let risen = call.cause is in grind (arith, risen, later));
         quiet = quiet_then g old.disk mid.disk new.disk reads.quiet call.quiet;
         stays = stays_then g old mid new reads.stays call.stays;
+        untouched = λ never. part_spares (state_of old) (state_of new) seq c has old.disk new.disk f step never;
       }
 
   -- more can't be read of an image of which the first bytes were

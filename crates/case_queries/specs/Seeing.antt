@@ -1,5 +1,5 @@
 -- The image of a case, as the lines that ask it see it.
-use Rattle.std.specs.Prelude.{◌≡◌, ℕ, Bool, true, List, length, take, Option, None, Some, Result, Ok, Err, IsTrue, Vec}
+use Rattle.std.specs.Prelude.{◌≡◌, ◌≢◌, ℕ, Bool, true, List, length, take, Option, None, Some, Result, Ok, Err, IsTrue, Vec}
 use Rattle.std.specs.Global.{Global}
 use Rattle.disk_model.specs.declared.disk.Disk as disk
 use Rattle.case_journal.specs.Viewing.{OnlyReads}
@@ -7,7 +7,9 @@ use Rattle.intake.specs.Calls.{ChangesNoCase, HasDiskCause}
 use Rattle.intake.specs.Contents.{ImageBytes, image_at}
 use Rattle.intake.specs.Parts.{Parts, state_of, contents_of}
 use Rattle.intake.specs.Step.{ImageStep}
+use Rattle.intake.specs.Untouched.{RefusalSpares}
 use Rattle.intake.specs.declared.faults.ArchiveFault.{ArchiveFault}
+use Rattle.intake.specs.declared.faults.ArchiveFault.TheVariants.{OutOfMemory}
 use Rattle.case_queries.specs.declared.kept_image.KeptImage.{KeptImage}
 use Rattle.journal_layout.specs.Soundness.{case_numbered}
 use Rattle.journal_layout.specs.Case.{Case}
@@ -35,6 +37,7 @@ pub record CannotSee {D : Type 0} (g : disk.Ghosts D) (old : Parts D) (seq : ℕ
   -- no byte of the disk is written
   pub quiet : OnlyReads g old.disk new.disk
   pub stays : ChangesNoCase g old new
+  pub untouched : f ≢ OutOfMemory → RefusalSpares {T = Vec ℕ Global} (Err f) old.disk new.disk
 
 -- it is seen, or why it can't be read
 abbrev pub LooksAt : {D : Type 0} → disk.Ghosts D → Parts D → ℕ → Result (List ℕ) ArchiveFault → Parts D → Type 0
