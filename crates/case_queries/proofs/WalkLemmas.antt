@@ -24,7 +24,7 @@ use Rattle.case_queries.specs.declared.walk.WalkFault.{WalkFault}
 use Rattle.case_queries.specs.declared.walk.WalkFault.TheVariants.{Unread, OutOfMemory}
 use Rattle.case_queries.proofs.FrontLemmas.{later_refused, next_read}
 use Rattle.case_queries.proofs.WindowLemmas.{part_long, range_is}
-use Rattle.windowed_search.specs.MemoryWords.{HasSearched, address_of, needle_of}
+use Rattle.windowed_search.specs.ScanWords.{Aim, HasScanned, aimed_at, next_address}
 use Rattle.windowed_search.specs.Runs.{values_from}
 use Rattle.windowed_search.specs.StepWords.{Leads, StepsFit, count_of, place_after}
 use Rattle.windowed_search.specs.declared.steps.Step.{Step}
@@ -112,10 +112,10 @@ module _ {D : Type 0} (g : disk.Ghosts D) (before : Parts D) (o : CaseImage) whe
             range.2 ∙ range_is image front read at n first rest;
       }
 
-  module _ (space : Space) (needle : List ℕ) where
+  module _ (space : Space) (aim : Aim) where
     -- the next bytes of the image are in the window
-    pub walk_reads : (mid new : Parts D) (w v : Walk) (n : ℕ) → IsAt g before space needle o w mid → w.at + n ≤ o.size → ReadsRange g mid o.seq o.front.now w.at n (Ok tt) v.buffer.items new → v.at ≡ w.at + n → length v.buffer.items ≡ n → v.search ≡ w.search
-        → IsAt g before space needle o v new
+    pub walk_reads : (mid new : Parts D) (w v : Walk) (n : ℕ) → IsAt g before space aim o w mid → w.at + n ≤ o.size → ReadsRange g mid o.seq o.front.now w.at n (Ok tt) v.buffer.items new → v.at ≡ w.at + n → length v.buffer.items ≡ n → v.search ≡ w.search
+        → IsAt g before space aim o v new
     walk_reads mid new w v n so_far fits range at count same =
         let more = reads_more mid new w.at n so_far.bytes v.buffer.items so_far.read fits range in
         let place : w.at ≡ v.at - length v.buffer.items = omega (arith, at, count) in
@@ -123,18 +123,18 @@ module _ {D : Type 0} (g : disk.Ghosts D) (before : Parts D) (o : CaseImage) whe
           bytes = so_far.bytes ++ more.read;
           read = subst (λ p. IsReadTo g before o p (so_far.bytes ++ more.read) new) (sym at) more.to;
           window = λ image begins. more.window image begins ∙ ap (λ p. part image p n) place ∙ ap (part image (v.at - length v.buffer.items)) (sym count);
-          searched = λ image begins. subst (HasSearched (space_in image space)) (sym same) (so_far.searched image (begins_less o so_far.bytes more.read image begins));
-          asked = ap needle_of same ∙ so_far.asked;
+          searched = λ image begins. subst (HasScanned (space_in image space)) (sym same) (so_far.searched image (begins_less o so_far.bytes more.read image begins));
+          asked = ap aimed_at same ∙ so_far.asked;
         }
 
-    pub walk_refused : (mid new : Parts D) (w : Walk) (n : ℕ) (buffer : List ℕ) (f : ArchiveFault) → HasSize (state_of mid) o.seq o.size → IsAt g before space needle o w mid → ReadsRange g mid o.seq o.front.now w.at n (Err f) buffer new → LooksAt g before o.seq (Err f) new
+    pub walk_refused : (mid new : Parts D) (w : Walk) (n : ℕ) (buffer : List ℕ) (f : ArchiveFault) → HasSize (state_of mid) o.seq o.size → IsAt g before space aim o w mid → ReadsRange g mid o.seq o.front.now w.at n (Err f) buffer new → LooksAt g before o.seq (Err f) new
     walk_refused mid new w n buffer f now so_far range =
         let has = subst (λ (s : ArchiveState). HasSize s o.seq o.size) so_far.read.reads.state now in
         later_refused g before mid new o.seq (w.at + length (part o.front.now w.at n)) (n - length (part o.front.now w.at n)) so_far.bytes range.0 f has.0 has.1 so_far.read.reads range.1
 
     -- the values in the window
-    pub walk_takes : (now : Parts D) (w v : Walk) (a p n : ℕ) → IsAt g before space needle o w now → w.at ≡ p + n → length w.buffer.items ≡ n → address_of w.search ≡ a → HasValues space o a p n → v.at ≡ w.at → v.buffer ≡ w.buffer → needle_of v.search ≡ needle_of w.search
-        → ((sp : Space) → HasSearched sp w.search → values_from sp (address_of w.search) (length w.buffer.items) ≡ w.buffer.items → HasSearched sp v.search) → IsAt g before space needle o v now
+    pub walk_takes : (now : Parts D) (w v : Walk) (a p n : ℕ) → IsAt g before space aim o w now → w.at ≡ p + n → length w.buffer.items ≡ n → next_address w.search ≡ a → HasValues space o a p n → v.at ≡ w.at → v.buffer ≡ w.buffer → aimed_at v.search ≡ aimed_at w.search
+        → ((sp : Space) → HasScanned sp w.search → values_from sp (next_address w.search) (length w.buffer.items) ≡ w.buffer.items → HasScanned sp v.search) → IsAt g before space aim o v now
     walk_takes now w v a p n so_far at count address has same_at same needles fed =
         let place : w.at - length w.buffer.items ≡ p = omega (arith, at, count) in
         record {
@@ -155,8 +155,8 @@ module _ {D : Type 0} (g : disk.Ghosts D) (before : Parts D) (o : CaseImage) whe
         }
 
     -- values that are at hand, or addresses that have none
-    pub walk_feeds : (now : Parts D) (w v : Walk) → IsAt g before space needle o w now → v.at ≡ w.at → v.buffer ≡ w.buffer → needle_of v.search ≡ needle_of w.search
-        → ((image : List ℕ) → IsFrontOf o.front.now o.size image → HasSearched (space_in image space) w.search → HasSearched (space_in image space) v.search) → IsAt g before space needle o v now
+    pub walk_feeds : (now : Parts D) (w v : Walk) → IsAt g before space aim o w now → v.at ≡ w.at → v.buffer ≡ w.buffer → aimed_at v.search ≡ aimed_at w.search
+        → ((image : List ℕ) → IsFrontOf o.front.now o.size image → HasScanned (space_in image space) w.search → HasScanned (space_in image space) v.search) → IsAt g before space aim o v now
     walk_feeds now w v so_far same_at same needles fed = record {
       bytes = so_far.bytes;
       read = subst (λ q. IsReadTo g before o q so_far.bytes now) (sym same_at) so_far.read;
@@ -172,15 +172,15 @@ has_cut space o a p m n fits has = (
   λ image front. (values_cut (space_in image space) image a p m n (subst (λ k. p + (m + n) ≤ k) (sym front.0) fits) (has image front)).1,
 )
 
-module _ {D : Type 0} (g : disk.Ghosts D) (before : Parts D) (o : CaseImage) (space : Space) (needle : List ℕ) where
-  -- values of an executable, for which there may be no memory
-  pub walk_file : (now : Parts D) (w v : Walk) (bytes : List ℕ) (r : Result (Unit {0}) WalkFault) → IsAt g before space needle o w now → v.at ≡ w.at → v.buffer ≡ w.buffer → needle_of v.search ≡ needle_of w.search
-      → ((sp : Space) → HasSearched sp w.search → values_from sp (address_of w.search) (length bytes) ≡ bytes → OnOk r (HasSearched sp v.search))
-      → ((image : List ℕ) → IsFrontOf o.front.now o.size image → values_from (space_in image space) (address_of w.search) (length bytes) ≡ bytes)
-      → OnErr r (r ≡ Err OutOfMemory) → Walks g before space needle o v now r
-  walk_file now w v bytes (Ok u) so_far at buffer needles fed has full = walk_feeds g before o space needle now w v so_far at buffer needles (λ image front searched. fed (space_in image space) searched (has image front))
-  walk_file now w v bytes (Err (Unread f)) so_far at buffer needles fed has full = cc
-  walk_file now w v bytes (Err OutOfMemory) so_far at buffer needles fed has full = (w.at, so_far.bytes, so_far.read)
+module _ {D : Type 0} (g : disk.Ghosts D) (before : Parts D) (o : CaseImage) (space : Space) (aim : Aim) where
+  -- the values of the next addresses, for which there may be no memory
+  pub walk_file : (now : Parts D) (w v : Walk) (n : ℕ) (bytes : List ℕ) (r : Result (Unit {0}) WalkFault) → IsAt g before space aim o w now → v.at ≡ w.at → v.buffer ≡ w.buffer → aimed_at v.search ≡ aimed_at w.search
+      → ((sp : Space) → HasScanned sp w.search → values_from sp (next_address w.search) n ≡ bytes → OnOk r (HasScanned sp v.search))
+      → ((image : List ℕ) → IsFrontOf o.front.now o.size image → values_from (space_in image space) (next_address w.search) n ≡ bytes)
+      → OnErr r (r ≡ Err OutOfMemory) → Walks g before space aim o v now r
+  walk_file now w v n bytes (Ok u) so_far at buffer aims fed has full = walk_feeds g before o space aim now w v so_far at buffer aims (λ image front searched. fed (space_in image space) searched (has image front))
+  walk_file now w v n bytes (Err (Unread f)) so_far at buffer aims fed has full = cc
+  walk_file now w v n bytes (Err OutOfMemory) so_far at buffer aims fed has full = (w.at, so_far.bytes, so_far.read)
 
 -- the steps that are left: the next, and those after it
 one_left : (steps : List Step) (i : ℕ) (d s : Step) → i < length steps → s ≡ get_or steps i d → drop i steps ≡ s ∷ drop (i + 1) steps

@@ -1,8 +1,7 @@
--- A needle in the memory of a core whose image is read window by window.
-use Rattle.std.specs.Prelude.{◌≡◌, ℕ, List, ◌++◌, length, take, Result, Ok, Err, Vec}
-use Rattle.std.specs.Global.{Global}
+-- What is sought in the memory of a core whose image is read window by window.
+use Rattle.std.specs.Prelude.{◌≡◌, ℕ, List, [], ◌∷◌, ◌++◌, length, take, drop, Result, Ok, Err, decimal}
 use Rattle.std.specs.List.{flat_map}
-use Rattle.address_space.specs.Occurrence.{occurrences}
+use Rattle.address_space.specs.Occurrence.{occurrences, strings_of}
 use Rattle.address_space.specs.Source.{ExecutableView, Space}
 use Rattle.address_space.specs.Whole.{IsFrontOf, space_in}
 use Rattle.archive_replies.specs.Reasons.{reason_of}
@@ -11,45 +10,80 @@ use Rattle.intake.specs.Parts.{Parts}
 use Rattle.intake.specs.declared.faults.ArchiveFault.{ArchiveFault}
 use Rattle.memory_replies.specs.Answers.{Answers, memory_reply}
 use Rattle.memory_replies.specs.Find.{address_line, find_answer}
+use Rattle.memory_replies.specs.Texts.{strings_answer}
+use Rattle.memory_replies.specs.Words.{hex_word}
+use Rattle.script_lines.specs.Queries.{QuerySaid, ask_find, ask_strings}
 use Rattle.script_streams.specs.Replies.{no_reply, ok_reply}
+use Rattle.script_words.specs.Printing.{shown}
+use Rattle.windowed_search.specs.ScanWords.{Aim, for_bytes, for_texts}
+use Rattle.windowed_search.specs.TextWords.{text_values}
+use Rattle.windowed_search.specs.declared.memory_scan.Found.{Found}
+use Rattle.windowed_search.specs.declared.memory_scan.Found.TheVariants as found
 use Rattle.case_queries.specs.Seeing.{AreOfCase, LooksAt, SeesImage}
 use Rattle.case_queries.specs.Steps.{ShowsCore}
 use Rattle.journal_layout.specs.declared.entry.Kind.{Kind}
-use Rattle.script_lines.specs.Queries.{ask_find}
 use Rattle.case_queries.specs.declared.walk.CaseImage.{CaseImage}
 use Rattle.case_queries.specs.declared.walk.WalkFault.{WalkFault}
 use Rattle.case_queries.specs.declared.walk.WalkFault.TheVariants.{Unread, OutOfMemory}
 
--- The addresses are those at which the needle occurs in the memory of the image that was seen; or why there are none.
-abbrev pub Finds : {D : Type 0} → disk.Ghosts D → Parts D → Space → List ℕ → CaseImage → Parts D → Result (Vec ℕ Global) WalkFault → Type 0
-Finds g before space needle o now (Ok v) =
-    (image : List ℕ) × SeesImage g before o.seq image now × IsFrontOf o.front.now o.size image × (v.items ≡ occurrences (space_in image space) needle)
-Finds g before space needle o now (Err (Unread f)) = LooksAt g before o.seq (Err f) now
-Finds g before space needle o now (Err OutOfMemory) = (image : List ℕ) × SeesImage g before o.seq image now × IsFrontOf o.front.now o.size image
+-- what is found in the whole memory
+abbrev pub IsAllFound : Space → Aim → Found → Type 0
+IsAllFound space (for_bytes needle) (found.Addresses v) = v.items ≡ occurrences space needle
+IsAllFound space (for_texts least) (found.Texts t) = (t.places.items ≡ strings_of space least) × (t.bytes.items ≡ flat_map (text_values space) t.places.items)
+IsAllFound space aim f = ⊥
+
+-- It is what is sought in the memory of the image that was seen; or why nothing is found.
+abbrev pub Finds : {D : Type 0} → disk.Ghosts D → Parts D → Space → Aim → CaseImage → Parts D → Result Found WalkFault → Type 0
+Finds g before space aim o now (Ok f) =
+    (image : List ℕ) × SeesImage g before o.seq image now × IsFrontOf o.front.now o.size image × IsAllFound (space_in image space) aim f
+Finds g before space aim o now (Err (Unread f)) = LooksAt g before o.seq (Err f) now
+Finds g before space aim o now (Err OutOfMemory) = (image : List ℕ) × SeesImage g before o.seq image now × IsFrontOf o.front.now o.size image
+
+-- `ADDR LENGTH TEXT` of a text, by its first address, its length and its bytes
+abbrev pub line_of_text : ℕ × ℕ → List ℕ → List ℕ
+line_of_text x bytes = hex_word x.0 ++ (decimal x.1 ++ (32 ∷ [] ++ (shown bytes ++ 10 ∷ [])))
+
+-- the lines of texts whose bytes stand one after another
+abbrev pub lines_of_texts : List (ℕ × ℕ) → List ℕ → List ℕ
+lines_of_texts [] bytes = []
+lines_of_texts (x ∷ xs) bytes = line_of_text x (take x.1 bytes) ++ lines_of_texts xs (drop x.1 bytes)
+
+abbrev pub found_lines : Found → List ℕ
+found_lines (found.Addresses v) = flat_map address_line v.items
+found_lines (found.Texts t) = lines_of_texts t.places.items t.bytes.items
 
 -- the reply
-abbrev pub found_reply : Result (Vec ℕ Global) WalkFault → List ℕ
-found_reply (Ok v) = flat_map address_line v.items ++ ok_reply
+abbrev pub found_reply : Result Found WalkFault → List ℕ
+found_reply (Ok f) = found_lines f ++ ok_reply
 found_reply (Err (Unread f)) = no_reply (reason_of f)
 found_reply (Err OutOfMemory) = memory_reply
 
+-- the line that seeks it, and what it answers
+abbrev pub aim_query : Aim → QuerySaid
+aim_query (for_bytes needle) = ask_find needle
+aim_query (for_texts least) = ask_strings least
+
+abbrev pub aim_answer : Aim → List ℕ → List ExecutableView → Result (List ℕ) (List ℕ)
+aim_answer (for_bytes needle) image xs = find_answer image xs needle
+aim_answer (for_texts least) image xs = strings_answer image xs least
+
 -- an answer of an image that begins so, or why it can't be read
-abbrev pub ToldFound : CaseImage → List ExecutableView → List ℕ → List ℕ → Result (List ℕ) ArchiveFault → Type 0
-ToldFound o xs needle text (Ok image) = IsFrontOf o.front.now o.size image × Answers (find_answer image xs needle) text
-ToldFound o xs needle text (Err f) = text ≡ no_reply (reason_of f)
+abbrev pub ToldFound : CaseImage → List ExecutableView → Aim → List ℕ → Result (List ℕ) ArchiveFault → Type 0
+ToldFound o xs aim text (Ok image) = IsFrontOf o.front.now o.size image × Answers (aim_answer aim image xs) text
+ToldFound o xs aim text (Err f) = text ≡ no_reply (reason_of f)
 
 -- what the line shows, with these executables
-abbrev pub ShowsFound : {D : Type 0} → disk.Ghosts D → Parts D → CaseImage → List ExecutableView → List ℕ → List ℕ → Parts D → Type 0
-ShowsFound g before o xs needle text now = (r : Result (List ℕ) ArchiveFault) × LooksAt g before o.seq r now × ToldFound o xs needle text r
+abbrev pub ShowsFound : {D : Type 0} → disk.Ghosts D → Parts D → CaseImage → List ExecutableView → Aim → List ℕ → Parts D → Type 0
+ShowsFound g before o xs aim text now = (r : Result (List ℕ) ArchiveFault) × LooksAt g before o.seq r now × ToldFound o xs aim text r
 
 -- the bytes at hand are the first of the case's image
 abbrev pub IsFrontOfCase : {D : Type 0} → disk.Ghosts D → Parts D → CaseImage → Type 0
 IsFrontOfCase g a o = (image : List ℕ) × AreOfCase g a o.seq image × (o.front.now ≡ take (length o.front.now) image)
 
 -- What the line shows of a core that has no fault and begins so, with the executables that are read beside it; or why it can't be read.
-abbrev pub ShowsFront : {D : Type 0} → disk.Ghosts D → Parts D → CaseImage → List ℕ → Result (List ℕ) ArchiveFault → List ℕ → Parts D → Type 0
-ShowsFront g mid o needle (Ok image) text new = IsFrontOf o.front.now o.size image × ((kind : Kind) → ShowsCore g mid kind (ask_find needle) image text new)
-ShowsFront g mid o needle (Err f) text new = (text ≡ no_reply (reason_of f)) × (new ≡ mid)
+abbrev pub ShowsFront : {D : Type 0} → disk.Ghosts D → Parts D → CaseImage → Aim → Result (List ℕ) ArchiveFault → List ℕ → Parts D → Type 0
+ShowsFront g mid o aim (Ok image) text new = IsFrontOf o.front.now o.size image × ((kind : Kind) → ShowsCore g mid kind (aim_query aim) image text new)
+ShowsFront g mid o aim (Err f) text new = (text ≡ no_reply (reason_of f)) × (new ≡ mid)
 
-abbrev pub AsksFront : {D : Type 0} → disk.Ghosts D → Parts D → CaseImage → List ℕ → List ℕ → Parts D → Type 0
-AsksFront {D} g before o needle text new = (r : Result (List ℕ) ArchiveFault) × (mid : Parts D) × LooksAt g before o.seq r mid × ShowsFront g mid o needle r text new
+abbrev pub AsksFront : {D : Type 0} → disk.Ghosts D → Parts D → CaseImage → Aim → List ℕ → Parts D → Type 0
+AsksFront {D} g before o aim text new = (r : Result (List ℕ) ArchiveFault) × (mid : Parts D) × LooksAt g before o.seq r mid × ShowsFront g mid o aim r text new

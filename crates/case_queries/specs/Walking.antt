@@ -11,7 +11,7 @@ use Rattle.case_queries.specs.declared.walk.CaseImage.{CaseImage}
 use Rattle.case_queries.specs.declared.walk.Walk.{Walk}
 use Rattle.case_queries.specs.declared.walk.WalkFault.{WalkFault}
 use Rattle.case_queries.specs.declared.walk.WalkFault.TheVariants.{Unread, OutOfMemory}
-use Rattle.windowed_search.specs.MemoryWords.{HasSearched, needle_of}
+use Rattle.windowed_search.specs.ScanWords.{Aim, HasScanned, aimed_at}
 use Rattle.windowed_search.specs.StepWords.{Leads, bytes_of, count_of}
 use Rattle.windowed_search.specs.Runs.{values_from}
 use Rattle.windowed_search.specs.declared.steps.Step.{Step}
@@ -28,18 +28,18 @@ pub record IsReadTo {D : Type 0} (g : disk.Ghosts D) (before : Parts D) (o : Cas
   pub within : length bytes ≤ o.size
 
 -- The image is read so far, the window has the last bytes of that, and the memory of any image which begins so is searched so far.
-pub record IsAt {D : Type 0} (g : disk.Ghosts D) (before : Parts D) (space : Space) (needle : List ℕ) (o : CaseImage) (w : Walk) (now : Parts D) : Type 0 where
+pub record IsAt {D : Type 0} (g : disk.Ghosts D) (before : Parts D) (space : Space) (aim : Aim) (o : CaseImage) (w : Walk) (now : Parts D) : Type 0 where
   pub bytes : List ℕ
   pub read : IsReadTo g before o w.at bytes now
   pub window : (image : List ℕ) → BeginsSo o bytes image → w.buffer.items ≡ part image (w.at - length w.buffer.items) (length w.buffer.items)
-  pub searched : (image : List ℕ) → BeginsSo o bytes image → HasSearched (space_in image space) w.search
-  pub asked : needle_of w.search ≡ needle
+  pub searched : (image : List ℕ) → BeginsSo o bytes image → HasScanned (space_in image space) w.search
+  pub asked : aimed_at w.search ≡ aim
 
 -- what became of a walk
-abbrev pub Walks : {D : Type 0} → disk.Ghosts D → Parts D → Space → List ℕ → CaseImage → Walk → Parts D → Result (Unit {0}) WalkFault → Type 0
-Walks g before space needle o w now (Ok u) = IsAt g before space needle o w now
-Walks g before space needle o w now (Err (Unread f)) = LooksAt g before o.seq (Err f) now
-Walks g before space needle o w now (Err OutOfMemory) = (at : ℕ) × (bytes : List ℕ) × IsReadTo g before o at bytes now
+abbrev pub Walks : {D : Type 0} → disk.Ghosts D → Parts D → Space → Aim → CaseImage → Walk → Parts D → Result (Unit {0}) WalkFault → Type 0
+Walks g before space aim o w now (Ok u) = IsAt g before space aim o w now
+Walks g before space aim o w now (Err (Unread f)) = LooksAt g before o.seq (Err f) now
+Walks g before space aim o w now (Err OutOfMemory) = (at : ℕ) × (bytes : List ℕ) × IsReadTo g before o at bytes now
 
 -- n bytes of the image from place p on are the values of the addresses from a on
 abbrev pub HasValues : Space → CaseImage → ℕ → ℕ → ℕ → Type 0

@@ -1,6 +1,5 @@
-// The answer to `find` of a core that is read window by window.
+// The answers to `find` and `strings` of a core that is read window by window.
 ghost use Rattle.std.specs.Prelude.{◌≡◌, ◌<◌, ◌≤◌, ◌-◌, ◌^◌, false, ℕ, List, None, Ok, Some, map, is_ok, length};
-ghost use Rattle.std.specs.List.{flat_map};
 ghost use Rattle.address_space.specs.Source.{Space};
 ghost use Rattle.address_space.specs.Whole.{IsFrontOf};
 ghost use Rattle.elf_view.specs.Header.{segments_of};
@@ -9,15 +8,15 @@ ghost use Rattle.intake.specs.Parts.{Parts, state_of};
 ghost use Rattle.image_replies.specs.Core.{core_fault_of};
 ghost use Rattle.elf_view.specs.declared.faults.Want.TheVariants.{Core};
 ghost use Rattle.memory_replies.specs.Answers.{AnswersWith, is_done, memory_reply};
-ghost use Rattle.memory_replies.specs.Find.{address_line, find_answer};
 ghost use Rattle.memory_replies.specs.Memory.{attached_view};
 ghost use Rattle.script_streams.specs.Replies.{TellsOutcome, TellsReply, TellsText, telling};
 ghost use Rattle.windowed_search.specs.Rising.{IsRising};
+ghost use Rattle.windowed_search.specs.ScanWords.{IsAim, aim_of};
 ghost use Rattle.windowed_search.specs.StepWords.{StepsFit};
 ghost use Rattle.case_queries.specs.CollectingWords.{executable_view};
-ghost use Rattle.case_queries.specs.Finding.{AsksFront, Finds, IsFrontOfCase, ShowsFound, found_reply};
+ghost use Rattle.case_queries.specs.Finding.{AsksFront, Finds, IsFrontOfCase, ShowsFound, aim_answer, aim_query};
 ghost use Rattle.case_queries.specs.Fronts.{HasSize, IsEnough, IsSoundFront, ReadsFront, SeesEnough};
-ghost use Rattle.script_lines.specs.Queries.{ask_find, memory_query};
+ghost use Rattle.script_lines.specs.Queries.{memory_query};
 ghost use Rattle.case_queries.specs.Keeping.{AreKept, StayCollected};
 ghost use Rattle.case_queries.specs.Seeing.{IsKept};
 ghost use Rattle.case_queries.specs.Steps.{Asks};
@@ -26,6 +25,7 @@ ghost use Rattle.case_queries.specs.LeaveLaws.{Leaves};
 ghost use Rattle.case_queries.specs.Walking.{LeadsOn};
 
 use crate::collect_executables::{StoredExecutable, lent};
+use crate::found::tell_found;
 use crate::front::{read_up_to, see_front};
 use crate::kept_image::{Images, KeptImage, kept_if};
 use crate::memory::{answer_memory, collected, refused_by};
@@ -37,28 +37,30 @@ use elf_view::Want;
 use image_replies::{CoreImage, a_sound_front_answers, tell_core_fault};
 use intake::Archive;
 use journal_layout::Kind;
-use memory_replies::{Outcome, Window, a_sound_front_names_the_files, space_with, tell_find};
+use memory_replies::{
+    Outcome, Window, a_sound_front_names_the_files, space_with, tell_find, tell_strings,
+};
 use script_lines::MemoryQuery;
 use script_streams::{Output, Reply, tell_no, tell_ok};
 use std::alloc::Global;
-use windowed_search::{MemorySearch, Step, plan};
+use windowed_search::{Found, MemoryScan, Sought, Step, plan};
 
-// The addresses at which a needle occurs in a core's memory, by the steps through it: the image is read once, window by window.
+// What is sought in a core's memory, by the steps through it: the image is read once, window by window.
 fn search_windows<D: Disk>(
     alloc: Global,
     image: CaseImage<'_>,
     steps: &[Step<'_>],
-    needle: &[u8],
+    sought: Sought<'_>,
     archive: &mut Archive<D>,
-) -> Result<Vec<u64>, WalkFault>
+) -> Result<Found, WalkFault>
     requires has { HasSize (state_of archive.old) image.seq image.size }
-    requires some { 0 < length needle.now }
+    requires some { IsAim (aim_of sought) }
     requires fit { StepsFit image.size 0 0 steps.now }
     requires short { length image.front.now ≤ image.size }
     ensures { (before : Parts D) (space : Space) → ReadsFront D.Disk before image.entry.seq image.entry.front.now archive.old
         → LeadsOn space image.entry 0 0 steps.now (2 ^ 64 - 1)
         → ((b : List ℕ) → IsFrontOf image.entry.front.now image.entry.size b → IsRising 0 (segments_of b))
-        → Finds D.Disk before space needle.now image.entry archive.new result }
+        → Finds D.Disk before space (aim_of sought.entry) image.entry archive.new result }
 {
     let Ok(buffer) = Vec::with_capacity(alloc, PIECE as usize) else {
         return Err(WalkFault::OutOfMemory);
@@ -66,48 +68,12 @@ fn search_windows<D: Disk>(
     let mut walk = Walk {
         at: 0,
         buffer,
-        search: MemorySearch::new(alloc, needle),
+        search: MemoryScan::new(alloc, sought),
     };
     walk.walk(image, steps, archive)?;
-    Ok(walk.search.end())
-}
-
-// Tells a line for each of these addresses.
-fn tell_addresses<O: Output>(reply: &mut Reply<'_, O>, found: &[u64])
-    ensures { TellsText (telling O.Output reply.old reply.new) (flat_map address_line found.now) }
-{
-    for i in 0..found.len() {
-        tell_address(reply, found[i]);
-    }
-}
-
-// Tells the line of an address.
-fn tell_address<O: Output>(reply: &mut Reply<'_, O>, address: u64)
-    ensures { TellsText (telling O.Output reply.old reply.new) (address_line address) }
-{
-    reply.tell_hexadecimal(u128::from(address));
-    reply.tell(b"\n");
-}
-
-// Tells what was found. Says what became of it.
-fn tell_found<O: Output>(reply: &mut Reply<'_, O>, found: Result<Vec<u64>, WalkFault>) -> Outcome
-    ensures tells { TellsText (telling O.Output reply.old reply.new) (found_reply found) }
-    ensures done { is_done result ≡ is_ok found }
-{
-    match found {
-        Ok(addresses) => {
-            tell_addresses(reply, &addresses);
-            tell_ok(reply);
-            Outcome::Done
-        }
-        Err(WalkFault::Unread(fault)) => {
-            tell_no(reply, reason(fault));
-            Outcome::Refused
-        }
-        Err(WalkFault::OutOfMemory) => {
-            tell_no(reply, b"OutOfMemory");
-            Outcome::OutOfMemory
-        }
+    match walk.search.end() {
+        Ok(found) => Ok(found),
+        Err(_) => Err(WalkFault::OutOfMemory),
     }
 }
 
@@ -120,20 +86,23 @@ fn tell_no_memory<O: Output>(reply: &mut Reply<'_, O>) -> Outcome
     Outcome::OutOfMemory
 }
 
-// Tells where a needle occurs in the memory of a core that is read whole.
+// Tells what is sought in the memory of a core that is read whole.
 fn find_in_bytes<O: Output>(
     alloc: Global,
     bytes: &[u8],
     attached: &[Attached<'_>],
-    needle: &[u8],
+    sought: Sought<'_>,
     reply: &mut Reply<'_, O>,
 ) -> Outcome
-    requires some { 0 < length needle.now }
+    requires some { IsAim (aim_of sought) }
     requires clean { core_fault_of bytes.now ≡ None }
-    ensures { TellsReply (telling O.Output reply.old reply.new) (AnswersWith result (find_answer bytes.now (map attached_view attached.now) needle.now)) }
+    ensures { TellsReply (telling O.Output reply.old reply.new) (AnswersWith result (aim_answer (aim_of sought.entry) bytes.now (map attached_view attached.now))) }
 {
     let core = CoreImage::read(bytes).unwrap();
-    tell_find(alloc, reply, &core, attached, needle)
+    match sought {
+        Sought::Bytes(needle) => tell_find(alloc, reply, &core, attached, needle),
+        Sought::Texts(least) => tell_strings(alloc, reply, &core, attached, least),
+    }
 }
 
 // The same of a core of which the first bytes are at hand: the others are read too, and all are kept while it is told.
@@ -141,17 +110,17 @@ fn find_in_whole<O: Output, D: Disk>(
     alloc: Global,
     image: CaseImage<'_>,
     attached: &[Attached<'_>],
-    needle: &[u8],
+    sought: Sought<'_>,
     reply: &mut Reply<'_, O>,
     archive: &mut Archive<D>,
 ) -> Outcome
     requires has { HasSize (state_of archive.old) image.seq image.size }
-    requires some { 0 < length needle.now }
+    requires some { IsAim (aim_of sought) }
     requires short { length image.front.now ≤ image.size }
     requires sound { IsSoundFront Core image.front.now }
     requires clean { core_fault_of image.front.now ≡ None }
     ensures { (before : Parts D) → ReadsFront D.Disk before image.entry.seq image.entry.front.now archive.old
-        → TellsOutcome (telling O.Output reply.old reply.new) (λ text. ShowsFound D.Disk before image.entry (map attached_view attached.now) needle.now text archive.new) (is_done result) }
+        → TellsOutcome (telling O.Output reply.old reply.new) (λ text. ShowsFound D.Disk before image.entry (map attached_view attached.now) (aim_of sought.entry) text archive.new) (is_done result) }
 {
     a_sound_front_answers();
     let Ok(mut bytes) = Vec::with_capacity(alloc, image.size) else {
@@ -159,7 +128,7 @@ fn find_in_whole<O: Output, D: Disk>(
     };
     bytes.extend_from_slice(image.front).unwrap();
     match read_up_to(image.seq, image.size, &mut bytes, archive) {
-        Ok(()) => find_in_bytes(alloc, &bytes, attached, needle, reply),
+        Ok(()) => find_in_bytes(alloc, &bytes, attached, sought, reply),
         Err(fault) => {
             tell_no(reply, reason(fault));
             Outcome::Refused
@@ -173,18 +142,18 @@ fn find_in_core<O: Output, D: Disk>(
     image: CaseImage<'_>,
     core: &CoreImage<'_>,
     attached: &[Attached<'_>],
-    needle: &[u8],
+    sought: Sought<'_>,
     reply: &mut Reply<'_, O>,
     archive: &mut Archive<D>,
 ) -> Outcome
     requires has { HasSize (state_of archive.old) image.seq image.size }
-    requires some { 0 < length needle.now }
+    requires some { IsAim (aim_of sought) }
     requires short { length image.front.now ≤ image.size }
     requires front { core_bytes core.now ≡ image.front.now }
     requires sound { IsSoundFront Core image.front.now }
     requires clean { core_fault_of image.front.now ≡ None }
     ensures { (before : Parts D) → ReadsFront D.Disk before image.entry.seq image.entry.front.now archive.old
-        → TellsOutcome (telling O.Output reply.old reply.new) (λ text. ShowsFound D.Disk before image.entry (map attached_view attached.now) needle.now text archive.new) (is_done result) }
+        → TellsOutcome (telling O.Output reply.old reply.new) (λ text. ShowsFound D.Disk before image.entry (map attached_view attached.now) (aim_of sought.entry) text archive.new) (is_done result) }
 {
     a_sound_front_names_the_files();
     let Ok(space) = space_with(alloc, core, attached) else {
@@ -192,10 +161,10 @@ fn find_in_core<O: Output, D: Disk>(
     };
     match plan(alloc, &core.elf(), &space, image.size as u64) {
         Ok(Some(steps)) => {
-            let found = search_windows(alloc, image, &steps, needle, archive);
+            let found = search_windows(alloc, image, &steps, sought, archive);
             tell_found(reply, found)
         }
-        Ok(None) => find_in_whole(alloc, image, attached, needle, reply, archive),
+        Ok(None) => find_in_whole(alloc, image, attached, sought, reply, archive),
         Err(_) => tell_no_memory(reply),
     }
 }
@@ -206,21 +175,21 @@ fn find_with<O: Output, D: Disk>(
     image: CaseImage<'_>,
     core: &CoreImage<'_>,
     executables: &[StoredExecutable],
-    needle: &[u8],
+    sought: Sought<'_>,
     reply: &mut Reply<'_, O>,
     archive: &mut Archive<D>,
 ) -> Outcome
     requires has { HasSize (state_of archive.old) image.seq image.size }
-    requires some { 0 < length needle.now }
+    requires some { IsAim (aim_of sought) }
     requires short { length image.front.now ≤ image.size }
     requires front { core_bytes core.now ≡ image.front.now }
     requires sound { IsSoundFront Core image.front.now }
     requires clean { core_fault_of image.front.now ≡ None }
     ensures { (before : Parts D) → ReadsFront D.Disk before image.entry.seq image.entry.front.now archive.old
-        → TellsOutcome (telling O.Output reply.old reply.new) (λ text. ShowsFound D.Disk before image.entry (map executable_view executables.now) needle.now text archive.new) (is_done result) }
+        → TellsOutcome (telling O.Output reply.old reply.new) (λ text. ShowsFound D.Disk before image.entry (map executable_view executables.now) (aim_of sought.entry) text archive.new) (is_done result) }
 {
     match lent(alloc, executables) {
-        Ok(attached) => find_in_core(alloc, image, core, &attached, needle, reply, archive),
+        Ok(attached) => find_in_core(alloc, image, core, &attached, sought, reply, archive),
         Err(_) => tell_no_memory(reply),
     }
 }
@@ -231,14 +200,14 @@ fn find_collected<O: Output, D: Disk>(
     alloc: Global,
     image: CaseImage<'_>,
     core: &CoreImage<'_>,
-    needle: &[u8],
+    sought: Sought<'_>,
     kept: &mut Option<Vec<StoredExecutable>>,
     reply: &mut Reply<'_, O>,
     archive: &mut Archive<D>,
 ) -> Outcome
     requires runs { archive.old.stopped ≡ false }
     requires has { HasSize (state_of archive.old) image.seq image.size }
-    requires some { 0 < length needle.now }
+    requires some { IsAim (aim_of sought) }
     requires short { length image.front.now ≤ image.size }
     requires front { core_bytes core.now ≡ image.front.now }
     requires sound { IsSoundFront Core image.front.now }
@@ -246,14 +215,14 @@ fn find_collected<O: Output, D: Disk>(
     requires own { IsFrontOfCase D.Disk archive.old image }
     requires kept { StayCollected D.Disk archive.old image.front.now kept.old }
     ensures answers { (before : Parts D) → ReadsFront D.Disk before image.entry.seq image.entry.front.now archive.old
-        → TellsOutcome (telling O.Output reply.old reply.new) (λ text. AsksFront D.Disk before image.entry needle.now text archive.new) (is_done result) }
+        → TellsOutcome (telling O.Output reply.old reply.new) (λ text. AsksFront D.Disk before image.entry (aim_of sought.entry) text archive.new) (is_done result) }
     ensures kept { StayCollected D.Disk archive.new image.entry.front.now kept.new }
     ensures leaves { Leaves D.Disk archive.old archive.new }
 {
     a_sound_front_names_the_files();
     match collected(alloc, core, kept.take(), archive) {
         Ok(executables) => {
-            let outcome = find_with(alloc, image, core, &executables, needle, reply, archive);
+            let outcome = find_with(alloc, image, core, &executables, sought, reply, archive);
             *kept = Some(executables);
             outcome
         }
@@ -268,26 +237,26 @@ fn find_collected<O: Output, D: Disk>(
 fn find_front<O: Output, D: Disk>(
     alloc: Global,
     image: CaseImage<'_>,
-    needle: &[u8],
+    sought: Sought<'_>,
     kept: &mut Option<Vec<StoredExecutable>>,
     reply: &mut Reply<'_, O>,
     archive: &mut Archive<D>,
 ) -> Outcome
     requires runs { archive.old.stopped ≡ false }
     requires has { HasSize (state_of archive.old) image.seq image.size }
-    requires some { 0 < length needle.now }
+    requires some { IsAim (aim_of sought) }
     requires short { length image.front.now ≤ image.size }
     requires sound { IsSoundFront Core image.front.now }
     requires own { IsFrontOfCase D.Disk archive.old image }
     requires kept { StayCollected D.Disk archive.old image.front.now kept.old }
     ensures answers { (before : Parts D) (kind : Kind) → ReadsFront D.Disk before image.entry.seq image.entry.front.now archive.old
-        → TellsOutcome (telling O.Output reply.old reply.new) (λ text. Asks D.Disk before image.entry.seq (ask_find needle.now) (Ok kind) text archive.new) (is_done result) }
+        → TellsOutcome (telling O.Output reply.old reply.new) (λ text. Asks D.Disk before image.entry.seq (aim_query (aim_of sought.entry)) (Ok kind) text archive.new) (is_done result) }
     ensures kept { StayCollected D.Disk archive.new image.entry.front.now kept.new }
     ensures leaves { Leaves D.Disk archive.old archive.new }
 {
     a_sound_front_answers();
     match CoreImage::read(image.front) {
-        Ok(core) => find_collected(alloc, image, &core, needle, kept, reply, archive),
+        Ok(core) => find_collected(alloc, image, &core, sought, kept, reply, archive),
         Err(fault) => {
             tell_core_fault(reply, fault);
             Outcome::Refused
@@ -301,15 +270,15 @@ fn find_seen<O: Output, D: Disk>(
     kind: Kind,
     size: usize,
     query: &MemoryQuery,
-    needle: &[u8],
+    sought: Sought<'_>,
     kept: &mut KeptImage,
     reply: &mut Reply<'_, O>,
     archive: &mut Archive<D>,
 ) -> Outcome
     requires runs { archive.old.stopped ≡ false }
     requires has { HasSize (state_of archive.old) kept.old.seq size }
-    requires some { 0 < length needle.now }
-    requires asked { memory_query query.now ≡ ask_find needle.now }
+    requires some { IsAim (aim_of sought) }
+    requires asked { memory_query query.now ≡ aim_query (aim_of sought) }
     requires enough { (image : List ℕ) × IsEnough Core kept.old.image.items image × (length image ≡ size) }
     requires kept { IsKept D.Disk archive.old (Some kept.old) }
     requires are_kept { AreKept D.Disk archive.old (Some kept.old) }
@@ -340,24 +309,24 @@ fn find_seen<O: Output, D: Disk>(
         size,
         front: &kept.image,
     };
-    find_front(alloc, image, needle, &mut kept.executables, reply, archive)
+    find_front(alloc, image, sought, &mut kept.executables, reply, archive)
 }
 
-// Answers `find` of a case of this kind and size. Says whether it was done; if not, it was refused.
+// Answers `find` or `strings` of a case of this kind and size. Says whether it was done; if not, it was refused.
 pub(crate) fn answer_find<O: Output, D: Disk>(
     seq: u32,
     kind: Kind,
     size: usize,
     query: &MemoryQuery,
-    needle: &[u8],
+    sought: Sought<'_>,
     images: &mut Images,
     reply: &mut Reply<'_, O>,
     archive: &mut Archive<D>,
 ) -> bool
     requires runs { archive.old.stopped ≡ false }
     requires has { HasSize (state_of archive.old) seq size }
-    requires some { 0 < length needle.now }
-    requires asked { memory_query query.now ≡ ask_find needle.now }
+    requires some { IsAim (aim_of sought) }
+    requires asked { memory_query query.now ≡ aim_query (aim_of sought) }
     requires kept { IsKept D.Disk archive.old images.old.kept }
     requires are_kept { AreKept D.Disk archive.old images.old.kept }
     ensures answers { TellsOutcome (telling O.Output reply.old reply.new) (λ text. Asks D.Disk archive.old seq (memory_query query.now) (Ok kind) text archive.new) result }
@@ -372,7 +341,7 @@ pub(crate) fn answer_find<O: Output, D: Disk>(
                 kind,
                 size,
                 query,
-                needle,
+                sought,
                 &mut front,
                 reply,
                 archive,

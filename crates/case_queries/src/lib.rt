@@ -4,6 +4,7 @@
 mod by_front;
 mod collect_executables;
 mod find;
+mod found;
 mod front;
 mod inspect;
 mod kept_image;

@@ -1,5 +1,5 @@
 // The answers to lines over a core's memory.
-ghost use Rattle.std.specs.Prelude.{◌≡◌, ℕ, List, Ok, false, map, Some, IfOk};
+ghost use Rattle.std.specs.Prelude.{◌≡◌, ℕ, List, Ok, false, map, Some, IfOk, IfSome};
 ghost use Rattle.image_replies.specs.CoreWords.{core_bytes};
 ghost use Rattle.script_lines.specs.Queries.{memory_query};
 ghost use Rattle.script_streams.specs.Replies.{TellsOutcome, TellsReply, telling};
@@ -8,6 +8,8 @@ ghost use Rattle.memory_replies.specs.Memory.{attached_view};
 ghost use Rattle.intake.specs.Parts.{state_of};
 ghost use Rattle.case_queries.specs.Collecting.{CollectsAll, wanted_of};
 ghost use Rattle.case_queries.specs.CollectingWords.{executable_view, collected_view};
+ghost use Rattle.windowed_search.specs.ScanWords.{IsAim, aim_of};
+ghost use Rattle.case_queries.specs.Finding.{aim_query};
 ghost use Rattle.case_queries.specs.Inspecting.{answer_of};
 ghost use Rattle.case_queries.specs.Steps.{Asks, Shows, ShowsCore};
 ghost use Rattle.case_queries.specs.Keeping.{AreKept, StayCollected};
@@ -33,9 +35,10 @@ use memory_replies::{
 use script_lines::MemoryQuery;
 use script_streams::{Output, Reply, tell_no};
 use std::alloc::Global;
+use windowed_search::Sought;
 
-// The most bytes of an image that is searched whole, in memory: each match is then told as it is found. Of a larger one the matches
-// are held until all of it is read.
+// The most bytes of an image that is searched whole, in memory: what is found is then told as it is found. Of a larger one it is held
+// until all of the image is read.
 const SMALL: usize = 8_388_608;
 
 // Answers a line over a core's memory of a case of this kind. Says whether it was done; if not, it was refused.
@@ -58,15 +61,28 @@ pub(crate) fn answer_by_memory<O: Output, D: Disk>(
     let Some(size) = size_of(seq, archive) else {
         return answer_seen(seq, kind, query, images, reply, archive);
     };
+    match sought_in(query, size) {
+        Some(sought) => answer_find(seq, kind, size, query, sought, images, reply, archive),
+        None => answer_seen(seq, kind, query, images, reply, archive),
+    }
+}
+
+// What a line seeks in an image of that size, if it is read window by window for it.
+fn sought_in(query: &MemoryQuery, size: usize) -> Option<Sought<'_>>
+    ensures { IfSome result (λ s. IsAim (aim_of s) × (memory_query query.now ≡ aim_query (aim_of s))) }
+{
+    if size <= SMALL {
+        return None;
+    }
     match query {
-        MemoryQuery::Find { needle } => {
-            if size <= SMALL {
-                return answer_seen(seq, kind, query, images, reply, archive);
+        MemoryQuery::Find { needle } => Some(Sought::Bytes(needle.bytes.as_slice())),
+        MemoryQuery::Strings { least } => {
+            if *least == 0 {
+                return None;
             }
-            let needle = needle.bytes.as_slice();
-            answer_find(seq, kind, size, query, needle, images, reply, archive)
+            Some(Sought::Texts(*least))
         }
-        _ => answer_seen(seq, kind, query, images, reply, archive),
+        _ => None,
     }
 }
 

@@ -1,10 +1,10 @@
 // The image of a core, read window by window while its memory is searched.
-ghost use Rattle.std.specs.Prelude.{◌≡◌, ◌+◌, ◌<◌, ◌≤◌, ◌^◌, ℕ, List, Err, OnErr, OnOk, length, vec_capacity};
+ghost use Rattle.std.specs.Prelude.{◌≡◌, ◌+◌, ◌<◌, ◌≤◌, ◌^◌, ℕ, [], Err, OnErr, OnOk, length, vec_capacity};
 ghost use Rattle.address_space.specs.Source.{Space};
 ghost use Rattle.intake.specs.Parts.{Parts, state_of};
 ghost use Rattle.case_queries.specs.Fronts.{HasSize};
 ghost use Rattle.case_queries.specs.Walking.{HasStep, HasValues, IsAt, LeadsOn, Walks, address_after};
-ghost use Rattle.windowed_search.specs.MemoryWords.{HasSearched, address_of, needle_of};
+ghost use Rattle.windowed_search.specs.ScanWords.{Aim, HasScanned, aimed_at, next_address};
 ghost use Rattle.windowed_search.specs.Runs.{values_from};
 ghost use Rattle.windowed_search.specs.StepWords.{StepsFit, count_of, place_after};
 
@@ -12,7 +12,7 @@ use crate::window::read_range;
 use address_space::ImageRange;
 use disk_model::Disk;
 use intake::{Archive, ArchiveFault};
-use windowed_search::{MemorySearch, Step};
+use windowed_search::{MemoryScan, Step};
 
 // How many bytes of an image are read at once.
 pub(crate) const PIECE: u64 = 131_072;
@@ -30,7 +30,7 @@ pub(crate) struct CaseImage<'f> {
 pub(crate) struct Walk<'n> {
     pub(crate) at: u64,
     pub(crate) buffer: Vec<u8>,
-    pub(crate) search: MemorySearch<'n>,
+    pub(crate) search: MemoryScan<'n>,
 }
 
 // Why a walk stops.
@@ -59,8 +59,8 @@ impl<'n> Walk<'n> {
         ensures search { self.new.search ≡ self.old.search }
         ensures buffer { 131072 ≤ vec_capacity self.new.buffer }
         ensures long { length self.new.buffer.items ≡ count }
-        ensures walks { (before : Parts D) (space : Space) (needle : List ℕ) → IsAt D.Disk before space needle image.entry self.old archive.old
-            → Walks D.Disk before space needle image.entry self.new archive.new result }
+        ensures walks { (before : Parts D) (space : Space) (aim : Aim) → IsAt D.Disk before space aim image.entry self.old archive.old
+            → Walks D.Disk before space aim image.entry self.new archive.new result }
     {
         let range = ImageRange {
             start: self.at,
@@ -94,14 +94,14 @@ impl<'n> Walk<'n> {
         requires within { self.old.at + count ≤ image.size }
         requires few { count ≤ 131072 }
         requires buffer { 131072 ≤ vec_capacity self.old.buffer }
-        requires fits { address_of self.old.search + count < 2 ^ 64 }
+        requires fits { next_address self.old.search + count < 2 ^ 64 }
         ensures has { OnOk result (HasSize (state_of archive.new) image.entry.seq image.entry.size) }
         ensures at { OnOk result (self.new.at ≡ self.old.at + count) }
-        ensures address { OnOk result (address_of self.new.search ≡ address_of self.old.search + count) }
+        ensures address { OnOk result (next_address self.new.search ≡ next_address self.old.search + count) }
         ensures buffer { 131072 ≤ vec_capacity self.new.buffer }
-        ensures walks { (before : Parts D) (space : Space) (needle : List ℕ) → IsAt D.Disk before space needle image.entry self.old archive.old
-            → HasValues space image.entry (address_of self.old.search) self.old.at count
-            → Walks D.Disk before space needle image.entry self.new archive.new result }
+        ensures walks { (before : Parts D) (space : Space) (aim : Aim) → IsAt D.Disk before space aim image.entry self.old archive.old
+            → HasValues space image.entry (next_address self.old.search) self.old.at count
+            → Walks D.Disk before space aim image.entry self.new archive.new result }
     {
         self.read(image, count, archive)?;
         match self.search.feed(&self.buffer) {
@@ -120,14 +120,14 @@ impl<'n> Walk<'n> {
         requires has { HasSize (state_of archive.old) image.seq image.size }
         requires within { self.old.at + count ≤ image.size }
         requires buffer { 131072 ≤ vec_capacity self.old.buffer }
-        requires fits { address_of self.old.search + count < 2 ^ 64 }
+        requires fits { next_address self.old.search + count < 2 ^ 64 }
         ensures has { OnOk result (HasSize (state_of archive.new) image.entry.seq image.entry.size) }
         ensures at { OnOk result (self.new.at ≡ self.old.at + count) }
-        ensures address { OnOk result (address_of self.new.search ≡ address_of self.old.search + count) }
+        ensures address { OnOk result (next_address self.new.search ≡ next_address self.old.search + count) }
         ensures buffer { 131072 ≤ vec_capacity self.new.buffer }
-        ensures walks { (before : Parts D) (space : Space) (needle : List ℕ) → IsAt D.Disk before space needle image.entry self.old archive.old
-            → HasValues space image.entry (address_of self.old.search) self.old.at count
-            → Walks D.Disk before space needle image.entry self.new archive.new result }
+        ensures walks { (before : Parts D) (space : Space) (aim : Aim) → IsAt D.Disk before space aim image.entry self.old archive.old
+            → HasValues space image.entry (next_address self.old.search) self.old.at count
+            → Walks D.Disk before space aim image.entry self.new archive.new result }
     {
         let mut left = count;
         while left > 0 {
@@ -152,8 +152,8 @@ impl<'n> Walk<'n> {
         ensures at { OnOk result (self.new.at ≡ self.old.at + count) }
         ensures search { self.new.search ≡ self.old.search }
         ensures buffer { 131072 ≤ vec_capacity self.new.buffer }
-        ensures walks { (before : Parts D) (space : Space) (needle : List ℕ) → IsAt D.Disk before space needle image.entry self.old archive.old
-            → Walks D.Disk before space needle image.entry self.new archive.new result }
+        ensures walks { (before : Parts D) (space : Space) (aim : Aim) → IsAt D.Disk before space aim image.entry self.old archive.old
+            → Walks D.Disk before space aim image.entry self.new archive.new result }
     {
         let mut left = count;
         while left > 0 {
@@ -166,15 +166,31 @@ impl<'n> Walk<'n> {
 
     // Goes on with values that are at hand.
     fn feed(&mut self, values: &[u8]) -> Result<(), WalkFault>
-        requires fits { address_of self.old.search + length values.now < 2 ^ 64 }
+        requires fits { next_address self.old.search + length values.now < 2 ^ 64 }
         ensures others { (self.new.at ≡ self.old.at) × (self.new.buffer ≡ self.old.buffer) }
-        ensures address { OnOk result (address_of self.new.search ≡ address_of self.old.search + length values.now) }
-        ensures needle { needle_of self.new.search ≡ needle_of self.old.search }
-        ensures searched { (space : Space) → HasSearched space self.old.search → values_from space (address_of self.old.search) (length values.now) ≡ values.now
-            → OnOk result (HasSearched space self.new.search) }
+        ensures address { OnOk result (next_address self.new.search ≡ next_address self.old.search + length values.now) }
+        ensures aim { aimed_at self.new.search ≡ aimed_at self.old.search }
+        ensures searched { (space : Space) → HasScanned space self.old.search → values_from space (next_address self.old.search) (length values.now) ≡ values.now
+            → OnOk result (HasScanned space self.new.search) }
         ensures fault { OnErr result (result ≡ Err WalkFault.OutOfMemory) }
     {
         match self.search.feed(values) {
+            Ok(()) => Ok(()),
+            Err(_) => Err(WalkFault::OutOfMemory),
+        }
+    }
+
+    // Goes on behind addresses that have no value.
+    fn pass(&mut self, count: u64) -> Result<(), WalkFault>
+        requires fits { next_address self.old.search + count < 2 ^ 64 }
+        ensures others { (self.new.at ≡ self.old.at) × (self.new.buffer ≡ self.old.buffer) }
+        ensures address { OnOk result (next_address self.new.search ≡ next_address self.old.search + count) }
+        ensures aim { aimed_at self.new.search ≡ aimed_at self.old.search }
+        ensures searched { (space : Space) → HasScanned space self.old.search → values_from space (next_address self.old.search) count ≡ []
+            → OnOk result (HasScanned space self.new.search) }
+        ensures fault { OnErr result (result ≡ Err WalkFault.OutOfMemory) }
+    {
+        match self.search.pass(count) {
             Ok(()) => Ok(()),
             Err(_) => Err(WalkFault::OutOfMemory),
         }
@@ -190,14 +206,14 @@ impl<'n> Walk<'n> {
         requires has { HasSize (state_of archive.old) image.seq image.size }
         requires within { place_after self.old.at step ≤ image.size }
         requires buffer { 131072 ≤ vec_capacity self.old.buffer }
-        requires fits { address_of self.old.search + count_of step < 2 ^ 64 }
+        requires fits { next_address self.old.search + count_of step < 2 ^ 64 }
         ensures has { OnOk result (HasSize (state_of archive.new) image.entry.seq image.entry.size) }
         ensures at { OnOk result (self.new.at ≡ place_after self.old.at step.entry) }
-        ensures address { OnOk result (address_of self.new.search ≡ address_of self.old.search + count_of step.entry) }
+        ensures address { OnOk result (next_address self.new.search ≡ next_address self.old.search + count_of step.entry) }
         ensures buffer { 131072 ≤ vec_capacity self.new.buffer }
-        ensures walks { (before : Parts D) (space : Space) (needle : List ℕ) → IsAt D.Disk before space needle image.entry self.old archive.old
-            → HasStep space image.entry self.old.at (address_of self.old.search) step.entry
-            → Walks D.Disk before space needle image.entry self.new archive.new result }
+        ensures walks { (before : Parts D) (space : Space) (aim : Aim) → IsAt D.Disk before space aim image.entry self.old archive.old
+            → HasStep space image.entry self.old.at (next_address self.old.search) step.entry
+            → Walks D.Disk before space aim image.entry self.new archive.new result }
     {
         match step {
             Step::Core { skipped, count } => {
@@ -205,10 +221,7 @@ impl<'n> Walk<'n> {
                 self.take(image, count, archive)
             }
             Step::File(bytes) => self.feed(bytes),
-            Step::Nothing { count } => {
-                self.search.pass(count);
-                Ok(())
-            }
+            Step::Nothing { count } => self.pass(count),
         }
     }
 
@@ -220,12 +233,12 @@ impl<'n> Walk<'n> {
         archive: &mut Archive<D>,
     ) -> Result<(), WalkFault>
         requires has { HasSize (state_of archive.old) image.seq image.size }
-        requires fit { StepsFit image.size self.old.at (address_of self.old.search) steps.now }
+        requires fit { StepsFit image.size self.old.at (next_address self.old.search) steps.now }
         requires buffer { 131072 ≤ vec_capacity self.old.buffer }
-        ensures address { OnOk result (address_of self.new.search ≡ address_after (address_of self.old.search) steps.now) }
-        ensures walks { (before : Parts D) (space : Space) (needle : List ℕ) (b : ℕ) → IsAt D.Disk before space needle image.entry self.old archive.old
-            → LeadsOn space image.entry self.old.at (address_of self.old.search) steps.now b
-            → Walks D.Disk before space needle image.entry self.new archive.new result }
+        ensures address { OnOk result (next_address self.new.search ≡ address_after (next_address self.old.search) steps.now) }
+        ensures walks { (before : Parts D) (space : Space) (aim : Aim) (b : ℕ) → IsAt D.Disk before space aim image.entry self.old archive.old
+            → LeadsOn space image.entry self.old.at (next_address self.old.search) steps.now b
+            → Walks D.Disk before space aim image.entry self.new archive.new result }
     {
         for step in steps {
             self.step(image, *step, archive)?;

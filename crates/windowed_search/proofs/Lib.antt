@@ -1,5 +1,6 @@
 pub mod Windowing
-pub mod Texting
+pub mod TextLemmas
+pub mod TextSteps
 pub mod Memory
 pub mod Values
 pub mod MemorySearching

@@ -1,5 +1,5 @@
 -- Steps for the stretches of a range.
-use Rattle.std.proofs.Common.{◌≡◌, ◌<◌, ◌≤◌, ℕ, zero, suc, ◌+◌, ◌-◌, ◌^◌, cond, Bool, true, false, List, [], ◌∷◌, ◌++◌, length, map, replicate, refl, sym, ap, subst, ◌∙◌, arith, inl, inr}
+use Rattle.std.proofs.Common.{◌≡◌, ◌<◌, ◌≤◌, ℕ, zero, suc, ◌+◌, ◌-◌, ◌^◌, cond, Bool, List, [], ◌∷◌, ◌++◌, length, map, replicate, refl, sym, ap, subst, ◌∙◌, arith, inl, inr}
 use Rattle.std.proofs.lemmas.Bool.{cases_Bool, cond-true, cond-false}
 use Rattle.std.proofs.lemmas.List.{append_cancel_right, length-append, length-replicate}
 use Rattle.std.proofs.Math.Seq.{take-append_seam}
@@ -7,12 +7,12 @@ use Rattle.std.specs.List.{flat_map}
 use Rattle.elf_view.specs.Header.{SegmentView}
 use Rattle.address_space.specs.Source.{Space}
 use Rattle.address_space.specs.Pieces.{PieceView, grown, is_same_at, piece_of, pieces_of, stretches}
-use Rattle.address_space.specs.StretchWords.{IsWithin, piece_in}
+use Rattle.address_space.specs.StretchWords.{piece_in}
 use Rattle.address_space.specs.Whole.{AreHeldWithin, IsFrontOf}
 use Rattle.address_space.specs.declared.source.Stretch.{Stretch}
 use Rattle.memory_replies.specs.Texts.{content_bytes, values_between}
 use Rattle.memory_replies.proofs.PieceLemmas.{pieces_are}
-use Rattle.windowed_search.specs.StepWords.{IsNextStep, Leads, StepsFit, bytes_of, count_of, place_after}
+use Rattle.windowed_search.specs.StepWords.{IsNextStep, Leads, StepsFit, count_of, place_after}
 use Rattle.windowed_search.specs.Runs.{values_from}
 use Rattle.windowed_search.specs.declared.steps.Step.{Step}
 use Rattle.windowed_search.proofs.Values.{values_split}

@@ -1,16 +1,18 @@
 -- Where the segments rise, the addresses of a memory by the segment that decides them are the addresses in their order.
-use Rattle.std.proofs.Common.{◌≡◌, ◌⊎◌, inl, inr, ⊎_elim, ◌<◌, ◌≤◌, ℕ, zero, suc, ◌+◌, ◌-◌, ◌^◌, ◌&&◌, leb, ltb, eqb, cond, Bool, true, false, List, [], ◌∷◌, ◌++◌, length, filter, map, Option, None, Some, refl, sym, ap, subst, ◌∙◌, arith, get_or}
-use Rattle.std.proofs.lemmas.Bool.{cond-true, cond-false, and_from, and_left, and_right, le-leb, lt-leb, le-ltb, lt-ltb, eq-eqb, cases_lt}
+use Rattle.std.proofs.Common.{◌≡◌, inl, inr, ⊎_elim, ◌<◌, ◌≤◌, ℕ, zero, suc, ◌+◌, ◌-◌, ◌^◌, ◌&&◌, cond, Bool, true, false, List, [], ◌∷◌, ◌++◌, length, filter, map, None, refl, sym, ap, subst, ◌∙◌, arith, get_or}
+use Rattle.std.proofs.lemmas.Bool.{and_from, and_left, and_right, le-leb, lt-leb, le-ltb, lt-ltb, eq-eqb, cases_lt}
 use Rattle.std.specs.List.{range_with_len}
 use Rattle.elf_view.specs.Front.{headed}
 use Rattle.elf_view.specs.Header.{SegmentView}
 use Rattle.address_space.specs.CursorWords.{WantsValue}
-use Rattle.address_space.specs.Occurrence.{decided_from, is_decided_by, is_number, occurrences, occurs, ordered, ordered_from}
-use Rattle.address_space.specs.Source.{Space, content_by, decider, first_from, is_covering, place_at, span, value_at, value_of}
+use Rattle.address_space.specs.Occurrence.{begins_text, decided_from, is_decided_by, is_long, is_number, occurrences, occurs, ordered_from, strings_of, text_from}
+use Rattle.address_space.specs.Source.{Space, content_by, decider, first_from, is_covering, span, value_at, value_of}
 use Rattle.address_space.proofs.Finding.{occurs_wants}
 use Rattle.address_space.proofs.Places.{place_from}
 use Rattle.address_space.proofs.Scanning.{first_no, first_yes}
+use Rattle.address_space.proofs.Texts.{begins_wants}
 use Rattle.windowed_search.specs.Rising.{IsRising}
+use Rattle.windowed_search.specs.TextWords.{texts_before}
 use Rattle.windowed_search.proofs.Values.{filter_split, none_pass}
 
 -- headers alone tell it
@@ -98,6 +100,10 @@ module _ (space : Space) (test : ℕ → Bool) (wants : WantsValue space test) w
 pub occurs_by_address : (space : Space) (needle : List ℕ) → 0 < length needle → IsRising 0 space.segments → occurrences space needle ≡ filter (occurs space needle) (range_with_len 0 (2 ^ 64 - 1))
 unfolding occurrences decider
 occurs_by_address space needle some rises = by_address space (occurs space needle) (occurs_wants space needle some) space.segments 0 0 (2 ^ 64 - 1) (λ b low. refl) rises (omega arith)
+
+pub texts_by_address : (space : Space) (least : ℕ) → IsRising 0 space.segments → strings_of space least ≡ texts_before space least (2 ^ 64 - 1)
+unfolding strings_of decider
+texts_by_address space least rises = ap (λ starts. filter (is_long least) (map (text_from space) starts)) (by_address space (begins_text space) (begins_wants space) space.segments 0 0 (2 ^ 64 - 1) (λ b low. refl) rises (omega arith))
 
 -- the last address of all is in none
 last_none : (ss : List SegmentView) (a i : ℕ) → IsRising a ss → first_from (is_covering (2 ^ 64 - 1)) i ss ≡ None

@@ -1,14 +1,13 @@
 -- The values of addresses in a row, and where a needle occurs among them.
-use Rattle.std.proofs.Common.{◌≡◌, ◌⊎◌, ◌<◌, ◌≤◌, ℕ, zero, suc, ◌+◌, cond, Bool, true, false, List, [], ◌∷◌, ◌++◌, length, filter, take, drop, Option, None, Some, refl, sym, ap, subst, ◌∙◌, arith, append_assoc, inl, inr}
+use Rattle.std.proofs.Common.{◌≡◌, ◌⊎◌, ◌<◌, ◌≤◌, ℕ, zero, suc, ◌+◌, Bool, false, List, [], ◌∷◌, ◌++◌, length, filter, take, drop, Option, None, Some, refl, sym, ap, ◌∙◌, arith, inl, inr}
 use Rattle.std.proofs.lemmas.Bool.{cond-false, cases_lt}
-use Rattle.std.proofs.lemmas.List.{append-nil, length-append, length-take, length-drop, drop-drop}
+use Rattle.std.proofs.lemmas.List.{length-append, length-take, length-drop, drop-drop}
 use Rattle.std.proofs.Math.Seq.{take-append_seam, take-add, drop-append_seam}
 use Rattle.std.proofs.lemmas.List.Elements.{filter-append, filter_map-append}
 use Rattle.std.specs.List.{cons_option, filter_map, range_with_len}
 use Rattle.elf_view.specs.Field.{part}
 use Rattle.address_space.specs.Source.{Space, value_at}
 use Rattle.address_space.specs.Occurrence.{occurs}
-use Rattle.address_space.specs.CursorWords.{WantsValue}
 use Rattle.address_space.proofs.Finding.{occurs_wants}
 use Rattle.windowed_search.specs.Places.{places}
 use Rattle.windowed_search.specs.Runs.{IsRunOf, values_from}
@@ -41,13 +40,13 @@ none_pass test zero a none = refl
 none_pass test (suc n) a none = cond-false (test a) _ _ (none a (omega arith) (omega arith)) ∙ none_pass test n (a + 1) (λ b low high. none b (omega (arith, low)) (omega (arith, high)))
 
 -- there are no more values than addresses
-few : (space : Space) (n a : ℕ) → length (filter_map (value_at space) (range_with_len a n)) ≤ n
+pub few : (space : Space) (n a : ℕ) → length (filter_map (value_at space) (range_with_len a n)) ≤ n
 few space zero a = omega arith
 few space (suc n) a =
     let rest = few space n (a + 1) in
     elim (value_at space a) as (λ o. length (cons_option o (filter_map (value_at space) (range_with_len (a + 1) n))) ≤ suc n) [ None ↦ omega (arith, rest) | Some x ↦ omega (arith, rest) ]
 
-first_is : (o : Option ℕ) (ys xs : List ℕ) (x : ℕ) → length ys ≤ length xs → cons_option o ys ≡ x ∷ xs → (o ≡ Some x) × (ys ≡ xs)
+pub first_is : (o : Option ℕ) (ys xs : List ℕ) (x : ℕ) → length ys ≤ length xs → cons_option o ys ≡ x ∷ xs → (o ≡ Some x) × (ys ≡ xs)
 first_is None ys xs x short is = absurd (let same = ap length is in omega (arith, same, short))
 first_is (Some y) ys xs x short is = (cc, cc)
 

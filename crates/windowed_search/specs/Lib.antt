@@ -1,6 +1,7 @@
 pub mod Places
 pub mod SearchWords
-pub mod Texts
+pub mod ScanWords
+pub mod TextBytes
 pub mod TextWords
 pub mod Runs
 pub mod MemoryWords

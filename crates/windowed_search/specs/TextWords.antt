@@ -1,20 +1,41 @@
--- What a search for texts that is fed window by window has seen.
-use Rattle.std.specs.Prelude.{◌≡◌, ◌⊎◌, ℕ, false, List, [], ◌∷◌, ◌++◌, filter, length}
-use Rattle.address_space.specs.Occurrence.{is_long, is_text_byte}
-use Rattle.windowed_search.specs.Texts.{text_front, texts}
-use Rattle.windowed_search.specs.declared.text_search.TextSearch.{TextSearch}
+-- What a search of a memory for texts has found.
+use Rattle.std.specs.Prelude.{◌≡◌, ◌≤◌, ◌<◌, ◌⊎◌, ℕ, ◌+◌, ◌-◌, true, false, List, ◌++◌, filter, length, map}
+use Rattle.std.specs.List.{flat_map, range_with_len}
+use Rattle.address_space.specs.Occurrence.{begins_text, is_long, is_text_at, text_from}
+use Rattle.address_space.specs.Source.{Space}
+use Rattle.windowed_search.specs.Runs.{values_from}
+use Rattle.windowed_search.specs.TextBytes.{AreOf}
+use Rattle.windowed_search.specs.declared.memory_texts.FoundTexts.{FoundTexts}
+use Rattle.windowed_search.specs.declared.memory_texts.MemoryTexts.{MemoryTexts}
 
--- bytes whose last is no text
-abbrev pub IsClosed : List ℕ → Type 0
-IsClosed xs = (xs ≡ []) ⊎ ((before : List ℕ) × (z : ℕ) × (xs ≡ before ++ z ∷ []) × (is_text_byte z ≡ false))
+-- none of n addresses from a on has a byte of text
+abbrev pub NoText : Space → ℕ → ℕ → Type 0
+NoText space a n = (b : ℕ) → a ≤ b → b < a + n → is_text_at space b ≡ false
 
--- The search was fed these bytes and found these texts: all that end before the bytes of text that came last, which it counts.
-pub record HasRead (s : TextSearch) (xs : List ℕ) (found : List (ℕ × ℕ)) : Type 0 where
-  pub body : List ℕ
-  pub tail : List ℕ
-  pub all : xs ≡ body ++ tail
-  pub closed : IsClosed body
-  pub text : text_front tail ≡ length tail
-  pub open_text : s.count ≡ length tail
-  pub fed : s.fed ≡ length xs
-  pub told : found ≡ filter (is_long s.least) (texts false 0 body)
+-- every text of at least that length that begins before an address
+abbrev pub texts_before : Space → ℕ → ℕ → List (ℕ × ℕ)
+texts_before space least a = filter (is_long least) (map (text_from space) (filter (begins_text space) (range_with_len 0 a)))
+
+-- the bytes of a text, by its first address and its length
+abbrev pub text_values : Space → ℕ × ℕ → List ℕ
+text_values space x = values_from space x.0 x.1
+
+-- The search was told of all addresses below the next. Those before `start` have these texts, with these bytes; those from there on
+-- have bytes of text, and no such byte is right before them.
+pub record HasTexts (space : Space) (m : MemoryTexts) : Type 0 where
+  pub start : ℕ
+  pub kept : List ℕ
+  pub text : List ℕ
+  pub joined : start + length text ≡ m.address
+  pub count : length text ≡ m.count
+  pub bytes : m.bytes.items ≡ kept ++ text
+  pub values : values_from space start (length text) ≡ text
+  pub all_text : AreOf true text
+  pub first : (start ≡ 0) ⊎ (is_text_at space (start - 1) ≡ false)
+  pub told : m.found.items ≡ texts_before space m.least start
+  pub lent : kept ≡ flat_map (text_values space) m.found.items
+
+-- These are all texts of at least that length that begin before an address, with their bytes.
+pub record AreTexts (space : Space) (least past : ℕ) (t : FoundTexts) : Type 0 where
+  pub told : t.places.items ≡ texts_before space least past
+  pub lent : t.bytes.items ≡ flat_map (text_values space) t.places.items

@@ -1,10 +1,9 @@
-use Rattle.std.proofs.Common.{ℕ, List, Option, None, Some, Result, Ok, Err, sym, subst}
+use Rattle.std.proofs.Common.{Option, None, Some, Result, Ok, Err, subst}
 use Rattle.std.specs.Prelude.{IfOk, IfSome}
 use Rattle.elf_view.specs.ViewWords.{image_of}
 use Rattle.address_space.specs.Whole.{IsFrontOf}
 use Rattle.address_space.proofs.Filled.{front_headed}
 use Rattle.elf_view.specs.Header.{segments_of}
-use Rattle.windowed_search.specs.Rising.{IsRising}
 use Rattle.windowed_search.proofs.RisingLemmas.{rising_headed}
 use Rattle.windowed_search.proofs.steps.plan.Goals as goal
 

@@ -1,4 +1,4 @@
-use Rattle.std.proofs.Common.{◌≡◌, ◌<◌, ◌≤◌, ℕ, ◌-◌, ◌^◌, List, [], ◌∷◌, ◌++◌, length, replicate, take, ap, sym, subst, ◌∙◌, arith}
+use Rattle.std.proofs.Common.{◌≡◌, ◌≤◌, ℕ, ◌-◌, ◌^◌, List, [], ◌∷◌, ◌++◌, length, replicate, take, sym, subst, ◌∙◌, arith}
 use Rattle.elf_view.specs.Header.{segments_of}
 use Rattle.address_space.specs.SpaceWords.{core_of, space_of}
 use Rattle.address_space.specs.StretchesWords.{AreLeft, front_of, pieces_left_in}

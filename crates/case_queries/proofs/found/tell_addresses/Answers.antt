@@ -3,7 +3,7 @@ use Rattle.std.specs.List.{flat_map}
 use Rattle.std.proofs.lemmas.List.{drop_all, drop_more}
 use Rattle.memory_replies.specs.Find.{address_line}
 use Rattle.memory_replies.proofs.TellLemmas.{up_to_end, up_to_start, up_to_then}
-use Rattle.case_queries.proofs.find.tell_addresses.Goals as goal
+use Rattle.case_queries.proofs.found.tell_addresses.Goals as goal
 
 pub loop-i-init : goal.loop-i-init
 loop-i-init g c = up_to_start

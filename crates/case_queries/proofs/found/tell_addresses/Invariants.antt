@@ -3,7 +3,7 @@ use Rattle.std.specs.List.{flat_map}
 use Rattle.script_streams.specs.Telling.{sink}
 use Rattle.memory_replies.specs.Find.{address_line}
 use Rattle.memory_replies.proofs.TellLemmas.{TellsUpTo}
-use Rattle.case_queries.proofs.find.tell_addresses.Given as goal
+use Rattle.case_queries.proofs.found.tell_addresses.Given as goal
 
 -- the addresses that went by are told
 abbrev pub invariant-loop-i : goal.invariant-loop-i
