@@ -1,14 +1,20 @@
 // Whether an archive is sound, and where it is not.
-ghost use Rattle.std.specs.Prelude.{◌≤◌};
-ghost use Rattle.archive_checks.specs.Checking.{ChecksOnDisk, IsReadEnd};
+ghost use Rattle.std.specs.Prelude.{◌≡◌, ◌≤◌, ℕ, false, List, Option, Some, Result, Ok, OnOk, length, slice_get};
+ghost use Rattle.std.specs.Option.{option_map};
+ghost use Rattle.archive_checks.specs.Checking.{ChecksOnDisk, IsDamageLine, TellsHoldings, TellsImage, TellsImages, ToldOf, case_words, cases_seen, check_end};
 ghost use Rattle.case_journal.specs.Viewing.{OnlyReads};
+ghost use Rattle.intake.specs.Parts.{state_of};
+ghost use Rattle.journal_layout.specs.Case.{Case};
+ghost use Rattle.script_streams.specs.Replies.{TellsReply, telling};
+ghost use Rattle.script_streams.specs.Telling.{IsDelivered};
+ghost use Rattle.script_streams.specs.declared.streams.StreamFault.{StreamFault};
 
 use crate::lines::{Place, tell_facts, tell_image, tell_place};
 use crate::shapes::shape_on;
 use disk_model::Disk;
 use intake::{Archive, ArchiveFault, Settings};
 use journal_layout::{Half, Kind, OpenFault, Shape};
-use script_streams::{Output, Reply};
+use script_streams::{Output, Reply, StreamFault};
 use std::alloc::Global;
 
 /// Why an archive was not found sound.
@@ -44,7 +50,7 @@ pub fn check_archive<D: Disk, O: Output>(
     sees_images: bool,
     output: &mut O,
 ) -> (Result<(), CheckFault>, D)
-    ensures { ChecksOnDisk D.Disk disk result.0 result.1 }
+    ensures { ChecksOnDisk D.Disk sees_images (O.taken output.old) (O.taken output.new) (O.failures output.old) (O.failures output.new) disk result.0 result.1 }
 {
     match Archive::open(alloc, disk, Settings { limit: 0 }) {
         Ok(archive) => {
@@ -67,14 +73,26 @@ fn tell_archive<D: Disk, O: Output>(
     sees_images: bool,
     output: &mut O,
 ) -> Result<(), CheckFault>
-    ensures only { IsReadEnd result }
+    requires runs { archive.old.stopped ≡ false }
+    ensures told { ToldOf D.Disk archive.old sees_images (O.taken output.old) (O.taken output.new) (O.failures output.old) (O.failures output.new) result archive.new }
     ensures quiet { OnlyReads D.Disk archive.old.disk archive.new.disk }
 {
     let mut reply = Reply::new(output);
     let told = tell_holdings(archive, sees_images, &mut reply);
-    let Ok(()) = reply.finish() else {
+    let sent = reply.finish();
+    check_end(sent, told)
+}
+
+// The answer, by whether all of the text was written and what it ended with.
+fn check_end(
+    sent: Result<(), StreamFault>,
+    told: Result<(), ArchiveFault>,
+) -> Result<(), CheckFault>
+    ensures { result ≡ check_end sent told }
+{
+    if sent.is_err() {
         return Err(CheckFault::Output);
-    };
+    }
     match told {
         Ok(()) => Ok(()),
         Err(fault) => Err(CheckFault::Archive(fault)),
@@ -86,17 +104,37 @@ fn tell_holdings<D: Disk, O: Output>(
     sees_images: bool,
     reply: &mut Reply<'_, O>,
 ) -> Result<(), ArchiveFault>
+    requires runs { archive.old.stopped ≡ false }
+    ensures tells { TellsReply (telling O.Output reply.old reply.new) (λ text. TellsHoldings D.Disk archive.old sees_images text result archive.new) }
     ensures quiet { OnlyReads D.Disk archive.old.disk archive.new.disk }
 {
     let version = archive.version()?;
     let count = archive.cases()?.len();
     let space = archive.free_blocks()?;
     tell_facts(reply, version, count as u64, space);
-    if sees_images {
-        tell_images(archive, count, reply)?;
+    if let Err(fault) = tell_seen(archive, sees_images, count, reply) {
+        return Err(fault);
     }
     reply.tell(b"sound\n");
     Ok(())
+}
+
+// Tells of the images, if they are asked for.
+fn tell_seen<D: Disk, O: Output>(
+    archive: &mut Archive<D>,
+    sees_images: bool,
+    count: usize,
+    reply: &mut Reply<'_, O>,
+) -> Result<(), ArchiveFault>
+    requires runs { archive.old.stopped ≡ false }
+    requires all { count ≡ length (state_of archive.old).cases }
+    ensures tells { TellsReply (telling O.Output reply.old reply.new) (λ text. TellsImages D.Disk archive.old (cases_seen (state_of archive.old) sees_images) text result archive.new) }
+    ensures quiet { OnlyReads D.Disk archive.old.disk archive.new.disk }
+{
+    if !sees_images {
+        return Ok(());
+    }
+    tell_images(archive, count, reply)
 }
 
 // Tells of the image of each case, in the order of their numbers.
@@ -105,6 +143,9 @@ fn tell_images<D: Disk, O: Output>(
     count: usize,
     reply: &mut Reply<'_, O>,
 ) -> Result<(), ArchiveFault>
+    requires runs { archive.old.stopped ≡ false }
+    requires all { count ≡ length (state_of archive.old).cases }
+    ensures tells { TellsReply (telling O.Output reply.old reply.new) (λ text. TellsImages D.Disk archive.old (state_of archive.old).cases text result archive.new) }
     ensures quiet { OnlyReads D.Disk archive.old.disk archive.new.disk }
 {
     for place in 0..count {
@@ -119,6 +160,11 @@ fn see_image<D: Disk, O: Output>(
     place: usize,
     reply: &mut Reply<'_, O>,
 ) -> Result<(), ArchiveFault>
+    requires runs { archive.old.stopped ≡ false }
+    ensures tells { (c : Case) → slice_get (state_of archive.old).cases place ≡ Some c
+        → TellsReply (telling O.Output reply.old reply.new) (λ text. TellsImage D.Disk archive.old c text result archive.new) }
+    ensures runs { OnOk result (archive.new.stopped ≡ false) }
+    ensures state { OnOk result (state_of archive.new ≡ state_of archive.old) }
     ensures quiet { OnlyReads D.Disk archive.old.disk archive.new.disk }
 {
     let Some((seq, kind)) = case_at(archive, place)? else {
@@ -130,10 +176,10 @@ fn see_image<D: Disk, O: Output>(
 }
 
 // The number and the kind of the case at a place of the list.
-fn case_at<D: Disk>(
-    archive: &Archive<D>,
-    place: usize,
-) -> Result<Option<(u32, Kind)>, ArchiveFault> {
+fn case_at<D: Disk>(archive: &Archive<D>, place: usize) -> Result<Option<(u32, Kind)>, ArchiveFault>
+    requires { archive.now.stopped ≡ false }
+    ensures { result ≡ Ok (option_map case_words (slice_get (state_of archive.now).cases place)) }
+{
     match archive.cases()?.get(place) {
         Some(entry) => Ok(Some((entry.seq, entry.kind))),
         None => Ok(None),
@@ -142,6 +188,7 @@ fn case_at<D: Disk>(
 
 // Tells where the first faulty field is, if there is one.
 fn tell_damage<D: Disk, O: Output>(disk: &mut D, fault: OpenFault, output: &mut O)
+    ensures told { (text : List ℕ) × (sent : Result (Unit {0}) StreamFault) × IsDamageLine fault text × IsDelivered (O.taken output.old) (O.failures output.old) (O.taken output.new) (O.failures output.new) text sent }
     ensures quiet { OnlyReads D.Disk disk.old disk.new }
 {
     let OpenFault::Damaged { at, .. } = fault else {
