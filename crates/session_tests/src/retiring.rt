@@ -86,6 +86,7 @@ fn stores<D: Disk + Drop>(rt: &(impl AllocGlobal + Abort), disk: D, row: &Row) -
         label: None,
         pin: false,
         fit: false,
+        cut: None,
         burst: None,
     };
     let (text, outcome, disk) = stored(rt.alloc(), disk, row, &options)?;
@@ -328,6 +329,7 @@ fn stores_labelled<D: Disk + Drop>(
         label,
         pin: false,
         fit: false,
+        cut: None,
         burst: None,
     };
     let (text, outcome, disk) = stored(rt.alloc(), disk, row, &options)?;
@@ -368,6 +370,7 @@ fn stores_pinned<D: Disk + Drop>(
         label: None,
         pin: true,
         fit: false,
+        cut: None,
         burst: None,
     };
     let (text, outcome, disk) = stored(rt.alloc(), disk, row, &options)?;
@@ -422,6 +425,7 @@ fn stores_fitting<D: Disk + Drop>(
         label: None,
         pin: false,
         fit: true,
+        cut: None,
         burst: None,
     };
     let (text, outcome, disk) = stored(rt.alloc(), disk, row, &options)?;
