@@ -27,7 +27,7 @@ use Rattle.inspector_cli.specs.Storing.{LooksOn, TakesMore, AfterRoom, MakesRoom
 use Rattle.inspector_cli.proofs.SlotLemmas.{at_set}
 
 -- the first of these entries that is so, as a case
-find_mapped : (p : Case → Bool) (es : List Entry) → find p (map case_of es) ≡ option_map case_of (find (λ (e : Entry). p (case_of e)) es)
+pub find_mapped : (p : Case → Bool) (es : List Entry) → find p (map case_of es) ≡ option_map case_of (find (λ (e : Entry). p (case_of e)) es)
 find_mapped p [] = refl
 find_mapped p (e ∷ es) = elim (p (case_of e)) as (λ t. cond t (Some (case_of e)) (find p (map case_of es)) ≡ option_map case_of (cond t (Some e) (find (λ (x : Entry). p (case_of x)) es))) [ true ↦ refl | false ↦ find_mapped p es ]
 

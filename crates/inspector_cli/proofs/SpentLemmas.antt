@@ -26,7 +26,7 @@ use Rattle.inspector_cli.specs.declared.fitting.Need.{Need}
 use Rattle.inspector_cli.specs.declared.fitting.Need.TheVariants.{Block, Record}
 use Rattle.inspector_cli.specs.declared.store.TakeStop.{TakeStop}
 use Rattle.inspector_cli.specs.declared.store.TakeStop.TheVariants.{File, Refused, Cut}
-use Rattle.inspector_cli.specs.Fitting.{IsNext, NoneMayGo, IsSpent, RefusedIfSpent, FillsWhole, IsServed, HasMadeRoom, FitsPart, Advances, AdvancesBy, IsUncut, ServesOn, DropsOne, DropsAll, FillsServed}
+use Rattle.inspector_cli.specs.Fitting.{IsNext, NoneMayGo, IsSpent, RefusedIfSpent, FillsWhole, IsServed, HasMadeRoom, FitsPart, Advances, AdvancesBy, ServesOn, DropsOne, DropsAll, FillsServed}
 use Rattle.inspector_cli.proofs.RoomLemmas.{states_agree}
 use Rattle.inspector_cli.proofs.SlotLemmas.{at_mapped, at_set, sum_set}
 
@@ -215,11 +215,6 @@ pub stop_as : (A : Type 0) (B : Type 0) (s : ArchiveState) (stop : TakeStop) →
 stop_as A B s File step = tt
 stop_as A B s (Cut kept) step = step
 stop_as A B s (Refused f) step = step
-
-pub stop_filled : (s : ArchiveState) (stop : TakeStop) → IsUncut {A = Unit {0}} (Err stop) → ServesOn {A = Unit {0}} (Err stop) s → FillsServed (Err stop) s
-stop_filled s File uncut step = tt
-stop_filled s (Refused f) uncut step = step
-stop_filled s (Cut kept) uncut step = absurd uncut
 
 -- room for the record
 pub record_serves : (s s' : ArchiveState) (r : Result (Unit {0}) TakeStop) → IsServed s → DropsAll Record s r s' → FillsServed r s'

@@ -4,7 +4,7 @@ use Rattle.std.proofs.lemmas.List.{append-nil, length-map}
 use Rattle.std.proofs.KnownBytes.{Consumes-trans}
 use Rattle.std.specs.Io.KnownBytes.{Consumes}
 use Rattle.std.specs.List.{flat_map}
-use Rattle.std.proofs.lemmas.Bool.{true≢false, false≢true}
+use Rattle.std.proofs.lemmas.Bool.{true≢false}
 use Rattle.std.specs.Prelude.{slice_set, option_map}
 use Rattle.intake.specs.declared.faults.ArchiveFault.{ArchiveFault}
 use Rattle.intake.specs.Slots.{stream_at}
@@ -21,7 +21,7 @@ use Rattle.script_streams.specs.Telling.{Sink, Told, IsDelivered}
 use Rattle.script_streams.specs.declared.streams.StreamFault.{StreamFault}
 use Rattle.script_lines.specs.Said.{silence, end_of}
 use Rattle.archive_replies.specs.Texts.{plain_reply}
-use Rattle.inspector_cli.specs.Fitting.{CutsBehind, CutsWell, FillsWhole, Going, IsServed, IsShort, IsUncut, TakesWhile, cut_of, going_text}
+use Rattle.inspector_cli.specs.Fitting.{CutsBehind, CutsWell, FillsWhole, Going, IsServed, IsShort, IsUncut, TakesWhile, going_text}
 use Rattle.inspector_cli.proofs.SpentLemmas.{silence_unspent}
 use Rattle.inspector_cli.proofs.FitLemmas.{texts_more, either}
 use Rattle.intake.specs.Marks.{Mark, IsRunOfMarks, Passes}
@@ -38,7 +38,7 @@ use Rattle.inspector_cli.specs.declared.store.TakeStop.TheVariants.{File, Refuse
 use Rattle.script_streams.specs.Replies.{Telling, TellsReply, TellsText}
 use Rattle.inspector_cli.specs.Stages.{Stage, mark_at, marks_of}
 use Rattle.inspector_cli.specs.Session.{Streams}
-use Rattle.inspector_cli.specs.Storing.{FillsAll, FillsFile, TakesFile, TakesNext, TakesAll, MakesRoom, FillsAndEnds, GoneStages, FileReplies, RestReplies, StoresStream, RetiresFirst, RetiresForStream, PinsCase, LabelsCase, Options, Stores, retire_line, said_pin, said_label, StoreStages, StoreEnds}
+use Rattle.inspector_cli.specs.Storing.{FillsAll, FillsFile, TakesNext, TakesAll, MakesRoom, FillsAndEnds, GoneStages, FileReplies, RestReplies, StoresStream, RetiresFirst, RetiresForStream, PinsCase, LabelsCase, Options, Stores, retire_line, said_pin, said_label, StoreStages, StoreEnds}
 use Rattle.intake.specs.StayLaws.{stays_none, stays_as, stays_then}
 use Rattle.inspector_cli.proofs.StageLemmas.{Laws, Reaches, stage_of, ends_moves, deletes_moves, pins_moves, labels_moves, retires_moves, still, begins_stays}
 use Rattle.script_streams.specs.TellLaws.{tells_as, tells_then}

@@ -15,7 +15,7 @@ use script_streams::{Input, Output, Reply};
 
 // Makes the stream in slot 0 a case, of a file that was cut behind these bytes. Says its number, where it is stored: then the cut is told
 // before that.
-pub(crate) fn answer_cut<O: Output, D: Disk>(
+pub(crate) fn answer_front<O: Output, D: Disk>(
     kept: u64,
     reply: &mut Reply<'_, O>,
     archive: &mut Archive<D>,
@@ -23,12 +23,17 @@ pub(crate) fn answer_cut<O: Output, D: Disk>(
     ensures { TellsReply (telling O.Output reply.old reply.new) (λ text. (rest : List ℕ) × (text ≡ cut_text (Some kept) result ++ rest) × Ends D.Disk archive.old 0 rest archive.new result) }
 {
     let outcome = archive.finish(0);
-    if outcome.is_ok() {
-        tell_cut(reply, kept);
+    match outcome {
+        Ok(seq) => {
+            tell_cut(reply, kept);
+            tell_stored(reply, outcome);
+            Some(seq)
+        }
+        Err(_) => {
+            tell_stored(reply, outcome);
+            None
+        }
     }
-    let stored = outcome.ok();
-    tell_stored(reply, outcome);
-    stored
 }
 
 // Tells how many bytes of a file are kept.

@@ -14,7 +14,7 @@ use crate::answers::{answer_end, answer_label, answer_pin};
 use crate::begin::answer_begin;
 use crate::burst::admitted;
 use crate::fitting::{Need, lacks_block, make_room};
-use crate::front::{answer_cut, take_front};
+use crate::front::{answer_front, take_front};
 use crate::retiring::retire_first;
 use crate::session::{SessionFault, StoreOptions, StoreOutcome};
 use archive_replies::reason;
@@ -198,7 +198,7 @@ fn answer_file<I: Input, O: Output, D: Disk>(
 {
     match fill_stream(fit, cut, file, reply, archive) {
         Ok(()) => answer_end(0, reply, archive),
-        Err(TakeStop::Cut(kept)) => answer_cut(kept, reply, archive),
+        Err(TakeStop::Cut(kept)) => answer_front(kept, reply, archive),
         Err(TakeStop::File) => {
             tell_no(reply, b"File");
             None
@@ -224,11 +224,10 @@ fn fill_stream<I: Input, O: Output, D: Disk>(
         archive.old (telling O.Output reply.old reply.new) archive.new result }
     ensures served { fit ≡ true → IsServed (state_of archive.old) → FillsServed result (state_of archive.new) }
 {
-    let taken = take_asked(fit, cut, file, reply, archive);
     if !fit {
-        return taken;
+        return take_asked(fit, cut, file, reply, archive);
     }
-    match taken {
+    match take_asked(fit, cut, file, reply, archive) {
         Ok(()) => make_room(Need::Record, reply, archive),
         Err(TakeStop::Cut(kept)) => {
             make_room(Need::Record, reply, archive)?;

@@ -3,7 +3,6 @@ use Rattle.std.specs.List.{flat_map}
 use Rattle.std.specs.Prelude.{codes}
 use Rattle.inspector_cli.specs.declared.store.TakeStop.TheVariants.{File, Refused, Cut}
 use Rattle.inspector_cli.specs.Fitting.{going_text}
-use Rattle.inspector_cli.specs.Storing.{cut_text}
 use Rattle.intake.specs.Parts.{state_of}
 use Rattle.script_streams.specs.Replies.{no_reply}
 use Rattle.archive_replies.specs.Reasons.{reason_of}
@@ -59,7 +58,7 @@ returns-in-Ok g c =
 pub returns-in-Err-Cut : goal.returns-in-Err-Cut
 returns-in-Err-Cut g c =
     let t = rw c.in-Err-Cut.field-0-is at c.in-Err-Cut.ensures.all in
-    let a = c.answer_cut.ensures in (
+    let a = c.answer_front.ensures in (
       flat_map going_text t.0 ++ a.0,
       (
         t.0,
@@ -70,7 +69,7 @@ returns-in-Err-Cut g c =
         t.3,
         (Err (Cut c.in-Err-Cut.kept), t.2, a.1.2, refl),
         λ fits was. (let s = rw c.in-Err-Cut.field-0-is at (c.in-Err-Cut.ensures.served fits was) in let e = a.1.2 in
-            rw e.2 (ended_spent (state_of c.fill_stream.new.archive) (state_of c.answer_cut.new.archive) e.0 s.0 s.1 e.1.step)),
+            rw e.2 (ended_spent (state_of c.fill_stream.new.archive) (state_of c.answer_front.new.archive) e.0 s.0 s.1 e.1.step)),
         t.4,
       ),
       tells_then t.1 a.2,
