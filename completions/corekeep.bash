@@ -25,7 +25,7 @@ _corekeep() {
     case ${COMP_WORDS[1]} in
     format) options="--half --data --sparse --layout --help" ;;
     run) options="--no-wait $session --help" ;;
-    store) options="--exec --pin --label --escape --keep --bytes --before --fit --log --no-wait $session --help" ;;
+    store) options="--exec --pin --label --escape --keep --bytes --before --fit --cut --log --no-wait $session --help" ;;
     handle) options="--check --archive --help" ;;
     list | ask | look | extract) options="--no-wait --help" ;;
     check) options="--images --no-wait --help" ;;

@@ -93,7 +93,7 @@ fn fitted_to(request: StoreRequest, file: &File) -> StoreRequest
     ensures { IsFitted request result }
 {
     let is_refused = match file.metadata() {
-        Ok(attributes) => attributes.is_file() && attributes.len() > request.limit(),
+        Ok(attributes) => attributes.is_file() && request.is_too_long(attributes.len()),
         Err(_) => false,
     };
     if is_refused {

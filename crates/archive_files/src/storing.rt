@@ -106,12 +106,17 @@ impl StoreRequest {
         }
     }
 
-    // Nothing is retired where the first bytes of the file can't be read, or are more than an image may have.
+    // A stream of so many bytes is refused for its length. None is that may be cut.
+    pub(crate) fn is_too_long(&self, size: u64) -> bool {
+        self.options.cut.is_none() && size > self.limit
+    }
+
+    // Nothing is retired where the first bytes of the file can't be read, or are more than an image may have and are not to be cut.
     fn fitted<I: BufRead>(self, file: &mut I) -> Self
         ensures fitted { IsFitted self result }
         ensures same { Keeps (I.remaining file.old) (I.remaining file.new) }
     {
-        if self.policy.is_none() || begins_well(file, self.limit) {
+        if self.policy.is_none() || begins_well(&self, file) {
             self
         } else {
             self.without_retiring()
@@ -119,12 +124,12 @@ impl StoreRequest {
     }
 }
 
-// Whether a reader's first bytes can be read, and are no more than an image may have.
-fn begins_well<I: BufRead>(input: &mut I, limit: u64) -> bool
+// Whether a reader's first bytes can be read, and are no more than an image may have, or may be cut.
+fn begins_well<I: BufRead>(request: &StoreRequest, input: &mut I) -> bool
     ensures { Keeps (I.remaining input.old) (I.remaining input.new) }
 {
     match input.fill_buf() {
-        Ok(first) => first.len() as u64 <= limit,
+        Ok(first) => !request.is_too_long(first.len() as u64),
         Err(_) => false,
     }
 }

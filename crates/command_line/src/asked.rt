@@ -116,6 +116,7 @@ pub(crate) fn read_words<'a>(alloc: Global, words: &'a [String]) -> Result<Asked
                     label: label_of(alloc, found)?,
                     pin: found.get_flag("pin"),
                     fit: found.get_flag("fit"),
+                    cut: cut_of(found),
                     burst: None,
                 },
             },
@@ -211,6 +212,15 @@ fn settings_of<'a>(found: &ArgMatches<'a>) -> Result<SessionWords<'a>, Refusal> 
         uses_pid: found.get_flag("uses-pid"),
         limit: found.get_one::<u64>("limit").unwrap_or(0),
     })
+}
+
+// The most bytes that are kept of a file that has more: those of the limit, if it may be cut.
+fn cut_of(found: &ArgMatches<'_>) -> Option<u64> {
+    if found.get_flag("cut") {
+        Some(found.get_one::<u64>("limit").unwrap_or(0))
+    } else {
+        None
+    }
 }
 
 // The line of a script that begins the stream: of an executable where it has a name, else of a core with its pairs. A

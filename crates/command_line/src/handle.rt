@@ -158,6 +158,7 @@ impl<'a> Handler<'a> {
             template,
             uses_pid: self.config.uses_pid,
         };
+        let limit = self.config.limit.unwrap_or(HANDLER_LIMIT);
         let words = StoreWords {
             policy: self.policy(rt),
             begin: begin.clone()?,
@@ -165,10 +166,10 @@ impl<'a> Handler<'a> {
                 label: self.label(rt),
                 pin: false,
                 fit: self.config.fit,
+                cut: if self.config.cut { Some(limit) } else { None },
                 burst: None,
             },
         };
-        let limit = self.config.limit.unwrap_or(HANDLER_LIMIT);
         Ok(StoreRequest::of(words, &naming, limit))
     }
 

@@ -9,6 +9,8 @@ use std::alloc::Global;
 pub(crate) struct Outcome<'a> {
     // The name of the case, printed.
     pub(crate) name: &'a [u8],
+    // How many bytes are kept, printed, if the core was cut.
+    pub(crate) cut: Option<&'a [u8]>,
     // The number of the case, printed, if it is stored.
     pub(crate) stored: Option<&'a [u8]>,
     // The last reason for which a step was refused.
@@ -24,6 +26,7 @@ fn after<'a>(line: &'a [u8], word: &[u8]) -> Option<&'a [u8]> {
 pub(crate) fn outcome_of(replies: &[u8]) -> Outcome<'_> {
     let mut outcome = Outcome {
         name: b"a core",
+        cut: None,
         stored: None,
         refused: b"",
     };
@@ -37,6 +40,9 @@ fn with_line<'a>(outcome: Outcome<'a>, line: &'a [u8]) -> Outcome<'a> {
     let mut outcome = outcome;
     if let Some(name) = after(line, b"name ") {
         outcome.name = name;
+    }
+    if let Some(kept) = after(line, b"cut ") {
+        outcome.cut = Some(kept);
     }
     if let Some(number) = after(line, b"stored ") {
         outcome.stored = Some(number);
@@ -69,10 +75,18 @@ pub(crate) fn stored_line(
 ) -> Collected {
     let mut line = Collected::new(alloc);
     let mut reply = Reply::new(&mut line);
+    let outcome = outcome_of(replies);
+    if let Some(kept) = outcome.cut {
+        reply.tell(b"cut ");
+        reply.tell(outcome.name);
+        reply.tell(b" at ");
+        reply.tell(kept);
+        reply.tell(b": ");
+    }
     reply.tell(b"stored ");
     reply.tell(number);
     reply.tell(b" ");
-    reply.tell(outcome_of(replies).name);
+    reply.tell(outcome.name);
     reply.tell(details);
     reply.tell(b" in ");
     reply.tell_text(archive.as_bytes());

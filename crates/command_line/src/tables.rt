@@ -65,8 +65,8 @@ pub(crate) static COMMANDS: [CommandWords; 9] = [
         about: "stores a core file as a case of an archive, named by the template, or an executable",
         after_help: None,
         words: &[
-            ARCHIVE, FILE, PAIRS, EXEC, PIN, LABEL, ESCAPE, KEEP, BYTES, BEFORE, FIT, NO_WAIT,
-            TEMPLATE, USES_PID, LIMIT, LOG,
+            ARCHIVE, FILE, PAIRS, EXEC, PIN, LABEL, ESCAPE, KEEP, BYTES, BEFORE, FIT, CUT,
+            NO_WAIT, TEMPLATE, USES_PID, LIMIT, LOG,
         ],
     },
     CommandWords {
@@ -323,6 +323,15 @@ const FIT: Word = Word {
     takes: Takes::Flag,
     default: None,
     help: "deletes the oldest cores while FILE is stored, pinned ones aside, as often as it finds no room; executables go once no core is left",
+};
+
+// Whether what is too large is cut.
+const CUT: Word = Word {
+    id: "cut",
+    shown: "",
+    takes: Takes::Flag,
+    default: None,
+    help: "keeps the first bytes of FILE, if it has more than the limit or finds no room",
 };
 
 // The words of a line.

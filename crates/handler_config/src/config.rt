@@ -20,6 +20,8 @@ pub struct Config<'t> {
     pub limit: Option<u64>,
     /// Cases go so that a core finds room, the oldest cores first.
     pub fit: bool,
+    /// A core that has more bytes than the limit, or finds no room, is cut.
+    pub cut: bool,
     /// How cores are named, a template of core(5).
     pub template: Option<&'t str>,
     /// Names get a dot and the process if their template has no `%p`.
@@ -44,6 +46,7 @@ impl<'t> Config<'t> {
             before: age_at(document, "before"),
             limit: natural_at(document, "limit"),
             fit: flag_at(document, "fit"),
+            cut: flag_at(document, "cut"),
             template: text_at(document, "template"),
             uses_pid: flag_at(document, "uses-pid"),
             no_wait: flag_at(document, "no-wait"),

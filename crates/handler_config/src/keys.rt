@@ -21,6 +21,8 @@ pub enum Key {
     Limit,
     /// Cases go so that a core finds room, the oldest cores first: true or false.
     Fit,
+    /// A core that is too large, or finds no room, is cut: true or false.
+    Cut,
     /// How cores are named, a template of core(5): a text.
     Template,
     /// Names get a dot and the process if their template has no `%p`: true or false.
@@ -59,6 +61,7 @@ fn key_of(word: &str) -> Option<Key>
         "before" => Some(Key::Before),
         "limit" => Some(Key::Limit),
         "fit" => Some(Key::Fit),
+        "cut" => Some(Key::Cut),
         "template" => Some(Key::Template),
         "uses-pid" => Some(Key::UsesPid),
         "no-wait" => Some(Key::NoWait),
@@ -90,7 +93,7 @@ pub fn entry_fault(word: &str, value: &Value) -> Option<Fault>
             unless_there(Fault::NotNumber, natural_in(value).is_some())
         }
         Key::Before => unless_there(Fault::NotAge, age_in(value).is_some()),
-        Key::Fit | Key::UsesPid | Key::NoWait => {
+        Key::Fit | Key::Cut | Key::UsesPid | Key::NoWait => {
             unless_there(Fault::NotFlag, value.as_bool().is_some())
         }
     }

@@ -3,6 +3,7 @@ use Rattle.std.proofs.Common.{◌≡◌, ℕ, zero, suc, ◌≤◌, Bool, true, 
 use Rattle.std.proofs.lemmas.List.{append-nil}
 use Rattle.std.proofs.lemmas.Bool.{true≢false}
 use Rattle.std.specs.List.{find, flat_map}
+use Rattle.std.specs.Io.KnownBytes.{Consumes}
 use Rattle.std.specs.Prelude.{slice_set, map, option_map, IsTrue}
 use Rattle.journal_layout.specs.Case.{Case, case_of}
 use Rattle.journal_layout.specs.declared.entry.Entry.{Entry}
@@ -19,14 +20,14 @@ use Rattle.script_streams.specs.Replies.{TellsText}
 use Rattle.script_streams.specs.Telling.{Sink}
 use Rattle.script_streams.specs.TellLaws.{tells_then, tells_as, tells_nothing}
 use Rattle.inspector_cli.specs.declared.store.TakeStop.{TakeStop}
-use Rattle.inspector_cli.specs.declared.store.TakeStop.TheVariants.{File, Refused}
+use Rattle.inspector_cli.specs.declared.store.TakeStop.TheVariants.{File, Refused, Cut}
 use Rattle.inspector_cli.specs.Reply.{TakeStep, TakeBytes, Takes}
 use Rattle.inspector_cli.specs.Fitting.{Going, IsGoing, IsNext, GoesOn, TakesWhile, going_text, goes, goes_first, may_go, may_go_first, next_to_go, or_else}
-use Rattle.inspector_cli.specs.Storing.{TakesMore, AfterRoom, MakesRoom, GoesNext, TakesNext}
+use Rattle.inspector_cli.specs.Storing.{LooksOn, TakesMore, AfterRoom, MakesRoom, GoesNext, TakesNext}
 use Rattle.inspector_cli.proofs.SlotLemmas.{at_set}
 
 -- the first of these entries that is so, as a case
-find_mapped : (p : Case → Bool) (es : List Entry) → find p (map case_of es) ≡ option_map case_of (find (λ (e : Entry). p (case_of e)) es)
+pub find_mapped : (p : Case → Bool) (es : List Entry) → find p (map case_of es) ≡ option_map case_of (find (λ (e : Entry). p (case_of e)) es)
 find_mapped p [] = refl
 find_mapped p (e ∷ es) = elim (p (case_of e)) as (λ t. cond t (Some (case_of e)) (find p (map case_of es)) ≡ option_map case_of (cond t (Some e) (find (λ (x : Entry). p (case_of x)) es))) [ true ↦ refl | false ↦ find_mapped p es ]
 
@@ -76,11 +77,18 @@ either (Ok u) v ws rest after new T R goes f h = f goes
 either (Err e) v ws rest after new T R goes f h = h goes.0 goes.3
 
 module _ (file file' : Option (List ℕ)) (fails fails' : ℕ) (T T' : List ℕ → Result (Unit {0}) ArchiveFault → Type 0) (front rest : List ℕ) (more : (x : List ℕ) (v : Result (Unit {0}) ArchiveFault) → T x v → T' (front ++ x) v) where
-  map_more : (result : Result Bool TakeStop) → TakesMore file file' fails fails' rest T result → TakesMore file file' fails fails' (front ++ rest) T' result
-  map_more (Ok true) (raw, c, some, same, t) = (raw, c, some, same, subst (λ (x : List ℕ). T' x (Ok tt)) (sym (append_assoc front rest raw)) (more (rest ++ raw) (Ok tt) t))
-  map_more (Ok false) (c, ends, same, t) = (c, ends, same, more rest (Ok tt) t)
+  map_more : (result : Result ℕ TakeStop) → TakesMore file file' fails fails' rest T result → TakesMore file file' fails fails' (front ++ rest) T' result
+  map_more (Ok (suc n)) (raw, c, some, same, t) = (raw, c, some, same, subst (λ (x : List ℕ). T' x (Ok tt)) (sym (append_assoc front rest raw)) (more (rest ++ raw) (Ok tt) t))
+  map_more (Ok zero) (c, ends, same, t) = (c, ends, same, more rest (Ok tt) t)
   map_more (Err File) (c, rose, t) = (c, rose, more rest (Ok tt) t)
   map_more (Err (Refused f)) (raw, c, same, t) = (raw, c, same, subst (λ (x : List ℕ). T' x (Err f)) (sym (append_assoc front rest raw)) (more (rest ++ raw) (Err f) t))
+  map_more (Err (Cut kept)) (raw, c, some, same, t) = (raw, c, some, same, more rest (Ok tt) t)
+
+-- some bytes are taken
+pub took_some : (file file' : Option (List ℕ)) (fails fails' : ℕ) (so_far : List ℕ) (T : List ℕ → Result (Unit {0}) ArchiveFault → Type 0) (n : ℕ) → (n ≡ 0 → ⊥)
+    → (raw : List ℕ) × Consumes file file' raw × (length raw ≡ n) × (fails' ≡ fails) × T (so_far ++ raw) (Ok tt) → TakesMore file file' fails fails' so_far T (Ok n)
+took_some file file' fails fails' so_far T zero some t = absurd (some refl)
+took_some file file' fails fails' so_far T (suc n) some t = t
 
 module _ {D : Type 0} (g : disk.Ghosts D) where
   -- the last bytes, which were taken since the last case went
@@ -89,7 +97,7 @@ module _ {D : Type 0} (g : disk.Ghosts D) where
   last_takes (w ∷ ws) old mid raw takes = last_takes ws w.after mid takes.1 (on w.answer ws takes.1 w.after mid (TakesWhile g w.after takes.1 ws (Ok tt) mid) takes.5)
 
   -- a step of the stream alone is one while cases go
-  pub lift_more : (file file' : Option (List ℕ)) (fails fails' : ℕ) (gone : List (Going D)) (old mid new : Parts D) (raw : List ℕ) (result : Result Bool TakeStop) → TakesWhile g old raw gone (Ok tt) mid
+  pub lift_more : (file file' : Option (List ℕ)) (fails fails' : ℕ) (gone : List (Going D)) (old mid new : Parts D) (raw : List ℕ) (result : Result ℕ TakeStop) → TakesWhile g old raw gone (Ok tt) mid
       → ((begun : Parts D) (so_far : List ℕ) → Takes g begun 0 so_far (Ok tt) mid → TakesMore file file' fails fails' so_far (λ x v. Takes g begun 0 x v new) result)
       → TakesMore file file' fails fails' raw (λ x v. TakesWhile g old x gone v new) result
   lift_more file file' fails fails' [] old mid new raw result takes step = step old raw takes
@@ -177,9 +185,9 @@ module _ {D : Type 0} (g : disk.Ghosts D) (begun before after : Parts D) (so_far
   }
 
 -- the answer after the byte, where room was made or was not
-abbrev pub first_then : Result (Unit {0}) TakeStop → Result Bool TakeStop
-first_then (Ok u) = Ok true
-first_then (Err stop) = Err stop
+abbrev pub first_then : ℕ → Result (Unit {0}) TakeStop → Result ℕ TakeStop
+first_then n (Ok u) = Ok n
+first_then n (Err stop) = Err stop
 
 pub texts_more : {D : Type 0} (xs ys : List (Going D)) → flat_map going_text (xs ++ ys) ≡ flat_map going_text xs ++ flat_map going_text ys
 texts_more [] ys = refl
@@ -213,35 +221,49 @@ module _ {D : Type 0} (g : disk.Ghosts D) (begun : Parts D) (so_far : List ℕ) 
 
 -- what is taken next
 module _ {D : Type 0} (g : disk.Ghosts D) (file file' : Option (List ℕ)) (fails fails' : ℕ) (begun old mid new : Parts D) (so_far : List ℕ) (gone : List (Going D)) (fit : Bool) where
-  more_as : (xs ys : List (Going D)) (a : Parts D) → xs ≡ ys → (x : List ℕ) (r : Result Bool TakeStop) → TakesMore file file' fails fails' x (λ y v. TakesWhile g begun y xs v a) r → TakesMore file file' fails fails' x (λ y v. TakesWhile g begun y ys v a) r
+  more_as : (xs ys : List (Going D)) (a : Parts D) → xs ≡ ys → (x : List ℕ) (r : Result ℕ TakeStop) → TakesMore file file' fails fails' x (λ y v. TakesWhile g begun y xs v a) r → TakesMore file file' fails fails' x (λ y v. TakesWhile g begun y ys v a) r
   more_as xs ys a is x r t = subst (λ (l : List (Going D)). TakesMore file file' fails fails' x (λ y v. TakesWhile g begun y l v a) r) is t
 
   -- nothing goes
-  pub next_alone : (a : Sink) (r : Result Bool TakeStop) → TakesWhile g begun so_far gone (Ok tt) old
+  pub next_alone : (a : Sink) (r : Result ℕ TakeStop) → TakesWhile g begun so_far gone (Ok tt) old
       → ((b : Parts D) (x : List ℕ) → Takes g b 0 x (Ok tt) old → TakesMore file file' fails fails' x (λ y v. Takes g b 0 y v new) r)
       → TakesNext g file file' fails fails' begun so_far gone fit (record { before = a; after = a }) new r
   next_alone a r takes step =
       ([], tells_nothing, more_as gone (gone ++ []) new (sym (append-nil gone)) so_far r (lift_more g file file' fails fails' gone begun old new so_far r takes step), λ no. refl)
 
+  -- a look at whether more follow
+  looked : (taken : ℕ) (l : List (Going D)) → TakesWhile g begun so_far l (Ok tt) old → (r : Result ℕ TakeStop) → LooksOn file file' fails fails' taken r → TakesMore file file' fails fails' so_far (λ y v. TakesWhile g begun y l v old) r
+  looked taken l takes (Ok zero) (is, none, ends, same) = (none, ends, same, takes)
+  looked taken l takes (Ok (suc n)) (is, none, ends, same) = absurd (omega (arith, is))
+  looked taken l takes (Err File) (none, rose) = (none, rose, takes)
+  looked taken l takes (Err (Refused f)) look = absurd look
+  looked taken l takes (Err (Cut kept)) (is, raw, c, some, same) = (raw, c, some, same, takes)
+
+  pub look_next : (taken : ℕ) (a : Sink) (r : Result ℕ TakeStop) → TakesWhile g begun so_far gone (Ok tt) old → LooksOn file file' fails fails' taken r
+      → TakesNext g file file' fails fails' begun so_far gone fit (record { before = a; after = a }) old r
+  look_next taken a r takes look = ([], tells_nothing, looked taken (gone ++ []) (subst (λ (l : List (Going D)). TakesWhile g begun so_far l (Ok tt) old) (sym (append-nil gone)) takes) r look, λ no. refl)
+
   -- cases may go
-  pub next_as : (a b : Sink) (r : Result Bool TakeStop) → fit ≡ true → TakesNext g file file' fails fails' begun so_far gone true (record { before = a; after = b }) new r
+  pub next_as : (a b : Sink) (r : Result ℕ TakeStop) → fit ≡ true → TakesNext g file file' fails fails' begun so_far gone true (record { before = a; after = b }) new r
       → TakesNext g file file' fails fails' begun so_far gone fit (record { before = a; after = b }) new r
   next_as a b r is next = subst (λ (f : Bool). TakesNext g file file' fails fails' begun so_far gone f (record { before = a; after = b }) new r) (sym is) next
 
   -- one byte is taken, and then cases go
-  room_then_next : (a b : Sink) (r : Result (Unit {0}) TakeStop) (first : TakesMore file file' fails fails' so_far (λ y v. TakesWhile g begun y gone v mid) (Ok true))
-      → MakesRoom g begun (so_far ++ first.0) gone (record { before = a; after = b }) new r → TakesNext g file file' fails fails' begun so_far gone true (record { before = a; after = b }) new (first_then r)
-  room_then_next a b (Ok u) first room = (room.0, room.1, (first.0, first.1, first.2, first.3, room.2), λ no. absurd (true≢false no))
-  room_then_next a b (Err File) first room = absurd room.2
-  room_then_next a b (Err (Refused f)) first room = (room.0, room.1, (first.0, first.1, first.3, room.2), λ no. absurd (true≢false no))
+  room_then_next : (n : ℕ) (a b : Sink) (r : Result (Unit {0}) TakeStop) (first : TakesMore file file' fails fails' so_far (λ y v. TakesWhile g begun y gone v mid) (Ok (suc n)))
+      → MakesRoom g begun (so_far ++ first.0) gone (record { before = a; after = b }) new r → TakesNext g file file' fails fails' begun so_far gone true (record { before = a; after = b }) new (first_then (suc n) r)
+  room_then_next n a b (Ok u) first room = (room.0, room.1, (first.0, first.1, first.2, first.3, room.2), λ no. absurd (true≢false no))
+  room_then_next n a b (Err File) first room = absurd room.2
+  room_then_next n a b (Err (Cut kept)) first room = absurd room.2
+  room_then_next n a b (Err (Refused f)) first room = (room.0, room.1, (first.0, first.1, first.3, room.2), λ no. absurd (true≢false no))
 
-  pub next_then : (a b : Sink) (r : Result (Unit {0}) TakeStop) → TakesWhile g begun so_far gone (Ok tt) old
-      → ((x : Parts D) (s : List ℕ) → Takes g x 0 s (Ok tt) old → TakesMore file file' fails fails' s (λ y v. Takes g x 0 y v mid) (Ok true))
+  pub next_then : (n : ℕ) → (n ≡ 0 → ⊥) → (a b : Sink) (r : Result (Unit {0}) TakeStop) → TakesWhile g begun so_far gone (Ok tt) old
+      → ((x : Parts D) (s : List ℕ) → Takes g x 0 s (Ok tt) old → TakesMore file file' fails fails' s (λ y v. Takes g x 0 y v mid) (Ok n))
       → ((x : Parts D) (s : List ℕ) (l : List (Going D)) → TakesWhile g x s l (Ok tt) mid → MakesRoom g x s l (record { before = a; after = b }) new r)
-      → TakesNext g file file' fails fails' begun so_far gone true (record { before = a; after = b }) new (first_then r)
-  next_then a b r takes step room =
-      let first = lift_more g file file' fails fails' gone begun old mid so_far (Ok true) takes step in
-      room_then_next a b r first (room begun (so_far ++ first.0) gone first.4)
+      → TakesNext g file file' fails fails' begun so_far gone true (record { before = a; after = b }) new (first_then n r)
+  next_then zero some a b r takes step room = absurd (some refl)
+  next_then (suc n) some a b r takes step room =
+      let first = lift_more g file file' fails fails' gone begun old mid so_far (Ok (suc n)) takes step in
+      room_then_next n a b r first (room begun (so_far ++ first.0) gone first.4)
 
 module _ {D : Type 0} (g : disk.Ghosts D) (begun : Parts D) (so_far : List ℕ) (gone : List (Going D)) (a b c : Sink) (new : Parts D) where
   after_as : (xs ys : List (Going D)) → xs ≡ ys → (r : Result (Unit {0}) TakeStop) → AfterRoom (λ raw v. TakesWhile g begun raw xs v new) so_far r → AfterRoom (λ raw v. TakesWhile g begun raw ys v new) so_far r

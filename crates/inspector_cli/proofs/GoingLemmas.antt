@@ -1,9 +1,12 @@
 -- Which case goes next.
-use Rattle.std.proofs.Common.{◌≡◌, Bool, true, false, not, ◌&&◌, cond, List, [], ◌∷◌, ◌++◌, Option, Some, None, refl, sym, ap, ◌∙◌}
+use Rattle.std.proofs.Common.{◌≡◌, Bool, true, false, not, ◌&&◌, cond, List, [], ◌∷◌, ◌++◌, Option, Some, None, refl, sym, ap, subst, ◌∙◌}
 use Rattle.std.proofs.lemmas.Bool.{true≢false, false≢true}
 use Rattle.std.specs.List.{find, filter}
-use Rattle.journal_layout.specs.Case.{Case}
-use Rattle.inspector_cli.specs.Fitting.{is_core, may_go, may_go_first, or_else, TheFirstGoes, AllArePinned}
+use Rattle.std.specs.Prelude.{map, option_map, is_some}
+use Rattle.journal_layout.specs.Case.{Case, case_of}
+use Rattle.journal_layout.specs.declared.entry.Entry.{Entry}
+use Rattle.inspector_cli.specs.Fitting.{frees, is_core, may_free, may_go, may_go_first, or_else, TheFirstGoes, AllArePinned}
+use Rattle.inspector_cli.proofs.FitLemmas.{find_mapped}
 use Rattle.inspector_cli.proofs.SlotLemmas.{some_same}
 
 -- the first case that is so: it is so, and none before it is
@@ -39,7 +42,7 @@ none_step : (p : Case → Bool) (x : Case) (xs : List Case) (t : Bool) → p x �
 none_step p x xs true so is more = absurd (none_some x (sym is))
 none_step p x xs false never is more = ap (λ (b : Bool). cond b (x ∷ filter p xs) (filter p xs)) never ∙ more is
 
-found_none : (p : Case → Bool) (cases : List Case) → find p cases ≡ None → filter p cases ≡ []
+pub found_none : (p : Case → Bool) (cases : List Case) → find p cases ≡ None → filter p cases ≡ []
 found_none p [] is = refl
 found_none p (x ∷ xs) is = none_step p x xs (p x) refl is (λ e. found_none p xs e)
 
@@ -86,3 +89,9 @@ pinned_by cases None found is = found_none may_go cases is
 
 pub all_pinned : AllArePinned
 all_pinned cases is = pinned_by cases (find may_go_first cases) refl is
+
+-- where no entry is found that frees a block, no case may
+pub none_frees : {X : Type 0} (f : X → Entry) (es : List Entry) (cs : List Case) (o : Option X) (t : Bool) → t ≡ false → t ≡ is_some o → option_map f o ≡ find frees es → map case_of es ≡ cs → filter may_free cs ≡ []
+none_frees f es cs None t is some found same =
+    subst (λ (l : List Case). filter may_free l ≡ []) same (found_none may_free (map case_of es) (find_mapped may_free es ∙ ap (option_map case_of) (sym found)))
+none_frees f es cs (Some x) t is some found same = absurd (true≢false (sym some ∙ is))

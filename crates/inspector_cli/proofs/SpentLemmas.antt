@@ -25,7 +25,7 @@ use Rattle.archive_replies.specs.Texts.{end_reply}
 use Rattle.inspector_cli.specs.declared.fitting.Need.{Need}
 use Rattle.inspector_cli.specs.declared.fitting.Need.TheVariants.{Block, Record}
 use Rattle.inspector_cli.specs.declared.store.TakeStop.{TakeStop}
-use Rattle.inspector_cli.specs.declared.store.TakeStop.TheVariants.{File, Refused}
+use Rattle.inspector_cli.specs.declared.store.TakeStop.TheVariants.{File, Refused, Cut}
 use Rattle.inspector_cli.specs.Fitting.{IsNext, NoneMayGo, IsSpent, RefusedIfSpent, FillsWhole, IsServed, HasMadeRoom, FitsPart, Advances, AdvancesBy, ServesOn, DropsOne, DropsAll, FillsServed}
 use Rattle.inspector_cli.proofs.RoomLemmas.{states_agree}
 use Rattle.inspector_cli.proofs.SlotLemmas.{at_mapped, at_set, sum_set}
@@ -106,6 +106,7 @@ made_then need first s s' false is so_far step = (λ was. subst IsServed (sym st
 
 pub stuck_then : (need : Need) (first s s' : ArchiveState) (stop : TakeStop) → DropsOne need s (Err stop) s' → DropsAll need first (Err stop) s'
 stuck_then need first s s' File step = tt
+stuck_then need first s s' (Cut kept) step = step
 stuck_then need first s s' (Refused f) step = step
 
 -- room that was made for a block
@@ -124,15 +125,16 @@ fills_numbers : (len n used used' all : ℕ) → len % 4096 + n ≤ 4096 → use
 fills_numbers len n used used' all fits some full grown = omega arith
 
 -- bytes where a block is free
-pub free_serves : (most : ℕ) (s s' : ArchiveState) (r : Result Bool TakeStop) → (s.stopped ≡ false → blocks_in s < s.shape.data_blocks) → Advances most s r s' → ServesOn r s'
-free_serves most s s' (Ok true) some (n, few, fits, (x, may, never, blocks, is, fills)) =
+pub free_serves : (most : ℕ) (s s' : ArchiveState) (r : Result ℕ TakeStop) → (s.stopped ≡ false → blocks_in s < s.shape.data_blocks) → Advances most s r s' → ServesOn r s'
+free_serves most s s' (Ok (suc m)) some (n, few, fits, (x, may, never, blocks, is, fills)) =
     subst IsServed (sym is)
     (λ awake full.
     (let fit : x.len % 4096 + n ≤ 4096 = subst (λ (o : Option StreamFacts). FitsPart o n) may.1 fits in
     let e : (x.len + n) % 4096 ≡ 0 = fills_numbers x.len n (blocks_in s) (blocks_in (with_stream s 0 (Some (longer x n blocks)))) s.shape.data_blocks fit (some awake) full (used_then s x n blocks may.1) in
     inr (subst FillsWhole (sym (at_set s.streams 0 x (Some (longer x n blocks)) may.1)) e)))
-free_serves most s s' (Ok false) some is = subst IsServed (sym is) (λ awake full. let free = some awake in absurd (omega (arith, free, full)))
+free_serves most s s' (Ok zero) some is = subst IsServed (sym is) (λ awake full. let free = some awake in absurd (omega (arith, free, full)))
 free_serves most s s' (Err File) some is = tt
+free_serves most s s' (Err (Cut kept)) some step = absurd step
 free_serves most s s' (Err (Refused SpaceFull)) some (inl reply) = absurd reply
 free_serves most s s' (Err (Refused SpaceFull)) some (inr (n, few, fits, (x, may, full, is))) =
     let free = some may.0 in
@@ -156,6 +158,10 @@ advanced_by a lent ws n most m r s' few low fits step = (
   subst (λ (s : ArchiveState). AdvanceStep s 0 n r s') (states_agree a 0 lent ws) step,
 )
 
+pub advanced_some : (most : ℕ) (s s' : ArchiveState) (n : ℕ) → (n ≡ 0 → ⊥) → AdvancesBy most s (Ok tt) s' → Advances most s (Ok n) s'
+advanced_some most s s' zero some by = absurd (some refl)
+advanced_some most s s' (suc n) some by = by
+
 -- no more than was asked for is read
 pub read_few : (into room : List ℕ) (size most n : ℕ) → length into ≡ length (take size room) → size ≡ min (length room) most → n ≤ length into → n ≤ most
 read_few into room size most n same is few =
@@ -163,18 +169,20 @@ read_few into room size most n same is few =
     omega (arith, c, same, is, few)
 
 -- one byte, or none, where none is free; room is made after it
-abbrev pub OneServes : Result Bool TakeStop → ArchiveState → Type 0
-OneServes (Ok true) s = Unit {0}
-OneServes (Ok false) s = IsServed s
+abbrev pub OneServes : Result ℕ TakeStop → ArchiveState → Type 0
+OneServes (Ok zero) s = IsServed s
+OneServes (Ok (suc n)) s = Unit {0}
+OneServes (Err (Cut kept)) s = ⊥
 OneServes (Err File) s = Unit {0}
 OneServes (Err (Refused f)) s = IsSpent f s
 
 one_numbers : (len n : ℕ) → len % 4096 ≡ 0 → n ≤ 1 → (n ≡ 0 → ⊥) → (len + n) % 4096 ≡ 0 → ⊥
 one_numbers len n whole few some fills = some (omega arith)
 
-pub one_serves : (s s' : ArchiveState) (r : Result Bool TakeStop) → IsServed s → Advances 1 s r s' → OneServes r s'
-one_serves s s' (Ok true) served step = tt
-one_serves s s' (Ok false) served is = subst IsServed (sym is) served
+pub one_serves : (s s' : ArchiveState) (r : Result ℕ TakeStop) → IsServed s → Advances 1 s r s' → OneServes r s'
+one_serves s s' (Ok (suc m)) served step = tt
+one_serves s s' (Err (Cut kept)) served step = absurd step
+one_serves s s' (Ok zero) served is = subst IsServed (sym is) served
 one_serves s s' (Err File) served is = tt
 one_serves s s' (Err (Refused SpaceFull)) served (inl reply) = absurd reply
 one_serves s s' (Err (Refused SpaceFull)) served (inr (n, few, fits, (x, may, full, is))) =
@@ -189,30 +197,30 @@ one_serves s s' (Err (Refused _)) served step = tt
 pub room_serves : (s s' : ArchiveState) (r : Result (Unit {0}) TakeStop) → DropsAll Block s r s' → ServesOn r s'
 room_serves s s' (Ok u) step = made_serves s' step.1
 room_serves s s' (Err File) step = tt
+room_serves s s' (Err (Cut kept)) step = absurd step
 room_serves s s' (Err (Refused f)) step = step
 
 -- a step that stops stops all
-pub stop_serves : (s : ArchiveState) (stop : TakeStop) → OneServes (Err stop) s → ServesOn {A = Bool} (Err stop) s
+pub stop_serves : (s : ArchiveState) (stop : TakeStop) → OneServes (Err stop) s → ServesOn {A = ℕ} (Err stop) s
 stop_serves s File step = tt
+stop_serves s (Cut kept) step = absurd step
 stop_serves s (Refused f) step = step
 
-pub end_serves : (s : ArchiveState) (more : Bool) → more ≡ false → OneServes (Ok more) s → ServesOn {A = Bool} (Ok false) s
-end_serves s true is step = absurd (true≢false is)
-end_serves s false is step = step
+pub end_serves : (s : ArchiveState) (count : ℕ) → count ≡ 0 → OneServes (Ok count) s → ServesOn {A = ℕ} (Ok 0) s
+end_serves s (suc n) is step = absurd (omega (arith, is))
+end_serves s zero is step = step
 
 -- and so does one that is refused within another
 pub stop_as : (A : Type 0) (B : Type 0) (s : ArchiveState) (stop : TakeStop) → ServesOn {A = A} (Err stop) s → ServesOn {A = B} (Err stop) s
 stop_as A B s File step = tt
+stop_as A B s (Cut kept) step = step
 stop_as A B s (Refused f) step = step
-
-pub stop_filled : (s : ArchiveState) (stop : TakeStop) → ServesOn {A = Unit {0}} (Err stop) s → FillsServed (Err stop) s
-stop_filled s File step = tt
-stop_filled s (Refused f) step = step
 
 -- room for the record
 pub record_serves : (s s' : ArchiveState) (r : Result (Unit {0}) TakeStop) → IsServed s → DropsAll Record s r s' → FillsServed r s'
 record_serves s s' (Ok u) served step = (step.0 served, step.1)
 record_serves s s' (Err File) served step = tt
+record_serves s s' (Err (Cut kept)) served step = absurd step
 record_serves s s' (Err (Refused f)) served step = step
 
 -- Runs of blocks: whether a block before others begins one more.

@@ -1,5 +1,5 @@
 -- Cases that go so that a stream finds room: which goes next, and what comes of the bytes that the stream takes meanwhile.
-use Rattle.std.specs.Prelude.{◌≡◌, ◌⊎◌, ℕ, ◌+◌, ◌%◌, ◌<◌, ◌≤◌, Bool, true, false, not, ◌&&◌, List, [], ◌∷◌, ◌++◌, length, Option, None, Some, Result, Ok, Err}
+use Rattle.std.specs.Prelude.{◌≡◌, ◌⊎◌, ℕ, zero, suc, ◌+◌, ◌%◌, ◌<◌, ◌≤◌, Bool, true, false, not, ◌&&◌, nat_lt, List, [], ◌∷◌, ◌++◌, length, Option, None, Some, Result, Ok, Err}
 use Rattle.std.specs.List.{find, filter}
 use Rattle.disk_model.specs.declared.disk.Disk as disk
 use Rattle.journal_layout.specs.Case.{Case, case_of}
@@ -17,7 +17,7 @@ use Rattle.intake.specs.declared.faults.ArchiveFault.TheVariants.{SpaceFull, Jou
 use Rattle.inspector_cli.specs.declared.fitting.Need.{Need}
 use Rattle.inspector_cli.specs.declared.fitting.Need.TheVariants.{Block, Record}
 use Rattle.inspector_cli.specs.declared.store.TakeStop.{TakeStop}
-use Rattle.inspector_cli.specs.declared.store.TakeStop.TheVariants.{File, Refused}
+use Rattle.inspector_cli.specs.declared.store.TakeStop.TheVariants.{File, Refused, Cut}
 use Rattle.script_streams.specs.Replies.{no_reply}
 use Rattle.archive_replies.specs.Reasons.{reason_of}
 use Rattle.archive_replies.specs.Texts.{dropped_line}
@@ -154,17 +154,19 @@ abbrev pub AdvancesBy : ℕ → ArchiveState → Result (Unit {0}) ArchiveFault 
 AdvancesBy most s r s' = (n : ℕ) × (n ≤ most) × FitsPart (stream_at s.streams 0) n × AdvanceStep s 0 n r s'
 
 -- the state after bytes are taken, or are not
-abbrev pub Advances : ℕ → ArchiveState → Result Bool TakeStop → ArchiveState → Type 0
-Advances most s (Ok true) s' = AdvancesBy most s (Ok tt) s'
-Advances most s (Ok false) s' = s' ≡ s
+abbrev pub Advances : ℕ → ArchiveState → Result ℕ TakeStop → ArchiveState → Type 0
+Advances most s (Ok zero) s' = s' ≡ s
+Advances most s (Ok (suc n)) s' = AdvancesBy most s (Ok tt) s'
 Advances most s (Err File) s' = s' ≡ s
 Advances most s (Err (Refused fault)) s' = RoomReply s 0 (Err fault) ⊎ AdvancesBy most s (Err fault) s'
+Advances most s (Err (Cut kept)) s' = ⊥
 
 -- a step for a stream that is so far served: it is so then too, or it is refused as it may be
 abbrev pub ServesOn : {A : Type 0} → Result A TakeStop → ArchiveState → Type 0
 ServesOn (Ok x) s = IsServed s
 ServesOn (Err File) s = Unit {0}
 ServesOn (Err (Refused fault)) s = IsSpent fault s
+ServesOn (Err (Cut kept)) s = IsServed s
 
 -- A case goes, if there is no room for this and one may: there are fewer then.
 abbrev pub DropsOne : Need → ArchiveState → Result Bool TakeStop → ArchiveState → Type 0
@@ -172,15 +174,86 @@ DropsOne need s (Ok true) s' = (IsServed s → IsServed s') × (length s'.cases 
 DropsOne need s (Ok false) s' = (s' ≡ s) × HasMadeRoom need s'
 DropsOne need s (Err File) s' = Unit {0}
 DropsOne need s (Err (Refused fault)) s' = IsSpent fault s'
+DropsOne need s (Err (Cut kept)) s' = ⊥
 
 -- cases go until there is room for this, or none may go any more
 abbrev pub DropsAll : Need → ArchiveState → Result (Unit {0}) TakeStop → ArchiveState → Type 0
 DropsAll need s (Ok u) s' = (IsServed s → IsServed s') × HasMadeRoom need s'
 DropsAll need s (Err File) s' = Unit {0}
 DropsAll need s (Err (Refused fault)) s' = IsSpent fault s'
+DropsAll need s (Err (Cut kept)) s' = ⊥
 
 -- all bytes are taken: a block for the last ones is there, and room for the record, unless no case may go any more
 abbrev pub FillsServed : Result (Unit {0}) TakeStop → ArchiveState → Type 0
 FillsServed (Ok u) s = IsServed s × HasMadeRoom Record s
 FillsServed (Err File) s = Unit {0}
 FillsServed (Err (Refused fault)) s = IsSpent fault s
+FillsServed (Err (Cut kept)) s = IsServed s × HasMadeRoom Record s
+
+-- a file is not cut
+abbrev pub IsUncut : {A : Type 0} → Result A TakeStop → Type 0
+IsUncut (Ok x) = Unit {0}
+IsUncut (Err File) = Unit {0}
+IsUncut (Err (Refused fault)) = Unit {0}
+IsUncut (Err (Cut kept)) = ⊥
+
+-- how many bytes of a file are kept, if it is cut
+abbrev pub cut_of : {A : Type 0} → Result A TakeStop → Option ℕ
+cut_of (Ok x) = None
+cut_of (Err File) = None
+cut_of (Err (Refused fault)) = None
+cut_of (Err (Cut kept)) = Some kept
+
+-- a case that is not pinned, and has bytes: data blocks become free if it goes
+abbrev pub may_free : Case → Bool
+may_free c = not c.pinned && nat_lt 0 c.len
+
+-- the same of the entry of a case
+abbrev pub frees : Entry → Bool
+frees e = may_free (case_of e)
+
+-- No case may go that has a block.
+abbrev pub NoneMayFree : ArchiveState → Type 0
+NoneMayFree s = filter may_free s.cases ≡ []
+
+-- So many bytes, some at least, fill whole blocks, and no data block is free, nor becomes free if cases may go for it.
+abbrev pub IsWalled : Bool → ℕ → ArchiveState → Type 0
+IsWalled fit taken s = (0 < taken) × (taken % 4096 ≡ 0) × HasNoBlock s × (fit ≡ true → NoneMayFree s)
+
+-- No byte more is kept than these: so many are kept at most, or they fill whole blocks, and no data block is free, nor becomes free if cases
+-- may go for it.
+abbrev pub HasNoMore : Bool → ℕ → ℕ → ArchiveState → Type 0
+HasNoMore fit most kept s = (kept ≡ most) ⊎ IsWalled fit kept s
+
+-- if a file is cut by this step, it is so behind the bytes that were taken, which are some, and no more of it is kept
+abbrev pub CutsBehind : {A : Type 0} → Bool → ℕ → ℕ → Result A TakeStop → ArchiveState → Type 0
+CutsBehind fit most taken (Ok x) s = Unit {0}
+CutsBehind fit most taken (Err File) s = Unit {0}
+CutsBehind fit most taken (Err (Refused fault)) s = Unit {0}
+CutsBehind fit most taken (Err (Cut kept)) s = (kept ≡ taken) × (0 < kept) × (kept ≤ most) × HasNoMore fit most kept s
+
+-- the same of all steps
+abbrev pub CutsWell : {A : Type 0} → Bool → Option ℕ → Result A TakeStop → ArchiveState → Type 0
+CutsWell fit most (Ok x) s = Unit {0}
+CutsWell fit most (Err File) s = Unit {0}
+CutsWell fit most (Err (Refused fault)) s = Unit {0}
+CutsWell fit most (Err (Cut kept)) s = (n : ℕ) × (most ≡ Some n) × (kept ≤ n) × HasNoMore fit n kept s
+
+-- Where a file is cut, if it is: only if so many bytes may be kept at most. The archive is `at` then, with the bytes that are kept, and the cases
+-- that went so far. Those that go later go for the record of its case.
+pub record IsCut {D : Type 0} (g : disk.Ghosts D) (fit : Bool) (most : Option ℕ) (old : Parts D) (gone : List (Going D)) (kept : ℕ) : Type 0 where
+  pub n : ℕ
+  pub asked : most ≡ Some n
+  pub within : kept ≤ n
+  pub at : Parts D
+  pub raw : List ℕ
+  pub first : List (Going D)
+  pub later : List (Going D)
+  pub all : gone ≡ first ++ later
+  pub takes : TakesWhile g old raw first (Ok tt) at
+  pub length : length raw ≡ kept
+  pub no_more : HasNoMore fit n kept (state_of at)
+
+abbrev pub IsShort : {D : Type 0} → disk.Ghosts D → Bool → Option ℕ → Parts D → List (Going D) → Option ℕ → Type 0
+IsShort g fit most old gone None = Unit {0}
+IsShort g fit most old gone (Some kept) = IsCut g fit most old gone kept

@@ -2,7 +2,6 @@
 -- are killed.
 use Rattle.std.specs.Prelude.{◌≡◌, ◌⊎◌, ℕ, true, List, [], ◌∷◌, ◌++◌, ◌≤◌, ◌<◌, ◌^◌, map, Option, None, Some, Result, Ok, codes, IsTrue}
 use Rattle.std.specs.List.{AllByRecursion}
-use Rattle.std.specs.Io.KnownBytes.{Consumes}
 use Rattle.disk_model.specs.Anew.{IsMadeAnew, Restarts}
 use Rattle.disk_model.specs.declared.disk.Disk as disk
 use Rattle.intake.specs.Durable.{Durable, FoundCase, StandsFor}
@@ -18,7 +17,7 @@ use Rattle.inspector_cli.specs.declared.session.StoreOutcome.{StoreOutcome}
 use Rattle.inspector_cli.specs.Headline.{Line, IsCrashSafe, HasFlag, answers_of, answer_of, begins_as, begun_in, last_moment}
 use Rattle.inspector_cli.specs.Session.{Streams}
 use Rattle.inspector_cli.specs.StoreHeadline.{Gone, IsStoreSafe}
-use Rattle.inspector_cli.specs.Storing.{Options, retire_line, said_label}
+use Rattle.inspector_cli.specs.Storing.{KeepsOf, Options, retire_line, said_label}
 use Rattle.inspector_cli.specs.Told.{Answer, MayDrop, what_of, parts_in}
 
 -- a case as it was stored: its number, its stream as it began, and its image; and its label, if one is named
@@ -145,11 +144,11 @@ ALineStoresACase {D} g = (naming : Naming) (t : Streams) (before after : D) (ans
     → (k : Kept) × (k.seq ≡ told) × (begun_in (begins_as naming) slot (map answer_of front) ≡ Some k.stream) × (parts_in slot (map answer_of front) ≡ Some k.image)
     × (k.label ≡ Some []) × HoldsKept k line.after.holds × (line.after.in_doubt ≡ [])
 
--- The same of a store: the case is the stream that was begun, with the bytes of FILE.
+-- The same of a store: the case is the stream that was begun, with the bytes of FILE, or its first ones, where it was cut.
 abbrev pub AStoreStoresACase : {D : Type 0} → disk.Ghosts D → Type 0
 AStoreStoresACase {D} g = (t : Streams) (asked : Option Policy) (found : Result StreamFacts (List ℕ)) (given : Options) (before after : D) (answer : Result StoreOutcome LifeFault) (s : IsStoreSafe g t asked found given before after answer)
     (n : ℕ) → s.course.stored ≡ Some n
-    → (k : Kept) × (k.seq ≡ n) × (found ≡ Ok k.stream) × Consumes t.input t.input' k.image × (k.label ≡ Some []) × HoldsKept k s.course.ended.holds × (s.course.ended.in_doubt ≡ [])
+    → (k : Kept) × (k.seq ≡ n) × (found ≡ Ok k.stream) × KeepsOf t.input t.input' s.course.cut k.image × (k.label ≡ Some []) × HoldsKept k s.course.ended.holds × (s.course.ended.in_doubt ≡ [])
 
 -- A case that a store leaves, with nothing in doubt, is found whenever the machine stops from then on: after the case's end, if the
 -- label spares it, after the label, and after the pin.

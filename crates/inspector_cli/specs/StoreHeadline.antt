@@ -1,8 +1,8 @@
 -- The headline of a store: what the archive holds when it begins, when cases are retired, when others go while FILE is taken, when the case is stored,
 -- when it has its label, and when it is pinned; and what a stop of the machine leaves of it.
-use Rattle.std.specs.Prelude.{◌≡◌, ◌⊎◌, ℕ, true, false, List, [], ◌∷◌, ◌++◌, length, map, Option, None, Some, Result, Ok, Err, IsTrue, codes, if◌then◌else◌}
+use Rattle.std.specs.Prelude.{◌≡◌, ◌⊎◌, ℕ, ◌≤◌, ◌%◌, true, false, List, [], ◌∷◌, ◌++◌, length, map, Option, None, Some, Result, Ok, Err, IsTrue, codes, if◌then◌else◌}
 use Rattle.std.specs.List.{AllByRecursion, filter, flat_map}
-use Rattle.std.specs.Io.KnownBytes.{Consumes, Appends, IsAtEnd}
+use Rattle.std.specs.Io.KnownBytes.{Appends}
 use Rattle.disk_model.specs.declared.disk.Disk as disk
 use Rattle.intake.specs.Durable.{Durable, FoundCase, StandsFor, with_case}
 use Rattle.intake.specs.State.{StreamFacts}
@@ -20,23 +20,27 @@ use Rattle.inspector_cli.specs.declared.session.StoreOutcome.{StoreOutcome}
 use Rattle.inspector_cli.specs.Headline.{Moment, LeadsOn, AreSafe, FindsSince}
 use Rattle.inspector_cli.specs.Life.{LifeEnds, StoresOver}
 use Rattle.inspector_cli.specs.Session.{Streams}
-use Rattle.inspector_cli.specs.Storing.{Options, retire_line, said_pin, said_label}
+use Rattle.inspector_cli.specs.Storing.{KeepsOf, Options, cut_text, retire_line, said_pin, said_label}
 
--- A case is added after x: the one that the stream was begun as, with all bytes of FILE as its image.
-pub record AddsCase (found : Result StreamFacts (List ℕ)) (file file' : Option (List ℕ)) (x : Durable) (n : ℕ) (y : Durable) : Type 0 where
+-- A case is added after x: the one that the stream was begun as. Its image is all bytes of FILE, or, if FILE is cut, so many of its first ones.
+pub record AddsCase (found : Result StreamFacts (List ℕ)) (file file' : Option (List ℕ)) (cut : Option ℕ) (x : Durable) (n : ℕ) (y : Durable) : Type 0 where
   pub stream : StreamFacts
   pub begun : found ≡ Ok stream
   pub image : List ℕ
-  pub read : Consumes file file' image
-  pub whole : IsAtEnd file'
+  pub read : KeepsOf file file' cut image
   pub blocks : List ℕ
   pub number : n ≡ x.next
   pub adds : y ≡ with_case x (record stream { len = length image }) blocks image
 
 -- the case of the number that is told, or none
-abbrev pub StoresOrNot : Result StreamFacts (List ℕ) → Option (List ℕ) → Option (List ℕ) → Durable → Option ℕ → Durable → Type 0
-StoresOrNot found file file' x (Some n) y = AddsCase found file file' x n y
-StoresOrNot found file file' x None y = y ≡ x
+abbrev pub StoresOrNot : Result StreamFacts (List ℕ) → Option (List ℕ) → Option (List ℕ) → Option ℕ → Durable → Option ℕ → Durable → Type 0
+StoresOrNot found file file' cut x (Some n) y = AddsCase found file file' cut x n y
+StoresOrNot found file file' cut x None y = y ≡ x
+
+-- Where FILE is cut, if it is: only if so many bytes may be kept at most, and at that many, or at whole blocks.
+abbrev pub IsCutShort : Option ℕ → Option ℕ → Type 0
+IsCutShort most None = Unit {0}
+IsCutShort most (Some kept) = (n : ℕ) × (most ≡ Some n) × (kept ≤ n) × ((kept ≡ n) ⊎ (kept % 4096 ≡ 0))
 
 -- the lines that retire, delete, give a label and pin begin no stream
 abbrev pub no_stream : Said → Option StreamFacts
@@ -83,6 +87,8 @@ pub record StoreCourse (D : Type 0) : Type 0 where
   pub gone : List (Gone D)
   -- when the bytes of FILE are taken
   pub filled : Moment D
+  -- how many bytes of FILE are kept, if it is cut
+  pub cut : Option ℕ
   -- the reply to the stream's beginning, and to its end
   pub first : List ℕ
   pub reply : List ℕ
@@ -102,16 +108,18 @@ pub record IsStoreCourse {D : Type 0} (asked : Option Policy) (found : Result St
   pub goes : GoInTurn c.retired c.gone c.filled
   -- nothing goes unless that is asked for
   pub unasked : options.fit ≡ false → c.gone ≡ []
-  pub stores : StoresOrNot found file file' c.filled.holds c.stored c.ended.holds
+  pub stores : StoresOrNot found file file' c.cut c.filled.holds c.stored c.ended.holds
   -- a case is stored only if nothing is in doubt
   pub sure : (n : ℕ) → c.stored ≡ Some n → c.filled.in_doubt ≡ []
   pub tells : TellsStored c.stored c.first c.reply
   -- if cases may go, the stream is refused for want of a data block only where all cases that are left are pinned
   pub spent : options.fit ≡ true → c.reply ≡ no_reply (codes "SpaceFull") → filter may_go (map case_in c.filled.holds.cases) ≡ []
+  -- FILE is cut only if that is asked for, and only where no more of it may be kept
+  pub short : IsCutShort options.cut c.cut
   -- only where the end is answered `no Disk` is a case in doubt
   pub doubts : List Durable
   pub in_doubt : c.ended.in_doubt ≡ doubts ++ c.filled.in_doubt
-  pub doubted : (doubts ≡ []) ⊎ ((c.reply ≡ no_reply (codes "Disk")) × AllByRecursion (λ (z : Durable). (n : ℕ) × AddsCase found file file' c.filled.holds n z) doubts)
+  pub doubted : (doubts ≡ []) ⊎ ((c.reply ≡ no_reply (codes "Disk")) × AllByRecursion (λ (z : Durable). (n : ℕ) × AddsCase found file file' c.cut c.filled.holds n z) doubts)
   pub gives_label : LeadsOn no_stream [] c.ended (said_label c.stored options.label) c.labels c.labelled
   pub gives_pin : LeadsOn no_stream [] c.labelled (said_pin c.stored options.pin) c.pins c.end
 
@@ -129,7 +137,7 @@ pub record IsStoreSafe {D : Type 0} (g : disk.Ghosts D) (t : Streams) (asked : O
   pub written : List ℕ
   pub unwritten : List ℕ
   pub appended : Appends t.taken t.taken' written
-  pub text : written ++ unwritten ≡ course.told ++ ((course.first ++ (flat_map gone_line course.gone ++ course.reply)) ++ (course.labels ++ course.pins))
+  pub text : written ++ unwritten ≡ course.told ++ ((course.first ++ (flat_map gone_line course.gone ++ (cut_text course.cut course.stored ++ course.reply))) ++ (course.labels ++ course.pins))
   pub disk : after ≡ course.end.disk
   pub answered : IsTold r course.stored unwritten
   -- a stop at any moment since the opening began leaves what one before it could have left, or opens as one of these moments

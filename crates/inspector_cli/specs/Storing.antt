@@ -1,5 +1,5 @@
 -- One stream that is stored from its own input, with cases retired before it, and the label and the pin of its case.
-use Rattle.std.specs.Prelude.{◌≡◌, ◌⊎◌, ℕ, ◌^◌, ◌<◌, ◌≤◌, ◌==◌, Bool, true, false, List, [], ◌∷◌, ◌++◌, length, Option, None, Some, Result, Ok, Err, is_ok, option_map, codes, if◌then◌else◌}
+use Rattle.std.specs.Prelude.{◌≡◌, ◌⊎◌, ℕ, zero, suc, ◌^◌, ◌<◌, ◌≤◌, ◌==◌, Bool, true, false, List, [], ◌∷◌, ◌++◌, length, Option, None, Some, Result, Ok, Err, is_ok, option_map, codes, decimal, if◌then◌else◌}
 use Rattle.arrayvec.specs.ArrayVec.{ArrayVec}
 use Rattle.script_lines.specs.Commands.{label_bytes}
 use Rattle.std.specs.Io.KnownBytes.{Consumes, Appends, IsAtEnd}
@@ -22,10 +22,10 @@ use Rattle.inspector_cli.specs.declared.session.StoreOutcome.{StoreOutcome}
 use Rattle.inspector_cli.specs.declared.session.StoreOptions.{StoreOptions}
 use Rattle.inspector_cli.specs.declared.session.SessionFault.TheVariants.{ReadFailed, WriteFailed, TooManyReads}
 use Rattle.inspector_cli.specs.declared.store.TakeStop.{TakeStop}
-use Rattle.inspector_cli.specs.declared.store.TakeStop.TheVariants.{File, Refused}
+use Rattle.inspector_cli.specs.declared.store.TakeStop.TheVariants.{File, Refused, Cut}
 use Rattle.retention.specs.declared.Policy.{Policy}
 use Rattle.script_lines.specs.Said.{Said, silence, begin_exec, begin_core, end_of, delete_of, pin_of, label_of, retire_by, long_line}
-use Rattle.inspector_cli.specs.Fitting.{Going, IsGoing, IsServed, RefusedIfSpent, TakesWhile, going_text}
+use Rattle.inspector_cli.specs.Fitting.{Going, IsGoing, IsServed, IsShort, RefusedIfSpent, TakesWhile, cut_of, going_text}
 use Rattle.inspector_cli.specs.Session.{Streams}
 use Rattle.inspector_cli.specs.Stages.{Stage, Moves, IsFoundAfterAStop}
 use Rattle.script_streams.specs.Replies.{Telling, TellsText, no_reply}
@@ -45,8 +45,14 @@ line_stream naming _ = Err (codes "BadLine")
 abbrev pub Taking : Type 1
 Taking = List ℕ → Result (Unit {0}) ArchiveFault → Type 0
 
+-- What is read of a file of which these bytes are kept: they are all, and it has ended. Or it is cut: they are as many as is told, some at
+-- least, and more follow.
+abbrev pub KeepsOf : Option (List ℕ) → Option (List ℕ) → Option ℕ → List ℕ → Type 0
+KeepsOf file file' None raw = Consumes file file' raw × IsAtEnd file'
+KeepsOf file file' (Some kept) raw = (more : List ℕ) × Consumes file file' (raw ++ more) × (0 < length more) × (length raw ≡ kept) × (0 < kept)
+
 -- the bytes of a file are taken to its end; or to the first that are refused; or it could not be read on, or 2^40 reads
--- were made and each gave a byte, and those that were read are taken
+-- were made and each gave a byte, and those that were read are taken; or it is cut, and those before the cut are taken
 abbrev pub TakesFile : Option (List ℕ) → Option (List ℕ) → ℕ → ℕ → Taking → Result (Unit {0}) TakeStop → Type 0
 TakesFile file file' fails fails' T (Ok u) =
     (raw : List ℕ) × Consumes file file' raw × IsAtEnd file' × T raw (Ok tt)
@@ -54,23 +60,36 @@ TakesFile file file' fails fails' T (Err File) =
     (raw : List ℕ) × Consumes file file' raw × (HasRisen fails fails' ⊎ (2 ^ 40 ≤ length raw)) × T raw (Ok tt)
 TakesFile file file' fails fails' T (Err (Refused fault)) =
     (raw : List ℕ) × Consumes file file' raw × T raw (Err fault)
+TakesFile file file' fails fails' T (Err (Cut kept)) =
+    (raw : List ℕ) × KeepsOf file file' (Some kept) raw × T raw (Ok tt)
 
--- the next bytes of a file are taken after those so far, or there are none; or they are refused, or could not be read
-abbrev pub TakesMore : Option (List ℕ) → Option (List ℕ) → ℕ → ℕ → List ℕ → Taking → Result Bool TakeStop → Type 0
-TakesMore file file' fails fails' so_far T (Ok true) =
-    (raw : List ℕ) × Consumes file file' raw × (0 < length raw) × (fails' ≡ fails) × T (so_far ++ raw) (Ok tt)
-TakesMore file file' fails fails' so_far T (Ok false) =
+-- the next bytes of a file are taken after those so far, as many as is told, or there are none; or they are refused, or could not be
+-- read; or they are there, and are not taken
+abbrev pub TakesMore : Option (List ℕ) → Option (List ℕ) → ℕ → ℕ → List ℕ → Taking → Result ℕ TakeStop → Type 0
+TakesMore file file' fails fails' so_far T (Ok zero) =
     Consumes file file' [] × IsAtEnd file' × (fails' ≡ fails) × T so_far (Ok tt)
+TakesMore file file' fails fails' so_far T (Ok (suc n)) =
+    (raw : List ℕ) × Consumes file file' raw × (length raw ≡ suc n) × (fails' ≡ fails) × T (so_far ++ raw) (Ok tt)
 TakesMore file file' fails fails' so_far T (Err File) =
     Consumes file file' [] × HasRisen fails fails' × T so_far (Ok tt)
 TakesMore file file' fails fails' so_far T (Err (Refused fault)) =
     (raw : List ℕ) × Consumes file file' raw × (fails' ≡ fails) × T (so_far ++ raw) (Err fault)
+TakesMore file file' fails fails' so_far T (Err (Cut kept)) =
+    (raw : List ℕ) × Consumes file file' raw × (0 < length raw) × (fails' ≡ fails) × T so_far (Ok tt)
+
+-- Whether a file goes on, which is then to be cut; nothing is taken of it.
+abbrev pub LooksOn : Option (List ℕ) → Option (List ℕ) → ℕ → ℕ → ℕ → Result ℕ TakeStop → Type 0
+LooksOn file file' fails fails' taken (Ok n) = (n ≡ 0) × Consumes file file' [] × IsAtEnd file' × (fails' ≡ fails)
+LooksOn file file' fails fails' taken (Err File) = Consumes file file' [] × HasRisen fails fails'
+LooksOn file file' fails fails' taken (Err (Refused fault)) = ⊥
+LooksOn file file' fails fails' taken (Err (Cut kept)) = (kept ≡ taken) × (raw : List ℕ) × Consumes file file' raw × (0 < length raw) × (fails' ≡ fails)
 
 -- What of the bytes so far remains true where cases went: they are taken, or the stream was refused, since a case could not be deleted.
 abbrev pub AfterRoom : Taking → List ℕ → Result (Unit {0}) TakeStop → Type 0
 AfterRoom T so_far (Ok u) = T so_far (Ok tt)
 AfterRoom T so_far (Err File) = ⊥
 AfterRoom T so_far (Err (Refused fault)) = T so_far (Err fault)
+AfterRoom T so_far (Err (Cut kept)) = ⊥
 
 -- Cases go, and are told, while this much was taken.
 abbrev pub MakesRoom : {D : Type 0} → disk.Ghosts D → Parts D → List ℕ → List (Going D) → Telling → Parts D → Result (Unit {0}) TakeStop → Type 0
@@ -87,7 +106,7 @@ abbrev pub GoesNext : {D : Type 0} → disk.Ghosts D → Parts D → List ℕ �
 GoesNext g begun so_far gone t new r = MakesRoom g begun so_far gone t new (stop_of r)
 
 -- the next bytes of a file are taken, and cases go, and are told
-abbrev pub TakesNext : {D : Type 0} → disk.Ghosts D → Option (List ℕ) → Option (List ℕ) → ℕ → ℕ → Parts D → List ℕ → List (Going D) → Bool → Telling → Parts D → Result Bool TakeStop → Type 0
+abbrev pub TakesNext : {D : Type 0} → disk.Ghosts D → Option (List ℕ) → Option (List ℕ) → ℕ → ℕ → Parts D → List ℕ → List (Going D) → Bool → Telling → Parts D → Result ℕ TakeStop → Type 0
 TakesNext {D} g file file' fails fails' begun so_far gone fit t new r =
     (more : List (Going D)) × TellsText t (flat_map going_text more) × TakesMore file file' fails fails' so_far (λ raw v. TakesWhile g begun raw (gone ++ more) v new) r × (fit ≡ false → more ≡ [])
 
@@ -96,29 +115,55 @@ abbrev pub TakesAll : {D : Type 0} → disk.Ghosts D → Bool → Option (List �
 TakesAll {D} g fit file file' fails fails' old t new r =
     (gone : List (Going D)) × TellsText t (flat_map going_text gone) × TakesFile file file' fails fails' (λ raw v. TakesWhile g old raw gone v new) r × (fit ≡ false → gone ≡ [])
 
+-- the bytes of a file are taken, and then cases may go for the record of its case: of a file that was cut, one may not be deleted then
+abbrev pub FillsFile : Option ℕ → Option (List ℕ) → Option (List ℕ) → ℕ → ℕ → Taking → Result (Unit {0}) TakeStop → Type 0
+FillsFile most file file' fails fails' T (Ok u) = TakesFile file file' fails fails' T (Ok u)
+FillsFile most file file' fails fails' T (Err File) = TakesFile file file' fails fails' T (Err File)
+FillsFile most file file' fails fails' T (Err (Cut kept)) = TakesFile file file' fails fails' T (Err (Cut kept))
+FillsFile most file file' fails fails' T (Err (Refused fault)) =
+    TakesFile file file' fails fails' T (Err (Refused fault))
+    ⊎ ((n : ℕ) × (most ≡ Some n) × (kept : ℕ) × (raw : List ℕ) × KeepsOf file file' (Some kept) raw × T raw (Err fault))
+
+-- all of that, with the cases that go, and are told
+abbrev pub FillsAll : {D : Type 0} → disk.Ghosts D → Bool → Option ℕ → Option (List ℕ) → Option (List ℕ) → ℕ → ℕ → Parts D → Telling → Parts D → Result (Unit {0}) TakeStop → Type 0
+FillsAll {D} g fit most file file' fails fails' old t new r =
+    (gone : List (Going D)) × TellsText t (flat_map going_text gone) × FillsFile most file file' fails fails' (λ raw v. TakesWhile g old raw gone v new) r × (fit ≡ false → gone ≡ [])
+    × IsShort g fit most old gone (cut_of r)
+
 -- the reply after the bytes, and the case's number where it is stored
 abbrev pub FileReplies : {D : Type 0} → disk.Ghosts D → Parts D → Result (Unit {0}) TakeStop → List ℕ → Parts D → Option ℕ → Type 0
 FileReplies g old (Ok u) reply new stored = Ends g old 0 reply new stored
 FileReplies g old (Err File) reply new stored = (reply ≡ no_reply (codes "File")) × (new ≡ old) × (stored ≡ None)
 FileReplies g old (Err (Refused fault)) reply new stored = (reply ≡ no_reply (reason_of fault)) × (new ≡ old) × (stored ≡ None)
+FileReplies g old (Err (Cut kept)) reply new stored = Ends g old 0 reply new stored
 
--- a file after a first line that was accepted or not, with the cases that go meanwhile, and the archive when its bytes are taken:
--- where the line was not accepted, none is read
-abbrev pub RestReplies : {D : Type 0} → disk.Ghosts D → Option (List ℕ) → Option (List ℕ) → ℕ → ℕ → Parts D → Bool → List (Going D) → Parts D → List ℕ → Parts D → Option ℕ → Type 0
-RestReplies g file file' fails fails' old true gone filled reply new stored =
-    (taken : Result (Unit {0}) TakeStop) × TakesFile file file' fails fails' (λ raw r. TakesWhile g old raw gone r filled) taken × FileReplies g filled taken reply new stored
-RestReplies g file file' fails fails' old false gone filled reply new stored =
-    (file' ≡ file) × (fails' ≡ fails) × (filled ≡ old) × (reply ≡ []) × (new ≡ old) × (stored ≡ None) × (gone ≡ [])
+-- `cut KEPT`
+abbrev pub cut_line : ℕ → List ℕ
+cut_line kept = (codes "cut " ++ decimal kept) ++ 10 ∷ []
 
--- all of that for a stream that has begun: the cases that go are told, and then the reply
-abbrev pub FillsAndEnds : {D : Type 0} → disk.Ghosts D → Bool → Option (List ℕ) → Option (List ℕ) → ℕ → ℕ → Parts D → List ℕ → Parts D → Option ℕ → Type 0
-FillsAndEnds {D} g fit file file' fails fails' old text new stored =
-    (gone : List (Going D)) × (filled : Parts D) × (rest : List ℕ) × (text ≡ flat_map going_text gone ++ rest) × (fit ≡ false → gone ≡ [])
-    × RestReplies g file file' fails fails' old true gone filled rest new stored
-    × (fit ≡ true → IsServed (state_of old) → RefusedIfSpent rest (state_of filled))
+-- what is told of a file that is cut, before the reply to the end: nothing, if no case is stored
+abbrev pub cut_text : Option ℕ → Option ℕ → List ℕ
+cut_text (Some kept) (Some seq) = cut_line kept
+cut_text (Some kept) None = []
+cut_text None stored = []
+
+-- a file after a first line that was accepted or not, with the cases that go meanwhile, where it is cut, if it is, and the archive when its
+-- bytes are taken: where the line was not accepted, none is read
+abbrev pub RestReplies : {D : Type 0} → disk.Ghosts D → Option ℕ → Option (List ℕ) → Option (List ℕ) → ℕ → ℕ → Parts D → Bool → List (Going D) → Option ℕ → Parts D → List ℕ → Parts D → Option ℕ → Type 0
+RestReplies g most file file' fails fails' old true gone cut filled reply new stored =
+    (taken : Result (Unit {0}) TakeStop) × FillsFile most file file' fails fails' (λ raw r. TakesWhile g old raw gone r filled) taken × FileReplies g filled taken reply new stored × (cut ≡ cut_of taken)
+RestReplies g most file file' fails fails' old false gone cut filled reply new stored =
+    (file' ≡ file) × (fails' ≡ fails) × (filled ≡ old) × (reply ≡ []) × (new ≡ old) × (stored ≡ None) × (gone ≡ []) × (cut ≡ None)
+
+-- all of that for a stream that has begun: the cases that go are told, then a cut, and then the reply
+abbrev pub FillsAndEnds : {D : Type 0} → disk.Ghosts D → Bool → Option ℕ → Option (List ℕ) → Option (List ℕ) → ℕ → ℕ → Parts D → List ℕ → Parts D → Option ℕ → Type 0
+FillsAndEnds {D} g fit most file file' fails fails' old text new stored =
+    (gone : List (Going D)) × (cut : Option ℕ) × (filled : Parts D) × (rest : List ℕ) × (text ≡ flat_map going_text gone ++ (cut_text cut stored ++ rest)) × (fit ≡ false → gone ≡ [])
+    × RestReplies g most file file' fails fails' old true gone cut filled rest new stored
+    × (fit ≡ true → IsServed (state_of old) → RefusedIfSpent rest (state_of filled)) × IsShort g fit most old gone cut
 
 -- a stream that is begun, or why there is none, and its file: the replies, and the case's number where it is stored
-pub record StoresStream {D : Type 0} (g : disk.Ghosts D) (fit : Bool) (file file' : Option (List ℕ)) (fails fails' : ℕ) (old : Parts D) (found : Result StreamFacts (List ℕ))
+pub record StoresStream {D : Type 0} (g : disk.Ghosts D) (fit : Bool) (most : Option ℕ) (file file' : Option (List ℕ)) (fails fails' : ℕ) (old : Parts D) (found : Result StreamFacts (List ℕ))
     (replies : List ℕ) (new : Parts D) (stored : Option ℕ) : Type 0 where
   pub first : List ℕ
   pub mid : Parts D
@@ -127,13 +172,17 @@ pub record StoresStream {D : Type 0} (g : disk.Ghosts D) (fit : Bool) (file file
   -- the cases that go meanwhile, which is so only if it is asked for
   pub gone : List (Going D)
   pub unasked : fit ≡ false → gone ≡ []
+  -- how many bytes of the file are kept, if it is cut
+  pub cut : Option ℕ
   -- when the file's bytes are taken
   pub filled : Parts D
   pub rest : List ℕ
-  pub goes_on : RestReplies g file file' fails fails' mid accepted gone filled rest new stored
+  pub goes_on : RestReplies g most file file' fails fails' mid accepted gone cut filled rest new stored
   -- a stream for which cases may go is refused for want of room only where none may go any more
   pub spent : fit ≡ true → RefusedIfSpent rest (state_of filled)
-  pub text : replies ≡ first ++ (flat_map going_text gone ++ rest)
+  -- a file is cut only if that is asked for, and only where no more of it may be kept
+  pub short : IsShort g fit most mid gone cut
+  pub text : replies ≡ first ++ (flat_map going_text gone ++ (cut_text cut stored ++ rest))
 
 -- Cases are retired by a policy: what `retire` does in a session, and whether it was answered other than `no REASON`. Where there is no
 -- policy nothing is done and nothing is said.
@@ -194,11 +243,13 @@ pub record Options : Type 0 where
   pub pin : Bool
   -- cases go so that the stream finds room
   pub fit : Bool
+  -- how many bytes are kept at most, of a stream that has more, and that fits so
+  pub cut : Option ℕ
   -- how many cores of one program may be stored
   pub burst : Option Burst
 
 abbrev pub options_asked : StoreOptions → Options
-options_asked options = record { label = label_asked options.label; pin = options.pin; fit = options.fit; burst = options.burst }
+options_asked options = record { label = label_asked options.label; pin = options.pin; fit = options.fit; cut = options.cut; burst = options.burst }
 
 -- what is retired for a stream by a policy, the stream with its file, and then the label and the pin of its case
 pub record Stores {D : Type 0} (g : disk.Ghosts D) (file file' : Option (List ℕ)) (fails fails' : ℕ) (old : Parts D) (asked : Option Policy) (found : Result StreamFacts (List ℕ)) (options : Options)
@@ -210,7 +261,7 @@ pub record Stores {D : Type 0} (g : disk.Ghosts D) (file file' : Option (List �
   pub more : List ℕ
   -- when the case is stored, or the stream is refused
   pub ended : Parts D
-  pub stores : StoresStream g options.fit file file' fails fails' retired found more ended outcome.stored
+  pub stores : StoresStream g options.fit options.cut file file' fails fails' retired found more ended outcome.stored
   pub named : List ℕ
   -- when the case has its label, if it is to have one
   pub labelled : Parts D

@@ -6,7 +6,7 @@ ghost use Rattle.journal_layout.specs.Case.{case_of};
 ghost use Rattle.script_streams.specs.Replies.{TellsText, telling};
 ghost use Rattle.archive_replies.specs.Texts.{dropped_line};
 ghost use Rattle.intake.specs.State.{blocks_in};
-ghost use Rattle.inspector_cli.specs.Fitting.{Going, TakesWhile, HasNoBlock, FindsNoRoom, FindsRoom, NoneMayGo, DropsOne, DropsAll, IsNext, goes, goes_first, next_to_go};
+ghost use Rattle.inspector_cli.specs.Fitting.{Going, TakesWhile, HasNoBlock, FindsNoRoom, FindsRoom, NoneMayFree, NoneMayGo, DropsOne, DropsAll, IsNext, frees, goes, goes_first, next_to_go};
 ghost use Rattle.inspector_cli.specs.Storing.{GoesNext, MakesRoom};
 
 use crate::store::TakeStop;
@@ -116,6 +116,30 @@ fn next_of(cases: &[Entry]) -> Option<u32>
             None => None,
         },
     }
+}
+
+// Whether a case may go that has data blocks; so it is too if that can't be told.
+pub(crate) fn may_free<D: Disk>(archive: &Archive<D>) -> bool
+    ensures { result ≡ false → NoneMayFree (state_of archive.now) }
+{
+    match archive.cases() {
+        Ok(cases) => first_freeing(cases).is_some(),
+        Err(_) => true,
+    }
+}
+
+// The first case that is not pinned and has data blocks.
+fn first_freeing(cases: &[Entry]) -> Option<&Entry>
+    ensures { option_map (λ (e : _). e.now) result ≡ find frees cases.now }
+{
+    cases.iter().find(|case| would_free(case))
+}
+
+// Whether this is a case that is not pinned and has data blocks.
+fn would_free(case: &Entry) -> bool
+    ensures { result ≡ frees case.now }
+{
+    !case.pinned && case.length > 0
 }
 
 // The first core that is not pinned.

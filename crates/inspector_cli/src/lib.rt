@@ -8,6 +8,7 @@ mod burst;
 mod copying;
 mod extract;
 mod fitting;
+mod front;
 mod laws;
 mod life;
 mod memory_life;

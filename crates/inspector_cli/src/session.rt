@@ -14,6 +14,8 @@ pub struct StoreOptions {
     /// Where the stream finds no room, cases that are not pinned are deleted: first the cores, then the executables, those of the
     /// lowest numbers first.
     pub fit: bool,
+    /// If the stream has more than so many bytes, or finds no room, its first ones are kept, this many at most. None: it is refused.
+    pub cut: Option<u64>,
     /// A core is not stored if that would be one too many of its program: the reason is `Burst`.
     pub burst: Option<Burst>,
 }

@@ -1,19 +1,20 @@
 // One stream, stored from its own input, with cases retired before it, and the label and the pin of its case.
-ghost use Rattle.std.specs.Prelude.{◌≡◌, ◌<◌, ℕ, true, List, [], Ok};
+ghost use Rattle.std.specs.Prelude.{◌≡◌, ◌<◌, ◌≤◌, ℕ, true, List, [], Ok, IfOk};
 ghost use Rattle.intake.specs.Durable.{Durable};
 ghost use Rattle.intake.specs.Parts.{Parts, state_of};
 ghost use Rattle.stream_names.specs.Commands.{stream_found};
-ghost use Rattle.inspector_cli.specs.Fitting.{Going, TakesWhile, Advances, IsServed, ServesOn, FillsServed};
+ghost use Rattle.inspector_cli.specs.Fitting.{Going, TakesWhile, Advances, CutsWell, IsServed, IsUncut, ServesOn, FillsServed};
 ghost use Rattle.inspector_cli.specs.Bursts.{admitted};
 ghost use Rattle.inspector_cli.specs.Reply.{Begins, Takes};
 ghost use Rattle.script_streams.specs.Replies.{TellsReply, telling};
 ghost use Rattle.inspector_cli.specs.Session.{streams_of};
-ghost use Rattle.inspector_cli.specs.Storing.{StoreEnds, Stores, StoresStream, FillsAndEnds, PinsCase, LabelsCase, label_asked, options_asked, TakesAll, TakesNext, TakesMore, IsSlotQuiet};
+ghost use Rattle.inspector_cli.specs.Storing.{StoreEnds, Stores, StoresStream, FillsAndEnds, PinsCase, LabelsCase, label_asked, options_asked, FillsAll, TakesAll, TakesNext, TakesMore, IsSlotQuiet};
 
 use crate::answers::{answer_end, answer_label, answer_pin};
 use crate::begin::answer_begin;
 use crate::burst::admitted;
 use crate::fitting::{Need, lacks_block, make_room};
+use crate::front::{answer_front, take_front};
 use crate::retiring::retire_first;
 use crate::session::{SessionFault, StoreOptions, StoreOutcome};
 use archive_replies::reason;
@@ -25,10 +26,10 @@ use script_streams::{Input, Output, Reply, tell_no};
 use stream_names::NewStream;
 
 // The most bytes that one read takes: those of a block.
-const MOST_BYTES: usize = 4096;
+pub(crate) const MOST_BYTES: usize = 4096;
 
 // How many reads a file may take.
-const MOST_READS: u64 = 1 << 40;
+pub(crate) const MOST_READS: u64 = 1 << 40;
 
 /// Why a file's bytes were not all taken.
 #[derive(Clone, Copy)]
@@ -37,6 +38,8 @@ pub(crate) enum TakeStop {
     File,
     /// The archive refused them.
     Refused(ArchiveFault),
+    /// So many were taken, and are kept. More follow.
+    Cut(u64),
 }
 
 /// Stores one stream, with these options. A policy, if one is given, is carried out before it.
@@ -53,6 +56,9 @@ pub(crate) enum TakeStop {
 ///   at the end, the case that goes next is deleted, as by the line `delete` of a session, and told as `dropped N` after the reply to
 ///   `begin`; and so on, until there is room or all cases that are left are pinned. If one can't be deleted, that is the step that
 ///   was refused. The record is taken to lie in one run of blocks more than the image has so far.
+/// - If so many bytes may be kept at most of a `file` that has more, it is cut: where that many are taken, or whole blocks are, and no
+///   data block is free, after cases went, if they may. What was taken becomes the case. If it is stored, that is told as `cut KEPT`
+///   before the reply to the end.
 /// - Once the case is stored, it gets its label as by the line `label` of a session, and then it is pinned as by the line `pin`.
 ///   A case whose label or pin is refused stays.
 ///
@@ -99,7 +105,7 @@ fn answer_all<I: Input, O: Output, D: Disk>(
         archive.old policy (stream_found found.entry) (options_asked options.now) text archive.new result) }
 {
     let retired_first = retire_first(policy, &found, reply, archive);
-    let stored = answer_store(options.fit, found, file, reply, archive);
+    let stored = answer_store(options.fit, options.cut, found, file, reply, archive);
     let labelled = label_case(stored, &options.label, reply, archive);
     let pinned = pin_case(stored, options.pin, reply, archive);
     StoreOutcome {
@@ -149,19 +155,20 @@ fn label_case<O: Output, D: Disk>(
 // Begins this stream, or is refused for this reason, and then takes its file. Says the number of the case, where it is stored.
 fn answer_store<I: Input, O: Output, D: Disk>(
     fit: bool,
+    cut: Option<u64>,
     found: Result<NewStream, &'static [u8]>,
     file: &mut I,
     reply: &mut Reply<'_, O>,
     archive: &mut Archive<D>,
 ) -> Option<u32>
-    ensures { TellsReply (telling O.Output reply.old reply.new) (λ text. StoresStream D.Disk fit (I.remaining file.old) (I.remaining file.new) (I.failures file.old) (I.failures file.new)
+    ensures { TellsReply (telling O.Output reply.old reply.new) (λ text. StoresStream D.Disk fit cut (I.remaining file.old) (I.remaining file.new) (I.failures file.old) (I.failures file.new)
         archive.old (stream_found found.entry) text archive.new result) }
 {
     let is_begun = answer_first(found, reply, archive);
     if !is_begun {
         return None;
     }
-    answer_file(fit, file, reply, archive)
+    answer_file(fit, cut, file, reply, archive)
 }
 
 // Begins this stream, or is refused for this reason. Says whether it has begun: then it has no bytes yet.
@@ -180,16 +187,18 @@ fn answer_first<O: Output, D: Disk>(
 // Takes a file into the stream in slot 0, and makes it a case. Says its number, where it is stored.
 fn answer_file<I: Input, O: Output, D: Disk>(
     fit: bool,
+    cut: Option<u64>,
     file: &mut I,
     reply: &mut Reply<'_, O>,
     archive: &mut Archive<D>,
 ) -> Option<u32>
     requires { Takes D.Disk archive.old 0 [] (Ok tt) archive.old }
-    ensures { TellsReply (telling O.Output reply.old reply.new) (λ text. FillsAndEnds D.Disk fit (I.remaining file.old) (I.remaining file.new) (I.failures file.old) (I.failures file.new)
+    ensures { TellsReply (telling O.Output reply.old reply.new) (λ text. FillsAndEnds D.Disk fit cut (I.remaining file.old) (I.remaining file.new) (I.failures file.old) (I.failures file.new)
         archive.old text archive.new result) }
 {
-    match fill_stream(fit, file, reply, archive) {
+    match fill_stream(fit, cut, file, reply, archive) {
         Ok(()) => answer_end(0, reply, archive),
+        Err(TakeStop::Cut(kept)) => answer_front(kept, reply, archive),
         Err(TakeStop::File) => {
             tell_no(reply, b"File");
             None
@@ -201,9 +210,38 @@ fn answer_file<I: Input, O: Output, D: Disk>(
     }
 }
 
-// Takes all bytes of a file into the stream in slot 0, and makes room for the record of its case. For both cases go, if they may.
+// Takes all bytes of a file into the stream in slot 0, or those that are kept, and makes room for the record of its case. For both cases go, if
+// they may.
 fn fill_stream<I: Input, O: Output, D: Disk>(
     fit: bool,
+    cut: Option<u64>,
+    file: &mut I,
+    reply: &mut Reply<'_, O>,
+    archive: &mut Archive<D>,
+) -> Result<(), TakeStop>
+    requires { Takes D.Disk archive.old 0 [] (Ok tt) archive.old }
+    ensures all { FillsAll D.Disk fit cut (I.remaining file.old) (I.remaining file.new) (I.failures file.old) (I.failures file.new)
+        archive.old (telling O.Output reply.old reply.new) archive.new result }
+    ensures served { fit ≡ true → IsServed (state_of archive.old) → FillsServed result (state_of archive.new) }
+{
+    if !fit {
+        return take_asked(fit, cut, file, reply, archive);
+    }
+    match take_asked(fit, cut, file, reply, archive) {
+        Ok(()) => make_room(Need::Record, reply, archive),
+        Err(TakeStop::Cut(kept)) => {
+            make_room(Need::Record, reply, archive)?;
+            Err(TakeStop::Cut(kept))
+        }
+        Err(TakeStop::File) => Err(TakeStop::File),
+        Err(TakeStop::Refused(fault)) => Err(TakeStop::Refused(fault)),
+    }
+}
+
+// Takes all bytes of a file into the stream in slot 0, or those that are kept, if it may be cut. No file is cut before its first byte.
+fn take_asked<I: Input, O: Output, D: Disk>(
+    fit: bool,
+    cut: Option<u64>,
     file: &mut I,
     reply: &mut Reply<'_, O>,
     archive: &mut Archive<D>,
@@ -211,13 +249,16 @@ fn fill_stream<I: Input, O: Output, D: Disk>(
     requires { Takes D.Disk archive.old 0 [] (Ok tt) archive.old }
     ensures all { TakesAll D.Disk fit (I.remaining file.old) (I.remaining file.new) (I.failures file.old) (I.failures file.new)
         archive.old (telling O.Output reply.old reply.new) archive.new result }
-    ensures served { fit ≡ true → IsServed (state_of archive.old) → FillsServed result (state_of archive.new) }
+    ensures served { fit ≡ true → IsServed (state_of archive.old) → ServesOn result (state_of archive.new) }
+    ensures well { CutsWell fit cut result (state_of archive.new) }
 {
-    take_file(fit, file, reply, archive)?;
-    if !fit {
-        return Ok(());
+    let Some(most) = cut else {
+        return take_file(fit, file, reply, archive);
+    };
+    if most == 0 {
+        return take_file(fit, file, reply, archive);
     }
-    make_room(Need::Record, reply, archive)
+    take_front(fit, most, file, reply, archive)
 }
 
 // Takes all bytes of a file into the stream in slot 0, for which cases go, if they may.
@@ -231,49 +272,58 @@ fn take_file<I: Input, O: Output, D: Disk>(
     ensures all { TakesAll D.Disk fit (I.remaining file.old) (I.remaining file.new) (I.failures file.old) (I.failures file.new)
         archive.old (telling O.Output reply.old reply.new) archive.new result }
     ensures served { fit ≡ true → IsServed (state_of archive.old) → ServesOn result (state_of archive.new) }
+    ensures uncut { IsUncut result }
 {
     for _ in 0..MOST_READS {
-        let goes_on = take_next(fit, file, reply, archive)?;
-        if !goes_on {
+        let count = take_next(fit, MOST_BYTES, file, reply, archive)?;
+        if count == 0 {
             return Ok(());
         }
     }
     Err(TakeStop::File)
 }
 
-// Takes the next bytes of a file into the stream in slot 0, for which cases go, if they may. Says whether there were any.
-fn take_next<I: Input, O: Output, D: Disk>(
+// Takes the next bytes of a file into the stream in slot 0, `most` at most, for which cases go, if they may. Says how many there were.
+pub(crate) fn take_next<I: Input, O: Output, D: Disk>(
     fit: bool,
+    most: usize,
     file: &mut I,
     reply: &mut Reply<'_, O>,
     archive: &mut Archive<D>,
-) -> Result<bool, TakeStop>
+) -> Result<usize, TakeStop>
+    requires { 0 < most }
     ensures next { (begun : Parts D) (so_far : List ℕ) (gone : List (Going D))
         → TakesWhile D.Disk begun so_far gone (Ok tt) archive.old
         → TakesNext D.Disk (I.remaining file.old) (I.remaining file.new) (I.failures file.old) (I.failures file.new)
         begun so_far gone fit (telling O.Output reply.old reply.new) archive.new result }
     ensures served { fit ≡ true → IsServed (state_of archive.old) → ServesOn result (state_of archive.new) }
+    ensures few { IfOk result (λ n. n ≤ most) }
+    ensures uncut { IsUncut result }
 {
     if !fit {
-        return take_more(MOST_BYTES, file, archive);
+        return take_more(most, file, archive);
     }
-    take_fitting(file, reply, archive)
+    take_fitting(most, file, reply, archive)
 }
 
 // The same where cases may go: they do where no data block is free.
 fn take_fitting<I: Input, O: Output, D: Disk>(
+    most: usize,
     file: &mut I,
     reply: &mut Reply<'_, O>,
     archive: &mut Archive<D>,
-) -> Result<bool, TakeStop>
+) -> Result<usize, TakeStop>
+    requires { 0 < most }
     ensures next { (begun : Parts D) (so_far : List ℕ) (gone : List (Going D))
         → TakesWhile D.Disk begun so_far gone (Ok tt) archive.old
         → TakesNext D.Disk (I.remaining file.old) (I.remaining file.new) (I.failures file.old) (I.failures file.new)
         begun so_far gone true (telling O.Output reply.old reply.new) archive.new result }
     ensures served { IsServed (state_of archive.old) → ServesOn result (state_of archive.new) }
+    ensures few { IfOk result (λ n. n ≤ most) }
+    ensures uncut { IsUncut result }
 {
     if !lacks_block(archive) {
-        return take_more(MOST_BYTES, file, archive);
+        return take_more(most, file, archive);
     }
     take_one(file, reply, archive)
 }
@@ -283,33 +333,37 @@ fn take_one<I: Input, O: Output, D: Disk>(
     file: &mut I,
     reply: &mut Reply<'_, O>,
     archive: &mut Archive<D>,
-) -> Result<bool, TakeStop>
+) -> Result<usize, TakeStop>
     ensures next { (begun : Parts D) (so_far : List ℕ) (gone : List (Going D))
         → TakesWhile D.Disk begun so_far gone (Ok tt) archive.old
         → TakesNext D.Disk (I.remaining file.old) (I.remaining file.new) (I.failures file.old) (I.failures file.new)
         begun so_far gone true (telling O.Output reply.old reply.new) archive.new result }
     ensures served { IsServed (state_of archive.old) → ServesOn result (state_of archive.new) }
+    ensures few { IfOk result (λ n. n ≤ 1) }
+    ensures uncut { IsUncut result }
 {
-    let goes_on = take_more(1, file, archive)?;
-    if !goes_on {
-        return Ok(false);
+    let count = take_more(1, file, archive)?;
+    if count == 0 {
+        return Ok(0);
     }
     make_room(Need::Block, reply, archive)?;
-    Ok(true)
+    Ok(count)
 }
 
-// Takes the next bytes of a file into the stream in slot 0, `most` at most. Says whether there were any.
+// Takes the next bytes of a file into the stream in slot 0, `most` at most. Says how many there were.
 fn take_more<I: Input, D: Disk>(
     most: usize,
     file: &mut I,
     archive: &mut Archive<D>,
-) -> Result<bool, TakeStop>
+) -> Result<usize, TakeStop>
     requires { 0 < most }
     ensures more { (begun : Parts D) (so_far : List ℕ)
         → Takes D.Disk begun 0 so_far (Ok tt) archive.old
         → TakesMore (I.remaining file.old) (I.remaining file.new) (I.failures file.old) (I.failures file.new)
         so_far (λ raw v. Takes D.Disk begun 0 raw v archive.new) result }
     ensures advances { Advances most (state_of archive.old) result (state_of archive.new) }
+    ensures few { IfOk result (λ n. n ≤ most) }
+    ensures uncut { IsUncut result }
 {
     let (lent, room) = archive.room(0);
     if let Err(fault) = lent {
@@ -320,10 +374,10 @@ fn take_more<I: Input, D: Disk>(
         return Err(TakeStop::File);
     };
     if count == 0 {
-        return Ok(false);
+        return Ok(0);
     }
     if let Err(fault) = archive.advance(0, count) {
         return Err(TakeStop::Refused(fault));
     }
-    Ok(true)
+    Ok(count)
 }

@@ -86,6 +86,7 @@ fn stores<D: Disk + Drop>(rt: &(impl AllocGlobal + Abort), disk: D, row: &Row) -
         label: None,
         pin: false,
         fit: false,
+        cut: None,
         burst: None,
     };
     let (text, outcome, disk) = stored(rt.alloc(), disk, row, &options)?;
@@ -328,6 +329,7 @@ fn stores_labelled<D: Disk + Drop>(
         label,
         pin: false,
         fit: false,
+        cut: None,
         burst: None,
     };
     let (text, outcome, disk) = stored(rt.alloc(), disk, row, &options)?;
@@ -368,6 +370,7 @@ fn stores_pinned<D: Disk + Drop>(
         label: None,
         pin: true,
         fit: false,
+        cut: None,
         burst: None,
     };
     let (text, outcome, disk) = stored(rt.alloc(), disk, row, &options)?;
@@ -422,6 +425,7 @@ fn stores_fitting<D: Disk + Drop>(
         label: None,
         pin: false,
         fit: true,
+        cut: None,
         burst: None,
     };
     let (text, outcome, disk) = stored(rt.alloc(), disk, row, &options)?;
@@ -439,4 +443,60 @@ fn cases_go_so_that_a_stream_fits(rt: HostRuntime) -> Result<(), Fail> {
     let disk = stores_fitting(&rt, disk, &FITTED)?;
     let disk = stores_fitting(&rt, disk, &NOT_FITTED)?;
     lists(&rt, disk, "1 exec 8192 0 0 0 pinned a\nok\n")
+}
+
+// At the most bytes that may be kept, and where the data blocks are full; not where there is no room at all.
+static CUT: [(u64, Row); 3] = [
+    (
+        5,
+        Row {
+            policy: None,
+            line: b"begin exec 0 a",
+            size: 6,
+            replies: "name a\nok\ncut 5\nstored 1\nok\n",
+            retired_first: true,
+            stored: Some(1),
+        },
+    ),
+    (
+        1 << 30,
+        Row {
+            policy: None,
+            line: b"begin exec 0 b",
+            size: 12289,
+            replies: "name b\nok\ncut 12288\nstored 2\nok\n",
+            retired_first: true,
+            stored: Some(2),
+        },
+    ),
+    (
+        1 << 30,
+        Row {
+            policy: None,
+            line: b"begin exec 0 c",
+            size: 1,
+            replies: "name c\nok\nno SpaceFull\n",
+            retired_first: true,
+            stored: None,
+        },
+    ),
+];
+
+#[test]
+fn a_stream_that_finds_no_room_is_cut(rt: HostRuntime) -> Result<(), Fail> {
+    let mut disk = fresh_disk(rt.alloc())?;
+    for (most, row) in &CUT {
+        let options = StoreOptions {
+            label: None,
+            pin: false,
+            fit: false,
+            cut: Some(*most),
+            burst: None,
+        };
+        let (text, outcome, then) = stored(rt.alloc(), disk, row, &options)?;
+        assert_eq!(rt; text.as_str(), row.replies);
+        assert_eq!(rt; outcome.stored, row.stored);
+        disk = then;
+    }
+    lists(&rt, disk, "1 exec 5 0 0 0 - a\n2 exec 12288 0 0 0 - b\nok\n")
 }

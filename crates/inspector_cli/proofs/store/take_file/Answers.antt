@@ -1,31 +1,31 @@
-use Rattle.std.proofs.Common.{Bool, [], refl, arith}
+use Rattle.std.proofs.Common.{ℕ, [], length, refl, arith}
 use Rattle.std.proofs.KnownBytes.{Consumes-nil}
 use Rattle.script_streams.specs.TellLaws.{tells_nothing}
 use Rattle.std.proofs.lemmas.Result.{err_from_is_err_and}
 use Rattle.intake.specs.Parts.{state_of}
 use Rattle.script_streams.specs.Telling.{sink}
-use Rattle.inspector_cli.proofs.StoreLemmas.{file_went_on, file_ended, file_stopped}
+use Rattle.inspector_cli.proofs.StoreLemmas.{file_went_on, file_ended, file_stopped, uncut_after, uncut_as}
 use Rattle.inspector_cli.proofs.SpentLemmas.{stop_as}
 use Rattle.inspector_cli.proofs.store.take_file.Goals as goal
 
-pub returns-in_err-goes_on-clause-all : goal.returns-in_err-goes_on-clause-all
-returns-in_err-goes_on-clause-all g c =
+pub returns-in_err-count-clause-all : goal.returns-in_err-count-clause-all
+returns-in_err-count-clause-all g c =
     let p = err_from_is_err_and c.from_residual.result c.from_residual.ensures.1 in
     let i = c.loop.invariant in
     rw (p.1, p.2) (file_stopped g.D.Disk c.args.fit (g.I.Input.remaining c.args.file.now) (g.I.Input.remaining c.loop.file) (g.I.Input.remaining c.take_next.new.file)
     (g.I.Input.failures c.args.file.now) (g.I.Input.failures c.loop.file) (g.I.Input.failures c.take_next.new.file)
     (sink g.O.Output c.args.reply.now) (sink g.O.Output c.loop.reply) (sink g.O.Output c.take_next.new.reply)
     c.args.archive.now c.loop.archive c.take_next.new.archive c.loop.counter
-    (i.gone, i.told, i.raw, i.consumed, i.counted, i.failures, i.takes, i.unasked) c.in_err-goes_on.field-0.0 (c.in_err-goes_on.ensures.next c.args.archive.now i.raw i.gone i.takes))
+    (i.gone, i.told, i.raw, i.consumed, i.counted, i.failures, i.takes, i.unasked) c.in_err-count.field-0.0 (uncut_after (length i.raw) c.in_err-count.field-0.0 c.in_err-count.ensures.uncut) (c.in_err-count.ensures.next c.args.archive.now i.raw i.gone i.takes))
 
-pub returns-then-not-goes_on-clause-all : goal.returns-then-not-goes_on-clause-all
-returns-then-not-goes_on-clause-all g c =
+pub returns-then-count-eq0-clause-all : goal.returns-then-count-eq0-clause-all
+returns-then-count-eq0-clause-all g c =
     let i = c.loop.invariant in
     file_ended g.D.Disk c.args.fit (g.I.Input.remaining c.args.file.now) (g.I.Input.remaining c.loop.file) (g.I.Input.remaining c.take_next.new.file)
     (g.I.Input.failures c.args.file.now) (g.I.Input.failures c.loop.file) (g.I.Input.failures c.take_next.new.file)
     (sink g.O.Output c.args.reply.now) (sink g.O.Output c.loop.reply) (sink g.O.Output c.take_next.new.reply)
     c.args.archive.now c.loop.archive c.take_next.new.archive c.loop.counter
-    (i.gone, i.told, i.raw, i.consumed, i.counted, i.failures, i.takes, i.unasked) c.in_ok-goes_on.goes_on c.if-not-goes_on.true (c.in_ok-goes_on.ensures.next c.args.archive.now i.raw i.gone i.takes)
+    (i.gone, i.told, i.raw, i.consumed, i.counted, i.failures, i.takes, i.unasked) c.in_ok-count.count c.if-count-eq0.true (c.in_ok-count.ensures.next c.args.archive.now i.raw i.gone i.takes)
 
 pub loop-init : goal.loop-init
 loop-init g c = record {
@@ -47,22 +47,27 @@ loop-preserved g c =
     (g.I.Input.failures c.args.file.now) (g.I.Input.failures c.loop.file) (g.I.Input.failures c.take_next.new.file)
     (sink g.O.Output c.args.reply.now) (sink g.O.Output c.loop.reply) (sink g.O.Output c.take_next.new.reply)
     c.args.archive.now c.loop.archive c.take_next.new.archive c.loop.counter
-    (i.gone, i.told, i.raw, i.consumed, i.counted, i.failures, i.takes, i.unasked) c.in_ok-goes_on.goes_on c.if-not-goes_on.false (c.in_ok-goes_on.ensures.next c.args.archive.now i.raw i.gone i.takes) in record {
-      gone = w.0;
-      told = w.1;
-      raw = w.2;
-      consumed = w.3;
-      counted = w.4;
-      failures = w.5;
-      takes = w.6;
-      unasked = w.7;
-      served = λ fits was. c.in_ok-goes_on.ensures.served fits (i.served fits was);
+    (i.gone, i.told, i.raw, i.consumed, i.counted, i.failures, i.takes, i.unasked) c.in_ok-count.count c.if-count-eq0.false (c.in_ok-count.ensures.next c.args.archive.now i.raw i.gone i.takes) in record {
+      gone = w.0.0;
+      told = w.0.1;
+      raw = w.0.2;
+      consumed = w.0.3;
+      counted = w.0.4;
+      failures = w.0.5;
+      takes = w.0.6;
+      unasked = w.0.7;
+      served = λ fits was. c.in_ok-count.ensures.served fits (i.served fits was);
     }
 
-pub returns-in_err-goes_on-clause-served : goal.returns-in_err-goes_on-clause-served
-returns-in_err-goes_on-clause-served g c = λ fits was.
+pub returns-in_err-count-clause-served : goal.returns-in_err-count-clause-served
+returns-in_err-count-clause-served g c = λ fits was.
     let p = err_from_is_err_and c.from_residual.result c.from_residual.ensures.1 in
-    rw (p.1, p.2) (stop_as Bool (Unit {0}) (state_of c.take_next.new.archive) c.in_err-goes_on.field-0.0 (c.in_err-goes_on.ensures.served fits (c.loop.invariant.served fits was)))
+    rw (p.1, p.2) (stop_as ℕ (Unit {0}) (state_of c.take_next.new.archive) c.in_err-count.field-0.0 (c.in_err-count.ensures.served fits (c.loop.invariant.served fits was)))
 
-pub returns-then-not-goes_on-clause-served : goal.returns-then-not-goes_on-clause-served
-returns-then-not-goes_on-clause-served g c = λ fits was. c.in_ok-goes_on.ensures.served fits (c.loop.invariant.served fits was)
+pub returns-then-count-eq0-clause-served : goal.returns-then-count-eq0-clause-served
+returns-then-count-eq0-clause-served g c = λ fits was. c.in_ok-count.ensures.served fits (c.loop.invariant.served fits was)
+
+pub returns-in_err-count-clause-uncut : goal.returns-in_err-count-clause-uncut
+returns-in_err-count-clause-uncut g c =
+    let p = err_from_is_err_and c.from_residual.result c.from_residual.ensures.1 in
+    rw (p.1, p.2) (uncut_as ℕ (Unit {0}) c.in_err-count.field-0.0 c.in_err-count.ensures.uncut)

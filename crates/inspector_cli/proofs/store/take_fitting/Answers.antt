@@ -12,4 +12,4 @@ returns-then-not-lacks_block-clause-next g c = λ begun so_far gone takes.
 
 pub returns-then-not-lacks_block-clause-served : goal.returns-then-not-lacks_block-clause-served
 returns-then-not-lacks_block-clause-served g c = λ served.
-    free_serves 4096 (state_of c.args.archive.now) (state_of c.take_more.new.archive) c.take_more.result (c.lacks_block.ensures.finds c.if-not-lacks_block.true) c.take_more.ensures.advances
+    free_serves c.args.most (state_of c.args.archive.now) (state_of c.take_more.new.archive) c.take_more.result (c.lacks_block.ensures.finds c.if-not-lacks_block.true) c.take_more.ensures.advances

@@ -2,9 +2,11 @@ use Rattle.std.proofs.Common.{inr, ◌++◌, [], length, take, drop, ap, sym, �
 use Rattle.std.proofs.lemmas.List.{take-append-le}
 use Rattle.std.proofs.KnownBytes.{Consumes-kept, Consumes-nil}
 use Rattle.intake.specs.Parts.{state_of}
+use Rattle.inspector_cli.specs.Reply.{Takes}
+use Rattle.inspector_cli.proofs.FitLemmas.{took_some}
 use Rattle.inspector_cli.proofs.FeedLemmas.{lent_takes, lent_length, lent_some, lent_few, fed}
 use Rattle.inspector_cli.proofs.RoomLemmas.{states_agree, still_fits}
-use Rattle.inspector_cli.proofs.SpentLemmas.{advanced_by, read_few}
+use Rattle.inspector_cli.proofs.SpentLemmas.{advanced_by, advanced_some, read_few}
 use Rattle.inspector_cli.proofs.store.take_more.Goals as goal
 
 pub returns-in_default-read-clause-more : goal.returns-in_default-read-clause-more
@@ -65,11 +67,12 @@ returns-clause-more g c = λ begun so_far taken.
     let size = length-take-le c.in-Ok.count c.read.new.into few in
     let lent = rw is at c.room-lent.ensures.lent in
     let some = rw is at c.room-lent.ensures.never_empty in
-    let more = c.if-count-eq0.false in
-    let call = rw is at c.advance.ensures in (
+    let call = rw is at c.advance.ensures in
+    took_some (g.I.Input.remaining c.args.file.now) (g.I.Input.remaining c.read.new.self) (g.I.Input.failures c.args.file.now) (g.I.Input.failures c.read.new.self) so_far
+    (λ raw v. Takes g.D.Disk begun 0 raw v c.advance.new.self) c.in-Ok.count c.if-count-eq0.false (
       take c.in-Ok.count c.read.new.into,
       c.in-Ok.ensures.bytes.0,
-      omega (arith, size, more),
+      size,
       c.in-Ok.ensures.ok,
       rw c.in_default-advance.is at (fed g.D.Disk begun c.args.archive.now 0 so_far (c.read.new.into ++ drop c.min-size.result c.room-lent.result.1.now) tt taken (long ∙ ap length lent) (omega (arith, long, some))
           c.advance.new.self c.in-Ok.count (length c.room-lent.result.1.now) (take c.in-Ok.count c.read.new.into) c.advance.result
@@ -92,7 +95,11 @@ returns-in-Err-advance-clause-advances g c =
 
 pub returns-clause-advances : goal.returns-clause-advances
 returns-clause-advances g c =
-    rw c.in_default-advance.is at (advanced_by c.args.archive.now c.room-lent.result.0 (c.read.new.into ++ drop c.min-size.result c.room-lent.result.1.now) c.in-Ok.count c.args.most (length c.room-lent.result.1.now) c.advance.result (state_of c.advance.new.self)
+    advanced_some c.args.most (state_of c.args.archive.now) (state_of c.advance.new.self) c.in-Ok.count c.if-count-eq0.false
+    (rw c.in_default-advance.is at (advanced_by c.args.archive.now c.room-lent.result.0 (c.read.new.into ++ drop c.min-size.result c.room-lent.result.1.now) c.in-Ok.count c.args.most (length c.room-lent.result.1.now) c.advance.result (state_of c.advance.new.self)
     (lent_few c.read.new.into c.room-lent.result.1.now c.min-size.result c.args.most c.in-Ok.count c.read.auto.into c.min-size.ensures c.in-Ok.ensures.count)
     (read_few c.read.new.into c.room-lent.result.1.now c.min-size.result c.args.most c.in-Ok.count c.read.auto.into c.min-size.ensures c.in-Ok.ensures.count)
-    (rw c.in_default.is at c.room-lent.ensures.fits) c.advance.ensures.step)
+    (rw c.in_default.is at c.room-lent.ensures.fits) c.advance.ensures.step))
+
+pub returns-clause-few : goal.returns-clause-few
+returns-clause-few g c = read_few c.read.new.into c.room-lent.result.1.now c.min-size.result c.args.most c.in-Ok.count c.read.auto.into c.min-size.ensures c.in-Ok.ensures.count

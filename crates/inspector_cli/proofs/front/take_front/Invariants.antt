@@ -1,0 +1,22 @@
+use Rattle.std.proofs.Common.{◌≡◌, ◌≤◌, ℕ, false, true, List, [], length, Ok}
+use Rattle.std.specs.List.{flat_map}
+use Rattle.std.specs.Io.KnownBytes.{Consumes}
+use Rattle.intake.specs.Parts.{state_of}
+use Rattle.script_streams.specs.Replies.{TellsText, telling}
+use Rattle.inspector_cli.specs.Fitting.{Going, IsServed, TakesWhile, going_text}
+use Rattle.inspector_cli.proofs.front.take_front.Given as goal
+
+abbrev pub invariant-loop : goal.invariant-loop
+invariant-loop g l = record {
+  gone : List (Going _);
+  told : TellsText (telling g.O.Output l.fn.reply l.reply) (flat_map going_text gone);
+  raw : List ℕ;
+  consumed : Consumes (g.I.Input.remaining l.initial.file) (g.I.Input.remaining l.file) raw;
+  counted : l.counter ≤ length raw;
+  failures : g.I.Input.failures l.file ≡ g.I.Input.failures l.initial.file;
+  takes : TakesWhile g.D.Disk l.fn.archive raw gone (Ok tt) l.archive;
+  unasked : l.fn.fit ≡ false → gone ≡ [];
+  length : l.taken ≡ length raw;
+  within : l.taken ≤ l.fn.most;
+  served : l.fn.fit ≡ true → IsServed (state_of l.fn.archive) → IsServed (state_of l.archive);
+}
