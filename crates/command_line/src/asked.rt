@@ -1,7 +1,9 @@
 // What the words ask for.
+use crate::case_words::names_a_case;
 use crate::endings::Ending;
 use crate::grammar::program;
 use crate::handle::HandleWords;
+use crate::listing::{ListWords, list_words};
 use crate::raw_words::{is_text, push_escaped};
 use archive_files::{ArchivePath, CopyWords, NewArchive, Refusal, StoreWords, WordPart};
 use arrayvec::ArrayVec;
@@ -52,10 +54,20 @@ pub(crate) enum Asked<'a> {
     },
     // A core from the input, as a configuration says.
     Handle(HandleWords<'a>),
+    // The cases of an archive, for people.
+    List {
+        archive: ArchivePath<'a>,
+        wanted: ListWords<'a>,
+    },
     // What one line of a script asks, and its reply.
     Ask {
         archive: ArchivePath<'a>,
         question: Question,
+    },
+    // The same, of a line whose second word names a case.
+    AskCase {
+        archive: ArchivePath<'a>,
+        words: Vec<&'a str>,
     },
     // The lines of the input that only look, and their replies.
     Look {
@@ -128,14 +140,11 @@ pub(crate) fn read_words<'a>(alloc: Global, words: &'a [String]) -> Result<Asked
             file: found.get_str("file").map(checked).transpose()?,
         }),
         Some(("handle", found)) => Ok(Asked::Handle(handle_words(alloc, found)?)),
-        Some(("list", found)) => Ok(Asked::Ask {
+        Some(("list", found)) => Ok(Asked::List {
             archive: place_of(found)?,
-            question: Question::Call(Call::ListCases),
+            wanted: list_words(found)?,
         }),
-        Some(("ask", found)) => Ok(Asked::Ask {
-            archive: place_of(found)?,
-            question: question_of(alloc, found)?,
-        }),
+        Some(("ask", found)) => Ok(ask_words(alloc, found)?),
         Some(("look", found)) => Ok(Asked::Look {
             archive: place_of(found)?,
         }),
@@ -171,7 +180,7 @@ fn text_of<'a>(found: &ArgMatches<'a>, id: &str) -> Result<&'a str, Refusal> {
 }
 
 // A word that has to be text.
-fn checked<'a>(word: &'a str) -> Result<&'a str, Refusal> {
+pub(crate) fn checked<'a>(word: &'a str) -> Result<&'a str, Refusal> {
     checked_part(word, WordPart::Other)
 }
 
@@ -325,6 +334,20 @@ fn begins_core(line: &[u8]) -> bool {
     matches!(parse_text(line), Command::Plain(Request::BeginCore { .. }))
 }
 
+// What the words of `ask` ask for.
+fn ask_words<'a>(alloc: Global, found: &ArgMatches<'a>) -> Result<Asked<'a>, Refusal> {
+    let archive = place_of(found)?;
+    let words = found.get_strs("words").unwrap_or(&[]);
+    match question_of(alloc, found) {
+        Ok(question) => Ok(Asked::Ask { archive, question }),
+        Err(Refusal::NoLine(_)) if names_a_case(alloc, words)? => Ok(Asked::AskCase {
+            archive,
+            words: words.to_vec(alloc)?,
+        }),
+        Err(refusal) => Err(refusal),
+    }
+}
+
 // What the line of a script that these words are asks.
 fn question_of(alloc: Global, found: &ArgMatches<'_>) -> Result<Question, Refusal> {
     let line = asked_line(alloc, found)?;
@@ -348,12 +371,21 @@ fn usage_of(found: &ArgMatches<'_>) -> &'static str {
 
 // The line of a script that these words are.
 fn asked_line(alloc: Global, found: &ArgMatches<'_>) -> Result<Vec<u8>, Refusal> {
+    let words = found.get_strs("words").unwrap_or(&[]);
+    for word in words {
+        checked(word)?;
+    }
+    Ok(line_of(alloc, words)?)
+}
+
+// Words with a space between them.
+pub(crate) fn line_of(alloc: Global, words: &[&str]) -> Result<Vec<u8>, AllocError> {
     let mut line = Vec::new(alloc);
-    for word in found.get_strs("words").unwrap_or(&[]) {
+    for word in words {
         if !line.is_empty() {
             push_text(&mut line, " ")?;
         }
-        push_text(&mut line, checked(word)?)?;
+        push_text(&mut line, word)?;
     }
     Ok(line)
 }

@@ -4,7 +4,7 @@ use crate::config_file::Document;
 use crate::handle::{HANDLER_LIMIT, HANDLER_TEMPLATE, HandleWords};
 use crate::log::KERNEL_LOG;
 use archive_files::{Access, ArchivePath, Failure, reason_of, shape_on, take_disk};
-use handler_config::Config;
+use handler_config::{Burst, Config};
 use inspector_cli::SessionFault;
 use journal_layout::Shape;
 use name_template::Template;
@@ -27,6 +27,8 @@ pub(crate) fn check<R: AllocGlobal + Files<File = File>, O: Output>(
     let config = Config::of(&document.value);
     let mut reply = Reply::new(output);
     tell_config(&mut reply, &config, words.archive);
+    tell_relative(&mut reply, b"archive ", config.archive.or(words.archive));
+    tell_relative(&mut reply, b"log ", config.log);
     let are_known = tell_faults(rt, &mut reply, words, document);
     let are_taken = tell_values(rt, &mut reply, &config);
     let is_large = tell_size(rt, &mut reply, &config, words.archive);
@@ -52,6 +54,7 @@ fn tell_config<O: Output>(reply: &mut Reply<'_, O>, config: &Config<'_>, archive
         Some(config.limit.unwrap_or(HANDLER_LIMIT)),
     );
     tell_flag_line(reply, b"fit ", config.fit);
+    tell_burst_line(reply, config.burst);
     let template = config.template.unwrap_or(HANDLER_TEMPLATE);
     tell_text_line(reply, b"template ", Some(template));
     tell_flag_line(reply, b"uses-pid ", config.uses_pid);
@@ -75,9 +78,36 @@ fn tell_number_line<O: Output>(reply: &mut Reply<'_, O>, key: &[u8], number: Opt
     reply.tell(b"\n");
 }
 
+fn tell_burst_line<O: Output>(reply: &mut Reply<'_, O>, burst: Option<Burst>) {
+    reply.tell(b"burst ");
+    match burst {
+        Some(burst) => {
+            reply.tell_decimal(u128::from(burst.most));
+            reply.tell(b" in ");
+            reply.tell_decimal(u128::from(burst.seconds));
+        }
+        None => reply.tell(b"-"),
+    }
+    reply.tell(b"\n");
+}
+
 fn tell_flag_line<O: Output>(reply: &mut Reply<'_, O>, key: &[u8], flag: bool) {
     reply.tell(key);
     reply.tell(if flag { b"true\n" } else { b"false\n" });
+}
+
+// Tells of a path that the kernel's handler finds in another folder than the one who asks.
+fn tell_relative<O: Output>(reply: &mut Reply<'_, O>, key: &[u8], path: Option<&str>) {
+    let Some(path) = path else {
+        return;
+    };
+    if path.is_empty() || path.starts_with('/') {
+        return;
+    }
+    reply.tell(b"note ");
+    reply.tell(key);
+    reply.tell_text(path.as_bytes());
+    reply.tell(b": the kernel starts its handler in /\n");
 }
 
 // Tells each fault. Says whether there is none.
@@ -122,9 +152,12 @@ fn tell_values<R: AllocGlobal + Files<File = File>, O: Output>(
     if !is_label {
         reply.tell(b"fault label: it has over 64 bytes\n");
     }
-    let is_log = takes_lines(rt, config.log.unwrap_or(KERNEL_LOG));
+    let log = config.log.unwrap_or(KERNEL_LOG);
+    let is_log = takes_lines(rt, log);
     if !is_log {
-        reply.tell(b"fault log: the file can't be written\n");
+        reply.tell(b"fault log: ");
+        reply.tell_text(log.as_bytes());
+        reply.tell(b" can't be written\n");
     }
     is_template && is_label && is_log
 }

@@ -100,6 +100,7 @@ fn fault_words(fault: Fault) -> &'static [u8] {
         Fault::NotNumber => b"is no number from 0 on",
         Fault::NotFlag => b"is neither true nor false",
         Fault::NotAge => b"is no age, as \"30d\", \"12h\", \"45m\" or \"90s\"",
+        Fault::NotBurst => b"is no table of two numbers, as { most = 3, seconds = 60 }",
     }
 }
 

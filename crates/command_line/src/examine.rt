@@ -3,7 +3,8 @@ ghost use Rattle.case_journal.specs.Viewing.{OnlyReads};
 
 use archive_files::Collected;
 use disk_model::Disk;
-use image_replies::{CoreImage, tell_core_fault};
+use elf_view::{Elf, Want};
+use image_replies::{CoreImage, tell_core_fault, tell_elf_fault};
 use intake::{Archive, Settings};
 use journal_layout::Kind;
 use script_streams::Reply;
@@ -25,9 +26,8 @@ pub(crate) struct Seen {
     pub(crate) length: u64,
     // The signal that ended the process, or 0.
     pub(crate) signal: u32,
-    kind: Kind,
-    // The first bytes of the image.
-    front: Vec<u8>,
+    // What can't be read of its image, in words; empty if that can.
+    trouble: Collected,
 }
 
 // Machines that cores are likely to come from, by e_machine.
@@ -51,46 +51,53 @@ fn machine_name(machine: u16) -> &'static [u8] {
 }
 
 impl Seen {
-    // What can't be read of the image, in words. Nothing is said if its headers and notes are sound, or are not all among the first
-    // bytes.
-    pub(crate) fn trouble(&self, alloc: Global) -> Collected {
-        let mut words = Collected::new(alloc);
-        let mut reply = Reply::new(&mut words);
-        if !self.tell_kind(&mut reply) && self.front.len() as u64 == self.length {
-            self.tell_fault(alloc, &mut reply);
-        }
-        let _ = reply.finish();
-        words
+    // What can't be read of the image, in words: it is no ELF file, or of another machine, or a field is at fault. Nothing is said if
+    // its headers and notes are sound.
+    pub(crate) fn trouble(&self) -> &[u8] {
+        self.trouble.text()
     }
+}
 
-    // Tells in words if the image can't be read as an ELF file of RISC-V 64. Says whether it did.
-    fn tell_kind(&self, reply: &mut Reply<'_, Collected>) -> bool {
-        if self.front.len() < HEAD || !self.front.starts_with(b"\x7fELF") {
-            reply.tell(b"is no ELF file");
-            return true;
-        }
-        let machine = u16::from_le_bytes([self.front[18], self.front[19]]);
-        if machine == EM_RISCV {
-            return false;
-        }
-        reply.tell(b"is of machine ");
-        reply.tell_decimal(u128::from(machine));
-        reply.tell(machine_name(machine));
-        reply.tell(b": corekeep answers questions about RISC-V 64");
-        true
+// Tells in words if an image that begins so can't be read as an ELF file of RISC-V 64. Says whether it did.
+fn tell_kind(reply: &mut Reply<'_, Collected>, front: &[u8]) -> bool {
+    if front.len() < HEAD || !front.starts_with(b"\x7fELF") {
+        reply.tell(b"is no ELF file");
+        return true;
     }
+    let machine = u16::from_le_bytes([front[18], front[19]]);
+    if machine == EM_RISCV {
+        return false;
+    }
+    reply.tell(b"is of machine ");
+    reply.tell_decimal(u128::from(machine));
+    reply.tell(machine_name(machine));
+    reply.tell(b": corekeep answers questions about RISC-V 64");
+    true
+}
 
-    // Tells the first faulty field, if there is one.
-    fn tell_fault(&self, alloc: Global, reply: &mut Reply<'_, Collected>) {
-        let fault = match self.kind {
-            Kind::Core => core_fault(alloc, &self.front),
-            Kind::Exec => Collected::new(alloc),
-        };
-        if let Some(reason) = fault.text().strip_prefix(b"no ".as_slice()) {
-            reply.tell(b"is damaged or cut: ");
-            reply.tell(reason.trim_ascii_end());
-        }
+// What can't be read of an image that begins so, in words, by its kind alone.
+fn kind_trouble(alloc: Global, front: &[u8]) -> Collected {
+    let mut words = Collected::new(alloc);
+    let mut reply = Reply::new(&mut words);
+    tell_kind(&mut reply, front);
+    let _ = reply.finish();
+    words
+}
+
+// The first field of an image that is at fault, in words; empty if none is.
+fn field_trouble(alloc: Global, kind: Kind, image: &[u8]) -> Collected {
+    let fault = match kind {
+        Kind::Core => core_fault(alloc, image),
+        Kind::Exec => exec_fault(alloc, image),
+    };
+    let mut words = Collected::new(alloc);
+    let mut reply = Reply::new(&mut words);
+    if let Some(reason) = fault.text().strip_prefix(b"no ".as_slice()) {
+        reply.tell(b"is damaged or cut: ");
+        reply.tell(reason.trim_ascii_end());
     }
+    let _ = reply.finish();
+    words
 }
 
 // The reply to a line over a core that has a fault; empty if it has none.
@@ -99,6 +106,17 @@ fn core_fault(alloc: Global, image: &[u8]) -> Collected {
     let mut reply = Reply::new(&mut told);
     if let Err(fault) = CoreImage::read(image) {
         tell_core_fault(&mut reply, fault);
+    }
+    let _ = reply.finish();
+    told
+}
+
+// The same of an executable.
+fn exec_fault(alloc: Global, image: &[u8]) -> Collected {
+    let mut told = Collected::new(alloc);
+    let mut reply = Reply::new(&mut told);
+    if let Err(fault) = Elf::read(image, Want::Exec) {
+        tell_elf_fault(&mut reply, fault);
     }
     let _ = reply.finish();
     told
@@ -126,12 +144,35 @@ fn see_case<D: Disk>(alloc: Global, seq: u32, archive: &mut Archive<D>) -> Optio
     let length = entry.length;
     let signal = entry.signal;
     let kind = entry.kind;
-    let mut front = vec![in alloc; 0u8; length.min(FRONT) as usize].ok()?;
-    archive.image_part(seq, 0, &mut front).ok()?;
+    let trouble = see_image(alloc, seq, kind, length, archive)?;
     Some(Seen {
         length,
         signal,
-        kind,
-        front,
+        trouble,
     })
+}
+
+// What can't be read of the image of a case, in words. Its first bytes are looked at. If a field of them is at fault, and there are
+// more, the field may be one of those that are missing: the whole image is read then.
+fn see_image<D: Disk>(
+    alloc: Global,
+    seq: u32,
+    kind: Kind,
+    length: u64,
+    archive: &mut Archive<D>,
+) -> Option<Collected>
+    ensures quiet { OnlyReads D.Disk archive.old.disk archive.new.disk }
+{
+    let mut front = vec![in alloc; 0u8; length.min(FRONT) as usize].ok()?;
+    archive.image_part(seq, 0, &mut front).ok()?;
+    let words = kind_trouble(alloc, &front);
+    if !words.text().is_empty() {
+        return Some(words);
+    }
+    let words = field_trouble(alloc, kind, &front);
+    if words.text().is_empty() || length <= FRONT {
+        return Some(words);
+    }
+    let image = archive.image(seq).ok()?;
+    Some(field_trouble(alloc, kind, &image))
 }

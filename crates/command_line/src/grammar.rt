@@ -1,5 +1,6 @@
 // The grammar of the program's words: what the tables say of them.
 use crate::care_tables::CARE_COMMANDS;
+use crate::list_tables::LIST_WORDS;
 use crate::tables::{COMMANDS, CommandWords, Takes, Word};
 use clap::{Arg, ArgAction, Command, Error, value_parser};
 use std::alloc::Global;
@@ -8,7 +9,7 @@ use std::alloc::Global;
 pub(crate) fn program<'a>(alloc: Global) -> Result<Command<'a>, Error> {
     let mut command = whole_program(alloc)?;
     for words in &COMMANDS {
-        command = command.subcommand(command_of(alloc, words)?)?;
+        command = command.subcommand(whole_command(alloc, words)?)?;
     }
     with_care(alloc, command)
 }
@@ -38,7 +39,25 @@ fn whole_program<'a>(alloc: Global) -> Result<Command<'a>, Error> {
     Ok(command)
 }
 
-// A command and its words.
+// A command and all of its words.
+fn whole_command<'a>(alloc: Global, words: &CommandWords) -> Result<Command<'a>, Error> {
+    let command = command_of(alloc, words)?;
+    if words.name == "list" {
+        with_list_words(alloc, command)
+    } else {
+        Ok(command)
+    }
+}
+
+fn with_list_words<'a>(alloc: Global, command: Command<'a>) -> Result<Command<'a>, Error> {
+    let mut command = command;
+    for word in &LIST_WORDS {
+        command = command.arg(argument(alloc, word))?;
+    }
+    Ok(command)
+}
+
+// A command and its words in the table of commands.
 fn command_of<'a>(alloc: Global, words: &CommandWords) -> Result<Command<'a>, Error> {
     let mut command = Command::new(alloc, words.name).about(words.about);
     if let Some(help) = words.after_help {

@@ -8,7 +8,8 @@ use archive_files::{ArchivePath, Collected, Failure, FileWord, Refusal, StoreReq
 use arrayvec::ArrayVec;
 use disk_model::FileFault;
 use handler_config::Config;
-use inspector_cli::{Naming, StoreOptions};
+use inspector_cli::{Burst, Naming, NewStream, StoreOptions, line_stream};
+use journal_layout::Name;
 use name_template::Template;
 use retention::Policy;
 use script_streams::{Output, Reply};
@@ -134,7 +135,7 @@ impl<'a> Handler<'a> {
         rt: &R,
         begin: &Vec<u8>,
     ) -> Result<StoreRequest, Refusal> {
-        let request = self.named(rt, begin, self.template(rt)?)?;
+        let request = self.named(rt, begin, self.template(rt))?;
         let Some(reason) = request.refusal() else {
             return Ok(request);
         };
@@ -144,7 +145,7 @@ impl<'a> Handler<'a> {
         reply.tell(reason);
         let _ = reply.finish();
         self.tell(rt, Level::Warning, line.text());
-        self.named(rt, begin, Template::parse(PLAIN_TEMPLATE.as_bytes())?)
+        self.named(rt, begin, PLAIN_TEMPLATE)
     }
 
     // The same, named by this template.
@@ -152,10 +153,10 @@ impl<'a> Handler<'a> {
         &self,
         rt: &R,
         begin: &Vec<u8>,
-        template: Template,
+        template: &str,
     ) -> Result<StoreRequest, Refusal> {
         let naming = Naming {
-            template,
+            template: Template::parse(template.as_bytes())?,
             uses_pid: self.config.uses_pid,
         };
         let words = StoreWords {
@@ -165,21 +166,31 @@ impl<'a> Handler<'a> {
                 label: self.label(rt),
                 pin: false,
                 fit: self.config.fit,
-                burst: None,
+                burst: self.burst(begin, template),
             },
         };
         let limit = self.config.limit.unwrap_or(HANDLER_LIMIT);
         Ok(StoreRequest::of(words, &naming, limit))
     }
 
-    fn template<R: Files<File = File>>(&self, rt: &R) -> Result<Template, Refusal> {
+    fn template<R: Files<File = File>>(&self, rt: &R) -> &'a str {
         let text = self.config.template.unwrap_or(HANDLER_TEMPLATE);
-        if let Ok(template) = Template::parse(text.as_bytes()) {
-            return Ok(template);
+        if Template::parse(text.as_bytes()).is_ok() {
+            return text;
         }
         let told = b"the template is left out: it has over 127 bytes, or begins with |";
         self.tell(rt, Level::Warning, told);
-        Ok(Template::parse(HANDLER_TEMPLATE.as_bytes())?)
+        HANDLER_TEMPLATE
+    }
+
+    // How many cores of the program are stored in how many seconds, if the configuration says so.
+    fn burst(&self, begin: &[u8], template: &str) -> Option<Burst> {
+        let burst = self.config.burst?;
+        Some(Burst {
+            front: program_front(begin, template),
+            most: burst.most,
+            seconds: burst.seconds,
+        })
     }
 
     fn label<R: Files<File = File>>(&self, rt: &R) -> Option<ArrayVec<u8, 64>> {
@@ -224,8 +235,53 @@ impl<'a> Handler<'a> {
         input: &mut I,
         output: &mut O,
     ) -> Result<(), Failure> {
-        store_told(rt, self.teller, place, "-", request, input, output)
+        let mut note = Collected::new(self.teller.alloc);
+        store_told(
+            rt,
+            self.teller,
+            place,
+            "-",
+            request,
+            input,
+            output,
+            &mut note,
+        )
     }
+}
+
+// What the names of a program's cores begin with: what the template gives up to its first process, thread or time. If it gives
+// nothing, all names begin so.
+fn program_front(begin: &[u8], template: &str) -> Name {
+    let Ok(template) = Template::parse(program_part(template.as_bytes())) else {
+        return Name::new();
+    };
+    let naming = Naming {
+        template,
+        uses_pid: false,
+    };
+    match line_stream(begin, &naming) {
+        Ok(stream) => {
+            let NewStream { name, .. } = stream;
+            name
+        }
+        Err(_) => Name::new(),
+    }
+}
+
+// The part of a template before its first process, thread or time: `%p`, `%P`, `%i`, `%I` or `%t`.
+fn program_part(template: &[u8]) -> &[u8] {
+    let mut at = 0;
+    while at < template.len() {
+        if template[at] != b'%' {
+            at += 1;
+            continue;
+        }
+        if let Some(b'p' | b'P' | b'i' | b'I' | b't') = template.get(at + 1) {
+            return &template[..at];
+        }
+        at += 2;
+    }
+    template
 }
 
 // The time so many seconds ago, if the clock tells.

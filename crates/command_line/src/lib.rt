@@ -4,6 +4,7 @@
 mod ask_help;
 mod asked;
 mod care_tables;
+mod case_words;
 mod checking;
 mod config_file;
 mod endings;
@@ -12,6 +13,8 @@ mod grammar;
 mod handle;
 mod handler_words;
 mod line_helps;
+mod list_tables;
+mod listing;
 mod log;
 mod outcome_lines;
 mod raw_words;

@@ -7,7 +7,7 @@ struct Meaning {
 }
 
 // The reasons for which something is refused. Other reasons are fields of an image.
-static MEANINGS: [Meaning; 36] = [
+static MEANINGS: [Meaning; 37] = [
     Meaning {
         reason: b"SpaceFull",
         words: b"the image takes more blocks than are free (corekeep ask ARCHIVE free counts them): delete or retire cases, or make a larger archive",
@@ -23,6 +23,10 @@ static MEANINGS: [Meaning; 36] = [
     Meaning {
         reason: b"NameTaken",
         words: b"a case has this name: name cores by the process and the time",
+    },
+    Meaning {
+        reason: b"Burst",
+        words: b"as many cores of this program as may be were stored shortly before (burst)",
     },
     Meaning {
         reason: b"TooLong",

@@ -5,7 +5,7 @@ use crate::outcome_lines::{lost_line, outcome_of, stored_line};
 use archive_files::{ArchivePath, Collected, Failure, Held, StoreRequest, reason_of, store_file};
 use disk_model::FileDisk;
 use inspector_cli::SessionFault;
-use script_streams::{Output, Reply};
+use script_streams::{Output, Reply, write_whole};
 use script_words::parse_case_number;
 use std::alloc::Global;
 use std::fs::File;
@@ -20,7 +20,7 @@ pub(crate) struct Teller<'a> {
     pub(crate) log: Log<'a>,
 }
 
-// Stores a file, or the standard input, and tells what became of it.
+// Stores a file, or the standard input, and tells what became of it. What can't be read of the case goes to a note, too.
 pub(crate) fn store_told<R: AllocGlobal + Files<File = File>, I: Read, O: Output>(
     rt: &R,
     teller: Teller<'_>,
@@ -29,11 +29,20 @@ pub(crate) fn store_told<R: AllocGlobal + Files<File = File>, I: Read, O: Output
     request: StoreRequest,
     input: &mut I,
     output: &mut O,
+    note: &mut Collected,
 ) -> Result<(), Failure> {
     let name = request.printed_name(teller.alloc);
     let mut reply = Held::new(teller.alloc, output);
     let (ended, disk) = store_file(rt, place, file, request, input, &mut reply);
-    teller.tell_outcome(rt, place.path, name.text(), reply.text(), &ended, disk);
+    teller.tell_outcome(
+        rt,
+        place.path,
+        name.text(),
+        reply.text(),
+        &ended,
+        disk,
+        note,
+    );
     let Ok(()) = reply.finish() else {
         return Err(Failure::Faulted(SessionFault::WriteFailed));
     };
@@ -76,6 +85,7 @@ impl<'a> Teller<'a> {
         replies: &[u8],
         number: &[u8],
         disk: FileDisk,
+        note: &mut Collected,
     ) {
         let Some(seq) = parse_case_number(number) else {
             return;
@@ -85,7 +95,7 @@ impl<'a> Teller<'a> {
         let line = stored_line(self.alloc, replies, number, details.text(), archive);
         self.tell(rt, Level::Info, line.text());
         if let Some(seen) = &seen {
-            self.tell_trouble(rt, number, seen.trouble(self.alloc).text());
+            self.tell_trouble(rt, number, seen.trouble(), note);
         }
     }
 
@@ -98,26 +108,41 @@ impl<'a> Teller<'a> {
         replies: &[u8],
         ended: &Result<(), Failure>,
         disk: Option<FileDisk>,
+        note: &mut Collected,
     ) {
         let outcome = outcome_of(replies);
         match (outcome.stored, disk) {
-            (Some(number), Some(disk)) => self.tell_stored(rt, archive, replies, number, disk),
+            (Some(number), Some(disk)) => {
+                self.tell_stored(rt, archive, replies, number, disk, note)
+            }
             _ => self.tell_refused(rt, replies, name, outcome.refused, ended),
         }
     }
 
-    fn tell_trouble<R: Files<File = File>>(&self, rt: &R, number: &[u8], trouble: &[u8]) {
+    // Tells what can't be read of a case, if anything is told of it, and notes it.
+    fn tell_trouble<R: Files<File = File>>(
+        &self,
+        rt: &R,
+        number: &[u8],
+        trouble: &[u8],
+        note: &mut Collected,
+    ) {
         if trouble.is_empty() {
             return;
         }
         let mut line = Collected::new(self.alloc);
         let mut reply = Reply::new(&mut line);
-        reply.tell(b"case ");
         reply.tell(number);
         reply.tell(b" ");
         reply.tell(trouble);
         let _ = reply.finish();
-        self.tell(rt, Level::Warning, line.text());
+        let mut told = Collected::new(self.alloc);
+        let mut reply = Reply::new(&mut told);
+        reply.tell(b"case ");
+        reply.tell(line.text());
+        let _ = reply.finish();
+        self.tell(rt, Level::Warning, told.text());
+        let _ = write_whole(note, line.text());
     }
 }
 

@@ -1,24 +1,27 @@
 // The program: what its words ask for, and the status that it ends with.
-ghost use Rattle.std.specs.Prelude.{◌≡◌, ◌≤◌};
+ghost use Rattle.std.specs.Prelude.{◌≡◌, ◌≤◌, false};
+ghost use Rattle.command_line.specs.Notes.{IsQuietButForANote, asks_to_store};
 
 use crate::asked::{Asked, SessionWords, read_words};
+use crate::case_words::{ask_case, extract_case};
 use crate::endings::{Clues, Ending, tell_ending};
 use crate::handle::{handle, tell_lost_words};
 use crate::handler_words::in_order;
 use crate::line_helps::{asked_help, line_in_place_of_a_command, tell_help};
+use crate::listing::list;
 use crate::log::Log;
 use crate::raw_words::words_of;
 use crate::teller::{Teller, store_told};
 use crate::watched::Watched;
 use archive_files::{
-    Access, ArchivePath, Failure, Refusal, StoreRequest, ask, check, copy_archive_file, extract,
-    look, make_archive, names_output, resize_archive_file, run_over, store_file, take_disk,
+    Access, ArchivePath, Collected, Failure, Refusal, StoreRequest, ask, check, copy_archive_file,
+    look, make_archive, names_output, resize_archive_file, run_over, take_disk,
 };
 use inspector_cli::{Naming, memory_session};
 use intake::Settings;
 use journal_layout::Shape;
 use name_template::Template;
-use script_streams::{Output, ReadInput};
+use script_streams::{Output, ReadInput, write_whole};
 use std::fs::File;
 use std::io::Read;
 use std::rt::{Env, Files};
@@ -33,7 +36,7 @@ pub fn run_program<
     E: Output,
 >(rt: &R, input: &mut I, output: &mut O, errors: &mut E) -> u8
     ensures most { result ≤ 2 }
-    ensures quiet { result ≡ 0 → errors.new ≡ errors.old }
+    ensures quiet { result ≡ 0 → IsQuietButForANote E.Output errors.old errors.new }
 {
     match words_of(rt) {
         Ok(words) => run_words(rt, words.as_slice(), input, output, errors),
@@ -66,7 +69,9 @@ pub fn run_program<
 ///   and its reply goes before the others; where it is refused the file is stored all the same. With `--label TEXT` the
 ///   line `label` of a script gives the new case this label, and its reply follows the others; where it is refused, as in
 ///   an archive of version 1 of the layout, the case stays. With `--pin` the line `pin` comes after that, in the same way.
-/// - `list ARCHIVE` and `ask ARCHIVE WORD..` carry out one line of a script, `extract ARCHIVE N [FILE]` writes the image of a
+/// - `list ARCHIVE` shows the cases as a table, or as JSON; with words that only some cases meet, those. The status is 1 if there are
+///   none of these.
+/// - `ask ARCHIVE WORD..` carries out one line of a script, `extract ARCHIVE N [FILE]` writes the image of a
 ///   case. A line that changes no case, and `extract`, need no right to write the archive's file, and hold its lock only while they
 ///   read its journal.
 /// - `look ARCHIVE` answers the lines of `input` that change no case, each as `ask` does.
@@ -86,13 +91,18 @@ pub fn run_words<R: AllocGlobal + Files<File = File> + Clock, I: Read, O: Output
     output: &mut O,
     errors: &mut E,
 ) -> u8
-    // The status, and where it is 0, nothing was written to the errors.
+    // The status. If it is 0, nothing was written to the errors, but for a note on the case that `store` stored.
     ensures most { result ≤ 2 }
-    ensures quiet { result ≡ 0 → errors.new ≡ errors.old }
+    ensures quiet { result ≡ 0 → asks_to_store words.now ≡ false → errors.new ≡ errors.old }
+    ensures note { result ≡ 0 → IsQuietButForANote E.Output errors.old errors.new }
 {
     let mut watched = Watched::new(output);
-    let answered = answer_words(rt, words, input, &mut watched);
+    let mut note = Collected::new(rt.alloc());
+    let answered = answer_words(rt, words, input, &mut watched, &mut note);
     let line = watched.into_line();
+    if asks_to_store(words) {
+        tell_note(note.text(), errors);
+    }
     match answered {
         Ok(()) => 0,
         Err(ending) => {
@@ -105,12 +115,39 @@ pub fn run_words<R: AllocGlobal + Files<File = File> + Clock, I: Read, O: Output
     }
 }
 
+// Whether the words ask to store a file.
+fn asks_to_store(words: &[String]) -> bool
+    ensures { result ≡ asks_to_store words.now }
+{
+    match words.first() {
+        Some(word) => word.as_str() == "store",
+        None => false,
+    }
+}
+
+// Tells people what can't be read of the case that was stored, if there is a note on it.
+fn tell_note<E: Output>(note: &[u8], errors: &mut E)
+    ensures { IsQuietButForANote E.Output errors.old errors.new }
+{
+    if note.is_empty() {
+        return;
+    }
+    let Ok(()) = write_whole(errors, b"corekeep: case ") else {
+        return;
+    };
+    let Ok(()) = write_whole(errors, note) else {
+        return;
+    };
+    let _ = write_whole(errors, b"\n");
+}
+
 // Does what the words ask for, unless what is told of it would overwrite a file that they name.
 fn answer_words<R: AllocGlobal + Files<File = File> + Clock, I: Read, O: Output>(
     rt: &R,
     words: &[String],
     input: &mut I,
     output: &mut O,
+    note: &mut Collected,
 ) -> Result<(), Ending> {
     if names_output(rt, words) {
         return Err(Ending::Failed(Failure::Aside(Refusal::Output)));
@@ -124,7 +161,7 @@ fn answer_words<R: AllocGlobal + Files<File = File> + Clock, I: Read, O: Output>
         None => words,
     };
     match read_words(rt.alloc(), words) {
-        Ok(asked) => Ok(answer_asked(rt, asked, input, output)?),
+        Ok(asked) => Ok(answer_asked(rt, asked, input, output, note)?),
         Err(ending) => {
             if ordered.is_some() && ending.is_refusal() {
                 tell_lost_words(rt);
@@ -140,6 +177,7 @@ fn answer_asked<R: AllocGlobal + Files<File = File> + Clock, I: Read, O: Output>
     asked: Asked<'_>,
     input: &mut I,
     output: &mut O,
+    note: &mut Collected,
 ) -> Result<(), Failure> {
     match asked {
         Asked::Format { archive, wanted } => Ok(make_archive(rt, archive, wanted)?),
@@ -154,15 +192,17 @@ fn answer_asked<R: AllocGlobal + Files<File = File> + Clock, I: Read, O: Output>
         } => {
             let naming = naming_of(settings)?;
             let request = StoreRequest::of(wanted, &naming, settings.limit);
-            store(rt, archive, file, request, log, input, output)
+            store(rt, archive, file, request, log, input, output, note)
         }
         Asked::Extract {
             archive,
             case,
             file,
-        } => extract(rt, archive, case, file, output),
+        } => extract_case(rt, archive, case, file, output),
         Asked::Handle(words) => handle(rt, words, input, output),
+        Asked::List { archive, wanted } => list(rt, archive, wanted, output),
         Asked::Ask { archive, question } => ask(rt, archive, question, output),
+        Asked::AskCase { archive, words } => ask_case(rt, archive, &words, output),
         Asked::Look { archive } => look(rt, archive, &mut ReadInput::new(input), output),
         Asked::Check {
             archive,
@@ -239,7 +279,7 @@ fn run_memory<R: AllocGlobal, I: Read, O: Output>(
     Ok(ended?)
 }
 
-// Stores a file, or the standard input, and tells a log of it, if one is named.
+// Stores a file, or the standard input, and tells a log of it, if one is named. What can't be read of the case goes to a note.
 fn store<R: AllocGlobal + Files<File = File>, I: Read, O: Output>(
     rt: &R,
     place: ArchivePath<'_>,
@@ -248,15 +288,15 @@ fn store<R: AllocGlobal + Files<File = File>, I: Read, O: Output>(
     log: Option<&str>,
     input: &mut I,
     output: &mut O,
+    note: &mut Collected,
 ) -> Result<(), Failure> {
-    let Some(path) = log else {
-        return store_file(rt, place, file, request, input, output).0;
-    };
     let teller = Teller {
         alloc: rt.alloc(),
-        log: Log { path },
+        log: Log {
+            path: log.unwrap_or(""),
+        },
     };
-    store_told(rt, teller, place, file, request, input, output)
+    store_told(rt, teller, place, file, request, input, output, note)
 }
 
 // How cores are named.

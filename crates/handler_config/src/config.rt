@@ -2,8 +2,17 @@
 ghost use Rattle.toml.specs.View.{view};
 ghost use Rattle.handler_config.specs.Config.{Says};
 
-use crate::values::{age_at, flag_at, natural_at, text_at};
+use crate::values::{age_at, burst_at, flag_at, natural_at, text_at};
 use toml::Value;
+
+/// So many cores of one program, in so many seconds.
+#[derive(Clone, Copy, Debug, PartialEq, Eq)]
+pub struct Burst {
+    /// How many of them are stored.
+    pub most: u64,
+    /// In how many seconds.
+    pub seconds: u64,
+}
 
 /// What a configuration says. A key that is missing, or whose value is faulty, says nothing.
 #[derive(Clone, Copy)]
@@ -20,6 +29,8 @@ pub struct Config<'t> {
     pub limit: Option<u64>,
     /// Cases go so that a core finds room, the oldest cores first.
     pub fit: bool,
+    /// How many cores of one program are stored in how many seconds.
+    pub burst: Option<Burst>,
     /// How cores are named, a template of core(5).
     pub template: Option<&'t str>,
     /// Names get a dot and the process if their template has no `%p`.
@@ -44,6 +55,7 @@ impl<'t> Config<'t> {
             before: age_at(document, "before"),
             limit: natural_at(document, "limit"),
             fit: flag_at(document, "fit"),
+            burst: burst_at(document, "burst"),
             template: text_at(document, "template"),
             uses_pid: flag_at(document, "uses-pid"),
             no_wait: flag_at(document, "no-wait"),

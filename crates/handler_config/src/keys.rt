@@ -3,7 +3,7 @@ ghost use Rattle.std.specs.Prelude.{◌≡◌};
 ghost use Rattle.toml.specs.View.{view};
 ghost use Rattle.handler_config.specs.Keys as spec;
 
-use crate::values::{age_in, natural_in};
+use crate::values::{age_in, burst_in, natural_in};
 use toml::Value;
 
 /// A key of a configuration.
@@ -21,6 +21,8 @@ pub enum Key {
     Limit,
     /// Cases go so that a core finds room, the oldest cores first: true or false.
     Fit,
+    /// How many cores of one program are stored in how many seconds: a table of two numbers.
+    Burst,
     /// How cores are named, a template of core(5): a text.
     Template,
     /// Names get a dot and the process if their template has no `%p`: true or false.
@@ -46,6 +48,8 @@ pub enum Fault {
     NotFlag,
     /// The value is no age: a text of a number and `s`, `m`, `h` or `d`.
     NotAge,
+    /// The value is no table with the numbers `most` and `seconds`.
+    NotBurst,
 }
 
 // The key that is written so.
@@ -59,6 +63,7 @@ fn key_of(word: &str) -> Option<Key>
         "before" => Some(Key::Before),
         "limit" => Some(Key::Limit),
         "fit" => Some(Key::Fit),
+        "burst" => Some(Key::Burst),
         "template" => Some(Key::Template),
         "uses-pid" => Some(Key::UsesPid),
         "no-wait" => Some(Key::NoWait),
@@ -90,6 +95,7 @@ pub fn entry_fault(word: &str, value: &Value) -> Option<Fault>
             unless_there(Fault::NotNumber, natural_in(value).is_some())
         }
         Key::Before => unless_there(Fault::NotAge, age_in(value).is_some()),
+        Key::Burst => unless_there(Fault::NotBurst, burst_in(value).is_some()),
         Key::Fit | Key::UsesPid | Key::NoWait => {
             unless_there(Fault::NotFlag, value.as_bool().is_some())
         }
