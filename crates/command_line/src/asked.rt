@@ -1,18 +1,17 @@
 // What the words ask for.
-use crate::case_words::names_a_case;
 use crate::endings::Ending;
-use crate::grammar::program;
-use crate::handle::HandleWords;
-use crate::listing::{ListWords, list_words};
-use crate::raw_words::{is_text, push_escaped};
+use crate::list_words::list_words;
 use archive_files::{ArchivePath, CopyWords, NewArchive, Refusal, StoreWords, WordPart};
 use arrayvec::ArrayVec;
+use case_listing::{ListWords, names_a_case};
 use clap::ArgMatches;
+use command_words::{is_text, line_of, program, push_escaped, push_text};
+use core_handler::{HandleWords, label_in};
 use inspector_cli::StoreOptions;
 use journal_layout::Shape;
 use line_help::help_of;
 use retention::Policy;
-use script_lines::{Call, Command, Question, Request, parse_question, parse_text};
+use script_lines::{Command, Question, Request, parse_question, parse_text};
 use script_words::parse_number;
 use std::alloc::{AllocError, Global};
 
@@ -271,21 +270,6 @@ fn label_of(alloc: Global, found: &ArgMatches<'_>) -> Result<Option<ArrayVec<u8,
     Ok(Some(label_in(&line)?))
 }
 
-// A label of these bytes, whatever they are.
-pub(crate) fn escaped_label(alloc: Global, text: &str) -> Result<ArrayVec<u8, 64>, Refusal> {
-    let mut line = b"label 1 ".to_vec(alloc)?;
-    push_escaped(&mut line, text)?;
-    label_in(&line)
-}
-
-// The label that a line gives.
-fn label_in(line: &[u8]) -> Result<ArrayVec<u8, 64>, Refusal> {
-    match parse_question(line) {
-        Some(Question::Call(Call::Label { label, .. })) => Ok(label),
-        _ => Err(Refusal::BadLine),
-    }
-}
-
 // What the words of `handle` ask for. The first word that is no pair names the configuration.
 fn handle_words<'a>(alloc: Global, found: &ArgMatches<'a>) -> Result<HandleWords<'a>, Refusal> {
     let words = found.get_strs("pairs").unwrap_or(&[]);
@@ -378,18 +362,6 @@ fn asked_line(alloc: Global, found: &ArgMatches<'_>) -> Result<Vec<u8>, Refusal>
     Ok(line_of(alloc, words)?)
 }
 
-// Words with a space between them.
-pub(crate) fn line_of(alloc: Global, words: &[&str]) -> Result<Vec<u8>, AllocError> {
-    let mut line = Vec::new(alloc);
-    for word in words {
-        if !line.is_empty() {
-            push_text(&mut line, " ")?;
-        }
-        push_text(&mut line, word)?;
-    }
-    Ok(line)
-}
-
 // The line that begins a core, with a space before each of its pairs.
 fn core_line(alloc: Global, pairs: &[&str], escapes: bool) -> Result<Vec<u8>, Refusal> {
     let mut line = b"begin core 0".to_vec(alloc)?;
@@ -426,10 +398,5 @@ fn push_value(line: &mut Vec<u8>, value: &str, escapes: bool) -> Result<(), Refu
     } else {
         push_text(line, checked_part(value, WordPart::Value)?)?;
     }
-    Ok(())
-}
-
-fn push_text(line: &mut Vec<u8>, text: &str) -> Result<(), AllocError> {
-    line.extend_from_slice(text.as_bytes())?;
     Ok(())
 }

@@ -1,27 +1,23 @@
 // The program: what its words ask for, and the status that it ends with.
 ghost use Rattle.std.specs.Prelude.{◌≡◌, ◌≤◌, false};
-ghost use Rattle.command_line.specs.Notes.{IsQuietButForANote, asks_to_store};
+ghost use Rattle.command_words.specs.Notes.{IsQuietButForANote, asks_to_store};
 
 use crate::asked::{Asked, SessionWords, read_words};
-use crate::case_words::{ask_case, extract_case};
 use crate::endings::{Clues, Ending, tell_ending};
-use crate::handle::{handle, tell_lost_words};
-use crate::handler_words::in_order;
-use crate::line_helps::{asked_help, line_in_place_of_a_command, tell_help};
-use crate::listing::list;
-use crate::log::Log;
-use crate::raw_words::words_of;
-use crate::teller::{Teller, store_told};
-use crate::watched::Watched;
 use archive_files::{
     Access, ArchivePath, Collected, Failure, Refusal, StoreRequest, ask, check, copy_archive_file,
     look, make_archive, names_output, resize_archive_file, run_over, take_disk,
 };
+use case_listing::{ask_case, extract_case, list};
+use command_words::{
+    Watched, asked_help, in_order, line_in_place_of_a_command, tell_help, tell_note, words_of,
+};
+use core_handler::{Log, Teller, handle, store_told, tell_lost_words};
 use inspector_cli::{Naming, memory_session};
 use intake::Settings;
 use journal_layout::Shape;
 use name_template::Template;
-use script_streams::{Output, ReadInput, write_whole};
+use script_streams::{Output, ReadInput};
 use std::fs::File;
 use std::io::Read;
 use std::rt::{Env, Files};
@@ -100,9 +96,7 @@ pub fn run_words<R: AllocGlobal + Files<File = File> + Clock, I: Read, O: Output
     let mut note = Collected::new(rt.alloc());
     let answered = answer_words(rt, words, input, &mut watched, &mut note);
     let line = watched.into_line();
-    if asks_to_store(words) {
-        tell_note(note.text(), errors);
-    }
+    tell_note(words, note.text(), errors);
     match answered {
         Ok(()) => 0,
         Err(ending) => {
@@ -113,32 +107,6 @@ pub fn run_words<R: AllocGlobal + Files<File = File> + Clock, I: Read, O: Output
             tell_ending(rt.alloc(), &ending, clues, output, errors)
         }
     }
-}
-
-// Whether the words ask to store a file.
-fn asks_to_store(words: &[String]) -> bool
-    ensures { result ≡ asks_to_store words.now }
-{
-    match words.first() {
-        Some(word) => word.as_str() == "store",
-        None => false,
-    }
-}
-
-// Tells people what can't be read of the case that was stored, if there is a note on it.
-fn tell_note<E: Output>(note: &[u8], errors: &mut E)
-    ensures { IsQuietButForANote E.Output errors.old errors.new }
-{
-    if note.is_empty() {
-        return;
-    }
-    let Ok(()) = write_whole(errors, b"corekeep: case ") else {
-        return;
-    };
-    let Ok(()) = write_whole(errors, note) else {
-        return;
-    };
-    let _ = write_whole(errors, b"\n");
 }
 
 // Does what the words ask for, unless what is told of it would overwrite a file that they name.

@@ -24,11 +24,11 @@ pub(crate) enum Level {
     Info,
 }
 
-// Where outcomes are told.
+/// Where outcomes are told.
 #[derive(Clone, Copy)]
-pub(crate) struct Log<'a> {
-    // The file's path. None is told if it is empty.
-    pub(crate) path: &'a str,
+pub struct Log<'a> {
+    /// The file's path. None is told if it is empty.
+    pub path: &'a str,
 }
 
 // The mark that the kernel's log has before a line.

@@ -7,9 +7,9 @@ use script_streams::{Output, StreamFault};
 // How many bytes of a line are kept at most: those of a reason.
 const KEPT: usize = 128;
 
-// The last line of an output, or what follows its last newline, unless it has more bytes than are kept.
+/// The last line of an output, or what follows its last newline, unless it has more bytes than are kept.
 #[derive(Drop)]
-pub(crate) struct LastLine {
+pub struct LastLine {
     text: ArrayVec<u8, 128>,
     // It has more bytes than are kept.
     is_cut: bool,
@@ -26,8 +26,8 @@ impl LastLine {
         }
     }
 
-    // The line; empty if not all of it is kept.
-    pub(crate) fn text(&self) -> &[u8] {
+    /// The line; empty if not all of it is kept.
+    pub fn text(&self) -> &[u8] {
         if self.is_cut {
             b""
         } else {
@@ -65,23 +65,24 @@ impl LastLine {
     }
 }
 
-// An output, and its last line. What it takes goes to the output below it.
+/// An output, and its last line. What it takes goes to the output below it.
 #[derive(Drop)]
-pub(crate) struct Watched<'a, O: Output> {
+pub struct Watched<'a, O: Output> {
     output: &'a mut O,
     line: LastLine,
 }
 
 impl<'a, O: Output> Watched<'a, O> {
-    pub(crate) fn new(output: &'a mut O) -> Watched<'a, O> {
+    /// Over this output, with no line yet.
+    pub fn new(output: &'a mut O) -> Watched<'a, O> {
         Watched {
             output,
             line: LastLine::new(),
         }
     }
 
-    // The last line. The output is let go.
-    pub(crate) fn into_line(self) -> LastLine {
+    /// The last line. The output is let go.
+    pub fn into_line(self) -> LastLine {
         let Watched { line, .. } = self;
         line
     }

@@ -12,9 +12,13 @@ enum Kind {
     Unknown,
 }
 
-// The words of `handle` in an order in which none is refused: its options, and then, after `--`, the others, those last that are no
-// option that is known. These are then told and left out. Nothing if the words are not those of `handle`.
-pub(crate) fn in_order(alloc: Global, words: &[String]) -> Result<Option<Vec<String>>, AllocError> {
+/// The words of `handle` in an order in which none is refused: its options, and then, after `--`, the others, those last that are no
+/// option that is known. These are then told and left out. Nothing if the words are not those of `handle`.
+///
+/// # Errors
+///
+/// `AllocError` if there is no memory for them.
+pub fn in_order(alloc: Global, words: &[String]) -> Result<Option<Vec<String>>, AllocError> {
     let Some((command, rest)) = words.split_first() else {
         return Ok(None);
     };

@@ -5,8 +5,12 @@ use crate::tables::{COMMANDS, CommandWords, Takes, Word};
 use clap::{Arg, ArgAction, Command, Error, value_parser};
 use std::alloc::Global;
 
-// The program and its commands.
-pub(crate) fn program<'a>(alloc: Global) -> Result<Command<'a>, Error> {
+/// The program and its commands, as `clap` reads them.
+///
+/// # Errors
+///
+/// The error of `clap` if there is no memory for them.
+pub fn program<'a>(alloc: Global) -> Result<Command<'a>, Error> {
     let mut command = whole_program(alloc)?;
     for words in &COMMANDS {
         command = command.subcommand(whole_command(alloc, words)?)?;

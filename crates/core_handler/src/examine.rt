@@ -1,5 +1,9 @@
 // What is seen at once of a case that was stored.
+ghost use Rattle.std.specs.Prelude.{◌≡◌, ◌≤◌, Some};
 ghost use Rattle.case_journal.specs.Viewing.{OnlyReads};
+ghost use Rattle.intake.specs.Parts.{state_of};
+ghost use Rattle.journal_layout.specs.Case.{Case};
+ghost use Rattle.journal_layout.specs.Soundness.{case_numbered};
 
 use archive_files::Collected;
 use disk_model::Disk;
@@ -161,10 +165,10 @@ fn see_image<D: Disk>(
     length: u64,
     archive: &mut Archive<D>,
 ) -> Option<Collected>
+    requires fits { (c : Case) → case_numbered seq (state_of archive.old).cases ≡ Some c → length ≤ c.len }
     ensures quiet { OnlyReads D.Disk archive.old.disk archive.new.disk }
 {
-    let mut front = vec![in alloc; 0u8; length.min(FRONT) as usize].ok()?;
-    archive.image_part(seq, 0, &mut front).ok()?;
+    let front = read_front(alloc, seq, length, archive)?;
     let words = kind_trouble(alloc, &front);
     if !words.text().is_empty() {
         return Some(words);
@@ -173,6 +177,28 @@ fn see_image<D: Disk>(
     if words.text().is_empty() || length <= FRONT {
         return Some(words);
     }
-    let image = archive.image(seq).ok()?;
+    let image = read_whole(seq, archive)?;
     Some(field_trouble(alloc, kind, &image))
+}
+
+// The first bytes of the image of a case.
+fn read_front<D: Disk>(
+    alloc: Global,
+    seq: u32,
+    length: u64,
+    archive: &mut Archive<D>,
+) -> Option<Vec<u8>>
+    requires fits { (c : Case) → case_numbered seq (state_of archive.old).cases ≡ Some c → length ≤ c.len }
+    ensures quiet { OnlyReads D.Disk archive.old.disk archive.new.disk }
+{
+    let mut front = vec![in alloc; 0u8; length.min(FRONT) as usize].ok()?;
+    archive.image_part(seq, 0, &mut front).ok()?;
+    Some(front)
+}
+
+// All bytes of it.
+fn read_whole<D: Disk>(seq: u32, archive: &mut Archive<D>) -> Option<Vec<u8>>
+    ensures quiet { OnlyReads D.Disk archive.old.disk archive.new.disk }
+{
+    archive.image(seq).ok()
 }

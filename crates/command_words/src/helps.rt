@@ -4,8 +4,8 @@ use crate::tables::COMMANDS;
 use line_help::{LineHelp, help_of};
 use script_streams::{Output, Reply, StreamFault};
 
-// The line whose help these words ask for. What is a command too has the command's help.
-pub(crate) fn asked_help(words: &[String]) -> Option<&'static LineHelp> {
+/// The line whose help these words ask for. What is a command too has the command's help.
+pub fn asked_help(words: &[String]) -> Option<&'static LineHelp> {
     let [help, name] = words else {
         return None;
     };
@@ -15,8 +15,8 @@ pub(crate) fn asked_help(words: &[String]) -> Option<&'static LineHelp> {
     help_of(name)
 }
 
-// The line that the first word is, where it should be a command.
-pub(crate) fn line_in_place_of_a_command(words: &[String]) -> Option<&'static LineHelp> {
+/// The line that the first word is, where it should be a command.
+pub fn line_in_place_of_a_command(words: &[String]) -> Option<&'static LineHelp> {
     let name = words.first()?;
     if is_command(name) {
         return None;
@@ -24,8 +24,8 @@ pub(crate) fn line_in_place_of_a_command(words: &[String]) -> Option<&'static Li
     help_of(name)
 }
 
-// Tells people how such a line is asked.
-pub(crate) fn tell_how_it_is_asked<E: Output>(line: &LineHelp, errors: &mut E) {
+/// Tells people how such a line is asked.
+pub fn tell_how_it_is_asked<E: Output>(line: &LineHelp, errors: &mut E) {
     let mut reply = Reply::new(errors);
     reply.tell(b"corekeep: this is a line of a script: corekeep ask ARCHIVE ");
     reply.tell(line.usage.as_bytes());
@@ -41,8 +41,12 @@ fn cares(name: &str) -> bool {
     CARE_COMMANDS.iter().any(|command| command.name == name)
 }
 
-// Tells what a line is for.
-pub(crate) fn tell_help<O: Output>(help: &LineHelp, output: &mut O) -> Result<(), StreamFault> {
+/// Tells what a line is for.
+///
+/// # Errors
+///
+/// `StreamFault` if a write failed.
+pub fn tell_help<O: Output>(help: &LineHelp, output: &mut O) -> Result<(), StreamFault> {
     let mut reply = Reply::new(output);
     reply.tell(help.usage.as_bytes());
     tell_part(&mut reply, b"\n\n    ", help.does);

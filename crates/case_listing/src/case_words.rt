@@ -1,7 +1,7 @@
 // Cases as people name them, where a line of a script has their number.
-use crate::asked::line_of;
 use archive_files::{ArchivePath, Failure, Refusal, ask, extract, take_look};
 use case_tables::number_named;
+use command_words::line_of;
 use disk_model::Disk;
 use intake::{Archive, ArchiveFault, Settings};
 use script_lines::{Question, parse_question};
@@ -17,8 +17,12 @@ fn is_number(word: &str) -> bool {
     parse_number(word.as_bytes()).is_some()
 }
 
-// Whether these words are a line that asks for a case by what is no number.
-pub(crate) fn names_a_case(alloc: Global, words: &[&str]) -> Result<bool, AllocError> {
+/// Whether these words are a line that asks for a case by what is no number.
+///
+/// # Errors
+///
+/// `AllocError` if there is no memory for the line.
+pub fn names_a_case(alloc: Global, words: &[&str]) -> Result<bool, AllocError> {
     match words.get(1) {
         Some(word) if !is_number(word) => Ok(numbered(alloc, words, "1")?.is_some()),
         _ => Ok(false),
@@ -55,8 +59,13 @@ fn find_case<D: Disk + Drop>(alloc: Global, disk: D, word: &[u8]) -> Result<u32,
     }
 }
 
-// Writes the image of a case that a word names.
-pub(crate) fn extract_case<R: AllocGlobal + Files<File = File>, O: Output>(
+/// Writes the image of a case that a word names.
+///
+/// # Errors
+///
+/// Those of `extract` of `archive_files`. If the word is no number, what the look at the archive is refused for, and `NoCase` if no case
+/// has this name.
+pub fn extract_case<R: AllocGlobal + Files<File = File>, O: Output>(
     rt: &R,
     place: ArchivePath<'_>,
     case: &str,
@@ -74,8 +83,12 @@ pub(crate) fn extract_case<R: AllocGlobal + Files<File = File>, O: Output>(
     }
 }
 
-// Answers the line of these words, whose second word names a case.
-pub(crate) fn ask_case<R: AllocGlobal + Files<File = File>, O: Output>(
+/// Answers the line of these words, whose second word names a case.
+///
+/// # Errors
+///
+/// Those of `ask` of `archive_files`. Before, what the look at the archive is refused for, and `NoCase` if no case has this name.
+pub fn ask_case<R: AllocGlobal + Files<File = File>, O: Output>(
     rt: &R,
     place: ArchivePath<'_>,
     words: &[&str],

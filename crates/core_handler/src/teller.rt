@@ -13,15 +13,21 @@ use std::io::Read;
 use std::rt::Files;
 use thread_regs::signal_name;
 
-// Where outcomes are told.
+/// What tells outcomes.
 #[derive(Clone, Copy)]
-pub(crate) struct Teller<'a> {
-    pub(crate) alloc: Global,
-    pub(crate) log: Log<'a>,
+pub struct Teller<'a> {
+    /// Where what is told is put together.
+    pub alloc: Global,
+    /// Where it is told.
+    pub log: Log<'a>,
 }
 
-// Stores a file, or the standard input, and tells what became of it. What can't be read of the case goes to a note, too.
-pub(crate) fn store_told<R: AllocGlobal + Files<File = File>, I: Read, O: Output>(
+/// Stores a file, or the standard input, and tells what became of it. What can't be read of the case goes to a note, too.
+///
+/// # Errors
+///
+/// Those of `store_file` of `archive_files`, and `WriteFailed` if the replies could not be written.
+pub fn store_told<R: AllocGlobal + Files<File = File>, I: Read, O: Output>(
     rt: &R,
     teller: Teller<'_>,
     place: ArchivePath<'_>,

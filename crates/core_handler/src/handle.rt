@@ -1,15 +1,15 @@
 // What the kernel's handler does: a core from the input is stored as a configuration says, and the outcome is told to a log.
-use crate::asked::escaped_label;
 use crate::checking::check;
 use crate::config_file::{DEFAULT_CONFIG, Document, Trouble, read_document};
+use crate::fronts::program_front;
+use crate::labels::escaped_label;
 use crate::log::{KERNEL_LOG, Level, Log};
 use crate::teller::{Teller, store_told};
 use archive_files::{ArchivePath, Collected, Failure, FileWord, Refusal, StoreRequest, StoreWords};
 use arrayvec::ArrayVec;
 use disk_model::FileFault;
 use handler_config::Config;
-use inspector_cli::{Burst, Naming, NewStream, StoreOptions, line_stream};
-use journal_layout::Name;
+use inspector_cli::{Burst, Naming, StoreOptions};
 use name_template::Template;
 use retention::Policy;
 use script_streams::{Output, Reply};
@@ -27,19 +27,19 @@ const PLAIN_TEMPLATE: &str = "core.%p.%t";
 // The most bytes of an image if the configuration doesn't say.
 pub(crate) const HANDLER_LIMIT: u64 = 1 << 30;
 
-// What the words of `handle` ask for.
+/// What the words of `handle` ask for.
 #[derive(Drop)]
-pub(crate) struct HandleWords<'a> {
-    // The path of the configuration, if one is named.
-    pub(crate) config: Option<&'a str>,
-    // The archive, if the configuration names none.
-    pub(crate) archive: Option<&'a str>,
-    // The line of a script that begins the stream.
-    pub(crate) begin: Vec<u8>,
-    // The pairs that were left out of it.
-    pub(crate) left_out: Vec<&'a str>,
-    // Nothing is stored, and what holds by the configuration is told.
-    pub(crate) is_check: bool,
+pub struct HandleWords<'a> {
+    /// The path of the configuration, if one is named.
+    pub config: Option<&'a str>,
+    /// The archive, if the configuration names none.
+    pub archive: Option<&'a str>,
+    /// The line of a script that begins the stream.
+    pub begin: Vec<u8>,
+    /// The pairs that were left out of it.
+    pub left_out: Vec<&'a str>,
+    /// Nothing is stored, and what holds by the configuration is told.
+    pub is_check: bool,
 }
 
 // What a handler goes by: a configuration, and where it is told what became of a core.
@@ -59,8 +59,13 @@ impl<'a> HandleWords<'a> {
     }
 }
 
-// Stores a core from the input.
-pub(crate) fn handle<R: AllocGlobal + Files<File = File> + Clock, I: Read, O: Output>(
+/// Stores a core from the input as a configuration says, and tells its outcome to a log. With `--check` nothing is stored, and what
+/// holds is told on the output.
+///
+/// # Errors
+///
+/// What store_file of `archive_files` fails by, and `Told` if not all is in order with `--check`.
+pub fn handle<R: AllocGlobal + Files<File = File> + Clock, I: Read, O: Output>(
     rt: &R,
     words: HandleWords<'_>,
     input: &mut I,
@@ -91,8 +96,8 @@ pub(crate) fn handle<R: AllocGlobal + Files<File = File> + Clock, I: Read, O: Ou
     handler.store(rt, place, request, input, output)
 }
 
-// Tells the kernel's log of a core that is lost since the words can't be read: no configuration names another log.
-pub(crate) fn tell_lost_words<R: AllocGlobal + Files<File = File>>(rt: &R) {
+/// Tells the kernel's log of a core that is lost since the words can't be read: no configuration names another log.
+pub fn tell_lost_words<R: AllocGlobal + Files<File = File>>(rt: &R) {
     let log = Log { path: KERNEL_LOG };
     let told = b"lost a core: the words of handle are refused";
     log.tell(rt, rt.alloc(), Level::Error, told);
@@ -247,41 +252,6 @@ impl<'a> Handler<'a> {
             &mut note,
         )
     }
-}
-
-// What the names of a program's cores begin with: what the template gives up to its first process, thread or time. If it gives
-// nothing, all names begin so.
-fn program_front(begin: &[u8], template: &str) -> Name {
-    let Ok(template) = Template::parse(program_part(template.as_bytes())) else {
-        return Name::new();
-    };
-    let naming = Naming {
-        template,
-        uses_pid: false,
-    };
-    match line_stream(begin, &naming) {
-        Ok(stream) => {
-            let NewStream { name, .. } = stream;
-            name
-        }
-        Err(_) => Name::new(),
-    }
-}
-
-// The part of a template before its first process, thread or time: `%p`, `%P`, `%i`, `%I` or `%t`.
-fn program_part(template: &[u8]) -> &[u8] {
-    let mut at = 0;
-    while at < template.len() {
-        if template[at] != b'%' {
-            at += 1;
-            continue;
-        }
-        if let Some(b'p' | b'P' | b'i' | b'I' | b't') = template.get(at + 1) {
-            return &template[..at];
-        }
-        at += 2;
-    }
-    template
 }
 
 // The time so many seconds ago, if the clock tells.

@@ -158,8 +158,8 @@ static MEANINGS: [Meaning; 37] = [
     },
 ];
 
-// What a reason means. It may have words after it. Empty if there is nothing to say.
-pub(crate) fn meaning_of(reason: &[u8]) -> &'static [u8] {
+/// What a reason means. It may have words after it. Empty if there is nothing to say.
+pub fn meaning_of(reason: &[u8]) -> &'static [u8] {
     let first = match reason.iter().position(|byte| *byte == b' ') {
         Some(end) => &reason[..end],
         None => reason,

@@ -1,68 +1,27 @@
 // `list`: the cases of an archive, for people or as JSON.
-use crate::asked::checked;
 use archive_files::{ArchivePath, Failure, Refusal, take_look};
-use case_tables::{Wanted, list_json, read_signal, read_time, tell_list};
-use clap::ArgMatches;
+use case_tables::{Wanted, list_json, read_time, tell_list};
 use disk_model::Disk;
 use inspector_cli::SessionFault;
 use intake::{Archive, Settings};
-use journal_layout::{Entry, Kind};
+use journal_layout::Entry;
 use script_streams::{Output, Reply, StreamFault};
 use std::alloc::Global;
 use std::fs::File;
 use std::rt::Files;
 use std::time::Clock;
 
-// What the words of `list` ask for.
+/// What the words of `list` ask for.
 #[derive(Clone, Copy)]
-pub(crate) struct ListWords<'a> {
-    wanted: Wanted<'a>,
-    // The time of the first, and the time that the last is before, as the words have them.
-    since: Option<&'a str>,
-    until: Option<&'a str>,
-    is_json: bool,
-}
-
-// What these words ask for.
-pub(crate) fn list_words<'a>(found: &ArgMatches<'a>) -> Result<ListWords<'a>, Refusal> {
-    let last = found.get_one::<u64>("last");
-    Ok(ListWords {
-        wanted: Wanted {
-            kind: found.get_str("kind").map(kind_said).transpose()?,
-            name: text_said(found, "name")?,
-            pid: found.get_one::<u64>("pid").map(pid_said).transpose()?,
-            signal: found.get_str("signal").map(signal_said).transpose()?,
-            since: None,
-            until: None,
-            label: text_said(found, "label")?,
-            pinned: found.get_flag("pinned"),
-            last: last.map(|count| usize::try_from(count).unwrap_or(usize::MAX)),
-        },
-        since: found.get_str("since"),
-        until: found.get_str("until"),
-        is_json: found.get_flag("json"),
-    })
-}
-
-fn text_said<'a>(found: &ArgMatches<'a>, id: &str) -> Result<Option<&'a [u8]>, Refusal> {
-    let text = found.get_str(id).map(checked).transpose()?;
-    Ok(text.map(|text| text.as_bytes()))
-}
-
-fn kind_said(text: &str) -> Result<Kind, Refusal> {
-    match text {
-        "core" => Ok(Kind::Core),
-        "exec" => Ok(Kind::Exec),
-        _ => Err(Refusal::BadLine),
-    }
-}
-
-fn pid_said(pid: u64) -> Result<u32, Refusal> {
-    u32::try_from(pid).map_err(|_| Refusal::BadLine)
-}
-
-fn signal_said(text: &str) -> Result<u32, Refusal> {
-    read_signal(text).ok_or(Refusal::BadLine)
+pub struct ListWords<'a> {
+    /// Which cases, but for their times.
+    pub wanted: Wanted<'a>,
+    /// The time of the first, as the words have it.
+    pub since: Option<&'a str>,
+    /// The time that the last is before, as the words have it.
+    pub until: Option<&'a str>,
+    /// They are told as JSON.
+    pub is_json: bool,
 }
 
 impl<'a> ListWords<'a> {
@@ -99,9 +58,13 @@ fn time_said(text: Option<&str>, now: Option<u64>) -> Result<Option<u64>, Refusa
     }
 }
 
-// Tells the cases that are asked for, from a look at the archive. It ends as one that was refused if only some are asked for, and
-// there are none.
-pub(crate) fn list<R: AllocGlobal + Files<File = File> + Clock, O: Output>(
+/// Tells the cases that are asked for, from a look at the archive.
+///
+/// # Errors
+///
+/// `BadLine` if a time can't be read. What `take_look` of `archive_files` and an opening are refused for. `WriteFailed` if the list could
+/// not be written. `Told` if only some cases are asked for, and there are none.
+pub fn list<R: AllocGlobal + Files<File = File> + Clock, O: Output>(
     rt: &R,
     place: ArchivePath<'_>,
     words: ListWords<'_>,

@@ -15,8 +15,12 @@ const LONGEST_WORD: usize = 131_072;
 // The character in place of the byte 0x80.
 const FIRST_STAND_IN: u32 = 0x10_ff80;
 
-// The words of the command line after the program's name.
-pub(crate) fn words_of<R: Env + AllocGlobal>(rt: &R) -> Result<Vec<String>, AllocError> {
+/// The words of the command line after the program's name.
+///
+/// # Errors
+///
+/// `AllocError` if there is no memory for them.
+pub fn words_of<R: Env + AllocGlobal>(rt: &R) -> Result<Vec<String>, AllocError> {
     let alloc = rt.alloc();
     let mut words = Vec::new(alloc);
     let mut buffer = vec![in alloc; 0u8; LONGEST_WORD]?;
@@ -72,13 +76,17 @@ fn stood_for(character: char) -> Option<u8> {
     u8::try_from(code - FIRST_STAND_IN + 0x80).ok()
 }
 
-// Whether a word was UTF-8.
-pub(crate) fn is_text(word: &str) -> bool {
+/// Whether a word was UTF-8.
+pub fn is_text(word: &str) -> bool {
     !word.chars().any(|character| stood_for(character).is_some())
 }
 
-// Adds the bytes of a word to a line of a script, each that the line's grammar does not take as itself as \xHH.
-pub(crate) fn push_escaped(line: &mut Vec<u8>, word: &str) -> Result<(), AllocError> {
+/// Adds the bytes of a word to a line of a script, each that the line's grammar does not take as itself as \xHH.
+///
+/// # Errors
+///
+/// `AllocError` if there is no memory for them.
+pub fn push_escaped(line: &mut Vec<u8>, word: &str) -> Result<(), AllocError> {
     for character in word.chars() {
         let mut buffer = [0u8; 4];
         match stood_for(character) {

@@ -1,6 +1,6 @@
 // What the replies of a store say of its outcome, for a log.
-use crate::reasons::meaning_of;
 use archive_files::Collected;
+use command_words::meaning_of;
 use script_streams::Reply;
 use std::alloc::Global;
 

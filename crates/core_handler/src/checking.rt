@@ -1,7 +1,7 @@
 // What holds by a handler's configuration, told to a person.
-use crate::asked::escaped_label;
 use crate::config_file::Document;
 use crate::handle::{HANDLER_LIMIT, HANDLER_TEMPLATE, HandleWords};
+use crate::labels::escaped_label;
 use crate::log::KERNEL_LOG;
 use archive_files::{Access, ArchivePath, Failure, reason_of, shape_on, take_disk};
 use handler_config::{Burst, Config};

@@ -1,7 +1,7 @@
 use Rattle.std.proofs.Common.{subst, sym}
 use Rattle.case_journal.specs.Viewing.{OnlyReads}
 use Rattle.intake.specs.QuietLaws.{quiet_then}
-use Rattle.command_line.proofs.examine.look_at_case.Goals as goal
+use Rattle.core_handler.proofs.examine.look_at_case.Goals as goal
 
 pub returns-in-Ok : goal.returns-in-Ok
 returns-in-Ok g c =
