@@ -27,19 +27,28 @@ fn with_care<'a>(alloc: Global, command: Command<'a>) -> Result<Command<'a>, Err
     Ok(command)
 }
 
+// What help shows after the commands.
+const STATUSES: &str =
+    "Statuses: 0; 1 where an archive, a file, a shape, a template, a line of `ask` or a step of `store` is refused \
+     (`no REASON` on standard output, of `extract` on standard error) or a session ends before its script \
+     (`fault NAME` on standard error); 2 where these words are refused.";
+
 // The program, before its commands.
 fn whole_program<'a>(alloc: Global) -> Result<Command<'a>, Error> {
+    Ok(
+        named_program(alloc)?
+            .after_help(STATUSES)
+            .no_binary_name(true)
+            .subcommand_required(true),
+    )
+}
+
+// The program's name, its version and what it is for.
+fn named_program<'a>(alloc: Global) -> Result<Command<'a>, Error> {
     let command = Command::new(alloc, "corekeep")
         .bin_name("corekeep")?
         .version("0.1.0, archives of layout versions 1 and 2")
-        .about("keeps images of programs and their memory as numbered cases in an archive")
-        .after_help(
-            "Statuses: 0; 1 where an archive, a file, a shape, a template, a line of `ask` or a step of `store` is refused \
-             (`no REASON` on standard output, of `extract` on standard error) or a session ends before its script \
-             (`fault NAME` on standard error); 2 where these words are refused.",
-        )
-        .no_binary_name(true)
-        .subcommand_required(true);
+        .about("keeps images of programs and their memory as numbered cases in an archive");
     Ok(command)
 }
 

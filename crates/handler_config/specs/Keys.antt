@@ -1,5 +1,5 @@
 -- The keys of a configuration, and what the value of each has to be.
-use Rattle.std.specs.Prelude.{ℕ, Bool, true, false, List, Option, None, Some, is_some, codes, if◌then◌else◌}
+use Rattle.std.specs.Prelude.{ℕ, Bool, List, Option, None, Some, is_some, codes, if◌then◌else◌}
 use Rattle.std.specs.Str.{bytes_eq}
 use Rattle.toml.specs.Data.{Data, as_str, as_bool}
 use Rattle.handler_config.specs.Values.{natural_in, age_in, burst_in}

@@ -1,5 +1,5 @@
 -- What the values of a configuration are read as.
-use Rattle.std.specs.Prelude.{ℕ, ℤ, pos, negsuc, ◌*◌, ◌^◌, ◌-◌, ◌==◌, nat_lt, Bool, true, false, List, [], ◌∷◌, length, take, slice_index, codes, Option, None, Some, if◌then◌else◌}
+use Rattle.std.specs.Prelude.{ℕ, ℤ, pos, negsuc, ◌*◌, ◌^◌, ◌-◌, ◌==◌, nat_lt, Bool, false, List, length, take, slice_index, codes, Option, None, Some, if◌then◌else◌}
 use Rattle.std.specs.Option.{option_and_then}
 use Rattle.script_words.specs.Number.{number_of}
 use Rattle.handler_config.specs.declared.config.Burst.{Burst}

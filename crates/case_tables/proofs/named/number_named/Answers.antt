@@ -1,4 +1,4 @@
-use Rattle.std.proofs.Common.{◌≡◌, Bool, map, find, reverse, option_map, ap, sym, ◌∙◌, if◌then◌else◌}
+use Rattle.std.proofs.Common.{Bool, map, find, reverse, option_map, ap, sym, ◌∙◌, if◌then◌else◌}
 use Rattle.std.specs.Str.{bytes_eq}
 use Rattle.journal_layout.specs.Case.{Case, case_of}
 use Rattle.case_tables.specs.Named.{is_core, has_name}
