@@ -64,7 +64,7 @@ impl<'a> HandleWords<'a> {
 ///
 /// # Errors
 ///
-/// What store_file of `archive_files` fails by, and `Told` if not all is in order with `--check`.
+/// Those of `store_file` of `archive_files`, and `File` if no archive is named. With `--check` it is `Told` if not all is in order.
 pub fn handle<R: AllocGlobal + Files<File = File> + Clock, I: Read, O: Output>(
     rt: &R,
     words: HandleWords<'_>,
