@@ -30,7 +30,7 @@ pub(crate) struct Seen {
     pub(crate) length: u64,
     // The signal that ended the process, or 0.
     pub(crate) signal: u32,
-    // What can't be read of its image, in words; empty if that can.
+    // What can't be read of its image, in words; empty if that can, or could not be looked at.
     trouble: Collected,
 }
 
@@ -56,7 +56,7 @@ fn machine_name(machine: u16) -> &'static [u8] {
 
 impl Seen {
     // What can't be read of the image, in words: it is no ELF file, or of another machine, or a field is at fault. Nothing is said if
-    // its headers and notes are sound.
+    // its headers and notes are sound, or could not be looked at.
     pub(crate) fn trouble(&self) -> &[u8] {
         self.trouble.text()
     }
@@ -148,7 +148,7 @@ fn see_case<D: Disk>(alloc: Global, seq: u32, archive: &mut Archive<D>) -> Optio
     let length = entry.length;
     let signal = entry.signal;
     let kind = entry.kind;
-    let trouble = see_image(alloc, seq, kind, length, archive)?;
+    let trouble = see_image(alloc, seq, kind, length, archive).unwrap_or(Collected::new(alloc));
     Some(Seen {
         length,
         signal,
