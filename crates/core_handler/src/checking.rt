@@ -1,6 +1,6 @@
 // What holds by a handler's configuration, told to a person.
 use crate::config_file::Document;
-use crate::handle::{HANDLER_LIMIT, HANDLER_TEMPLATE, HandleWords};
+use crate::handling::{HANDLER_LIMIT, HANDLER_TEMPLATE, HandleWords};
 use crate::labels::escaped_label;
 use crate::log::KERNEL_LOG;
 use archive_files::{Access, ArchivePath, Failure, reason_of, shape_on, take_disk};

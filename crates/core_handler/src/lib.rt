@@ -5,13 +5,13 @@ mod checking;
 mod config_file;
 mod examine;
 mod fronts;
-mod handle;
+mod handling;
 mod labels;
 mod log;
 mod outcome_lines;
 mod teller;
 
-pub use handle::{HandleWords, handle, tell_lost_words};
+pub use handling::{HandleWords, handle, tell_lost_words};
 pub use labels::label_in;
 pub use log::Log;
 pub use teller::{Teller, store_told};
