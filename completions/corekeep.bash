@@ -11,7 +11,15 @@ _corekeep() {
         return
     fi
     case $before in
-    --half | --data | --template | --limit | --keep | --bytes | --before | --exec | --label) return ;;
+    --half | --data | --template | --limit | --keep | --bytes | --before | --exec | --label | --name | --pid | --since | --until | --last) return ;;
+    --kind)
+        COMPREPLY=($(compgen -W "core exec" -- "$word"))
+        return
+        ;;
+    --signal)
+        COMPREPLY=($(compgen -W "SIGSEGV SIGABRT SIGBUS SIGFPE SIGILL SIGTRAP SIGSYS SIGQUIT" -- "$word"))
+        return
+        ;;
     --log | --archive)
         COMPREPLY=($(compgen -f -- "$word"))
         return
@@ -27,7 +35,8 @@ _corekeep() {
     run) options="--no-wait $session --help" ;;
     store) options="--exec --pin --label --escape --keep --bytes --before --fit --cut --log --no-wait $session --help" ;;
     handle) options="--check --archive --help" ;;
-    list | ask | look | extract) options="--no-wait --help" ;;
+    list) options="--json --kind --name --pid --signal --since --until --label --pinned --last --no-wait --help" ;;
+    ask | look | extract) options="--no-wait --help" ;;
     check) options="--images --no-wait --help" ;;
     copy) options="--half --data --layout --sparse --no-wait --help" ;;
     resize) options="--half --data --sparse --no-wait --help" ;;
@@ -41,6 +50,11 @@ _corekeep() {
     esac
     if [ "${COMP_WORDS[1]}" = ask ] && [ "$COMP_CWORD" -eq 3 ]; then
         COMPREPLY=($(compgen -W "$lines" -- "$word"))
+        return
+    fi
+    # A case: its number, or `last`.
+    if { [ "${COMP_WORDS[1]}" = ask ] && [ "$COMP_CWORD" -eq 4 ]; } || { [ "${COMP_WORDS[1]}" = extract ] && [ "$COMP_CWORD" -eq 3 ]; }; then
+        COMPREPLY=($(compgen -W "last $(corekeep ask "${COMP_WORDS[2]}" list --no-wait 2>/dev/null | sed -n 's/^\([0-9][0-9]*\) .*/\1/p')" -- "$word"))
         return
     fi
     if [ "${COMP_WORDS[1]}" = store ] && [ "$COMP_CWORD" -ge 4 ]; then

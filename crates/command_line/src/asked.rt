@@ -1,16 +1,17 @@
 // What the words ask for.
 use crate::endings::Ending;
-use crate::grammar::program;
-use crate::handle::HandleWords;
-use crate::raw_words::{is_text, push_escaped};
+use crate::list_words::list_words;
 use archive_files::{ArchivePath, CopyWords, NewArchive, Refusal, StoreWords, WordPart};
 use arrayvec::ArrayVec;
+use case_listing::{ListWords, names_a_case};
 use clap::ArgMatches;
+use command_words::{is_text, line_of, program, push_escaped, push_text};
+use core_handler::{HandleWords, label_in};
 use inspector_cli::StoreOptions;
 use journal_layout::Shape;
 use line_help::help_of;
 use retention::Policy;
-use script_lines::{Call, Command, Question, Request, parse_question, parse_text};
+use script_lines::{Command, Question, Request, parse_question, parse_text};
 use script_words::parse_number;
 use std::alloc::{AllocError, Global};
 
@@ -52,10 +53,20 @@ pub(crate) enum Asked<'a> {
     },
     // A core from the input, as a configuration says.
     Handle(HandleWords<'a>),
+    // The cases of an archive, for people.
+    List {
+        archive: ArchivePath<'a>,
+        wanted: ListWords<'a>,
+    },
     // What one line of a script asks, and its reply.
     Ask {
         archive: ArchivePath<'a>,
         question: Question,
+    },
+    // The same, of a line whose second word names a case.
+    AskCase {
+        archive: ArchivePath<'a>,
+        words: Vec<&'a str>,
     },
     // The lines of the input that only look, and their replies.
     Look {
@@ -129,14 +140,11 @@ pub(crate) fn read_words<'a>(alloc: Global, words: &'a [String]) -> Result<Asked
             file: found.get_str("file").map(checked).transpose()?,
         }),
         Some(("handle", found)) => Ok(Asked::Handle(handle_words(alloc, found)?)),
-        Some(("list", found)) => Ok(Asked::Ask {
+        Some(("list", found)) => Ok(Asked::List {
             archive: place_of(found)?,
-            question: Question::Call(Call::ListCases),
+            wanted: list_words(found)?,
         }),
-        Some(("ask", found)) => Ok(Asked::Ask {
-            archive: place_of(found)?,
-            question: question_of(alloc, found)?,
-        }),
+        Some(("ask", found)) => Ok(ask_words(alloc, found)?),
         Some(("look", found)) => Ok(Asked::Look {
             archive: place_of(found)?,
         }),
@@ -172,7 +180,7 @@ fn text_of<'a>(found: &ArgMatches<'a>, id: &str) -> Result<&'a str, Refusal> {
 }
 
 // A word that has to be text.
-fn checked<'a>(word: &'a str) -> Result<&'a str, Refusal> {
+pub(crate) fn checked<'a>(word: &'a str) -> Result<&'a str, Refusal> {
     checked_part(word, WordPart::Other)
 }
 
@@ -272,21 +280,6 @@ fn label_of(alloc: Global, found: &ArgMatches<'_>) -> Result<Option<ArrayVec<u8,
     Ok(Some(label_in(&line)?))
 }
 
-// A label of these bytes, whatever they are.
-pub(crate) fn escaped_label(alloc: Global, text: &str) -> Result<ArrayVec<u8, 64>, Refusal> {
-    let mut line = b"label 1 ".to_vec(alloc)?;
-    push_escaped(&mut line, text)?;
-    label_in(&line)
-}
-
-// The label that a line gives.
-fn label_in(line: &[u8]) -> Result<ArrayVec<u8, 64>, Refusal> {
-    match parse_question(line) {
-        Some(Question::Call(Call::Label { label, .. })) => Ok(label),
-        _ => Err(Refusal::BadLine),
-    }
-}
-
 // What the words of `handle` ask for. The first word that is no pair names the configuration.
 fn handle_words<'a>(alloc: Global, found: &ArgMatches<'a>) -> Result<HandleWords<'a>, Refusal> {
     let words = found.get_strs("pairs").unwrap_or(&[]);
@@ -335,6 +328,20 @@ fn begins_core(line: &[u8]) -> bool {
     matches!(parse_text(line), Command::Plain(Request::BeginCore { .. }))
 }
 
+// What the words of `ask` ask for.
+fn ask_words<'a>(alloc: Global, found: &ArgMatches<'a>) -> Result<Asked<'a>, Refusal> {
+    let archive = place_of(found)?;
+    let words = found.get_strs("words").unwrap_or(&[]);
+    match question_of(alloc, found) {
+        Ok(question) => Ok(Asked::Ask { archive, question }),
+        Err(Refusal::NoLine(_)) if names_a_case(alloc, words)? => Ok(Asked::AskCase {
+            archive,
+            words: words.to_vec(alloc)?,
+        }),
+        Err(refusal) => Err(refusal),
+    }
+}
+
 // What the line of a script that these words are asks.
 fn question_of(alloc: Global, found: &ArgMatches<'_>) -> Result<Question, Refusal> {
     let line = asked_line(alloc, found)?;
@@ -358,14 +365,11 @@ fn usage_of(found: &ArgMatches<'_>) -> &'static str {
 
 // The line of a script that these words are.
 fn asked_line(alloc: Global, found: &ArgMatches<'_>) -> Result<Vec<u8>, Refusal> {
-    let mut line = Vec::new(alloc);
-    for word in found.get_strs("words").unwrap_or(&[]) {
-        if !line.is_empty() {
-            push_text(&mut line, " ")?;
-        }
-        push_text(&mut line, checked(word)?)?;
+    let words = found.get_strs("words").unwrap_or(&[]);
+    for word in words {
+        checked(word)?;
     }
-    Ok(line)
+    Ok(line_of(alloc, words)?)
 }
 
 // The line that begins a core, with a space before each of its pairs.
@@ -404,10 +408,5 @@ fn push_value(line: &mut Vec<u8>, value: &str, escapes: bool) -> Result<(), Refu
     } else {
         push_text(line, checked_part(value, WordPart::Value)?)?;
     }
-    Ok(())
-}
-
-fn push_text(line: &mut Vec<u8>, text: &str) -> Result<(), AllocError> {
-    line.extend_from_slice(text.as_bytes())?;
     Ok(())
 }

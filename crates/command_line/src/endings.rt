@@ -1,10 +1,9 @@
 // Why the program ends with a status other than 0, and how it says so.
 ghost use Rattle.std.specs.Prelude.{◌≡◌, ◌≤◌};
 
-use crate::line_helps::tell_how_it_is_asked;
-use crate::reasons::meaning_of;
 use archive_files::{Failure, Refusal, reason_of, tell_failure};
 use clap::error::ErrorKind;
+use command_words::{meaning_of, tell_how_it_is_asked};
 use line_help::LineHelp;
 use script_streams::{Output, Reply, write_whole};
 use std::alloc::{AllocError, Global};

@@ -1,19 +1,18 @@
 // The program: what its words ask for, and the status that it ends with.
-ghost use Rattle.std.specs.Prelude.{◌≡◌, ◌≤◌};
+ghost use Rattle.std.specs.Prelude.{◌≡◌, ◌≤◌, false};
+ghost use Rattle.command_words.specs.Notes.{IsQuietButForANote, asks_to_store};
 
 use crate::asked::{Asked, SessionWords, read_words};
 use crate::endings::{Clues, Ending, tell_ending};
-use crate::handle::{handle, tell_lost_words};
-use crate::handler_words::in_order;
-use crate::line_helps::{asked_help, line_in_place_of_a_command, tell_help};
-use crate::log::Log;
-use crate::raw_words::words_of;
-use crate::teller::{Teller, store_told};
-use crate::watched::Watched;
 use archive_files::{
-    Access, ArchivePath, Failure, Refusal, StoreRequest, ask, check, copy_archive_file, extract,
-    look, make_archive, names_output, resize_archive_file, run_over, store_file, take_disk,
+    Access, ArchivePath, Collected, Failure, Refusal, StoreRequest, ask, check, copy_archive_file,
+    look, make_archive, names_output, resize_archive_file, run_over, take_disk,
 };
+use case_listing::{ask_case, extract_case, list};
+use command_words::{
+    Watched, asked_help, in_order, line_in_place_of_a_command, tell_help, tell_note, words_of,
+};
+use core_handler::{Log, Teller, handle, store_told, tell_lost_words};
 use inspector_cli::{Naming, memory_session};
 use intake::Settings;
 use journal_layout::Shape;
@@ -33,7 +32,7 @@ pub fn run_program<
     E: Output,
 >(rt: &R, input: &mut I, output: &mut O, errors: &mut E) -> u8
     ensures most { result ≤ 2 }
-    ensures quiet { result ≡ 0 → errors.new ≡ errors.old }
+    ensures quiet { result ≡ 0 → IsQuietButForANote E.Output errors.old errors.new }
 {
     match words_of(rt) {
         Ok(words) => run_words(rt, words.as_slice(), input, output, errors),
@@ -66,7 +65,9 @@ pub fn run_program<
 ///   and its reply goes before the others; where it is refused the file is stored all the same. With `--label TEXT` the
 ///   line `label` of a script gives the new case this label, and its reply follows the others; where it is refused, as in
 ///   an archive of version 1 of the layout, the case stays. With `--pin` the line `pin` comes after that, in the same way.
-/// - `list ARCHIVE` and `ask ARCHIVE WORD..` carry out one line of a script, `extract ARCHIVE N [FILE]` writes the image of a
+/// - `list ARCHIVE` shows the cases as a table, or as JSON; with words that only some cases meet, those. The status is 1 if there are
+///   none of these.
+/// - `ask ARCHIVE WORD..` carries out one line of a script, `extract ARCHIVE N [FILE]` writes the image of a
 ///   case. A line that changes no case, and `extract`, need no right to write the archive's file, and hold its lock only while they
 ///   read its journal.
 /// - `look ARCHIVE` answers the lines of `input` that change no case, each as `ask` does.
@@ -86,13 +87,16 @@ pub fn run_words<R: AllocGlobal + Files<File = File> + Clock, I: Read, O: Output
     output: &mut O,
     errors: &mut E,
 ) -> u8
-    // The status, and where it is 0, nothing was written to the errors.
+    // The status. If it is 0, nothing was written to the errors, but for a note on the case that `store` stored.
     ensures most { result ≤ 2 }
-    ensures quiet { result ≡ 0 → errors.new ≡ errors.old }
+    ensures quiet { result ≡ 0 → asks_to_store words.now ≡ false → errors.new ≡ errors.old }
+    ensures note { result ≡ 0 → IsQuietButForANote E.Output errors.old errors.new }
 {
     let mut watched = Watched::new(output);
-    let answered = answer_words(rt, words, input, &mut watched);
+    let mut note = Collected::new(rt.alloc());
+    let answered = answer_words(rt, words, input, &mut watched, &mut note);
     let line = watched.into_line();
+    tell_note(words, note.text(), errors);
     match answered {
         Ok(()) => 0,
         Err(ending) => {
@@ -111,6 +115,7 @@ fn answer_words<R: AllocGlobal + Files<File = File> + Clock, I: Read, O: Output>
     words: &[String],
     input: &mut I,
     output: &mut O,
+    note: &mut Collected,
 ) -> Result<(), Ending> {
     if names_output(rt, words) {
         return Err(Ending::Failed(Failure::Aside(Refusal::Output)));
@@ -124,7 +129,7 @@ fn answer_words<R: AllocGlobal + Files<File = File> + Clock, I: Read, O: Output>
         None => words,
     };
     match read_words(rt.alloc(), words) {
-        Ok(asked) => Ok(answer_asked(rt, asked, input, output)?),
+        Ok(asked) => Ok(answer_asked(rt, asked, input, output, note)?),
         Err(ending) => {
             if ordered.is_some() && ending.is_refusal() {
                 tell_lost_words(rt);
@@ -140,6 +145,7 @@ fn answer_asked<R: AllocGlobal + Files<File = File> + Clock, I: Read, O: Output>
     asked: Asked<'_>,
     input: &mut I,
     output: &mut O,
+    note: &mut Collected,
 ) -> Result<(), Failure> {
     match asked {
         Asked::Format { archive, wanted } => Ok(make_archive(rt, archive, wanted)?),
@@ -154,15 +160,17 @@ fn answer_asked<R: AllocGlobal + Files<File = File> + Clock, I: Read, O: Output>
         } => {
             let naming = naming_of(settings)?;
             let request = StoreRequest::of(wanted, &naming, settings.limit);
-            store(rt, archive, file, request, log, input, output)
+            store(rt, archive, file, request, log, input, output, note)
         }
         Asked::Extract {
             archive,
             case,
             file,
-        } => extract(rt, archive, case, file, output),
+        } => extract_case(rt, archive, case, file, output),
         Asked::Handle(words) => handle(rt, words, input, output),
+        Asked::List { archive, wanted } => list(rt, archive, wanted, output),
         Asked::Ask { archive, question } => ask(rt, archive, question, output),
+        Asked::AskCase { archive, words } => ask_case(rt, archive, &words, output),
         Asked::Look { archive } => look(rt, archive, &mut ReadInput::new(input), output),
         Asked::Check {
             archive,
@@ -239,7 +247,7 @@ fn run_memory<R: AllocGlobal, I: Read, O: Output>(
     Ok(ended?)
 }
 
-// Stores a file, or the standard input, and tells a log of it, if one is named.
+// Stores a file, or the standard input, and tells a log of it, if one is named. What can't be read of the case goes to a note.
 fn store<R: AllocGlobal + Files<File = File>, I: Read, O: Output>(
     rt: &R,
     place: ArchivePath<'_>,
@@ -248,15 +256,15 @@ fn store<R: AllocGlobal + Files<File = File>, I: Read, O: Output>(
     log: Option<&str>,
     input: &mut I,
     output: &mut O,
+    note: &mut Collected,
 ) -> Result<(), Failure> {
-    let Some(path) = log else {
-        return store_file(rt, place, file, request, input, output).0;
-    };
     let teller = Teller {
         alloc: rt.alloc(),
-        log: Log { path },
+        log: Log {
+            path: log.unwrap_or(""),
+        },
     };
-    store_told(rt, teller, place, file, request, input, output)
+    store_told(rt, teller, place, file, request, input, output, note)
 }
 
 // How cores are named.

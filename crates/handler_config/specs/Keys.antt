@@ -1,12 +1,12 @@
 -- The keys of a configuration, and what the value of each has to be.
-use Rattle.std.specs.Prelude.{ℕ, Bool, true, false, List, Option, None, Some, is_some, codes, if◌then◌else◌}
+use Rattle.std.specs.Prelude.{ℕ, Bool, List, Option, None, Some, is_some, codes, if◌then◌else◌}
 use Rattle.std.specs.Str.{bytes_eq}
 use Rattle.toml.specs.Data.{Data, as_str, as_bool}
-use Rattle.handler_config.specs.Values.{natural_in, age_in}
+use Rattle.handler_config.specs.Values.{natural_in, age_in, burst_in}
 use Rattle.handler_config.specs.declared.keys.Key.{Key}
-use Rattle.handler_config.specs.declared.keys.Key.TheVariants.{Archive, Keep, Bytes, Before, Limit, Fit, Cut, Template, UsesPid, NoWait, Label, Log}
+use Rattle.handler_config.specs.declared.keys.Key.TheVariants.{Archive, Keep, Bytes, Before, Limit, Fit, Cut, Burst, Template, UsesPid, NoWait, Label, Log}
 use Rattle.handler_config.specs.declared.keys.Fault.{Fault}
-use Rattle.handler_config.specs.declared.keys.Fault.TheVariants.{Unknown, NotText, NotNumber, NotFlag, NotAge}
+use Rattle.handler_config.specs.declared.keys.Fault.TheVariants.{Unknown, NotText, NotNumber, NotFlag, NotAge, NotBurst}
 
 -- how a key is written
 abbrev pub key_word : Key → List ℕ
@@ -17,6 +17,7 @@ key_word Before = codes "before"
 key_word Limit = codes "limit"
 key_word Fit = codes "fit"
 key_word Cut = codes "cut"
+key_word Burst = codes "burst"
 key_word Template = codes "template"
 key_word UsesPid = codes "uses-pid"
 key_word NoWait = codes "no-wait"
@@ -36,12 +37,13 @@ key_of word =
     else (if is_word_of word Limit then Some Limit
     else (if is_word_of word Fit then Some Fit
     else (if is_word_of word Cut then Some Cut
+    else (if is_word_of word Burst then Some Burst
     else (if is_word_of word Template then Some Template
     else (if is_word_of word UsesPid then Some UsesPid
     else (if is_word_of word NoWait then Some NoWait
     else (if is_word_of word Label then Some Label
     else (if is_word_of word Log then Some Log
-    else None)))))))))))
+    else None))))))))))))
 
 -- a value that is missing is this fault
 abbrev pub unless : Fault → Bool → Option Fault
@@ -59,6 +61,7 @@ value_fault Before d = unless_there NotAge (age_in d)
 value_fault Limit d = unless_there NotNumber (natural_in d)
 value_fault Fit d = unless_there NotFlag (as_bool d)
 value_fault Cut d = unless_there NotFlag (as_bool d)
+value_fault Burst d = unless_there NotBurst (burst_in d)
 value_fault Template d = unless_there NotText (as_str d)
 value_fault UsesPid d = unless_there NotFlag (as_bool d)
 value_fault NoWait d = unless_there NotFlag (as_bool d)

@@ -1,7 +1,8 @@
 -- What the values of a configuration are read as.
-use Rattle.std.specs.Prelude.{ℕ, ℤ, pos, negsuc, ◌*◌, ◌^◌, ◌-◌, ◌==◌, nat_lt, Bool, true, false, List, [], ◌∷◌, length, take, slice_index, Option, None, Some, if◌then◌else◌}
+use Rattle.std.specs.Prelude.{ℕ, ℤ, pos, negsuc, ◌*◌, ◌^◌, ◌-◌, ◌==◌, nat_lt, Bool, false, List, length, take, slice_index, codes, Option, None, Some, if◌then◌else◌}
 use Rattle.std.specs.Option.{option_and_then}
 use Rattle.script_words.specs.Number.{number_of}
+use Rattle.handler_config.specs.declared.config.Burst.{Burst}
 use Rattle.toml.specs.Data.{Data, as_str, as_integer, as_bool, get}
 
 -- a number that is not negative
@@ -47,6 +48,18 @@ natural_at key document = option_and_then natural_in (get key document)
 
 abbrev pub age_at : List ℕ → Data → Option ℕ
 age_at key document = option_and_then age_in (get key document)
+
+abbrev pub burst_by : Option ℕ → Option ℕ → Option Burst
+burst_by (Some most) (Some seconds) = Some (record { most = most; seconds = seconds })
+burst_by (Some most) None = None
+burst_by None seconds = None
+
+-- So many cores in so many seconds: a table with the numbers `most` and `seconds`.
+abbrev pub burst_in : Data → Option Burst
+burst_in d = burst_by (natural_at (codes "most") d) (natural_at (codes "seconds") d)
+
+abbrev pub burst_at : List ℕ → Data → Option Burst
+burst_at key document = option_and_then burst_in (get key document)
 
 abbrev pub is_set : Option Bool → Bool
 is_set None = false

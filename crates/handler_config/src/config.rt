@@ -2,8 +2,17 @@
 ghost use Rattle.toml.specs.View.{view};
 ghost use Rattle.handler_config.specs.Config.{Says};
 
-use crate::values::{age_at, flag_at, natural_at, text_at};
+use crate::values::{age_at, burst_at, flag_at, natural_at, text_at};
 use toml::Value;
+
+/// So many cores of one program, in so many seconds.
+#[derive(Clone, Copy, Debug, PartialEq, Eq)]
+pub struct Burst {
+    /// How many of them are stored.
+    pub most: u64,
+    /// In how many seconds.
+    pub seconds: u64,
+}
 
 /// What a configuration says. A key that is missing, or whose value is faulty, says nothing.
 #[derive(Clone, Copy)]
@@ -22,6 +31,8 @@ pub struct Config<'t> {
     pub fit: bool,
     /// A core that has more bytes than the limit, or finds no room, is cut.
     pub cut: bool,
+    /// How many cores of one program are stored in how many seconds.
+    pub burst: Option<Burst>,
     /// How cores are named, a template of core(5).
     pub template: Option<&'t str>,
     /// Names get a dot and the process if their template has no `%p`.
@@ -47,6 +58,7 @@ impl<'t> Config<'t> {
             limit: natural_at(document, "limit"),
             fit: flag_at(document, "fit"),
             cut: flag_at(document, "cut"),
+            burst: burst_at(document, "burst"),
             template: text_at(document, "template"),
             uses_pid: flag_at(document, "uses-pid"),
             no_wait: flag_at(document, "no-wait"),

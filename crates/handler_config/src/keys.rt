@@ -3,7 +3,7 @@ ghost use Rattle.std.specs.Prelude.{◌≡◌};
 ghost use Rattle.toml.specs.View.{view};
 ghost use Rattle.handler_config.specs.Keys as spec;
 
-use crate::values::{age_in, natural_in};
+use crate::values::{age_in, burst_in, natural_in};
 use toml::Value;
 
 /// A key of a configuration.
@@ -23,6 +23,8 @@ pub enum Key {
     Fit,
     /// A core that is too large, or finds no room, is cut: true or false.
     Cut,
+    /// How many cores of one program are stored in how many seconds: a table of two numbers.
+    Burst,
     /// How cores are named, a template of core(5): a text.
     Template,
     /// Names get a dot and the process if their template has no `%p`: true or false.
@@ -48,6 +50,8 @@ pub enum Fault {
     NotFlag,
     /// The value is no age: a text of a number and `s`, `m`, `h` or `d`.
     NotAge,
+    /// The value is no table with the numbers `most` and `seconds`.
+    NotBurst,
 }
 
 // The key that is written so.
@@ -62,6 +66,7 @@ fn key_of(word: &str) -> Option<Key>
         "limit" => Some(Key::Limit),
         "fit" => Some(Key::Fit),
         "cut" => Some(Key::Cut),
+        "burst" => Some(Key::Burst),
         "template" => Some(Key::Template),
         "uses-pid" => Some(Key::UsesPid),
         "no-wait" => Some(Key::NoWait),
@@ -93,6 +98,7 @@ pub fn entry_fault(word: &str, value: &Value) -> Option<Fault>
             unless_there(Fault::NotNumber, natural_in(value).is_some())
         }
         Key::Before => unless_there(Fault::NotAge, age_in(value).is_some()),
+        Key::Burst => unless_there(Fault::NotBurst, burst_in(value).is_some()),
         Key::Fit | Key::Cut | Key::UsesPid | Key::NoWait => {
             unless_there(Fault::NotFlag, value.as_bool().is_some())
         }

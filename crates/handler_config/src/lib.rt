@@ -7,5 +7,5 @@ mod config;
 mod keys;
 mod values;
 
-pub use config::Config;
+pub use config::{Burst, Config};
 pub use keys::{Fault, Key, entry_fault};

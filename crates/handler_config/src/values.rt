@@ -4,6 +4,7 @@ ghost use Rattle.std.specs.Option.{option_copied};
 ghost use Rattle.toml.specs.View.{view};
 ghost use Rattle.handler_config.specs.Values as spec;
 
+use crate::config::Burst;
 use script_words::parse_number;
 use toml::Value;
 
@@ -49,6 +50,15 @@ pub(crate) fn age_in(value: &Value) -> Option<u64>
     age_of(text.as_bytes())
 }
 
+// So many cores in so many seconds, if the value is a table that says both.
+pub(crate) fn burst_in(value: &Value) -> Option<Burst>
+    ensures { result ≡ spec.burst_in (view value.now) }
+{
+    let most = natural_at(value, "most")?;
+    let seconds = natural_at(value, "seconds")?;
+    Some(Burst { most, seconds })
+}
+
 // The text of a key.
 pub(crate) fn text_at<'t>(document: &'t Value, key: &str) -> Option<&'t str>
     ensures { option_copied result ≡ spec.text_at key.now (view document.entry.now) }
@@ -71,6 +81,14 @@ pub(crate) fn age_at(document: &Value, key: &str) -> Option<u64>
 {
     let value = document.get(key)?;
     age_in(value)
+}
+
+// So many cores in so many seconds, by a key.
+pub(crate) fn burst_at(document: &Value, key: &str) -> Option<Burst>
+    ensures { result ≡ spec.burst_at key.now (view document.now) }
+{
+    let value = document.get(key)?;
+    burst_in(value)
 }
 
 // Whether a key is set.

@@ -1,0 +1,104 @@
+// Cases as people name them, where a line of a script has their number.
+use archive_files::{ArchivePath, Failure, Refusal, ask, extract, take_look};
+use case_tables::number_named;
+use command_words::line_of;
+use disk_model::Disk;
+use intake::{Archive, ArchiveFault, Settings};
+use script_lines::{Question, parse_question};
+use script_streams::Output;
+use script_words::{parse_number, print_decimal};
+use std::alloc::{AllocError, Global};
+use std::fs::File;
+use std::rt::Files;
+use std::str;
+
+// Whether a word is a number, as a script has it. Then it names no case, whatever the case of that number is.
+fn is_number(word: &str) -> bool {
+    parse_number(word.as_bytes()).is_some()
+}
+
+/// Whether these words are a line that asks for a case by what is no number.
+///
+/// # Errors
+///
+/// `AllocError` if there is no memory for the line.
+pub fn names_a_case(alloc: Global, words: &[&str]) -> Result<bool, AllocError> {
+    match words.get(1) {
+        Some(word) if !is_number(word) => Ok(numbered(alloc, words, "1")?.is_some()),
+        _ => Ok(false),
+    }
+}
+
+// What the line of these words asks with this number for the case.
+fn numbered(alloc: Global, words: &[&str], number: &str) -> Result<Option<Question>, AllocError> {
+    let mut line = Vec::new(alloc);
+    for (index, word) in words.iter().enumerate() {
+        line.push(if index == 1 { number } else { *word })?;
+    }
+    Ok(parse_question(&line_of(alloc, &line)?))
+}
+
+// The number of the case that a word names, in the archive as it is now.
+fn number_of<R: AllocGlobal + Files<File = File>>(
+    rt: &R,
+    place: ArchivePath<'_>,
+    word: &str,
+) -> Result<u32, Refusal> {
+    let looked = take_look(rt, place)?;
+    let disk = looked.unlocked(Vec::new(rt.alloc()));
+    find_case(rt.alloc(), disk, word.as_bytes())
+}
+
+fn find_case<D: Disk + Drop>(alloc: Global, disk: D, word: &[u8]) -> Result<u32, Refusal> {
+    match Archive::open(alloc, disk, Settings { limit: 0 }) {
+        Ok(archive) => match archive.cases() {
+            Ok(cases) => number_named(cases, word).ok_or(Refusal::Call(ArchiveFault::NoCase)),
+            Err(fault) => Err(Refusal::Call(fault)),
+        },
+        Err((fault, _)) => Err(Refusal::Open(fault)),
+    }
+}
+
+/// Writes the image of a case that a word names.
+///
+/// # Errors
+///
+/// Those of `extract` of `archive_files`. If the word is no number, what the look at the archive is refused for, and `NoCase` if no case
+/// has this name.
+pub fn extract_case<R: AllocGlobal + Files<File = File>, O: Output>(
+    rt: &R,
+    place: ArchivePath<'_>,
+    case: &str,
+    file: Option<&str>,
+    output: &mut O,
+) -> Result<(), Failure> {
+    if is_number(case) {
+        return extract(rt, place, case, file, output);
+    }
+    let number = number_of(rt, place, case).map_err(|refusal| Failure::Aside(refusal))?;
+    let digits = print_decimal(u128::from(number));
+    match str::from_utf8(digits.as_slice()) {
+        Ok(number) => extract(rt, place, number, file, output),
+        Err(_) => Err(Failure::Aside(Refusal::BadLine)),
+    }
+}
+
+/// Answers the line of these words, whose second word names a case.
+///
+/// # Errors
+///
+/// Those of `ask` of `archive_files`. Before, what the look at the archive is refused for, and `NoCase` if no case has this name.
+pub fn ask_case<R: AllocGlobal + Files<File = File>, O: Output>(
+    rt: &R,
+    place: ArchivePath<'_>,
+    words: &[&str],
+    output: &mut O,
+) -> Result<(), Failure> {
+    let name = words.get(1).copied().unwrap_or("");
+    let digits = print_decimal(u128::from(number_of(rt, place, name)?));
+    let number = str::from_utf8(digits.as_slice()).unwrap_or("");
+    match numbered(rt.alloc(), words, number)? {
+        Some(question) => ask(rt, place, question, output),
+        None => Err(Failure::Refused(Refusal::BadLine)),
+    }
+}

@@ -1,0 +1,146 @@
+// `list`: the cases of an archive, for people or as JSON.
+use archive_files::{ArchivePath, Failure, Refusal, take_look};
+use case_tables::{Wanted, list_json, read_time, tell_list};
+use disk_model::Disk;
+use inspector_cli::SessionFault;
+use intake::{Archive, Settings};
+use journal_layout::Entry;
+use script_streams::{Output, Reply, StreamFault};
+use std::alloc::Global;
+use std::fs::File;
+use std::rt::Files;
+use std::time::Clock;
+
+/// What the words of `list` ask for.
+#[derive(Clone, Copy)]
+pub struct ListWords<'a> {
+    /// Which cases, but for their times.
+    pub wanted: Wanted<'a>,
+    /// The time of the first, as the words have it.
+    pub since: Option<&'a str>,
+    /// The time that the last is before, as the words have it.
+    pub until: Option<&'a str>,
+    /// They are told as JSON.
+    pub is_json: bool,
+}
+
+impl<'a> ListWords<'a> {
+    // Whether only some cases are asked for.
+    fn picks(&self) -> bool {
+        let wanted = &self.wanted;
+        wanted.kind.is_some()
+            || wanted.name.is_some()
+            || wanted.pid.is_some()
+            || wanted.signal.is_some()
+            || self.since.is_some()
+            || self.until.is_some()
+            || wanted.label.is_some()
+            || wanted.pinned
+            || wanted.last.is_some()
+    }
+
+    // What is wanted, at this time.
+    fn wanted_at(&self, now: Option<u64>) -> Result<Wanted<'a>, Refusal> {
+        let mut wanted = self.wanted;
+        wanted.since = time_said(self.since, now)?;
+        wanted.until = time_said(self.until, now)?;
+        Ok(wanted)
+    }
+}
+
+fn time_said(text: Option<&str>, now: Option<u64>) -> Result<Option<u64>, Refusal> {
+    let Some(text) = text else {
+        return Ok(None);
+    };
+    match read_time(text, now) {
+        Some(time) => Ok(Some(time)),
+        None => Err(Refusal::BadLine),
+    }
+}
+
+/// Tells the cases that are asked for, from a look at the archive.
+///
+/// # Errors
+///
+/// `BadLine` if a time can't be read. What `take_look` of `archive_files` and an opening are refused for. `WriteFailed` if the list could
+/// not be written. `Told` if only some cases are asked for, and there are none.
+pub fn list<R: AllocGlobal + Files<File = File> + Clock, O: Output>(
+    rt: &R,
+    place: ArchivePath<'_>,
+    words: ListWords<'_>,
+    output: &mut O,
+) -> Result<(), Failure> {
+    let now = rt.since_1970().ok().map(|time| time.as_secs());
+    let wanted = words.wanted_at(now)?;
+    let looked = take_look(rt, place)?;
+    let alloc = rt.alloc();
+    let disk = looked.unlocked(Vec::new(alloc));
+    let some = list_over(alloc, disk, &wanted, words.is_json, output)?;
+    if some || !words.picks() {
+        Ok(())
+    } else {
+        Err(Failure::Told)
+    }
+}
+
+// Opens the archive on a disk, and tells the cases that are wanted. Says whether there are any.
+fn list_over<D: Disk + Drop, O: Output>(
+    alloc: Global,
+    disk: D,
+    wanted: &Wanted<'_>,
+    is_json: bool,
+    output: &mut O,
+) -> Result<bool, Failure> {
+    match Archive::open(alloc, disk, Settings { limit: 0 }) {
+        Ok(archive) => list_archive(alloc, &archive, wanted, is_json, output),
+        Err((fault, _)) => Err(Failure::Refused(Refusal::Open(fault))),
+    }
+}
+
+fn list_archive<D: Disk, O: Output>(
+    alloc: Global,
+    archive: &Archive<D>,
+    wanted: &Wanted<'_>,
+    is_json: bool,
+    output: &mut O,
+) -> Result<bool, Failure> {
+    let cases = match archive.cases() {
+        Ok(cases) => cases,
+        Err(fault) => return Err(Failure::Refused(Refusal::Call(fault))),
+    };
+    if is_json {
+        tell_json(alloc, cases, wanted, output)
+    } else {
+        tell_table(alloc, cases, wanted, output)
+    }
+}
+
+fn tell_table<O: Output>(
+    alloc: Global,
+    cases: &[Entry],
+    wanted: &Wanted<'_>,
+    output: &mut O,
+) -> Result<bool, Failure> {
+    let mut reply = Reply::new(output);
+    let some = tell_list(alloc, &mut reply, cases, wanted)?;
+    sent(reply.finish())?;
+    Ok(some)
+}
+
+fn tell_json<O: Output>(
+    alloc: Global,
+    cases: &[Entry],
+    wanted: &Wanted<'_>,
+    output: &mut O,
+) -> Result<bool, Failure> {
+    let (text, some) = list_json(alloc, cases, wanted)?;
+    let mut reply = Reply::new(output);
+    reply.tell(text.as_bytes());
+    reply.tell(b"\n");
+    sent(reply.finish())?;
+    Ok(some)
+}
+
+fn sent(finished: Result<(), StreamFault>) -> Result<(), Failure> {
+    finished.map_err(|_| Failure::Faulted(SessionFault::WriteFailed))
+}

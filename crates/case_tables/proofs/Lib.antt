@@ -1,0 +1,3 @@
+pub mod DayLemmas
+pub mod TableLemmas
+pub mod NamedLemmas

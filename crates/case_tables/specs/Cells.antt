@@ -1,0 +1,43 @@
+-- What a table shows of a case.
+use Rattle.std.specs.Prelude.{ℕ, ◌==◌, if◌then◌else◌, List, ◌++◌, Option, Some, None, codes, decimal}
+use Rattle.journal_layout.specs.Case.{Case}
+use Rattle.script_words.specs.Printing.{shown}
+use Rattle.thread_regs.specs.SignalNames.{numbered_name}
+use Rattle.case_tables.specs.declared.columns.Column.{Column}
+use Rattle.case_tables.specs.declared.columns.Column.TheVariants.{Number, Time, Pid, Signal, Size, Kept, Name, Label}
+use Rattle.case_tables.specs.Sizes.{size_text}
+use Rattle.case_tables.specs.Times.{time_text}
+
+-- a number that is known, or `-`
+abbrev pub known_number : ℕ → List ℕ
+known_number n = if n == 0 then codes "-" else decimal n
+
+abbrev pub named_signal : Option (List ℕ) → ℕ → List ℕ
+named_signal (Some name) n = codes "SIG" ++ name
+named_signal None n = known_number n
+
+-- a signal by its name, or by its number; `-` where there was none
+abbrev pub signal_text : ℕ → List ℕ
+signal_text n = named_signal (numbered_name n) n
+
+-- how a column shows a case
+abbrev pub cell : Column → Case → List ℕ
+cell Number c = decimal c.seq
+cell Time c = time_text c.origin.time
+cell Pid c = known_number c.origin.pid
+cell Signal c = signal_text c.origin.signal
+cell Size c = size_text c.len
+cell Kept c = if c.pinned then codes "pinned" else codes "-"
+cell Name c = shown c.origin.name
+cell Label c = shown c.label
+
+-- what a column has at its head
+abbrev pub heading : Column → List ℕ
+heading Number = codes "CASE"
+heading Time = codes "TIME"
+heading Pid = codes "PID"
+heading Signal = codes "SIGNAL"
+heading Size = codes "SIZE"
+heading Kept = codes "KEPT"
+heading Name = codes "NAME"
+heading Label = codes "LABEL"

@@ -1,0 +1,7 @@
+pub mod Days
+pub mod Times
+pub mod Sizes
+pub mod Cells
+pub mod Table
+pub mod Wanted
+pub mod Named

@@ -1,0 +1,51 @@
+// A list of the cases that are wanted.
+ghost use Rattle.std.specs.Prelude.{◌≡◌, map, not, length, ◌==◌, IfOk};
+ghost use Rattle.journal_layout.specs.Case.{case_of};
+ghost use Rattle.script_streams.specs.Replies.{TellsText, telling};
+ghost use Rattle.case_tables.specs.Table.{list_table};
+ghost use Rattle.case_tables.specs.Wanted.{chosen};
+
+use crate::json::json_of;
+use crate::table::tell_table;
+use crate::wanted::{Wanted, find_wanted, last_of};
+use journal_layout::Entry;
+use script_streams::{Output, Reply};
+use std::alloc::{AllocError, Global};
+
+/// Tells the cases that are wanted as a table. Says whether there are any.
+///
+/// # Errors
+///
+/// There is no memory: nothing is told.
+pub fn tell_list<O: Output>(
+    alloc: Global,
+    reply: &mut Reply<'_, O>,
+    cases: &[Entry],
+    wanted: &Wanted<'_>,
+) -> Result<bool, AllocError>
+    ensures is_table { IfOk result (λ some. TellsText (telling O.Output reply.old reply.new) (list_table (chosen wanted.now (map case_of cases.now)))) }
+    ensures some { IfOk result (λ some. some ≡ not (length (chosen wanted.now (map case_of cases.now)) == 0)) }
+{
+    let found = find_wanted(alloc, cases, wanted)?;
+    let shown = last_of(&found, wanted.last);
+    tell_table(reply, shown);
+    Ok(!shown.is_empty())
+}
+
+/// The cases that are wanted as a JSON array of objects, and whether there are any.
+///
+/// # Errors
+///
+/// There is no memory.
+pub fn list_json(
+    alloc: Global,
+    cases: &[Entry],
+    wanted: &Wanted<'_>,
+) -> Result<(String, bool), AllocError>
+    ensures some { IfOk result (λ list. list.1 ≡ not (length (chosen wanted.now (map case_of cases.now)) == 0)) }
+{
+    let found = find_wanted(alloc, cases, wanted)?;
+    let shown = last_of(&found, wanted.last);
+    let text = json_of(alloc, shown)?;
+    Ok((text, !shown.is_empty()))
+}

@@ -1,0 +1,80 @@
+// The words of a handler, which loses no core for one that it does not know.
+use std::alloc::{AllocError, Global};
+
+// What kind of word it is.
+#[derive(Clone, Copy, Debug, PartialEq, Eq)]
+enum Kind {
+    // An option that is known, or the value of one.
+    Known,
+    // Another word: the configuration, or a pair.
+    Plain,
+    // An option that is not known.
+    Unknown,
+}
+
+/// The words of `handle` in an order in which none is refused: its options, and then, after `--`, the others, those last that are no
+/// option that is known. These are then told and left out. Nothing if the words are not those of `handle`.
+///
+/// # Errors
+///
+/// `AllocError` if there is no memory for them.
+pub fn in_order(alloc: Global, words: &[String]) -> Result<Option<Vec<String>>, AllocError> {
+    let Some((command, rest)) = words.split_first() else {
+        return Ok(None);
+    };
+    if command.as_str() != "handle" {
+        return Ok(None);
+    }
+    let mut ordered = Vec::new(alloc);
+    ordered.push(command.clone()?)?;
+    push_all(&mut ordered, rest, Kind::Known)?;
+    ordered.push(String::from_str(alloc, "--")?)?;
+    push_all(&mut ordered, rest, Kind::Plain)?;
+    push_all(&mut ordered, rest, Kind::Unknown)?;
+    Ok(Some(ordered))
+}
+
+// Adds the words of this kind. A value is of the kind of its option.
+fn push_all(ordered: &mut Vec<String>, words: &[String], wanted: Kind) -> Result<(), AllocError> {
+    let mut of_option = None;
+    for word in words {
+        let kind = match of_option {
+            Some(kind) => kind,
+            None => kind_of(word),
+        };
+        if kind == wanted {
+            ordered.push(word.clone()?)?;
+        }
+        of_option = match of_option {
+            Some(_) => None,
+            None => kind_of_value(word),
+        };
+    }
+    Ok(())
+}
+
+// The kind of the word after this one, if that is this option's value. `store` has options that a handler has not.
+fn kind_of_value(word: &str) -> Option<Kind> {
+    match word {
+        "--archive" => Some(Kind::Known),
+        "--keep"
+        | "--bytes"
+        | "--before"
+        | "--label"
+        | "--log"
+        | "--template"
+        | "--limit"
+        | "--exec" => { Some(Kind::Unknown) }
+        _ => None,
+    }
+}
+
+// The kind of a word that is no option's value.
+fn kind_of(word: &str) -> Kind {
+    match word {
+        "--check" | "--help" | "-h" | "--archive" => Kind::Known,
+        _ if word.starts_with("--archive=") => Kind::Known,
+        _ if word.starts_with('-') => Kind::Unknown,
+        _ => Kind::Plain,
+    }
+}

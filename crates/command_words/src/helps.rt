@@ -1,0 +1,63 @@
+// `corekeep help LINE`: what a line of a script is for.
+use crate::care_tables::CARE_COMMANDS;
+use crate::tables::COMMANDS;
+use line_help::{LineHelp, help_of};
+use script_streams::{Output, Reply, StreamFault};
+
+/// The line whose help these words ask for. What is a command too has the command's help.
+pub fn asked_help(words: &[String]) -> Option<&'static LineHelp> {
+    let [help, name] = words else {
+        return None;
+    };
+    if help.as_str() != "help" || is_command(name) {
+        return None;
+    }
+    help_of(name)
+}
+
+/// The line that the first word is, where it should be a command.
+pub fn line_in_place_of_a_command(words: &[String]) -> Option<&'static LineHelp> {
+    let name = words.first()?;
+    if is_command(name) {
+        return None;
+    }
+    help_of(name)
+}
+
+/// Tells people how such a line is asked.
+pub fn tell_how_it_is_asked<E: Output>(line: &LineHelp, errors: &mut E) {
+    let mut reply = Reply::new(errors);
+    reply.tell(b"corekeep: this is a line of a script: corekeep ask ARCHIVE ");
+    reply.tell(line.usage.as_bytes());
+    reply.tell(b"\n");
+    let _ = reply.finish();
+}
+
+fn is_command(name: &str) -> bool {
+    COMMANDS.iter().any(|command| command.name == name) || cares(name)
+}
+
+fn cares(name: &str) -> bool {
+    CARE_COMMANDS.iter().any(|command| command.name == name)
+}
+
+/// Tells what a line is for.
+///
+/// # Errors
+///
+/// `StreamFault` if a write failed.
+pub fn tell_help<O: Output>(help: &LineHelp, output: &mut O) -> Result<(), StreamFault> {
+    let mut reply = Reply::new(output);
+    reply.tell(help.usage.as_bytes());
+    tell_part(&mut reply, b"\n\n    ", help.does);
+    tell_part(&mut reply, b"\n    reply:    ", help.reply);
+    tell_part(&mut reply, b"\n    example:  ", help.example);
+    tell_part(&mut reply, b"\n    refused:  ", help.reasons);
+    reply.tell(b"\n");
+    reply.finish()
+}
+
+fn tell_part<O: Output>(reply: &mut Reply<'_, O>, heading: &[u8], text: &str) {
+    reply.tell(heading);
+    reply.tell(text.as_bytes());
+}

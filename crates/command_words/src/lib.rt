@@ -1,0 +1,24 @@
+//! The words of the command line: their grammar, their help, and what people are told of a reason. No archive is known here.
+#![tactic(auto)]
+
+mod ask_help;
+mod care_tables;
+mod grammar;
+mod handler_words;
+mod helps;
+mod line_texts;
+mod list_tables;
+mod notes;
+mod raw_words;
+mod reasons;
+mod tables;
+mod watched;
+
+pub use grammar::program;
+pub use handler_words::in_order;
+pub use helps::{asked_help, line_in_place_of_a_command, tell_help, tell_how_it_is_asked};
+pub use line_texts::{line_of, push_text};
+pub use notes::tell_note;
+pub use raw_words::{is_text, push_escaped, words_of};
+pub use reasons::meaning_of;
+pub use watched::{LastLine, Watched};

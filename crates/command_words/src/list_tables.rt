@@ -1,0 +1,97 @@
+// The words of `list`. They are in a table of their own: what looks through the table of commands would else take too long to prove.
+use crate::tables::{Takes, Word};
+
+// The words of `list` but for those that `look` takes too.
+pub(crate) static LIST_WORDS: [Word; 10] = [
+    JSON, KIND, NAME_PART, PID, SIGNAL, SINCE, UNTIL, LABEL_PART, PINNED, LAST,
+];
+
+// Whether it is told as JSON.
+const JSON: Word = Word {
+    id: "json",
+    shown: "",
+    takes: Takes::Flag,
+    default: None,
+    help: "tells it as JSON, for programs",
+};
+
+// Of which kind a case is.
+const KIND: Word = Word {
+    id: "kind",
+    shown: "KIND",
+    takes: Takes::Text,
+    default: None,
+    help: "only core files (core) or executables (exec)",
+};
+
+// A part of its name.
+const NAME_PART: Word = Word {
+    id: "name",
+    shown: "TEXT",
+    takes: Takes::Text,
+    default: None,
+    help: "only cases with this text in the name",
+};
+
+// Its process.
+const PID: Word = Word {
+    id: "pid",
+    shown: "PID",
+    takes: Takes::Bytes,
+    default: None,
+    help: "only cores of this process",
+};
+
+// Its signal.
+const SIGNAL: Word = Word {
+    id: "signal",
+    shown: "SIGNAL",
+    takes: Takes::Text,
+    default: None,
+    help: "only cores of this signal: its number, or its name as SEGV or SIGSEGV",
+};
+
+// The earliest time.
+const SINCE: Word = Word {
+    id: "since",
+    shown: "WHEN",
+    takes: Takes::Text,
+    default: None,
+    help: "only cores of this time or later: 2026-11-25, 2026-11-25T14:03:11Z, @SECONDS since the epoch, or 90s, 30m, 2h or 3d ago",
+};
+
+// The time before which it is.
+const UNTIL: Word = Word {
+    id: "until",
+    shown: "WHEN",
+    takes: Takes::Text,
+    default: None,
+    help: "only cores from before this time",
+};
+
+// A part of its label.
+const LABEL_PART: Word = Word {
+    id: "label",
+    shown: "TEXT",
+    takes: Takes::Text,
+    default: None,
+    help: "only cases with this text in the label",
+};
+
+// Whether it is pinned.
+const PINNED: Word = Word {
+    id: "pinned",
+    shown: "",
+    takes: Takes::Flag,
+    default: None,
+    help: "only pinned cases",
+};
+
+// How many are told.
+const LAST: Word = Word {
+    id: "last",
+    shown: "K",
+    takes: Takes::Bytes,
+    default: None,
+    help: "only the K cases of the greatest numbers among these",
+};

@@ -1,0 +1,105 @@
+// Words of the command line that are bytes of any kind.
+//
+// A word is kept as text. Where its bytes are UTF-8 it is that text; each byte that is not is kept as a character that
+// stands for it, U+10FF80 for the byte 0x80 and so on to U+10FFFF for 0xff. Where a word has such a character itself, each
+// byte of the character is kept so. These are the last characters that Unicode has, for private use, so that no two words
+// are kept alike.
+use script_words::print_byte;
+use std::alloc::{AllocError, Global};
+use std::env::FillError;
+use std::rt::Env;
+
+// More than Linux gives of a word (its MAX_ARG_STRLEN).
+const LONGEST_WORD: usize = 131_072;
+
+// The character in place of the byte 0x80.
+const FIRST_STAND_IN: u32 = 0x10_ff80;
+
+/// The words of the command line after the program's name.
+///
+/// # Errors
+///
+/// `AllocError` if there is no memory for them.
+pub fn words_of<R: Env + AllocGlobal>(rt: &R) -> Result<Vec<String>, AllocError> {
+    let alloc = rt.alloc();
+    let mut words = Vec::new(alloc);
+    let mut buffer = vec![in alloc; 0u8; LONGEST_WORD]?;
+    for index in 1..usize::MAX {
+        match rt.arg(index, &mut buffer) {
+            Ok(length) => words.push(kept(alloc, &buffer[..length])?)?,
+            Err(FillError::NotPresent | FillError::TooLong) => break,
+        }
+    }
+    Ok(words)
+}
+
+// How a word is kept.
+fn kept(alloc: Global, bytes: &[u8]) -> Result<String, AllocError> {
+    let mut word = String::new(alloc);
+    for chunk in bytes.utf8_chunks() {
+        keep_text(&mut word, chunk.valid())?;
+        keep_bytes(&mut word, chunk.invalid())?;
+    }
+    Ok(word)
+}
+
+fn keep_text(word: &mut String, text: &str) -> Result<(), AllocError> {
+    for character in text.chars() {
+        if stood_for(character).is_some() {
+            let mut buffer = [0u8; 4];
+            keep_bytes(word, character.encode_utf8(&mut buffer).as_bytes())?;
+        } else {
+            word.push(character)?;
+        }
+    }
+    Ok(())
+}
+
+fn keep_bytes(word: &mut String, bytes: &[u8]) -> Result<(), AllocError> {
+    for byte in bytes {
+        word.push(stand_in(*byte))?;
+    }
+    Ok(())
+}
+
+// The character in place of a byte of 0x80 or more.
+fn stand_in(byte: u8) -> char {
+    char::from_u32(FIRST_STAND_IN - 0x80 + u32::from(byte)).unwrap_or(char::REPLACEMENT_CHARACTER)
+}
+
+// The byte in whose place a character is.
+fn stood_for(character: char) -> Option<u8> {
+    let code = u32::from(character);
+    if code < FIRST_STAND_IN {
+        return None;
+    }
+    u8::try_from(code - FIRST_STAND_IN + 0x80).ok()
+}
+
+/// Whether a word was UTF-8.
+pub fn is_text(word: &str) -> bool {
+    !word.chars().any(|character| stood_for(character).is_some())
+}
+
+/// Adds the bytes of a word to a line of a script, each that the line's grammar does not take as itself as \xHH.
+///
+/// # Errors
+///
+/// `AllocError` if there is no memory for them.
+pub fn push_escaped(line: &mut Vec<u8>, word: &str) -> Result<(), AllocError> {
+    for character in word.chars() {
+        let mut buffer = [0u8; 4];
+        match stood_for(character) {
+            Some(byte) => push_spelled(line, &[byte])?,
+            None => push_spelled(line, character.encode_utf8(&mut buffer).as_bytes())?,
+        }
+    }
+    Ok(())
+}
+
+fn push_spelled(line: &mut Vec<u8>, bytes: &[u8]) -> Result<(), AllocError> {
+    for byte in bytes {
+        line.extend_from_slice(print_byte(*byte).as_slice())?;
+    }
+    Ok(())
+}

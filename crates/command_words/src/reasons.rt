@@ -1,0 +1,173 @@
+// What a reason means, in words for people.
+
+// A reason, and what it means.
+struct Meaning {
+    reason: &'static [u8],
+    words: &'static [u8],
+}
+
+// The reasons for which something is refused. Other reasons are fields of an image.
+static MEANINGS: [Meaning; 37] = [
+    Meaning {
+        reason: b"SpaceFull",
+        words: b"the image takes more blocks than are free (corekeep ask ARCHIVE free counts them): delete or retire cases, or make a larger archive",
+    },
+    Meaning {
+        reason: b"JournalFull",
+        words: b"the journal is full of live cases: delete or retire some",
+    },
+    Meaning {
+        reason: b"NumbersSpent",
+        words: b"all numbers of cases are given: make a new archive",
+    },
+    Meaning {
+        reason: b"NameTaken",
+        words: b"a case has this name: name cores by the process and the time",
+    },
+    Meaning {
+        reason: b"Burst",
+        words: b"as many cores of this program as may be were stored shortly before (burst)",
+    },
+    Meaning {
+        reason: b"TooLong",
+        words: b"the image is over the limit, or its name has over 128 bytes",
+    },
+    Meaning {
+        reason: b"NulByte",
+        words: b"the name has a NUL",
+    },
+    Meaning {
+        reason: b"Empty",
+        words: b"the name is empty",
+    },
+    Meaning {
+        reason: b"File",
+        words: b"a file could not be opened or read",
+    },
+    Meaning {
+        reason: b"Disk",
+        words: b"a read, a write or a sync of the archive failed",
+    },
+    Meaning {
+        reason: b"Stopped",
+        words: b"a read, a write or a sync of the archive failed before",
+    },
+    Meaning {
+        reason: b"OutOfMemory",
+        words: b"there is no memory",
+    },
+    Meaning {
+        reason: b"Busy",
+        words: b"another process has the archive",
+    },
+    Meaning {
+        reason: b"NotAnArchive",
+        words: b"the file is no archive",
+    },
+    Meaning {
+        reason: b"BadLine",
+        words: b"the words are not in the grammar",
+    },
+    Meaning {
+        reason: b"LineTooLong",
+        words: b"the words have over 1,024 bytes",
+    },
+    Meaning {
+        reason: b"Damaged",
+        words: b"the archive is damaged: this byte is in its first faulty field",
+    },
+    Meaning {
+        reason: b"UnknownVersion",
+        words: b"the archive is of a later version of the layout",
+    },
+    Meaning {
+        reason: b"OldVersion",
+        words: b"the archive is of version 1 of the layout, which keeps no labels: corekeep ask ARCHIVE upgrade brings it to version 2",
+    },
+    Meaning {
+        reason: b"NoCase",
+        words: b"the archive has no case of this number: corekeep list ARCHIVE shows them",
+    },
+    Meaning {
+        reason: b"Pinned",
+        words: b"the case is pinned: corekeep ask ARCHIVE unpin N first",
+    },
+    Meaning {
+        reason: b"NotCore",
+        words: b"the case is an executable, and the line asks a core",
+    },
+    Meaning {
+        reason: b"NotExec",
+        words: b"the case is a core, and the line asks an executable",
+    },
+    Meaning {
+        reason: b"NoThread",
+        words: b"the core has no thread of this number: threads N lists them",
+    },
+    Meaning {
+        reason: b"NoFrame",
+        words: b"the thread has no frame of this number: unwind N T lists them",
+    },
+    Meaning {
+        reason: b"NoSymbol",
+        words: b"no function of the executable has this address, or it has no symbol table",
+    },
+    Meaning {
+        reason: b"Missing",
+        words: b"the core has no such note",
+    },
+    Meaning {
+        reason: b"Range",
+        words: b"the range goes past the end of the address space, or is over 65,536 bytes",
+    },
+    Meaning {
+        reason: b"Truncated",
+        words: b"the input ended before all bytes of the part",
+    },
+    Meaning {
+        reason: b"BadShape",
+        words: b"a half of the journal takes 1 to 4,096 blocks, and the data 1 to 16,777,216",
+    },
+    Meaning {
+        reason: b"Pipe",
+        words: b"the template would hand cores to a program",
+    },
+    Meaning {
+        reason: b"TemplateTooLong",
+        words: b"the template has over 127 bytes",
+    },
+    Meaning {
+        reason: b"Magic",
+        words: b"the file does not begin with the four bytes of an ELF file",
+    },
+    Meaning {
+        reason: b"e_machine",
+        words: b"the file is not of RISC-V: corekeep answers questions about RISC-V 64",
+    },
+    Meaning {
+        reason: b"EI_CLASS",
+        words: b"the file is not of a 64-bit machine: corekeep answers questions about RISC-V 64",
+    },
+    Meaning {
+        reason: b"EI_DATA",
+        words: b"the file is not little-endian: corekeep answers questions about RISC-V 64",
+    },
+    Meaning {
+        reason: b"e_type",
+        words: b"the file is no core, or no executable",
+    },
+];
+
+/// What a reason means. It may have words after it. Empty if there is nothing to say.
+pub fn meaning_of(reason: &[u8]) -> &'static [u8] {
+    let first = match reason.iter().position(|byte| *byte == b' ') {
+        Some(end) => &reason[..end],
+        None => reason,
+    };
+    for meaning in &MEANINGS {
+        if meaning.reason == first {
+            return meaning.words;
+        }
+    }
+    b""
+}

@@ -1,0 +1,244 @@
+// What holds by a handler's configuration, told to a person.
+use crate::config_file::Document;
+use crate::handling::{HANDLER_LIMIT, HANDLER_TEMPLATE, HandleWords};
+use crate::labels::escaped_label;
+use crate::log::KERNEL_LOG;
+use archive_files::{Access, ArchivePath, Failure, reason_of, shape_on, take_disk};
+use handler_config::{Burst, Config};
+use inspector_cli::SessionFault;
+use journal_layout::Shape;
+use name_template::Template;
+use script_streams::{Output, Reply};
+use std::fs::File;
+use std::os::unix::fs::OpenOptionsExt;
+use std::rt::Files;
+
+// The bytes of a block.
+const BLOCK: u128 = 4096;
+
+// Tells what holds, a line for each key, and then each fault. Last it says whether the archive can keep what is asked. What is not
+// in order is a refusal.
+pub(crate) fn check<R: AllocGlobal + Files<File = File>, O: Output>(
+    rt: &R,
+    words: &HandleWords<'_>,
+    document: &Document,
+    output: &mut O,
+) -> Result<(), Failure> {
+    let config = Config::of(&document.value);
+    let mut reply = Reply::new(output);
+    tell_config(&mut reply, &config, words.archive);
+    tell_relative(&mut reply, b"archive ", config.archive.or(words.archive));
+    tell_relative(&mut reply, b"log ", config.log);
+    let are_known = tell_faults(rt, &mut reply, words, document);
+    let are_taken = tell_values(rt, &mut reply, &config);
+    let is_large = tell_size(rt, &mut reply, &config, words.archive);
+    let Ok(()) = reply.finish() else {
+        return Err(Failure::Faulted(SessionFault::WriteFailed));
+    };
+    if are_known && are_taken && is_large {
+        Ok(())
+    } else {
+        Err(Failure::Told)
+    }
+}
+
+// A line for each key.
+fn tell_config<O: Output>(reply: &mut Reply<'_, O>, config: &Config<'_>, archive: Option<&str>) {
+    tell_text_line(reply, b"archive ", config.archive.or(archive));
+    tell_number_line(reply, b"keep ", config.keep);
+    tell_number_line(reply, b"bytes ", config.bytes);
+    tell_number_line(reply, b"before ", config.before);
+    tell_number_line(
+        reply,
+        b"limit ",
+        Some(config.limit.unwrap_or(HANDLER_LIMIT)),
+    );
+    tell_flag_line(reply, b"fit ", config.fit);
+    tell_flag_line(reply, b"cut ", config.cut);
+    tell_burst_line(reply, config.burst);
+    let template = config.template.unwrap_or(HANDLER_TEMPLATE);
+    tell_text_line(reply, b"template ", Some(template));
+    tell_flag_line(reply, b"uses-pid ", config.uses_pid);
+    tell_flag_line(reply, b"no-wait ", config.no_wait);
+    tell_text_line(reply, b"label ", config.label);
+    tell_text_line(reply, b"log ", Some(config.log.unwrap_or(KERNEL_LOG)));
+}
+
+fn tell_text_line<O: Output>(reply: &mut Reply<'_, O>, key: &[u8], text: Option<&str>) {
+    reply.tell(key);
+    reply.tell_text(text.unwrap_or("").as_bytes());
+    reply.tell(b"\n");
+}
+
+fn tell_number_line<O: Output>(reply: &mut Reply<'_, O>, key: &[u8], number: Option<u64>) {
+    reply.tell(key);
+    match number {
+        Some(number) => reply.tell_decimal(u128::from(number)),
+        None => reply.tell(b"-"),
+    }
+    reply.tell(b"\n");
+}
+
+fn tell_burst_line<O: Output>(reply: &mut Reply<'_, O>, burst: Option<Burst>) {
+    reply.tell(b"burst ");
+    match burst {
+        Some(burst) => {
+            reply.tell_decimal(u128::from(burst.most));
+            reply.tell(b" in ");
+            reply.tell_decimal(u128::from(burst.seconds));
+        }
+        None => reply.tell(b"-"),
+    }
+    reply.tell(b"\n");
+}
+
+fn tell_flag_line<O: Output>(reply: &mut Reply<'_, O>, key: &[u8], flag: bool) {
+    reply.tell(key);
+    reply.tell(if flag { b"true\n" } else { b"false\n" });
+}
+
+// Tells of a path that the kernel's handler finds in another folder than the one who asks.
+fn tell_relative<O: Output>(reply: &mut Reply<'_, O>, key: &[u8], path: Option<&str>) {
+    let Some(path) = path else {
+        return;
+    };
+    if path.is_empty() || path.starts_with('/') {
+        return;
+    }
+    reply.tell(b"note ");
+    reply.tell(key);
+    reply.tell_text(path.as_bytes());
+    reply.tell(b": the kernel starts its handler in /\n");
+}
+
+// Tells each fault. Says whether there is none.
+fn tell_faults<R: AllocGlobal, O: Output>(
+    rt: &R,
+    reply: &mut Reply<'_, O>,
+    words: &HandleWords<'_>,
+    document: &Document,
+) -> bool {
+    let Ok(faults) = document.faults(rt.alloc(), words.path()) else {
+        reply.tell(b"no OutOfMemory\n");
+        return false;
+    };
+    for fault in &faults {
+        reply.tell(b"fault ");
+        reply.tell(fault.text());
+        reply.tell(b"\n");
+    }
+    for pair in &words.left_out {
+        reply.tell(b"fault ");
+        reply.tell_text(pair.as_bytes());
+        reply.tell(b": is no pair of the grammar\n");
+    }
+    faults.is_empty() && words.left_out.is_empty()
+}
+
+// Tells which values would be left out when a core comes, though they are of the right kind. Says whether there is none.
+fn tell_values<R: AllocGlobal + Files<File = File>, O: Output>(
+    rt: &R,
+    reply: &mut Reply<'_, O>,
+    config: &Config<'_>,
+) -> bool {
+    let template = config.template.unwrap_or(HANDLER_TEMPLATE);
+    let is_template = Template::parse(template.as_bytes()).is_ok();
+    if !is_template {
+        reply.tell(b"fault template: it has over 127 bytes, or begins with |\n");
+    }
+    let is_label = match config.label {
+        Some(label) => escaped_label(rt.alloc(), label).is_ok(),
+        None => true,
+    };
+    if !is_label {
+        reply.tell(b"fault label: it has over 64 bytes\n");
+    }
+    let log = config.log.unwrap_or(KERNEL_LOG);
+    let is_log = takes_lines(rt, log);
+    if !is_log {
+        reply.tell(b"fault log: ");
+        reply.tell_text(log.as_bytes());
+        reply.tell(b" can't be written\n");
+    }
+    is_template && is_label && is_log
+}
+
+// Whether a log can be written. It is made if it is not there, as with the first line.
+fn takes_lines<R: Files<File = File>>(rt: &R, path: &str) -> bool {
+    if path.is_empty() {
+        return true;
+    }
+    let opened = File::options()
+        .append(true)
+        .create(true)
+        .mode(0o600)
+        .open(rt, path);
+    opened.is_ok()
+}
+
+// Tells whether the archive can keep what is asked. Says whether it can.
+fn tell_size<R: AllocGlobal + Files<File = File>, O: Output>(
+    rt: &R,
+    reply: &mut Reply<'_, O>,
+    config: &Config<'_>,
+    archive: Option<&str>,
+) -> bool {
+    let Some(path) = config.archive.or(archive) else {
+        reply.tell(b"fault no archive is named\n");
+        return false;
+    };
+    let place = ArchivePath { path, waits: true };
+    match take_disk(rt, place, Access::Looking) {
+        Ok(disk) => {
+            let mut disk = disk;
+            tell_blocks(reply, config, shape_on(&mut disk))
+        }
+        Err(refusal) => {
+            reply.tell(b"fault the archive can't be opened: ");
+            reply.tell(reason_of(rt.alloc(), refusal).text());
+            reply.tell(b"\n");
+            false
+        }
+    }
+}
+
+// Tells how many blocks are asked for, and how many there are.
+fn tell_blocks<O: Output>(
+    reply: &mut Reply<'_, O>,
+    config: &Config<'_>,
+    shape: Option<Shape>,
+) -> bool {
+    let Some(shape) = shape else {
+        reply.tell(b"fault the file is no archive\n");
+        return false;
+    };
+    let Some(wanted) = blocks_wanted(config) else {
+        reply.tell(b"fault neither fit nor keep is set: a full archive refuses each new core\n");
+        return false;
+    };
+    let is_large = wanted <= u128::from(shape.data_blocks);
+    reply.tell(if is_large {
+        b"blocks "
+    } else {
+        b"fault too small: blocks "
+    });
+    reply.tell_decimal(wanted);
+    reply.tell(b" wanted, ");
+    reply.tell_decimal(u128::from(shape.data_blocks));
+    reply.tell(b" there\n");
+    is_large
+}
+
+// How many data blocks keep what a configuration asks for, with one more core of the limit. An image takes whole blocks. If cases go
+// so that it fits, that is one core of the limit.
+fn blocks_wanted(config: &Config<'_>) -> Option<u128> {
+    if config.fit {
+        return Some(u128::from(config.limit.unwrap_or(HANDLER_LIMIT)).div_ceil(BLOCK));
+    }
+    let keep = u128::from(config.keep?);
+    let limit = u128::from(config.limit.unwrap_or(HANDLER_LIMIT));
+    match config.bytes {
+        Some(bytes) => Some((u128::from(bytes) + (BLOCK - 1) * keep + limit).div_ceil(BLOCK)),
+        None => Some((keep + 1) * limit.div_ceil(BLOCK)),
+    }
+}

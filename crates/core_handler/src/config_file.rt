@@ -1,0 +1,159 @@
+// The file of a handler's configuration.
+use archive_files::Collected;
+use handler_config::{Fault, entry_fault};
+use script_streams::Reply;
+use std::alloc::{AllocError, Global};
+use std::fs;
+use std::fs::File;
+use std::io::ErrorKind;
+use std::rt::Files;
+use toml::{Table, Value};
+
+// The configuration that a handler goes by if its words name none.
+pub(crate) const DEFAULT_CONFIG: &str = "/etc/corekeep.conf";
+
+// A configuration: its text, and what it says.
+#[derive(Drop)]
+pub(crate) struct Document {
+    pub(crate) text: String,
+    pub(crate) value: Value,
+    // What is wrong with the file as a whole, and at which line.
+    pub(crate) trouble: Option<Trouble>,
+}
+
+// Why a file is no configuration.
+#[derive(Clone, Copy, Debug, PartialEq, Eq)]
+pub(crate) enum Trouble {
+    // There is none.
+    Missing,
+    // It could not be read, or is not UTF-8.
+    Unreadable,
+    // It is no TOML, from this line on.
+    NotToml(usize),
+}
+
+// A document with nothing in it.
+fn nothing(alloc: Global, trouble: Option<Trouble>) -> Document {
+    Document {
+        text: String::new(alloc),
+        value: Value::Table(Table::new(alloc)),
+        trouble,
+    }
+}
+
+// Reads a configuration. What can't be read says nothing.
+pub(crate) fn read_document<R: AllocGlobal + Files<File = File>>(rt: &R, path: &str) -> Document {
+    match fs::read_to_string(rt, path) {
+        Ok(text) => parse(rt.alloc(), text),
+        Err(error) if error.kind() == ErrorKind::NotFound => {
+            nothing(rt.alloc(), Some(Trouble::Missing))
+        }
+        Err(_) => nothing(rt.alloc(), Some(Trouble::Unreadable)),
+    }
+}
+
+fn parse(alloc: Global, text: String) -> Document {
+    match toml::table_from_str(alloc, text.as_str()) {
+        Ok(table) => Document {
+            text,
+            value: Value::Table(table),
+            trouble: None,
+        },
+        Err(error) => {
+            let line = match error.span() {
+                Some(span) => line_at(&text, span.start),
+                None => 0,
+            };
+            nothing(alloc, Some(Trouble::NotToml(line)))
+        }
+    }
+}
+
+// The number of the line that has this place, from 1 on.
+fn line_at(text: &str, at: usize) -> usize {
+    let front = &text.as_bytes()[..at.min(text.len())];
+    1 + front.iter().filter(|byte| **byte == b'\n').count()
+}
+
+// The number of the line on which a key is, from 1 on; 0 if there is none.
+fn line_of(text: &str, key: &str) -> usize {
+    for (index, line) in text.lines().enumerate() {
+        if begins_with_key(line, key) {
+            return index + 1;
+        }
+    }
+    0
+}
+
+fn begins_with_key(line: &str, key: &str) -> bool {
+    match line.trim_start().strip_prefix(key) {
+        Some(rest) => rest.trim_start().starts_with('='),
+        None => false,
+    }
+}
+
+// What is wrong with an entry, in words.
+fn fault_words(fault: Fault) -> &'static [u8] {
+    match fault {
+        Fault::Unknown => b"is no key",
+        Fault::NotText => b"is no text",
+        Fault::NotNumber => b"is no number from 0 on",
+        Fault::NotFlag => b"is neither true nor false",
+        Fault::NotAge => b"is no age, as \"30d\", \"12h\", \"45m\" or \"90s\"",
+        Fault::NotBurst => b"is no table of two numbers, as { most = 3, seconds = 60 }",
+    }
+}
+
+// One line on a fault: the file, the line, and what is wrong.
+fn fault_line(
+    alloc: Global,
+    path: &str,
+    line: usize,
+    what: &[u8],
+    mark: &[u8],
+    words: &[u8],
+) -> Collected {
+    let mut told = Collected::new(alloc);
+    let mut reply = Reply::new(&mut told);
+    reply.tell_text(path.as_bytes());
+    if line > 0 {
+        reply.tell(b": line ");
+        reply.tell_decimal(line as u128);
+    }
+    reply.tell(b": ");
+    reply.tell(what);
+    reply.tell(mark);
+    reply.tell(words);
+    let _ = reply.finish();
+    told
+}
+
+// What is wrong with the file as a whole.
+fn trouble_line(alloc: Global, path: &str, trouble: Trouble) -> Collected {
+    match trouble {
+        Trouble::Missing => fault_line(alloc, path, 0, b"", b"", b"there is no such file"),
+        Trouble::Unreadable => fault_line(alloc, path, 0, b"", b"", b"the file could not be read"),
+        Trouble::NotToml(line) => fault_line(alloc, path, line, b"", b"", b"the file is no TOML"),
+    }
+}
+
+impl Document {
+    // A line for each fault.
+    pub(crate) fn faults(&self, alloc: Global, path: &str) -> Result<Vec<Collected>, AllocError> {
+        let mut faults = Vec::new(alloc);
+        if let Some(trouble) = self.trouble {
+            faults.push(trouble_line(alloc, path, trouble))?;
+        }
+        let Some(table) = self.value.as_table() else {
+            return Ok(faults);
+        };
+        for (key, value) in table {
+            if let Some(fault) = entry_fault(key, value) {
+                let line = line_of(&self.text, key);
+                let words = fault_words(fault);
+                faults.push(fault_line(alloc, path, line, key.as_bytes(), b" ", words))?;
+            }
+        }
+        Ok(faults)
+    }
+}

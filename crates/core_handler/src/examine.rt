@@ -1,0 +1,204 @@
+// What is seen at once of a case that was stored.
+ghost use Rattle.std.specs.Prelude.{◌≡◌, ◌≤◌, Some};
+ghost use Rattle.case_journal.specs.Viewing.{OnlyReads};
+ghost use Rattle.intake.specs.Parts.{state_of};
+ghost use Rattle.journal_layout.specs.Case.{Case};
+ghost use Rattle.journal_layout.specs.Soundness.{case_numbered};
+
+use archive_files::Collected;
+use disk_model::Disk;
+use elf_view::{Elf, Want};
+use image_replies::{CoreImage, tell_core_fault, tell_elf_fault};
+use intake::{Archive, Settings};
+use journal_layout::Kind;
+use script_streams::Reply;
+use std::alloc::Global;
+
+// RISC-V, as the field e_machine of an ELF file names it.
+const EM_RISCV: u16 = 243;
+
+// How many bytes of an image tell its machine.
+const HEAD: usize = 20;
+
+// How many bytes of an image are looked at.
+const FRONT: u64 = 65_536;
+
+// What is seen of a case.
+#[derive(Drop)]
+pub(crate) struct Seen {
+    // How many bytes its image has.
+    pub(crate) length: u64,
+    // The signal that ended the process, or 0.
+    pub(crate) signal: u32,
+    // What can't be read of its image, in words; empty if that can, or could not be looked at.
+    trouble: Collected,
+}
+
+// Machines that cores are likely to come from, by e_machine.
+static MACHINES: [(u16, &'static [u8]); 6] = [
+    (3, b" (80386)"),
+    (8, b" (MIPS)"),
+    (21, b" (PowerPC 64)"),
+    (22, b" (S390)"),
+    (62, b" (x86-64)"),
+    (183, b" (AArch64)"),
+];
+
+// The name of a machine, in brackets.
+fn machine_name(machine: u16) -> &'static [u8] {
+    for (number, name) in &MACHINES {
+        if *number == machine {
+            return *name;
+        }
+    }
+    b""
+}
+
+impl Seen {
+    // What can't be read of the image, in words: it is no ELF file, or of another machine, or a field is at fault. Nothing is said if
+    // its headers and notes are sound, or could not be looked at.
+    pub(crate) fn trouble(&self) -> &[u8] {
+        self.trouble.text()
+    }
+}
+
+// Tells in words if an image that begins so can't be read as an ELF file of RISC-V 64. Says whether it did.
+fn tell_kind(reply: &mut Reply<'_, Collected>, front: &[u8]) -> bool {
+    if front.len() < HEAD || !front.starts_with(b"\x7fELF") {
+        reply.tell(b"is no ELF file");
+        return true;
+    }
+    let machine = u16::from_le_bytes([front[18], front[19]]);
+    if machine == EM_RISCV {
+        return false;
+    }
+    reply.tell(b"is of machine ");
+    reply.tell_decimal(u128::from(machine));
+    reply.tell(machine_name(machine));
+    reply.tell(b": corekeep answers questions about RISC-V 64");
+    true
+}
+
+// What can't be read of an image that begins so, in words, by its kind alone.
+fn kind_trouble(alloc: Global, front: &[u8]) -> Collected {
+    let mut words = Collected::new(alloc);
+    let mut reply = Reply::new(&mut words);
+    tell_kind(&mut reply, front);
+    let _ = reply.finish();
+    words
+}
+
+// The first field of an image that is at fault, in words; empty if none is.
+fn field_trouble(alloc: Global, kind: Kind, image: &[u8]) -> Collected {
+    let fault = match kind {
+        Kind::Core => core_fault(alloc, image),
+        Kind::Exec => exec_fault(alloc, image),
+    };
+    let mut words = Collected::new(alloc);
+    let mut reply = Reply::new(&mut words);
+    if let Some(reason) = fault.text().strip_prefix(b"no ".as_slice()) {
+        reply.tell(b"is damaged or cut: ");
+        reply.tell(reason.trim_ascii_end());
+    }
+    let _ = reply.finish();
+    words
+}
+
+// The reply to a line over a core that has a fault; empty if it has none.
+fn core_fault(alloc: Global, image: &[u8]) -> Collected {
+    let mut told = Collected::new(alloc);
+    let mut reply = Reply::new(&mut told);
+    if let Err(fault) = CoreImage::read(image) {
+        tell_core_fault(&mut reply, fault);
+    }
+    let _ = reply.finish();
+    told
+}
+
+// The same of an executable.
+fn exec_fault(alloc: Global, image: &[u8]) -> Collected {
+    let mut told = Collected::new(alloc);
+    let mut reply = Reply::new(&mut told);
+    if let Err(fault) = Elf::read(image, Want::Exec) {
+        tell_elf_fault(&mut reply, fault);
+    }
+    let _ = reply.finish();
+    told
+}
+
+// Looks at a case of the archive on a disk, and hands the disk back. The disk is only read.
+pub(crate) fn look_at_case<D: Disk>(alloc: Global, disk: D, seq: u32) -> (Option<Seen>, D)
+    ensures quiet { OnlyReads D.Disk disk result.1 }
+{
+    match Archive::open(alloc, disk, Settings { limit: 0 }) {
+        Ok(archive) => {
+            let mut archive = archive;
+            let seen = see_case(alloc, seq, &mut archive);
+            let disk = archive.close();
+            (seen, disk)
+        }
+        Err((_, disk)) => (None, disk),
+    }
+}
+
+fn see_case<D: Disk>(alloc: Global, seq: u32, archive: &mut Archive<D>) -> Option<Seen>
+    ensures quiet { OnlyReads D.Disk archive.old.disk archive.new.disk }
+{
+    let entry = archive.case(seq).ok()?;
+    let length = entry.length;
+    let signal = entry.signal;
+    let kind = entry.kind;
+    let trouble = see_image(alloc, seq, kind, length, archive).unwrap_or(Collected::new(alloc));
+    Some(Seen {
+        length,
+        signal,
+        trouble,
+    })
+}
+
+// What can't be read of the image of a case, in words. Its first bytes are looked at. If a field of them is at fault, and there are
+// more, the field may be one of those that are missing: the whole image is read then.
+fn see_image<D: Disk>(
+    alloc: Global,
+    seq: u32,
+    kind: Kind,
+    length: u64,
+    archive: &mut Archive<D>,
+) -> Option<Collected>
+    requires fits { (c : Case) → case_numbered seq (state_of archive.old).cases ≡ Some c → length ≤ c.len }
+    ensures quiet { OnlyReads D.Disk archive.old.disk archive.new.disk }
+{
+    let front = read_front(alloc, seq, length, archive)?;
+    let words = kind_trouble(alloc, &front);
+    if !words.text().is_empty() {
+        return Some(words);
+    }
+    let words = field_trouble(alloc, kind, &front);
+    if words.text().is_empty() || length <= FRONT {
+        return Some(words);
+    }
+    let image = read_whole(seq, archive)?;
+    Some(field_trouble(alloc, kind, &image))
+}
+
+// The first bytes of the image of a case.
+fn read_front<D: Disk>(
+    alloc: Global,
+    seq: u32,
+    length: u64,
+    archive: &mut Archive<D>,
+) -> Option<Vec<u8>>
+    requires fits { (c : Case) → case_numbered seq (state_of archive.old).cases ≡ Some c → length ≤ c.len }
+    ensures quiet { OnlyReads D.Disk archive.old.disk archive.new.disk }
+{
+    let mut front = vec![in alloc; 0u8; length.min(FRONT) as usize].ok()?;
+    archive.image_part(seq, 0, &mut front).ok()?;
+    Some(front)
+}
+
+// All bytes of it.
+fn read_whole<D: Disk>(seq: u32, archive: &mut Archive<D>) -> Option<Vec<u8>>
+    ensures quiet { OnlyReads D.Disk archive.old.disk archive.new.disk }
+{
+    archive.image(seq).ok()
+}

@@ -1,0 +1,264 @@
+// What the kernel's handler does: a core from the input is stored as a configuration says, and the outcome is told to a log.
+use crate::checking::check;
+use crate::config_file::{DEFAULT_CONFIG, Document, Trouble, read_document};
+use crate::fronts::program_front;
+use crate::labels::escaped_label;
+use crate::log::{KERNEL_LOG, Level, Log};
+use crate::teller::{Teller, store_told};
+use archive_files::{ArchivePath, Collected, Failure, FileWord, Refusal, StoreRequest, StoreWords};
+use arrayvec::ArrayVec;
+use disk_model::FileFault;
+use handler_config::Config;
+use inspector_cli::{Burst, Naming, StoreOptions};
+use name_template::Template;
+use retention::Policy;
+use script_streams::{Output, Reply};
+use std::fs::File;
+use std::io::Read;
+use std::rt::Files;
+use std::time::Clock;
+
+// How a handler names cores if its configuration doesn't say.
+pub(crate) const HANDLER_TEMPLATE: &str = "core.%e.%p.%t";
+
+// The template whose names are never refused.
+const PLAIN_TEMPLATE: &str = "core.%p.%t";
+
+// The most bytes of an image if the configuration doesn't say.
+pub(crate) const HANDLER_LIMIT: u64 = 1 << 30;
+
+/// What the words of `handle` ask for.
+#[derive(Drop)]
+pub struct HandleWords<'a> {
+    /// The path of the configuration, if one is named.
+    pub config: Option<&'a str>,
+    /// The archive, if the configuration names none.
+    pub archive: Option<&'a str>,
+    /// The line of a script that begins the stream.
+    pub begin: Vec<u8>,
+    /// The pairs that were left out of it.
+    pub left_out: Vec<&'a str>,
+    /// Nothing is stored, and what holds by the configuration is told.
+    pub is_check: bool,
+}
+
+// What a handler goes by: a configuration, and where it is told what became of a core.
+#[derive(Clone, Copy)]
+struct Handler<'a> {
+    config: Config<'a>,
+    teller: Teller<'a>,
+}
+
+impl<'a> HandleWords<'a> {
+    // The configuration that is read.
+    pub(crate) fn path(&self) -> &'a str {
+        match self.config {
+            Some(path) => path,
+            None => DEFAULT_CONFIG,
+        }
+    }
+}
+
+/// Stores a core from the input as a configuration says, and tells its outcome to a log. With `--check` nothing is stored, and what
+/// holds is told on the output.
+///
+/// # Errors
+///
+/// Those of `store_file` of `archive_files`, and `File` if no archive is named. With `--check` it is `Told` if not all is in order.
+pub fn handle<R: AllocGlobal + Files<File = File> + Clock, I: Read, O: Output>(
+    rt: &R,
+    words: HandleWords<'_>,
+    input: &mut I,
+    output: &mut O,
+) -> Result<(), Failure> {
+    let document = read_document(rt, words.path());
+    let config = Config::of(&document.value);
+    let teller = Teller {
+        alloc: rt.alloc(),
+        log: Log {
+            path: config.log.unwrap_or(KERNEL_LOG),
+        },
+    };
+    if words.is_check {
+        return check(rt, &words, &document, output);
+    }
+    let handler = Handler { config, teller };
+    tell_faults(rt, &handler, &words, &document);
+    let Some(archive) = config.archive.or(words.archive) else {
+        handler.tell(rt, Level::Error, b"lost a core: no archive is named");
+        return Err(Failure::Refused(Refusal::File(FileWord::Archive, FileFault::Missing)));
+    };
+    let place = ArchivePath {
+        path: archive,
+        waits: !config.no_wait,
+    };
+    let request = handler.request(rt, &words.begin)?;
+    handler.store(rt, place, request, input, output)
+}
+
+/// Tells the kernel's log of a core that is lost since the words can't be read: no configuration names another log.
+pub fn tell_lost_words<R: AllocGlobal + Files<File = File>>(rt: &R) {
+    let log = Log { path: KERNEL_LOG };
+    let told = b"lost a core: the words of handle are refused";
+    log.tell(rt, rt.alloc(), Level::Error, told);
+}
+
+// Tells what is wrong with the configuration and the pairs, which is left out.
+fn tell_faults<R: AllocGlobal + Files<File = File>>(
+    rt: &R,
+    handler: &Handler<'_>,
+    words: &HandleWords<'_>,
+    document: &Document,
+) {
+    let is_missing_default = words.config.is_none() && document.trouble == Some(Trouble::Missing);
+    if is_missing_default && words.archive.is_some() {
+        return;
+    }
+    if let Ok(faults) = document.faults(rt.alloc(), words.path()) {
+        for fault in &faults {
+            handler.tell(rt, Level::Warning, fault.text());
+        }
+    }
+    for pair in &words.left_out {
+        let mut line = Collected::new(rt.alloc());
+        let mut reply = Reply::new(&mut line);
+        reply.tell(b"left out, since it is neither an option nor a pair of the grammar: ");
+        reply.tell_text(pair.as_bytes());
+        let _ = reply.finish();
+        handler.tell(rt, Level::Warning, line.text());
+    }
+}
+
+impl<'a> Handler<'a> {
+    fn tell<R: Files<File = File>>(&self, rt: &R, level: Level, text: &[u8]) {
+        self.teller.tell(rt, level, text);
+    }
+
+    // What is stored, and by what. A template or a label that is faulty is told and left out, and so is a name.
+    fn request<R: Files<File = File> + Clock>(
+        &self,
+        rt: &R,
+        begin: &Vec<u8>,
+    ) -> Result<StoreRequest, Refusal> {
+        let request = self.named(rt, begin, self.template(rt))?;
+        let Some(reason) = request.refusal() else {
+            return Ok(request);
+        };
+        let mut line = Collected::new(self.teller.alloc);
+        let mut reply = Reply::new(&mut line);
+        reply.tell(b"the template is left out, since the name is refused: no ");
+        reply.tell(reason);
+        let _ = reply.finish();
+        self.tell(rt, Level::Warning, line.text());
+        self.named(rt, begin, PLAIN_TEMPLATE)
+    }
+
+    // The same, named by this template.
+    fn named<R: Files<File = File> + Clock>(
+        &self,
+        rt: &R,
+        begin: &Vec<u8>,
+        template: &str,
+    ) -> Result<StoreRequest, Refusal> {
+        let naming = Naming {
+            template: Template::parse(template.as_bytes())?,
+            uses_pid: self.config.uses_pid,
+        };
+        let limit = self.config.limit.unwrap_or(HANDLER_LIMIT);
+        let words = StoreWords {
+            policy: self.policy(rt),
+            begin: begin.clone()?,
+            options: StoreOptions {
+                label: self.label(rt),
+                pin: false,
+                fit: self.config.fit,
+                cut: if self.config.cut { Some(limit) } else { None },
+                burst: self.burst(begin, template),
+            },
+        };
+        Ok(StoreRequest::of(words, &naming, limit))
+    }
+
+    fn template<R: Files<File = File>>(&self, rt: &R) -> &'a str {
+        let text = self.config.template.unwrap_or(HANDLER_TEMPLATE);
+        if Template::parse(text.as_bytes()).is_ok() {
+            return text;
+        }
+        let told = b"the template is left out: it has over 127 bytes, or begins with |";
+        self.tell(rt, Level::Warning, told);
+        HANDLER_TEMPLATE
+    }
+
+    // How many cores of the program are stored in how many seconds, if the configuration says so.
+    fn burst(&self, begin: &[u8], template: &str) -> Option<Burst> {
+        let burst = self.config.burst?;
+        Some(Burst {
+            front: program_front(begin, template),
+            most: burst.most,
+            seconds: burst.seconds,
+        })
+    }
+
+    fn label<R: Files<File = File>>(&self, rt: &R) -> Option<ArrayVec<u8, 64>> {
+        let text = self.config.label?;
+        match escaped_label(self.teller.alloc, text) {
+            Ok(label) => Some(label),
+            Err(_) => {
+                self.tell(
+                    rt,
+                    Level::Warning,
+                    b"the label is left out: it has over 64 bytes",
+                );
+                None
+            }
+        }
+    }
+
+    // By what cases are retired.
+    fn policy<R: Clock>(&self, rt: &R) -> Option<Policy> {
+        let before = match self.config.before {
+            Some(age) => time_before(rt, age),
+            None => None,
+        };
+        let keep = self.config.keep;
+        let bytes = self.config.bytes;
+        if keep.is_none() && bytes.is_none() && before.is_none() {
+            return None;
+        }
+        Some(Policy {
+            keep,
+            bytes,
+            before,
+        })
+    }
+
+    // Stores the core, and tells what became of it.
+    fn store<R: AllocGlobal + Files<File = File>, I: Read, O: Output>(
+        &self,
+        rt: &R,
+        place: ArchivePath<'_>,
+        request: StoreRequest,
+        input: &mut I,
+        output: &mut O,
+    ) -> Result<(), Failure> {
+        let mut note = Collected::new(self.teller.alloc);
+        store_told(
+            rt,
+            self.teller,
+            place,
+            "-",
+            request,
+            input,
+            output,
+            &mut note,
+        )
+    }
+}
+
+// The time so many seconds ago, if the clock tells.
+fn time_before<R: Clock>(rt: &R, age: u64) -> Option<u64> {
+    match rt.since_1970() {
+        Ok(now) => Some(now.as_secs().saturating_sub(age)),
+        Err(_) => None,
+    }
+}

@@ -1,0 +1,185 @@
+// What becomes of a case that is stored, told to a log.
+use crate::examine::{Seen, look_at_case};
+use crate::log::{Level, Log};
+use crate::outcome_lines::{lost_line, outcome_of, stored_line};
+use archive_files::{ArchivePath, Collected, Failure, Held, StoreRequest, reason_of, store_file};
+use disk_model::FileDisk;
+use inspector_cli::SessionFault;
+use script_streams::{Output, Reply, write_whole};
+use script_words::parse_case_number;
+use std::alloc::Global;
+use std::fs::File;
+use std::io::Read;
+use std::rt::Files;
+use thread_regs::signal_name;
+
+/// What tells outcomes.
+#[derive(Clone, Copy)]
+pub struct Teller<'a> {
+    /// Where what is told is put together.
+    pub alloc: Global,
+    /// Where it is told.
+    pub log: Log<'a>,
+}
+
+/// Stores a file, or the standard input, and tells what became of it. What can't be read of the case goes to a note, too.
+///
+/// # Errors
+///
+/// Those of `store_file` of `archive_files`, and `WriteFailed` if the replies could not be written.
+pub fn store_told<R: AllocGlobal + Files<File = File>, I: Read, O: Output>(
+    rt: &R,
+    teller: Teller<'_>,
+    place: ArchivePath<'_>,
+    file: &str,
+    request: StoreRequest,
+    input: &mut I,
+    output: &mut O,
+    note: &mut Collected,
+) -> Result<(), Failure> {
+    let name = request.printed_name(teller.alloc);
+    let mut reply = Held::new(teller.alloc, output);
+    let (ended, disk) = store_file(rt, place, file, request, input, &mut reply);
+    teller.tell_outcome(
+        rt,
+        place.path,
+        name.text(),
+        reply.text(),
+        &ended,
+        disk,
+        note,
+    );
+    let Ok(()) = reply.finish() else {
+        return Err(Failure::Faulted(SessionFault::WriteFailed));
+    };
+    ended
+}
+
+impl<'a> Teller<'a> {
+    // Tells a line.
+    pub(crate) fn tell<R: Files<File = File>>(&self, rt: &R, level: Level, text: &[u8]) {
+        self.log.tell(rt, self.alloc, level, text);
+    }
+
+    fn tell_lost<R: Files<File = File>>(&self, rt: &R, replies: &[u8], name: &[u8], reason: &[u8]) {
+        let line = lost_line(self.alloc, replies, name, reason);
+        self.tell(rt, Level::Error, line.text());
+    }
+
+    // Tells why a case is not stored: as its replies say, or why there are none.
+    fn tell_refused<R: Files<File = File>>(
+        &self,
+        rt: &R,
+        replies: &[u8],
+        name: &[u8],
+        refused: &[u8],
+        ended: &Result<(), Failure>,
+    ) {
+        match ended {
+            Err(Failure::Refused(refusal)) => {
+                self.tell_lost(rt, replies, name, reason_of(self.alloc, *refusal).text());
+            }
+            _ => self.tell_lost(rt, replies, name, refused),
+        }
+    }
+
+    // Tells of a case that is stored. The disk is let go.
+    fn tell_stored<R: Files<File = File>>(
+        &self,
+        rt: &R,
+        archive: &str,
+        replies: &[u8],
+        number: &[u8],
+        disk: FileDisk,
+        note: &mut Collected,
+    ) {
+        let Some(seq) = parse_case_number(number) else {
+            return;
+        };
+        let (seen, _) = look_at_case(self.alloc, disk, seq);
+        let details = details_of(self.alloc, &seen);
+        let line = stored_line(self.alloc, replies, number, details.text(), archive);
+        self.tell(rt, Level::Info, line.text());
+        if let Some(seen) = &seen {
+            self.tell_trouble(rt, number, seen.trouble(), note);
+        }
+    }
+
+    // Tells what became of a case, by the replies of its store. The disk is let go.
+    fn tell_outcome<R: Files<File = File>>(
+        &self,
+        rt: &R,
+        archive: &str,
+        name: &[u8],
+        replies: &[u8],
+        ended: &Result<(), Failure>,
+        disk: Option<FileDisk>,
+        note: &mut Collected,
+    ) {
+        let outcome = outcome_of(replies);
+        match (outcome.stored, disk) {
+            (Some(number), Some(disk)) => {
+                self.tell_stored(rt, archive, replies, number, disk, note)
+            }
+            _ => self.tell_refused(rt, replies, name, outcome.refused, ended),
+        }
+    }
+
+    // Tells what can't be read of a case, if anything is told of it, and notes it.
+    fn tell_trouble<R: Files<File = File>>(
+        &self,
+        rt: &R,
+        number: &[u8],
+        trouble: &[u8],
+        note: &mut Collected,
+    ) {
+        if trouble.is_empty() {
+            return;
+        }
+        let mut line = Collected::new(self.alloc);
+        let mut reply = Reply::new(&mut line);
+        reply.tell(number);
+        reply.tell(b" ");
+        reply.tell(trouble);
+        let _ = reply.finish();
+        let mut told = Collected::new(self.alloc);
+        let mut reply = Reply::new(&mut told);
+        reply.tell(b"case ");
+        reply.tell(line.text());
+        let _ = reply.finish();
+        self.tell(rt, Level::Warning, told.text());
+        let _ = write_whole(note, line.text());
+    }
+}
+
+// How many bytes a case has, and by which signal its process ended.
+fn details_of(alloc: Global, seen: &Option<Seen>) -> Collected {
+    let mut details = Collected::new(alloc);
+    let mut reply = Reply::new(&mut details);
+    if let Some(seen) = seen {
+        reply.tell(b" ");
+        reply.tell_decimal(u128::from(seen.length));
+        reply.tell(b" ");
+        tell_signal(&mut reply, seen.signal);
+    }
+    let _ = reply.finish();
+    details
+}
+
+// Tells a signal by its name, or by its number if it has none.
+fn tell_signal(reply: &mut Reply<'_, Collected>, signal: u32) {
+    let name = match i32::try_from(signal) {
+        Ok(number) => signal_name(number),
+        Err(_) => None,
+    };
+    match name {
+        Some(name) => {
+            reply.tell(b"SIG");
+            reply.tell(name.as_bytes());
+        }
+        None => {
+            reply.tell(b"signal ");
+            reply.tell_decimal(u128::from(signal));
+        }
+    }
+}
