@@ -498,5 +498,9 @@ fn a_stream_that_finds_no_room_is_cut(rt: HostRuntime) -> Result<(), Fail> {
         assert_eq!(rt; outcome.stored, row.stored);
         disk = then;
     }
-    lists(&rt, disk, "1 exec 5 0 0 0 - a\n2 exec 12288 0 0 0 - b\nok\n")
+    lists(
+        &rt,
+        disk,
+        "1 exec 5 0 0 0 - a\n2 exec 12288 0 0 0 - b\nok\n",
+    )
 }
