@@ -1,0 +1,3 @@
+mod FindLemmas
+mod PatchLemmas
+mod ReadLemmas

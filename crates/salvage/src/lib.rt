@@ -1,0 +1,12 @@
+//! An archive whose opening is refused: where its first faulty record is, and a copy of the cases before it.
+#![tactic(auto)]
+
+mod copying;
+mod finding;
+mod shown;
+mod source;
+
+pub use copying::copy_shown;
+pub use finding::{Sight, find_sight};
+pub use shown::{Patch, Shown};
+pub use source::Source;
