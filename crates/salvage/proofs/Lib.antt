@@ -1,3 +1,4 @@
 mod FindLemmas
+mod FrontLemmas
 mod PatchLemmas
 mod ReadLemmas

@@ -1,6 +1,8 @@
 pub mod Copying
 pub mod FaultLaws
 pub mod Finding
+pub mod FrontLaws
+pub mod Fronts
 pub mod GateLaws
 pub mod ShowLaws
 pub mod Showing

@@ -3,10 +3,12 @@
 
 mod copying;
 mod finding;
+mod fronted;
 mod shown;
 mod source;
 
 pub use copying::copy_shown;
 pub use finding::{Sight, find_sight};
+pub use fronted::Fronted;
 pub use shown::{Patch, Shown};
 pub use source::Source;
