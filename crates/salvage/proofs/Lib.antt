@@ -1,3 +1,4 @@
+mod CaseLemmas
 mod FindLemmas
 mod FrontLemmas
 mod PatchLemmas

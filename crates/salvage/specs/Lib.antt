@@ -1,3 +1,4 @@
+pub mod Cases
 pub mod Copying
 pub mod FaultLaws
 pub mod Finding

@@ -1,6 +1,7 @@
 //! An archive whose opening is refused: where its first faulty record is, and a copy of the cases before it.
 #![tactic(auto)]
 
+mod cases;
 mod copying;
 mod finding;
 mod fronted;
