@@ -17,4 +17,4 @@ module _ {S : Type 0} {g : source.Ghosts S} where
   under f = f.source.now
 
   abbrev pub front_of : Fronted S g → List ℕ
-  front_of f = f.front.items
+  front_of f = f.front.now

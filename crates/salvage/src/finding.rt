@@ -1,6 +1,7 @@
 // Where the first faulty record of an archive is, and what lets the archive be read.
 ghost use Rattle.std.specs.Prelude.{◌≡◌, ◌↔◌, ◌+◌, ◌<◌, true, Err, Ok, IfErr, IfOk, IsTrue};
 ghost use Rattle.case_journal.specs.Viewing.{Gives};
+ghost use Rattle.journal_layout.specs.Layout.{disk_length};
 ghost use Rattle.salvage.specs.Finding.{EndsAt, IsGateFound, IsHalfFound, IsLastGate, IsOpened, IsRecordFound, FindsPatch, FindsSight, is_of_front, not_found, patched_within};
 ghost use Rattle.salvage.specs.Showing.{IsWithin, shown};
 
@@ -10,8 +11,8 @@ use case_journal::{Journal, Opened};
 use journal_layout::{BLOCK, Field, Half, OpenFault};
 use std::alloc::Global;
 
-// The byte of a gate that is open.
-const GATE_OPEN: u8 = 0xA5;
+/// The byte of a gate that is open.
+pub(crate) const GATE_OPEN: u8 = 0xA5;
 
 // The bytes of a record are so many times 16, and so is each place of a gate.
 const STEP: u64 = 16;
@@ -25,14 +26,15 @@ pub struct Sight {
     pub patch: Option<Patch>,
 }
 
-// Opens the journal of an archive as it is shown.
+/// Opens the journal of an archive as it is shown.
 pub(crate) fn open_shown<S: Source>(
     alloc: Global,
     source: &S,
     patch: Option<Patch>,
 ) -> Result<Journal, OpenFault>
     requires { IsWithin (S.size source.now) patch }
-    ensures { IsTrue (S.is_honest source.now) → Gives result (shown patch (S.seen source.now)) }
+    ensures gives { IsTrue (S.is_honest source.now) → Gives result (shown patch (S.seen source.now)) }
+    ensures size { IfOk result (λ journal. S.size source.now ≡ disk_length journal.standing.shape) }
 {
     let mut view = Shown::new(source, patch);
     let Opened { journal, .. } = Journal::open(alloc, &mut view)?;
@@ -181,8 +183,8 @@ fn half_patches(second: u64) -> [Patch; 4] {
     ]
 }
 
-// Whether a field is of the superblock or of a half's header.
-fn is_of_front(field: Field) -> bool
+/// Whether a field is of the superblock or of a half's header.
+pub(crate) fn is_of_front(field: Field) -> bool
     ensures { result ≡ is_of_front field }
 {
     match field {

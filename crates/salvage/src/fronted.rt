@@ -11,29 +11,21 @@ use disk_model::DiskFault;
 #[derive(Drop)]
 pub struct Fronted<'a, S: Source> {
     source: &'a S,
-    front: Vec<u8>,
-    ghost within: { length front.items ≤ S.size source.now },
-    ghost small: { AreBytes front.items },
+    front: &'a [u8],
+    ghost within: { length front.now ≤ S.size source.now },
+    ghost small: { AreBytes front.now },
 }
 
 impl<'a, S: Source> Fronted<'a, S> {
     ghost use Rattle.salvage.specs.Views.{front_of, under};
 
     /// Shows these bytes in place of the first ones.
-    pub fn new(source: &'a S, front: Vec<u8>) -> Fronted<'a, S>
-        requires { length front.items ≤ S.size source.now }
+    pub fn new(source: &'a S, front: &'a [u8]) -> Fronted<'a, S>
+        requires { length front.now ≤ S.size source.now }
         ensures source { under result ≡ source.now }
-        ensures front { front_of result ≡ front.items }
+        ensures front { front_of result ≡ front.now }
     {
         Fronted { source, front }
-    }
-
-    /// Gives the bytes back.
-    pub fn into_front(self) -> Vec<u8>
-        ensures { result.items ≡ front_of self.entry }
-    {
-        let Fronted { source: _, front } = self;
-        front
     }
 }
 
@@ -48,15 +40,15 @@ fn copy_part(front: &[u8], at: usize, into: &mut [u8])
 impl<S: Source> Source for Fronted<'_, S> {
     ghost size = { λ f. S.size f.source.now };
 
-    ghost seen = { λ f. fronted f.front.items (S.seen f.source.now) };
+    ghost seen = { λ f. fronted f.front.now (S.seen f.source.now) };
 
     ghost is_honest = { λ f. S.is_honest f.source.now };
 
     ghost addressed = { λ f. S.addressed f.source.now };
 
-    ghost whole = { λ f honest. fronted_length f.front.items (S.seen f.source.now) (S.size f.source.now) (S.whole f.source.now honest) f.within };
+    ghost whole = { λ f honest. fronted_length f.front.now (S.seen f.source.now) (S.size f.source.now) (S.whole f.source.now honest) f.within };
 
-    ghost seen_bytes = { λ f honest. fronted_bytes f.front.items (S.seen f.source.now) f.small (S.seen_bytes f.source.now honest) };
+    ghost seen_bytes = { λ f honest. fronted_bytes f.front.now (S.seen f.source.now) f.small (S.seen_bytes f.source.now honest) };
 
     fn length(&self) -> u64 {
         self.source.length()
@@ -66,7 +58,7 @@ impl<S: Source> Source for Fronted<'_, S> {
     fn read_at(&self, at: u64, into: &mut [u8]) -> Result<(), DiskFault> {
         let end = self.front.len() as u64;
         if at + into.len() as u64 <= end {
-            copy_part(&self.front, at as usize, into);
+            copy_part(self.front, at as usize, into);
             return Ok(());
         }
         if at < end {

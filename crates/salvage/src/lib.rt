@@ -5,6 +5,7 @@ mod cases;
 mod copying;
 mod finding;
 mod fronted;
+mod mending;
 mod shown;
 mod source;
 
