@@ -5,6 +5,7 @@ pub mod Finding
 pub mod FrontLaws
 pub mod Fronts
 pub mod GateLaws
+pub mod Readings
 pub mod ShowLaws
 pub mod Showing
 pub mod Views

@@ -2,6 +2,7 @@
 #![tactic(auto)]
 
 mod cases;
+mod cases_found;
 mod copying;
 mod finding;
 mod fronted;
@@ -9,6 +10,7 @@ mod mending;
 mod shown;
 mod source;
 
+pub use cases_found::{Found, More};
 pub use copying::copy_shown;
 pub use finding::{Sight, find_sight};
 pub use fronted::Fronted;
