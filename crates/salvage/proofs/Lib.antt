@@ -3,3 +3,4 @@ mod FindLemmas
 mod FrontLemmas
 mod PatchLemmas
 mod ReadLemmas
+mod SightLemmas

@@ -5,6 +5,8 @@ pub mod Finding
 pub mod FrontLaws
 pub mod Fronts
 pub mod GateLaws
+pub mod Keeping
+pub mod KeptLaws
 pub mod Readings
 pub mod ShowLaws
 pub mod Showing

@@ -1,9 +1,11 @@
 // The cases of an archive whose opening is refused: those before the first fault, and those behind it.
-ghost use Rattle.std.specs.Prelude.{◌≡◌, ◌≤◌, length, IfOk, IsTrue, Some};
+ghost use Rattle.std.specs.Prelude.{◌≡◌, ◌≤◌, length, IfOk, IsTrue, None, Some};
+ghost use Rattle.case_journal.specs.Viewing.{IsOpenRefusal};
 ghost use Rattle.journal_layout.specs.Layout.{data_start};
 ghost use Rattle.journal_layout.specs.Stands.{Stands};
+ghost use Rattle.salvage.specs.Cases.{HasEach};
 ghost use Rattle.salvage.specs.Fronts.{fronted};
-ghost use Rattle.salvage.specs.Readings.{IsNoOpening, StepTells};
+ghost use Rattle.salvage.specs.Readings.{FindsCases, FoundWithin, IsNoOpening, StepTells};
 ghost use Rattle.salvage.specs.declared.cases_found.More.{More};
 
 use crate::cases::{has_case, has_each};
@@ -69,7 +71,9 @@ impl Found {
 }
 
 // The gate of the first faulty record of the taken half, where that is what is at fault.
-fn faulty_gate(sight: Sight) -> Option<u64> {
+fn faulty_gate(sight: Sight) -> Option<u64>
+    ensures { sight.fault ≡ None → result ≡ None }
+{
     match sight.fault {
         Some(OpenFault::Damaged { field, .. }) if !is_of_front(field) => gate_in(sight.patch),
         _ => None,
@@ -87,6 +91,7 @@ fn gate_in(patch: Option<Patch>) -> Option<u64> {
 fn read_front<S: Source>(alloc: Global, source: &S, shape: Shape) -> Result<Vec<u8>, OpenFault>
     ensures long { IfOk result (λ front. length front.items ≡ data_start shape) }
     ensures within { IfOk result (λ front. length front.items ≤ S.size source.now) }
+    ensures only { IsOpenRefusal result }
 {
     let length = shape.data_start();
     if source.length() < length {
@@ -113,22 +118,38 @@ enum Step {
 
 // Where the first faulty record is of bytes that do not open, and the number of the next case there.
 fn find_mend<S: Source>(alloc: Global, source: &S) -> Result<Step, OpenFault>
-    ensures { IfOk result IsNoOpening }
+    ensures step { IfOk result IsNoOpening }
+    ensures only { IsOpenRefusal result }
 {
-    let Ok(sight) = find_sight(alloc, source) else {
-        return Ok(Step::Ends);
+    let sight = match find_sight(alloc, source) {
+        Ok(sight) => sight,
+        Err(fault) => return nothing_more(fault),
     };
     let Some(gate) = faulty_gate(sight) else {
         return Ok(Step::Ends);
     };
-    let journal = open_shown(alloc, source, sight.patch)?;
-    Ok(Step::Mends(gate, journal.next_seq()))
+    match open_shown(alloc, source, sight.patch) {
+        Ok(journal) => Ok(Step::Mends(gate, journal.next_seq())),
+        Err(fault) => nothing_more(fault),
+    }
+}
+
+// Nothing more is read after a fault. Want of memory is told.
+fn nothing_more(fault: OpenFault) -> Result<Step, OpenFault>
+    ensures step { IfOk result IsNoOpening }
+    ensures only { IsOpenRefusal result }
+{
+    match fault {
+        OpenFault::OutOfMemory => Err(OpenFault::OutOfMemory),
+        _ => Ok(Step::Ends),
+    }
 }
 
 // Looks at an archive with other bytes in place of its first ones.
 fn look_on<S: Source>(alloc: Global, source: &S, front: &[u8]) -> Result<Step, OpenFault>
     requires { length front.now ≤ S.size source.now }
-    ensures { IsTrue (S.is_honest source.now) → IfOk result (StepTells (fronted front.now (S.seen source.now))) }
+    ensures tells { IsTrue (S.is_honest source.now) → IfOk result (StepTells (fronted front.now (S.seen source.now))) }
+    ensures only { IsOpenRefusal result }
 {
     let view = Fronted::new(source, front);
     match open_shown(alloc, &view, None) {
@@ -181,6 +202,7 @@ fn read_on<S: Source>(
     requires { length front.items ≤ S.size source.now }
     ensures long { IfOk result (λ o. (m : More) → o ≡ Some m → length m.front.items ≡ length front.items) }
     ensures stands { IsTrue (S.is_honest source.now) → IfOk result (λ o. (m : More) → o ≡ Some m → Stands (fronted m.front.items (S.seen source.now)) m.journal.standing) }
+    ensures only { IsOpenRefusal result }
 {
     let mut front = front;
     for _ in 0..MOST_FAULTS {
@@ -195,4 +217,89 @@ fn read_on<S: Source>(
         }
     }
     Ok(None)
+}
+
+// What is said by the records of an archive, the first faulty one and those like it replaced. With `keeps` no case is dropped that stands
+// before it.
+fn go_on<S: Source>(
+    alloc: Global,
+    source: &S,
+    first: &Journal,
+    gate: u64,
+    keeps: bool,
+) -> Result<Option<More>, OpenFault>
+    ensures long { IfOk result (λ o. (m : More) → o ≡ Some m → length m.front.items ≡ data_start first.now.standing.shape) }
+    ensures within { IfOk result (λ o. (m : More) → o ≡ Some m → length m.front.items ≤ S.size source.now) }
+    ensures stands { IsTrue (S.is_honest source.now) → IfOk result (λ o. (m : More) → o ≡ Some m → Stands (fronted m.front.items (S.seen source.now)) m.journal.standing) }
+    ensures only { IsOpenRefusal result }
+{
+    let shape = first.shape();
+    let mut front = read_front(alloc, source, shape)?;
+    let half = half_with(shape, gate);
+    if keeps {
+        keep_in(&mut front, half, gate, first);
+    }
+    read_on(alloc, source, front, half)
+}
+
+// Replaces the Drop records of a half behind a gate that name a case of a journal.
+fn keep_in(front: &mut [u8], half: Span, gate: u64, journal: &Journal) {
+    let end = half.end;
+    if half.start > gate || end <= half.start || end > front.len() as u64 {
+        return;
+    }
+    let bytes = &mut front[half.start as usize..end as usize];
+    keep_cases(bytes, (gate - half.start) as usize, journal);
+}
+
+// A reading, where it has each case of a journal, and is of an archive of the same shape.
+fn having_each(more: Option<More>, first: &Journal) -> Option<More>
+    ensures { (m : More) → result ≡ Some m → (more ≡ Some m) × HasEach m.journal.standing.cases first.now.standing.cases × (m.journal.standing.shape ≡ first.now.standing.shape) }
+{
+    let more = more?;
+    if has_each(&more.journal, first) && is_same_shape(more.journal.shape(), first.shape()) {
+        return Some(more);
+    }
+    None
+}
+
+fn is_same_shape(one: Shape, other: Shape) -> bool
+    ensures { IsTrue result → one ≡ other }
+{
+    one.half_blocks == other.half_blocks && one.data_blocks == other.data_blocks
+}
+
+// The journal of a reading.
+fn journal_in(more: Option<More>) -> Option<Journal> {
+    match more {
+        Some(more) => Some(more.journal),
+        None => None,
+    }
+}
+
+/// Finds the cases of an archive. Those of a sound archive are as its opening finds them. Where a record of the taken half is the
+/// first to be at fault, they are those that the records before it leave, and those of the records behind it that can be read and
+/// go with them. Where the header of a half is at fault, they are those of the half that opens. Answers as `find_sight` does.
+pub fn find_cases<S: Source>(alloc: Global, source: &S) -> Result<Found, OpenFault>
+    ensures within { IfOk result (FoundWithin (S.size source.now)) }
+    ensures finds { IsTrue (S.is_honest source.now) → FindsCases (S.seen source.now) result }
+{
+    let sight = find_sight(alloc, source)?;
+    let first = open_shown(alloc, source, sight.patch)?;
+    let Some(gate) = faulty_gate(sight) else {
+        return Ok(Found {
+            sight,
+            first,
+            on: None,
+            more: None,
+        });
+    };
+    let on = journal_in(go_on(alloc, source, &first, gate, false)?);
+    let more = having_each(go_on(alloc, source, &first, gate, true)?, &first);
+    Ok(Found {
+        sight,
+        first,
+        on,
+        more,
+    })
 }

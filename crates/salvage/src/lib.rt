@@ -6,13 +6,15 @@ mod cases_found;
 mod copying;
 mod finding;
 mod fronted;
+mod laws;
 mod mending;
 mod shown;
 mod source;
 
-pub use cases_found::{Found, More};
-pub use copying::copy_shown;
+pub use cases_found::{Found, More, find_cases};
+pub use copying::{copy_cases, copy_shown};
 pub use finding::{Sight, find_sight};
 pub use fronted::Fronted;
+pub use laws::what_stands_is_kept;
 pub use shown::{Patch, Shown};
 pub use source::Source;
