@@ -10,4 +10,5 @@ pub mod KeptLaws
 pub mod Readings
 pub mod ShowLaws
 pub mod Showing
+pub mod Texts
 pub mod Views

@@ -10,6 +10,7 @@ mod laws;
 mod mending;
 mod shown;
 mod source;
+mod telling;
 
 pub use cases_found::{Found, More, find_cases};
 pub use copying::{copy_cases, copy_shown};
@@ -18,3 +19,4 @@ pub use fronted::Fronted;
 pub use laws::what_stands_is_kept;
 pub use shown::{Patch, Shown};
 pub use source::Source;
+pub use telling::tell_cases;
