@@ -1,10 +1,12 @@
 -- What is read of an archive behind its first fault.
-use Rattle.std.specs.Prelude.{◌≡◌, ◌⊎◌, ◌≤◌, ℕ, List, length, None, Some, Result, Ok, Err}
+use Rattle.std.specs.Prelude.{◌≡◌, ◌⊎◌, ◌≤◌, ℕ, List, length, Option, None, Some, Result, Ok, Err}
 use Rattle.journal_layout.specs.Layout.{data_start}
 use Rattle.journal_layout.specs.Standing.{Standing}
 use Rattle.journal_layout.specs.Stands.{IsRefused, Stands}
 use Rattle.journal_layout.specs.declared.faults.OpenFault.{OpenFault}
-use Rattle.salvage.specs.Cases.{HasEach}
+use Rattle.case_journal.specs.Journaled.{Journaled}
+use Rattle.journal_layout.specs.Case.{Case}
+use Rattle.salvage.specs.Cases.{HasCase, HasEach}
 use Rattle.salvage.specs.Finding.{HasNoGate, IsShort, SeesArchive}
 use Rattle.salvage.specs.Fronts.{fronted}
 use Rattle.salvage.specs.Showing.{IsWithin, shown}
@@ -50,3 +52,18 @@ FindsCases b (Err fault) = IsShort fault ⊎ (IsRefused b fault × HasNoGate b)
 pub record FoundWithin (size : ℕ) (f : Found) : Type 0 where
   pub patch : IsWithin size f.sight.patch
   pub front : (m : More) → f.more ≡ Some m → length m.front.items ≤ size
+
+-- the cases that are copied
+abbrev pub cases_by : Option More → Standing → List Case
+cases_by None first = first.cases
+cases_by (Some m) first = m.journal.standing.cases
+
+-- a reading behind the fault has the case
+abbrev pub StandsOn : Option Journaled → Case → Type 0
+StandsOn None c = ⊥
+StandsOn (Some j) c = HasCase j.standing.cases c
+
+-- A case is told whole: the archive is sound, or the case stands before the first fault and is still there, with the same image in the
+-- same blocks, where the records behind the fault are read too.
+abbrev pub IsWholeIn : Found → Case → Type 0
+IsWholeIn f c = (f.sight.fault ≡ None) ⊎ (HasCase f.first.standing.cases c × StandsOn f.on c)

@@ -1,11 +1,12 @@
 // The cases of an archive whose opening is refused: those before the first fault, and those behind it.
-ghost use Rattle.std.specs.Prelude.{◌≡◌, ◌≤◌, length, IfOk, IsTrue, None, Some};
+ghost use Rattle.std.specs.Prelude.{◌≡◌, ◌≤◌, length, IfOk, IsTrue, None, Some, map};
+ghost use Rattle.journal_layout.specs.Case.{case_of};
 ghost use Rattle.case_journal.specs.Viewing.{IsOpenRefusal};
 ghost use Rattle.journal_layout.specs.Layout.{data_start};
 ghost use Rattle.journal_layout.specs.Stands.{Stands};
 ghost use Rattle.salvage.specs.Cases.{HasEach};
 ghost use Rattle.salvage.specs.Fronts.{fronted};
-ghost use Rattle.salvage.specs.Readings.{FindsCases, FoundWithin, IsNoOpening, StepTells};
+ghost use Rattle.salvage.specs.Readings.{FindsCases, FoundWithin, IsNoOpening, IsWholeIn, StepTells, cases_by};
 ghost use Rattle.salvage.specs.declared.cases_found.More.{More};
 
 use crate::cases::{has_case, has_each};
@@ -46,7 +47,9 @@ pub struct Found {
 
 impl Found {
     /// The cases that are copied, in the order of their numbers.
-    pub fn entries(&self) -> &[Entry] {
+    pub fn entries(&self) -> &[Entry]
+        ensures { map case_of result.now ≡ cases_by self.now.more self.now.first.standing }
+    {
         match &self.more {
             Some(more) => more.journal.entries(),
             None => self.first.entries(),
@@ -54,12 +57,16 @@ impl Found {
     }
 
     /// The shape of the archive.
-    pub fn shape(&self) -> Shape {
+    pub fn shape(&self) -> Shape
+        ensures { result ≡ self.now.first.standing.shape }
+    {
         self.first.shape()
     }
 
     /// Whether a case stands before the first fault, and no record that can be read behind it ends the case or takes its blocks.
-    pub fn is_whole(&self, entry: &Entry) -> bool {
+    pub fn is_whole(&self, entry: &Entry) -> bool
+        ensures { IsTrue result → IsWholeIn self.now (case_of entry.now) }
+    {
         if self.sight.fault.is_none() {
             return true;
         }
