@@ -1,5 +1,5 @@
 -- Cases that were found, one after another.
-use Rattle.std.proofs.Common.{◌≡◌, ◌==◌, ◌&&◌, ℕ, zero, suc, ◌+◌, ◌<◌, ◌≤◌, List, [], ◌∷◌, length, map, drop, get_or, refl, sym, ap, ◌∙◌, subst, arith}
+use Rattle.std.proofs.Common.{◌≡◌, ◌==◌, ◌&&◌, ℕ, zero, suc, ◌<◌, ◌≤◌, List, [], ◌∷◌, length, map, drop, get_or, sym, ap, ◌∙◌, subst, arith}
 use Rattle.std.proofs.lemmas.Bool.{and_from, and_parts, eq-eqb, eqb-true}
 use Rattle.std.specs.Bool.{Decides}
 use Rattle.extents.specs.declared.run_list.Run.{Run}
@@ -28,7 +28,8 @@ run_is a b c d e f = cc
 pub run_decided : (a b : Run) → Decides (a.start == b.start && a.count == b.count) (a ≡ b)
 run_decided a b = (
   λ both. (let p = and_parts (a.start == b.start) (a.count == b.count) both in run_is a.start b.start a.count b.count (eqb-true a.start b.start p.0) (eqb-true a.count b.count p.1)),
-  λ same. and_from (a.start == b.start) (a.count == b.count) (eq-eqb a.start b.start (ap (λ (r : Run). r.start) same)) (eq-eqb a.count b.count (ap (λ (r : Run). r.count) same)))
+  λ same. and_from (a.start == b.start) (a.count == b.count) (eq-eqb a.start b.start (ap (λ (r : Run). r.start) same)) (eq-eqb a.count b.count (ap (λ (r : Run). r.count) same)),
+)
 
 -- lists of blocks that have the same runs are the same
 pub same_runs : (xs ys : List ℕ) → runs_of xs ≡ runs_of ys → ys ≡ xs

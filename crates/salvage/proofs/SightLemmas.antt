@@ -1,6 +1,5 @@
 -- Why the cases of an archive were not found.
-use Rattle.std.proofs.Common.{◌≡◌, inl, inr, ℕ, List, refl, Option, None, Some, Err, Result}
-use Rattle.case_journal.specs.Journaled.{Journaled}
+use Rattle.std.proofs.Common.{◌≡◌, inl, inr, ℕ, List, refl, Option, None, Some, Err}
 use Rattle.case_journal.specs.Viewing.{Gives, IsOpenRefusal}
 use Rattle.journal_layout.specs.ReadingLaws.{stands_or_refused}
 use Rattle.journal_layout.specs.declared.faults.OpenFault.{OpenFault}

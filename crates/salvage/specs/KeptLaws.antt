@@ -1,8 +1,8 @@
 -- Laws of what is copied of an archive whose opening is refused.
-use Rattle.std.proofs.Common.{◌≡◌, ◌⊎◌, inl, inr, ℕ, ◌+◌, ◌*◌, ◌<◌, ◌≤◌, List, [], ◌∷◌, ◌++◌, length, take, refl, sym, ap, ◌∙◌, subst, arith, Option, None, Some}
+use Rattle.std.proofs.Common.{◌≡◌, inl, inr, ℕ, ◌+◌, ◌<◌, ◌≤◌, List, [], ◌∷◌, ◌++◌, length, take, refl, sym, ap, ◌∙◌, subst, arith, Option, None, Some}
 use Rattle.disk_model.specs.Places.{part}
 use Rattle.intake.specs.Blocks.{block_bytes, block_start, image_in, joined}
-use Rattle.journal_layout.specs.Layout.{IsWithinLimits, data_start, half_length, half_start}
+use Rattle.journal_layout.specs.Layout.{data_start, half_length, half_start}
 use Rattle.journal_layout.specs.ReadingLaws.{stands_once}
 use Rattle.journal_layout.specs.Standing.{Standing}
 use Rattle.journal_layout.specs.Stands.{Stands}
@@ -11,7 +11,7 @@ use Rattle.journal_layout.specs.declared.shape.Half.{Half}
 use Rattle.journal_layout.specs.declared.shape.Half.TheVariants.{A, B}
 use Rattle.journal_layout.specs.declared.shape.Shape.{Shape}
 use Rattle.salvage.specs.Cases.{HasEach}
-use Rattle.salvage.specs.Copying.{bytes_by, found_bytes}
+use Rattle.salvage.specs.Copying.{bytes_by}
 use Rattle.salvage.specs.Finding.{StandsUntil, closes, gate_of}
 use Rattle.salvage.specs.FrontLaws.{part_other}
 use Rattle.salvage.specs.Fronts.{fronted}

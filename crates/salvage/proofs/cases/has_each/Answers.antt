@@ -1,5 +1,5 @@
-use Rattle.std.proofs.Common.{◌≡◌, ◌+◌, ℕ, length, map, drop, subst, suc, arith, refl, sym}
-use Rattle.journal_layout.specs.Case.{Case, case_of}
+use Rattle.std.proofs.Common.{◌≡◌, ◌+◌, ℕ, map, drop, subst, suc, arith}
+use Rattle.journal_layout.specs.Case.{case_of}
 use Rattle.salvage.specs.Cases.{HasEach}
 use Rattle.salvage.proofs.CaseLemmas.{each_back, each_past}
 use Rattle.salvage.proofs.cases.has_each.Goals as goal

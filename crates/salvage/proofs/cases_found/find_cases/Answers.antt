@@ -25,7 +25,7 @@ returns-clause-finds g c = λ honest. record {
   sees = c.in_ok-sight.ensures.finds honest;
   first = c.in_ok-first.ensures.gives honest;
   more = λ m is. (
-    let h = c.having_each-more.ensures m is in
-    record { stands = c.in_ok-go_on-2.ensures.stands honest m h.0; front = c.in_ok-go_on-2.ensures.long m h.0; each = h.1; shape = h.2 });
+      let h = c.having_each-more.ensures m is in
+      record { stands = c.in_ok-go_on-2.ensures.stands honest m h.0; front = c.in_ok-go_on-2.ensures.long m h.0; each = h.1; shape = h.2 });
   sound = λ none. absurd (gate_sound c.faulty_gate.result c.in-Some.gate (c.faulty_gate.ensures none) c.in-Some.is);
 }

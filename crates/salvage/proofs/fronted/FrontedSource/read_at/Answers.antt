@@ -1,6 +1,5 @@
-use Rattle.std.proofs.Common.{◌≡◌, ◌≤◌, ◌∙◌, ℕ, List, length, sym, ap, arith, IsTrue, OnOk, Result, Ok, Err}
-use Rattle.disk_model.specs.Places.{part}
-use Rattle.salvage.specs.FrontLaws.{part_first, part_other}
+use Rattle.std.proofs.Common.{◌∙◌, length, sym, arith, IsTrue}
+use Rattle.salvage.specs.FrontLaws.{part_first}
 use Rattle.salvage.proofs.FrontLemmas.{read_behind}
 use Rattle.salvage.proofs.fronted.FrontedSource.read_at.Goals as goal
 
