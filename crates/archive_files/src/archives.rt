@@ -134,7 +134,7 @@ fn front_of<D: Disk>(disk: &mut D) -> Result<u64, FileFault>
 
 // Opens the file and takes its lock. Opening a pipe could wait for ever, so what is no regular file is refused before. While
 // it waited, another file may have been put in its place: then it begins again.
-fn take_file<R: Files<File = File>>(
+pub(crate) fn take_file<R: Files<File = File>>(
     rt: &R,
     place: ArchivePath<'_>,
     access: Access,
@@ -188,6 +188,7 @@ fn takes_archive(command: &str) -> bool {
             | "check"
             | "copy"
             | "resize"
+            | "salvage"
     )
 }
 

@@ -25,8 +25,8 @@ pub fn copy_disk<D: Disk, N: Disk>(
     }
 }
 
-// How it is told why an archive was not copied.
-fn copy_refusal(fault: CopyFault) -> Refusal
+/// How it is told why an archive was not copied.
+pub(crate) fn copy_refusal(fault: CopyFault) -> Refusal
     ensures { result ≡ copy_refusal fault }
 {
     match fault {

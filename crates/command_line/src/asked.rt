@@ -88,6 +88,11 @@ pub(crate) enum Asked<'a> {
         archive: ArchivePath<'a>,
         wanted: CopyWords,
     },
+    // The cases of a damaged archive in a new file.
+    Salvage {
+        archive: ArchivePath<'a>,
+        new: &'a str,
+    },
     // Nothing.
     Nothing,
 }
@@ -160,6 +165,10 @@ pub(crate) fn read_words<'a>(alloc: Global, words: &'a [String]) -> Result<Asked
         Some(("resize", found)) => Ok(Asked::Resize {
             archive: place_of(found)?,
             wanted: copy_of(found, false),
+        }),
+        Some(("salvage", found)) => Ok(Asked::Salvage {
+            archive: place_of(found)?,
+            new: text_of(found, "new")?,
         }),
         _ => Ok(Asked::Nothing),
     }

@@ -6,7 +6,7 @@ use crate::asked::{Asked, SessionWords, read_words};
 use crate::endings::{Clues, Ending, tell_ending};
 use archive_files::{
     Access, ArchivePath, Collected, Failure, Refusal, StoreRequest, ask, check, copy_archive_file,
-    look, make_archive, names_output, resize_archive_file, run_over, take_disk,
+    look, make_archive, names_output, resize_archive_file, run_over, salvage, take_disk,
 };
 use case_listing::{ask_case, extract_case, list};
 use command_words::{
@@ -74,6 +74,7 @@ pub fn run_program<
 /// - `check ARCHIVE` tells what an archive holds and that it is sound, or where it is damaged.
 /// - `copy ARCHIVE NEW` copies it into a new file, and `resize ARCHIVE` into one that takes its place; `--half N` and `--data N` give
 ///   the new archive another size.
+/// - `salvage ARCHIVE NEW` copies the cases of a damaged archive into a new file, and tells of each whether it is whole.
 ///
 /// `run`, `memory` and `store` take `--template T` and `--uses-pid`, by which cores are named, and `--limit N`, the most bytes of an
 /// image. Statuses: 0; 1 where something is refused, with one line `no REASON` on `output` (and what it means in words on
@@ -182,6 +183,7 @@ fn answer_asked<R: AllocGlobal + Files<File = File> + Clock, I: Read, O: Output>
             wanted,
         } => Ok(copy_archive_file(rt, archive, new, wanted)?),
         Asked::Resize { archive, wanted } => Ok(resize_archive_file(rt, archive, wanted)?),
+        Asked::Salvage { archive, new } => salvage(rt, archive, new, output),
         Asked::Nothing => Ok(()),
     }
 }

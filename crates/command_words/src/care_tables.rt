@@ -2,7 +2,7 @@
 use crate::tables::{ARCHIVE, CommandWords, NO_WAIT, Takes, Word};
 
 // They are a table of their own: one table of all commands is too large for the prover.
-pub(crate) static CARE_COMMANDS: [CommandWords; 3] = [
+pub(crate) static CARE_COMMANDS: [CommandWords; 4] = [
     CommandWords {
         name: "check",
         about: "tells what an archive holds and that it is sound, or where it is damaged",
@@ -22,6 +22,12 @@ pub(crate) static CARE_COMMANDS: [CommandWords; 3] = [
         about: "makes an archive larger or smaller: copies it into a file beside it, which takes its place",
         after_help: None,
         words: &[ARCHIVE, NEW_HALF, NEW_DATA, NEW_SPARSE, NO_WAIT],
+    },
+    CommandWords {
+        name: "salvage",
+        about: "copies the cases of a damaged archive into a new file, and tells of each whether it is whole",
+        after_help: None,
+        words: &[ARCHIVE, NEW, NO_WAIT],
     },
 ];
 

@@ -1,0 +1,6 @@
+mod CaseLemmas
+mod FindLemmas
+mod FrontLemmas
+mod PatchLemmas
+mod ReadLemmas
+mod SightLemmas

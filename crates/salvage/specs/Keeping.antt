@@ -1,0 +1,25 @@
+-- What becomes of the cases that stand before the first faulty record.
+use Rattle.std.specs.Prelude.{◌≡◌, ◌⊎◌, List, ℕ}
+use Rattle.intake.specs.Blocks.{image_in}
+use Rattle.journal_layout.specs.Standing.{Standing}
+use Rattle.journal_layout.specs.Stands.{Stands}
+use Rattle.journal_layout.specs.declared.faults.OpenFault.{OpenFault}
+use Rattle.salvage.specs.Cases.{HasEach}
+use Rattle.salvage.specs.Copying.{found_bytes}
+use Rattle.salvage.specs.Finding.{StandsUntil}
+use Rattle.salvage.specs.Readings.{SeesCases}
+use Rattle.salvage.specs.declared.cases_found.Found.{Found}
+
+-- Of an archive's bytes others were made, as an archive stands that has each of these cases, with the same facts and the same blocks,
+-- and the blocks hold the same images.
+pub record KeepsCases (b c : List ℕ) (s : Standing) : Type 0 where
+  pub standing : Standing
+  pub stands : Stands c standing
+  pub shape : standing.shape ≡ s.shape
+  pub each : (standing ≡ s) ⊎ HasEach standing.cases s.cases
+  pub images : (blocks : List ℕ) (len : ℕ) → image_in s.shape c blocks len ≡ image_in s.shape b blocks len
+
+-- The cases that stand before the first faulty record are kept in what is copied.
+abbrev pub WhatStandsIsKept : Type 0
+WhatStandsIsKept =
+    (b : List ℕ) (f : Found) (s : Standing) (fault : OpenFault) → SeesCases b f → StandsUntil b s fault → KeepsCases b (found_bytes f b) s

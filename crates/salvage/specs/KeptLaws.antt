@@ -1,0 +1,84 @@
+-- Laws of what is copied of an archive whose opening is refused.
+use Rattle.std.proofs.Common.{◌≡◌, inl, inr, ℕ, ◌+◌, ◌<◌, ◌≤◌, List, [], ◌∷◌, ◌++◌, length, take, refl, sym, ap, ◌∙◌, subst, arith, Option, None, Some}
+use Rattle.disk_model.specs.Places.{part}
+use Rattle.intake.specs.Blocks.{block_bytes, block_start, image_in, joined}
+use Rattle.journal_layout.specs.Layout.{data_start, half_length, half_start}
+use Rattle.journal_layout.specs.ReadingLaws.{stands_once}
+use Rattle.journal_layout.specs.Standing.{Standing}
+use Rattle.journal_layout.specs.Stands.{Stands}
+use Rattle.journal_layout.specs.declared.faults.OpenFault.{OpenFault}
+use Rattle.journal_layout.specs.declared.shape.Half.{Half}
+use Rattle.journal_layout.specs.declared.shape.Half.TheVariants.{A, B}
+use Rattle.journal_layout.specs.declared.shape.Shape.{Shape}
+use Rattle.salvage.specs.Cases.{HasEach}
+use Rattle.salvage.specs.Copying.{bytes_by}
+use Rattle.salvage.specs.Finding.{StandsUntil, closes, gate_of}
+use Rattle.salvage.specs.FrontLaws.{part_other}
+use Rattle.salvage.specs.Fronts.{fronted}
+use Rattle.salvage.specs.GateLaws.{closed_stands, gate_high, gate_within}
+use Rattle.salvage.specs.Keeping.{KeepsCases, WhatStandsIsKept}
+use Rattle.salvage.specs.Readings.{SeesCases}
+use Rattle.salvage.specs.ShowLaws.{part_unpatched}
+use Rattle.salvage.specs.Showing.{shown}
+use Rattle.salvage.specs.declared.cases_found.Found.{Found}
+use Rattle.salvage.specs.declared.cases_found.More.{More}
+use Rattle.salvage.specs.declared.shown.Patch.{Patch}
+
+-- the data blocks are the same
+abbrev IsDataSame : Shape → List ℕ → List ℕ → Type 0
+IsDataSame shape b c = (p n : ℕ) → data_start shape ≤ p → part c p n ≡ part b p n
+
+joined_same : (shape : Shape) (b c : List ℕ) → IsDataSame shape b c → (blocks : List ℕ) → joined shape c blocks ≡ joined shape b blocks
+joined_same shape b c same [] = refl
+joined_same shape b c same (k ∷ rest) =
+    ap (λ (l : List ℕ). l ++ joined shape c rest) (same (block_start shape k) 4096 (omega arith))
+    ∙ ap (λ (l : List ℕ). block_bytes shape b k ++ l) (joined_same shape b c same rest)
+
+images_same : (shape : Shape) (b c : List ℕ) → IsDataSame shape b c → (blocks : List ℕ) (len : ℕ) → image_in shape c blocks len ≡ image_in shape b blocks len
+images_same shape b c same blocks len = ap (take len) (joined_same shape b c same blocks)
+
+before_data : (shape : Shape) (half : Half) (g : ℕ) → g < half_start shape half + half_length shape → g < data_start shape
+before_data shape A g high = omega (arith, high)
+before_data shape B g high = omega (arith, high)
+
+module _ (b : List ℕ) (f : Found) (s : Standing) (fault : OpenFault) (sees : SeesCases b f) (until : StandsUntil b s fault) where
+  patch_is : f.sight.patch ≡ closes (gate_of s)
+  patch_is = (sees.sees.until s fault until).1
+
+  first_is : f.first.standing ≡ s
+  first_is =
+      stands_once (shown (closes (gate_of s)) b) f.first.standing s
+      (subst (λ (p : Option Patch). Stands (shown p b) f.first.standing) patch_is sees.first) (closed_stands b s fault until)
+
+  closed_kept : KeepsCases b (shown f.sight.patch b) s
+  closed_kept =
+      subst (λ (p : Option Patch). KeepsCases b (shown p b) s) (sym patch_is)
+      (record {
+        standing = s;
+        stands = closed_stands b s fault until;
+        shape = refl;
+        each = inl refl;
+        images = images_same s.shape b (shown (closes (gate_of s)) b)
+            (λ p n behind. part_unpatched b (gate_of s) 0 p n (gate_within b s fault until)
+            (inr (omega (arith, behind, before_data s.shape s.half (gate_of s) (gate_high b s fault until)))));
+      })
+
+  more_kept : (m : More) → f.more ≡ Some m → KeepsCases b (fronted m.front.items b) s
+  more_kept m is =
+      let it = sees.more m is in
+      let front : length m.front.items ≡ data_start s.shape = it.front ∙ ap (λ (u : Standing). data_start u.shape) first_is in
+      record {
+        standing = m.journal.standing;
+        stands = it.stands;
+        shape = it.shape ∙ ap (λ (u : Standing). u.shape) first_is;
+        each = inr (subst (λ (u : Standing). HasEach m.journal.standing.cases u.cases) first_is it.each);
+        images = images_same s.shape b (fronted m.front.items b) (λ p n behind. part_other m.front.items b p n (omega (arith, front, behind)));
+      }
+
+  by_reading : (o : Option More) → f.more ≡ o → KeepsCases b (bytes_by o f.sight b) s
+  by_reading None is = closed_kept
+  by_reading (Some m) is = more_kept m is
+
+-- the cases that stand before the first faulty record are kept
+pub what_stands_is_kept : WhatStandsIsKept
+what_stands_is_kept b f s fault sees until = by_reading b f s fault sees until f.more refl

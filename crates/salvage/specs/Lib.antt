@@ -1,0 +1,14 @@
+pub mod Cases
+pub mod Copying
+pub mod FaultLaws
+pub mod Finding
+pub mod FrontLaws
+pub mod Fronts
+pub mod GateLaws
+pub mod Keeping
+pub mod KeptLaws
+pub mod Readings
+pub mod ShowLaws
+pub mod Showing
+pub mod Texts
+pub mod Views

@@ -1,0 +1,22 @@
+//! An archive whose opening is refused: where its first faulty record is, and a copy of the cases before it.
+#![tactic(auto)]
+
+mod cases;
+mod cases_found;
+mod copying;
+mod finding;
+mod fronted;
+mod laws;
+mod mending;
+mod shown;
+mod source;
+mod telling;
+
+pub use cases_found::{Found, More, find_cases};
+pub use copying::{copy_cases, copy_shown};
+pub use finding::{Sight, find_sight};
+pub use fronted::Fronted;
+pub use laws::what_stands_is_kept;
+pub use shown::{Patch, Shown};
+pub use source::Source;
+pub use telling::tell_cases;
