@@ -65,8 +65,8 @@ pub(crate) static COMMANDS: [CommandWords; 9] = [
         about: "stores a core file as a case of an archive, named by the template, or an executable",
         after_help: None,
         words: &[
-            ARCHIVE, FILE, PAIRS, EXEC, PIN, LABEL, ESCAPE, KEEP, BYTES, BEFORE, FIT, CUT,
-            NO_WAIT, TEMPLATE, USES_PID, LIMIT, LOG,
+            ARCHIVE, FILE, PAIRS, EXEC, PIN, LABEL, ESCAPE, KEEP, BYTES, BEFORE, FIT, CUT, NO_WAIT,
+            TEMPLATE, USES_PID, LIMIT, LOG,
         ],
     },
     CommandWords {

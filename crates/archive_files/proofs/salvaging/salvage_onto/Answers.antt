@@ -10,16 +10,18 @@ pub returns-in-Ok : goal.returns-in-Ok
 returns-in-Ok g c = (
   c.copy_cases.result,
   subst
-  (λ (shape : Shape). CopiesAs g.N.Disk (g.S.Source.is_honest c.args.source.now) (found_bytes c.args.found.now (g.S.Source.seen c.args.source.now)) (record { shape = shape; keeps_labels = false }) c.args.onto
-  c.copy_cases.new.onto c.copy_cases.result)
-  c.shape.ensures c.copy_cases.ensures,
-  sym (ap copy_told c.in-Ok.is))
+      (λ (shape : Shape). CopiesAs g.N.Disk (g.S.Source.is_honest c.args.source.now) (found_bytes c.args.found.now (g.S.Source.seen c.args.source.now)) (record { shape = shape; keeps_labels = false }) c.args.onto
+      c.copy_cases.new.onto c.copy_cases.result)
+      c.shape.ensures c.copy_cases.ensures,
+  sym (ap copy_told c.in-Ok.is),
+)
 
 pub returns-in-Err : goal.returns-in-Err
 returns-in-Err g c = (
   c.copy_cases.result,
   subst
-  (λ (shape : Shape). CopiesAs g.N.Disk (g.S.Source.is_honest c.args.source.now) (found_bytes c.args.found.now (g.S.Source.seen c.args.source.now)) (record { shape = shape; keeps_labels = false }) c.args.onto
-  c.copy_cases.new.onto c.copy_cases.result)
-  c.shape.ensures c.copy_cases.ensures,
-  ap (λ (f : Refusal). Err f) c.copy_refusal.ensures ∙ sym (ap copy_told c.in-Err.is))
+      (λ (shape : Shape). CopiesAs g.N.Disk (g.S.Source.is_honest c.args.source.now) (found_bytes c.args.found.now (g.S.Source.seen c.args.source.now)) (record { shape = shape; keeps_labels = false }) c.args.onto
+      c.copy_cases.new.onto c.copy_cases.result)
+      c.shape.ensures c.copy_cases.ensures,
+  ap (λ (f : Refusal). Err f) c.copy_refusal.ensures ∙ sym (ap copy_told c.in-Err.is),
+)
