@@ -110,68 +110,145 @@ pub(crate) struct SessionWords<'a> {
 pub(crate) fn read_words<'a>(alloc: Global, words: &'a [String]) -> Result<Asked<'a>, Ending> {
     let matches = program(alloc)?.try_get_matches_from(words)?;
     match matches.subcommand() {
-        Some(("format", found)) => Ok(Asked::Format {
-            archive: text_of(found, "archive")?,
-            wanted: new_archive_of(found),
-        }),
-        Some(("run", found)) => Ok(Asked::Run {
-            archive: place_of(found)?,
-            settings: settings_of(found)?,
-        }),
-        Some(("memory", found)) => Ok(Asked::Memory {
-            shape: shape_of(found),
-            settings: settings_of(found)?,
-        }),
-        Some(("store", found)) => Ok(Asked::Store {
-            archive: place_of(found)?,
-            file: text_of(found, "file")?,
-            wanted: StoreWords {
-                policy: policy_of(found)?,
-                begin: first_line(alloc, found)?,
-                options: StoreOptions {
-                    label: label_of(alloc, found)?,
-                    pin: found.get_flag("pin"),
-                    fit: found.get_flag("fit"),
-                    cut: cut_of(found),
-                    burst: None,
-                },
-            },
-            settings: settings_of(found)?,
-            log: found.get_str("log").map(checked).transpose()?,
-        }),
-        Some(("extract", found)) => Ok(Asked::Extract {
-            archive: place_of(found)?,
-            case: text_of(found, "case")?,
-            file: found.get_str("file").map(checked).transpose()?,
-        }),
-        Some(("handle", found)) => Ok(Asked::Handle(handle_words(alloc, found)?)),
-        Some(("list", found)) => Ok(Asked::List {
-            archive: place_of(found)?,
-            wanted: list_words(found)?,
-        }),
-        Some(("ask", found)) => Ok(ask_words(alloc, found)?),
-        Some(("look", found)) => Ok(Asked::Look {
-            archive: place_of(found)?,
-        }),
-        Some(("check", found)) => Ok(Asked::Check {
-            archive: place_of(found)?,
-            sees_images: found.get_flag("images"),
-        }),
-        Some(("copy", found)) => Ok(Asked::Copy {
-            archive: place_of(found)?,
-            new: text_of(found, "new")?,
-            wanted: copy_of(found, found.get_one::<u32>("layout") == Some(2)),
-        }),
-        Some(("resize", found)) => Ok(Asked::Resize {
-            archive: place_of(found)?,
-            wanted: copy_of(found, false),
-        }),
-        Some(("salvage", found)) => Ok(Asked::Salvage {
-            archive: place_of(found)?,
-            new: text_of(found, "new")?,
-        }),
+        Some((name, found)) => Ok(asked_of(alloc, name, found)?),
+        None => Ok(Asked::Nothing),
+    }
+}
+
+// What the words of a command ask for.
+fn asked_of<'a>(alloc: Global, name: &str, found: &ArgMatches<'a>) -> Result<Asked<'a>, Refusal> {
+    match name {
+        "format" => format_words(found),
+        "run" => run_words(found),
+        "memory" => memory_words(found),
+        "store" => store_words(alloc, found),
+        "extract" => extract_words(found),
+        "handle" => handle_words(alloc, found),
+        "list" => list_asked(found),
+        "ask" => ask_words(alloc, found),
+        _ => care_words(name, found),
+    }
+}
+
+// The same of the commands that only look, or care for an archive.
+fn care_words<'a>(name: &str, found: &ArgMatches<'a>) -> Result<Asked<'a>, Refusal> {
+    match name {
+        "look" => look_words(found),
+        "check" => check_words(found),
+        "copy" => copy_words(found),
+        "resize" => resize_words(found),
+        "salvage" => salvage_words(found),
         _ => Ok(Asked::Nothing),
     }
+}
+
+fn format_words<'a>(found: &ArgMatches<'a>) -> Result<Asked<'a>, Refusal> {
+    let archive = text_of(found, "archive")?;
+    Ok(Asked::Format {
+        archive,
+        wanted: new_archive_of(found),
+    })
+}
+
+fn run_words<'a>(found: &ArgMatches<'a>) -> Result<Asked<'a>, Refusal> {
+    let archive = place_of(found)?;
+    let settings = settings_of(found)?;
+    Ok(Asked::Run { archive, settings })
+}
+
+fn memory_words<'a>(found: &ArgMatches<'a>) -> Result<Asked<'a>, Refusal> {
+    let settings = settings_of(found)?;
+    Ok(Asked::Memory {
+        shape: shape_of(found),
+        settings,
+    })
+}
+
+fn store_words<'a>(alloc: Global, found: &ArgMatches<'a>) -> Result<Asked<'a>, Refusal> {
+    let archive = place_of(found)?;
+    let file = text_of(found, "file")?;
+    let wanted = wanted_of(alloc, found)?;
+    let settings = settings_of(found)?;
+    let log = found.get_str("log").map(checked).transpose()?;
+    Ok(Asked::Store {
+        archive,
+        file,
+        wanted,
+        settings,
+        log,
+    })
+}
+
+// What is stored, and what goes for it.
+fn wanted_of(alloc: Global, found: &ArgMatches<'_>) -> Result<StoreWords, Refusal> {
+    let policy = policy_of(found)?;
+    let begin = first_line(alloc, found)?;
+    let label = label_of(alloc, found)?;
+    Ok(StoreWords {
+        policy,
+        begin,
+        options: StoreOptions {
+            label,
+            pin: found.get_flag("pin"),
+            fit: found.get_flag("fit"),
+            cut: cut_of(found),
+            burst: None,
+        },
+    })
+}
+
+fn extract_words<'a>(found: &ArgMatches<'a>) -> Result<Asked<'a>, Refusal> {
+    let archive = place_of(found)?;
+    let case = text_of(found, "case")?;
+    let file = found.get_str("file").map(checked).transpose()?;
+    Ok(Asked::Extract {
+        archive,
+        case,
+        file,
+    })
+}
+
+fn list_asked<'a>(found: &ArgMatches<'a>) -> Result<Asked<'a>, Refusal> {
+    let archive = place_of(found)?;
+    let wanted = list_words(found)?;
+    Ok(Asked::List { archive, wanted })
+}
+
+fn look_words<'a>(found: &ArgMatches<'a>) -> Result<Asked<'a>, Refusal> {
+    Ok(Asked::Look {
+        archive: place_of(found)?,
+    })
+}
+
+fn check_words<'a>(found: &ArgMatches<'a>) -> Result<Asked<'a>, Refusal> {
+    Ok(Asked::Check {
+        archive: place_of(found)?,
+        sees_images: found.get_flag("images"),
+    })
+}
+
+fn copy_words<'a>(found: &ArgMatches<'a>) -> Result<Asked<'a>, Refusal> {
+    let archive = place_of(found)?;
+    let new = text_of(found, "new")?;
+    let keeps_labels = found.get_one::<u32>("layout") == Some(2);
+    Ok(Asked::Copy {
+        archive,
+        new,
+        wanted: copy_of(found, keeps_labels),
+    })
+}
+
+fn resize_words<'a>(found: &ArgMatches<'a>) -> Result<Asked<'a>, Refusal> {
+    Ok(Asked::Resize {
+        archive: place_of(found)?,
+        wanted: copy_of(found, false),
+    })
+}
+
+fn salvage_words<'a>(found: &ArgMatches<'a>) -> Result<Asked<'a>, Refusal> {
+    let archive = place_of(found)?;
+    let new = text_of(found, "new")?;
+    Ok(Asked::Salvage { archive, new })
 }
 
 fn copy_of(found: &ArgMatches<'_>, keeps_labels: bool) -> CopyWords {
@@ -290,20 +367,21 @@ fn label_of(alloc: Global, found: &ArgMatches<'_>) -> Result<Option<ArrayVec<u8,
 }
 
 // What the words of `handle` ask for. The first word that is no pair names the configuration.
-fn handle_words<'a>(alloc: Global, found: &ArgMatches<'a>) -> Result<HandleWords<'a>, Refusal> {
+fn handle_words<'a>(alloc: Global, found: &ArgMatches<'a>) -> Result<Asked<'a>, Refusal> {
     let words = found.get_strs("pairs").unwrap_or(&[]);
     let (config, pairs) = match words.split_first() {
         Some((first, rest)) if !first.contains('=') => (Some(checked(first)?), rest),
         _ => (None, words),
     };
     let (begin, left_out) = known_pairs(alloc, pairs)?;
-    Ok(HandleWords {
+    let archive = found.get_str("archive").map(checked).transpose()?;
+    Ok(Asked::Handle(HandleWords {
         config,
-        archive: found.get_str("archive").map(checked).transpose()?,
+        archive,
         begin,
         left_out,
         is_check: found.get_flag("check"),
-    })
+    }))
 }
 
 // The line that begins a core with these pairs, and the pairs that it can't have.
