@@ -2,7 +2,7 @@
 _corekeep() {
     local word=${COMP_WORDS[COMP_CWORD]}
     local before=${COMP_WORDS[COMP_CWORD-1]}
-    local commands="format run store handle list ask look extract check copy resize memory"
+    local commands="format run store handle list ask look extract check copy resize salvage memory"
     local lines="list free delete pin unpin label retire upgrade header notes threads regs process signal auxv files maps dump find strings bt unwind frame builds symbol"
     local session="--template --uses-pid --limit"
     COMPREPLY=()
@@ -36,7 +36,7 @@ _corekeep() {
     store) options="--exec --pin --label --escape --keep --bytes --before --fit --cut --log --no-wait $session --help" ;;
     handle) options="--check --archive --help" ;;
     list) options="--json --kind --name --pid --signal --since --until --label --pinned --last --no-wait --help" ;;
-    ask | look | extract) options="--no-wait --help" ;;
+    ask | look | extract | salvage) options="--no-wait --help" ;;
     check) options="--images --no-wait --help" ;;
     copy) options="--half --data --layout --sparse --no-wait --help" ;;
     resize) options="--half --data --sparse --no-wait --help" ;;

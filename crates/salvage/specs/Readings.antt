@@ -18,12 +18,12 @@ use Rattle.salvage.specs.declared.cases_found.Step.TheVariants.{Opens, Mends, En
 -- bytes that open stand
 abbrev pub StepTells : List ℕ → Step → Type 0
 StepTells b (Opens journal) = Stands b journal.standing
-StepTells b (Mends gate next) = Unit {0}
+StepTells b (Mends gate next takes) = Unit {0}
 StepTells b Ends = Unit {0}
 
 abbrev pub IsNoOpening : Step → Type 0
 IsNoOpening (Opens journal) = ⊥
-IsNoOpening (Mends gate next) = Unit {0}
+IsNoOpening (Mends gate next takes) = Unit {0}
 IsNoOpening Ends = Unit {0}
 
 -- A reading that goes on behind the first fault: with other bytes in place of the superblock and the journal an archive stands. It has

@@ -16,7 +16,7 @@ use crate::mending::{keep_cases, mend};
 use crate::shown::Patch;
 use crate::source::Source;
 use case_journal::Journal;
-use journal_layout::{Entry, Half, OpenFault, Shape};
+use journal_layout::{Entry, Field, Half, OpenFault, Shape};
 use std::alloc::Global;
 
 // How many faulty records are gone by, at most.
@@ -117,8 +117,9 @@ fn read_front<S: Source>(alloc: Global, source: &S, shape: Shape) -> Result<Vec<
 enum Step {
     // They open.
     Opens(Journal),
-    // The record whose gate is here is to be replaced; this is the number of the next case there.
-    Mends(u64, u64),
+    // The record whose gate is here is to be replaced; this is the number of the next case there, and whether it is a case that takes
+    // the blocks or the name of another.
+    Mends(u64, u64, bool),
     // Nothing lets them open.
     Ends,
 }
@@ -136,8 +137,19 @@ fn find_mend<S: Source>(alloc: Global, source: &S) -> Result<Step, OpenFault>
         return Ok(Step::Ends);
     };
     match open_shown(alloc, source, sight.patch) {
-        Ok(journal) => Ok(Step::Mends(gate, journal.next_seq())),
+        Ok(journal) => Ok(Step::Mends(gate, journal.next_seq(), takes(sight))),
         Err(fault) => nothing_more(fault),
+    }
+}
+
+// Whether the first faulty record is a case that takes the blocks or the name of another.
+fn takes(sight: Sight) -> bool {
+    match sight.fault {
+        Some(OpenFault::Damaged { field, .. }) => match field {
+            Field::Run | Field::Name => true,
+            _ => false,
+        },
+        _ => false,
     }
 }
 
@@ -199,12 +211,14 @@ fn mend_half(front: &mut [u8], half: Span, gate: u64, next: u64) -> bool {
     true
 }
 
-// Reads on behind the faulty records of a half.
+// Reads on behind the faulty records of a half. With `keeps` a later case gives way that takes the blocks or the name of one which stands;
+// else nothing is read then, since the first faulty record may have ended that one.
 fn read_on<S: Source>(
     alloc: Global,
     source: &S,
     front: Vec<u8>,
     half: Span,
+    keeps: bool,
 ) -> Result<Option<More>, OpenFault>
     requires { length front.items ≤ S.size source.now }
     ensures long { IfOk result (λ o. (m : More) → o ≡ Some m → length m.front.items ≡ length front.items) }
@@ -212,10 +226,13 @@ fn read_on<S: Source>(
     ensures only { IsOpenRefusal result }
 {
     let mut front = front;
-    for _ in 0..MOST_FAULTS {
+    for turn in 0..MOST_FAULTS {
         match look_on(alloc, source, &front)? {
             Step::Opens(journal) => return Ok(Some(More { front, journal })),
-            Step::Mends(gate, next) => {
+            Step::Mends(gate, next, takes) => {
+                if takes && turn > 0 && !keeps {
+                    return Ok(None);
+                }
                 if !mend_half(&mut front, half, gate, next) {
                     return Ok(None);
                 }
@@ -246,7 +263,7 @@ fn go_on<S: Source>(
     if keeps {
         keep_in(&mut front, half, gate, first);
     }
-    read_on(alloc, source, front, half)
+    read_on(alloc, source, front, half, keeps)
 }
 
 // Replaces the Drop records of a half behind a gate that name a case of a journal.
