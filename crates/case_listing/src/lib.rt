@@ -1,8 +1,10 @@
-//! The cases of an archive's file as people ask for them: `list`, and a case by its name.
+//! The cases of an archive's file as people ask for them: `list`, a case by its name, and what `retire` would drop.
 #![tactic(auto)]
 
 mod case_words;
+mod foreseen;
 mod listing;
 
 pub use case_words::{ask_case, extract_case, names_a_case};
+pub use foreseen::{foreseen_by, would_retire};
 pub use listing::{ListWords, list};

@@ -3,7 +3,7 @@ use crate::endings::Ending;
 use crate::list_words::list_words;
 use archive_files::{ArchivePath, CopyWords, NewArchive, Refusal, StoreWords, WordPart};
 use arrayvec::ArrayVec;
-use case_listing::{ListWords, names_a_case};
+use case_listing::{ListWords, foreseen_by, names_a_case};
 use clap::ArgMatches;
 use command_words::{is_text, line_of, program, push_escaped, push_text};
 use core_handler::{HandleWords, label_in};
@@ -67,6 +67,11 @@ pub(crate) enum Asked<'a> {
     AskCase {
         archive: ArchivePath<'a>,
         words: Vec<&'a str>,
+    },
+    // Which cases `retire` would drop.
+    WouldRetire {
+        archive: ArchivePath<'a>,
+        policy: Policy,
     },
     // The lines of the input that only look, and their replies.
     Look {
@@ -419,6 +424,9 @@ fn begins_core(line: &[u8]) -> bool {
 fn ask_words<'a>(alloc: Global, found: &ArgMatches<'a>) -> Result<Asked<'a>, Refusal> {
     let archive = place_of(found)?;
     let words = found.get_strs("words").unwrap_or(&[]);
+    if let Some(policy) = foreseen_by(alloc, words)? {
+        return Ok(Asked::WouldRetire { archive, policy });
+    }
     match question_of(alloc, found) {
         Ok(question) => Ok(Asked::Ask { archive, question }),
         Err(Refusal::NoLine(_)) if names_a_case(alloc, words)? => Ok(Asked::AskCase {

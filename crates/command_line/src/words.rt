@@ -8,7 +8,7 @@ use archive_files::{
     Access, ArchivePath, Collected, Failure, Refusal, StoreRequest, ask, check, copy_archive_file,
     look, make_archive, names_output, resize_archive_file, run_over, salvage, take_disk,
 };
-use case_listing::{ask_case, extract_case, list};
+use case_listing::{ask_case, extract_case, list, would_retire};
 use command_words::{
     Watched, asked_help, in_order, line_in_place_of_a_command, tell_help, tell_note, words_of,
 };
@@ -172,6 +172,7 @@ fn answer_asked<R: AllocGlobal + Files<File = File> + Clock, I: Read, O: Output>
         Asked::List { archive, wanted } => list(rt, archive, wanted, output),
         Asked::Ask { archive, question } => ask(rt, archive, question, output),
         Asked::AskCase { archive, words } => ask_case(rt, archive, &words, output),
+        Asked::WouldRetire { archive, policy } => would_retire(rt, archive, &policy, output),
         Asked::Look { archive } => look(rt, archive, &mut ReadInput::new(input), output),
         Asked::Check {
             archive,

@@ -9,6 +9,7 @@ pub(crate) const ASK_HELP: &str = "Lines (corekeep help LINE tells more):\n\
 \x20\x20unpin N                              keeps a case no longer\n\
 \x20\x20label N [TEXT]                       gives a case a label of at most 64 bytes, or none\n\
 \x20\x20retire [keep=K] [bytes=B] [before=T] deletes cases that are not pinned\n\
+\x20\x20would-retire [keep=K] ..              what `retire` would drop; nothing is changed\n\
 \x20\x20upgrade                              brings the archive to version 2 of the layout, which keeps labels\n\
 \x20\x20header N                             the file header and the program headers of a core or an executable\n\
 \x20\x20notes N                              the notes of a core\n\

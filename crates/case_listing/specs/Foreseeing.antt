@@ -1,0 +1,47 @@
+-- What is told of the cases that would go.
+use Rattle.std.specs.Prelude.{◌≡◌, ℕ, List, map, Option, Result, Ok, Err}
+use Rattle.archive_files.specs.declared.failures.Failure.{Failure}
+use Rattle.archive_files.specs.declared.failures.Failure.TheVariants.{Refused, Faulted}
+use Rattle.archive_files.specs.declared.failures.Refusal.TheVariants.{Open}
+use Rattle.archive_replies.specs.Texts.{retire_reply}
+use Rattle.disk_model.specs.declared.disk.Disk as disk
+use Rattle.inspector_cli.specs.declared.session.SessionFault.TheVariants.{WriteFailed}
+use Rattle.intake.specs.Calls.{OpenCall}
+use Rattle.intake.specs.Parts.{Parts, state_of}
+use Rattle.intake.specs.Step.{brief_of}
+use Rattle.journal_layout.specs.Case.{Case}
+use Rattle.journal_layout.specs.declared.faults.OpenFault.{OpenFault}
+use Rattle.retention.specs.Rule.{IsDecision}
+use Rattle.retention.specs.declared.Decision.{Decision}
+use Rattle.retention.specs.declared.Policy.{Policy}
+use Rattle.script_streams.specs.Telling.{IsDelivered}
+use Rattle.script_streams.specs.declared.streams.StreamFault.{StreamFault}
+
+-- the answer, by whether all of the reply was written
+abbrev pub sent_told : Result (Unit {0}) StreamFault → Result (Unit {0}) Failure
+sent_told (Ok u) = Ok u
+sent_told (Err fault) = Err (Faulted WriteFailed)
+
+-- The reply of `retire` goes to an output that had taken `before`.
+abbrev pub ForeseenTold : Decision → Option (List ℕ) → Option (List ℕ) → ℕ → ℕ → Result (Unit {0}) StreamFault → Type 0
+ForeseenTold d before after count count' sent = IsDelivered before count after count' (retire_reply (Ok d)) sent
+
+-- What the rule says of these cases is told, all of it or a front of it.
+abbrev pub IsForeseen : List Case → Policy → Option (List ℕ) → Option (List ℕ) → ℕ → ℕ → Result (Unit {0}) Failure → Type 0
+IsForeseen cases policy before after count count' r =
+    (d : Decision) × (sent : Result (Unit {0}) StreamFault) × IsDecision policy (map brief_of cases) d.dropped.items d.unmet × ForeseenTold d before after count count' sent × (r ≡ sent_told sent)
+
+-- the same, by the answer; where it is refused nothing is told
+abbrev pub ForeseenIn : List Case → Policy → Option (List ℕ) → Option (List ℕ) → ℕ → ℕ → Result (Unit {0}) Failure → Type 0
+ForeseenIn cases policy before after count count' (Err (Refused refusal)) = (after ≡ before) × (count' ≡ count)
+ForeseenIn cases policy before after count count' r = IsForeseen cases policy before after count count' r
+
+-- the same of an opening
+abbrev pub ForeseenOf : {D : Type 0} → Policy → Option (List ℕ) → Option (List ℕ) → ℕ → ℕ → Result (Parts D) (OpenFault × D) → Result (Unit {0}) Failure → Type 0
+ForeseenOf policy before after count count' (Ok a) r = ForeseenIn (state_of a).cases policy before after count count' r
+ForeseenOf policy before after count count' (Err (fault, d)) r = (r ≡ Err (Refused (Open fault))) × (after ≡ before) × (count' ≡ count)
+
+-- The archive on a disk is opened, and it is told which of its cases would go.
+abbrev pub Foresees : {D : Type 0} → disk.Ghosts D → Policy → Option (List ℕ) → Option (List ℕ) → ℕ → ℕ → D → Result (Unit {0}) Failure → Type 0
+Foresees {D} g policy before after count count' before_disk r =
+    (opened : Result (Parts D) (OpenFault × D)) × OpenCall g 0 before_disk opened × ForeseenOf policy before after count count' opened r

@@ -1,0 +1,162 @@
+// What would go if cases were retired.
+ghost use Rattle.std.specs.Prelude.{◌≡◌, ◌+◌, IfOk, IfSome, OnOk, Option, None, Some, Result, Ok, Err, false, map, true};
+ghost use Rattle.std.specs.List.Sorted.{IsStrictlyIncreasing};
+ghost use Rattle.case_listing.specs.Foreseeing.{Foresees, ForeseenIn, ForeseenTold, sent_told};
+ghost use Rattle.intake.specs.Parts.{state_of};
+ghost use Rattle.intake.specs.Retiring.{brief_of_entry};
+ghost use Rattle.retention.specs.Rule.{IsDecision, seq_of};
+ghost use Rattle.journal_layout.specs.Case.{case_of};
+
+use archive_files::{ArchivePath, Failure, Refusal, take_look};
+use archive_replies::tell_retired;
+use command_words::line_of;
+use disk_model::Disk;
+use inspector_cli::SessionFault;
+use intake::{Archive, Settings};
+use journal_layout::Entry;
+use retention::{Brief, Decision, Policy, decide};
+use script_lines::{Call, Question, parse_question};
+use script_streams::{Output, Reply, StreamFault};
+use std::alloc::{AllocError, Global};
+use std::fs::File;
+use std::rt::Files;
+
+/// By what cases would be retired, if these words ask for that: `would-retire`, and the words of `retire`.
+///
+/// # Errors
+///
+/// `NoLine` if the words of `retire` are wrong. `OutOfMemory` if there is no memory for the line.
+pub fn foreseen_by(alloc: Global, words: &[&str]) -> Result<Option<Policy>, Refusal> {
+    match words.first() {
+        Some(word) if *word == "would-retire" => Ok(Some(retired_by(alloc, words)?)),
+        _ => Ok(None),
+    }
+}
+
+// By what `retire` with the words after the first would go.
+fn retired_by(alloc: Global, words: &[&str]) -> Result<Policy, Refusal> {
+    match parse_question(&retire_line(alloc, words)?) {
+        Some(Question::Call(Call::Retire { policy })) => Ok(policy),
+        _ => Err(Refusal::NoLine("would-retire [keep=K] [bytes=B] [before=T]")),
+    }
+}
+
+// The line of `retire` with these words, but for the first.
+fn retire_line(alloc: Global, words: &[&str]) -> Result<Vec<u8>, AllocError> {
+    let mut line = Vec::new(alloc);
+    for (index, word) in words.iter().enumerate() {
+        line.push(if index == 0 { "retire" } else { *word })?;
+    }
+    line_of(alloc, &line)
+}
+
+/// Tells which cases `retire` would drop, as it would tell it, from a look at the archive. Nothing is changed.
+///
+/// # Errors
+///
+/// What `take_look` of `archive_files` and an opening are refused for. `OutOfMemory`: nothing is told. `WriteFailed` if the reply could
+/// not be written.
+pub fn would_retire<R: AllocGlobal + Files<File = File>, O: Output>(
+    rt: &R,
+    place: ArchivePath<'_>,
+    policy: &Policy,
+    output: &mut O,
+) -> Result<(), Failure> {
+    let looked = take_look(rt, place)?;
+    let alloc = rt.alloc();
+    let disk = looked.unlocked(Vec::new(alloc));
+    foresee(alloc, disk, policy, output)
+}
+
+// Opens the archive on a disk, and tells what the rule says of its cases.
+fn foresee<D: Disk + Drop, O: Output>(
+    alloc: Global,
+    disk: D,
+    policy: &Policy,
+    output: &mut O,
+) -> Result<(), Failure>
+    ensures { Foresees D.Disk policy.now (O.taken output.old) (O.taken output.new) (O.failures output.old) (O.failures output.new) disk result }
+{
+    match Archive::open(alloc, disk, Settings { limit: 0 }) {
+        Ok(archive) => foresee_in(alloc, &archive, policy, output),
+        Err((fault, _)) => Err(Failure::Refused(Refusal::Open(fault))),
+    }
+}
+
+// Tells what the rule says of an archive's cases.
+fn foresee_in<D: Disk, O: Output>(
+    alloc: Global,
+    archive: &Archive<D>,
+    policy: &Policy,
+    output: &mut O,
+) -> Result<(), Failure>
+    requires runs { archive.now.stopped ≡ false }
+    ensures { ForeseenIn (state_of archive.now).cases policy.now (O.taken output.old) (O.taken output.new) (O.failures output.old) (O.failures output.new) result }
+{
+    let cases = match archive.cases() {
+        Ok(cases) => cases,
+        Err(fault) => return Err(Failure::Refused(Refusal::Call(fault))),
+    };
+    match decided(alloc, cases, policy) {
+        Ok(Some(decision)) => tell_decision(decision, output),
+        Ok(None) => Err(Failure::Refused(Refusal::Disk)),
+        Err(_) => Err(Failure::Refused(Refusal::OutOfMemory)),
+    }
+}
+
+// Tells a decision, as `retire` tells it.
+fn tell_decision<O: Output>(decision: Decision, output: &mut O) -> Result<(), Failure>
+    ensures { (sent : Result (Unit {0}) StreamFault) × ForeseenTold decision (O.taken output.old) (O.taken output.new) (O.failures output.old) (O.failures output.new) sent × (result ≡ sent_told sent) }
+{
+    let mut reply = Reply::new(output);
+    tell_retired(&mut reply, Ok(decision));
+    sent_told(reply.finish())
+}
+
+fn sent_told(sent: Result<(), StreamFault>) -> Result<(), Failure>
+    ensures { result ≡ sent_told sent }
+{
+    match sent {
+        Ok(()) => Ok(()),
+        Err(_) => Err(Failure::Faulted(SessionFault::WriteFailed)),
+    }
+}
+
+// What the rule says of cases, if their numbers rise: an opening sees to it that they do.
+fn decided(alloc: Global, cases: &[Entry], policy: &Policy) -> Result<Option<Decision>, AllocError>
+    ensures { IfOk result (λ o. IfSome o (λ d. IsDecision policy.now (map brief_of_entry cases.now) d.dropped.items d.unmet)) }
+{
+    let briefs = briefs_of(alloc, cases)?;
+    if !are_rising(&briefs) {
+        return Ok(None);
+    }
+    Ok(Some(decide(alloc, &briefs, policy)?))
+}
+
+// What the rule looks at of the cases.
+fn briefs_of(alloc: Global, cases: &[Entry]) -> Result<Vec<Brief>, AllocError>
+    ensures { IfOk result (λ briefs. briefs.items ≡ map brief_of_entry cases.now) }
+{
+    let mut briefs = Vec::with_capacity(alloc, cases.len())?;
+    for entry in cases {
+        briefs.push(Brief {
+            seq: entry.seq,
+            time: entry.time,
+            length: entry.length,
+            pinned: entry.pinned,
+        })?;
+    }
+    Ok(briefs)
+}
+
+// Whether each number is above the one before it.
+fn are_rising(briefs: &[Brief]) -> bool
+    ensures { result ≡ true → IsStrictlyIncreasing (map seq_of briefs.now) }
+{
+    for i in 1..briefs.len() {
+        if briefs[i - 1].seq >= briefs[i].seq {
+            return false;
+        }
+    }
+    true
+}
