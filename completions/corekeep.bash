@@ -49,7 +49,7 @@ _corekeep() {
         ;;
     esac
     if [ "${COMP_WORDS[1]}" = ask ] && [ "$COMP_CWORD" -eq 3 ]; then
-        COMPREPLY=($(compgen -W "$lines" -- "$word"))
+        COMPREPLY=($(compgen -W "$lines would-retire" -- "$word"))
         return
     fi
     # A case: its number, or `last`.
