@@ -1,5 +1,5 @@
 -- What the program does over the archive on a disk, by the values that its words say.
-use Rattle.std.specs.Prelude.{◌≡◌, ◌⊎◌, ℕ, Bool, List, [], Option, None, Some, Result, Ok, Err}
+use Rattle.std.specs.Prelude.{◌≡◌, ◌⊎◌, ℕ, Bool, List, [], Option, None, Some, Result, Ok, Err, codes}
 use Rattle.std.specs.Io.KnownBytes.{Keeps}
 use Rattle.disk_model.specs.declared.disk.Disk as disk
 use Rattle.inspector_cli.specs.Asking.{AsksAlone, as_session, line_streams}
@@ -13,6 +13,7 @@ use Rattle.intake.specs.Parts.{Parts}
 use Rattle.intake.specs.State.{StreamFacts}
 use Rattle.script_lines.specs.Said.{Said, said}
 use Rattle.script_streams.specs.Lines.{IsLine}
+use Rattle.script_words.specs.Printing.{shown}
 use Rattle.stream_names.specs.Commands.{stream_found}
 use Rattle.stream_names.specs.declared.naming.Naming.{Naming}
 use Rattle.archive_files.specs.declared.failures.Failure.{Failure}
@@ -61,6 +62,11 @@ StoresOnDisk g request t before r after =
 abbrev pub reason_found : Result StreamFacts (List ℕ) → Option (List ℕ)
 reason_found (Ok stream) = None
 reason_found (Err reason) = Some reason
+
+-- the name of the case as it prints, or what it is if it has none
+abbrev pub name_found : Result StreamFacts (List ℕ) → List ℕ
+name_found (Ok stream) = shown stream.origin.name
+name_found (Err reason) = codes "a core"
 
 -- the same request, or without its policy
 abbrev pub IsFitted : StoreRequest → StoreRequest → Type 0

@@ -1,13 +1,15 @@
 // Whether the archive in a file is sound.
 ghost use Rattle.std.specs.Prelude.{◌≡◌};
-ghost use Rattle.archive_files.specs.Checks.{check_told};
+ghost use Rattle.archive_files.specs.Checks.{ChecksTaken, check_told};
 
 use crate::archive_path::ArchivePath;
 use crate::archives::{Access, take_disk};
 use crate::failures::{Failure, Refusal};
 use archive_checks::{CheckFault, check_archive};
+use disk_model::Disk;
 use inspector_cli::SessionFault;
 use script_streams::Output;
+use std::alloc::Global;
 use std::fs::File;
 use std::rt::Files;
 
@@ -19,9 +21,28 @@ pub fn check<R: AllocGlobal + Files<File = File>, O: Output>(
     sees_images: bool,
     output: &mut O,
 ) -> Result<(), Failure> {
-    let disk = take_disk(rt, place, Access::Looking)?;
-    let (checked, _) = check_archive(rt.alloc(), disk, sees_images, output);
-    check_told(checked)
+    let taken = take_disk(rt, place, Access::Looking);
+    let (checked, _) = check_taken(rt.alloc(), taken, sees_images, output);
+    checked
+}
+
+// Tells what the archive on the disk that was taken holds and that it is sound, or where it is damaged, and hands the disk on; or tells
+// why no disk was taken.
+fn check_taken<D: Disk, O: Output>(
+    alloc: Global,
+    taken: Result<D, Refusal>,
+    sees_images: bool,
+    output: &mut O,
+) -> (Result<(), Failure>, Option<D>)
+    ensures { ChecksTaken D.Disk sees_images (O.taken output.old) (O.taken output.new) (O.failures output.old) (O.failures output.new) taken result.0 result.1 }
+{
+    match taken {
+        Ok(disk) => {
+            let (checked, disk) = check_archive(alloc, disk, sees_images, output);
+            (check_told(checked), Some(disk))
+        }
+        Err(refusal) => (Err(Failure::Refused(refusal)), None),
+    }
 }
 
 // How it is told whether an archive is sound.

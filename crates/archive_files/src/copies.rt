@@ -45,7 +45,7 @@ pub fn copy_archive_file<R: AllocGlobal + Files<File = File>>(
     named.map_err(|fault| Refusal::File(FileWord::New, fault))
 }
 
-/// Copies the archive in a file into a file beside it, which takes its place once it is whole and durable. The archive's lock is held
+/// Copies the archive in a file into a file in the same folder, which takes its place once it is whole and durable. The archive's lock is held
 /// alone meanwhile: whoever waits for it finds the new file. The new file has the owner and the mode of the old one.
 pub fn resize_archive_file<R: AllocGlobal + Files<File = File>>(
     rt: &R,

@@ -1,4 +1,6 @@
 // Files that have their own name only once they are whole. Until then a file is called PATH.part.
+ghost use Rattle.std.specs.Prelude.{◌≡◌, ◌++◌, IfOk, codes, string_bytes};
+
 use disk_model::FileFault;
 use std::alloc::{AllocError, Global};
 use std::fs::{File, Metadata, Permissions, TryLockError};
@@ -12,7 +14,9 @@ use std::{fs, io};
 const OWNER_ALONE: u32 = 0o600;
 
 /// What a file is called until it is whole.
-pub fn part_of(alloc: Global, path: &str) -> Result<String, AllocError> {
+pub fn part_of(alloc: Global, path: &str) -> Result<String, AllocError>
+    ensures { IfOk result (λ part. string_bytes part ≡ path.now ++ codes ".part") }
+{
     let mut part = String::from_str(alloc, path)?;
     part.push_str(".part")?;
     Ok(part)

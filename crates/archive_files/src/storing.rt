@@ -6,7 +6,9 @@ ghost use Rattle.script_lines.specs.Said.{said};
 ghost use Rattle.stream_names.specs.Commands.{stream_found};
 ghost use Rattle.inspector_cli.specs.Session.{streams_of};
 ghost use Rattle.inspector_cli.specs.Storing.{line_stream};
-ghost use Rattle.archive_files.specs.OverDisks.{StoresOnDisk, StoresFile, IsFitted, reason_found};
+ghost use Rattle.script_streams.specs.Replies.{TellsText, telling};
+ghost use Rattle.archive_files.specs.OverDisks.{StoresOnDisk, StoresFile, IsFitted, name_found, reason_found};
+ghost use Rattle.archive_files.specs.Telling.{IsKeptAs};
 
 use crate::collected::Collected;
 use crate::failures::{Failure, Refusal};
@@ -85,13 +87,12 @@ impl StoreRequest {
     }
 
     /// The name of the case as it prints, or what it is if it has none.
-    pub fn printed_name(&self, alloc: Global) -> Collected {
+    pub fn printed_name(&self, alloc: Global) -> Collected
+        ensures { IsKeptAs (⟦<Collected as Output>⟧.taken result) (⟦<Collected as Output>⟧.failures result) (name_found (stream_found self.now.found)) }
+    {
         let mut name = Collected::new(alloc);
         let mut reply = Reply::new(&mut name);
-        match &self.found {
-            Ok(stream) => reply.tell_text(stream.name.as_slice()),
-            Err(_) => reply.tell(b"a core"),
-        }
+        tell_name(&mut reply, &self.found);
         let _ = reply.finish();
         name
     }
@@ -131,6 +132,16 @@ fn begins_well<I: BufRead>(request: &StoreRequest, input: &mut I) -> bool
     match input.fill_buf() {
         Ok(first) => !request.is_too_long(first.len() as u64),
         Err(_) => false,
+    }
+}
+
+// Tells the name that was found, or what has none.
+fn tell_name<O: Output>(reply: &mut Reply<'_, O>, found: &Result<NewStream, &'static [u8]>)
+    ensures { TellsText (telling O.Output reply.old reply.new) (name_found (stream_found found.now)) }
+{
+    match found {
+        Ok(stream) => reply.tell_text(stream.name.as_slice()),
+        Err(_) => reply.tell(b"a core"),
     }
 }
 

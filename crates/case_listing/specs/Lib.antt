@@ -1,1 +1,2 @@
 pub mod Foreseeing
+pub mod Naming

@@ -1,4 +1,9 @@
 // Cases as people name them, where a line of a script has their number.
+ghost use Rattle.std.specs.Prelude.{◌≡◌, false};
+ghost use Rattle.case_tables.specs.Named.{named_number};
+ghost use Rattle.intake.specs.Parts.{state_of};
+ghost use Rattle.case_listing.specs.Naming.{NamesOn, number_found};
+
 use archive_files::{ArchivePath, Failure, Refusal, ask, extract, take_look};
 use case_tables::number_named;
 use command_words::line_of;
@@ -49,13 +54,33 @@ fn number_of<R: AllocGlobal + Files<File = File>>(
     find_case(rt.alloc(), disk, word.as_bytes())
 }
 
-fn find_case<D: Disk + Drop>(alloc: Global, disk: D, word: &[u8]) -> Result<u32, Refusal> {
+// Opens the archive on a disk, and finds the number of the case that a word names.
+fn find_case<D: Disk + Drop>(alloc: Global, disk: D, word: &[u8]) -> Result<u32, Refusal>
+    ensures { NamesOn D.Disk word.now disk result }
+{
     match Archive::open(alloc, disk, Settings { limit: 0 }) {
-        Ok(archive) => match archive.cases() {
-            Ok(cases) => number_named(cases, word).ok_or(Refusal::Call(ArchiveFault::NoCase)),
-            Err(fault) => Err(Refusal::Call(fault)),
-        },
+        Ok(archive) => find_in(&archive, word),
         Err((fault, _)) => Err(Refusal::Open(fault)),
+    }
+}
+
+// The number of the case of an open archive that a word names.
+fn find_in<D: Disk>(archive: &Archive<D>, word: &[u8]) -> Result<u32, Refusal>
+    requires runs { archive.now.stopped ≡ false }
+    ensures { result ≡ number_found (named_number word.now (state_of archive.now).cases) }
+{
+    match archive.cases() {
+        Ok(cases) => number_found(number_named(cases, word)),
+        Err(fault) => Err(Refusal::Call(fault)),
+    }
+}
+
+fn number_found(number: Option<u32>) -> Result<u32, Refusal>
+    ensures { result ≡ number_found number }
+{
+    match number {
+        Some(number) => Ok(number),
+        None => Err(Refusal::Call(ArchiveFault::NoCase)),
     }
 }
 
