@@ -3,4 +3,5 @@ mod FindLemmas
 mod FrontLemmas
 mod PatchLemmas
 mod ReadLemmas
+mod ShutLemmas
 mod SightLemmas

@@ -98,6 +98,7 @@ pub sound_sees : (b : List ℕ) (u : Standing) → Stands b u → SeesArchive b 
 sound_sees b u stands = record {
   opens = (u, stands);
   sound = λ s there. (refl, refl);
+  faultless = λ none. refl;
   until = λ s fault until. absurd (stands_or_refused b u fault stands (until_refused b s fault until));
 }
 
@@ -106,5 +107,6 @@ pub faulty_sees : (b : List ℕ) (fault : OpenFault) (patch : Patch) → FindsPa
 faulty_sees b fault patch found = record {
   opens = found.0;
   sound = λ s there. absurd (stands_or_refused b s fault there found.1);
+  faultless = λ none. absurd (cc);
   until = λ s why until. let it = found.2 s why until in (ap (λ (f : OpenFault). Some f) (sym it.0), it.1);
 }

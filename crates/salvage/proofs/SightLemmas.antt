@@ -1,11 +1,16 @@
 -- Why the cases of an archive were not found.
-use Rattle.std.proofs.Common.{◌≡◌, inl, inr, ℕ, List, refl, Option, None, Some, Err}
+use Rattle.std.proofs.Common.{◌≡◌, ◌≢◌, inl, inr, ℕ, List, refl, ap, ◌∙◌, subst, Option, None, Some, Result, Ok, Err}
 use Rattle.case_journal.specs.Viewing.{Gives, IsOpenRefusal}
-use Rattle.journal_layout.specs.ReadingLaws.{stands_or_refused}
+use Rattle.journal_layout.specs.ReadingLaws.{stands_once, stands_or_refused}
+use Rattle.journal_layout.specs.Standing.{Standing}
+use Rattle.journal_layout.specs.Stands.{Stands}
 use Rattle.journal_layout.specs.declared.faults.OpenFault.{OpenFault}
 use Rattle.journal_layout.specs.declared.faults.OpenFault.TheVariants.{Disk, OutOfMemory, NotAnArchive, UnknownVersion, Damaged}
-use Rattle.salvage.specs.Finding.{IsShort, Opens}
+use Rattle.salvage.specs.Finding.{IsShort, Opens, SeesArchive}
+use Rattle.salvage.specs.Readings.{fault_by}
 use Rattle.salvage.specs.Showing.{shown}
+use Rattle.salvage.specs.Shut.{shut_gate}
+use Rattle.salvage.specs.declared.finding.Sight.{Sight}
 use Rattle.salvage.specs.declared.shown.Patch.{Patch}
 
 -- what opens is refused for want of the disk or of memory alone
@@ -23,5 +28,29 @@ refusal_short T NotAnArchive only = absurd only
 refusal_short T (UnknownVersion v) only = absurd only
 refusal_short T (Damaged at which) only = absurd only
 
-pub gate_sound : (o : Option ℕ) (gate : ℕ) → o ≡ None → o ≡ Some gate → ⊥
-gate_sound o gate none some = cc
+-- where a record is read on after, something is at fault
+pub gate_sound : (fault : Option OpenFault) (shut o : Option ℕ) (gate : ℕ) → (fault ≡ None → shut ≡ None → o ≡ None) → o ≡ Some gate → fault_by fault shut ≡ None → ⊥
+gate_sound fault None o gate is some sound = (let none = is sound refl in cc)
+gate_sound fault (Some g) o gate is some sound = cc
+
+pub same_ok : (o p : Option ℕ) → ◌≡◌ {A = Result (Option ℕ) OpenFault} (Ok o) (Ok p) → o ≡ p
+same_ok o p is = cc
+
+module _ (b : List ℕ) (sight : Sight) (u : Standing) (sees : SeesArchive b sight) (first : Stands (shown sight.patch b) u) where
+  first_stands : sight.fault ≡ None → Stands b u
+  first_stands none = subst (λ (p : Option Patch). Stands (shown p b) u) (sees.faultless none) first
+
+  -- the gate that is found is that of what stands
+  pub shut_found : (shut : Option ℕ) → (sight.fault ≡ None → Stands b u → shut ≡ shut_gate b u) → (s : Standing) → Stands b s → shut ≡ shut_gate b s
+  shut_found shut finds s stands =
+      let none = (sees.sound s stands).0 in
+      let there = first_stands none in
+      finds none there ∙ ap (shut_gate b) (stands_once b u s there stands)
+
+  -- why it was not looked for
+  pub shut_short : (fault : OpenFault) → (sight.fault ≡ None → Stands b u → IsShort fault) → (sight.fault ≢ None → ◌≡◌ {A = Result (Option ℕ) OpenFault} (Err fault) (Ok None)) → IsShort fault
+  shut_short fault finds refused = by_fault sight.fault refl
+    where
+      by_fault : (o : Option OpenFault) → sight.fault ≡ o → IsShort fault
+      by_fault None is = finds is (first_stands is)
+      by_fault (Some f) is = let not : sight.fault ≢ None = λ none. (cc) in let no = refused not in absurd (cc)

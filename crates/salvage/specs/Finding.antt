@@ -96,12 +96,12 @@ abbrev pub IsHalfFound : List ℕ → OpenFault → Result Patch OpenFault → T
 IsHalfFound b fault (Ok patch) = Opens b (Some patch)
 IsHalfFound b fault (Err f) = (f ≡ fault) ⊎ IsShort f
 
--- the gate of the first faulty record that is shown closed, if it is not behind this byte
+-- the gate of the first faulty record that is shown closed, if it is not after this byte
 abbrev pub IsRecordFound : List ℕ → ℕ → OpenFault → Result Patch OpenFault → Type 0
 IsRecordFound b at fault (Ok patch) = Opens b (Some patch) × GatesHave b (λ place. place ≤ at → Some patch ≡ closes place)
 IsRecordFound b at fault (Err f) = IsShort f ⊎ ((f ≡ fault) × GatesHave b (λ place. at < place))
 
--- the records up to the first faulty one do not stand alone: another part is at fault
+-- no record is the first to be at fault: another part is
 abbrev pub HasNoGate : List ℕ → Type 0
 HasNoGate b = (s : Standing) (fault : OpenFault) → StandsUntil b s fault → ⊥
 
@@ -117,6 +117,8 @@ pub record SeesArchive (b : List ℕ) (sight : Sight) : Type 0 where
   pub opens : Opens b sight.patch
   -- a sound archive is shown as it is
   pub sound : (s : Standing) → Stands b s → (sight.fault ≡ None) × (sight.patch ≡ None)
+  -- so is each whose opening is not refused
+  pub faultless : sight.fault ≡ None → sight.patch ≡ None
   -- where a record of the taken half is the first to be at fault, its gate is shown closed
   pub until : (s : Standing) (fault : OpenFault) → StandsUntil b s fault → (sight.fault ≡ Some fault) × (sight.patch ≡ closes (gate_of s))
 

@@ -95,7 +95,7 @@ module _ (b : List ℕ) (s : Standing) (fault : OpenFault) (until : StandsUntil 
       let found = until.found in
       cc
 
--- the headers of both halves have no place behind a header of one
+-- no byte after the header of one half is in the header of either
 pub header_spared : (s : Shape) (half other : Half) (g : ℕ) → IsWithinLimits s → half_start s half + 32 ≤ g → g < half_start s half + half_length s
     → (half_start s other + 32 ≤ g) ⊎ (g + 1 ≤ half_start s other)
 header_spared s A A g limits low high = inl low
@@ -230,7 +230,7 @@ module _ (b : List ℕ) (s u : Standing) (fault : OpenFault) (g : ℕ) (until : 
       let first = until.header in
       omega (arith, e, reach, start)
 
-  -- not that of the other: then what stands would stand without it
+  -- not the gate of the other half: closing that one changes no answer, and the opening would not be refused
   other_half_not : g ≡ half_start u.shape (other_half u.half) + u.used → ⊥
   other_half_not e =
       let head = stands.header in

@@ -1,5 +1,5 @@
 -- Laws of what is copied of an archive whose opening is refused.
-use Rattle.std.proofs.Common.{◌≡◌, inl, inr, ℕ, ◌+◌, ◌<◌, ◌≤◌, List, [], ◌∷◌, ◌++◌, length, take, refl, sym, ap, ◌∙◌, subst, arith, Option, None, Some}
+use Rattle.std.proofs.Common.{◌≡◌, inl, inr, ℕ, ◌+◌, ◌<◌, ◌≤◌, Bool, false, List, [], ◌∷◌, ◌++◌, length, slice_index, take, if◌then◌else◌, refl, sym, ap, ◌∙◌, subst, arith, Option, None, Some}
 use Rattle.disk_model.specs.Places.{part}
 use Rattle.intake.specs.Blocks.{block_bytes, block_start, image_in, joined}
 use Rattle.journal_layout.specs.Layout.{data_start, half_length, half_start}
@@ -11,15 +11,16 @@ use Rattle.journal_layout.specs.declared.shape.Half.{Half}
 use Rattle.journal_layout.specs.declared.shape.Half.TheVariants.{A, B}
 use Rattle.journal_layout.specs.declared.shape.Shape.{Shape}
 use Rattle.salvage.specs.Cases.{HasEach}
-use Rattle.salvage.specs.Copying.{bytes_by}
+use Rattle.salvage.specs.Copying.{bytes_by, found_bytes}
 use Rattle.salvage.specs.Finding.{StandsUntil, closes, gate_of}
 use Rattle.salvage.specs.FrontLaws.{part_other}
 use Rattle.salvage.specs.Fronts.{fronted}
 use Rattle.salvage.specs.GateLaws.{closed_stands, gate_high, gate_within}
-use Rattle.salvage.specs.Keeping.{KeepsCases, WhatStandsIsKept}
-use Rattle.salvage.specs.Readings.{SeesCases}
+use Rattle.salvage.specs.Keeping.{KeepsCases, WhatIsSoundIsCopied, WhatOpensIsKept, WhatStandsIsKept}
+use Rattle.salvage.specs.Readings.{IsMore, SeesCases, fault_by, first_fault}
 use Rattle.salvage.specs.ShowLaws.{part_unpatched}
 use Rattle.salvage.specs.Showing.{shown}
+use Rattle.salvage.specs.Shut.{is_shut}
 use Rattle.salvage.specs.declared.cases_found.Found.{Found}
 use Rattle.salvage.specs.declared.cases_found.More.{More}
 use Rattle.salvage.specs.declared.shown.Patch.{Patch}
@@ -40,6 +41,18 @@ images_same shape b c same blocks len = ap (take len) (joined_same shape b c sam
 before_data : (shape : Shape) (half : Half) (g : ℕ) → g < half_start shape half + half_length shape → g < data_start shape
 before_data shape A g high = omega (arith, high)
 before_data shape B g high = omega (arith, high)
+
+-- what is read after the first fault has the cases that precede it
+more_kept : (b : List ℕ) (first s : Standing) (m : More) → first ≡ s → IsMore b first m → KeepsCases b (fronted m.front.items b) s
+more_kept b first s m is it =
+    let front : length m.front.items ≡ data_start s.shape = it.front ∙ ap (λ (u : Standing). data_start u.shape) is in
+    record {
+      standing = m.journal.standing;
+      stands = it.stands;
+      shape = it.shape ∙ ap (λ (u : Standing). u.shape) is;
+      each = inr (subst (λ (u : Standing). HasEach m.journal.standing.cases u.cases) is it.each);
+      images = images_same s.shape b (fronted m.front.items b) (λ p n behind. part_other m.front.items b p n (omega (arith, front, behind)));
+    }
 
 module _ (b : List ℕ) (f : Found) (s : Standing) (fault : OpenFault) (sees : SeesCases b f) (until : StandsUntil b s fault) where
   patch_is : f.sight.patch ≡ closes (gate_of s)
@@ -63,22 +76,49 @@ module _ (b : List ℕ) (f : Found) (s : Standing) (fault : OpenFault) (sees : S
             (inr (omega (arith, behind, before_data s.shape s.half (gate_of s) (gate_high b s fault until)))));
       })
 
-  more_kept : (m : More) → f.more ≡ Some m → KeepsCases b (fronted m.front.items b) s
-  more_kept m is =
-      let it = sees.more m is in
-      let front : length m.front.items ≡ data_start s.shape = it.front ∙ ap (λ (u : Standing). data_start u.shape) first_is in
-      record {
-        standing = m.journal.standing;
-        stands = it.stands;
-        shape = it.shape ∙ ap (λ (u : Standing). u.shape) first_is;
-        each = inr (subst (λ (u : Standing). HasEach m.journal.standing.cases u.cases) first_is it.each);
-        images = images_same s.shape b (fronted m.front.items b) (λ p n behind. part_other m.front.items b p n (omega (arith, front, behind)));
-      }
-
   by_reading : (o : Option More) → f.more ≡ o → KeepsCases b (bytes_by o f.sight b) s
   by_reading None is = closed_kept
-  by_reading (Some m) is = more_kept m is
+  by_reading (Some m) is = more_kept b f.first.standing s m first_is (sees.more m is)
 
 -- the cases that stand before the first faulty record are kept
 pub what_stands_is_kept : WhatStandsIsKept
 what_stands_is_kept b f s fault sees until = by_reading b f s fault sees until f.more refl
+
+module _ (b : List ℕ) (f : Found) (s : Standing) (sees : SeesCases b f) (stands : Stands b s) where
+  faultless : f.sight.fault ≡ None
+  faultless = (sees.sees.sound s stands).0
+
+  unpatched : f.sight.patch ≡ None
+  unpatched = (sees.sees.sound s stands).1
+
+  first_found : f.first.standing ≡ s
+  first_found = stands_once b f.first.standing s (subst (λ (p : Option Patch). Stands (shown p b) f.first.standing) unpatched sees.first) stands
+
+  itself_kept : KeepsCases b (shown f.sight.patch b) s
+  itself_kept =
+      subst (λ (p : Option Patch). KeepsCases b (shown p b) s) (sym unpatched)
+      (record { standing = s; stands = stands; shape = refl; each = inl refl; images = λ blocks len. refl })
+
+  opening_kept : (o : Option More) → f.more ≡ o → KeepsCases b (bytes_by o f.sight b) s
+  opening_kept None is = itself_kept
+  opening_kept (Some m) is = more_kept b f.first.standing s m first_found (sees.more m is)
+
+  module _ (sound : is_shut (slice_index b (gate_of s)) ≡ false) where
+    unshut : f.shut ≡ None
+    unshut = sees.shut s stands ∙ ap (λ (t : Bool). if t then Some (gate_of s) else None) sound
+
+    nothing_at_fault : first_fault f ≡ None
+    nothing_at_fault = ap (fault_by f.sight.fault) unshut ∙ faultless
+
+    itself_copied : found_bytes f b ≡ b
+    itself_copied =
+        ap (λ (o : Option More). bytes_by o f.sight b) (sees.sound nothing_at_fault)
+        ∙ ap (λ (p : Option Patch). shown p b) unpatched
+
+-- the cases of an archive that opens are kept
+pub what_opens_is_kept : WhatOpensIsKept
+what_opens_is_kept b f s sees stands = opening_kept b f s sees stands f.more refl
+
+-- and it is copied as it is if the gate after its records is not damaged
+pub what_is_sound_is_copied : WhatIsSoundIsCopied
+what_is_sound_is_copied b f s sees stands sound = (itself_copied b f s sees stands sound, nothing_at_fault b f s sees stands sound)

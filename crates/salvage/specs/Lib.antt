@@ -10,5 +10,6 @@ pub mod KeptLaws
 pub mod Readings
 pub mod ShowLaws
 pub mod Showing
+pub mod Shut
 pub mod Texts
 pub mod Views

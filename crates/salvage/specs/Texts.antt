@@ -1,8 +1,10 @@
 -- The lines that a salvage tells.
-use Rattle.std.specs.Prelude.{ℕ, Bool, List, [], ◌∷◌, ◌++◌, Option, None, Some, codes, decimal, if◌then◌else◌}
+use Rattle.std.specs.Prelude.{ℕ, List, [], ◌∷◌, ◌++◌, Option, None, Some, codes, decimal}
 use Rattle.journal_layout.specs.FieldNames.{field_name}
 use Rattle.journal_layout.specs.declared.faults.OpenFault.{OpenFault}
 use Rattle.journal_layout.specs.declared.faults.OpenFault.TheVariants.{Disk, OutOfMemory, NotAnArchive, UnknownVersion, Damaged}
+use Rattle.salvage.specs.declared.telling.Mark.{Mark}
+use Rattle.salvage.specs.declared.telling.Mark.TheVariants.{Whole, Doubtful, Lost}
 use Rattle.script_words.specs.Printing.{shown}
 
 -- why an opening is refused
@@ -18,9 +20,11 @@ abbrev pub fault_line : Option OpenFault → List ℕ
 fault_line None = codes "sound\n"
 fault_line (Some fault) = codes "fault " ++ (fault_words fault ++ 10 ∷ [])
 
-abbrev pub mark_words : Bool → List ℕ
-mark_words whole = if whole then codes " whole " else codes " doubtful "
+abbrev pub mark_words : Mark → List ℕ
+mark_words Whole = codes " whole "
+mark_words Doubtful = codes " doubtful "
+mark_words Lost = codes " lost "
 
--- `N whole NAME`, or `N doubtful NAME`
-abbrev pub case_line : ℕ → Bool → List ℕ → List ℕ
-case_line seq whole name = decimal seq ++ (mark_words whole ++ (shown name ++ 10 ∷ []))
+-- `N whole NAME`, `N doubtful NAME` or `N lost NAME`
+abbrev pub case_line : ℕ → Mark → List ℕ → List ℕ
+case_line seq mark name = decimal seq ++ (mark_words mark ++ (shown name ++ 10 ∷ []))

@@ -1,19 +1,21 @@
-// The cases of an archive whose opening is refused: those before the first fault, and those behind it.
-ghost use Rattle.std.specs.Prelude.{◌≡◌, ◌≤◌, length, IfOk, IsTrue, None, Some, map};
+// The cases of a damaged archive: those before the first fault, and those after it.
+ghost use Rattle.std.specs.Prelude.{◌≡◌, ◌≢◌, ◌≤◌, length, IfOk, IsTrue, None, Ok, Some, map};
 ghost use Rattle.journal_layout.specs.Case.{case_of};
 ghost use Rattle.case_journal.specs.Viewing.{IsOpenRefusal};
 ghost use Rattle.journal_layout.specs.Layout.{data_start};
 ghost use Rattle.journal_layout.specs.Stands.{Stands};
-ghost use Rattle.salvage.specs.Cases.{HasEach};
+ghost use Rattle.salvage.specs.Cases.{HasCase, HasEach};
 ghost use Rattle.salvage.specs.Fronts.{fronted};
-ghost use Rattle.salvage.specs.Readings.{FindsCases, FoundWithin, IsNoOpening, IsWholeIn, StepTells, cases_by};
+ghost use Rattle.salvage.specs.Readings.{FindsCases, FoundWithin, IsNoOpening, IsWholeIn, StepTells, cases_by, first_fault, later_by};
+ghost use Rattle.salvage.specs.Shut.{IsShutFound};
 ghost use Rattle.salvage.specs.declared.cases_found.More.{More};
 
 use crate::cases::{has_case, has_each};
-use crate::finding::{Sight, find_sight, is_of_front, open_shown};
+use crate::finding::{GATE_OPEN, Sight, find_sight, is_of_front, open_shown};
 use crate::fronted::Fronted;
 use crate::mending::{keep_cases, mend};
 use crate::shown::Patch;
+use crate::shut::{find_shut, is_shut};
 use crate::source::Source;
 use case_journal::Journal;
 use journal_layout::{Entry, Field, Half, OpenFault, Shape};
@@ -25,7 +27,10 @@ const MOST_FAULTS: u32 = 1024;
 // The bytes of a half's header.
 const HEADER: u64 = 32;
 
-/// A reading that goes on behind the first fault: other bytes in place of the superblock and the journal, and the journal that they say.
+// The bytes of a record are so many times 16.
+const STEP: u64 = 16;
+
+/// A reading that goes on after the first fault: other bytes in place of the superblock and the journal, and the journal that they say.
 #[derive(Drop)]
 pub struct More {
     pub(crate) front: Vec<u8>,
@@ -37,9 +42,11 @@ pub struct More {
 pub struct Found {
     /// How the archive is read.
     pub sight: Sight,
-    // What stands before the first fault.
+    /// The gate after the records of an archive that opens, if it is damaged.
+    pub shut: Option<u64>,
+    // What the records before the first fault say.
     pub(crate) first: Journal,
-    // What is said by the records behind the first fault too, as far as they can be read.
+    // What the later records say too, as far as they can be read.
     on: Option<Journal>,
     // What is copied in its place where it has all its cases.
     pub(crate) more: Option<More>,
@@ -56,6 +63,26 @@ impl Found {
         }
     }
 
+    /// The cases that all records leave which can be read, if they go with one another.
+    pub(crate) fn later(&self) -> &[Entry]
+        ensures { map case_of result.now ≡ later_by self.now.on }
+    {
+        match &self.on {
+            Some(on) => on.entries(),
+            None => &[],
+        }
+    }
+
+    /// Whether a case is copied, with the same facts and the same blocks.
+    pub(crate) fn has(&self, entry: &Entry) -> bool
+        ensures { IsTrue result → HasCase (cases_by self.now.more self.now.first.standing) (case_of entry.now) }
+    {
+        match &self.more {
+            Some(more) => has_case(&more.journal, entry),
+            None => has_case(&self.first, entry),
+        }
+    }
+
     /// The shape of the archive.
     pub fn shape(&self) -> Shape
         ensures { result ≡ self.now.first.standing.shape }
@@ -63,11 +90,24 @@ impl Found {
         self.first.shape()
     }
 
-    /// Whether a case stands before the first fault, and no record that can be read behind it ends the case or takes its blocks.
+    /// Why the opening is refused. If it isn't, the damaged gate after the records, if there is one, as `Damaged` with the field `Gate`.
+    pub fn fault(&self) -> Option<OpenFault>
+        ensures { result ≡ first_fault self.now }
+    {
+        match self.shut {
+            Some(at) => Some(OpenFault::Damaged {
+                at,
+                field: Field::Gate,
+            }),
+            None => self.sight.fault,
+        }
+    }
+
+    /// Whether a case precedes the first fault, and no later record that can be read deletes the case or takes its blocks.
     pub fn is_whole(&self, entry: &Entry) -> bool
         ensures { IsTrue result → IsWholeIn self.now (case_of entry.now) }
     {
-        if self.sight.fault.is_none() {
+        if self.fault().is_none() {
             return true;
         }
         match &self.on {
@@ -117,6 +157,8 @@ fn read_front<S: Source>(alloc: Global, source: &S, shape: Shape) -> Result<Vec<
 enum Step {
     // They open.
     Opens(Journal),
+    // They open, and the gate after their records, which is here, is damaged.
+    Shut(u64),
     // The record whose gate is here is to be replaced; this is the number of the next case there, and whether it is a case that takes
     // the blocks or the name of another.
     Mends(u64, u64, bool),
@@ -164,17 +206,34 @@ fn nothing_more(fault: OpenFault) -> Result<Step, OpenFault>
     }
 }
 
-// Looks at an archive with other bytes in place of its first ones.
-fn look_on<S: Source>(alloc: Global, source: &S, front: &[u8]) -> Result<Step, OpenFault>
+// Looks at an archive with other bytes in place of its first ones. The half is the one that is taken.
+fn look_on<S: Source>(
+    alloc: Global,
+    source: &S,
+    front: &[u8],
+    half: Span,
+) -> Result<Step, OpenFault>
     requires { length front.now ≤ S.size source.now }
     ensures tells { IsTrue (S.is_honest source.now) → IfOk result (StepTells (fronted front.now (S.seen source.now))) }
     ensures only { IsOpenRefusal result }
 {
     let view = Fronted::new(source, front);
     match open_shown(alloc, &view, None) {
-        Ok(journal) => Ok(Step::Opens(journal)),
+        Ok(journal) => match shut_in(front, half, journal.use_bytes()) {
+            Some(gate) => Ok(Step::Shut(gate)),
+            None => Ok(Step::Opens(journal)),
+        },
         Err(OpenFault::OutOfMemory) => Err(OpenFault::OutOfMemory),
         Err(_) => find_mend(alloc, &view),
+    }
+}
+
+// The gate so many bytes after the begin of a half, if it is damaged.
+fn shut_in(front: &[u8], half: Span, used: u64) -> Option<u64> {
+    let gate = half.start.checked_add(used)?;
+    match front.get(gate as usize) {
+        Some(byte) if gate < half.end && is_shut(*byte) => Some(gate),
+        _ => None,
     }
 }
 
@@ -211,14 +270,28 @@ fn mend_half(front: &mut [u8], half: Span, gate: u64, next: u64) -> bool {
     true
 }
 
-// Reads on behind the faulty records of a half. With `keeps` a later case gives way that takes the blocks or the name of one which stands;
-// else nothing is read then, since the first faulty record may have ended that one.
+// Shows a gate of a half open. With `keeps`, the record of that gate deletes no case of this journal, and no later record does.
+fn open_gate(front: &mut [u8], half: Span, gate: u64, keeps: Option<&Journal>) {
+    put_open(front, gate);
+    if let Some(journal) = keeps {
+        keep_in(front, half, gate, journal);
+    }
+}
+
+fn put_open(front: &mut [u8], gate: u64) {
+    if let Some(byte) = front.get_mut(gate as usize) {
+        *byte = GATE_OPEN;
+    }
+}
+
+// Reads on after the faulty records of a half. With `keeps` a later case gives way that takes the blocks or the name of an earlier one;
+// else nothing is read then, since the first faulty record may have deleted the earlier one.
 fn read_on<S: Source>(
     alloc: Global,
     source: &S,
     front: Vec<u8>,
     half: Span,
-    keeps: bool,
+    keeps: Option<&Journal>,
 ) -> Result<Option<More>, OpenFault>
     requires { length front.items ≤ S.size source.now }
     ensures long { IfOk result (λ o. (m : More) → o ≡ Some m → length m.front.items ≡ length front.items) }
@@ -227,10 +300,11 @@ fn read_on<S: Source>(
 {
     let mut front = front;
     for turn in 0..MOST_FAULTS {
-        match look_on(alloc, source, &front)? {
+        match look_on(alloc, source, &front, half)? {
             Step::Opens(journal) => return Ok(Some(More { front, journal })),
+            Step::Shut(gate) => open_gate(&mut front, half, gate, keeps),
             Step::Mends(gate, next, takes) => {
-                if takes && turn > 0 && !keeps {
+                if takes && turn > 0 && keeps.is_none() {
                     return Ok(None);
                 }
                 if !mend_half(&mut front, half, gate, next) {
@@ -243,30 +317,29 @@ fn read_on<S: Source>(
     Ok(None)
 }
 
-// What is said by the records of an archive, the first faulty one and those like it replaced. With `keeps` no case is dropped that stands
-// before it.
+// What is said by the records of an archive of this shape, the faulty ones replaced from a gate on, and the damaged gates open. With
+// `keeps`, no record after that gate deletes a case of this journal.
 fn go_on<S: Source>(
     alloc: Global,
     source: &S,
-    first: &Journal,
+    shape: Shape,
     gate: u64,
-    keeps: bool,
+    keeps: Option<&Journal>,
 ) -> Result<Option<More>, OpenFault>
-    ensures long { IfOk result (λ o. (m : More) → o ≡ Some m → length m.front.items ≡ data_start first.now.standing.shape) }
+    ensures long { IfOk result (λ o. (m : More) → o ≡ Some m → length m.front.items ≡ data_start shape) }
     ensures within { IfOk result (λ o. (m : More) → o ≡ Some m → length m.front.items ≤ S.size source.now) }
     ensures stands { IsTrue (S.is_honest source.now) → IfOk result (λ o. (m : More) → o ≡ Some m → Stands (fronted m.front.items (S.seen source.now)) m.journal.standing) }
     ensures only { IsOpenRefusal result }
 {
-    let shape = first.shape();
     let mut front = read_front(alloc, source, shape)?;
     let half = half_with(shape, gate);
-    if keeps {
-        keep_in(&mut front, half, gate, first);
+    if let Some(journal) = keeps {
+        keep_in(&mut front, half, gate.saturating_add(STEP), journal);
     }
     read_on(alloc, source, front, half, keeps)
 }
 
-// Replaces the Drop records of a half behind a gate that name a case of a journal.
+// Replaces the Drop records of a half, from a gate on, that name a case of a journal.
 fn keep_in(front: &mut [u8], half: Span, gate: u64, journal: &Journal) {
     let end = half.end;
     if half.start > gate || end <= half.start || end > front.len() as u64 {
@@ -301,27 +374,59 @@ fn journal_in(more: Option<More>) -> Option<Journal> {
     }
 }
 
-/// Finds the cases of an archive. Those of a sound archive are as its opening finds them. Where a record of the taken half is the
-/// first to be at fault, they are those that the records before it leave, and those of the records behind it that can be read and
-/// go with them. Where the header of a half is at fault, they are those of the half that opens. Answers as `find_sight` does.
+// The gate after which the records of an archive are read on: that of the first faulty record, or the damaged one after the records.
+fn first_gate(sight: Sight, shut: Option<u64>) -> Option<u64>
+    ensures { sight.fault ≡ None → shut ≡ None → result ≡ None }
+{
+    match shut {
+        Some(gate) => Some(gate),
+        None => faulty_gate(sight),
+    }
+}
+
+// The damaged gate after the records of an archive that opens.
+fn shut_of<S: Source>(
+    alloc: Global,
+    source: &S,
+    sight: Sight,
+    first: &Journal,
+) -> Result<Option<u64>, OpenFault>
+    ensures finds { IsTrue (S.is_honest source.now) → sight.fault ≡ None → Stands (S.seen source.now) first.now.standing
+        → IsShutFound (S.seen source.now) first.now.standing result }
+    ensures refused { sight.fault ≢ None → result ≡ Ok None }
+{
+    if sight.fault.is_some() {
+        return Ok(None);
+    }
+    find_shut(alloc, source, first)
+}
+
+/// Finds the cases of an archive. Those of a sound archive are as its opening finds them. If a record of the taken half is the first to
+/// be at fault, they are those that the records before it leave, and those of later records that can be read and go with them. So are
+/// they if the archive opens and the gate after its records is damaged. If the header of a half is at fault, they are those of the half
+/// that opens. Answers as `find_sight` does.
 pub fn find_cases<S: Source>(alloc: Global, source: &S) -> Result<Found, OpenFault>
     ensures within { IfOk result (FoundWithin (S.size source.now)) }
     ensures finds { IsTrue (S.is_honest source.now) → FindsCases (S.seen source.now) result }
 {
     let sight = find_sight(alloc, source)?;
     let first = open_shown(alloc, source, sight.patch)?;
-    let Some(gate) = faulty_gate(sight) else {
+    let shut = shut_of(alloc, source, sight, &first)?;
+    let Some(gate) = first_gate(sight, shut) else {
         return Ok(Found {
             sight,
+            shut,
             first,
             on: None,
             more: None,
         });
     };
-    let on = journal_in(go_on(alloc, source, &first, gate, false)?);
-    let more = having_each(go_on(alloc, source, &first, gate, true)?, &first);
+    let shape = first.shape();
+    let on = journal_in(go_on(alloc, source, shape, gate, None)?);
+    let more = having_each(go_on(alloc, source, shape, gate, Some(&first))?, &first);
     Ok(Found {
         sight,
+        shut,
         first,
         on,
         more,

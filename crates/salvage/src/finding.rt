@@ -22,7 +22,7 @@ const STEP: u64 = 16;
 pub struct Sight {
     /// Why its opening is refused, if it is.
     pub fault: Option<OpenFault>,
-    /// The byte that is shown as another, so that what stands before the fault opens.
+    /// The byte that is shown as another, so that what precedes the fault opens.
     pub patch: Option<Patch>,
 }
 
@@ -51,7 +51,7 @@ fn ends_at(journal: &Journal, gate: u64) -> bool
         || is_behind(shape.half_start(Half::B), used, gate)
 }
 
-// Whether a place lies so many bytes behind another.
+// Whether a place lies so many bytes after another.
 fn is_behind(start: u64, count: u64, place: u64) -> bool
     ensures { IsTrue result ↔ place ≡ start + count }
 {
@@ -70,8 +70,8 @@ fn is_gate<S: Source>(alloc: Global, source: &S, gate: u64) -> Result<bool, Open
     }
 }
 
-// Nothing is found where an opening is refused, unless for want of memory or of the disk.
-fn not_found(fault: OpenFault) -> Result<bool, OpenFault>
+/// Nothing is found if an opening is refused, unless it is refused for want of memory or of the disk.
+pub(crate) fn not_found(fault: OpenFault) -> Result<bool, OpenFault>
     ensures { result ≡ not_found fault }
 {
     match fault {
@@ -81,7 +81,7 @@ fn not_found(fault: OpenFault) -> Result<bool, OpenFault>
     }
 }
 
-// The last such place that is not behind a byte.
+// The last such place up to a byte.
 fn find_gate<S: Source>(alloc: Global, source: &S, at: u64) -> Result<Option<u64>, OpenFault>
     requires { at < S.size source.now }
     ensures within { IfOk result (λ gate. patched_within (S.size source.now) gate) }

@@ -1,4 +1,4 @@
-//! An archive whose opening is refused: where its first faulty record is, and a copy of the cases before it.
+//! A damaged archive: where its first faulty record or gate is, and a copy of the cases that can still be read.
 #![tactic(auto)]
 
 mod cases;
@@ -9,6 +9,7 @@ mod fronted;
 mod laws;
 mod mending;
 mod shown;
+mod shut;
 mod source;
 mod telling;
 
@@ -16,7 +17,7 @@ pub use cases_found::{Found, More, find_cases};
 pub use copying::{copy_cases, copy_shown};
 pub use finding::{Sight, find_sight};
 pub use fronted::Fronted;
-pub use laws::what_stands_is_kept;
+pub use laws::{what_opens_is_kept, what_stands_is_kept};
 pub use shown::{Patch, Shown};
 pub use source::Source;
 pub use telling::tell_cases;

@@ -1,4 +1,4 @@
-// Records that nobody can read, replaced by others that say nothing, so that those behind them are read.
+// Records that nobody can read, replaced by others that say nothing, so that those after them are read.
 ghost use Rattle.std.specs.Prelude.{◌≡◌, ◌+◌, ◌<◌, ◌≤◌, length};
 
 use crate::finding::GATE_OPEN;
@@ -49,7 +49,7 @@ fn length_at(half: &[u8], place: usize) -> usize {
     length
 }
 
-// The first place behind a gate where a record may begin.
+// The first place after a gate where a record may begin.
 fn next_begin(half: &[u8], gate: usize) -> Option<usize> {
     for step in 0..half.len() / STEP {
         let place = gate.saturating_add(STEP + STEP * step);
@@ -110,10 +110,10 @@ fn drops_one(half: &[u8], place: usize, length: usize, journal: &Journal) -> boo
     false
 }
 
-/// Replaces each Drop record behind a gate of a half that names a case of a journal by records that say nothing.
+/// Replaces each Drop record of a half, from a gate on, that names a case of a journal by records that say nothing.
 pub(crate) fn keep_cases(half: &mut [u8], gate: usize, journal: &Journal) {
     for step in 0..half.len() / STEP {
-        let place = gate.saturating_add(STEP + STEP * step);
+        let place = gate.saturating_add(STEP * step);
         let length = length_at(half, place);
         if length > 0 && is_drop(half, place) && drops_one(half, place, length, journal) {
             fill(half, place, length, journal.next_seq());
