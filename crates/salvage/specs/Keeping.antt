@@ -1,14 +1,14 @@
 -- What becomes of the cases that precede the first fault.
-use Rattle.std.specs.Prelude.{◌≡◌, ◌⊎◌, false, List, ℕ, None, slice_index}
+use Rattle.std.specs.Prelude.{◌≡◌, ◌⊎◌, List, ℕ, None}
 use Rattle.intake.specs.Blocks.{image_in}
 use Rattle.journal_layout.specs.Standing.{Standing}
 use Rattle.journal_layout.specs.Stands.{Stands}
 use Rattle.journal_layout.specs.declared.faults.OpenFault.{OpenFault}
 use Rattle.salvage.specs.Cases.{HasEach}
 use Rattle.salvage.specs.Copying.{found_bytes}
-use Rattle.salvage.specs.Finding.{StandsUntil, gate_of}
+use Rattle.salvage.specs.Finding.{StandsUntil}
 use Rattle.salvage.specs.Readings.{SeesCases, first_fault}
-use Rattle.salvage.specs.Shut.{is_shut}
+use Rattle.salvage.specs.Shut.{shut_gate}
 use Rattle.salvage.specs.declared.cases_found.Found.{Found}
 
 -- Of an archive's bytes others were made, as an archive stands that has each of these cases, with the same facts and the same blocks,
@@ -25,12 +25,12 @@ abbrev pub WhatStandsIsKept : Type 0
 WhatStandsIsKept =
     (b : List ℕ) (f : Found) (s : Standing) (fault : OpenFault) → SeesCases b f → StandsUntil b s fault → KeepsCases b (found_bytes f b) s
 
--- The cases of an archive that opens are kept in what is copied, whether the gate after its records is damaged or not.
+-- The cases of an archive that opens are kept in what is copied, whether a gate of it is damaged or not.
 abbrev pub WhatOpensIsKept : Type 0
 WhatOpensIsKept = (b : List ℕ) (f : Found) (s : Standing) → SeesCases b f → Stands b s → KeepsCases b (found_bytes f b) s
 
--- If that gate is not damaged, the archive itself is copied, and nothing is told to be at fault.
+-- If no gate is damaged, neither of a half nor after the records, the archive itself is copied, and nothing is told to be at fault.
 abbrev pub WhatIsSoundIsCopied : Type 0
 WhatIsSoundIsCopied =
-    (b : List ℕ) (f : Found) (s : Standing) → SeesCases b f → Stands b s → is_shut (slice_index b (gate_of s)) ≡ false
+    (b : List ℕ) (f : Found) (s : Standing) → SeesCases b f → Stands b s → shut_gate b s ≡ None
     → (found_bytes f b ≡ b) × (first_fault f ≡ None)

@@ -1,5 +1,5 @@
 -- Laws of what is copied of an archive whose opening is refused.
-use Rattle.std.proofs.Common.{◌≡◌, inl, inr, ℕ, ◌+◌, ◌<◌, ◌≤◌, Bool, false, List, [], ◌∷◌, ◌++◌, length, slice_index, take, if◌then◌else◌, refl, sym, ap, ◌∙◌, subst, arith, Option, None, Some}
+use Rattle.std.proofs.Common.{◌≡◌, inl, inr, ℕ, ◌+◌, ◌<◌, ◌≤◌, List, [], ◌∷◌, ◌++◌, length, take, refl, sym, ap, ◌∙◌, subst, arith, Option, None, Some}
 use Rattle.disk_model.specs.Places.{part}
 use Rattle.intake.specs.Blocks.{block_bytes, block_start, image_in, joined}
 use Rattle.journal_layout.specs.Layout.{data_start, half_length, half_start}
@@ -20,7 +20,7 @@ use Rattle.salvage.specs.Keeping.{KeepsCases, WhatIsSoundIsCopied, WhatOpensIsKe
 use Rattle.salvage.specs.Readings.{IsMore, SeesCases, fault_by, first_fault}
 use Rattle.salvage.specs.ShowLaws.{part_unpatched}
 use Rattle.salvage.specs.Showing.{shown}
-use Rattle.salvage.specs.Shut.{is_shut}
+use Rattle.salvage.specs.Shut.{shut_gate}
 use Rattle.salvage.specs.declared.cases_found.Found.{Found}
 use Rattle.salvage.specs.declared.cases_found.More.{More}
 use Rattle.salvage.specs.declared.shown.Patch.{Patch}
@@ -103,9 +103,9 @@ module _ (b : List ℕ) (f : Found) (s : Standing) (sees : SeesCases b f) (stand
   opening_kept None is = itself_kept
   opening_kept (Some m) is = more_kept b f.first.standing s m first_found (sees.more m is)
 
-  module _ (sound : is_shut (slice_index b (gate_of s)) ≡ false) where
+  module _ (sound : shut_gate b s ≡ None) where
     unshut : f.shut ≡ None
-    unshut = sees.shut s stands ∙ ap (λ (t : Bool). if t then Some (gate_of s) else None) sound
+    unshut = sees.shut s stands ∙ sound
 
     nothing_at_fault : first_fault f ≡ None
     nothing_at_fault = ap (fault_by f.sight.fault) unshut ∙ faultless
@@ -119,6 +119,6 @@ module _ (b : List ℕ) (f : Found) (s : Standing) (sees : SeesCases b f) (stand
 pub what_opens_is_kept : WhatOpensIsKept
 what_opens_is_kept b f s sees stands = opening_kept b f s sees stands f.more refl
 
--- and it is copied as it is if the gate after its records is not damaged
+-- and it is copied as it is if no gate of it is damaged
 pub what_is_sound_is_copied : WhatIsSoundIsCopied
 what_is_sound_is_copied b f s sees stands sound = (itself_copied b f s sees stands sound, nothing_at_fault b f s sees stands sound)

@@ -39,7 +39,7 @@ pub record IsMore (b : List ℕ) (first : Standing) (m : More) : Type 0 where
   pub each : HasEach m.journal.standing.cases first.cases
   pub shape : m.journal.standing.shape ≡ first.shape
 
--- Why the opening is refused, or the damaged gate after the records of an archive that opens.
+-- Why the opening is refused, or the damaged gate of an archive that opens.
 abbrev pub fault_by : Option OpenFault → Option ℕ → Option OpenFault
 fault_by fault None = fault
 fault_by fault (Some gate) = Some (Damaged gate Gate)
@@ -54,11 +54,11 @@ pub record SeesCases (b : List ℕ) (f : Found) : Type 0 where
   pub first : Stands (shown f.sight.patch b) f.first.standing
   -- what is copied in its place, if anything is
   pub more : (m : More) → f.more ≡ Some m → IsMore b f.first.standing m
-  -- of an archive that stands, the gate after its records, if it is damaged
+  -- of an archive that stands, the first damaged gate
   pub shut : (s : Standing) → Stands b s → f.shut ≡ shut_gate b s
   -- and of no other
   pub refused : f.sight.fault ≢ None → f.shut ≡ None
-  -- a sound archive whose gate is not damaged is read as it is
+  -- a sound archive of which no gate is damaged is read as it is
   pub sound : first_fault f ≡ None → f.more ≡ None
 
 abbrev pub FindsCases : List ℕ → Result Found OpenFault → Type 0

@@ -42,7 +42,7 @@ pub struct More {
 pub struct Found {
     /// How the archive is read.
     pub sight: Sight,
-    /// The gate after the records of an archive that opens, if it is damaged.
+    /// The first damaged gate of an archive that opens: that of a half, or else that after its records.
     pub shut: Option<u64>,
     // What the records before the first fault say.
     pub(crate) first: Journal,
@@ -90,7 +90,7 @@ impl Found {
         self.first.shape()
     }
 
-    /// Why the opening is refused. If it isn't, the damaged gate after the records, if there is one, as `Damaged` with the field `Gate`.
+    /// Why the opening is refused. If it isn't, the damaged gate, if there is one, as `Damaged` with the field `Gate`.
     pub fn fault(&self) -> Option<OpenFault>
         ensures { result ≡ first_fault self.now }
     {
@@ -333,6 +333,9 @@ fn go_on<S: Source>(
 {
     let mut front = read_front(alloc, source, shape)?;
     let half = half_with(shape, gate);
+    if gate == half.start {
+        put_open(&mut front, gate);
+    }
     if let Some(journal) = keeps {
         keep_in(&mut front, half, gate.saturating_add(STEP), journal);
     }
@@ -374,7 +377,7 @@ fn journal_in(more: Option<More>) -> Option<Journal> {
     }
 }
 
-// The gate after which the records of an archive are read on: that of the first faulty record, or the damaged one after the records.
+// The gate after which the records of an archive are read on: that of the first faulty record, or the damaged one.
 fn first_gate(sight: Sight, shut: Option<u64>) -> Option<u64>
     ensures { sight.fault ≡ None → shut ≡ None → result ≡ None }
 {
@@ -384,7 +387,7 @@ fn first_gate(sight: Sight, shut: Option<u64>) -> Option<u64>
     }
 }
 
-// The damaged gate after the records of an archive that opens.
+// The damaged gate of an archive that opens.
 fn shut_of<S: Source>(
     alloc: Global,
     source: &S,
@@ -403,8 +406,8 @@ fn shut_of<S: Source>(
 
 /// Finds the cases of an archive. Those of a sound archive are as its opening finds them. If a record of the taken half is the first to
 /// be at fault, they are those that the records before it leave, and those of later records that can be read and go with them. So are
-/// they if the archive opens and the gate after its records is damaged. If the header of a half is at fault, they are those of the half
-/// that opens. Answers as `find_sight` does.
+/// they if the archive opens and the gate after its records is damaged; or that of a half, whose records are read then. If the header of
+/// a half is at fault, they are those of the half that opens. Answers as `find_sight` does.
 pub fn find_cases<S: Source>(alloc: Global, source: &S) -> Result<Found, OpenFault>
     ensures within { IfOk result (FoundWithin (S.size source.now)) }
     ensures finds { IsTrue (S.is_honest source.now) → FindsCases (S.seen source.now) result }

@@ -7,8 +7,8 @@ pub fn what_stands_is_kept()
     ensures { WhatStandsIsKept }
 {}
 
-/// The cases of an archive that opens are kept in what is copied so too. If the gate after its records is not damaged, the archive
-/// itself is copied, and no fault is told.
+/// The cases of an archive that opens are kept in what is copied so too. If no gate is damaged, neither of a half nor after the records,
+/// the archive itself is copied, and no fault is told.
 pub fn what_opens_is_kept()
     ensures kept { WhatOpensIsKept }
     ensures sound { WhatIsSoundIsCopied }

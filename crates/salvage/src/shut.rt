@@ -1,7 +1,7 @@
-// The gate after the records of an archive that opens, where it is damaged.
+// The gates of an archive that opens, if they are damaged: those of its halves, and the one after its records.
 ghost use Rattle.std.specs.Prelude.{◌≡◌, ◌<◌, IsTrue};
 ghost use Rattle.journal_layout.specs.Stands.{Stands};
-ghost use Rattle.salvage.specs.Shut.{EndsThere, IsByteRead, IsShutAt, IsShutFound, is_shut};
+ghost use Rattle.salvage.specs.Shut.{EndsThere, IsByteRead, IsHalfShut, IsLastShut, IsShutAt, IsShutFound, is_shut};
 
 use crate::finding::{GATE_OPEN, not_found, open_shown};
 use crate::shown::Patch;
@@ -67,7 +67,20 @@ fn shut_at<S: Source>(
     Ok(Some(gate))
 }
 
-/// The gate after the records of an archive that opens, if it is damaged.
+// The gate of a half that begins at a place, if it is damaged.
+fn half_shut<S: Source>(source: &S, start: u64) -> Result<Option<u64>, OpenFault>
+    ensures { IsTrue (S.is_honest source.now) → IsHalfShut (S.seen source.now) start result }
+{
+    if start >= source.length() {
+        return Ok(None);
+    }
+    if is_shut(read_byte(source, start)?) {
+        return Ok(Some(start));
+    }
+    Ok(None)
+}
+
+/// The first damaged gate of an archive that opens: that of a half, or else that after its records.
 pub(crate) fn find_shut<S: Source>(
     alloc: Global,
     source: &S,
@@ -75,6 +88,27 @@ pub(crate) fn find_shut<S: Source>(
 ) -> Result<Option<u64>, OpenFault>
     ensures { IsTrue (S.is_honest source.now) → Stands (S.seen source.now) first.now.standing
         → IsShutFound (S.seen source.now) first.now.standing result }
+{
+    let shape = first.shape();
+    let found = half_shut(source, shape.half_start(Half::A))?;
+    if found.is_some() {
+        return Ok(found);
+    }
+    let other = half_shut(source, shape.half_start(Half::B))?;
+    if other.is_some() {
+        return Ok(other);
+    }
+    last_shut(alloc, source, first)
+}
+
+// The gate after the records of an archive that opens, if it is damaged.
+fn last_shut<S: Source>(
+    alloc: Global,
+    source: &S,
+    first: &Journal,
+) -> Result<Option<u64>, OpenFault>
+    ensures { IsTrue (S.is_honest source.now) → Stands (S.seen source.now) first.now.standing
+        → IsLastShut (S.seen source.now) first.now.standing result }
 {
     let shape = first.shape();
     let used = first.use_bytes();
