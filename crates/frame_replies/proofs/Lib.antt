@@ -1,4 +1,5 @@
 pub mod TellLemmas
 pub mod RegisterLemmas
 pub mod AnswerLemmas
+pub mod LineLemmas
 pub mod ShownLemmas

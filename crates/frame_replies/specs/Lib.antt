@@ -4,3 +4,5 @@ pub mod Known
 pub mod FrameLines
 pub mod FrameRegisters
 pub mod Shown
+pub mod Walking
+pub mod WalkLaws

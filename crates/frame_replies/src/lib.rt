@@ -9,10 +9,14 @@ mod executables;
 mod known;
 mod laws;
 mod lines;
+mod process;
 mod refused;
 mod registers;
 mod stops;
+mod walk;
 
 pub use laws::each_frame_shown_stands_on_a_rule;
-pub use lines::tell_unwind;
-pub use registers::tell_frame;
+pub use lines::{tell_unwind, tell_walked};
+pub use process::UnwoundProcess;
+pub use registers::{tell_frame, tell_walked_frame};
+pub use walk::{Walk, WalkFault};

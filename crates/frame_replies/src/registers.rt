@@ -1,23 +1,27 @@
 // The registers of a frame.
-ghost use Rattle.std.specs.Prelude.{◌≡◌, ◌<◌, is_ok, map, slice_get};
-ghost use Rattle.script_streams.specs.Replies.{TellsReply, TellsText, reply_of, telling};
+ghost use Rattle.std.specs.Prelude.{◌≡◌, ◌<◌, ℕ, List, map, slice_get};
+ghost use Rattle.script_streams.specs.Replies.{TellsReply, TellsText, telling};
+ghost use Rattle.address_space.specs.Source.{ExecutableView};
 ghost use Rattle.image_replies.specs.CoreWords.{core_bytes};
 ghost use Rattle.image_replies.specs.Threads.{register_name};
 ghost use Rattle.memory_replies.specs.Answers.{AnswersWith};
 ghost use Rattle.memory_replies.specs.Memory.{attached_view};
-ghost use Rattle.unwind.specs.FrameWords.{frames_left};
+ghost use Rattle.unwind.specs.declared.faults.Stop as stops;
 ghost use Rattle.frame_replies.specs.FrameRegisters as spec;
+ghost use Rattle.frame_replies.specs.Walking as walks;
+ghost use Rattle.frame_replies.specs.declared.process.UnwoundProcess as processes;
 
-use crate::executables::{all_described, lent};
 use crate::known::tell_known;
+use crate::process::UnwoundProcess;
 use crate::refused::tell_no_memory;
+use crate::walk::Walk;
 use address_space::Attached;
 use image_replies::CoreImage;
-use memory_replies::{Outcome, space_with};
+use memory_replies::Outcome;
 use script_streams::{Output, Reply, tell_no, tell_ok};
 use std::alloc::Global;
-use thread_regs::{Reg, threads};
-use unwind::{Frame, Frames};
+use thread_regs::Reg;
+use unwind::Frame;
 
 /// The name in the psABI of the register that a word of a thread's state holds.
 fn register_name(word: usize) -> &'static str
@@ -57,15 +61,12 @@ fn tell_registers<O: Output>(reply: &mut Reply<'_, O>, frame: &Frame)
     }
 }
 
-/// The frame that is `index` places on, or `None` where there are fewer.
-fn frame_at(frames: Frames<'_, '_, '_, '_>, index: u64) -> Option<Frame>
-    ensures { result ≡ slice_get (frames_left frames.entry) index }
+/// The frame of that number, or `None` where fewer were found.
+fn frame_at(walk: &Walk, index: u64) -> Option<Frame>
+    ensures { result ≡ slice_get (walks.found walk.now.frames.items) index }
 {
-    let mut left = frames;
-    for _place in 0..index {
-        left.next()?;
-    }
-    left.next()
+    let walked = walk.frames.get(index as usize)?;
+    Some(walked.frame)
 }
 
 /// Tells the registers of a frame, if it is there. Says whether it is.
@@ -85,9 +86,18 @@ fn tell_registers_of<O: Output>(reply: &mut Reply<'_, O>, frame: Option<Frame>) 
     }
 }
 
-/// Tells what is known of the registers of a frame of a core's thread, by its number among those that [`crate::tell_unwind`] tells:
-/// `NAME h`, or `NAME ?` for a register that is not known. A core with fewer threads is answered by `no NoThread`, a thread with
-/// fewer frames by `no NoFrame`. Says what became of it.
+/// Tells what is known of the registers of a frame of a thread, all of whose frames a walk has found, by its number: `NAME h`, or
+/// `NAME ?` for a register that is not known. A thread with fewer frames is answered by `no NoFrame`. Says what became of it.
+pub fn tell_walked_frame<O: Output>(reply: &mut Reply<'_, O>, walk: &Walk, frame: u64) -> Outcome
+    ensures { (image : List ℕ) (executables : List ExecutableView) (thread : ℕ) (process : processes.UnwoundProcess) (stop : stops.Stop)
+        → walks.IsWalkOf image executables thread process walk.now → walks.HasFound walk.now stop
+        → TellsReply (telling O.Output reply.old reply.new) (AnswersWith result (spec.frame_answer image executables thread frame)) }
+{
+    tell_registers_of(reply, frame_at(walk, frame))
+}
+
+/// Tells what is known of the registers of a frame of a core's thread, by its number among those that [`crate::tell_unwind`] tells,
+/// as [`tell_walked_frame`] does. A core with fewer threads is answered by `no NoThread`. Says what became of it.
 pub fn tell_frame<O: Output>(
     alloc: Global,
     reply: &mut Reply<'_, O>,
@@ -99,21 +109,18 @@ pub fn tell_frame<O: Output>(
     ensures { TellsReply (telling O.Output reply.old reply.new)
         (AnswersWith result (spec.frame_answer (core_bytes core.now) (map attached_view attached.now) thread frame)) }
 {
-    let Ok(space) = space_with(alloc, core, attached) else {
+    let Ok(process) = UnwoundProcess::of(alloc, core, attached) else {
         return tell_no_memory(reply);
     };
-    let Ok(described) = all_described(alloc, attached) else {
-        return tell_no_memory(reply);
-    };
-    let Ok(executables) = lent(alloc, &described) else {
-        return tell_no_memory(reply);
-    };
-    let Some(thread) = threads(core.notes()).thread(thread) else {
+    let Some(begun) = Walk::begin(alloc, core, thread) else {
         tell_no(reply, b"NoThread");
         return Outcome::Refused;
     };
-    tell_registers_of(
-        reply,
-        frame_at(Frames::new(&space, &executables, &thread), frame),
-    )
+    let mut walk = begun;
+    let image = core.elf().image();
+    match walk.go_on(alloc, &process, image, image.len() as u64, &[]) {
+        Ok(_) => tell_walked_frame(reply, &walk, frame),
+        // All bytes are at hand, so it is memory.
+        Err(_) => tell_no_memory(reply),
+    }
 }

@@ -78,6 +78,7 @@ fn attach_named<'a>(
         ≡ with_attached (space_of space.old) (spec.attached_view executable.entry)) }
     ensures images { OnOk result (map named_view images.new.list.items
         ≡ map named_view images.old.list.items ++ known_among (spec.attached_view executable.entry ∷ [])) }
+    ensures core { core_of space.new ≡ core_of space.old }
 {
     match Elf::read(executable.image, Want::Exec) {
         Ok(elf) => {
@@ -98,6 +99,7 @@ pub fn space_and_images<'a>(
     ensures space { IfOk result (λ m. space_of m.0
         ≡ spec.memory_of (core_bytes core.now) (map spec.attached_view attached.now)) }
     ensures images { IfOk result (λ m. named_in m.1 ≡ known_among (map spec.attached_view attached.now)) }
+    ensures core { IfOk result (λ m. core_of m.0 ≡ core_bytes core.now) }
 {
     let mut space = indexed_space(alloc, core)?;
     let mut images = SymbolizedExecutables::new(alloc);

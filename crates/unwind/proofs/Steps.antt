@@ -1,17 +1,12 @@
 -- A frame and those after it.
-use Rattle.std.proofs.Common.{◌≡◌, ◌≤◌, ◌+◌, length, ◌-◌, ℕ, zero, suc, List, [], ◌∷◌, None, Result, Ok, Err, refl, sym, ap, subst, ◌∙◌, cond, arith}
+use Rattle.std.proofs.Common.{◌≡◌, ◌≤◌, ◌<◌, ◌+◌, length, ◌-◌, ℕ, zero, suc, List, [], ◌∷◌, Result, Ok, Err, refl, sym, ap, subst, ◌∙◌, cond, arith}
 use Rattle.std.proofs.lemmas.Bool.{ne_eqb}
 use Rattle.unwind.specs.Code.{ProcessView}
-use Rattle.unwind.specs.Unwinding.{by_rules, bounded, next, IsUnwoundFrom, frames_behind, stop_behind, frames_from, stop_from, first_frame, unwound, stop_of, told, most}
+use Rattle.unwind.specs.Coming.{MayCome, most_by}
+use Rattle.unwind.specs.Unwinding.{by_rules, bounded, next, IsUnwoundFrom, frames_behind, stop_behind, frames_from, stop_from, first_frame, unwound, stop_of, most}
 use Rattle.unwind.specs.declared.faults.Stop.{Stop}
 use Rattle.unwind.specs.declared.faults.Stop.TheVariants.{Limit}
 use Rattle.unwind.specs.declared.frame.Frame.{Frame}
-
--- where a frame is still to come nothing is told of the end
-pub some_left : (p : ProcessView) (n : ℕ) (f : Frame) (stop : Stop) → None ≡ told (frames_from p n f) stop
-unfolding frames_from
-some_left p zero f stop = refl
-some_left p (suc n) f stop = refl
 
 -- the frames after a frame are those after its next
 frames_none : (p : ProcessView) (r : Result Frame Stop) → [] ≡ frames_behind (frames_from p zero) (bounded zero r)
@@ -130,3 +125,8 @@ few_from p (suc n) f = omega (arith, few_behind p n (by_rules p f) (few_from p n
 pub unwound_few : (p : ProcessView) (desc : List ℕ) → length (unwound p desc) ≤ 1024
 unfolding unwound
 unwound_few p desc = few_from p most (first_frame desc)
+
+-- where the next is given fewer may come after it
+pub fewer_left : (more m : ℕ) (r : Result Frame Stop) → m ≡ more - 1 → MayCome more (Ok r) → most_by m r < suc more
+fewer_left more m (Ok f) less some = omega (arith, less, some)
+fewer_left more m (Err stop) less some = omega arith

@@ -8,4 +8,5 @@ pub mod ByTrampoline
 pub mod Unwinding
 pub mod Stands
 pub mod Words
+pub mod Coming
 pub mod FrameWords

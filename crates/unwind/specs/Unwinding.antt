@@ -73,8 +73,3 @@ unwound p desc = frames_from p most (first_frame desc)
 
 unfoldable pub stop_of : ProcessView → List ℕ → Stop
 stop_of p desc = stop_from p most (first_frame desc)
-
--- what is told of why frames end, given those that are still to come
-abbrev pub told : List Frame → Stop → Option Stop
-told [] stop = Some stop
-told (f ∷ fs) stop = None

@@ -1,9 +1,8 @@
 -- What the code's executables, processes and places mean.
 use Rattle.std.specs.Prelude.{List, map, Result, Ok, Err}
 use Rattle.elf_view.specs.ViewWords.{image_of}
-use Rattle.address_space.specs.Source.{ExecutableView}
+use Rattle.address_space.specs.Source.{ExecutableView, Space}
 use Rattle.address_space.specs.SpaceWords.{space_of}
-use Rattle.address_space.specs.declared.space.AddressSpace.{AddressSpace}
 use Rattle.unwind.specs.Code.{ProcessView, CodeView}
 use Rattle.unwind.specs.declared.code.Code.{Code}
 use Rattle.unwind.specs.declared.executable.UnwoundExecutable.{UnwoundExecutable}
@@ -13,11 +12,13 @@ use Rattle.unwind.specs.declared.faults.Stop.{Stop}
 abbrev pub executable_view : UnwoundExecutable → ExecutableView
 executable_view x = record { path = x.path.now; image = image_of x.elf }
 
-abbrev pub process_of : AddressSpace → List UnwoundExecutable → ProcessView
-process_of space executables = record { space = space_of space; executables = map executable_view executables }
+-- the process of a memory, with these executables
+abbrev pub process_with : Space → List UnwoundExecutable → ProcessView
+process_with space executables = record { space = space; executables = map executable_view executables }
 
+-- the process by the first bytes of its core's image
 abbrev pub process_view : Process → ProcessView
-process_view p = process_of p.space.now p.executables.now
+process_view p = process_with (space_of p.memory.space.now) p.executables.now
 
 abbrev pub code_view : Code → CodeView
 code_view c = record { image = image_of c.executable.elf; address = c.address }

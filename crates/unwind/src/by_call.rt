@@ -2,15 +2,15 @@
 ghost use Rattle.std.specs.Prelude.{◌≡◌};
 ghost use Rattle.std.specs.Option.{option_map};
 ghost use Rattle.elf_view.specs.SectionWords.{section_view};
-ghost use Rattle.address_space.specs.SpaceWords.{space_of};
+ghost use Rattle.seen_memory.specs.Seen.{InEach};
 ghost use Rattle.unwind.specs.ByCall as spec;
 ghost use Rattle.unwind.specs.Words.{code_view};
 
 use crate::code::Code;
 use crate::columns::{RA, SP};
 use crate::frame::{Callee, Frame, known, without};
-use address_space::AddressSpace;
 use elf_view::Section;
+use seen_memory::SeenMemory;
 
 /// The flag of a segment whose bytes can be executed.
 const PF_X: u32 = 1;
@@ -52,21 +52,21 @@ fn caller_of(frame: &Frame) -> Option<Frame>
 
 /// Whether no code is at an address.
 #[tactic(auto, unfolding(crate::specs::ByCall::is_no_code))]
-fn is_no_code(space: &AddressSpace<'_>, address: u64) -> bool
-    ensures { result ≡ spec.is_no_code (space_of space.now) address }
+fn is_no_code(memory: &SeenMemory<'_, '_>, address: u64) -> bool
+    ensures { InEach memory.now (λ space. spec.is_no_code space address) result }
 {
-    match space.flags(address) {
+    match memory.flags(address) {
         Some(flags) => flags % 2 != PF_X,
-        None => space.spot(address).is_none(),
+        None => memory.spot(address).is_none(),
     }
 }
 
 /// The frame that made a call to no code.
 #[tactic(auto, unfolding(crate::specs::ByCall::by_call))]
-pub(crate) fn by_call(space: &AddressSpace<'_>, frame: &Frame) -> Option<Frame>
-    ensures { result ≡ spec.by_call (space_of space.now) frame.now }
+pub(crate) fn by_call(memory: &SeenMemory<'_, '_>, frame: &Frame) -> Option<Frame>
+    ensures { InEach memory.now (λ space. spec.by_call space frame.now) result }
 {
-    if !is_no_code(space, frame.pc) {
+    if !is_no_code(memory, frame.pc) {
         return None;
     }
     caller_of(frame)

@@ -1,12 +1,12 @@
 // The caller of a frame by call frame information.
 ghost use Rattle.std.specs.Prelude.{◌≡◌};
-ghost use Rattle.address_space.specs.SpaceWords.{space_of};
 ghost use Rattle.call_frames.specs.EntryWords.{entry_view};
 ghost use Rattle.call_frames.specs.Finding.{entry_of};
 ghost use Rattle.call_frames.specs.FindingWords.{found};
 ghost use Rattle.elf_view.specs.ViewWords.{image_of};
+ghost use Rattle.seen_memory.specs.Seen.{ForEach};
 ghost use Rattle.unwind.specs.ByEntry as spec;
-ghost use Rattle.unwind.specs.Words.{code_view, process_view};
+ghost use Rattle.unwind.specs.Words.{code_view, process_with};
 
 use crate::by_call::by_stub;
 use crate::code::{Code, Process};
@@ -14,9 +14,9 @@ use crate::executable::UnwoundExecutable;
 use crate::faults::{RowFault, Stop};
 use crate::frame::{Callee, Frame, Registers, without};
 use crate::values::{cfa_by, is_undefined, registers_by, unknown_by, value_by};
-use address_space::AddressSpace;
 use call_frames::{Entry, NoEntry};
 use frame_rows::{Row, Rule};
+use seen_memory::{SeenMemory, Unread};
 
 /// What of an entry leads on.
 #[derive(Clone, Copy, Debug)]
@@ -53,17 +53,17 @@ fn is_below(callee: Option<Callee>, pc: u64, cfa: u64) -> bool
 
 /// The return address by its rule.
 fn return_by(
-    space: &AddressSpace<'_>,
+    memory: &SeenMemory<'_, '_>,
     registers: &Registers,
     cfa: u64,
     column: u64,
     rule: Rule,
-) -> Result<u64, Stop>
-    ensures { result ≡ spec.return_by (space_of space.now) registers.now cfa column rule }
+) -> Result<Result<u64, Stop>, Unread>
+    ensures { ForEach memory.now (λ space. spec.return_by space registers.now cfa column rule) result }
 {
-    match value_by(space, registers, cfa, column, rule) {
-        Some(pc) => Ok(pc),
-        None => Err(unknown_by(rule)),
+    match value_by(memory, registers, cfa, column, rule)? {
+        Some(pc) => Ok(Ok(pc)),
+        None => Ok(Err(unknown_by(rule))),
     }
 }
 
@@ -89,68 +89,79 @@ fn led_to(frame: &Frame, cfa: u64, pc: u64, registers: Registers, back: Return) 
 
 /// The frame that a return address leads to.
 fn by_return(
-    space: &AddressSpace<'_>,
+    memory: &SeenMemory<'_, '_>,
     frame: &Frame,
     row: &Row,
     back: Return,
     cfa: u64,
     pc: u64,
-) -> Result<Frame, Stop>
-    ensures { result ≡ spec.by_return (space_of space.now) frame.now row.now back cfa pc }
+) -> Result<Result<Frame, Stop>, Unread>
+    ensures { ForEach memory.now (λ space. spec.by_return space frame.now row.now back cfa pc) result }
 {
     if pc == 0 && !back.signal {
-        return Err(Stop::ZeroPc);
+        return Ok(Err(Stop::ZeroPc));
     }
-    let registers = registers_by(space, &frame.registers, cfa, row);
-    Ok(led_to(frame, cfa, pc, registers, back))
+    let registers = registers_by(memory, &frame.registers, cfa, row)?;
+    Ok(Ok(led_to(frame, cfa, pc, registers, back)))
 }
 
 /// The frame that a CFA leads to.
 #[tactic(auto, unfolding(crate::specs::ByEntry::by_cfa))]
 fn by_cfa(
-    space: &AddressSpace<'_>,
+    memory: &SeenMemory<'_, '_>,
     frame: &Frame,
     row: &Row,
     back: Return,
     cfa: u64,
-) -> Result<Frame, Stop>
-    ensures { result ≡ spec.by_cfa (space_of space.now) frame.now row.now back cfa }
+) -> Result<Result<Frame, Stop>, Unread>
+    ensures { ForEach memory.now (λ space. spec.by_cfa space frame.now row.now back cfa) result }
 {
     if is_below(frame.callee, frame.pc, cfa) {
-        return Err(Stop::NotRising);
+        return Ok(Err(Stop::NotRising));
     }
     let rule = row.rule(back.column);
-    let pc = return_by(space, &frame.registers, cfa, back.column, rule)?;
-    by_return(space, frame, row, back, cfa, pc)
+    match return_by(memory, &frame.registers, cfa, back.column, rule)? {
+        Ok(pc) => by_return(memory, frame, row, back, cfa, pc),
+        Err(stop) => Ok(Err(stop)),
+    }
 }
 
 /// The frame that a row leads to.
 #[tactic(auto, unfolding(crate::specs::ByEntry::by_row))]
-fn by_row(space: &AddressSpace<'_>, frame: &Frame, back: Return, row: &Row) -> Result<Frame, Stop>
-    ensures { result ≡ spec.by_row (space_of space.now) frame.now back row.now }
+fn by_row(
+    memory: &SeenMemory<'_, '_>,
+    frame: &Frame,
+    back: Return,
+    row: &Row,
+) -> Result<Result<Frame, Stop>, Unread>
+    ensures { ForEach memory.now (λ space. spec.by_row space frame.now back row.now) result }
 {
     if is_undefined(row.rule(back.column)) {
-        return Err(Stop::Outermost);
+        return Ok(Err(Stop::Outermost));
     }
-    let cfa = cfa_by(&frame.registers, row.cfa)?;
-    by_cfa(space, frame, row, back, cfa)
+    match cfa_by(&frame.registers, row.cfa) {
+        Ok(cfa) => by_cfa(memory, frame, row, back, cfa),
+        Err(stop) => Ok(Err(stop)),
+    }
 }
 
 /// The frame that an entry leads to.
 fn by_covering(
-    space: &AddressSpace<'_>,
+    memory: &SeenMemory<'_, '_>,
     frame: &Frame,
     entry: &Entry<'_>,
     address: u64,
-) -> Result<Frame, Stop>
-    ensures { result ≡ spec.by_covering (space_of space.now) frame.now address (entry_view entry.now) }
+) -> Result<Result<Frame, Stop>, Unread>
+    ensures { ForEach memory.now (λ space. spec.by_covering space frame.now address (entry_view entry.now)) result }
 {
-    let row = row_at(entry, address)?;
     let back = Return {
         column: u64::from(entry.cie.column),
         signal: entry.cie.signal,
     };
-    by_row(space, frame, back, &row)
+    match row_at(entry, address) {
+        Ok(row) => by_row(memory, frame, back, &row),
+        Err(stop) => Ok(Err(stop)),
+    }
 }
 
 /// The entry of an executable that covers an address.
@@ -162,26 +173,29 @@ fn entry_at<'a>(executable: &UnwoundExecutable<'_, 'a>, address: u64) -> Result<
 
 /// The frame that the first entry that covers the code's address leads to.
 #[tactic(auto, unfolding(crate::specs::ByEntry::by_code))]
-fn by_code(space: &AddressSpace<'_>, frame: &Frame, code: &Code<'_, '_>) -> Result<Frame, Stop>
-    ensures { result ≡ spec.by_code (space_of space.now) frame.now (code_view code.now) }
+fn by_code(
+    memory: &SeenMemory<'_, '_>,
+    frame: &Frame,
+    code: &Code<'_, '_>,
+) -> Result<Result<Frame, Stop>, Unread>
+    ensures { ForEach memory.now (λ space. spec.by_code space frame.now (code_view code.now)) result }
 {
     match entry_at(&code.executable, code.address) {
-        Ok(entry) => by_covering(space, frame, &entry, code.address),
-        Err(NoEntry::Faulty(fault)) => Err(Stop::FaultyEntry(fault)),
-        Err(NoEntry::Uncovered) => match by_stub(code, frame) {
-            Some(caller) => Ok(caller),
-            None => Err(Stop::NoEntry),
-        },
+        Ok(entry) => by_covering(memory, frame, &entry, code.address),
+        Err(NoEntry::Faulty(fault)) => Ok(Err(Stop::FaultyEntry(fault))),
+        Err(NoEntry::Uncovered) => Ok(by_stub(code, frame).ok_or(Stop::NoEntry)),
     }
 }
 
 impl<'s, 'c, 'e, 'a> Process<'s, 'c, 'e, 'a> {
     /// The caller of a frame by call frame information.
     #[tactic(auto, unfolding(crate::specs::ByEntry::by_entry))]
-    pub(crate) fn by_entry(&self, frame: &Frame) -> Result<Frame, Stop>
-        ensures { result ≡ spec.by_entry (process_view self.now) frame.now }
+    pub(crate) fn by_entry(&self, frame: &Frame) -> Result<Result<Frame, Stop>, Unread>
+        ensures { ForEach self.now.memory (λ space. spec.by_entry (process_with space self.now.executables.now) frame.now) result }
     {
-        let code = self.code_of(frame)?;
-        by_code(self.space, frame, &code)
+        match self.code_of(frame) {
+            Ok(code) => by_code(&self.memory, frame, &code),
+            Err(stop) => Ok(Err(stop)),
+        }
     }
 }

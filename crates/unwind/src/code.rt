@@ -11,13 +11,14 @@ ghost use Rattle.unwind.specs.Words.{code_view, executable_view, process_view, v
 use crate::executable::UnwoundExecutable;
 use crate::faults::Stop;
 use crate::frame::Frame;
-use address_space::{AddressSpace, FileSpot};
+use address_space::FileSpot;
+use seen_memory::SeenMemory;
 use symbols::vaddr_of_offset;
 
 /// A process: its memory, and the executables that are attached for mapped files.
 #[derive(Clone, Copy)]
 pub(crate) struct Process<'s, 'c, 'e, 'a> {
-    pub(crate) space: &'s AddressSpace<'c>,
+    pub(crate) memory: SeenMemory<'s, 'c>,
     pub(crate) executables: &'s [UnwoundExecutable<'e, 'a>],
 }
 
@@ -75,12 +76,12 @@ fn looked_up(frame: &Frame) -> Option<u64>
 }
 
 /// Where a frame's code lies in the file that is mapped there.
-fn spot_of<'c>(space: &AddressSpace<'c>, frame: &Frame) -> Option<FileSpot<'c>>
+fn spot_of<'c>(memory: &SeenMemory<'_, 'c>, frame: &Frame) -> Option<FileSpot<'c>>
     ensures { option_map spot_view result
-        ≡ option_and_then (λ a. source.spot_of a (source.entry_at (space_of space.now).files a)) (spec.looked_up frame.now) }
+        ≡ option_and_then (λ a. source.spot_of a (source.entry_at (space_of memory.now.space.now).files a)) (spec.looked_up frame.now) }
 {
     let address = looked_up(frame)?;
-    space.spot(address)
+    memory.spot(address)
 }
 
 impl<'s, 'c, 'e, 'a> Process<'s, 'c, 'e, 'a> {
@@ -89,7 +90,7 @@ impl<'s, 'c, 'e, 'a> Process<'s, 'c, 'e, 'a> {
     pub(crate) fn code_of(&self, frame: &Frame) -> Result<Code<'e, 'a>, Stop>
         ensures { viewed code_view result ≡ spec.code_of (process_view self.now) frame.now }
     {
-        let Some(spot) = spot_of(self.space, frame) else {
+        let Some(spot) = spot_of(&self.memory, frame) else {
             return Err(Stop::NoFile);
         };
         code_at(self.executables, spot)

@@ -1,8 +1,9 @@
 // Frames, one after another.
 ghost use Rattle.std.specs.Prelude.{◌≡◌};
-ghost use Rattle.thread_regs.specs.ThreadWords.{thread_bytes};
+ghost use Rattle.seen_memory.specs.Seen.{ForEach};
+ghost use Rattle.unwind.specs.Coming.{MayCome};
 ghost use Rattle.unwind.specs.Unwinding as spec;
-ghost use Rattle.unwind.specs.Words.{process_of, process_view};
+ghost use Rattle.unwind.specs.Words.{process_with};
 
 use crate::by_call::by_call;
 use crate::by_trampoline::{by_trampoline, is_trampoline};
@@ -10,16 +11,15 @@ use crate::code::Process;
 use crate::executable::UnwoundExecutable;
 use crate::faults::Stop;
 use crate::frame::Frame;
-use address_space::AddressSpace;
+use seen_memory::{SeenMemory, Unread};
 use thread_regs::Thread;
 
 /// How many frames may come after the first.
 const MOST: u64 = 1023;
 
-/// The frames of a stack, from the innermost on.
+/// The frames of a stack that are still to come, from the innermost on.
 #[derive(Clone, Copy)]
-pub struct Frames<'s, 'c, 'e, 'a> {
-    process: Process<'s, 'c, 'e, 'a>,
+pub struct Frames {
     /// The next frame.
     next: Result<Frame, Stop>,
     /// How many more may come after it.
@@ -29,80 +29,70 @@ pub struct Frames<'s, 'c, 'e, 'a> {
 impl<'s, 'c, 'e, 'a> Process<'s, 'c, 'e, 'a> {
     /// What the rules tell of the frame after one.
     #[tactic(auto, unfolding(crate::specs::Unwinding::by_rules))]
-    fn by_rules(&self, frame: &Frame) -> Result<Frame, Stop>
-        ensures { result ≡ spec.by_rules (process_view self.now) frame.now }
+    fn by_rules(&self, frame: &Frame) -> Result<Result<Frame, Stop>, Unread>
+        ensures { ForEach self.now.memory (λ space. spec.by_rules (process_with space self.now.executables.now) frame.now) result }
     {
-        if is_trampoline(self.space, frame.pc) {
-            return by_trampoline(self.space, frame);
+        if is_trampoline(&self.memory, frame.pc)? {
+            return by_trampoline(&self.memory, frame);
         }
-        match by_call(self.space, frame) {
-            Some(caller) => Ok(caller),
+        match by_call(&self.memory, frame) {
+            Some(caller) => Ok(Ok(caller)),
             None => self.by_entry(frame),
         }
     }
 
     /// The frame after one, or the first reason why there is none. So many frames may come.
     #[tactic(auto, unfolding(crate::specs::Unwinding::next))]
-    fn next(&self, more: u64, frame: &Frame) -> Result<Frame, Stop>
-        ensures { result ≡ spec.next (process_view self.now) more frame.now }
+    fn next(&self, more: u64, frame: &Frame) -> Result<Result<Frame, Stop>, Unread>
+        ensures told { ForEach self.now.memory (λ space. spec.next (process_with space self.now.executables.now) more frame.now) result }
+        ensures few { MayCome more result }
     {
-        let caller = self.by_rules(frame)?;
-        if more == 0 {
-            return Err(Stop::Limit);
+        match self.by_rules(frame)? {
+            Ok(_) if more == 0 => Ok(Err(Stop::Limit)),
+            caller => Ok(caller),
         }
-        Ok(caller)
     }
 }
 
-impl<'s, 'c, 'e, 'a> Frames<'s, 'c, 'e, 'a> {
-    ghost use Rattle.unwind.specs.FrameWords.{frames_left, stop_left};
+impl Frames {
+    ghost use Rattle.std.specs.Prelude.{List, ℕ};
+    ghost use Rattle.thread_regs.specs.ThreadWords.{thread_bytes};
+    ghost use Rattle.unwind.specs.Code.{ProcessView};
+    ghost use Rattle.unwind.specs.FrameWords.{ComeFewer, NextFrame, frames_left, stop_left};
 
-    /// The frames of a thread. The executables are attached for the mapped files of their paths, of two with one path the
-    /// first.
+    /// The frames of a thread.
     #[tactic(auto, unfolding(crate::specs::FrameWords::frames_left, crate::specs::FrameWords::stop_left, crate::specs::Unwinding::unwound, crate::specs::Unwinding::stop_of))]
-    pub fn new(
-        space: &'s AddressSpace<'c>,
-        executables: &'s [UnwoundExecutable<'e, 'a>],
-        thread: &Thread<'_>,
-    ) -> Frames<'s, 'c, 'e, 'a>
-        ensures frames { frames_left result ≡ spec.unwound (process_of space.now executables.now) (thread_bytes thread.now) }
-        ensures stop { stop_left result ≡ spec.stop_of (process_of space.now executables.now) (thread_bytes thread.now) }
+    pub fn new(thread: &Thread<'_>) -> Frames
+        ensures frames { (p : ProcessView) → frames_left p result ≡ spec.unwound p (thread_bytes thread.now) }
+        ensures stop { (p : ProcessView) → stop_left p result ≡ spec.stop_of p (thread_bytes thread.now) }
     {
         Frames {
-            process: Process { space, executables },
             next: Ok(Frame::first(thread)),
             more: MOST,
         }
     }
 
-    /// Why the frames ended, once they have. Of a frame's reasons it is the one that is met first.
-    #[tactic(auto, using(crate::proofs::Steps::some_left), unfolding(crate::specs::FrameWords::frames_left, crate::specs::FrameWords::stop_left))]
-    pub fn stop(&self) -> Option<Stop>
-        ensures { result ≡ spec.told (frames_left self.now) (stop_left self.now) }
+    /// The next frame, or why none comes. The executables are attached for the mapped files of their paths, of two with one path
+    /// the first. The error is a byte of the core's image that is not at hand. Then nothing has changed, and the call can be made
+    /// again once it is.
+    pub fn next(
+        &mut self,
+        memory: SeenMemory<'_, '_>,
+        executables: &[UnwoundExecutable<'_, '_>],
+    ) -> Result<Result<Frame, Stop>, Unread>
+        ensures gives { NextFrame memory.entry executables.now self.old result self.new }
+        ensures fewer { ComeFewer self.old result self.new }
     {
-        match self.next {
-            Ok(_) => None,
-            Err(stop) => Some(stop),
-        }
-    }
-}
-
-impl<'s, 'c, 'e, 'a> Iterator for Frames<'s, 'c, 'e, 'a> {
-    ghost use Rattle.std.specs.Iterator.{item_count};
-    ghost use Rattle.unwind.specs.FrameWords.{GivesFrames, frames_left};
-
-    type Item = Frame;
-
-    ghost next_gives = { GivesFrames };
-
-    ghost remaining = { item_count frames_left };
-
-    fn next(&mut self) -> Option<Frame> {
-        let Ok(frame) = self.next else {
-            return None;
+        let frame = match self.next {
+            Ok(frame) => frame,
+            Err(stop) => return Ok(Err(stop)),
         };
-        self.next = self.process.next(self.more, &frame);
+        let process = Process {
+            memory,
+            executables,
+        };
+        self.next = process.next(self.more, &frame)?;
         self.more = self.more.saturating_sub(1);
-        Some(frame)
+        Ok(Ok(frame))
     }
 }

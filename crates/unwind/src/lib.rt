@@ -1,6 +1,6 @@
 //! The frames of a thread's stack, by call frame information.
 //!
-//! [`Frames`] goes from the registers of a thread up the stack, one frame an item, and says by [`Frames::stop`] why it ended.
+//! [`Frames`] goes from the registers of a thread up the stack, one frame a call, and says why no other comes.
 #![tactic(auto)]
 
 mod by_call;

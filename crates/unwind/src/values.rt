@@ -1,66 +1,66 @@
 // Values of registers by the rules of a row.
 ghost use Rattle.std.specs.Prelude.{◌≡◌, ◌<◌};
-ghost use Rattle.address_space.specs.SpaceWords.{space_of};
+ghost use Rattle.seen_memory.specs.Seen.{ForEach};
 ghost use Rattle.unwind.specs.Values as spec;
 
 use crate::faults::Stop;
 use crate::frame::{Registers, known};
-use address_space::AddressSpace;
 use frame_rows::{Cfa, Row, Rule};
+use seen_memory::{SeenMemory, Unread};
 
-/// The value that a column has in the caller by a rule.
+/// The value that a column has in the caller by a rule. The error is a byte that is not at hand.
 pub(crate) fn value_by(
-    space: &AddressSpace<'_>,
+    memory: &SeenMemory<'_, '_>,
     registers: &Registers,
     cfa: u64,
     column: u64,
     rule: Rule,
-) -> Option<u64>
-    ensures { result ≡ spec.value_by (space_of space.now) registers.now cfa column rule }
+) -> Result<Option<u64>, Unread>
+    ensures { ForEach memory.now (λ space. spec.value_by space registers.now cfa column rule) result }
 {
     match rule {
-        Rule::Undefined => None,
-        Rule::Same => known(registers, column),
-        Rule::Offset(offset) => space.read_u64(cfa.wrapping_add(offset)),
-        Rule::Value(offset) => Some(cfa.wrapping_add(offset)),
-        Rule::Register(other) => known(registers, other),
-        Rule::Expression => None,
+        Rule::Undefined => Ok(None),
+        Rule::Same => Ok(known(registers, column)),
+        Rule::Offset(offset) => memory.word(cfa.wrapping_add(offset)),
+        Rule::Value(offset) => Ok(Some(cfa.wrapping_add(offset))),
+        Rule::Register(other) => Ok(known(registers, other)),
+        Rule::Expression => Ok(None),
     }
 }
 
 /// The same by the rule of a row; x0 is 0.
 fn register_by(
-    space: &AddressSpace<'_>,
+    memory: &SeenMemory<'_, '_>,
     registers: &Registers,
     cfa: u64,
     row: &Row,
     column: usize,
-) -> Option<u64>
+) -> Result<Option<u64>, Unread>
     requires { column < 32 }
-    ensures { result ≡ spec.register_by (space_of space.now) registers.now cfa row.now column }
+    ensures { ForEach memory.now (λ space. spec.register_by space registers.now cfa row.now column) result }
 {
     if column == 0 {
-        return Some(0);
+        return Ok(Some(0));
     }
     let column = column as u64;
-    value_by(space, registers, cfa, column, row.rule(column))
+    value_by(memory, registers, cfa, column, row.rule(column))
 }
 
 /// The registers of the caller, by a row and its CFA.
 #[tactic(auto, unfolding(crate::specs::Values::registers_by))]
 pub(crate) fn registers_by(
-    space: &AddressSpace<'_>,
+    memory: &SeenMemory<'_, '_>,
     registers: &Registers,
     cfa: u64,
     row: &Row,
-) -> Registers
-    ensures { result ≡ spec.registers_by (space_of space.now) registers.now cfa row.now }
+) -> Result<Registers, Unread>
+    ensures { ForEach memory.now (λ space. spec.registers_by space registers.now cfa row.now) result }
 {
     let mut values = [None; 32];
     for column in 0..32 {
-        values[column] = register_by(space, registers, cfa, row, column);
+        values[column] = register_by(memory, registers, cfa, row, column)?;
     }
-    values
+    Ok(values)
 }
 
 /// The CFA, or why it is not known.

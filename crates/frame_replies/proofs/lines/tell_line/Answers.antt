@@ -1,12 +1,12 @@
 use Rattle.std.proofs.Common.{ap}
 use Rattle.std.specs.Prelude.{decimal}
-use Rattle.frame_replies.specs.FrameLines.{frame_line}
+use Rattle.frame_replies.specs.Walking.{walked_line}
 use Rattle.frame_replies.specs.Known.{known_words}
 use Rattle.script_streams.specs.TellLaws.{tells_as, tells_then}
 use Rattle.frame_replies.proofs.lines.tell_line.Goals as goal
 
 pub returns : goal.returns
-unfolding frame_line
+unfolding walked_line
 returns g c =
     tells_then (tells_as (ap decimal c.from.ensures) c.tell_decimal.ensures)
     (tells_then c.tell.ensures

@@ -1,20 +1,18 @@
-use Rattle.std.proofs.Common.{ap, sym, refl, length, arith, ◌∙◌}
+use Rattle.std.proofs.Common.{arith}
 use Rattle.address_space.specs.SpaceWords.{space_of}
-use Rattle.image_replies.specs.Lines.{numbered_lines}
 use Rattle.memory_replies.specs.NamedList.{named_in}
-use Rattle.frame_replies.specs.FrameLines.{frame_line}
-use Rattle.frame_replies.proofs.TellLemmas.{up_to_start, up_to_then}
+use Rattle.frame_replies.specs.Walking.{walked_line}
+use Rattle.frame_replies.proofs.TellLemmas.{up_to_start, up_to_then, up_to_end}
+use Rattle.frame_replies.proofs.LineLemmas.{line_left, none_left}
 use Rattle.frame_replies.proofs.lines.tell_lines.Goals as goal
 
-pub loop-frame-init : goal.loop-frame-init
-loop-frame-init g c = record { told = up_to_start; stop = refl; few = omega arith }
+pub loop-index-init : goal.loop-index-init
+loop-index-init g c = up_to_start
 
-pub overflow_add-index : goal.overflow_add-index
-overflow_add-index g c = omega (arith, c.loop-frame.invariant.few, ap length c.in-Some.ensures.steps.frames)
+pub loop-index-preserved : goal.loop-index-preserved
+loop-index-preserved g c =
+    up_to_then (line_left (walked_line (space_of c.args.process.now.space).files (named_in c.args.process.now.images)) c.args.frames.now c.loop-index.index _ (omega arith)) c.loop-index.invariant c.tell_line.ensures
 
-pub loop-frame-preserved : goal.loop-frame-preserved
-loop-frame-preserved g c = record {
-  told = up_to_then (ap (numbered_lines (frame_line (space_of c.args.space.now) (named_in c.args.images.now)) c.loop-frame.index) c.in-Some.ensures.steps.frames) c.loop-frame.invariant.told c.tell_line.ensures;
-  stop = c.loop-frame.invariant.stop ∙ sym c.in-Some.ensures.steps.stop;
-  few = omega (arith, c.loop-frame.invariant.few, ap length c.in-Some.ensures.steps.frames);
-}
+pub returns : goal.returns
+returns g c =
+    up_to_end (none_left (walked_line (space_of c.args.process.now.space).files (named_in c.args.process.now.images)) c.args.frames.now c.loop-index.index (omega arith)) c.loop-index.invariant

@@ -1,33 +1,28 @@
-use Rattle.std.proofs.Common.{ap, map, ◌∙◌}
+use Rattle.std.proofs.Common.{map, refl, ◌∙◌}
 use Rattle.image_replies.specs.CoreWords.{core_bytes}
 use Rattle.memory_replies.specs.Memory.{attached_view}
-use Rattle.thread_regs.specs.ThreadWords.{thread_bytes}
-use Rattle.unwind.specs.Words.{executable_view}
-use Rattle.frame_replies.specs.ProcessWords.{described_view}
-use Rattle.frame_replies.proofs.AnswerLemmas.{answered, frame_missing, frame_shown, no_memory, process_is, refused}
+use Rattle.frame_replies.specs.WalkLaws.{frame_missing, walk_begins, walk_goes_on}
+use Rattle.frame_replies.proofs.AnswerLemmas.{no_memory, refused, whole_image}
 use Rattle.frame_replies.proofs.registers.tell_frame.Goals as goal
 
 pub returns-in_default : goal.returns-in_default
 returns-in_default g c = (_, no_memory _ _ c.tell_no_memory.ensures.outcome, c.tell_no_memory.ensures.tells)
 
-pub returns-in_default-all_described : goal.returns-in_default-all_described
-returns-in_default-all_described g c =
-    (_, no_memory _ _ c.tell_no_memory-in_default-all_described.ensures.outcome, c.tell_no_memory-in_default-all_described.ensures.tells)
-
-pub returns-in_default-lent : goal.returns-in_default-lent
-returns-in_default-lent g c =
-    (_, no_memory _ _ c.tell_no_memory-in_default-lent.ensures.outcome, c.tell_no_memory-in_default-lent.ensures.tells)
-
-pub returns-in_default-thread : goal.returns-in_default-thread
-returns-in_default-thread g c =
-    let xs = map attached_view c.args.attached.now in
-    (_, refused _ _ (frame_missing (core_bytes c.args.core.now) xs c.args.thread _ _ c.threads.ensures c.notes.ensures c.args.frame c.in_default-thread.ensures), c.tell_no.ensures)
-
-pub returns : goal.returns
-returns g c =
+pub returns-in_default-begin : goal.returns-in_default-begin
+returns-in_default-begin g c =
     let b = core_bytes c.args.core.now in
     let xs = map attached_view c.args.attached.now in
-    let lent = ap (map executable_view) c.deref-2.ensures.value ∙ c.in-Ok-lent.ensures ∙ ap (map described_view) c.deref.ensures.value in
-    let process = process_is b xs _ c.in-Ok.space c.deref-2.result.now c.in-Ok.ensures.memory lent c.in-Ok-all_described.ensures in
-    let told = c.tell_registers_of.ensures in
-    (told.0, answered _ _ _ _ (frame_shown b xs c.args.thread _ _ c.threads.ensures c.notes.ensures c.args.frame (thread_bytes c.in-Some.thread) _ _ _ c.in-Some.ensures process c.new.ensures.frames c.frame_at.ensures) told.1, told.2)
+    (_, refused _ _ (frame_missing b xs c.args.thread c.in_default-begin.ensures c.args.frame), c.tell_no.ensures)
+
+pub returns-in-Ok-go_on : goal.returns-in-Ok-go_on
+returns-in-Ok-go_on g c =
+    let b = core_bytes c.args.core.now in
+    let xs = map attached_view c.args.attached.now in
+    let p = c.in-Ok.process in
+    let whole = whole_image b c.image-image.result.now _ (c.image-image.ensures ∙ c.elf.ensures.image) refl in
+    let begun = walk_begins b b xs c.args.thread p c.in-Some.begun c.in-Ok.ensures refl refl c.in-Some.ensures in
+    let now = walk_goes_on b xs c.args.thread p c.in-Some.begun c.go_on.new.self begun (c.in-Ok-go_on.ensures.walks b whole) in
+    c.tell_walked_frame.ensures b xs c.args.thread p c.in-Ok-go_on.field-0 now c.in-Ok-go_on.ensures.told
+
+pub returns : goal.returns
+returns g c = (_, no_memory _ _ c.tell_no_memory-in-Err.ensures.outcome, c.tell_no_memory-in-Err.ensures.tells)

@@ -1,0 +1,114 @@
+-- What a walk through the frames of a thread has found is what is told of them.
+use Rattle.std.proofs.Common.{◌≡◌, ℕ, ◌+◌, Bool, cond, List, [], ◌∷◌, ◌++◌, map, Option, None, Ok, Err, refl, sym, ap, subst, ◌∙◌}
+use Rattle.std.proofs.lemmas.List.{append-nil}
+use Rattle.std.specs.Prelude.{codes, decimal, slice_get}
+use Rattle.std.specs.List.{filter}
+use Rattle.address_space.specs.Source.{ExecutableView, Space}
+use Rattle.address_space.specs.SpaceWords.{space_of}
+use Rattle.address_space.specs.Whole.{space_in}
+use Rattle.core_notes.specs.FileList.{FileView}
+use Rattle.elf_view.specs.Header.{SegmentView, segments_of}
+use Rattle.image_replies.specs.Lines.{numbered_lines}
+use Rattle.memory_replies.specs.Memory.{is_attached, mapped_files, memory_of}
+use Rattle.memory_replies.specs.NamedList.{named_in}
+use Rattle.memory_replies.specs.Places.{known_among, where_words}
+use Rattle.memory_replies.specs.Words.{hex_word}
+use Rattle.unwind.specs.ByTrampoline.{is_trampoline}
+use Rattle.unwind.specs.Code.{ProcessView, looked_up}
+use Rattle.unwind.specs.Registers.{known, sp}
+use Rattle.unwind.specs.Unwinding.{unwound}
+use Rattle.unwind.specs.declared.faults.Stop.{Stop}
+use Rattle.unwind.specs.declared.frame.Frame.{Frame}
+use Rattle.frame_replies.specs.FrameLines.{frame_line, return_words, stop_line, unwind_answer, unwound_answer, unwound_lines}
+use Rattle.frame_replies.specs.FrameRegisters.{frame_answer, one_frame_answer, registers_of}
+use Rattle.frame_replies.specs.Known.{known_words}
+use Rattle.frame_replies.specs.ProcessWords.{described_view}
+use Rattle.frame_replies.specs.Processes.{of_thread, process_in, state_of}
+use Rattle.frame_replies.specs.Walking.{AreMarked, BeginsAt, HasFound, IsProcessOf, IsWalkOf, IsWalked, WalksOn, found, process_by, walked_line}
+use Rattle.frame_replies.specs.declared.process.UnwoundProcess.{UnwoundProcess}
+use Rattle.frame_replies.specs.declared.walk.Walk.{Walk}
+use Rattle.frame_replies.specs.declared.walk.WalkedFrame.{WalkedFrame}
+
+-- the line of a frame that was found
+line_same : (space : Space) (named : List ExecutableView) (i : ℕ) (w : WalkedFrame) → w.signal ≡ is_trampoline space w.frame.pc → walked_line space.files named i w ≡ frame_line space named i w.frame
+unfolding walked_line frame_line
+line_same space named i w marked =
+    ap
+    (λ (t : Bool). decimal i ++ (32 ∷ [] ++ (hex_word w.frame.pc ++ (cond t (codes "signal") (where_words space.files named w.frame.pc (looked_up w.frame))
+    ++ (codes " sp " ++ (known_words (known w.frame.registers sp) ++ (return_words i w.frame ++ 10 ∷ [])))))))
+    marked
+
+lines_same : (p : ProcessView) (named : List ExecutableView) (i : ℕ) (ws : List WalkedFrame) → AreMarked p ws → numbered_lines (walked_line p.space.files named) i ws ≡ numbered_lines (frame_line p.space named) i (found ws)
+lines_same p named i [] marked = refl
+lines_same p named i (w ∷ ws) marked =
+    ap (λ (t : List ℕ). t ++ numbered_lines (walked_line p.space.files named) (i + 1) ws) (line_same p.space named i w marked.0)
+    ∙ ap (λ (t : List ℕ). frame_line p.space named i w.frame ++ t) (lines_same p named (i + 1) ws marked.1)
+
+-- all were found
+all_found : (p : ProcessView) (desc : List ℕ) (w : Walk) (stop : Stop) → IsWalked p desc w → HasFound w stop → unwound p desc ≡ found w.frames.items
+all_found p desc w stop walked ended = walked.frames ∙ ap (λ (fs : List Frame). found w.frames.items ++ fs) (ended p).frames ∙ append-nil (found w.frames.items)
+
+module _ (image : List ℕ) (xs : List ExecutableView) (t : ℕ) (p : UnwoundProcess) (w : Walk) (stop : Stop) (is : IsWalkOf image xs t p w) (ended : HasFound w stop) where
+  -- the lines of the frames that were found are those of the answer
+  pub unwind_told : Ok (numbered_lines (walked_line (space_of p.space).files (named_in p.images)) 0 w.frames.items ++ stop_line stop) ≡ unwind_answer image xs t
+  unfolding unwind_answer unwound_lines
+  unwind_told =
+      let q = process_in image xs in
+      let files : (space_of p.space).files ≡ q.space.files = ap (λ (r : ProcessView). r.space.files) is.process in
+      ap (λ (fs : List FileView). Ok (numbered_lines (walked_line fs (named_in p.images)) 0 w.frames.items ++ stop_line stop)) files
+      ∙ ap (λ (named : List ExecutableView). Ok (numbered_lines (walked_line q.space.files named) 0 w.frames.items ++ stop_line stop)) is.named
+      ∙ ap (λ (ls : List ℕ). Ok (ls ++ stop_line stop)) (lines_same q (known_among xs) 0 w.frames.items is.walked.marked)
+      ∙ ap (λ (fs : List Frame). Ok (numbered_lines (frame_line q.space (known_among xs)) 0 fs ++ stop_line stop)) (sym (all_found q is.desc w stop is.walked ended))
+      ∙ ap (λ s. Ok (numbered_lines (frame_line q.space (known_among xs)) 0 (unwound q is.desc) ++ stop_line s)) (sym (is.walked.stops ∙ (ended q).stop))
+      ∙ sym (ap (of_thread (unwound_answer image xs)) is.state)
+
+  -- so are the registers of one of them
+  pub frame_told : (i : ℕ) (o : Option Frame) → o ≡ slice_get (found w.frames.items) i → registers_of o ≡ frame_answer image xs t i
+  unfolding frame_answer
+  frame_told i o at =
+      ap registers_of (at ∙ ap (λ (fs : List Frame). slice_get fs i) (sym (all_found (process_in image xs) is.desc w stop is.walked ended)))
+      ∙ sym (ap (of_thread (one_frame_answer image xs i)) is.state)
+
+-- a thread that is not there
+module _ (image : List ℕ) (xs : List ExecutableView) (t : ℕ) (none : state_of image t ≡ None) where
+  pub unwind_missing : Err (codes "NoThread") ≡ unwind_answer image xs t
+  unfolding unwind_answer
+  unwind_missing = sym (ap (of_thread (unwound_answer image xs)) none)
+
+  pub frame_missing : (i : ℕ) → Err (codes "NoThread") ≡ frame_answer image xs t i
+  unfolding frame_answer
+  frame_missing i = sym (ap (of_thread (one_frame_answer image xs i)) none)
+
+process_made : List SegmentView → List FileView → List ExecutableView → List ExecutableView → ProcessView
+process_made segments files attached executables = record { space = record { segments = segments; files = files; executables = attached }; executables = executables }
+
+process_of_space : Space → List ℕ → List ExecutableView → ProcessView
+process_of_space space image executables = record { space = space_in image space; executables = executables }
+
+-- the process of an image, of which the core is the first bytes
+process_is : (front image : List ℕ) (xs : List ExecutableView) (p : UnwoundProcess) → IsProcessOf front xs p → mapped_files front ≡ mapped_files image → process_by p image ≡ process_in image xs
+unfolding process_in memory_of process_made process_of_space
+process_is front image xs p is files =
+    ap (λ (s : Space). process_of_space s image (map described_view p.described.items)) is.memory
+    ∙ ap (λ (fs : List FileView). process_made (segments_of image) fs (filter is_attached xs) (map described_view p.described.items)) files
+    ∙ ap (process_made (segments_of image) (mapped_files image) (filter is_attached xs)) is.described
+
+-- a walk that begins
+pub walk_begins : (front image : List ℕ) (xs : List ExecutableView) (t : ℕ) (p : UnwoundProcess) (w : Walk) → IsProcessOf front xs p → mapped_files front ≡ mapped_files image → state_of front t ≡ state_of image t → BeginsAt (state_of front t) w → IsWalkOf image xs t p w
+walk_begins front image xs t p w is files states begins = record {
+  process = process_is front image xs p is files;
+  named = is.named;
+  desc = begins.0;
+  state = sym states ∙ begins.1;
+  walked = begins.2 (process_in image xs);
+}
+
+-- and one that goes on
+pub walk_goes_on : (image : List ℕ) (xs : List ExecutableView) (t : ℕ) (p : UnwoundProcess) (old new : Walk) → IsWalkOf image xs t p old → WalksOn (process_by p image) old new → IsWalkOf image xs t p new
+walk_goes_on image xs t p old new is goes = record {
+  process = is.process;
+  named = is.named;
+  desc = is.desc;
+  state = is.state;
+  walked = subst (λ (q : ProcessView). IsWalked q is.desc new) is.process (goes is.desc (subst (λ (q : ProcessView). IsWalked q is.desc old) (sym is.process) is.walked));
+}

@@ -1,0 +1,98 @@
+-- A walk through the frames of a thread of which not all bytes are at hand.
+use Rattle.std.specs.Prelude.{◌≡◌, ◌<◌, ⊤, ℕ, List, ◌++◌, map, filter, Option, None, Some, Result, Ok, Err, if◌then◌else◌, codes, [], ◌∷◌, decimal}
+use Rattle.std.specs.List.{AllByRecursion}
+use Rattle.address_space.specs.Source.{ExecutableView}
+use Rattle.address_space.specs.SpaceWords.{core_of, space_of}
+use Rattle.address_space.specs.Whole.{space_in}
+use Rattle.core_notes.specs.FileList.{FileView}
+use Rattle.memory_replies.specs.Memory.{is_attached, memory_of}
+use Rattle.memory_replies.specs.NamedList.{named_in}
+use Rattle.memory_replies.specs.Places.{known_among, where_words}
+use Rattle.memory_replies.specs.Words.{hex_word}
+use Rattle.seen_memory.specs.Seen.{IsWantedBy}
+use Rattle.seen_memory.specs.declared.part.Part.{Part}
+use Rattle.unwind.specs.ByTrampoline.{is_trampoline}
+use Rattle.unwind.specs.Code.{ProcessView, looked_up}
+use Rattle.unwind.specs.FrameWords.{HaveEnded, frames_left, most_left, stop_left}
+use Rattle.unwind.specs.Registers.{sp, known}
+use Rattle.unwind.specs.Unwinding.{unwound, stop_of}
+use Rattle.unwind.specs.declared.faults.Stop.{Stop}
+use Rattle.unwind.specs.declared.frame.Frame.{Frame}
+use Rattle.frame_replies.specs.FrameLines.{return_words}
+use Rattle.frame_replies.specs.Known.{known_words}
+use Rattle.frame_replies.specs.ProcessWords.{described_view}
+use Rattle.frame_replies.specs.Processes.{process_in, state_of}
+use Rattle.frame_replies.specs.declared.process.UnwoundProcess.{UnwoundProcess}
+use Rattle.frame_replies.specs.declared.walk.Walk.{Walk}
+use Rattle.frame_replies.specs.declared.walk.WalkedFrame.{WalkedFrame}
+use Rattle.frame_replies.specs.declared.walk.WalkFault.{WalkFault}
+use Rattle.frame_replies.specs.declared.walk.WalkFault.TheVariants.{Unread, OutOfMemory}
+
+-- It is the process of a core that has these bytes, with the executables that are attached among these.
+pub record IsProcessOf (b : List ℕ) (executables : List ExecutableView) (p : UnwoundProcess) : Type 0 where
+  pub memory : space_of p.space ≡ memory_of b executables
+  pub core : core_of p.space ≡ b
+  pub named : named_in p.images ≡ known_among executables
+  pub described : map described_view p.described.items ≡ filter is_attached executables
+
+-- the process, if its core has this image
+abbrev pub process_by : UnwoundProcess → List ℕ → ProcessView
+process_by p image = record { space = space_in image (space_of p.space); executables = map described_view p.described.items }
+
+-- the frames that were found
+abbrev pub found : List WalkedFrame → List Frame
+found ws = map (λ (w : WalkedFrame). w.frame) ws
+
+-- it is known where signal handlers return
+abbrev pub AreMarked : ProcessView → List WalkedFrame → Type 0
+AreMarked p ws = AllByRecursion (λ (w : WalkedFrame). w.signal ≡ is_trampoline p.space w.frame.pc) ws
+
+-- The frames of the thread with this state are those that were found, and those that are still to come.
+pub record IsWalked (p : ProcessView) (desc : List ℕ) (w : Walk) : Type 0 where
+  pub frames : unwound p desc ≡ found w.frames.items ++ frames_left p w.left
+  pub stops : stop_of p desc ≡ stop_left p w.left
+  pub marked : AreMarked p w.frames.items
+
+-- a walk through the frames of a thread stays one
+abbrev pub WalksOn : ProcessView → Walk → Walk → Type 0
+WalksOn p old new = (desc : List ℕ) → IsWalked p desc old → IsWalked p desc new
+
+-- The walk is through the frames of a thread, by its number, in the process of a core that has this image, with the executables
+-- that are attached among these.
+pub record IsWalkOf (image : List ℕ) (executables : List ExecutableView) (t : ℕ) (p : UnwoundProcess) (w : Walk) : Type 0 where
+  pub process : process_by p image ≡ process_in image executables
+  pub named : named_in p.images ≡ known_among executables
+  pub desc : List ℕ
+  pub state : state_of image t ≡ Some desc
+  pub walked : IsWalked (process_in image executables) desc w
+
+-- none was found yet of the thread with this state
+abbrev pub BeginsAt : Option (List ℕ) → Walk → Type 0
+BeginsAt state w = (desc : List ℕ) × (state ≡ Some desc) × ((p : ProcessView) → IsWalked p desc w)
+
+-- all are found, and no other comes for that reason
+abbrev pub HasFound : Walk → Stop → Type 0
+HasFound w stop = (p : ProcessView) → HaveEnded p w.left stop
+
+-- what became of a walk
+abbrev pub GoesOn : List ℕ → ℕ → List Part → Result Stop WalkFault → Walk → Type 0
+GoesOn front size parts (Ok stop) w = HasFound w stop
+GoesOn front size parts (Err (Unread u)) w = IsWantedBy front size parts u
+GoesOn front size parts (Err OutOfMemory) w = ⊤
+
+-- one frame further, or the same
+abbrev pub StepsOn : List ℕ → ℕ → List Part → Walk → Result (Option Stop) WalkFault → Walk → Type 0
+StepsOn front size parts old (Ok None) new = most_left new.left < most_left old.left
+StepsOn front size parts old (Ok (Some stop)) new = HasFound new stop
+StepsOn front size parts old (Err (Unread u)) new = IsWantedBy front size parts u
+StepsOn front size parts old (Err OutOfMemory) new = ⊤
+
+-- WHERE of a frame that was found
+abbrev pub walked_where : List FileView → List ExecutableView → WalkedFrame → List ℕ
+walked_where files named w = if w.signal then codes "signal" else where_words files named w.frame.pc (looked_up w.frame)
+
+-- `I PC WHERE sp h` of it
+unfoldable pub walked_line : List FileView → List ExecutableView → ℕ → WalkedFrame → List ℕ
+walked_line files named i w =
+    decimal i ++ (32 ∷ [] ++ (hex_word w.frame.pc ++ (walked_where files named w
+    ++ (codes " sp " ++ (known_words (known w.frame.registers sp) ++ (return_words i w.frame ++ 10 ∷ []))))))
