@@ -13,7 +13,7 @@ use Rattle.image_replies.specs.Reasons.{core_reason}
 use Rattle.image_replies.specs.declared.core_image.CoreFault.{CoreFault}
 use Rattle.journal_layout.specs.declared.entry.Kind.{Kind}
 use Rattle.memory_replies.specs.Window.{past_of}
-use Rattle.windowed_search.specs.ScanWords.{Aim, for_bytes, for_texts}
+use Rattle.windowed_search.specs.ScanWords.{for_bytes, for_texts}
 use Rattle.script_lines.specs.declared.query.MemoryQuery.{MemoryQuery}
 use Rattle.script_lines.specs.declared.query.MemoryQuery.TheVariants.{Dump, Find, Strings, Backtrace, Unwind, Frame, Builds}
 use Rattle.memory_replies.specs.Answers.{Answers}
@@ -26,7 +26,8 @@ use Rattle.memory_replies.specs.Memory.{mapped_files}
 use Rattle.script_streams.specs.Replies.{no_reply}
 use Rattle.case_queries.specs.Collecting.{Collects, CollectsAll, Wanted, wanted_of}
 use Rattle.case_queries.specs.CollectingWords.{executable_view}
-use Rattle.case_queries.specs.Finding.{AsksFront, IsFrontOfCase, ShowsFound, aim_answer, aim_query}
+use Rattle.case_queries.specs.Asking.{Asking, asking_answer, asking_query, for_aim, for_frames}
+use Rattle.case_queries.specs.Finding.{AsksFront, IsFrontOfCase, ShowsFound}
 use Rattle.case_queries.specs.Fronts.{HasSize, IsEnough, IsSoundFront, ReadsFront}
 use Rattle.case_queries.specs.Keeping.{StayCollected}
 use Rattle.case_queries.specs.LeaveLaws.{Leaves, looks_leaves, own_still}
@@ -46,14 +47,18 @@ pub wanted_front : FilesLaw → (o : CaseImage) (image : List ℕ) → IsSoundFr
 wanted_front law o image sound front cases = wanted_enough law o.front.now image (inr (front.1, sound)) cases
 
 -- what is answered to the line that seeks it
-answer_is : (kind : Kind) (aim : Aim) (image : List ℕ) (xs : List ExecutableView) → aim_answer aim image xs ≡ answer_of kind (aim_query aim) image xs
-answer_is kind (for_bytes needle) image xs = refl
-answer_is kind (for_texts least) image xs = refl
+answer_is : (kind : Kind) (asking : Asking) (image : List ℕ) (xs : List ExecutableView) → asking_answer asking image xs ≡ answer_of kind (asking_query asking) image xs
+answer_is kind (for_aim (for_bytes needle)) image xs = refl
+answer_is kind (for_aim (for_texts least)) image xs = refl
+answer_is kind (for_frames thread None) image xs = refl
+answer_is kind (for_frames thread (Some frame)) image xs = refl
 
 -- such a line reads executables
-shows_by : {D : Type 0} (g : disk.Ghosts D) (mid : Parts D) (kind : Kind) (aim : Aim) (image text : List ℕ) (new : Parts D) → ShowsWithExecutables g mid kind (aim_query aim) image (core_fault_of image) text new → Shows g mid kind (aim_query aim) image text new
-shows_by g mid kind (for_bytes needle) image text new shows = shows
-shows_by g mid kind (for_texts least) image text new shows = shows
+shows_by : {D : Type 0} (g : disk.Ghosts D) (mid : Parts D) (kind : Kind) (asking : Asking) (image text : List ℕ) (new : Parts D) → ShowsWithExecutables g mid kind (asking_query asking) image (core_fault_of image) text new → Shows g mid kind (asking_query asking) image text new
+shows_by g mid kind (for_aim (for_bytes needle)) image text new shows = shows
+shows_by g mid kind (for_aim (for_texts least)) image text new shows = shows
+shows_by g mid kind (for_frames thread None) image text new shows = shows
+shows_by g mid kind (for_frames thread (Some frame)) image text new shows = shows
 
 module _ {D : Type 0} (g : disk.Ghosts D) where
   -- what was read of the case is read again with no byte
@@ -63,12 +68,12 @@ module _ {D : Type 0} (g : disk.Ghosts D) where
   pub own_after : (old new : Parts D) (o : CaseImage) → Leaves g old new → IsFrontOfCase g old o → IsFrontOfCase g new o
   own_after old new o leaves own = (own.0, own_still g old new o.seq own.0 leaves own.1, own.2)
 
-  pub found_leaves : (old new : Parts D) (o : CaseImage) (xs : List ExecutableView) (aim : Aim) (text : List ℕ) → ShowsFound g old o xs aim text new → Leaves g old new
-  found_leaves old new o xs aim text shows = looks_leaves g old new o.seq shows.0 shows.1
+  pub found_leaves : (old new : Parts D) (o : CaseImage) (xs : List ExecutableView) (asking : Asking) (text : List ℕ) → ShowsFound g old o xs asking text new → Leaves g old new
+  found_leaves old new o xs asking text shows = looks_leaves g old new o.seq shows.0 shows.1
 
-  module _ (law : FilesLaw) (o : CaseImage) (sound : IsSoundFront Core o.front.now) (aim : Aim) where
+  module _ (law : FilesLaw) (o : CaseImage) (sound : IsSoundFront Core o.front.now) (asking : Asking) where
     -- the answer is told
-    pub found_asked : (before new : Parts D) (xs : Vec StoredExecutable Global) (text : List ℕ) → StayCollected g new o.front.now (Some xs) → ShowsFound g before o (map executable_view xs.items) aim text new → AsksFront g before o aim text new
+    pub found_asked : (before new : Parts D) (xs : Vec StoredExecutable Global) (text : List ℕ) → StayCollected g new o.front.now (Some xs) → ShowsFound g before o (map executable_view xs.items) asking text new → AsksFront g before o asking text new
     found_asked before new xs text stay (Ok image, looks, told) = (
       Ok image,
       new,
@@ -78,7 +83,7 @@ module _ {D : Type 0} (g : disk.Ghosts D) where
         λ kind. (
           Ok (map executable_view xs.items),
           inr (subst (λ (ws : List Wanted). Collects g new ws (Ok (map executable_view xs.items)) new) (wanted_front law o image sound told.0 (state_of new).cases) stay),
-          subst (λ a. Answers a text) (answer_is kind aim image (map executable_view xs.items)) told.1,
+          subst (λ a. Answers a text) (answer_is kind asking image (map executable_view xs.items)) told.1,
         ),
       ),
     )
@@ -86,7 +91,7 @@ module _ {D : Type 0} (g : disk.Ghosts D) where
 
     -- an executable can't be read
     pub unread_asked : (before mid new : Parts D) (f : ArchiveFault) → HasSize (state_of mid) o.seq o.size → length o.front.now ≤ o.size → ReadsFront g before o.seq o.front.now mid → CollectsAll g mid (wanted_of o.front.now (state_of mid).cases) (Err f) new
-        → AsksFront g before o aim (no_reply (reason_of f)) new
+        → AsksFront g before o asking (no_reply (reason_of f)) new
     unread_asked before mid new f sized short reads collects =
         let x = some_seen g before o mid mid o.front.now 0 o.front.now sized reads (at_start g before o mid reads short) in (
           Ok x.0,
@@ -133,17 +138,17 @@ enough_short front image size enough long = (let cut = ap length (enough_cut Cor
 
 module _ {D : Type 0} (g : disk.Ghosts D) where
   -- what is asked of a core that has no fault
-  pub front_asked : ((b : List ℕ) (n : ℕ) → IsHeaderWhole (take n b) → IsSound Core (take n b) → core_fault_of (take n b) ≡ core_fault_of b) → (before new : Parts D) (o : CaseImage) (aim : Aim) (text : List ℕ) (kind : Kind) → IsSoundFront Core o.front.now → None ≡ core_fault_of o.front.now
-      → AsksFront g before o aim text new → Asks g before o.seq (aim_query aim) (Ok kind) text new
-  front_asked law before new o aim text kind sound none (Ok image, mid, looks, shows) =
+  pub front_asked : ((b : List ℕ) (n : ℕ) → IsHeaderWhole (take n b) → IsSound Core (take n b) → core_fault_of (take n b) ≡ core_fault_of b) → (before new : Parts D) (o : CaseImage) (asking : Asking) (text : List ℕ) (kind : Kind) → IsSoundFront Core o.front.now → None ≡ core_fault_of o.front.now
+      → AsksFront g before o asking text new → Asks g before o.seq (asking_query asking) (Ok kind) text new
+  front_asked law before new o asking text kind sound none (Ok image, mid, looks, shows) =
       let same : core_fault_of o.front.now ≡ core_fault_of image = enough_shows core_fault_of law o.front.now image (inr (shows.0.1, sound)) in
-      (Ok image, mid, looks, shows_by g mid kind aim image text new (subst (λ (f : Option CoreFault). ShowsWithExecutables g mid kind (aim_query aim) image f text new) (none ∙ same) (shows.1 kind)))
-  front_asked law before new o aim text kind sound none (Err f, mid, looks, shows) = (Err f, mid, looks, shows)
+      (Ok image, mid, looks, shows_by g mid kind asking image text new (subst (λ (f : Option CoreFault). ShowsWithExecutables g mid kind (asking_query asking) image f text new) (none ∙ same) (shows.1 kind)))
+  front_asked law before new o asking text kind sound none (Err f, mid, looks, shows) = (Err f, mid, looks, shows)
 
   -- and of one that has
-  pub fault_asked : ((b : List ℕ) (n : ℕ) → IsHeaderWhole (take n b) → IsSound Core (take n b) → core_fault_of (take n b) ≡ core_fault_of b) → (before now : Parts D) (o : CaseImage) (aim : Aim) (kind : Kind) (fault : CoreFault) → HasSize (state_of now) o.seq o.size → length o.front.now ≤ o.size
-      → IsSoundFront Core o.front.now → Some fault ≡ core_fault_of o.front.now → ReadsFront g before o.seq o.front.now now → Asks g before o.seq (aim_query aim) (Ok kind) (no_reply (core_reason fault)) now
-  fault_asked law before now o aim kind fault sized short sound is reads =
+  pub fault_asked : ((b : List ℕ) (n : ℕ) → IsHeaderWhole (take n b) → IsSound Core (take n b) → core_fault_of (take n b) ≡ core_fault_of b) → (before now : Parts D) (o : CaseImage) (asking : Asking) (kind : Kind) (fault : CoreFault) → HasSize (state_of now) o.seq o.size → length o.front.now ≤ o.size
+      → IsSoundFront Core o.front.now → Some fault ≡ core_fault_of o.front.now → ReadsFront g before o.seq o.front.now now → Asks g before o.seq (asking_query asking) (Ok kind) (no_reply (core_reason fault)) now
+  fault_asked law before now o asking kind fault sized short sound is reads =
       let x = some_seen g before o now now o.front.now 0 o.front.now sized reads (at_start g before o now reads short) in
       let same : core_fault_of o.front.now ≡ core_fault_of x.0 = enough_shows core_fault_of law o.front.now x.0 (inr (x.2.1, sound)) in
-      (Ok x.0, now, x.1, shows_by g now kind aim x.0 (no_reply (core_reason fault)) now (subst (λ (f : Option CoreFault). ShowsWithExecutables g now kind (aim_query aim) x.0 f (no_reply (core_reason fault)) now) (is ∙ same) (refl, refl)))
+      (Ok x.0, now, x.1, shows_by g now kind asking x.0 (no_reply (core_reason fault)) now (subst (λ (f : Option CoreFault). ShowsWithExecutables g now kind (asking_query asking) x.0 f (no_reply (core_reason fault)) now) (is ∙ same) (refl, refl)))

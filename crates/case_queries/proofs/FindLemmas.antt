@@ -30,7 +30,8 @@ use Rattle.memory_replies.proofs.TextLemmas.{AreTexts, strings_are, texts_told, 
 use Rattle.script_streams.specs.Replies.{IsOutcome, Telling, TellsOutcome, TellsReply, no_reply, ok_reply, reply_of}
 use Rattle.case_queries.specs.Collecting.{Collects, CollectsAll, Wanted, with_executable}
 use Rattle.case_queries.specs.LeaveLaws.{quiet_as}
-use Rattle.case_queries.specs.Finding.{Finds, IsAllFound, ShowsFound, aim_answer, found_lines, found_reply, line_of_text, lines_of_texts}
+use Rattle.case_queries.specs.Asking.{Asking, aim_answer, asking_answer, for_aim}
+use Rattle.case_queries.specs.Finding.{Finds, IsAllFound, ShowsFound, found_lines, found_reply, line_of_text, lines_of_texts}
 use Rattle.case_queries.specs.Fronts.{HasSize, IsSoundFront, ReadsFront, ReadsUpTo}
 use Rattle.case_queries.specs.Seeing.{SeesImage}
 use Rattle.case_queries.specs.Walking.{BeginsSo, IsAt, IsReadTo, Walks, address_after}
@@ -157,7 +158,7 @@ module _ {D : Type 0} (g : disk.Ghosts D) (before : Parts D) (o : CaseImage) whe
 
   -- the reply to what was found
   module _ (space : Space) (aim : Aim) (xs : List ExecutableView) (memory : (image : List ℕ) → IsFrontOf o.front.now o.size image → space_in image space ≡ memory_of image xs) where
-    pub found_shown : (now : Parts D) (r : Result Found WalkFault) → Finds g before space aim o now r → ShowsFound g before o xs aim (found_reply r) now
+    pub found_shown : (now : Parts D) (r : Result Found WalkFault) → Finds g before space aim o now r → ShowsFound g before o xs (for_aim aim) (found_reply r) now
     found_shown now (Ok f) finds = (
       Ok finds.0,
       finds.1,
@@ -167,8 +168,8 @@ module _ {D : Type 0} (g : disk.Ghosts D) (before : Parts D) (o : CaseImage) whe
     found_shown now (Err OutOfMemory) finds = (Ok finds.0, finds.1, (finds.2, inr refl))
 
   -- there is no memory before anything else is read
-  pub none_shown : (start : Parts D) (xs : List ExecutableView) (aim : Aim) → HasSize (state_of start) o.seq o.size → length o.front.now ≤ o.size → ReadsFront g before o.seq o.front.now start → ShowsFound g before o xs aim memory_reply start
-  none_shown start xs aim sized short reads =
+  pub none_shown : (start : Parts D) (xs : List ExecutableView) (asking : Asking) → HasSize (state_of start) o.seq o.size → length o.front.now ≤ o.size → ReadsFront g before o.seq o.front.now start → ShowsFound g before o xs asking memory_reply start
+  none_shown start xs asking sized short reads =
       let x = some_seen start start o.front.now 0 o.front.now sized reads (at_start start reads short) in
       (Ok x.0, x.1, (x.2, inr refl))
 
@@ -176,20 +177,20 @@ module _ {D : Type 0} (g : disk.Ghosts D) (before : Parts D) (o : CaseImage) whe
 pub front_kept : (front bytes all : List ℕ) → all ≡ front ++ bytes → front ≡ take (length front) all
 front_kept front bytes all is = sym (take-append_seam front bytes) ∙ ap (take (length front)) (sym is)
 
-module _ {D : Type 0} (g : disk.Ghosts D) (before now new : Parts D) (o : CaseImage) (xs : List ExecutableView) (aim : Aim) (sized : HasSize (state_of now) o.seq o.size) (reads : ReadsFront g before o.seq o.front.now now) where
+module _ {D : Type 0} (g : disk.Ghosts D) (before now new : Parts D) (o : CaseImage) (xs : List ExecutableView) (asking : Asking) (sized : HasSize (state_of now) o.seq o.size) (reads : ReadsFront g before o.seq o.front.now now) where
   has_before : HasSize (state_of before) o.seq o.size
   has_before = subst (λ (s : ArchiveState). HasSize s o.seq o.size) reads.state sized
 
   -- an image that was read whole
-  pub whole_found : (bytes : List ℕ) (outcome : Outcome) (t : Telling) → ReadsUpTo g now o.seq o.front.now o.size (Ok tt) bytes new → length bytes ≡ o.size → TellsReply t (AnswersWith outcome (aim_answer aim bytes xs))
-      → TellsOutcome t (λ text. ShowsFound g before o xs aim text new) (is_done outcome)
+  pub whole_found : (bytes : List ℕ) (outcome : Outcome) (t : Telling) → ReadsUpTo g now o.seq o.front.now o.size (Ok tt) bytes new → length bytes ≡ o.size → TellsReply t (AnswersWith outcome (asking_answer asking bytes xs))
+      → TellsOutcome t (λ text. ShowsFound g before o xs asking text new) (is_done outcome)
   whole_found bytes outcome t up long told =
       let all = reads_on g before now new o.seq o.size o.size o.front.now bytes (Ok tt) has_before reads up in
       let sees = all_read g before new o.seq o.size bytes has_before all long in
       let begins : IsFrontOf o.front.now o.size bytes = (long, front_kept o.front.now up.0 bytes up.2) in
-      (told.0, (Ok bytes, sees, (begins, answered outcome (aim_answer aim bytes xs) told.0 told.1)), outcome_with outcome (aim_answer aim bytes xs) told.0 told.1, told.2)
+      (told.0, (Ok bytes, sees, (begins, answered outcome (asking_answer asking bytes xs) told.0 told.1)), outcome_with outcome (asking_answer asking bytes xs) told.0 told.1, told.2)
 
-  pub whole_unread : (bytes : List ℕ) (f : ArchiveFault) → ReadsUpTo g now o.seq o.front.now o.size (Err f) bytes new → ShowsFound g before o xs aim (no_reply (reason_of f)) new
+  pub whole_unread : (bytes : List ℕ) (f : ArchiveFault) → ReadsUpTo g now o.seq o.front.now o.size (Err f) bytes new → ShowsFound g before o xs asking (no_reply (reason_of f)) new
   whole_unread bytes f up = (Err f, reads_on g before now new o.seq o.size o.size o.front.now bytes (Err f) has_before reads up, refl)
 
 pub found_outcome : (r : Result Found WalkFault) (done : Bool) → done ≡ is_ok r → IsOutcome done (found_reply r)

@@ -8,3 +8,6 @@ pub mod RestLemmas
 pub mod WalkLemmas
 pub mod FindLemmas
 pub mod FindAskLemmas
+pub mod PieceLemmas
+pub mod MoreLemmas
+pub mod FramesLemmas

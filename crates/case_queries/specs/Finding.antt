@@ -9,16 +9,15 @@ use Rattle.disk_model.specs.declared.disk.Disk as disk
 use Rattle.intake.specs.Parts.{Parts}
 use Rattle.intake.specs.declared.faults.ArchiveFault.{ArchiveFault}
 use Rattle.memory_replies.specs.Answers.{Answers, memory_reply}
-use Rattle.memory_replies.specs.Find.{address_line, find_answer}
-use Rattle.memory_replies.specs.Texts.{strings_answer}
+use Rattle.memory_replies.specs.Find.{address_line}
 use Rattle.memory_replies.specs.Words.{hex_word}
-use Rattle.script_lines.specs.Queries.{QuerySaid, ask_find, ask_strings}
 use Rattle.script_streams.specs.Replies.{no_reply, ok_reply}
 use Rattle.script_words.specs.Printing.{shown}
 use Rattle.windowed_search.specs.ScanWords.{Aim, for_bytes, for_texts}
 use Rattle.windowed_search.specs.TextWords.{text_values}
 use Rattle.windowed_search.specs.declared.memory_scan.Found.{Found}
 use Rattle.windowed_search.specs.declared.memory_scan.Found.TheVariants as found
+use Rattle.case_queries.specs.Asking.{Asking, asking_answer, asking_query}
 use Rattle.case_queries.specs.Seeing.{AreOfCase, LooksAt, SeesImage}
 use Rattle.case_queries.specs.Steps.{ShowsCore}
 use Rattle.journal_layout.specs.declared.entry.Kind.{Kind}
@@ -58,32 +57,23 @@ found_reply (Ok f) = found_lines f ++ ok_reply
 found_reply (Err (Unread f)) = no_reply (reason_of f)
 found_reply (Err OutOfMemory) = memory_reply
 
--- the line that seeks it, and what it answers
-abbrev pub aim_query : Aim → QuerySaid
-aim_query (for_bytes needle) = ask_find needle
-aim_query (for_texts least) = ask_strings least
-
-abbrev pub aim_answer : Aim → List ℕ → List ExecutableView → Result (List ℕ) (List ℕ)
-aim_answer (for_bytes needle) image xs = find_answer image xs needle
-aim_answer (for_texts least) image xs = strings_answer image xs least
-
 -- an answer of an image that begins so, or why it can't be read
-abbrev pub ToldFound : CaseImage → List ExecutableView → Aim → List ℕ → Result (List ℕ) ArchiveFault → Type 0
-ToldFound o xs aim text (Ok image) = IsFrontOf o.front.now o.size image × Answers (aim_answer aim image xs) text
-ToldFound o xs aim text (Err f) = text ≡ no_reply (reason_of f)
+abbrev pub ToldFound : CaseImage → List ExecutableView → Asking → List ℕ → Result (List ℕ) ArchiveFault → Type 0
+ToldFound o xs asking text (Ok image) = IsFrontOf o.front.now o.size image × Answers (asking_answer asking image xs) text
+ToldFound o xs asking text (Err f) = text ≡ no_reply (reason_of f)
 
 -- what the line shows, with these executables
-abbrev pub ShowsFound : {D : Type 0} → disk.Ghosts D → Parts D → CaseImage → List ExecutableView → Aim → List ℕ → Parts D → Type 0
-ShowsFound g before o xs aim text now = (r : Result (List ℕ) ArchiveFault) × LooksAt g before o.seq r now × ToldFound o xs aim text r
+abbrev pub ShowsFound : {D : Type 0} → disk.Ghosts D → Parts D → CaseImage → List ExecutableView → Asking → List ℕ → Parts D → Type 0
+ShowsFound g before o xs asking text now = (r : Result (List ℕ) ArchiveFault) × LooksAt g before o.seq r now × ToldFound o xs asking text r
 
 -- the bytes at hand are the first of the case's image
 abbrev pub IsFrontOfCase : {D : Type 0} → disk.Ghosts D → Parts D → CaseImage → Type 0
 IsFrontOfCase g a o = (image : List ℕ) × AreOfCase g a o.seq image × (o.front.now ≡ take (length o.front.now) image)
 
 -- What the line shows of a core that has no fault and begins so, with the executables that are read beside it; or why it can't be read.
-abbrev pub ShowsFront : {D : Type 0} → disk.Ghosts D → Parts D → CaseImage → Aim → Result (List ℕ) ArchiveFault → List ℕ → Parts D → Type 0
-ShowsFront g mid o aim (Ok image) text new = IsFrontOf o.front.now o.size image × ((kind : Kind) → ShowsCore g mid kind (aim_query aim) image text new)
-ShowsFront g mid o aim (Err f) text new = (text ≡ no_reply (reason_of f)) × (new ≡ mid)
+abbrev pub ShowsFront : {D : Type 0} → disk.Ghosts D → Parts D → CaseImage → Asking → Result (List ℕ) ArchiveFault → List ℕ → Parts D → Type 0
+ShowsFront g mid o asking (Ok image) text new = IsFrontOf o.front.now o.size image × ((kind : Kind) → ShowsCore g mid kind (asking_query asking) image text new)
+ShowsFront g mid o asking (Err f) text new = (text ≡ no_reply (reason_of f)) × (new ≡ mid)
 
-abbrev pub AsksFront : {D : Type 0} → disk.Ghosts D → Parts D → CaseImage → Aim → List ℕ → Parts D → Type 0
-AsksFront {D} g before o aim text new = (r : Result (List ℕ) ArchiveFault) × (mid : Parts D) × LooksAt g before o.seq r mid × ShowsFront g mid o aim r text new
+abbrev pub AsksFront : {D : Type 0} → disk.Ghosts D → Parts D → CaseImage → Asking → List ℕ → Parts D → Type 0
+AsksFront {D} g before o asking text new = (r : Result (List ℕ) ArchiveFault) × (mid : Parts D) × LooksAt g before o.seq r mid × ShowsFront g mid o asking r text new

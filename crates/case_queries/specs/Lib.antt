@@ -9,4 +9,7 @@ pub mod Windows
 pub mod InspectLaws
 pub mod Steps
 pub mod Walking
+pub mod Asking
+pub mod PieceWords
+pub mod Pieces
 pub mod Finding

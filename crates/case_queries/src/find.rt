@@ -1,4 +1,4 @@
-// The answers to `find` and `strings` of a core that is read window by window.
+// The answers to `find`, `strings`, `unwind` and `frame` of a core that is read piece by piece.
 ghost use Rattle.std.specs.Prelude.{◌≡◌, ◌<◌, ◌≤◌, ◌-◌, ◌^◌, false, ℕ, List, None, Ok, Some, map, is_ok, length};
 ghost use Rattle.address_space.specs.Source.{Space};
 ghost use Rattle.address_space.specs.Whole.{IsFrontOf};
@@ -14,7 +14,8 @@ ghost use Rattle.windowed_search.specs.Rising.{IsRising};
 ghost use Rattle.windowed_search.specs.ScanWords.{IsAim, aim_of};
 ghost use Rattle.windowed_search.specs.StepWords.{StepsFit};
 ghost use Rattle.case_queries.specs.CollectingWords.{executable_view};
-ghost use Rattle.case_queries.specs.Finding.{AsksFront, Finds, IsFrontOfCase, ShowsFound, aim_answer, aim_query};
+ghost use Rattle.case_queries.specs.Asking.{IsAsking, aim_answer, asking_of, asking_query, for_aim};
+ghost use Rattle.case_queries.specs.Finding.{AsksFront, Finds, IsFrontOfCase, ShowsFound};
 ghost use Rattle.case_queries.specs.Fronts.{HasSize, IsEnough, IsSoundFront, ReadsFront, SeesEnough};
 ghost use Rattle.script_lines.specs.Queries.{memory_query};
 ghost use Rattle.case_queries.specs.Keeping.{AreKept, StayCollected};
@@ -24,8 +25,10 @@ ghost use Rattle.journal_layout.specs.declared.entry.Kind.{Kind};
 ghost use Rattle.case_queries.specs.LeaveLaws.{Leaves};
 ghost use Rattle.case_queries.specs.Walking.{LeadsOn};
 
+use crate::asked::Asked;
 use crate::collect_executables::{StoredExecutable, lent};
 use crate::found::tell_found;
+use crate::frames::frames_in_core;
 use crate::front::{read_up_to, see_front};
 use crate::kept_image::{Images, KeptImage, kept_if};
 use crate::memory::{answer_memory, collected, refused_by};
@@ -78,7 +81,7 @@ fn search_windows<D: Disk>(
 }
 
 // Tells that there is no memory.
-fn tell_no_memory<O: Output>(reply: &mut Reply<'_, O>) -> Outcome
+pub(crate) fn tell_no_memory<O: Output>(reply: &mut Reply<'_, O>) -> Outcome
     ensures tells { TellsText (telling O.Output reply.old reply.new) memory_reply }
     ensures done { is_done result ≡ false }
 {
@@ -120,7 +123,7 @@ fn find_in_whole<O: Output, D: Disk>(
     requires sound { IsSoundFront Core image.front.now }
     requires clean { core_fault_of image.front.now ≡ None }
     ensures { (before : Parts D) → ReadsFront D.Disk before image.entry.seq image.entry.front.now archive.old
-        → TellsOutcome (telling O.Output reply.old reply.new) (λ text. ShowsFound D.Disk before image.entry (map attached_view attached.now) (aim_of sought.entry) text archive.new) (is_done result) }
+        → TellsOutcome (telling O.Output reply.old reply.new) (λ text. ShowsFound D.Disk before image.entry (map attached_view attached.now) (for_aim (aim_of sought.entry)) text archive.new) (is_done result) }
 {
     a_sound_front_answers();
     let Ok(mut bytes) = Vec::with_capacity(alloc, image.size) else {
@@ -153,7 +156,7 @@ fn find_in_core<O: Output, D: Disk>(
     requires sound { IsSoundFront Core image.front.now }
     requires clean { core_fault_of image.front.now ≡ None }
     ensures { (before : Parts D) → ReadsFront D.Disk before image.entry.seq image.entry.front.now archive.old
-        → TellsOutcome (telling O.Output reply.old reply.new) (λ text. ShowsFound D.Disk before image.entry (map attached_view attached.now) (aim_of sought.entry) text archive.new) (is_done result) }
+        → TellsOutcome (telling O.Output reply.old reply.new) (λ text. ShowsFound D.Disk before image.entry (map attached_view attached.now) (for_aim (aim_of sought.entry)) text archive.new) (is_done result) }
 {
     a_sound_front_names_the_files();
     let Ok(space) = space_with(alloc, core, attached) else {
@@ -169,27 +172,54 @@ fn find_in_core<O: Output, D: Disk>(
     }
 }
 
+// What a line asks of a core of which the first bytes are at hand.
+fn answer_in_core<O: Output, D: Disk>(
+    alloc: Global,
+    image: CaseImage<'_>,
+    core: &CoreImage<'_>,
+    attached: &[Attached<'_>],
+    asked: Asked<'_>,
+    reply: &mut Reply<'_, O>,
+    archive: &mut Archive<D>,
+) -> Outcome
+    requires has { HasSize (state_of archive.old) image.seq image.size }
+    requires some { IsAsking (asking_of asked) }
+    requires short { length image.front.now ≤ image.size }
+    requires front { core_bytes core.now ≡ image.front.now }
+    requires sound { IsSoundFront Core image.front.now }
+    requires clean { core_fault_of image.front.now ≡ None }
+    ensures { (before : Parts D) → ReadsFront D.Disk before image.entry.seq image.entry.front.now archive.old
+        → TellsOutcome (telling O.Output reply.old reply.new) (λ text. ShowsFound D.Disk before image.entry (map attached_view attached.now) (asking_of asked.entry) text archive.new) (is_done result) }
+{
+    match asked {
+        Asked::Sought(sought) => find_in_core(alloc, image, core, attached, sought, reply, archive),
+        Asked::Frames { thread, frame } => {
+            frames_in_core(alloc, image, core, attached, thread, frame, reply, archive)
+        }
+    }
+}
+
 // The same with these executables.
 fn find_with<O: Output, D: Disk>(
     alloc: Global,
     image: CaseImage<'_>,
     core: &CoreImage<'_>,
     executables: &[StoredExecutable],
-    sought: Sought<'_>,
+    asked: Asked<'_>,
     reply: &mut Reply<'_, O>,
     archive: &mut Archive<D>,
 ) -> Outcome
     requires has { HasSize (state_of archive.old) image.seq image.size }
-    requires some { IsAim (aim_of sought) }
+    requires some { IsAsking (asking_of asked) }
     requires short { length image.front.now ≤ image.size }
     requires front { core_bytes core.now ≡ image.front.now }
     requires sound { IsSoundFront Core image.front.now }
     requires clean { core_fault_of image.front.now ≡ None }
     ensures { (before : Parts D) → ReadsFront D.Disk before image.entry.seq image.entry.front.now archive.old
-        → TellsOutcome (telling O.Output reply.old reply.new) (λ text. ShowsFound D.Disk before image.entry (map executable_view executables.now) (aim_of sought.entry) text archive.new) (is_done result) }
+        → TellsOutcome (telling O.Output reply.old reply.new) (λ text. ShowsFound D.Disk before image.entry (map executable_view executables.now) (asking_of asked.entry) text archive.new) (is_done result) }
 {
     match lent(alloc, executables) {
-        Ok(attached) => find_in_core(alloc, image, core, &attached, sought, reply, archive),
+        Ok(attached) => answer_in_core(alloc, image, core, &attached, asked, reply, archive),
         Err(_) => tell_no_memory(reply),
     }
 }
@@ -200,14 +230,14 @@ fn find_collected<O: Output, D: Disk>(
     alloc: Global,
     image: CaseImage<'_>,
     core: &CoreImage<'_>,
-    sought: Sought<'_>,
+    asked: Asked<'_>,
     kept: &mut Option<Vec<StoredExecutable>>,
     reply: &mut Reply<'_, O>,
     archive: &mut Archive<D>,
 ) -> Outcome
     requires runs { archive.old.stopped ≡ false }
     requires has { HasSize (state_of archive.old) image.seq image.size }
-    requires some { IsAim (aim_of sought) }
+    requires some { IsAsking (asking_of asked) }
     requires short { length image.front.now ≤ image.size }
     requires front { core_bytes core.now ≡ image.front.now }
     requires sound { IsSoundFront Core image.front.now }
@@ -215,14 +245,14 @@ fn find_collected<O: Output, D: Disk>(
     requires own { IsFrontOfCase D.Disk archive.old image }
     requires kept { StayCollected D.Disk archive.old image.front.now kept.old }
     ensures answers { (before : Parts D) → ReadsFront D.Disk before image.entry.seq image.entry.front.now archive.old
-        → TellsOutcome (telling O.Output reply.old reply.new) (λ text. AsksFront D.Disk before image.entry (aim_of sought.entry) text archive.new) (is_done result) }
+        → TellsOutcome (telling O.Output reply.old reply.new) (λ text. AsksFront D.Disk before image.entry (asking_of asked.entry) text archive.new) (is_done result) }
     ensures kept { StayCollected D.Disk archive.new image.entry.front.now kept.new }
     ensures leaves { Leaves D.Disk archive.old archive.new }
 {
     a_sound_front_names_the_files();
     match collected(alloc, core, kept.take(), archive) {
         Ok(executables) => {
-            let outcome = find_with(alloc, image, core, &executables, sought, reply, archive);
+            let outcome = find_with(alloc, image, core, &executables, asked, reply, archive);
             *kept = Some(executables);
             outcome
         }
@@ -237,26 +267,26 @@ fn find_collected<O: Output, D: Disk>(
 fn find_front<O: Output, D: Disk>(
     alloc: Global,
     image: CaseImage<'_>,
-    sought: Sought<'_>,
+    asked: Asked<'_>,
     kept: &mut Option<Vec<StoredExecutable>>,
     reply: &mut Reply<'_, O>,
     archive: &mut Archive<D>,
 ) -> Outcome
     requires runs { archive.old.stopped ≡ false }
     requires has { HasSize (state_of archive.old) image.seq image.size }
-    requires some { IsAim (aim_of sought) }
+    requires some { IsAsking (asking_of asked) }
     requires short { length image.front.now ≤ image.size }
     requires sound { IsSoundFront Core image.front.now }
     requires own { IsFrontOfCase D.Disk archive.old image }
     requires kept { StayCollected D.Disk archive.old image.front.now kept.old }
     ensures answers { (before : Parts D) (kind : Kind) → ReadsFront D.Disk before image.entry.seq image.entry.front.now archive.old
-        → TellsOutcome (telling O.Output reply.old reply.new) (λ text. Asks D.Disk before image.entry.seq (aim_query (aim_of sought.entry)) (Ok kind) text archive.new) (is_done result) }
+        → TellsOutcome (telling O.Output reply.old reply.new) (λ text. Asks D.Disk before image.entry.seq (asking_query (asking_of asked.entry)) (Ok kind) text archive.new) (is_done result) }
     ensures kept { StayCollected D.Disk archive.new image.entry.front.now kept.new }
     ensures leaves { Leaves D.Disk archive.old archive.new }
 {
     a_sound_front_answers();
     match CoreImage::read(image.front) {
-        Ok(core) => find_collected(alloc, image, &core, sought, kept, reply, archive),
+        Ok(core) => find_collected(alloc, image, &core, asked, kept, reply, archive),
         Err(fault) => {
             tell_core_fault(reply, fault);
             Outcome::Refused
@@ -270,15 +300,15 @@ fn find_seen<O: Output, D: Disk>(
     kind: Kind,
     size: usize,
     query: &MemoryQuery,
-    sought: Sought<'_>,
+    asked: Asked<'_>,
     kept: &mut KeptImage,
     reply: &mut Reply<'_, O>,
     archive: &mut Archive<D>,
 ) -> Outcome
     requires runs { archive.old.stopped ≡ false }
     requires has { HasSize (state_of archive.old) kept.old.seq size }
-    requires some { IsAim (aim_of sought) }
-    requires asked { memory_query query.now ≡ aim_query (aim_of sought) }
+    requires some { IsAsking (asking_of asked) }
+    requires says { memory_query query.now ≡ asking_query (asking_of asked) }
     requires enough { (image : List ℕ) × IsEnough Core kept.old.image.items image × (length image ≡ size) }
     requires kept { IsKept D.Disk archive.old (Some kept.old) }
     requires are_kept { AreKept D.Disk archive.old (Some kept.old) }
@@ -309,24 +339,24 @@ fn find_seen<O: Output, D: Disk>(
         size,
         front: &kept.image,
     };
-    find_front(alloc, image, sought, &mut kept.executables, reply, archive)
+    find_front(alloc, image, asked, &mut kept.executables, reply, archive)
 }
 
-// Answers `find` or `strings` of a case of this kind and size. Says whether it was done; if not, it was refused.
+// Answers `find`, `strings`, `unwind` or `frame` of a case of this kind and size. Says whether it was done; if not, it was refused.
 pub(crate) fn answer_find<O: Output, D: Disk>(
     seq: u32,
     kind: Kind,
     size: usize,
     query: &MemoryQuery,
-    sought: Sought<'_>,
+    asked: Asked<'_>,
     images: &mut Images,
     reply: &mut Reply<'_, O>,
     archive: &mut Archive<D>,
 ) -> bool
     requires runs { archive.old.stopped ≡ false }
     requires has { HasSize (state_of archive.old) seq size }
-    requires some { IsAim (aim_of sought) }
-    requires asked { memory_query query.now ≡ aim_query (aim_of sought) }
+    requires some { IsAsking (asking_of asked) }
+    requires says { memory_query query.now ≡ asking_query (asking_of asked) }
     requires kept { IsKept D.Disk archive.old images.old.kept }
     requires are_kept { AreKept D.Disk archive.old images.old.kept }
     ensures answers { TellsOutcome (telling O.Output reply.old reply.new) (λ text. Asks D.Disk archive.old seq (memory_query query.now) (Ok kind) text archive.new) result }
@@ -341,7 +371,7 @@ pub(crate) fn answer_find<O: Output, D: Disk>(
                 kind,
                 size,
                 query,
-                sought,
+                asked,
                 &mut front,
                 reply,
                 archive,

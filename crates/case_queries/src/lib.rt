@@ -1,14 +1,17 @@
 //! The answers to lines that ask the image of a case in an archive.
 #![tactic(auto)]
 
+mod asked;
 mod by_front;
 mod collect_executables;
 mod find;
 mod found;
+mod frames;
 mod front;
 mod inspect;
 mod kept_image;
 mod memory;
+mod pieces;
 mod stack;
 mod walk;
 mod wanted;

@@ -8,14 +8,14 @@ ghost use Rattle.memory_replies.specs.Memory.{attached_view};
 ghost use Rattle.intake.specs.Parts.{state_of};
 ghost use Rattle.case_queries.specs.Collecting.{CollectsAll, wanted_of};
 ghost use Rattle.case_queries.specs.CollectingWords.{executable_view, collected_view};
-ghost use Rattle.windowed_search.specs.ScanWords.{IsAim, aim_of};
-ghost use Rattle.case_queries.specs.Finding.{aim_query};
+ghost use Rattle.case_queries.specs.Asking.{IsAsking, asking_of, asking_query};
 ghost use Rattle.case_queries.specs.Inspecting.{answer_of};
 ghost use Rattle.case_queries.specs.Steps.{Asks, Shows, ShowsCore};
 ghost use Rattle.case_queries.specs.Keeping.{AreKept, StayCollected};
 ghost use Rattle.case_queries.specs.Seeing.{IsKept};
 ghost use Rattle.case_queries.specs.Windows.{IsSeenBy};
 
+use crate::asked::Asked;
 use crate::collect_executables::{StoredExecutable, collect_executables, lent};
 use crate::find::answer_find;
 use crate::front::size_of;
@@ -61,27 +61,37 @@ pub(crate) fn answer_by_memory<O: Output, D: Disk>(
     let Some(size) = size_of(seq, archive) else {
         return answer_seen(seq, kind, query, images, reply, archive);
     };
-    match sought_in(query, size) {
-        Some(sought) => answer_find(seq, kind, size, query, sought, images, reply, archive),
+    match asked_in(query, size) {
+        Some(asked) => answer_find(seq, kind, size, query, asked, images, reply, archive),
         None => answer_seen(seq, kind, query, images, reply, archive),
     }
 }
 
-// What a line seeks in an image of that size, if it is read window by window for it.
-fn sought_in(query: &MemoryQuery, size: usize) -> Option<Sought<'_>>
-    ensures { IfSome result (λ s. IsAim (aim_of s) × (memory_query query.now ≡ aim_query (aim_of s))) }
+// What a line asks of an image of that size, if it is read piece by piece for it.
+fn asked_in(query: &MemoryQuery, size: usize) -> Option<Asked<'_>>
+    ensures { IfSome result (λ a. IsAsking (asking_of a) × (memory_query query.now ≡ asking_query (asking_of a))) }
 {
-    if size <= SMALL {
-        return None;
-    }
     match query {
-        MemoryQuery::Find { needle } => Some(Sought::Bytes(needle.bytes.as_slice())),
-        MemoryQuery::Strings { least } => {
-            if *least == 0 {
+        MemoryQuery::Find { needle } => {
+            if size <= SMALL {
                 return None;
             }
-            Some(Sought::Texts(*least))
+            Some(Asked::Sought(Sought::Bytes(needle.bytes.as_slice())))
         }
+        MemoryQuery::Strings { least } => {
+            if size <= SMALL || *least == 0 {
+                return None;
+            }
+            Some(Asked::Sought(Sought::Texts(*least)))
+        }
+        MemoryQuery::Unwind { thread } => Some(Asked::Frames {
+            thread: *thread,
+            frame: None,
+        }),
+        MemoryQuery::Frame { thread, frame } => Some(Asked::Frames {
+            thread: *thread,
+            frame: Some(*frame),
+        }),
         _ => None,
     }
 }

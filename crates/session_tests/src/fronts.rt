@@ -335,3 +335,39 @@ fn frames_that_leave_the_stack_are_read_with_each_byte_once(rt: HostRuntime) -> 
     assert_eq!(rt; read_for(alloc, &core, "bt 1 0\n")?, core.len() as u64);
     Ok(())
 }
+
+// A core of a MiB of memory, whose one thread has this pc: an NT_PRSTATUS with pc in its registers.
+fn core_at(alloc: Global, pc: u64) -> Result<Vec<u8>, Fail> {
+    let memory = vec![in alloc; 7u8; 1 << 20]?;
+    let mut state = vec![in alloc; 0u8; 376]?;
+    for (i, byte) in pc.to_le_bytes().iter().enumerate() {
+        if let Some(place) = state.get_mut(112 + i) {
+            *place = *byte;
+        }
+    }
+    let status = NotePart {
+        name: b"CORE",
+        kind: 1,
+        desc: &state,
+    };
+    Ok(core_image(alloc, &[status], &[segment(0x10000, &memory)])?)
+}
+
+// Whether `unwind`, and then `frame`, read so many bytes more than `header` of a core whose pc is at this place of its image. The memory
+// is from place 572 on, and its first address is 0x10000. The words at the pc and 4 before it are looked at.
+fn unwinds_with(alloc: Global, place: u64, more: u64) -> Result<bool, Fail> {
+    let core = core_at(alloc, 0x10000 + place - 572)?;
+    Ok(reads_more(alloc, &core, "unwind 1 0\n", more)?
+        && reads_more(alloc, &core, "frame 1 0 0\n", more)?)
+}
+
+#[test]
+fn frames_read_a_front_and_the_pieces_that_they_want(rt: HostRuntime) -> Result<(), Fail> {
+    let alloc = rt.alloc();
+    assert!(rt; unwinds_with(alloc, 1000, 0)?);
+    assert!(rt; unwinds_with(alloc, 0x7_0100, 65_536)?);
+    assert!(rt; unwinds_with(alloc, 0x7_0002, 131_072)?);
+    assert!(rt; unwinds_with(alloc, 0x1_0002, 65_536)?);
+    assert!(rt; unwinds_with(alloc, 0x10_0100, 572)?);
+    Ok(())
+}

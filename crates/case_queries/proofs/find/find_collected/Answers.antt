@@ -2,7 +2,7 @@ use Rattle.std.proofs.Common.{Some, Ok, Err, map, refl, subst}
 use Rattle.archive_replies.specs.Reasons.{reason_of}
 use Rattle.image_replies.specs.CoreWords.{core_bytes}
 use Rattle.intake.specs.Parts.{state_of}
-use Rattle.windowed_search.specs.ScanWords.{aim_of}
+use Rattle.case_queries.specs.Asking.{asking_of}
 use Rattle.case_queries.specs.Collecting.{CollectsAll, wanted_of}
 use Rattle.case_queries.specs.CollectingWords.{executable_view}
 use Rattle.case_queries.specs.Keeping.{StayCollected}
@@ -22,11 +22,11 @@ returns-in-Ok-clause-answers g c before reads =
     let views = map executable_view c.in-Ok.executables.items in
     let leaves = all_leaves g.D.Disk now mid ws (Ok views) c.in-Ok.ensures.collected in
     let again = reads_again g.D.Disk mid image (g.met.D.Disk.only_now mid.disk) (own_after g.D.Disk now mid image leaves c.requires.own) in
-    let after = found_leaves g.D.Disk mid new image _ (aim_of c.args.sought) _ (c.find_with-outcome.ensures mid again).1 in
+    let after = found_leaves g.D.Disk mid new image _ (asking_of c.args.asked) _ (c.find_with-outcome.ensures mid again).1 in
     let stay = subst (λ b. StayCollected g.D.Disk mid b (Some c.in-Ok.executables)) c.requires.front c.in-Ok.ensures.kept in
     let told = rw c.deref.ensures.value at (c.find_with-outcome.ensures before (still_front g.D.Disk g.met.D.Disk.only_now before now mid image.seq image.front.now ws views reads c.in-Ok.ensures.collected)) in (
       told.0,
-      found_asked g.D.Disk c.a_sound_front_names_the_files.ensures image c.requires.sound (aim_of c.args.sought) before new c.in-Ok.executables told.0 (stay_after g.D.Disk new (g.met.D.Disk.only_now new.disk) mid image.front.now (Some c.in-Ok.executables) after stay) told.1,
+      found_asked g.D.Disk c.a_sound_front_names_the_files.ensures image c.requires.sound (asking_of c.args.asked) before new c.in-Ok.executables told.0 (stay_after g.D.Disk new (g.met.D.Disk.only_now new.disk) mid image.front.now (Some c.in-Ok.executables) after stay) told.1,
       told.2,
       told.3,
     )
@@ -41,7 +41,7 @@ returns-in-Ok-clause-kept g c =
     let views = map executable_view c.in-Ok.executables.items in
     let leaves = all_leaves g.D.Disk now mid ws (Ok views) c.in-Ok.ensures.collected in
     let again = reads_again g.D.Disk mid image (g.met.D.Disk.only_now mid.disk) (own_after g.D.Disk now mid image leaves c.requires.own) in
-    let after = found_leaves g.D.Disk mid new image _ (aim_of c.args.sought) _ (c.find_with-outcome.ensures mid again).1 in
+    let after = found_leaves g.D.Disk mid new image _ (asking_of c.args.asked) _ (c.find_with-outcome.ensures mid again).1 in
     let stay = subst (λ b. StayCollected g.D.Disk mid b (Some c.in-Ok.executables)) c.requires.front c.in-Ok.ensures.kept in
     stay_after g.D.Disk new (g.met.D.Disk.only_now new.disk) mid image.front.now (Some c.in-Ok.executables) after stay
 
@@ -55,7 +55,7 @@ returns-in-Ok-clause-leaves g c =
     let views = map executable_view c.in-Ok.executables.items in
     let leaves = all_leaves g.D.Disk now mid ws (Ok views) c.in-Ok.ensures.collected in
     let again = reads_again g.D.Disk mid image (g.met.D.Disk.only_now mid.disk) (own_after g.D.Disk now mid image leaves c.requires.own) in
-    leaves_then g.D.Disk now mid new leaves (found_leaves g.D.Disk mid new image _ (aim_of c.args.sought) _ (c.find_with-outcome.ensures mid again).1)
+    leaves_then g.D.Disk now mid new leaves (found_leaves g.D.Disk mid new image _ (asking_of c.args.asked) _ (c.find_with-outcome.ensures mid again).1)
 
 pub returns-in-Err-clause-answers : goal.returns-in-Err-clause-answers
 returns-in-Err-clause-answers g c before reads =
@@ -64,7 +64,7 @@ returns-in-Err-clause-answers g c before reads =
     let now = c.args.archive.now in
     let collects = subst (λ b. CollectsAll g.D.Disk now (wanted_of b (state_of now).cases) (Err f) c.collected.new.archive) c.requires.front c.in-Err.ensures.collected in (
       _,
-      unread_asked g.D.Disk c.a_sound_front_names_the_files.ensures image c.requires.sound (aim_of c.args.sought) before now c.collected.new.archive f c.requires.has c.requires.short reads collects,
+      unread_asked g.D.Disk c.a_sound_front_names_the_files.ensures image c.requires.sound (asking_of c.args.asked) before now c.collected.new.archive f c.requires.has c.requires.short reads collects,
       rw c.refused_by.ensures (reason_of f, refl),
       rw c.reason.ensures at c.tell_no.ensures,
     )

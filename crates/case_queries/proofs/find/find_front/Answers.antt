@@ -1,6 +1,6 @@
 use Rattle.std.proofs.Common.{refl}
 use Rattle.image_replies.specs.Reasons.{core_reason}
-use Rattle.windowed_search.specs.ScanWords.{aim_of}
+use Rattle.case_queries.specs.Asking.{asking_of}
 use Rattle.case_queries.proofs.FindAskLemmas.{fault_asked, front_asked}
 use Rattle.case_queries.proofs.find.find_front.Goals as goal
 
@@ -8,9 +8,9 @@ pub returns-in-Ok-clause-answers : goal.returns-in-Ok-clause-answers
 returns-in-Ok-clause-answers g c before kind reads =
     let image = c.args.image in
     let told = c.find_collected.ensures.answers before reads in
-    (told.0, front_asked g.D.Disk c.a_sound_front_answers.ensures.fault before c.find_collected.new.archive image (aim_of c.args.sought) told.0 kind c.requires.sound c.in-Ok.ensures.fault told.1, told.2, told.3)
+    (told.0, front_asked g.D.Disk c.a_sound_front_answers.ensures.fault before c.find_collected.new.archive image (asking_of c.args.asked) told.0 kind c.requires.sound c.in-Ok.ensures.fault told.1, told.2, told.3)
 
 pub returns-in-Err-clause-answers : goal.returns-in-Err-clause-answers
 returns-in-Err-clause-answers g c before kind reads =
     let image = c.args.image in
-    (_, fault_asked g.D.Disk c.a_sound_front_answers.ensures.fault before c.args.archive.now image (aim_of c.args.sought) kind c.in-Err.fault c.requires.has c.requires.short c.requires.sound c.in-Err.ensures.fault reads, (core_reason c.in-Err.fault, refl), c.tell_core_fault.ensures)
+    (_, fault_asked g.D.Disk c.a_sound_front_answers.ensures.fault before c.args.archive.now image (asking_of c.args.asked) kind c.in-Err.fault c.requires.has c.requires.short c.requires.sound c.in-Err.ensures.fault reads, (core_reason c.in-Err.fault, refl), c.tell_core_fault.ensures)

@@ -8,6 +8,7 @@ use Rattle.memory_replies.proofs.WindowLemmas.{files_in_front, memory_in}
 use Rattle.windowed_search.specs.StepWords.{Leads}
 use Rattle.windowed_search.specs.declared.steps.Step.{Step}
 use Rattle.windowed_search.specs.ScanWords.{aim_of}
+use Rattle.case_queries.specs.Asking.{for_aim}
 use Rattle.case_queries.proofs.FindLemmas.{found_outcome, found_shown, memory_outcome, none_shown}
 use Rattle.case_queries.proofs.find.find_in_core.Goals as goal
 
@@ -17,12 +18,12 @@ given_some P r o v is some told = subst (λ x. IfSome x P) some (subst (λ x. If
 pub returns-in_default : goal.returns-in_default
 returns-in_default g c before reads =
     let image = c.args.image in
-    (_, none_shown g.D.Disk before image c.args.archive.now _ (aim_of c.args.sought) c.requires.has c.requires.short reads, memory_outcome _ c.tell_no_memory.ensures.done, c.tell_no_memory.ensures.tells)
+    (_, none_shown g.D.Disk before image c.args.archive.now _ (for_aim (aim_of c.args.sought)) c.requires.has c.requires.short reads, memory_outcome _ c.tell_no_memory.ensures.done, c.tell_no_memory.ensures.tells)
 
 pub returns : goal.returns
 returns g c before reads =
     let image = c.args.image in
-    (_, none_shown g.D.Disk before image c.args.archive.now _ (aim_of c.args.sought) c.requires.has c.requires.short reads, memory_outcome _ c.tell_no_memory-in-Err.ensures.done, c.tell_no_memory-in-Err.ensures.tells)
+    (_, none_shown g.D.Disk before image c.args.archive.now _ (for_aim (aim_of c.args.sought)) c.requires.has c.requires.short reads, memory_outcome _ c.tell_no_memory-in-Err.ensures.done, c.tell_no_memory-in-Err.ensures.tells)
 
 pub returns-in-Ok-Some : goal.returns-in-Ok-Some
 returns-in-Ok-Some g c before reads =

@@ -43,7 +43,7 @@ returns-clause-answers g c before seen =
     let now = c.args.archive.now in
     let reads = seen_reads g.D.Disk before now seq seen.0 k seen.1 (enough_cut Core k seen.0 seen.2) in
     let told = c.find_front.ensures.answers before c.args.kind (subst (λ b. ReadsFront g.D.Disk before seq b now) (sym c.deref-2.ensures.value) reads) in
-    (told.0, subst (λ (q : QuerySaid). Asks g.D.Disk before seq q (Ok c.args.kind) told.0 c.find_front.new.archive) (sym c.requires.asked) told.1, told.2, told.3)
+    (told.0, subst (λ (q : QuerySaid). Asks g.D.Disk before seq q (Ok c.args.kind) told.0 c.find_front.new.archive) (sym c.requires.says) told.1, told.2, told.3)
 
 pub returns-clause-kept : goal.returns-clause-kept
 returns-clause-kept g c = kept_after g.D.Disk c.args.archive.now c.find_front.new.archive c.args.kept.now c.find_front.ensures.leaves c.requires.kept

@@ -1,0 +1,85 @@
+-- What is shown of the frames of a thread of a core that is read piece by piece.
+use Rattle.std.proofs.Common.{◌≡◌, ◌≤◌, inl, inr, ℕ, ◌-◌, List, [], ◌++◌, take, length, replicate, Option, None, Some, Ok, Err, refl, ap, sym, ◌∙◌, arith}
+use Rattle.std.specs.Prelude.{codes, slice_get}
+use Rattle.std.proofs.lemmas.List.{length-append, length-replicate}
+use Rattle.std.proofs.Math.Seq.{take-append_seam}
+use Rattle.disk_model.specs.declared.disk.Disk as disk
+use Rattle.elf_view.specs.NoteList.{NoteView}
+use Rattle.elf_view.specs.Sound.{IsHeaderWhole, IsSound}
+use Rattle.elf_view.specs.ViewWords.{notes_of}
+use Rattle.elf_view.specs.declared.faults.Want.{Want}
+use Rattle.elf_view.specs.declared.faults.Want.TheVariants.{Core}
+use Rattle.core_notes.specs.Typed.{all_descs}
+use Rattle.address_space.specs.Source.{ExecutableView}
+use Rattle.address_space.specs.Whole.{IsFrontOf}
+use Rattle.frame_replies.specs.Processes.{state_of as thread_state}
+use Rattle.frame_replies.specs.Walking.{BeginsAt, IsProcessOf, IsWalkOf}
+use Rattle.frame_replies.specs.WalkLaws.{frame_missing, unwind_missing, walk_begins}
+use Rattle.frame_replies.specs.declared.process.UnwoundProcess.{UnwoundProcess}
+use Rattle.frame_replies.specs.declared.walk.Walk as frames
+use Rattle.intake.specs.Parts.{Parts, state_of}
+use Rattle.memory_replies.specs.Answers.{AnswersWith, is_done}
+use Rattle.memory_replies.specs.declared.outcome.Outcome.{Outcome}
+use Rattle.script_streams.specs.Replies.{Telling, TellsOutcome, TellsReply, no_reply, reply_of}
+use Rattle.unwind.specs.declared.faults.Stop.{Stop}
+use Rattle.case_queries.specs.Asking.{for_frames, frames_answer}
+use Rattle.case_queries.specs.Finding.{ShowsFound, found_reply}
+use Rattle.case_queries.specs.Fronts.{HasSize, IsSoundFront, ReadsFront}
+use Rattle.case_queries.specs.Pieces.{FindsFrames, SeesPieces}
+use Rattle.case_queries.specs.declared.walk.CaseImage.{CaseImage}
+use Rattle.case_queries.specs.declared.walk.WalkFault.{WalkFault}
+use Rattle.case_queries.specs.declared.walk.WalkFault.TheVariants.{OutOfMemory, Unread}
+use Rattle.case_queries.proofs.FindAskLemmas.{FilesLaw}
+use Rattle.case_queries.proofs.FindLemmas.{at_start, some_seen}
+use Rattle.case_queries.proofs.ShowLemmas.{answered, enough_shows, outcome_with}
+
+-- there is an image that begins so
+pub some_front : (front : List ℕ) (size : ℕ) → length front ≤ size → (b : List ℕ) × IsFrontOf front size b
+some_front front size short =
+    let rest : List ℕ = replicate (size - length front) 0 in
+    let l1 = length-append front rest in
+    let l2 : length rest ≡ size - length front = length-replicate (size - length front) 0 in
+    (front ++ rest, (omega (arith, l1, l2, short), sym (take-append_seam front rest)))
+
+abbrev pub NotesLaw : Type 0
+NotesLaw = (want : Want) (b : List ℕ) (n : ℕ) → IsHeaderWhole (take n b) → IsSound want (take n b) → notes_of want (take n b) ≡ notes_of want b
+
+module _ (notes : NotesLaw) (o : CaseImage) (sound : IsSoundFront Core o.front.now) (t : ℕ) where
+  -- the first bytes have the threads
+  state_same : (image : List ℕ) → IsFrontOf o.front.now o.size image → thread_state o.front.now t ≡ thread_state image t
+  state_same image front =
+      enough_shows (λ b. thread_state b t) (λ b n whole fine. ap (λ (ns : List NoteView). slice_get (all_descs 1 ns) t) (notes Core b n whole fine)) o.front.now image (inr (front.1, sound))
+
+  -- a walk that begins
+  pub begins_of : FilesLaw → (xs : List ExecutableView) (p : UnwoundProcess) (w : frames.Walk) → IsProcessOf o.front.now xs p → BeginsAt (thread_state o.front.now t) w → (image : List ℕ) → IsFrontOf o.front.now o.size image → IsWalkOf image xs t p w
+  begins_of law xs p w is begins image front =
+      walk_begins o.front.now image xs t p w is (enough_shows _ law o.front.now image (inr (front.1, sound))) (state_same image front) begins
+
+  no_thread : (image : List ℕ) (xs : List ExecutableView) (frame : Option ℕ) → thread_state image t ≡ None → no_reply (codes "NoThread") ≡ reply_of (frames_answer image xs t frame)
+  no_thread image xs None none = ap reply_of (unwind_missing image xs t none)
+  no_thread image xs (Some i) none = ap reply_of (frame_missing image xs t none i)
+
+  module _ {D : Type 0} (g : disk.Ghosts D) (before now : Parts D) (xs : List ExecutableView) (frame : Option ℕ) where
+    -- a thread that is not there
+    pub missing_shown : HasSize (state_of now) o.seq o.size → length o.front.now ≤ o.size → ReadsFront g before o.seq o.front.now now → thread_state o.front.now t ≡ None → ShowsFound g before o xs (for_frames t frame) (no_reply (codes "NoThread")) now
+    missing_shown sized short reads none =
+        let x = some_seen g before o now now o.front.now 0 o.front.now sized reads (at_start g before o now reads short) in
+        (Ok x.0, x.1, (x.2, inl (no_thread x.0 xs frame (sym (state_same x.0 x.2) ∙ none))))
+
+module _ {D : Type 0} (g : disk.Ghosts D) (before new : Parts D) (o : CaseImage) (xs : List ExecutableView) (t : ℕ) (frame : Option ℕ) (p : UnwoundProcess) (w : frames.Walk) where
+  -- the frames that were found
+  pub frames_shown : (stop : Stop) (outcome : Outcome) (tell : Telling) → (finds : FindsFrames g before o xs t p (Ok stop) w new) → TellsReply tell (AnswersWith outcome (frames_answer finds.0 xs t frame)) → TellsOutcome tell (λ text. ShowsFound g before o xs (for_frames t frame) text new) (is_done outcome)
+  frames_shown stop outcome tell finds told =
+      let answer = frames_answer finds.0 xs t frame in
+      (told.0, (Ok finds.0, finds.1, (finds.2, answered outcome answer told.0 told.1)), outcome_with outcome answer told.0 told.1, told.2)
+
+  -- a walk that stopped
+  pub stop_shown : (f : WalkFault) → FindsFrames g before o xs t p (Err f) w new → ShowsFound g before o xs (for_frames t frame) (found_reply (Err f)) new
+  stop_shown (Unread f) finds = (Err f, finds, refl)
+  stop_shown OutOfMemory finds = (Ok finds.0, finds.1, (finds.2, inr refl))
+
+-- nothing but the first bytes is read
+pub no_pieces : {D : Type 0} (g : disk.Ghosts D) (before now : Parts D) (o : CaseImage) → HasSize (state_of now) o.seq o.size → length o.front.now ≤ o.size → ReadsFront g before o.seq o.front.now now → SeesPieces g before o [] now
+no_pieces g before now o sized short reads =
+    let x = some_seen g before o now now o.front.now 0 o.front.now sized reads (at_start g before o now reads short) in
+    (x.0, x.1, (x.2, tt))

@@ -1,0 +1,12 @@
+// What a line asks of a core that is read piece by piece.
+
+use windowed_search::Sought;
+
+// What a line asks of a core that is read piece by piece.
+#[derive(Clone, Copy, Debug)]
+pub(crate) enum Asked<'n> {
+    // What is sought in all of its memory.
+    Sought(Sought<'n>),
+    // The frames of a thread, or the registers of the one of that number.
+    Frames { thread: u64, frame: Option<u64> },
+}
