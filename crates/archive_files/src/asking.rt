@@ -47,8 +47,8 @@ fn deliver<O: Output>(text: &[u8], is_done: bool, output: &mut O) -> Result<(), 
     }
 }
 
-// How it is told why a question was not answered. Its reply fails for want of memory alone.
-fn unasked(fault: AskFault) -> Refusal
+/// How it is told why a question was not answered. Its reply fails for want of memory alone.
+pub fn unasked(fault: AskFault) -> Refusal
     ensures { result ≡ unasked fault }
 {
     match fault {

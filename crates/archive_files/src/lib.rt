@@ -25,7 +25,7 @@ mod unsent;
 pub use archive_checks::shape_on;
 pub use archive_path::ArchivePath;
 pub use archives::{Access, NewArchive, make_archive, names_output, take_disk};
-pub use asking::ask_looked;
+pub use asking::{ask_looked, unasked};
 pub use checks::check;
 pub use collected::Collected;
 pub use copies::{CopyWords, copy_archive_file, resize_archive_file};

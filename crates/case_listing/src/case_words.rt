@@ -54,8 +54,12 @@ fn number_of<R: AllocGlobal + Files<File = File>>(
     find_case(rt.alloc(), disk, word.as_bytes())
 }
 
-// Opens the archive on a disk, and finds the number of the case that a word names.
-fn find_case<D: Disk + Drop>(alloc: Global, disk: D, word: &[u8]) -> Result<u32, Refusal>
+/// The number of the case that a word names by no number, in the archive on a disk.
+///
+/// # Errors
+///
+/// What an opening is refused for. `NoCase` if no case has this name.
+pub fn find_case<D: Disk + Drop>(alloc: Global, disk: D, word: &[u8]) -> Result<u32, Refusal>
     ensures { NamesOn D.Disk word.now disk result }
 {
     match Archive::open(alloc, disk, Settings { limit: 0 }) {

@@ -5,6 +5,6 @@ mod case_words;
 mod foreseen;
 mod listing;
 
-pub use case_words::{ask_case, extract_case, names_a_case};
+pub use case_words::{ask_case, extract_case, find_case, names_a_case};
 pub use foreseen::{foreseen_by, would_retire};
 pub use listing::{ListWords, list};

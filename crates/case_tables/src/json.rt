@@ -15,9 +15,13 @@ pub(crate) fn json_of(alloc: Global, cases: &[&Entry]) -> Result<String, AllocEr
     Value::Array(values).to_string(alloc)
 }
 
-// An object with what is known of a case. If the name or the label is no UTF-8, both are printed as a script prints them, and
-// `escaped` says so.
-fn case_value(alloc: Global, case: &Entry) -> Result<Value, AllocError> {
+/// An object with what is known of a case. If the name or the label is no UTF-8, both are printed as a script prints them, and
+/// `escaped` says so.
+///
+/// # Errors
+///
+/// There is no memory.
+pub fn case_value(alloc: Global, case: &Entry) -> Result<Value, AllocError> {
     let name = case.name.as_slice();
     let label = case.label.as_slice();
     let escaped = str::from_utf8(name).is_err() || str::from_utf8(label).is_err();

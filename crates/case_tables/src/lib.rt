@@ -14,8 +14,13 @@ mod texts;
 mod times;
 mod wanted;
 
+pub use json::case_value;
 pub use list::{list_json, tell_list};
 pub use moments::read_time;
-pub use named::number_named;
-pub use signals::read_signal;
+pub use named::{case_of_name, number_named};
+pub use signals::{read_signal, tell_signal};
+pub use sizes::tell_size;
+pub use table::tell_spaces;
+pub use texts::shown_length;
+pub use times::tell_time;
 pub use wanted::Wanted;

@@ -31,7 +31,8 @@ fn last_core(cases: &[Entry]) -> Option<&Entry>
     cases.iter().rev().find(|case| is_core(case))
 }
 
-fn case_of_name<'a>(cases: &'a [Entry], name: &[u8]) -> Option<&'a Entry>
+/// The case of this name.
+pub fn case_of_name<'a>(cases: &'a [Entry], name: &[u8]) -> Option<&'a Entry>
     ensures { option_map (λ (e : _). e.now) result ≡ find (λ e. has_name name.now (case_of e)) cases.now }
 {
     cases.iter().find(|case| has_name(case, name))

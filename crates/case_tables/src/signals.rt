@@ -23,8 +23,8 @@ pub(crate) fn name_of(signal: u32) -> Option<&'static str>
     signal_name(signal as i32)
 }
 
-// Tells a signal by its name, or by its number; or `-` for 0.
-pub(crate) fn tell_signal<O: Output>(reply: &mut Reply<'_, O>, signal: u32)
+/// Tells a signal by its name, or by its number; or `-` for 0.
+pub fn tell_signal<O: Output>(reply: &mut Reply<'_, O>, signal: u32)
     ensures { TellsText (telling O.Output reply.old reply.new) (signal_text signal) }
 {
     match name_of(signal) {

@@ -12,8 +12,8 @@ const MIB: u64 = 1_048_576;
 
 const GIB: u64 = 1_073_741_824;
 
-// Tells a size in bytes, or in the greatest unit of which there is one.
-pub(crate) fn tell_size<O: Output>(reply: &mut Reply<'_, O>, size: u64)
+/// Tells a size in bytes, or in the greatest unit of which there is one.
+pub fn tell_size<O: Output>(reply: &mut Reply<'_, O>, size: u64)
     ensures { TellsText (telling O.Output reply.old reply.new) (size_text size) }
 {
     if size < KIB {

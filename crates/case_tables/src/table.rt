@@ -97,7 +97,8 @@ fn tell_right<O: Output>(reply: &mut Reply<'_, O>, width: usize, column: Column,
     reply.tell(b"  ");
 }
 
-fn tell_spaces<O: Output>(reply: &mut Reply<'_, O>, count: usize)
+/// Tells this many spaces.
+pub fn tell_spaces<O: Output>(reply: &mut Reply<'_, O>, count: usize)
     ensures { TellsText (telling O.Output reply.old reply.new) (spaces count) }
 {
     for _ in 0..count {

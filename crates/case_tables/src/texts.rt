@@ -5,8 +5,8 @@ ghost use Rattle.script_words.specs.Printing.{shown, shown_byte};
 
 use script_words::print_byte;
 
-// How many bytes a text prints as.
-pub(crate) fn shown_length(text: &[u8]) -> usize
+/// How many bytes a text of at most 128 bytes prints as.
+pub fn shown_length(text: &[u8]) -> usize
     requires { length text.now ≤ 128 }
     ensures { result ≡ length (shown text.now) }
 {

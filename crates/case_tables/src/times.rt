@@ -10,8 +10,8 @@ use script_words::print_decimal;
 // The seconds of a day.
 const DAY: u64 = 86_400;
 
-// Tells a time in UTC; or `-` for 0; or `@` and the seconds after the year 9999.
-pub(crate) fn tell_time<O: Output>(reply: &mut Reply<'_, O>, time: u64)
+/// Tells a time in UTC; or `-` for 0; or `@` and the seconds after the year 9999.
+pub fn tell_time<O: Output>(reply: &mut Reply<'_, O>, time: u64)
     ensures { TellsText (telling O.Output reply.old reply.new) (time_text time) }
 {
     if time == 0 {

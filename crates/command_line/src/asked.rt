@@ -1,8 +1,10 @@
 // What the words ask for.
 use crate::endings::Ending;
+use crate::info_words::{info_words, rows_asked};
 use crate::list_words::list_words;
 use archive_files::{ArchivePath, CopyWords, NewArchive, Refusal, StoreWords, WordPart};
 use arrayvec::ArrayVec;
+use case_info::InfoWords;
 use case_listing::{ListWords, foreseen_by, names_a_case};
 use clap::ArgMatches;
 use command_words::{is_text, line_of, program, push_escaped, push_text};
@@ -58,6 +60,12 @@ pub(crate) enum Asked<'a> {
         archive: ArchivePath<'a>,
         wanted: ListWords<'a>,
     },
+    // A case, or the archive, for people.
+    Info {
+        archive: ArchivePath<'a>,
+        case: Option<&'a str>,
+        wanted: InfoWords,
+    },
     // What one line of a script asks, and its reply.
     Ask {
         archive: ArchivePath<'a>,
@@ -66,6 +74,12 @@ pub(crate) enum Asked<'a> {
     // The same, of a line whose second word names a case.
     AskCase {
         archive: ArchivePath<'a>,
+        words: Vec<&'a str>,
+    },
+    // The rows of a line that asks an image. Without a question its second word names a case.
+    AskRows {
+        archive: ArchivePath<'a>,
+        question: Option<Question>,
         words: Vec<&'a str>,
     },
     // Which cases `retire` would drop.
@@ -130,7 +144,7 @@ fn asked_of<'a>(alloc: Global, name: &str, found: &ArgMatches<'a>) -> Result<Ask
         "extract" => extract_words(found),
         "handle" => handle_words(alloc, found),
         "list" => list_asked(found),
-        "ask" => ask_words(alloc, found),
+        "ask" => ask_asked(alloc, found),
         _ => care_words(name, found),
     }
 }
@@ -138,6 +152,7 @@ fn asked_of<'a>(alloc: Global, name: &str, found: &ArgMatches<'a>) -> Result<Ask
 // The same of the commands that only look, or care for an archive.
 fn care_words<'a>(name: &str, found: &ArgMatches<'a>) -> Result<Asked<'a>, Refusal> {
     match name {
+        "info" => info_words(found),
         "look" => look_words(found),
         "check" => check_words(found),
         "copy" => copy_words(found),
@@ -283,7 +298,7 @@ fn checked_part<'a>(word: &'a str, part: WordPart) -> Result<&'a str, Refusal> {
     }
 }
 
-fn place_of<'a>(found: &ArgMatches<'a>) -> Result<ArchivePath<'a>, Refusal> {
+pub(crate) fn place_of<'a>(found: &ArgMatches<'a>) -> Result<ArchivePath<'a>, Refusal> {
     Ok(ArchivePath {
         path: text_of(found, "archive")?,
         waits: !found.get_flag("no-wait"),
@@ -418,6 +433,15 @@ fn takes_pair(line: &mut Vec<u8>, pair: &str) -> Result<bool, AllocError> {
 
 fn begins_core(line: &[u8]) -> bool {
     matches!(parse_text(line), Command::Plain(Request::BeginCore { .. }))
+}
+
+// What the words of `ask` ask for, or its rows as JSON.
+fn ask_asked<'a>(alloc: Global, found: &ArgMatches<'a>) -> Result<Asked<'a>, Refusal> {
+    let asked = ask_words(alloc, found)?;
+    if !found.get_flag("json") {
+        return Ok(asked);
+    }
+    rows_asked(alloc, asked, found.get_strs("words").unwrap_or(&[]))
 }
 
 // What the words of `ask` ask for.

@@ -93,11 +93,21 @@ fn tell_meaning<E: Output>(alloc: Global, failure: &Failure, last_line: &[u8], e
             }
         }
         Failure::Told => {
-            if let Some(reason) = last_line.strip_prefix(b"no ".as_slice()) {
+            if let Some(reason) = reason_in(last_line) {
                 tell_words_of(reason, errors);
             }
         }
         _ => {}
+    }
+}
+
+// The reason that a line of the output has: a reply's, or that of a JSON object.
+fn reason_in(line: &[u8]) -> Option<&[u8]> {
+    match line.strip_prefix(b"no ".as_slice()) {
+        Some(reason) => Some(reason),
+        None => line
+            .strip_prefix(b"{\"refused\":\"".as_slice())?
+            .strip_suffix(b"\"}".as_slice()),
     }
 }
 

@@ -3,6 +3,7 @@
 
 mod asked;
 mod endings;
+mod info_words;
 mod list_words;
 mod words;
 

@@ -8,6 +8,7 @@ use archive_files::{
     Access, ArchivePath, Collected, Failure, Refusal, StoreRequest, ask, check, copy_archive_file,
     look, make_archive, names_output, resize_archive_file, run_over, salvage, take_disk,
 };
+use case_info::{InfoWords, ask_rows, info_archive, info_case};
 use case_listing::{ask_case, extract_case, list, would_retire};
 use command_words::{
     Watched, asked_help, in_order, line_in_place_of_a_command, tell_help, tell_note, words_of,
@@ -67,6 +68,7 @@ pub fn run_program<
 ///   an archive of version 1 of the layout, the case stays. With `--pin` the line `pin` comes after that, in the same way.
 /// - `list ARCHIVE` shows the cases as a table, or as JSON; with words that only some cases meet, those. The status is 1 if there are
 ///   none of these.
+/// - `info ARCHIVE CASE` shows what is known of a case on one screen, and `info ARCHIVE` what is known of the archive.
 /// - `ask ARCHIVE WORD..` carries out one line of a script, `extract ARCHIVE N [FILE]` writes the image of a
 ///   case. A line that changes no case, and `extract`, need no right to write the archive's file, and hold its lock only while they
 ///   read its journal.
@@ -172,6 +174,16 @@ fn answer_asked<R: AllocGlobal + Files<File = File> + Clock, I: Read, O: Output>
         Asked::List { archive, wanted } => list(rt, archive, wanted, output),
         Asked::Ask { archive, question } => ask(rt, archive, question, output),
         Asked::AskCase { archive, words } => ask_case(rt, archive, &words, output),
+        Asked::AskRows {
+            archive,
+            question,
+            words,
+        } => ask_rows(rt, archive, &words, question, output),
+        Asked::Info {
+            archive,
+            case,
+            wanted,
+        } => info(rt, archive, case, wanted, output),
         Asked::WouldRetire { archive, policy } => would_retire(rt, archive, &policy, output),
         Asked::Look { archive } => look(rt, archive, &mut ReadInput::new(input), output),
         Asked::Check {
@@ -186,6 +198,20 @@ fn answer_asked<R: AllocGlobal + Files<File = File> + Clock, I: Read, O: Output>
         Asked::Resize { archive, wanted } => Ok(resize_archive_file(rt, archive, wanted)?),
         Asked::Salvage { archive, new } => salvage(rt, archive, new, output),
         Asked::Nothing => Ok(()),
+    }
+}
+
+// Tells what is known of a case, or of the archive.
+fn info<R: AllocGlobal + Files<File = File>, O: Output>(
+    rt: &R,
+    place: ArchivePath<'_>,
+    case: Option<&str>,
+    wanted: InfoWords,
+    output: &mut O,
+) -> Result<(), Failure> {
+    match case {
+        Some(case) => info_case(rt, place, case, wanted, output),
+        None => info_archive(rt, place, wanted.is_json, output),
     }
 }
 

@@ -1,5 +1,6 @@
 // The grammar of the program's words: what the tables say of them.
 use crate::care_tables::CARE_COMMANDS;
+use crate::info_tables::INFO_COMMANDS;
 use crate::list_tables::LIST_WORDS;
 use crate::tables::{COMMANDS, CommandWords, Takes, Word};
 use clap::{Arg, ArgAction, Command, Error, value_parser};
@@ -15,7 +16,16 @@ pub fn program<'a>(alloc: Global) -> Result<Command<'a>, Error> {
     for words in &COMMANDS {
         command = command.subcommand(whole_command(alloc, words)?)?;
     }
-    with_care(alloc, command)
+    with_care(alloc, with_info(alloc, command)?)
+}
+
+// The same with `info`.
+fn with_info<'a>(alloc: Global, command: Command<'a>) -> Result<Command<'a>, Error> {
+    let mut command = command;
+    for words in &INFO_COMMANDS {
+        command = command.subcommand(command_of(alloc, words)?)?;
+    }
+    Ok(command)
 }
 
 // The same with the commands that care for an archive.

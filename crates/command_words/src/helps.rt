@@ -1,7 +1,8 @@
 // `corekeep help LINE`: what a line of a script is for.
 use crate::care_tables::CARE_COMMANDS;
+use crate::info_tables::INFO_COMMANDS;
 use crate::tables::COMMANDS;
-use line_help::{LineHelp, help_of};
+use line_help::{LineHelp, help_of, rows_of};
 use script_streams::{Output, Reply, StreamFault};
 
 /// The line whose help these words ask for. What is a command too has the command's help.
@@ -34,7 +35,11 @@ pub fn tell_how_it_is_asked<E: Output>(line: &LineHelp, errors: &mut E) {
 }
 
 fn is_command(name: &str) -> bool {
-    COMMANDS.iter().any(|command| command.name == name) || cares(name)
+    COMMANDS.iter().any(|command| command.name == name) || informs(name) || cares(name)
+}
+
+fn informs(name: &str) -> bool {
+    INFO_COMMANDS.iter().any(|command| command.name == name)
 }
 
 fn cares(name: &str) -> bool {
@@ -51,10 +56,18 @@ pub fn tell_help<O: Output>(help: &LineHelp, output: &mut O) -> Result<(), Strea
     reply.tell(help.usage.as_bytes());
     tell_part(&mut reply, b"\n\n    ", help.does);
     tell_part(&mut reply, b"\n    reply:    ", help.reply);
+    tell_rows(&mut reply, help.name);
     tell_part(&mut reply, b"\n    example:  ", help.example);
     tell_part(&mut reply, b"\n    refused:  ", help.reasons);
     reply.tell(b"\n");
     reply.finish()
+}
+
+// Tells the forms of the rows that `--json` shows, if there are any.
+fn tell_rows<O: Output>(reply: &mut Reply<'_, O>, name: &str) {
+    for form in rows_of(name) {
+        tell_part(reply, b"\n    --json:   ", form);
+    }
 }
 
 fn tell_part<O: Output>(reply: &mut Reply<'_, O>, heading: &[u8], text: &str) {

@@ -6,6 +6,7 @@ mod care_tables;
 mod grammar;
 mod handler_words;
 mod helps;
+mod info_tables;
 mod line_texts;
 mod list_tables;
 mod notes;

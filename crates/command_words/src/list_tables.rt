@@ -7,7 +7,7 @@ pub(crate) static LIST_WORDS: [Word; 10] = [
 ];
 
 // Whether it is told as JSON.
-const JSON: Word = Word {
+pub(crate) const JSON: Word = Word {
     id: "json",
     shown: "",
     takes: Takes::Flag,

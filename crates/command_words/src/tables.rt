@@ -1,5 +1,6 @@
 // The program's commands and their words, as tables.
 use crate::ask_help::ASK_HELP;
+use crate::list_tables::JSON;
 
 // What replaces a word.
 #[derive(Clone, Copy)]
@@ -85,7 +86,7 @@ pub(crate) static COMMANDS: [CommandWords; 9] = [
         name: "ask",
         about: "carries out one line of a script over an archive, and writes its reply; the status is 1 where it is refused",
         after_help: Some(ASK_HELP),
-        words: &[ARCHIVE, LINE, NO_WAIT],
+        words: &[ARCHIVE, LINE, JSON, NO_WAIT],
     },
     CommandWords {
         name: "look",

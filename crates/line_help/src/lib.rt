@@ -6,7 +6,9 @@
 mod finding;
 mod line;
 mod lines;
+mod rows;
 
 pub use finding::help_of;
 pub use line::LineHelp;
 pub use lines::LINES;
+pub use rows::rows_of;

@@ -45,8 +45,12 @@ pub fn ask_unlocked<S: SharedDisk + Drop, O: Output>(
     }
 }
 
-// Looks again, whether these cases are still there.
-fn stay<S: SharedDisk + Drop>(alloc: Global, shared: S, numbers: &[u32]) -> Result<(), AskFault>
+/// Looks again, whether these cases are still there.
+///
+/// # Errors
+///
+/// `Look` and `Reopen` if nobody could tell. `Gone` if one is not.
+pub fn stay<S: SharedDisk + Drop>(alloc: Global, shared: S, numbers: &[u32]) -> Result<(), AskFault>
     ensures { LeavesAllThere S.SharedDisk ⟦<Unlocked<'static, S> as Disk>⟧ shared numbers.now result }
 {
     let again = match Looked::look(alloc, shared) {

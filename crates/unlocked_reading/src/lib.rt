@@ -8,6 +8,7 @@ mod faults;
 mod finding;
 mod places;
 
-pub use asking::ask_unlocked;
+pub use asking::{ask_unlocked, stay};
 pub use copying::copy_unlocked;
 pub use faults::{AskFault, UnlockedFault};
+pub use places::{Places, Reads, find_cases};

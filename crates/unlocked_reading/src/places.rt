@@ -15,28 +15,28 @@ use std::alloc::Global;
 
 /// Cases by their numbers, and where their images lie.
 #[derive(Drop)]
-pub(crate) struct Places {
-    pub(crate) numbers: Vec<u32>,
-    pub(crate) ranges: Vec<ByteRange>,
+pub struct Places {
+    pub numbers: Vec<u32>,
+    pub ranges: Vec<ByteRange>,
 }
 
 /// What a question may read.
 #[derive(Clone, Copy)]
-pub(crate) enum Reads {
-    // No image.
+pub enum Reads {
+    /// No image.
     Nothing,
-    // That of one case.
+    /// That of one case.
     Image { seq: u32 },
-    // That of one case, and those of executables.
+    /// That of one case, and those of executables.
     Memory { seq: u32 },
 }
 
-// The cases that a question may read, and where their images lie.
-pub(crate) fn find_cases<D: Disk + Drop>(
-    alloc: Global,
-    disk: D,
-    reads: Reads,
-) -> Result<Places, AskFault>
+/// The cases that a question may read, and where their images lie.
+///
+/// # Errors
+///
+/// `Open` if the archive could not be opened. `Archive` if there is no memory.
+pub fn find_cases<D: Disk + Drop>(alloc: Global, disk: D, reads: Reads) -> Result<Places, AskFault>
     ensures { FindsCases D.Disk disk result }
 {
     match Archive::open(alloc, disk, Settings { limit: 0 }) {

@@ -1,0 +1,81 @@
+// `info` of an archive.
+use crate::telling::{shown, write_json, write_text};
+use archive_files::{ArchivePath, Collected, Failure, Refusal, take_look};
+use case_journal::{Journal, Opened};
+use case_screens::{ArchiveFacts, archive_json, tally_of, tell_archive_screen};
+use disk_model::Disk;
+use script_streams::{Output, Reply};
+use std::alloc::Global;
+use std::fs::File;
+use std::rt::Files;
+
+/// Tells what is known of an archive, from one look at it.
+///
+/// # Errors
+///
+/// What `take_look` of `archive_files` and an opening are refused for. `OutOfMemory`: nothing is told. `WriteFailed` if the text
+/// could not be written.
+pub fn info_archive<R: AllocGlobal + Files<File = File>, O: Output>(
+    rt: &R,
+    place: ArchivePath<'_>,
+    is_json: bool,
+    output: &mut O,
+) -> Result<(), Failure> {
+    let alloc = rt.alloc();
+    let found = match take_look(rt, place) {
+        Ok(looked) => facts_over(alloc, looked.unlocked(Vec::new(alloc))),
+        Err(refusal) => Err(refusal),
+    };
+    let done = match found {
+        Ok(facts) => tell_facts(alloc, &facts, is_json, output),
+        Err(refusal) => Err(Failure::Refused(refusal)),
+    };
+    shown(alloc, is_json, done, output)
+}
+
+fn tell_facts<O: Output>(
+    alloc: Global,
+    facts: &ArchiveFacts,
+    is_json: bool,
+    output: &mut O,
+) -> Result<(), Failure> {
+    if is_json {
+        return write_json(&archive_json(alloc, facts)?, output);
+    }
+    let mut text = Collected::new(alloc);
+    let mut reply = Reply::new(&mut text);
+    tell_archive_screen(&mut reply, facts);
+    match reply.finish() {
+        Ok(()) => write_text(text.text(), output),
+        Err(_) => Err(Failure::Refused(Refusal::OutOfMemory)),
+    }
+}
+
+// Opens the journal on a disk, and finds what is known of its archive.
+fn facts_over<D: Disk + Drop>(alloc: Global, disk: D) -> Result<ArchiveFacts, Refusal> {
+    let mut disk = disk;
+    match Journal::open(alloc, &mut disk) {
+        Ok(opened) => Ok(facts_of(&opened)),
+        Err(fault) => Err(Refusal::Open(fault)),
+    }
+}
+
+// What is known of an archive, by its journal and its free data blocks.
+fn facts_of(opened: &Opened) -> ArchiveFacts {
+    let journal = &opened.journal;
+    let tally = tally_of(journal.entries());
+    ArchiveFacts {
+        version: journal.version(),
+        length: journal.shape().length().unwrap_or(0),
+        data_blocks: journal.shape().data_blocks,
+        free_blocks: u64::from(opened.free.free()),
+        half: journal.shape().half_length(),
+        used: journal.use_bytes(),
+        cores: tally.cores,
+        executables: tally.executables,
+        pinned: tally.pinned,
+        oldest: tally.oldest,
+        newest: tally.newest,
+        last_number: journal.next_seq().saturating_sub(1),
+    }
+}

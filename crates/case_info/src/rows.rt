@@ -1,0 +1,63 @@
+// The rows of a line that asks an image, as JSON.
+use crate::telling::{shown, write_json};
+use archive_files::{ArchivePath, Collected, Failure, ask};
+use case_listing::ask_case;
+use case_screens::{Answer, refusal_json, reply_lines, rows_json};
+use line_help::rows_of;
+use script_lines::Question;
+use script_streams::Output;
+use std::alloc::Global;
+use std::fs::File;
+use std::rt::Files;
+
+/// Answers the line of these words, which asks an image, and tells its rows as JSON: an array of objects. If it is refused an object
+/// says why.
+///
+/// # Errors
+///
+/// `Refused` with `NoLine` if it is no such line. Those of `ask` of `archive_files`.
+pub fn ask_rows<R: AllocGlobal + Files<File = File>, O: Output>(
+    rt: &R,
+    place: ArchivePath<'_>,
+    words: &[&str],
+    question: Option<Question>,
+    output: &mut O,
+) -> Result<(), Failure> {
+    let alloc = rt.alloc();
+    let mut reply = Collected::new(alloc);
+    let asked = match question {
+        Some(question) => ask(rt, place, question, &mut reply),
+        None => ask_case(rt, place, words, &mut reply),
+    };
+    let done = match asked {
+        Ok(()) => tell_rows(alloc, words, reply.text(), output),
+        Err(Failure::Told) => tell_refused(alloc, reply.text(), output),
+        Err(failure) => Err(failure),
+    };
+    shown(alloc, true, done, output)
+}
+
+fn tell_rows<O: Output>(
+    alloc: Global,
+    words: &[&str],
+    text: &[u8],
+    output: &mut O,
+) -> Result<(), Failure> {
+    let lines = reply_lines(alloc, text)?;
+    let answer = Answer {
+        is_done: true,
+        lines: &lines,
+    };
+    let name = words.first().copied().unwrap_or("");
+    write_json(&rows_json(alloc, &answer, rows_of(name))?, output)
+}
+
+// Tells why a line is refused, whose reply is `no` and the reason.
+fn tell_refused<O: Output>(alloc: Global, text: &[u8], output: &mut O) -> Result<(), Failure> {
+    let reason = match text.strip_prefix(b"no ".as_slice()) {
+        Some(reason) => reason.strip_suffix(b"\n".as_slice()).unwrap_or(reason),
+        None => text,
+    };
+    write_json(&refusal_json(alloc, reason)?, output)?;
+    Err(Failure::Told)
+}

@@ -1,0 +1,52 @@
+// How what is shown is written.
+use archive_files::{Failure, Refusal, reason_of};
+use case_screens::refusal_json;
+use inspector_cli::SessionFault;
+use script_streams::{Output, Reply};
+use std::alloc::Global;
+
+// Writes a text that is whole.
+pub(crate) fn write_text<O: Output>(text: &[u8], output: &mut O) -> Result<(), Failure> {
+    let mut reply = Reply::new(output);
+    reply.tell(text);
+    match reply.finish() {
+        Ok(()) => Ok(()),
+        Err(_) => Err(Failure::Faulted(SessionFault::WriteFailed)),
+    }
+}
+
+// Writes JSON, and a newline.
+pub(crate) fn write_json<O: Output>(json: &str, output: &mut O) -> Result<(), Failure> {
+    let mut reply = Reply::new(output);
+    reply.tell(json.as_bytes());
+    reply.tell(b"\n");
+    match reply.finish() {
+        Ok(()) => Ok(()),
+        Err(_) => Err(Failure::Faulted(SessionFault::WriteFailed)),
+    }
+}
+
+// What was shown; or, if JSON is asked for, an object that says why it is refused.
+pub(crate) fn shown<O: Output>(
+    alloc: Global,
+    is_json: bool,
+    shown: Result<(), Failure>,
+    output: &mut O,
+) -> Result<(), Failure> {
+    match shown {
+        Err(Failure::Refused(refusal)) if is_json => Err(refuse(alloc, refusal, output)),
+        other => other,
+    }
+}
+
+// Writes why something is refused as JSON. It is told beside the output too.
+fn refuse<O: Output>(alloc: Global, refusal: Refusal, output: &mut O) -> Failure {
+    let reason = reason_of(alloc, refusal);
+    let Ok(json) = refusal_json(alloc, reason.text()) else {
+        return Failure::Aside(refusal);
+    };
+    match write_json(&json, output) {
+        Ok(()) => Failure::Aside(refusal),
+        Err(failure) => failure,
+    }
+}

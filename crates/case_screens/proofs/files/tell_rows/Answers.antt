@@ -1,0 +1,10 @@
+use Rattle.std.proofs.Common.{map}
+use Rattle.journal_layout.specs.Case.{case_of}
+use Rattle.script_streams.specs.TellLaws.{tells_then, tells_as}
+use Rattle.case_screens.specs.Files.{file_row}
+use Rattle.case_screens.specs.Lines.{texts}
+use Rattle.case_screens.proofs.RowLemmas.{rows_more}
+use Rattle.case_screens.proofs.files.tell_rows.Goals as goal
+
+pub loop-row-preserved : goal.loop-row-preserved
+loop-row-preserved g c = tells_as (rows_more (file_row (map case_of c.args.cases.now) (texts c.args.lines.now)) c.loop-row.row) (tells_then c.loop-row.invariant c.tell_row.ensures)

@@ -1,0 +1,28 @@
+-- What a person is shown of an archive.
+use Rattle.std.specs.Prelude.{ℕ, List, [], ◌∷◌, ◌++◌, codes, decimal}
+use Rattle.case_tables.specs.Sizes.{size_text}
+use Rattle.case_tables.specs.Times.{time_text}
+use Rattle.case_screens.specs.declared.archive.ArchiveFacts.{ArchiveFacts}
+
+abbrev pub layout_text : ArchiveFacts → List ℕ
+layout_text a = codes "layout    version " ++ (decimal a.version ++ (codes ", " ++ (size_text a.length ++ 10 ∷ [])))
+
+abbrev pub data_text : ArchiveFacts → List ℕ
+data_text a = codes "data      " ++ (decimal a.data_blocks ++ (codes " blocks of 4096 bytes, " ++ (decimal a.free_blocks ++ (codes " free" ++ 10 ∷ []))))
+
+abbrev pub journal_text : ArchiveFacts → List ℕ
+journal_text a = codes "journal   " ++ (decimal a.used ++ (codes " of " ++ (decimal a.half ++ (codes " bytes of a half in use" ++ 10 ∷ []))))
+
+abbrev pub cases_text : ArchiveFacts → List ℕ
+cases_text a =
+    codes "cases     " ++ (decimal a.cores ++ (codes " cores, " ++ (decimal a.executables ++ (codes " executables, "
+    ++ (decimal a.pinned ++ (codes " pinned" ++ 10 ∷ []))))))
+
+abbrev pub times_text : ArchiveFacts → List ℕ
+times_text a = codes "cores     oldest " ++ (time_text a.oldest ++ (codes ", newest " ++ (time_text a.newest ++ 10 ∷ [])))
+
+abbrev pub numbers_text : ArchiveFacts → List ℕ
+numbers_text a = codes "numbers   " ++ (decimal a.last_number ++ (codes " is the greatest that was given" ++ 10 ∷ []))
+
+abbrev pub archive_text : ArchiveFacts → List ℕ
+archive_text a = layout_text a ++ (data_text a ++ (journal_text a ++ (cases_text a ++ (times_text a ++ numbers_text a))))

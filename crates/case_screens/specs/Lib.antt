@@ -1,0 +1,11 @@
+pub mod Lines
+pub mod Texts
+pub mod Process
+pub mod Codes
+pub mod CodeWords
+pub mod Signal
+pub mod Frames
+pub mod Files
+pub mod Screen
+pub mod Archive
+pub mod Tally

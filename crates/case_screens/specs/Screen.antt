@@ -1,0 +1,62 @@
+-- What a person is shown of a case: its facts, and what the lines of a script answer of it.
+use Rattle.std.specs.Prelude.{ℕ, ◌-◌, Bool, true, false, if◌then◌else◌, List, [], ◌∷◌, ◌++◌, length, codes, decimal}
+use Rattle.journal_layout.specs.Case.{Case}
+use Rattle.script_words.specs.Printing.{shown}
+use Rattle.case_tables.specs.Sizes.{size_text}
+use Rattle.case_tables.specs.Table.{spaces}
+use Rattle.case_tables.specs.Times.{time_text}
+use Rattle.case_screens.specs.Files.{files_text}
+use Rattle.case_screens.specs.Frames.{threads_text}
+use Rattle.case_screens.specs.Lines.{line_at, word_at, texts}
+use Rattle.case_screens.specs.Process.{process_text}
+use Rattle.case_screens.specs.Signal.{signal_line}
+use Rattle.case_screens.specs.Texts.{refused_line}
+use Rattle.case_screens.specs.declared.answer.Answer.{Answer}
+use Rattle.case_screens.specs.declared.answer.CoreAnswers.{CoreAnswers}
+use Rattle.case_screens.specs.declared.answer.CaseAnswers.{CaseAnswers}
+use Rattle.case_screens.specs.declared.answer.CaseAnswers.TheVariants.{Core, Exec}
+
+abbrev pub pin_text : Bool → List ℕ
+pin_text pinned = if pinned then codes ", pinned" else codes ", not pinned"
+
+-- nothing, if it has no label
+abbrev pub label_text : List ℕ → List ℕ
+label_text [] = []
+label_text (c ∷ cs) = codes ", label " ++ shown (c ∷ cs)
+
+-- its name, number and size, and whether it is pinned
+abbrev pub head_text : Case → List ℕ
+head_text c =
+    shown c.origin.name ++ (spaces (36 - length (shown c.origin.name)) ++ (codes "  case " ++ (decimal c.seq ++ (codes ", " ++ (size_text c.len ++ (pin_text c.pinned
+    ++ (label_text c.label ++ 10 ∷ [])))))))
+
+-- when it was
+abbrev pub when_text : ℕ → List ℕ
+when_text time = codes "when      " ++ (time_text time ++ 10 ∷ [])
+
+-- a core
+abbrev pub core_text : Case → List Case → CoreAnswers → List ℕ
+core_text c cases a =
+    when_text c.origin.time ++ (process_text a.process.is_done (texts a.process.lines.now)
+    ++ (signal_line c.origin.signal a.signal.is_done (texts a.signal.lines.now)
+    ++ (threads_text (texts a.files.lines.now) a.threads.is_done (texts a.threads.lines.now) a.unwound.now
+    ++ files_text cases a.builds.is_done (texts a.builds.lines.now))))
+
+-- the header of an executable
+abbrev pub header_text : List ℕ → List ℕ
+header_text line =
+    codes "header    type " ++ (word_at line 1 ++ (codes ", entry " ++ (word_at line 3 ++ (codes ", flags "
+    ++ (word_at line 5 ++ (codes ", " ++ (word_at line 7 ++ (codes " program headers" ++ 10 ∷ []))))))))
+
+-- an executable, by the reply to `header`
+abbrev pub exec_text : Bool → List (List ℕ) → List ℕ
+exec_text true lines = header_text (line_at lines 0)
+exec_text false lines = refused_line (codes "header    ") lines
+
+abbrev pub answers_text : Case → List Case → CaseAnswers → List ℕ
+answers_text c cases (Core a) = core_text c cases a
+answers_text c cases (Exec a) = exec_text a.is_done (texts a.lines.now)
+
+-- all that is shown of a case
+abbrev pub info_answer : Case → List Case → CaseAnswers → List ℕ
+info_answer c cases a = head_text c ++ answers_text c cases a

@@ -1,0 +1,59 @@
+-- The small texts of a screen.
+use Rattle.std.specs.Prelude.{ℕ, zero, suc, ◌-◌, ◌==◌, ◌&&◌, ◌||◌, Bool, nat_le, nat_lt, if◌then◌else◌, List, [], ◌∷◌, ◌++◌, length, take, replicate, slice_index, Option, None, Some, codes}
+use Rattle.std.specs.List.{flat_map}
+use Rattle.std.specs.Str.{bytes_eq}
+use Rattle.script_words.specs.Printing.{shown_byte}
+use Rattle.script_words.specs.Text.{text_of}
+use Rattle.case_tables.specs.Table.{left_text}
+use Rattle.case_screens.specs.Lines.{reason_in}
+
+-- what stands before a line that continues the one above it
+abbrev pub margin : List ℕ
+margin = codes "          "
+
+-- a line's label at the first of its rows, and nothing at the others
+abbrev pub label_at : List ℕ → ℕ → List ℕ
+label_at label k = if k == 0 then label else margin
+
+-- rows, one after the other, up to one
+abbrev pub rows_to : (ℕ → List ℕ) → ℕ → List ℕ
+rows_to row zero = []
+rows_to row (suc n) = rows_to row n ++ row n
+
+-- a byte of a text for people: a space is one, all else prints as a script prints it
+abbrev pub plain_byte : ℕ → List ℕ
+plain_byte c = if c == 32 then 32 ∷ [] else shown_byte c
+
+-- a text without the space that may end it
+abbrev pub without_space : List ℕ → List ℕ
+without_space text = if nat_lt 0 (length text) && slice_index text (length text - 1) == 32 then take (length text - 1) text else text
+
+-- the text of a word of a reply, if it is not over 1,024 bytes
+abbrev pub text_in : List ℕ → Option (List ℕ)
+text_in word = if nat_le (length word) 1024 then text_of word else None
+
+-- a text, or a word that is none
+abbrev pub plain_told : Option (List ℕ) → List ℕ → List ℕ
+plain_told (Some text) word = flat_map plain_byte (without_space text)
+plain_told None word = word
+
+-- a word of a reply as a text for people
+abbrev pub plain_text : List ℕ → List ℕ
+plain_text word = plain_told (text_in word) word
+
+-- the fields by which a file is of another machine
+abbrev pub is_of_another_machine : List ℕ → Bool
+is_of_another_machine reason = bytes_eq reason (codes "e_machine") || (bytes_eq reason (codes "EI_CLASS") || bytes_eq reason (codes "EI_DATA"))
+
+-- why something is not shown
+abbrev pub refusal_text : List ℕ → List ℕ
+refusal_text reason =
+    if bytes_eq reason (codes "Missing") then codes "not in the core"
+    else (if bytes_eq reason (codes "NoThread") then codes "the core has no thread"
+    else (if bytes_eq reason (codes "Magic") then codes "no ELF file"
+    else (if is_of_another_machine reason then codes "of another machine: " ++ reason
+    else codes "damaged: " ++ reason)))
+
+-- a line that says why something is not shown
+abbrev pub refused_line : List ℕ → List (List ℕ) → List ℕ
+refused_line label lines = label ++ (refusal_text (reason_in lines) ++ 10 ∷ [])

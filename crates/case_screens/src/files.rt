@@ -1,0 +1,94 @@
+// The files that a core had mapped, and which of them are stored.
+ghost use Rattle.std.specs.Prelude.{◌≡◌, true, map, option_map};
+ghost use Rattle.journal_layout.specs.Case.{case_of};
+ghost use Rattle.script_streams.specs.Replies.{TellsText, telling};
+ghost use Rattle.case_screens.specs.Files.{build_text, exec_number, file_row, files_text, stored_number, stored_text};
+ghost use Rattle.case_screens.specs.Lines.{texts};
+
+use crate::answer::Answer;
+use crate::lines::{line_at, row_count, word_at};
+use crate::texts::{tell_label, tell_left, tell_refused, text_in};
+use case_tables::case_of_name;
+use journal_layout::{Entry, Kind};
+use script_streams::{Output, Reply};
+
+// Tells the files that a core had mapped, by the reply to `builds`.
+pub(crate) fn tell_files<O: Output>(reply: &mut Reply<'_, O>, cases: &[Entry], answer: &Answer<'_>)
+    ensures { TellsText (telling O.Output reply.old reply.new) (files_text (map case_of cases.now) answer.now.is_done (texts answer.now.lines.now)) }
+{
+    if answer.is_done {
+        tell_rows(reply, cases, answer.lines);
+    } else {
+        tell_refused(reply, b"files     ", answer.lines);
+    }
+}
+
+fn tell_rows<O: Output>(reply: &mut Reply<'_, O>, cases: &[Entry], lines: &[&[u8]])
+    ensures { TellsText (telling O.Output reply.old reply.new) (files_text (map case_of cases.now) true (texts lines.now)) }
+{
+    for row in 0..row_count(lines) {
+        tell_row(reply, cases, lines, row);
+    }
+}
+
+fn tell_row<O: Output>(reply: &mut Reply<'_, O>, cases: &[Entry], lines: &[&[u8]], row: usize)
+    ensures { TellsText (telling O.Output reply.old reply.new) (file_row (map case_of cases.now) (texts lines.now) row) }
+{
+    let line = line_at(lines, row);
+    let name = word_at(line, 0);
+    tell_label(reply, b"files     ", row);
+    tell_left(reply, 34, name);
+    tell_stored(reply, stored_number(cases, name), name, word_at(line, 3));
+    reply.tell(b"\n");
+}
+
+fn tell_stored<O: Output>(
+    reply: &mut Reply<'_, O>,
+    number: Option<u32>,
+    name: &[u8],
+    verdict: &[u8],
+)
+    ensures { TellsText (telling O.Output reply.old reply.new) (stored_text number name.now verdict.now) }
+{
+    match number {
+        Some(number) => {
+            reply.tell(b"stored as case ");
+            reply.tell_decimal(u128::from(number));
+            tell_build(reply, verdict);
+        }
+        None => {
+            reply.tell(b"not stored: corekeep store ARCHIVE FILE --exec ");
+            reply.tell(name);
+        }
+    }
+}
+
+// Tells it if the build IDs say that another file ran.
+fn tell_build<O: Output>(reply: &mut Reply<'_, O>, verdict: &[u8])
+    ensures { TellsText (telling O.Output reply.old reply.new) (build_text verdict.now) }
+{
+    if verdict == b"differs".as_slice() {
+        reply.tell(b", another build");
+    }
+}
+
+// The number of the executable that is stored under the name that a word of a reply prints.
+pub(crate) fn stored_number(cases: &[Entry], word: &[u8]) -> Option<u32>
+    ensures { result ≡ stored_number (map case_of cases.now) word.now }
+{
+    match text_in(word) {
+        Some(text) => exec_number(case_of_name(cases, text.as_slice())),
+        None => None,
+    }
+}
+
+// The number of a case, if it is an executable.
+fn exec_number(case: Option<&Entry>) -> Option<u32>
+    ensures { result ≡ exec_number (option_map (λ e. case_of e.now) case.entry) }
+{
+    let case = case?;
+    match case.kind {
+        Kind::Core => None,
+        Kind::Exec => Some(case.seq),
+    }
+}

@@ -1,0 +1,199 @@
+// The rows of a reply as JSON.
+ghost use Rattle.std.specs.Prelude.{◌<◌, length, IfSome};
+
+use crate::answer::Answer;
+use crate::lines::{reason_in, row_count};
+use crate::shapes::{Field, FieldKind, field_of, form_of};
+use script_words::{Words, parse_number};
+use serde_json::{Map, Value, put};
+use std::alloc::{AllocError, Global};
+use std::str;
+
+// The first number that a JSON number may not be told as.
+const TOO_LARGE: u64 = 9_007_199_254_740_992;
+
+/// The rows of a reply that is done as a JSON array of objects, a field for each word, by the forms that they have.
+///
+/// # Errors
+///
+/// There is no memory.
+pub fn rows_json(alloc: Global, answer: &Answer<'_>, forms: &[&str]) -> Result<String, AllocError> {
+    rows_value(alloc, answer.lines, row_count(answer.lines), forms)?.to_string(alloc)
+}
+
+/// Why something is refused, as a JSON object.
+///
+/// # Errors
+///
+/// There is no memory.
+pub fn refusal_json(alloc: Global, reason: &[u8]) -> Result<String, AllocError> {
+    refusal_value(alloc, reason)?.to_string(alloc)
+}
+
+pub(crate) fn refusal_value(alloc: Global, reason: &[u8]) -> Result<Value, AllocError> {
+    let mut map = Map::new(alloc);
+    put(&mut map, alloc, "refused", string_value(alloc, reason)?)?;
+    Ok(Value::Object(map))
+}
+
+// This many rows, each as an object.
+pub(crate) fn rows_value(
+    alloc: Global,
+    lines: &[&[u8]],
+    count: usize,
+    forms: &[&str],
+) -> Result<Value, AllocError> {
+    let mut values = Vec::new(alloc);
+    for line in lines.iter().take(count) {
+        let mut map = Map::new(alloc);
+        put_row(alloc, &mut map, line, forms)?;
+        values.push(Value::Object(map))?;
+    }
+    Ok(Value::Array(values))
+}
+
+// All rows of a reply as one object; or why it was refused.
+pub(crate) fn merged_value(
+    alloc: Global,
+    answer: &Answer<'_>,
+    forms: &[&str],
+) -> Result<Value, AllocError> {
+    if !answer.is_done {
+        return refusal_value(alloc, reason_in(answer.lines));
+    }
+    let mut map = Map::new(alloc);
+    for line in answer.lines.iter().take(row_count(answer.lines)) {
+        put_row(alloc, &mut map, line, forms)?;
+    }
+    Ok(Value::Object(map))
+}
+
+// Puts the fields of a row into an object. A row of no form is one field.
+pub(crate) fn put_row(
+    alloc: Global,
+    map: &mut Map<String, Value>,
+    line: &[u8],
+    forms: &[&str],
+) -> Result<(), AllocError> {
+    let Some(form) = form_of(line, forms) else {
+        return put(map, alloc, "row", string_value(alloc, line)?);
+    };
+    let escaped = has_other_bytes(alloc, line, form)?;
+    if escaped {
+        put(map, alloc, "escaped", Value::Bool(true))?;
+    }
+    let mut words = Words::new(line);
+    for part in form.split(' ') {
+        let word = words.next().unwrap_or(b"");
+        if let Some(field) = field_of(part) {
+            put(
+                map,
+                alloc,
+                field.name,
+                field_value(alloc, field, word, escaped)?,
+            )?;
+        }
+    }
+    Ok(())
+}
+
+// Whether a text of a row is no UTF-8.
+fn has_other_bytes(alloc: Global, line: &[u8], form: &str) -> Result<bool, AllocError> {
+    let mut words = Words::new(line);
+    for part in form.split(' ') {
+        let word = words.next().unwrap_or(b"");
+        if is_text(part) && str::from_utf8(&text_of(alloc, word)?).is_err() {
+            return Ok(true);
+        }
+    }
+    Ok(false)
+}
+
+fn is_text(part: &str) -> bool {
+    match field_of(part) {
+        Some(field) => matches!(field.kind, FieldKind::Text | FieldKind::Place),
+        None => false,
+    }
+}
+
+fn field_value(
+    alloc: Global,
+    field: Field<'_>,
+    word: &[u8],
+    escaped: bool,
+) -> Result<Value, AllocError> {
+    if is_none(field.kind, word) {
+        return Ok(Value::Null);
+    }
+    match field.kind {
+        FieldKind::Word => word_value(alloc, word),
+        FieldKind::Digits => string_value(alloc, word),
+        FieldKind::Text | FieldKind::Place if escaped => string_value(alloc, word),
+        FieldKind::Text | FieldKind::Place => string_value(alloc, &text_of(alloc, word)?),
+    }
+}
+
+fn is_none(kind: FieldKind, word: &[u8]) -> bool {
+    match kind {
+        FieldKind::Word => word == b"-".as_slice() || word == b"?".as_slice(),
+        FieldKind::Place => word == b"?".as_slice(),
+        FieldKind::Text | FieldKind::Digits => word == b"-".as_slice(),
+    }
+}
+
+// A decimal number that a JSON number holds, or a string.
+fn word_value(alloc: Global, word: &[u8]) -> Result<Value, AllocError> {
+    let (digits, negative) = match word.split_first() {
+        Some((first, digits)) if *first == b'-' => (digits, true),
+        _ => (word, false),
+    };
+    if !digits.iter().all(|byte| byte.is_ascii_digit()) {
+        return string_value(alloc, word);
+    }
+    match parse_number(digits) {
+        Some(number) if number < TOO_LARGE => {
+            let number = number as i64;
+            Ok(Value::from(if negative { 0 - number } else { number }))
+        }
+        _ => string_value(alloc, word),
+    }
+}
+
+// A text that is UTF-8 as a string.
+pub(crate) fn string_value(alloc: Global, text: &[u8]) -> Result<Value, AllocError> {
+    let mut value = String::new(alloc);
+    if let Ok(text) = str::from_utf8(text) {
+        value.push_str(text)?;
+    }
+    Ok(Value::String(value))
+}
+
+// The text of a word, in which `\xHH` is a byte.
+fn text_of(alloc: Global, word: &[u8]) -> Result<Vec<u8>, AllocError> {
+    let mut text = Vec::new(alloc);
+    let mut rest = word;
+    while let Some((byte, after)) = next_byte(rest) {
+        text.push(byte)?;
+        rest = after;
+    }
+    Ok(text)
+}
+
+fn next_byte(rest: &[u8]) -> Option<(u8, &[u8])>
+    ensures { IfSome result (λ found. length found.1.now < length rest.now) }
+{
+    match rest {
+        [b'\\', b'x', high, low, after @ ..] => Some((16 * digit(*high) + digit(*low), after)),
+        [byte, after @ ..] => Some((*byte, after)),
+        [] => None,
+    }
+}
+
+fn digit(letter: u8) -> u8
+    ensures { result < 16 }
+{
+    match char::from(letter).to_digit(16) {
+        Some(digit) => digit as u8,
+        None => 0,
+    }
+}

@@ -1,0 +1,125 @@
+// What a person is shown of a case.
+ghost use Rattle.std.specs.Prelude.{◌≡◌, true, map};
+ghost use Rattle.journal_layout.specs.Case.{case_of};
+ghost use Rattle.script_streams.specs.Replies.{TellsText, telling};
+ghost use Rattle.case_screens.specs.Lines.{texts};
+ghost use Rattle.case_screens.specs.Screen.{answers_text, core_text, exec_text, head_text, header_text, info_answer, label_text, pin_text, when_text};
+
+use crate::answer::{Answer, CaseAnswers, CoreAnswers};
+use crate::files::tell_files;
+use crate::lines::{line_at, word_at};
+use crate::process::tell_process;
+use crate::signal::tell_signal_line;
+use crate::texts::tell_refused;
+use crate::threads::tell_threads;
+use case_tables::{shown_length, tell_size, tell_spaces, tell_time};
+use journal_layout::Entry;
+use script_streams::{Output, Reply};
+
+// How wide the name of a case is, if it is not longer.
+const NAME_WIDTH: usize = 36;
+
+/// Tells one screen of a case: what is known of it, of the cases of its archive, and of the replies to the lines that were asked.
+pub fn tell_case_screen<O: Output>(
+    reply: &mut Reply<'_, O>,
+    case: &Entry,
+    cases: &[Entry],
+    answers: &CaseAnswers<'_>,
+)
+    ensures is_screen { TellsText (telling O.Output reply.old reply.new) (info_answer (case_of case.now) (map case_of cases.now) answers.now) }
+{
+    tell_head(reply, case);
+    match answers {
+        CaseAnswers::Core(answers) => tell_core(reply, case, cases, answers),
+        CaseAnswers::Exec(answer) => tell_exec(reply, answer),
+    }
+}
+
+// Tells a case's name, number and size, and whether it is pinned.
+fn tell_head<O: Output>(reply: &mut Reply<'_, O>, case: &Entry)
+    ensures { TellsText (telling O.Output reply.old reply.new) (head_text (case_of case.now)) }
+{
+    reply.tell_text(case.name.as_slice());
+    tell_spaces(
+        reply,
+        NAME_WIDTH.saturating_sub(shown_length(case.name.as_slice())),
+    );
+    reply.tell(b"  case ");
+    reply.tell_decimal(u128::from(case.seq));
+    reply.tell(b", ");
+    tell_size(reply, case.length);
+    tell_pin(reply, case.pinned);
+    tell_label_of(reply, case.label.as_slice());
+    reply.tell(b"\n");
+}
+
+fn tell_pin<O: Output>(reply: &mut Reply<'_, O>, pinned: bool)
+    ensures { TellsText (telling O.Output reply.old reply.new) (pin_text pinned) }
+{
+    if pinned {
+        reply.tell(b", pinned");
+    } else {
+        reply.tell(b", not pinned");
+    }
+}
+
+fn tell_label_of<O: Output>(reply: &mut Reply<'_, O>, label: &[u8])
+    ensures { TellsText (telling O.Output reply.old reply.new) (label_text label.now) }
+{
+    if !label.is_empty() {
+        reply.tell(b", label ");
+        reply.tell_text(label);
+    }
+}
+
+fn tell_when<O: Output>(reply: &mut Reply<'_, O>, time: u64)
+    ensures { TellsText (telling O.Output reply.old reply.new) (when_text time) }
+{
+    reply.tell(b"when      ");
+    tell_time(reply, time);
+    reply.tell(b"\n");
+}
+
+fn tell_core<O: Output>(
+    reply: &mut Reply<'_, O>,
+    case: &Entry,
+    cases: &[Entry],
+    answers: &CoreAnswers<'_>,
+)
+    ensures { TellsText (telling O.Output reply.old reply.new) (core_text (case_of case.now) (map case_of cases.now) answers.now) }
+{
+    tell_when(reply, case.time);
+    tell_process(reply, &answers.process);
+    tell_signal_line(reply, case.signal, &answers.signal);
+    tell_threads(
+        reply,
+        answers.files.lines,
+        &answers.threads,
+        answers.unwound,
+    );
+    tell_files(reply, cases, &answers.builds);
+}
+
+fn tell_exec<O: Output>(reply: &mut Reply<'_, O>, answer: &Answer<'_>)
+    ensures { TellsText (telling O.Output reply.old reply.new) (exec_text answer.now.is_done (texts answer.now.lines.now)) }
+{
+    if answer.is_done {
+        tell_header(reply, line_at(answer.lines, 0));
+    } else {
+        tell_refused(reply, b"header    ", answer.lines);
+    }
+}
+
+fn tell_header<O: Output>(reply: &mut Reply<'_, O>, line: &[u8])
+    ensures { TellsText (telling O.Output reply.old reply.new) (header_text line.now) }
+{
+    reply.tell(b"header    type ");
+    reply.tell(word_at(line, 1));
+    reply.tell(b", entry ");
+    reply.tell(word_at(line, 3));
+    reply.tell(b", flags ");
+    reply.tell(word_at(line, 5));
+    reply.tell(b", ");
+    reply.tell(word_at(line, 7));
+    reply.tell(b" program headers\n");
+}
