@@ -10,7 +10,7 @@ struct Meaning {
 static MEANINGS: [Meaning; 37] = [
     Meaning {
         reason: b"SpaceFull",
-        words: b"the image takes more blocks than are free (corekeep ask ARCHIVE free counts them): delete or retire cases, or make a larger archive",
+        words: b"the image takes more blocks than are free (corekeep ask ARCHIVE free counts them): delete or retire cases, or make the archive larger (corekeep resize)",
     },
     Meaning {
         reason: b"JournalFull",
@@ -30,7 +30,7 @@ static MEANINGS: [Meaning; 37] = [
     },
     Meaning {
         reason: b"TooLong",
-        words: b"the image is over the limit, or its name has over 128 bytes",
+        words: b"the image is over the limit, or its name has over 128 bytes: raise the limit, or keep the front by cut",
     },
     Meaning {
         reason: b"NulByte",
@@ -74,11 +74,11 @@ static MEANINGS: [Meaning; 37] = [
     },
     Meaning {
         reason: b"Damaged",
-        words: b"the archive is damaged: this byte is in its first faulty field",
+        words: b"the archive is damaged: this byte is in its first faulty field; corekeep salvage ARCHIVE NEW copies what can be read",
     },
     Meaning {
         reason: b"UnknownVersion",
-        words: b"the archive is of a later version of the layout",
+        words: b"the archive is of a later version of the layout, or this byte is damaged",
     },
     Meaning {
         reason: b"OldVersion",

@@ -3,12 +3,15 @@ use crate::config_file::Document;
 use crate::handling::{HANDLER_LIMIT, HANDLER_TEMPLATE, HandleWords};
 use crate::labels::escaped_label;
 use crate::log::KERNEL_LOG;
-use archive_files::{Access, ArchivePath, Failure, reason_of, shape_on, take_disk};
+use archive_files::{Access, ArchivePath, Failure, Refusal, reason_of, shape_on, take_disk};
+use disk_model::Disk;
 use handler_config::{Burst, Config};
 use inspector_cli::SessionFault;
+use intake::{Archive, Settings};
 use journal_layout::Shape;
 use name_template::Template;
 use script_streams::{Output, Reply};
+use std::alloc::Global;
 use std::fs::File;
 use std::os::unix::fs::OpenOptionsExt;
 use std::rt::Files;
@@ -189,29 +192,47 @@ fn tell_size<R: AllocGlobal + Files<File = File>, O: Output>(
     };
     let place = ArchivePath { path, waits: true };
     match take_disk(rt, place, Access::Looking) {
-        Ok(disk) => {
-            let mut disk = disk;
-            tell_blocks(reply, config, shape_on(&mut disk))
-        }
+        Ok(disk) => tell_archive(rt.alloc(), reply, config, disk),
         Err(refusal) => {
-            reply.tell(b"fault the archive can't be opened: ");
-            reply.tell(reason_of(rt.alloc(), refusal).text());
-            reply.tell(b"\n");
+            tell_refused(rt.alloc(), reply, b"can't be opened", refusal);
             false
         }
     }
 }
 
-// Tells how many blocks are asked for, and how many there are.
-fn tell_blocks<O: Output>(
+// Tells whether the archive on a disk is large enough, and whether it opens. Says whether both hold.
+fn tell_archive<D: Disk + Drop, O: Output>(
+    alloc: Global,
     reply: &mut Reply<'_, O>,
     config: &Config<'_>,
-    shape: Option<Shape>,
+    disk: D,
 ) -> bool {
-    let Some(shape) = shape else {
+    let mut disk = disk;
+    let Some(shape) = shape_on(&mut disk) else {
         reply.tell(b"fault the file is no archive\n");
         return false;
     };
+    let is_large = tell_blocks(reply, config, shape);
+    match Archive::open(alloc, disk, Settings { limit: 0 }) {
+        Ok(_) => is_large,
+        Err((fault, _)) => {
+            tell_refused(alloc, reply, b"is refused", Refusal::Open(fault));
+            false
+        }
+    }
+}
+
+// Tells that the archive is at fault, and why.
+fn tell_refused<O: Output>(alloc: Global, reply: &mut Reply<'_, O>, what: &[u8], refusal: Refusal) {
+    reply.tell(b"fault the archive ");
+    reply.tell(what);
+    reply.tell(b": ");
+    reply.tell(reason_of(alloc, refusal).text());
+    reply.tell(b"\n");
+}
+
+// Tells how many blocks are asked for, and how many there are.
+fn tell_blocks<O: Output>(reply: &mut Reply<'_, O>, config: &Config<'_>, shape: Shape) -> bool {
     let Some(wanted) = blocks_wanted(config) else {
         reply.tell(b"fault neither fit nor keep is set: a full archive refuses each new core\n");
         return false;
