@@ -1,10 +1,8 @@
 -- What is told of the cases that would go.
-use Rattle.std.specs.Prelude.{◌≡◌, ⊥, ℕ, List, map, Option, Result, Ok, Err}
-use Rattle.std.specs.List.Sorted.{IsStrictlyIncreasing}
+use Rattle.std.specs.Prelude.{◌≡◌, ℕ, List, map, Option, Result, Ok, Err}
 use Rattle.archive_files.specs.declared.failures.Failure.{Failure}
 use Rattle.archive_files.specs.declared.failures.Failure.TheVariants.{Refused, Faulted}
-use Rattle.archive_files.specs.declared.failures.Refusal.{Refusal}
-use Rattle.archive_files.specs.declared.failures.Refusal.TheVariants.{Disk, Open, OutOfMemory}
+use Rattle.archive_files.specs.declared.failures.Refusal.TheVariants.{Open}
 use Rattle.archive_replies.specs.Texts.{retire_reply}
 use Rattle.disk_model.specs.declared.disk.Disk as disk
 use Rattle.inspector_cli.specs.declared.session.SessionFault.TheVariants.{WriteFailed}
@@ -33,15 +31,9 @@ abbrev pub IsForeseen : List Case → Policy → Option (List ℕ) → Option (L
 IsForeseen cases policy before after count count' r =
     (d : Decision) × (sent : Result (Unit {0}) StreamFault) × IsDecision policy (map brief_of cases) d.dropped.items d.unmet × ForeseenTold d before after count count' sent × (r ≡ sent_told sent)
 
--- why no answer could be made: there is no memory, or the numbers of the cases do not rise, as they do in each sound archive
-abbrev pub IsUnforeseen : List Case → Refusal → Type 0
-IsUnforeseen cases OutOfMemory = Unit {0}
-IsUnforeseen cases Disk = IsStrictlyIncreasing (map (λ c. c.seq) cases) → ⊥
-IsUnforeseen cases _ = ⊥
-
 -- the same, by the answer; where it is refused nothing is told
 abbrev pub ForeseenIn : List Case → Policy → Option (List ℕ) → Option (List ℕ) → ℕ → ℕ → Result (Unit {0}) Failure → Type 0
-ForeseenIn cases policy before after count count' (Err (Refused refusal)) = IsUnforeseen cases refusal × (after ≡ before) × (count' ≡ count)
+ForeseenIn cases policy before after count count' (Err (Refused refusal)) = (after ≡ before) × (count' ≡ count)
 ForeseenIn cases policy before after count count' r = IsForeseen cases policy before after count count' r
 
 -- the same of an opening

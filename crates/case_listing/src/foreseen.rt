@@ -1,5 +1,5 @@
 // What would go if cases were retired.
-ghost use Rattle.std.specs.Prelude.{◌≡◌, ⊥, IfOk, MatchOption, Result, false, map, true};
+ghost use Rattle.std.specs.Prelude.{◌≡◌, ◌+◌, IfOk, IfSome, OnOk, Option, None, Some, Result, Ok, Err, false, map, true};
 ghost use Rattle.std.specs.List.Sorted.{IsStrictlyIncreasing};
 ghost use Rattle.case_listing.specs.Foreseeing.{Foresees, ForeseenIn, ForeseenTold, sent_told};
 ghost use Rattle.intake.specs.Parts.{state_of};
@@ -124,7 +124,7 @@ fn sent_told(sent: Result<(), StreamFault>) -> Result<(), Failure>
 
 // What the rule says of cases, if their numbers rise: an opening sees to it that they do.
 fn decided(alloc: Global, cases: &[Entry], policy: &Policy) -> Result<Option<Decision>, AllocError>
-    ensures { IfOk result (λ o. MatchOption o (IsStrictlyIncreasing (map seq_of (map brief_of_entry cases.now)) → ⊥) (λ d. IsDecision policy.now (map brief_of_entry cases.now) d.dropped.items d.unmet)) }
+    ensures { IfOk result (λ o. IfSome o (λ d. IsDecision policy.now (map brief_of_entry cases.now) d.dropped.items d.unmet)) }
 {
     let briefs = briefs_of(alloc, cases)?;
     if !are_rising(&briefs) {
@@ -151,8 +151,7 @@ fn briefs_of(alloc: Global, cases: &[Entry]) -> Result<Vec<Brief>, AllocError>
 
 // Whether each number is above the one before it.
 fn are_rising(briefs: &[Brief]) -> bool
-    ensures rising { result ≡ true → IsStrictlyIncreasing (map seq_of briefs.now) }
-    ensures not { result ≡ false → IsStrictlyIncreasing (map seq_of briefs.now) → ⊥ }
+    ensures { result ≡ true → IsStrictlyIncreasing (map seq_of briefs.now) }
 {
     for i in 1..briefs.len() {
         if briefs[i - 1].seq >= briefs[i].seq {
