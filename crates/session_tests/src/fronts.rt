@@ -356,7 +356,7 @@ fn core_at(alloc: Global, pc: u64) -> Result<Vec<u8>, Fail> {
 // Whether `unwind`, and then `frame`, read so many bytes more than `header` of a core whose pc is at this place of its image. The memory
 // is from place 572 on, and its first address is 0x10000. The words at the pc and 4 before it are looked at.
 fn unwinds_with(alloc: Global, place: u64, more: u64) -> Result<bool, Fail> {
-    let core = core_at(alloc, 0x10000 + place - 572)?;
+    let core = core_at(alloc, place.wrapping_add(0x10000 - 572))?;
     Ok(
         reads_more(alloc, &core, "unwind 1 0\n", more)?
             && reads_more(alloc, &core, "frame 1 0 0\n", more)?,
