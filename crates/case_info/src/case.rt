@@ -1,10 +1,10 @@
 // `info` of a case: one screen of it.
-use crate::gathered::{answer, ask_core, ask_image};
+use crate::gathered::{answer, ask_core, ask_image, shown_threads};
 use crate::telling::{shown, write_text};
 use archive_files::{ArchivePath, Collected, Failure, Refusal, take_look, unasked};
 use case_listing::find_case;
 use case_queries::Images;
-use case_screens::{CaseAnswers, case_json, reply_lines, tell_case_screen};
+use case_screens::{CaseAnswers, CoreAnswers, case_json, tell_case_screen};
 use disk_model::Disk;
 use intake::{Archive, Settings};
 use journal_layout::Kind;
@@ -108,9 +108,20 @@ fn core_screen<D: Disk>(
     words: InfoWords,
 ) -> Result<Collected, Refusal> {
     let replies = ask_core(alloc, seq, words.all_threads, archive)?;
-    let lines = replies.lines(alloc)?;
-    let threads = replies.shown_threads(alloc, &lines)?;
-    let answers = CaseAnswers::Core(replies.answers(&lines, &threads));
+    let process = replies.process.lines(alloc)?;
+    let signal = replies.signal.lines(alloc)?;
+    let threads = replies.threads.lines(alloc)?;
+    let files = replies.files.lines(alloc)?;
+    let builds = replies.builds.lines(alloc)?;
+    let shown = shown_threads(alloc, &replies.unwound, &threads)?;
+    let answers = CaseAnswers::Core(CoreAnswers {
+        process: answer(&replies.process, &process),
+        signal: answer(&replies.signal, &signal),
+        threads: answer(&replies.threads, &threads),
+        files: answer(&replies.files, &files),
+        unwound: shown,
+        builds: answer(&replies.builds, &builds),
+    });
     put_text(alloc, archive, seq, &answers, words.is_json)
 }
 
@@ -122,7 +133,7 @@ fn exec_screen<D: Disk>(
 ) -> Result<Collected, Refusal> {
     let mut images = Images { alloc, kept: None };
     let told = ask_image(seq, ImageQuery::Header, &mut images, archive)?;
-    let lines = reply_lines(alloc, told.text.text())?;
+    let lines = told.lines(alloc)?;
     let answers = CaseAnswers::Exec(answer(&told, &lines));
     put_text(alloc, archive, seq, &answers, words.is_json)
 }

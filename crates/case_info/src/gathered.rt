@@ -5,7 +5,7 @@ ghost use Rattle.case_queries.specs.Seeing.{IsKept};
 use crate::inquiry::{Told, inquire, of_image};
 use archive_files::Refusal;
 use case_queries::Images;
-use case_screens::{Answer, CoreAnswers, ThreadAnswer, reply_lines};
+use case_screens::{Answer, ThreadAnswer};
 use disk_model::Disk;
 use intake::Archive;
 use script_lines::{ImageQuery, MemoryQuery, Query};
@@ -14,13 +14,13 @@ use std::alloc::{AllocError, Global};
 // The replies to the lines that are asked of a core.
 #[derive(Drop)]
 pub(crate) struct CoreReplies {
-    process: Told,
-    signal: Told,
-    threads: Told,
-    files: Told,
+    pub(crate) process: Told,
+    pub(crate) signal: Told,
+    pub(crate) threads: Told,
+    pub(crate) files: Told,
     // Those to `unwind`, of the threads that are shown.
-    unwound: Vec<Told>,
-    builds: Told,
+    pub(crate) unwound: Vec<Told>,
+    pub(crate) builds: Told,
 }
 
 // Asks a core. The lines over headers and notes come first, so that the first bytes of the image are read once.
@@ -76,9 +76,7 @@ fn shown_count(alloc: Global, threads: &Told, all_threads: bool) -> Result<u64, 
     if !threads.is_done {
         return Ok(0);
     }
-    let count = reply_lines(alloc, threads.text.text())?
-        .len()
-        .saturating_sub(1) as u64;
+    let count = threads.lines(alloc)?.len().saturating_sub(1) as u64;
     Ok(if all_threads { count } else { count.min(1) })
 }
 
@@ -110,68 +108,22 @@ fn ask_memory<D: Disk>(
     of_image(inquire(seq, &Query::Memory(query), images, archive)?)
 }
 
-// The lines of the replies.
-#[derive(Drop)]
-pub(crate) struct CoreLines<'a> {
-    process: Vec<&'a [u8]>,
-    signal: Vec<&'a [u8]>,
-    threads: Vec<&'a [u8]>,
-    files: Vec<&'a [u8]>,
-    unwound: Vec<Vec<&'a [u8]>>,
-    builds: Vec<&'a [u8]>,
-}
-
-impl CoreReplies {
-    // The lines of the replies. The error is that there is no memory.
-    pub(crate) fn lines(&self, alloc: Global) -> Result<CoreLines<'_>, AllocError> {
-        let mut unwound = Vec::new(alloc);
-        for told in &self.unwound {
-            unwound.push(reply_lines(alloc, told.text.text())?)?;
-        }
-        Ok(CoreLines {
-            process: reply_lines(alloc, self.process.text.text())?,
-            signal: reply_lines(alloc, self.signal.text.text())?,
-            threads: reply_lines(alloc, self.threads.text.text())?,
-            files: reply_lines(alloc, self.files.text.text())?,
-            unwound,
-            builds: reply_lines(alloc, self.builds.text.text())?,
-        })
+// The threads that are shown: each by its line, and by the lines of its frames. A screen has them at one lifetime with the texts that
+// they lend, so the lists stay until the process ends. The error is that there is no memory.
+pub(crate) fn shown_threads<'a>(
+    alloc: Global,
+    unwound: &'a [Told],
+    threads: &'a [&'a [u8]],
+) -> Result<&'a [ThreadAnswer<'a>], AllocError> {
+    let mut shown = Vec::new(alloc);
+    for (place, told) in unwound.iter().enumerate() {
+        let frames = told.lines(alloc)?;
+        shown.push(ThreadAnswer {
+            line: line_of(threads, place),
+            frames: answer(told, frames.leak()),
+        })?;
     }
-
-    // The threads that are shown. The error is that there is no memory.
-    pub(crate) fn shown_threads<'a>(
-        &self,
-        alloc: Global,
-        lines: &'a CoreLines<'a>,
-    ) -> Result<Vec<ThreadAnswer<'a>>, AllocError> {
-        let mut threads = Vec::new(alloc);
-        for (place, told) in self.unwound.iter().enumerate() {
-            threads.push(ThreadAnswer {
-                line: line_of(&lines.threads, place),
-                frames: Answer {
-                    is_done: told.is_done,
-                    lines: lines_of(&lines.unwound, place),
-                },
-            })?;
-        }
-        Ok(threads)
-    }
-
-    // What a screen is told by.
-    pub(crate) fn answers<'a>(
-        &self,
-        lines: &'a CoreLines<'a>,
-        threads: &'a [ThreadAnswer<'a>],
-    ) -> CoreAnswers<'a> {
-        CoreAnswers {
-            process: answer(&self.process, &lines.process),
-            signal: answer(&self.signal, &lines.signal),
-            threads: answer(&self.threads, &lines.threads),
-            files: answer(&self.files, &lines.files),
-            unwound: threads,
-            builds: answer(&self.builds, &lines.builds),
-        }
-    }
+    Ok(shown.leak())
 }
 
 pub(crate) fn answer<'a>(told: &Told, lines: &'a [&'a [u8]]) -> Answer<'a> {
@@ -185,12 +137,5 @@ fn line_of<'a>(lines: &'a [&'a [u8]], place: usize) -> &'a [u8] {
     match lines.get(place) {
         Some(line) => line,
         None => b"",
-    }
-}
-
-fn lines_of<'a>(lines: &'a [Vec<&'a [u8]>], place: usize) -> &'a [&'a [u8]] {
-    match lines.get(place) {
-        Some(lines) => lines,
-        None => &[],
     }
 }

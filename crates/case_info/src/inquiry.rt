@@ -7,16 +7,25 @@ ghost use Rattle.script_lines.specs.Queries.{query_of};
 
 use archive_files::{Collected, Refusal};
 use case_queries::{Images, answer_query};
+use case_screens::reply_lines;
 use disk_model::Disk;
 use intake::{Archive, ArchiveFault};
 use script_lines::Query;
 use script_streams::Reply;
+use std::alloc::{AllocError, Global};
 
 // The reply to a line, and whether it is done.
 #[derive(Drop)]
 pub(crate) struct Told {
     pub(crate) text: Collected,
     pub(crate) is_done: bool,
+}
+
+impl Told {
+    // The lines of the reply. The error is that there is no memory.
+    pub(crate) fn lines(&self, alloc: Global) -> Result<Vec<&[u8]>, AllocError> {
+        reply_lines(alloc, self.text.text())
+    }
 }
 
 // Asks a case a line. The reply is that of a script. The error is that there is no memory to hold it.
