@@ -437,11 +437,10 @@ fn begins_core(line: &[u8]) -> bool {
 
 // What the words of `ask` ask for, or its rows as JSON.
 fn ask_asked<'a>(alloc: Global, found: &ArgMatches<'a>) -> Result<Asked<'a>, Refusal> {
-    let asked = ask_words(alloc, found)?;
-    if !found.get_flag("json") {
-        return Ok(asked);
+    if found.get_flag("json") {
+        return rows_asked(alloc, found);
     }
-    rows_asked(alloc, asked, found.get_strs("words").unwrap_or(&[]))
+    ask_words(alloc, found)
 }
 
 // What the words of `ask` ask for.
@@ -462,7 +461,7 @@ fn ask_words<'a>(alloc: Global, found: &ArgMatches<'a>) -> Result<Asked<'a>, Ref
 }
 
 // What the line of a script that these words are asks.
-fn question_of(alloc: Global, found: &ArgMatches<'_>) -> Result<Question, Refusal> {
+pub(crate) fn question_of(alloc: Global, found: &ArgMatches<'_>) -> Result<Question, Refusal> {
     let line = asked_line(alloc, found)?;
     if line.len() > LONGEST_LINE {
         return Err(Refusal::LineTooLong);
