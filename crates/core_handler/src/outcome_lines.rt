@@ -96,11 +96,19 @@ pub(crate) fn stored_line(
 }
 
 // What is told of a core that is lost for this reason, and of the cases that were dropped even so.
-pub(crate) fn lost_line(alloc: Global, replies: &[u8], name: &[u8], reason: &[u8]) -> Collected {
+pub(crate) fn lost_line(
+    alloc: Global,
+    replies: &[u8],
+    name: &[u8],
+    archive: &str,
+    reason: &[u8],
+) -> Collected {
     let mut line = Collected::new(alloc);
     let mut reply = Reply::new(&mut line);
     reply.tell(b"lost ");
     reply.tell(name);
+    reply.tell(b" in ");
+    reply.tell_text(archive.as_bytes());
     reply.tell(b": no ");
     reply.tell(reason);
     let words = meaning_of(reason);

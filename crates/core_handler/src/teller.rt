@@ -61,8 +61,15 @@ impl<'a> Teller<'a> {
         self.log.tell(rt, self.alloc, level, text);
     }
 
-    fn tell_lost<R: Files<File = File>>(&self, rt: &R, replies: &[u8], name: &[u8], reason: &[u8]) {
-        let line = lost_line(self.alloc, replies, name, reason);
+    fn tell_lost<R: Files<File = File>>(
+        &self,
+        rt: &R,
+        archive: &str,
+        replies: &[u8],
+        name: &[u8],
+        reason: &[u8],
+    ) {
+        let line = lost_line(self.alloc, replies, name, archive, reason);
         self.tell(rt, Level::Error, line.text());
     }
 
@@ -70,6 +77,7 @@ impl<'a> Teller<'a> {
     fn tell_refused<R: Files<File = File>>(
         &self,
         rt: &R,
+        archive: &str,
         replies: &[u8],
         name: &[u8],
         refused: &[u8],
@@ -77,9 +85,10 @@ impl<'a> Teller<'a> {
     ) {
         match ended {
             Err(Failure::Refused(refusal)) => {
-                self.tell_lost(rt, replies, name, reason_of(self.alloc, *refusal).text());
+                let reason = reason_of(self.alloc, *refusal);
+                self.tell_lost(rt, archive, replies, name, reason.text());
             }
-            _ => self.tell_lost(rt, replies, name, refused),
+            _ => self.tell_lost(rt, archive, replies, name, refused),
         }
     }
 
@@ -121,7 +130,7 @@ impl<'a> Teller<'a> {
             (Some(number), Some(disk)) => {
                 self.tell_stored(rt, archive, replies, number, disk, note)
             }
-            _ => self.tell_refused(rt, replies, name, outcome.refused, ended),
+            _ => self.tell_refused(rt, archive, replies, name, outcome.refused, ended),
         }
     }
 
