@@ -30,6 +30,7 @@ pub(crate) fn check<R: AllocGlobal + Files<File = File>, O: Output>(
     let config = Config::of(&document.value);
     let mut reply = Reply::new(output);
     tell_config(&mut reply, &config, words.archive);
+    tell_relative(&mut reply, b"configuration ", Some(words.path()));
     tell_relative(&mut reply, b"archive ", config.archive.or(words.archive));
     tell_relative(&mut reply, b"log ", config.log);
     let are_known = tell_faults(rt, &mut reply, words, document);
