@@ -20,20 +20,20 @@ pub struct ThreadAnswer<'a> {
 
 /// What is asked of a core.
 #[derive(Clone, Copy)]
-pub struct CoreAnswers<'a> {
+pub struct CoreAnswers<'s, 'a> {
     pub process: Answer<'a>,
     pub signal: Answer<'a>,
     pub threads: Answer<'a>,
     pub files: Answer<'a>,
     /// The threads that are shown.
-    pub unwound: &'a [ThreadAnswer<'a>],
+    pub unwound: &'s [ThreadAnswer<'a>],
     pub builds: Answer<'a>,
 }
 
 /// What is asked of a case.
 #[derive(Clone, Copy)]
-pub enum CaseAnswers<'a> {
-    Core(CoreAnswers<'a>),
+pub enum CaseAnswers<'s, 'a> {
+    Core(CoreAnswers<'s, 'a>),
     /// The reply to `header`.
     Exec(Answer<'a>),
 }

@@ -20,7 +20,7 @@ pub fn case_json(
     alloc: Global,
     case: &Entry,
     cases: &[Entry],
-    answers: &CaseAnswers<'_>,
+    answers: &CaseAnswers<'_, '_>,
 ) -> Result<String, AllocError> {
     let mut value = case_value(alloc, case)?;
     if let Some(map) = value.as_object_mut() {
@@ -39,7 +39,7 @@ fn put_core(
     alloc: Global,
     map: &mut Map<String, Value>,
     cases: &[Entry],
-    answers: &CoreAnswers<'_>,
+    answers: &CoreAnswers<'_, '_>,
 ) -> Result<(), AllocError> {
     let process = merged_value(alloc, &answers.process, rows_of("process"))?;
     put(map, alloc, "process", process)?;
@@ -84,7 +84,7 @@ fn code_name(cause: &[u8]) -> Option<&'static [u8]> {
     }
 }
 
-fn threads_value(alloc: Global, answers: &CoreAnswers<'_>) -> Result<Value, AllocError> {
+fn threads_value(alloc: Global, answers: &CoreAnswers<'_, '_>) -> Result<Value, AllocError> {
     if !answers.threads.is_done {
         return refusal_value(alloc, reason_in(answers.threads.lines));
     }

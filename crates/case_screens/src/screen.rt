@@ -24,7 +24,7 @@ pub fn tell_case_screen<O: Output>(
     reply: &mut Reply<'_, O>,
     case: &Entry,
     cases: &[Entry],
-    answers: &CaseAnswers<'_>,
+    answers: &CaseAnswers<'_, '_>,
 )
     ensures is_screen { TellsText (telling O.Output reply.old reply.new) (info_answer (case_of case.now) (map case_of cases.now) answers.now) }
 {
@@ -84,7 +84,7 @@ fn tell_core<O: Output>(
     reply: &mut Reply<'_, O>,
     case: &Entry,
     cases: &[Entry],
-    answers: &CoreAnswers<'_>,
+    answers: &CoreAnswers<'_, '_>,
 )
     ensures { TellsText (telling O.Output reply.old reply.new) (core_text (case_of case.now) (map case_of cases.now) answers.now) }
 {
