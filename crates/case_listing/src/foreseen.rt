@@ -113,7 +113,7 @@ fn tell_decision<O: Output>(decision: Decision, output: &mut O) -> Result<(), Fa
     sent_told(reply.finish())
 }
 
-fn sent_told(sent: Result<(), StreamFault>) -> Result<(), Failure>
+pub(crate) fn sent_told(sent: Result<(), StreamFault>) -> Result<(), Failure>
     ensures { result ≡ sent_told sent }
 {
     match sent {

@@ -1,11 +1,20 @@
 // `list`: the cases of an archive, for people or as JSON.
+ghost use Rattle.std.specs.Prelude.{◌≡◌, ◌==◌, IfOk, false, length, map, not, true};
+ghost use Rattle.std.specs.Io.KnownBytes.{Appends};
+ghost use Rattle.case_tables.specs.Table.{list_table};
+ghost use Rattle.case_tables.specs.Wanted.{chosen};
+ghost use Rattle.intake.specs.Parts.{state_of};
+ghost use Rattle.journal_layout.specs.Case.{case_of};
+ghost use Rattle.case_listing.specs.Listing.{Lists, ListsOn};
+
+use crate::foreseen::sent_told;
 use archive_files::{ArchivePath, Failure, Refusal, take_look};
 use case_tables::{Wanted, list_json, read_time, tell_list};
 use disk_model::Disk;
 use inspector_cli::SessionFault;
 use intake::{Archive, Settings};
 use journal_layout::Entry;
-use script_streams::{Output, Reply, StreamFault};
+use script_streams::{Output, Reply};
 use std::alloc::Global;
 use std::fs::File;
 use std::rt::Files;
@@ -90,7 +99,9 @@ fn list_over<D: Disk + Drop, O: Output>(
     wanted: &Wanted<'_>,
     is_json: bool,
     output: &mut O,
-) -> Result<bool, Failure> {
+) -> Result<bool, Failure>
+    ensures { ListsOn D.Disk is_json wanted.now (O.taken output.old) (O.taken output.new) disk result }
+{
     match Archive::open(alloc, disk, Settings { limit: 0 }) {
         Ok(archive) => list_archive(alloc, &archive, wanted, is_json, output),
         Err((fault, _)) => Err(Failure::Refused(Refusal::Open(fault))),
@@ -103,7 +114,10 @@ fn list_archive<D: Disk, O: Output>(
     wanted: &Wanted<'_>,
     is_json: bool,
     output: &mut O,
-) -> Result<bool, Failure> {
+) -> Result<bool, Failure>
+    requires runs { archive.now.stopped ≡ false }
+    ensures { IfOk result (Lists is_json wanted.now (state_of archive.now).cases (O.taken output.old) (O.taken output.new)) }
+{
     let cases = match archive.cases() {
         Ok(cases) => cases,
         Err(fault) => return Err(Failure::Refused(Refusal::Call(fault))),
@@ -120,11 +134,16 @@ fn tell_table<O: Output>(
     cases: &[Entry],
     wanted: &Wanted<'_>,
     output: &mut O,
-) -> Result<bool, Failure> {
+) -> Result<bool, Failure>
+    ensures told { IfOk result (λ some. Appends (O.taken output.old) (O.taken output.new) (list_table (chosen wanted.now (map case_of cases.now)))) }
+    ensures some { IfOk result (λ some. some ≡ not (length (chosen wanted.now (map case_of cases.now)) == 0)) }
+{
     let mut reply = Reply::new(output);
     let some = tell_list(alloc, &mut reply, cases, wanted)?;
-    sent(reply.finish())?;
-    Ok(some)
+    match reply.finish() {
+        Ok(()) => Ok(some),
+        Err(_) => Err(Failure::Faulted(SessionFault::WriteFailed)),
+    }
 }
 
 fn tell_json<O: Output>(
@@ -132,15 +151,13 @@ fn tell_json<O: Output>(
     cases: &[Entry],
     wanted: &Wanted<'_>,
     output: &mut O,
-) -> Result<bool, Failure> {
+) -> Result<bool, Failure>
+    ensures { IfOk result (λ some. some ≡ not (length (chosen wanted.now (map case_of cases.now)) == 0)) }
+{
     let (text, some) = list_json(alloc, cases, wanted)?;
     let mut reply = Reply::new(output);
     reply.tell(text.as_bytes());
     reply.tell(b"\n");
-    sent(reply.finish())?;
+    sent_told(reply.finish())?;
     Ok(some)
-}
-
-fn sent(finished: Result<(), StreamFault>) -> Result<(), Failure> {
-    finished.map_err(|_| Failure::Faulted(SessionFault::WriteFailed))
 }

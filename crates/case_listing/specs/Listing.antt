@@ -1,0 +1,29 @@
+-- What is listed of the cases of an archive.
+use Rattle.std.specs.Prelude.{◌≡◌, ◌==◌, ℕ, Bool, false, not, List, length, Option, Result, Ok, Err, IfOk}
+use Rattle.std.specs.Io.KnownBytes.{Appends}
+use Rattle.archive_files.specs.declared.failures.Failure.{Failure}
+use Rattle.archive_files.specs.declared.failures.Failure.TheVariants.{Refused}
+use Rattle.archive_files.specs.declared.failures.Refusal.TheVariants.{Open}
+use Rattle.case_tables.specs.Table.{list_table}
+use Rattle.case_tables.specs.Wanted.{chosen}
+use Rattle.case_tables.specs.declared.wanted.Wanted.{Wanted}
+use Rattle.disk_model.specs.declared.disk.Disk as disk
+use Rattle.intake.specs.Calls.{OpenCall}
+use Rattle.intake.specs.Parts.{Parts, state_of}
+use Rattle.journal_layout.specs.Case.{Case}
+use Rattle.journal_layout.specs.declared.faults.OpenFault.{OpenFault}
+
+-- Those of the cases that are wanted are told as a table, if not as JSON, to an output that had taken `before`; and whether there are any.
+pub record Lists (is_json : Bool) (wanted : Wanted) (cases : List Case) (before after : Option (List ℕ)) (some : Bool) : Type 0 where
+  pub told : is_json ≡ false → Appends before after (list_table (chosen wanted cases))
+  pub some_is : some ≡ not (length (chosen wanted cases) == 0)
+
+-- by the archive that was opened, or why it was not
+abbrev pub ListsBy : {D : Type 0} → Bool → Wanted → Option (List ℕ) → Option (List ℕ) → Result (Parts D) (OpenFault × D) → Result Bool Failure → Type 0
+ListsBy is_json wanted before after (Ok a) r = IfOk r (Lists is_json wanted (state_of a).cases before after)
+ListsBy is_json wanted before after (Err (fault, d)) r = (r ≡ Err (Refused (Open fault))) × (after ≡ before)
+
+-- The archive on a disk is opened, and its cases are listed.
+abbrev pub ListsOn : {D : Type 0} → disk.Ghosts D → Bool → Wanted → Option (List ℕ) → Option (List ℕ) → D → Result Bool Failure → Type 0
+ListsOn {D} g is_json wanted before after before_disk r =
+    (opened : Result (Parts D) (OpenFault × D)) × OpenCall g 0 before_disk opened × ListsBy is_json wanted before after opened r
