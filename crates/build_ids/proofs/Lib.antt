@@ -1,3 +1,4 @@
 pub mod NotePlaces
 pub mod Grammar
 pub mod HeaderPlaces
+pub mod FrontIds

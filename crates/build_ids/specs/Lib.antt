@@ -2,3 +2,4 @@ pub mod Notes
 pub mod NoteGrammar
 pub mod NoteWords
 pub mod BuildId
+pub mod Fronts

@@ -12,7 +12,7 @@ use crate::padding::Padding;
 use elf_view::{Elf, Segment, Want, u64_at};
 
 /// The p_type of a segment of notes.
-const PT_NOTE: u32 = 4;
+pub(crate) const PT_NOTE: u32 = 4;
 
 /// The build ID among the notes in a segment's bytes.
 fn id_in(bytes: &[u8], padding: Padding) -> Option<&[u8]>
@@ -48,7 +48,7 @@ fn has_notes(image: &[u8], segment: &Segment<'_>) -> bool
 
 /// Program header `i`.
 #[tactic(auto, using(crate::proofs::HeaderPlaces::header_at))]
-fn header_at<'a>(elf: &Elf<'a>, i: u64) -> Segment<'a>
+pub(crate) fn header_at<'a>(elf: &Elf<'a>, i: u64) -> Segment<'a>
     requires { i < segment_count (image_of elf.now) }
     ensures { segment_view result ≡ segment_at (image_of elf.now) i }
 {
@@ -73,7 +73,7 @@ fn id_at<'a>(elf: &Elf<'a>, i: u64) -> Option<&'a [u8]>
 }
 
 /// The build ID among all notes.
-fn id_of<'a>(elf: &Elf<'a>) -> Option<&'a [u8]>
+pub(crate) fn id_of<'a>(elf: &Elf<'a>) -> Option<&'a [u8]>
     ensures { option_map (λ id. id.now) result ≡ spec.id_among (spec.notes_of (image_of elf.now)) }
 {
     for i in 0..elf.header().segments {
