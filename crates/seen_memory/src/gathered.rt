@@ -1,0 +1,81 @@
+// Bytes of an image in a row, from those that are at hand.
+ghost use Rattle.std.specs.Prelude.{◌≡◌, ◌+◌, ◌^◌, ◌<◌, ◌≤◌, MatchOption, length};
+ghost use Rattle.seen_memory.specs.declared.gathered.GatherFault.TheVariants as faults;
+ghost use Rattle.seen_memory.specs.Gathering.{AddsBytes, GathersBytes, IsThere};
+ghost use Rattle.seen_memory.specs.Seen.{IsUnread};
+
+use crate::memory::Unread;
+use crate::part::{Part, bytes_of_parts};
+use std::alloc::AllocError;
+
+/// Why bytes of an image are not gathered.
+#[derive(Clone, Copy, Debug, PartialEq, Eq)]
+pub enum GatherFault {
+    /// One of them is not at hand.
+    Unread(Unread),
+    /// There is no memory for them.
+    OutOfMemory,
+}
+
+impl From<AllocError> for GatherFault {
+    ghost from_gives = { λ _ fault. fault ≡ faults.OutOfMemory };
+
+    fn from(_error: AllocError) -> GatherFault {
+        GatherFault::OutOfMemory
+    }
+}
+
+/// The bytes of the image from a place on, at most `most`, as far as the first bytes or a part have them.
+fn bytes_at<'p>(front: &'p [u8], parts: &[Part<'p>], place: u64, most: u64) -> Option<&'p [u8]>
+    requires { 0 < most }
+    ensures { MatchOption result (IsUnread front.now parts.now place) (IsThere front.now parts.now place most) }
+{
+    let first = Part {
+        at: 0,
+        bytes: front,
+    };
+    match first.bytes_from(place, most) {
+        Some(bytes) => Some(bytes),
+        None => bytes_of_parts(parts, place, most),
+    }
+}
+
+/// Puts the next of these bytes after those that are gathered.
+fn add_bytes(
+    front: &[u8],
+    parts: &[Part<'_>],
+    start: u64,
+    count: u64,
+    bytes: &mut Vec<u8>,
+) -> Result<(), GatherFault>
+    requires fits { start + count < 2 ^ 64 }
+    requires more { length bytes.old.items < count }
+    ensures { AddsBytes front.now parts.now start count bytes.old.items result bytes.new.items }
+{
+    let gathered = bytes.len() as u64;
+    let place = start + gathered;
+    let Some(more) = bytes_at(front, parts, place, count - gathered) else {
+        return Err(GatherFault::Unread(Unread { place }));
+    };
+    bytes.extend_from_slice(more)?;
+    Ok(())
+}
+
+/// Gathers `count` bytes of an image from place `start` on, of which these are the first. Of the image the first bytes are at hand,
+/// and these parts. If another byte is wanted, what was gathered stays, and the call can be made again.
+pub fn gather(
+    front: &[u8],
+    parts: &[Part<'_>],
+    start: u64,
+    count: u64,
+    bytes: &mut Vec<u8>,
+) -> Result<(), GatherFault>
+    requires fits { start + count < 2 ^ 64 }
+    requires few { length bytes.old.items ≤ count }
+    ensures { GathersBytes front.now parts.now start count bytes.old.items result bytes.new.items }
+{
+    while (bytes.len() as u64) < count {
+        add_bytes(front, parts, start, count, bytes)?;
+    }
+    Ok(())
+}
