@@ -1,34 +1,27 @@
 // The reply to `builds`.
-ghost use Rattle.std.specs.Prelude.{◌≡◌, ◌++◌, IfOk, [], map};
+ghost use Rattle.std.specs.Prelude.{◌≡◌, ℕ, List, Some, length, map};
 ghost use Rattle.std.specs.List.{flat_map};
 ghost use Rattle.std.specs.Option.{option_map};
 ghost use Rattle.script_streams.specs.Replies.{TellsReply, TellsText, telling};
 ghost use Rattle.address_space.specs.SpaceWords.{attached_view};
-ghost use Rattle.core_notes.specs.FileList.{files_of};
-ghost use Rattle.core_notes.specs.FileWords.{files_bytes};
+ghost use Rattle.address_space.specs.Source.{ExecutableView};
+ghost use Rattle.address_space.specs.Whole.{IsFrontOf};
+ghost use Rattle.elf_view.specs.ViewWords.{notes_of};
+ghost use Rattle.elf_view.specs.declared.faults.Want.TheVariants.{Core};
 ghost use Rattle.image_replies.specs.CoreWords.{core_bytes};
 ghost use Rattle.memory_replies.specs.Answers.{AnswersWith};
-ghost use Rattle.memory_replies.specs.Memory.{memory_of};
 ghost use Rattle.build_replies.specs.Builds as spec;
-ghost use Rattle.build_replies.specs.TableWords.{path_of, table_rows};
+ghost use Rattle.build_replies.specs.Compared.{AreIdsOf, IsFoundOf, id_line, id_view};
+ghost use Rattle.build_replies.specs.TableWords.{table_rows};
 
-use crate::fronts::fronts;
-use crate::names::names;
+use crate::compared::ComparedFiles;
+use crate::ids::{FrontId, all_ids};
 use crate::table::Table;
 use address_space::Attached;
-use core_notes::Files;
 use image_replies::CoreImage;
-use memory_replies::{Outcome, space_with};
+use memory_replies::Outcome;
 use script_streams::{Output, Reply, tell_no, tell_ok};
-use std::alloc::{AllocError, Global};
-
-/// What is compared: the names of a core's mapped files, what the core has of their fronts, and the stored executables.
-#[derive(Drop)]
-struct Compared<'a> {
-    names: Table<'a>,
-    fronts: Table<'a>,
-    stored: Table<'a>,
-}
+use std::alloc::Global;
 
 /// Tells an ID, or `-` where there is none.
 fn tell_id<O: Output>(reply: &mut Reply<'_, O>, id: Option<&[u8]>)
@@ -64,54 +57,59 @@ fn tell_ids<O: Output>(reply: &mut Reply<'_, O>, core: Option<&[u8]>, stored: Op
 }
 
 /// Tells the line of a name.
-#[tactic(auto, unfolding(crate::specs::Builds::build_line))]
-fn tell_line<O: Output>(
-    reply: &mut Reply<'_, O>,
-    fronts: &Table<'_>,
-    stored: &Table<'_>,
-    name: &[u8],
-)
-    ensures { TellsText (telling O.Output reply.old reply.new)
-        (spec.build_line (table_rows fronts.now) (table_rows stored.now) name.now) }
+#[tactic(auto, unfolding(crate::specs::Compared::id_line))]
+fn tell_line<O: Output>(reply: &mut Reply<'_, O>, stored: &Table<'_>, front: &FrontId<'_>)
+    ensures { TellsText (telling O.Output reply.old reply.new) (id_line (table_rows stored.now) (id_view front.now)) }
 {
+    let name = front.name();
     reply.tell_text(name);
     reply.tell(b" ");
-    tell_ids(reply, fronts.id_named(name), stored.id_named(name));
+    tell_ids(reply, front.id(), stored.id_named(name));
     reply.tell(b"\n");
 }
 
 /// Tells a line for each name.
-fn tell_lines<O: Output>(reply: &mut Reply<'_, O>, compared: &Compared<'_>)
+fn tell_lines<O: Output>(reply: &mut Reply<'_, O>, stored: &Table<'_>, ids: &[FrontId<'_>])
     ensures { TellsText (telling O.Output reply.old reply.new)
-        (flat_map (spec.build_line (table_rows compared.now.fronts) (table_rows compared.now.stored))
-        (map path_of (table_rows compared.now.names))) }
+        (flat_map (id_line (table_rows stored.now)) (map id_view ids.now)) }
 {
-    for executable in &compared.names.list {
-        tell_line(reply, &compared.fronts, &compared.stored, executable.path);
+    for front in ids {
+        tell_line(reply, stored, front);
     }
 }
 
-impl<'a> Compared<'a> {
-    /// What is compared for a core. The error is that there is no memory.
-    fn of(
-        alloc: Global,
-        core: &CoreImage<'a>,
-        files: &Files<'a>,
-        attached: &[Attached<'a>],
-    ) -> Result<Compared<'a>, AllocError>
-        ensures names { IfOk result (λ all. map path_of (table_rows all.names)
-            ≡ spec.once (map spec.name_of (files_of (files_bytes files.now)))) }
-        ensures fronts { IfOk result (λ all. table_rows all.fronts
-            ≡ spec.fronts_of (memory_of (core_bytes core.now) []) (files_of (files_bytes files.now))) }
-        ensures stored { IfOk result (λ all. table_rows all.stored ≡ map attached_view attached.now) }
-    {
-        // No executable is attached: the core is asked what it has.
-        let space = space_with(alloc, core, &[])?;
-        Ok(Compared {
-            names: names(alloc, files)?,
-            fronts: fronts(alloc, &space, files)?,
-            stored: Table::of(alloc, attached)?,
-        })
+/// Tells the reply to `builds` of a core, by what is compared and the build IDs of the fronts: one for each name, in their order. It is
+/// that of each image which the core may have and these are the build IDs of. Says what became of it.
+pub fn tell_compared<O: Output>(
+    reply: &mut Reply<'_, O>,
+    compared: &ComparedFiles<'_>,
+    ids: &[FrontId<'_>],
+) -> Outcome
+    ensures { (front image : List ℕ) (size : ℕ) (xs : List ExecutableView) → IsFrontOf front size image → notes_of Core front ≡ notes_of Core image
+        → IsFoundOf front size xs (Some compared.now) → AreIdsOf image compared.now ids.now
+        → TellsReply (telling O.Output reply.old reply.new) (AnswersWith result (spec.builds_answer image xs)) }
+{
+    tell_lines(reply, &compared.stored, ids);
+    tell_ok(reply);
+    Outcome::Done
+}
+
+/// Tells the reply of a core of which all bytes are at hand.
+fn tell_whole<O: Output>(
+    alloc: Global,
+    reply: &mut Reply<'_, O>,
+    core: &CoreImage<'_>,
+    compared: &ComparedFiles<'_>,
+) -> Outcome
+    ensures { (xs : List ExecutableView) → IsFoundOf (core_bytes core.now) (length (core_bytes core.now)) xs (Some compared.now)
+        → TellsReply (telling O.Output reply.old reply.new) (AnswersWith result (spec.builds_answer (core_bytes core.now) xs)) }
+{
+    match all_ids(alloc, core.elf().image(), compared) {
+        Ok(ids) => tell_compared(reply, compared, &ids),
+        Err(_) => {
+            tell_no(reply, b"OutOfMemory");
+            Outcome::OutOfMemory
+        }
     }
 }
 
@@ -128,15 +126,16 @@ pub fn tell_builds<O: Output>(
     ensures { TellsReply (telling O.Output reply.old reply.new)
         (AnswersWith result (spec.builds_answer (core_bytes core.now) (map attached_view attached.now))) }
 {
-    let Some(files) = core.notes().files() else {
-        tell_no(reply, b"Missing");
-        return Outcome::Refused;
-    };
-    let Ok(compared) = Compared::of(alloc, core, &files, attached) else {
-        tell_no(reply, b"OutOfMemory");
-        return Outcome::OutOfMemory;
-    };
-    tell_lines(reply, &compared);
-    tell_ok(reply);
-    Outcome::Done
+    let size = core.elf().image().len() as u64;
+    match ComparedFiles::of(alloc, core, size, attached) {
+        Ok(Some(compared)) => tell_whole(alloc, reply, core, &compared),
+        Ok(None) => {
+            tell_no(reply, b"Missing");
+            Outcome::Refused
+        }
+        Err(_) => {
+            tell_no(reply, b"OutOfMemory");
+            Outcome::OutOfMemory
+        }
+    }
 }

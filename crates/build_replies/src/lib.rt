@@ -5,8 +5,13 @@
 #![tactic(auto)]
 
 mod builds;
-mod fronts;
+mod compared;
+mod ids;
 mod names;
+mod places;
 mod table;
 
-pub use builds::tell_builds;
+pub use builds::{tell_builds, tell_compared};
+pub use compared::ComparedFiles;
+pub use ids::FrontId;
+pub use places::FrontPlace;

@@ -54,7 +54,7 @@ impl<'a> Table<'a> {
     }
 
     /// The one of that number.
-    fn at(&self, number: usize) -> Option<Attached<'a>>
+    pub(crate) fn at(&self, number: usize) -> Option<Attached<'a>>
         ensures { option_map attached_view result ≡ slice_get (table_rows self.now) number }
     {
         self.list.get(number).copied()

@@ -1,11 +1,9 @@
 //! The memory of a process by some bytes of its core's image: a word is known, or bytes are wanted that are not at hand.
 #![tactic(auto)]
 
-mod gathered;
 mod memory;
 mod part;
 mod words;
 
-pub use gathered::{GatherFault, gather};
 pub use memory::{SeenMemory, Unread};
 pub use part::Part;

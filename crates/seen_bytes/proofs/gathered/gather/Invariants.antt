@@ -1,6 +1,6 @@
 use Rattle.std.proofs.Common.{◌≤◌, ◌-◌, length}
-use Rattle.seen_memory.specs.Gathering.{StaysPart}
-use Rattle.seen_memory.proofs.gathered.gather.Given as goal
+use Rattle.seen_bytes.specs.Gathering.{StaysPart}
+use Rattle.seen_bytes.proofs.gathered.gather.Given as goal
 
 -- so much is gathered
 abbrev pub invariant-loop-bytes : goal.invariant-loop-bytes

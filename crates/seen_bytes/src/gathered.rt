@@ -1,11 +1,10 @@
 // Bytes of an image in a row, from those that are at hand.
-ghost use Rattle.std.specs.Prelude.{◌≡◌, ◌+◌, ◌^◌, ◌<◌, ◌≤◌, MatchOption, length};
-ghost use Rattle.seen_memory.specs.declared.gathered.GatherFault.TheVariants as faults;
-ghost use Rattle.seen_memory.specs.Gathering.{AddsBytes, GathersBytes, IsThere};
-ghost use Rattle.seen_memory.specs.Seen.{IsUnread};
+ghost use Rattle.std.specs.Prelude.{◌≡◌, ◌+◌, ◌^◌, ◌<◌, ◌≤◌, length};
+ghost use Rattle.seen_bytes.specs.declared.gathered.GatherFault.TheVariants as faults;
+ghost use Rattle.seen_bytes.specs.Gathering.{AddsBytes, GathersBytes};
 
-use crate::memory::Unread;
-use crate::part::{Part, bytes_of_parts};
+use crate::at_hand::bytes_at;
+use seen_memory::{Part, Unread};
 use std::alloc::AllocError;
 
 /// Why bytes of an image are not gathered.
@@ -22,21 +21,6 @@ impl From<AllocError> for GatherFault {
 
     fn from(_error: AllocError) -> GatherFault {
         GatherFault::OutOfMemory
-    }
-}
-
-/// The bytes of the image from a place on, at most `most`, as far as the first bytes or a part have them.
-fn bytes_at<'p>(front: &'p [u8], parts: &[Part<'p>], place: u64, most: u64) -> Option<&'p [u8]>
-    requires { 0 < most }
-    ensures { MatchOption result (IsUnread front.now parts.now place) (IsThere front.now parts.now place most) }
-{
-    let first = Part {
-        at: 0,
-        bytes: front,
-    };
-    match first.bytes_from(place, most) {
-        Some(bytes) => Some(bytes),
-        None => bytes_of_parts(parts, place, most),
     }
 }
 

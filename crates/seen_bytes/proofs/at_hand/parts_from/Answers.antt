@@ -1,6 +1,6 @@
 use Rattle.std.proofs.Common.{arith}
 use Rattle.seen_memory.proofs.PartLemmas.{beside_then, has_here, has_rest}
-use Rattle.seen_memory.proofs.part.bytes_of_parts.Goals as goal
+use Rattle.seen_bytes.proofs.at_hand.parts_from.Goals as goal
 
 pub returns-in-Some : goal.returns-in-Some
 returns-in-Some c =

@@ -1,6 +1,6 @@
 use Rattle.std.proofs.Common.{ℕ, List, drop}
 use Rattle.seen_memory.specs.Parts.{HasParts, IsBeside}
-use Rattle.seen_memory.proofs.part.bytes_of_parts.Given as goal
+use Rattle.seen_bytes.proofs.at_hand.parts_from.Given as goal
 
 -- if none of those that are left has the place, none has it; an image that has all has those
 abbrev pub invariant-loop-part : goal.invariant-loop-part

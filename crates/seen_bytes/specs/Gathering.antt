@@ -3,8 +3,8 @@ use Rattle.std.specs.Prelude.{◌≡◌, ◌≤◌, ◌<◌, ⊤, ℕ, ◌+◌, 
 use Rattle.std.specs.Borrow.{Bor}
 use Rattle.seen_memory.specs.Parts.{IsPartOf}
 use Rattle.seen_memory.specs.Seen.{IsImageBy, IsUnread}
-use Rattle.seen_memory.specs.declared.gathered.GatherFault.{GatherFault}
-use Rattle.seen_memory.specs.declared.gathered.GatherFault.TheVariants.{Unread, OutOfMemory}
+use Rattle.seen_bytes.specs.declared.gathered.GatherFault.{GatherFault}
+use Rattle.seen_bytes.specs.declared.gathered.GatherFault.TheVariants.{Unread, OutOfMemory}
 use Rattle.seen_memory.specs.declared.part.Part.{Part}
 
 -- bytes of each image that these are the first bytes and parts of, from that place on: at most so many

@@ -1,8 +1,8 @@
 use Rattle.std.proofs.Common.{◌≡◌, ◌+◌, length, ap, subst, sym, ◌∙◌, arith}
 use Rattle.std.proofs.lemmas.List.{length-append}
 use Rattle.seen_memory.specs.Parts.{IsPartOf}
-use Rattle.seen_memory.proofs.Rows.{one_after}
-use Rattle.seen_memory.proofs.gathered.add_bytes.Goals as goal
+use Rattle.seen_bytes.proofs.Rows.{one_after}
+use Rattle.seen_bytes.proofs.gathered.add_bytes.Goals as goal
 
 pub returns : goal.returns
 returns c =

@@ -1,0 +1,17 @@
+-- What the code's place of a front means.
+use Rattle.std.specs.Prelude.{◌≤◌, ℕ, ◌+◌, List}
+use Rattle.elf_view.specs.Field.{part}
+use Rattle.address_space.specs.Source.{ExecutableView}
+use Rattle.build_replies.specs.declared.places.FrontPlace.{FrontPlace}
+
+-- these bytes are the front of the file of that name
+abbrev pub front_by : List ℕ → List ℕ → ExecutableView
+front_by path bytes = record { path = path; image = bytes }
+
+-- what an image has there
+abbrev pub front_in : List ℕ → FrontPlace → ExecutableView
+front_in image p = front_by p.path.now (part image p.start p.count)
+
+-- an image of that size has all of it
+abbrev pub EndsWithin : ℕ → FrontPlace → Type 0
+EndsWithin size p = p.start + p.count ≤ size
