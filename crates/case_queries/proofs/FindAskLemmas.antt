@@ -26,7 +26,7 @@ use Rattle.memory_replies.specs.Memory.{mapped_files}
 use Rattle.script_streams.specs.Replies.{no_reply}
 use Rattle.case_queries.specs.Collecting.{Collects, CollectsAll, Wanted, wanted_of}
 use Rattle.case_queries.specs.CollectingWords.{executable_view}
-use Rattle.case_queries.specs.Asking.{Asking, asking_answer, asking_query, for_aim, for_frames}
+use Rattle.case_queries.specs.Asking.{Asking, asking_answer, asking_query, for_aim, for_builds, for_frames}
 use Rattle.case_queries.specs.Finding.{AsksFront, IsFrontOfCase, ShowsFound}
 use Rattle.case_queries.specs.Fronts.{HasSize, IsEnough, IsSoundFront, ReadsFront}
 use Rattle.case_queries.specs.Keeping.{StayCollected}
@@ -52,6 +52,7 @@ answer_is kind (for_aim (for_bytes needle)) image xs = refl
 answer_is kind (for_aim (for_texts least)) image xs = refl
 answer_is kind (for_frames thread None) image xs = refl
 answer_is kind (for_frames thread (Some frame)) image xs = refl
+answer_is kind for_builds image xs = refl
 
 -- such a line reads executables
 shows_by : {D : Type 0} (g : disk.Ghosts D) (mid : Parts D) (kind : Kind) (asking : Asking) (image text : List ℕ) (new : Parts D) → ShowsWithExecutables g mid kind (asking_query asking) image (core_fault_of image) text new → Shows g mid kind (asking_query asking) image text new
@@ -59,6 +60,7 @@ shows_by g mid kind (for_aim (for_bytes needle)) image text new shows = shows
 shows_by g mid kind (for_aim (for_texts least)) image text new shows = shows
 shows_by g mid kind (for_frames thread None) image text new shows = shows
 shows_by g mid kind (for_frames thread (Some frame)) image text new shows = shows
+shows_by g mid kind for_builds image text new shows = shows
 
 module _ {D : Type 0} (g : disk.Ghosts D) where
   -- what was read of the case is read again with no byte

@@ -11,3 +11,4 @@ pub mod FindAskLemmas
 pub mod PieceLemmas
 pub mod MoreLemmas
 pub mod FramesLemmas
+pub mod BuildLemmas

@@ -34,7 +34,7 @@ has_by b (p ∷ ps) (q ∷ qs) is are =
     let rest : map lent_view ps ≡ map piece_view qs = cc in
     (subst (λ (v : ℕ × List ℕ). IsPartOf b v.0 v.1) (sym first) are.0, has_by b ps qs rest are.1)
 
-beside_by : (place : ℕ) (ps : List seen.Part) (qs : List Part) → map lent_view ps ≡ map piece_view qs → IsBeside place ps → AreBeside place qs
+pub beside_by : (place : ℕ) (ps : List seen.Part) (qs : List Part) → map lent_view ps ≡ map piece_view qs → IsBeside place ps → AreBeside place qs
 beside_by place ps [] is beside = tt
 beside_by place [] (q ∷ qs) is beside = cc
 beside_by place (p ∷ ps) (q ∷ qs) is beside =
@@ -80,17 +80,17 @@ module _ {D : Type 0} (g : disk.Ghosts D) (before mid new : Parts D) (o : CaseIm
     piece_size = subst (λ (s : ArchiveState). HasSize s o.seq o.size) (sym read.1.step.2) has
 
     -- if there is no memory for it, the image is seen all the same
-    pub piece_dropped : (others : List Part) → SeesPieces g before o ps mid → SeesMore g before o others (Err OutOfMemory) new
+    pub piece_dropped : (others : List Part) → SeesPieces g before o ps mid → SeesMore {A = Unit {0}} g before o others (Err OutOfMemory) new
     piece_dropped others sees = let now = piece_seen sees in (now.0, now.1, now.2.0)
 
   -- one that was not
-  pub piece_refused : (f : WalkFault) (others : List Part) → ReadsPiece g mid o.seq start (past - start) (Err f) new → SeesPieces g before o ps mid → SeesMore g before o others (Err f) new
+  pub piece_refused : (f : WalkFault) (others : List Part) → ReadsPiece g mid o.seq start (past - start) (Err f) new → SeesPieces g before o ps mid → SeesMore {A = Unit {0}} g before o others (Err f) new
   piece_refused (Unread f) others read sees =
       let has = has_before sees in
       later_refused g before mid new o.seq start (past - start) o.front.now read.0 f has.0 has.1 (seen_reads g before mid o.seq sees.0 o.front.now sees.1 sees.2.0.1) read.1
-  piece_refused OutOfMemory others read sees = subst (λ (x : Parts D). SeesMore g before o others (Err OutOfMemory) x) (sym read) (sees.0, sees.1, sees.2.0)
+  piece_refused OutOfMemory others read sees = subst (λ (x : Parts D). SeesMore {A = Unit {0}} g before o others (Err OutOfMemory) x) (sym read) (sees.0, sees.1, sees.2.0)
 
 -- the walk stops with it
-pub stops_so : {D : Type 0} (g : disk.Ghosts D) (before now : Parts D) (o : CaseImage) (ps : List Part) (xs : List ExecutableView) (t : ℕ) (p : UnwoundProcess) (w : frames.Walk) (f : WalkFault) → SeesMore g before o ps (Err f) now → FindsFrames g before o xs t p (Err f) w now
+pub stops_so : {D : Type 0} (g : disk.Ghosts D) (before now : Parts D) (o : CaseImage) (ps : List Part) (xs : List ExecutableView) (t : ℕ) (p : UnwoundProcess) (w : frames.Walk) (f : WalkFault) → SeesMore {A = Unit {0}} g before o ps (Err f) now → FindsFrames g before o xs t p (Err f) w now
 stops_so g before now o ps xs t p w (Unread f) sees = sees
 stops_so g before now o ps xs t p w OutOfMemory sees = sees

@@ -12,4 +12,5 @@ pub mod Walking
 pub mod Asking
 pub mod PieceWords
 pub mod Pieces
+pub mod FrontIds
 pub mod Finding

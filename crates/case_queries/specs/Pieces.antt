@@ -57,7 +57,7 @@ ReadsPiece g old seq start n (Err (Unread f)) new = (bytes : List ℕ) × PartCa
 ReadsPiece g old seq start n (Err OutOfMemory) new = new ≡ old
 
 -- the image that is seen has one more piece; or why it can't be read
-abbrev pub SeesMore : {D : Type 0} → disk.Ghosts D → Parts D → CaseImage → List Part → Result (Unit {0}) WalkFault → Parts D → Type 0
+abbrev pub SeesMore : {D A : Type 0} → disk.Ghosts D → Parts D → CaseImage → List Part → Result A WalkFault → Parts D → Type 0
 SeesMore g before o ps (Ok u) now = SeesPieces g before o ps now
 SeesMore g before o ps (Err (Unread f)) now = LooksAt g before o.seq (Err f) now
 SeesMore g before o ps (Err OutOfMemory) now = (image : List ℕ) × SeesImage g before o.seq image now × IsFrontOf o.front.now o.size image

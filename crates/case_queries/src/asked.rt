@@ -9,4 +9,6 @@ pub(crate) enum Asked<'n> {
     Sought(Sought<'n>),
     // The frames of a thread, or the registers of the one of that number.
     Frames { thread: u64, frame: Option<u64> },
+    // The build IDs of its mapped files.
+    Builds,
 }

@@ -1,4 +1,4 @@
-// The answers to `find`, `strings`, `unwind` and `frame` of a core that is read piece by piece.
+// The answers to `find`, `strings`, `unwind`, `frame` and `builds` of a core that is read piece by piece.
 ghost use Rattle.std.specs.Prelude.{◌≡◌, ◌<◌, ◌≤◌, ◌-◌, ◌^◌, false, ℕ, List, None, Ok, Some, map, is_ok, length};
 ghost use Rattle.address_space.specs.Source.{Space};
 ghost use Rattle.address_space.specs.Whole.{IsFrontOf};
@@ -26,6 +26,7 @@ ghost use Rattle.case_queries.specs.LeaveLaws.{Leaves};
 ghost use Rattle.case_queries.specs.Walking.{LeadsOn};
 
 use crate::asked::Asked;
+use crate::builds::builds_in_core;
 use crate::collect_executables::{StoredExecutable, lent};
 use crate::found::tell_found;
 use crate::frames::frames_in_core;
@@ -196,6 +197,7 @@ fn answer_in_core<O: Output, D: Disk>(
         Asked::Frames { thread, frame } => {
             frames_in_core(alloc, image, core, attached, thread, frame, reply, archive)
         }
+        Asked::Builds => builds_in_core(alloc, image, core, attached, reply, archive),
     }
 }
 
@@ -342,7 +344,7 @@ fn find_seen<O: Output, D: Disk>(
     find_front(alloc, image, asked, &mut kept.executables, reply, archive)
 }
 
-// Answers `find`, `strings`, `unwind` or `frame` of a case of this kind and size. Says whether it was done; if not, it was refused.
+// Answers `find`, `strings`, `unwind`, `frame` or `builds` of a case of this kind and size. Says whether it was done; if not, it was refused.
 pub(crate) fn answer_find<O: Output, D: Disk>(
     seq: u32,
     kind: Kind,

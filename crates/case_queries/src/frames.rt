@@ -17,7 +17,7 @@ ghost use Rattle.case_queries.specs.Pieces.{BeginsWith, FindsFrames, WalkedTo};
 
 use crate::find::tell_no_memory;
 use crate::found::tell_found;
-use crate::pieces::{lent_pieces, read_more};
+use crate::pieces::{MOST, lent_pieces, read_more};
 use crate::walk::{CaseImage, WalkFault};
 use crate::window::Part;
 use address_space::Attached;
@@ -30,9 +30,6 @@ use memory_replies::{Outcome, a_sound_front_names_the_files};
 use script_streams::{Output, Reply, tell_no};
 use std::alloc::Global;
 use unwind::Stop;
-
-// The most pieces of an image that are read for a line. If it wants more there is no memory for it.
-const MOST: u64 = 4096;
 
 // Goes on with a walk over the first bytes of an image and these pieces.
 fn go_on(

@@ -2,6 +2,7 @@
 #![tactic(auto)]
 
 mod asked;
+mod builds;
 mod by_front;
 mod collect_executables;
 mod find;

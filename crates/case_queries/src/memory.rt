@@ -92,6 +92,7 @@ fn asked_in(query: &MemoryQuery, size: usize) -> Option<Asked<'_>>
             thread: *thread,
             frame: Some(*frame),
         }),
+        MemoryQuery::Builds => Some(Asked::Builds),
         _ => None,
     }
 }

@@ -15,6 +15,9 @@ use std::alloc::{AllocError, Global};
 // How many bytes a piece has at most. It begins at a multiple of this, if the bytes from there on are not read yet.
 const PIECE: u64 = 65_536;
 
+// The most pieces of an image that are read for a line. If it wants more there is no memory for it.
+pub(crate) const MOST: u64 = 4096;
+
 // The pieces, lent. The error is that there is no memory for the list of them.
 pub(crate) fn lent_pieces<'a>(
     alloc: Global,
@@ -126,6 +129,9 @@ pub(crate) fn read_more<D: Disk>(
     ensures read { HasRead image.entry pieces.old.items result pieces.new.items }
     ensures has { OnOk result (HasSize (state_of archive.new) image.entry.seq image.entry.size) }
 {
+    if pieces.len() as u64 >= MOST {
+        return Err(WalkFault::OutOfMemory);
+    }
     let around = around(place, image.front.len() as u64, image.size as u64);
     let range = without_all(around, place, pieces);
     let piece = read_piece(alloc, image, range, archive)?;
