@@ -1,4 +1,5 @@
 // The grammar of the program's words: what the tables say of them.
+use crate::ask_tables::{PLAIN, TEXT};
 use crate::care_tables::CARE_COMMANDS;
 use crate::info_tables::INFO_COMMANDS;
 use crate::list_tables::LIST_WORDS;
@@ -65,11 +66,18 @@ fn named_program<'a>(alloc: Global) -> Result<Command<'a>, Error> {
 // A command and all of its words.
 fn whole_command<'a>(alloc: Global, words: &CommandWords) -> Result<Command<'a>, Error> {
     let command = command_of(alloc, words)?;
-    if words.name == "list" {
-        with_list_words(alloc, command)
-    } else {
-        Ok(command)
+    match words.name {
+        "list" => with_list_words(alloc, command),
+        "ask" => with_ask_words(alloc, command),
+        _ => Ok(command),
     }
+}
+
+// The reply is told as JSON or for people, not as both.
+fn with_ask_words<'a>(alloc: Global, command: Command<'a>) -> Result<Command<'a>, Error> {
+    let plain = argument(alloc, &PLAIN).conflicts_with("json")?;
+    let command = command.arg(argument(alloc, &TEXT))?;
+    Ok(command.arg(plain)?)
 }
 
 fn with_list_words<'a>(alloc: Global, command: Command<'a>) -> Result<Command<'a>, Error> {

@@ -2,6 +2,7 @@
 #![tactic(auto)]
 
 mod ask_help;
+mod ask_tables;
 mod care_tables;
 mod grammar;
 mod handler_words;
@@ -13,6 +14,7 @@ mod notes;
 mod raw_words;
 mod reasons;
 mod tables;
+mod text_digits;
 mod watched;
 
 pub use grammar::program;
@@ -22,4 +24,5 @@ pub use line_texts::{line_of, push_text};
 pub use notes::tell_note;
 pub use raw_words::{is_text, push_escaped, words_of};
 pub use reasons::meaning_of;
+pub use text_digits::digits_of;
 pub use watched::{LastLine, Watched};

@@ -97,6 +97,19 @@ pub fn push_escaped(line: &mut Vec<u8>, word: &str) -> Result<(), AllocError> {
     Ok(())
 }
 
+// The bytes of a word.
+pub(crate) fn bytes_of(alloc: Global, word: &str) -> Result<Vec<u8>, AllocError> {
+    let mut bytes = Vec::new(alloc);
+    for character in word.chars() {
+        let mut buffer = [0u8; 4];
+        match stood_for(character) {
+            Some(byte) => bytes.push(byte)?,
+            None => bytes.extend_from_slice(character.encode_utf8(&mut buffer).as_bytes())?,
+        }
+    }
+    Ok(bytes)
+}
+
 fn push_spelled(line: &mut Vec<u8>, bytes: &[u8]) -> Result<(), AllocError> {
     for byte in bytes {
         line.extend_from_slice(print_byte(*byte).as_slice())?;

@@ -1,0 +1,6 @@
+use Rattle.std.proofs.Common.{◌≡◌, take}
+use Rattle.script_words.specs.Hex.{hex_of}
+use Rattle.command_words.proofs.text_digits.hex_of.Given as goal
+
+abbrev pub invariant-loop-byte : goal.invariant-loop-byte
+invariant-loop-byte l = l.digits.items ≡ hex_of (take l.byte-index l.bytes)
