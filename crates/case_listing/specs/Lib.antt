@@ -1,3 +1,4 @@
 pub mod Foreseeing
 pub mod Listing
 pub mod Naming
+pub mod Plain

@@ -4,7 +4,9 @@
 mod case_words;
 mod foreseen;
 mod listing;
+mod plain;
 
 pub use case_words::{ask_case, extract_case, find_case, names_a_case};
 pub use foreseen::{foreseen_by, would_retire};
 pub use listing::{ListWords, list};
+pub use plain::ask_plain;

@@ -1,0 +1,46 @@
+// The reply to a line as people read it.
+ghost use Rattle.case_listing.specs.Plain.{DeliversPlain};
+
+use crate::case_words::ask_case;
+use archive_files::{ArchivePath, Collected, Failure, ask};
+use inspector_cli::SessionFault;
+use plain_replies::send_plain;
+use script_lines::Question;
+use script_streams::Output;
+use std::fs::File;
+use std::rt::Files;
+
+/// Answers the line of these words, and tells its reply as people read it. Without a question its second word names a case. The reply is
+/// held until the line is done.
+///
+/// # Errors
+///
+/// Those of `ask` and of `ask_case`. `WriteFailed` too if there is no memory to hold the reply: a front of it is told.
+pub fn ask_plain<R: AllocGlobal + Files<File = File>, O: Output>(
+    rt: &R,
+    place: ArchivePath<'_>,
+    words: &[&str],
+    question: Option<Question>,
+    output: &mut O,
+) -> Result<(), Failure> {
+    let mut reply = Collected::new(rt.alloc());
+    let asked = match question {
+        Some(question) => ask(rt, place, question, &mut reply),
+        None => ask_case(rt, place, words, &mut reply),
+    };
+    deliver_plain(reply.text(), asked, output)
+}
+
+// Tells the reply of a line that ended so.
+fn deliver_plain<O: Output>(
+    text: &[u8],
+    asked: Result<(), Failure>,
+    output: &mut O,
+) -> Result<(), Failure>
+    ensures { DeliversPlain (O.taken output.old) (O.taken output.new) (O.failures output.old) (O.failures output.new) text.now asked result }
+{
+    match send_plain(text, output) {
+        Ok(()) => asked,
+        Err(_) => Err(Failure::Faulted(SessionFault::WriteFailed)),
+    }
+}
