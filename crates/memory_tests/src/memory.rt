@@ -1,6 +1,7 @@
 //! Memory of small cores, with and without a table of the segments.
 use crate::shown::{Look, shows};
 use address_space::AddressSpace;
+use backtrace::Stop;
 use elf_view::sample::{LoadPart, core_image, stack_core};
 use elf_view::{Elf, Want};
 use std::alloc::{AllocError, Global};
@@ -85,7 +86,7 @@ fn the_order_of_the_headers_counts(rt: HostRuntime) -> Result<(), Fail> {
     core_shows(&rt, &LOW_FIRST, &LOW_WINS)
 }
 
-static CUT: [Look; 4] = [
+static CUT: [Look; 6] = [
     Look::Pieces(
         0x77f8,
         16,
@@ -98,6 +99,8 @@ static CUT: [Look; 4] = [
     Look::Source(0x77ff, ("byte", 0)),
     Look::Source(0x7800, ("cut", 0)),
     Look::Source(0x8000, ("unmapped", 0)),
+    Look::Number(0x77f8, Some(0)),
+    Look::Number(0x77f9, None),
 ];
 
 #[test]
@@ -119,65 +122,18 @@ fn matches_overlap_and_cross_segments(rt: HostRuntime) -> Result<(), Fail> {
     core_shows(&rt, &CROSSING, &OVERLAPPING)
 }
 
-static THREE: [Dumped; 3] = [(0x1003, b"xyab"), (0x1000, b"wab"), (0x1007, b"\x00ab")];
-
-static ACROSS_THREE: [Look; 3] = [
-    Look::Found(b"ab", &[Some(0x1005), Some(0x1001), Some(0x1008), None]),
-    Look::Found(b"abxyab\x00a", &[Some(0x1001), None, None, None]),
-    Look::Texts(1, &[Some((0x1000, 7)), Some((0x1008, 2)), None, None]),
-];
-
-#[test]
-fn a_match_may_cross_three_segments(rt: HostRuntime) -> Result<(), Fail> {
-    core_shows(&rt, &THREE, &ACROSS_THREE)
-}
-
-/// The first of the last sixteen addresses.
-const LAST: u64 = 0xffff_ffff_ffff_fff0;
-
-static ALIKE_AT_THE_ENDS: [Dumped; 2] = [(LAST, b"aaaaaaaaaaaaaaaa"), (0, b"aa")];
-
-static NOTHING_BEHIND: [Look; 4] = [
-    Look::Pieces(
-        LAST,
-        16,
-        &[Some(("held", LAST, 16, b"aaaaaaaaaaaaaaaa", 0)), None, None],
+static CHAIN: [Look; 4] = [
+    Look::Frames(
+        0x7f40,
+        &[(0x10400, 0x7f40), (0x10500, 0x7f80), (0x10600, 0)],
+        Stop::ZeroLink,
     ),
-    Look::Texts(1, &[Some((LAST, 16)), Some((0, 2)), None, None]),
-    Look::Found(b"aaaaaaaaaaaaaaaaa", &[None; 4]),
-    Look::Found(b"aaaaaaaaaaaaaaaa", &[Some(LAST), None, None, None]),
+    Look::Frames(8, &[(0x10400, 8)], Stop::Unreadable),
+    Look::Frames(0x7f44, &[(0x10400, 0x7f44)], Stop::Misaligned),
+    Look::Frames(0x7f70, &[(0x10400, 0x7f70), (0, 0)], Stop::ZeroLink),
 ];
 
 #[test]
-fn the_last_addresses_of_all(rt: HostRuntime) -> Result<(), Fail> {
-    core_shows(&rt, &ALIKE_AT_THE_ENDS, &NOTHING_BEHIND)
-}
-
-static LETTERS_AT_THE_ENDS: [Dumped; 2] = [(LAST, b"abcdefghijklmnop"), (0, b"qr")];
-
-static ENDS: [Look; 7] = [
-    Look::Source(0, ("byte", b'q')),
-    Look::Source(2, ("unmapped", 0)),
-    Look::Source(LAST - 1, ("unmapped", 0)),
-    Look::Source(LAST, ("byte", b'a')),
-    Look::Source(u64::MAX, ("byte", b'p')),
-    Look::Number(LAST + 8, Some(0x706f_6e6d_6c6b_6a69)),
-    Look::Number(LAST + 9, None),
-];
-
-#[test]
-fn the_first_address_and_the_last(rt: HostRuntime) -> Result<(), Fail> {
-    core_shows(&rt, &LETTERS_AT_THE_ENDS, &ENDS)
-}
-
-static BYTES: [Dumped; 2] = [(0x1004, &[5, 6, 7, 8]), (0x1000, &[1, 2, 3, 4])];
-
-static NUMBERS: [Look; 2] = [
-    Look::Number(0x1000, Some(0x0807_0605_0403_0201)),
-    Look::Number(0x1001, None),
-];
-
-#[test]
-fn a_number_may_cross_segments(rt: HostRuntime) -> Result<(), Fail> {
-    core_shows(&rt, &BYTES, &NUMBERS)
+fn frames_lead_to_one_another(rt: HostRuntime) -> Result<(), Fail> {
+    image_shows(&rt, &stack_core(rt.alloc())?, &CHAIN)
 }

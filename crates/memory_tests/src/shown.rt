@@ -1,5 +1,6 @@
 //! What tests compare of an address space.
-use address_space::{AddressSpace, FileSpot, Mapping, Piece, PieceKind, Source};
+use address_space::{AddressSpace, FileSpot, Piece, PieceKind, Source};
+use backtrace::{Frames, Stop};
 use elf_view::{Elf, Want};
 use std::process::Abort;
 
@@ -67,33 +68,21 @@ pub(crate) fn source_of(space: &AddressSpace<'_>, address: u64) -> (&'static str
     }
 }
 
-/// A mapping: where it begins, how many addresses it has, its flags and how many bytes it is to have; the name of its file
-/// and its place there.
-pub(crate) type Told<'a> = (u64, u64, u32, u64, Option<(&'a [u8], u64)>);
-
-/// What a mapping tells.
-fn told(mapping: Mapping<'_>) -> Told<'_> {
-    let spot = match mapping.spot {
-        Some(FileSpot { name, offset }) => Some((name, offset)),
-        None => None,
-    };
-    (
-        mapping.start,
-        mapping.memsz,
-        mapping.flags,
-        mapping.filesz,
-        spot,
-    )
-}
-
-/// The first three mappings.
-fn mappings_of<'a>(space: &AddressSpace<'a>) -> [Option<Told<'a>>; 3] {
-    let mut mappings = space.mappings();
-    [
-        mappings.next().map(told),
-        mappings.next().map(told),
-        mappings.next().map(told),
-    ]
+/// The frames from this frame pointer on, where the pc is 0x10400, and why they end.
+fn has_frames(
+    rt: &impl Abort,
+    space: &AddressSpace<'_>,
+    fp: u64,
+    wanted: &[(u64, u64)],
+    stop: Stop,
+) {
+    let mut frames = Frames::new(space, 0x10400, fp);
+    for place in wanted {
+        let found = frames.next().map(|frame| (frame.pc, frame.fp));
+        assert_eq!(rt; found, Some(*place));
+    }
+    assert!(rt; frames.next().is_none());
+    assert_eq!(rt; frames.stop(), Some(stop));
 }
 
 /// Attaches an executable as `/bin/cat`, and says whether there was memory for it.
@@ -116,8 +105,8 @@ pub(crate) enum Look {
     Found(&'static [u8], &'static [Option<u64>]),
     /// The first four texts of at least that length.
     Texts(u64, &'static [Option<(u64, u128)>]),
-    /// The first three mappings.
-    Mappings(&'static [Option<Told<'static>>]),
+    /// The frames from a frame pointer on, each by its pc and frame pointer, and why they end.
+    Frames(u64, &'static [(u64, u64)], Stop),
 }
 
 /// What the look finds is there.
@@ -130,7 +119,7 @@ fn stands(rt: &impl Abort, space: &AddressSpace<'_>, look: &Look) {
         Look::Number(address, wanted) => assert_eq!(rt; space.read_u64(*address), *wanted),
         Look::Found(needle, wanted) => assert_eq!(rt; found(space, needle).as_slice(), *wanted),
         Look::Texts(least, wanted) => assert_eq!(rt; texts(space, *least).as_slice(), *wanted),
-        Look::Mappings(wanted) => assert_eq!(rt; mappings_of(space).as_slice(), *wanted),
+        Look::Frames(fp, wanted, stop) => has_frames(rt, space, *fp, wanted, *stop),
     }
 }
 

@@ -1,18 +1,16 @@
-//! Every core of at most three segments with bounds among 0 to 4, and of at most three mapped files, with and without tables.
-use address_space::{AddressSpace, FileSpot, Source};
-use core_notes::CoreNotes;
-use elf_view::sample::{FilePart, LoadPart, NT_FILE, NotePart, core_image, files};
+//! Every core of at most three segments with bounds among 0 to 4, with and without tables.
+use address_space::{AddressSpace, Source};
+use elf_view::sample::{LoadPart, core_image};
 use elf_view::{Elf, Want};
-use std::alloc::{AllocError, Global};
 use std::test::Fail;
 
-/// The bounds of a segment or a file, by a number below 25: those that do not rise are those of one without addresses.
+/// The bounds of a segment, by a number below 25: those that do not rise are those of one without addresses.
 fn bounds(number: u64) -> (u64, u64) {
     let (start, end) = (number / 5, number % 5);
     (start, end.saturating_sub(start))
 }
 
-/// Whether the segment or the file of these bounds has the address.
+/// Whether the segment of these bounds has the address.
 fn has(bounds: (u64, u64), address: u64) -> bool {
     bounds.0 <= address && address - bounds.0 < bounds.1
 }
@@ -71,77 +69,6 @@ fn the_first_segment_decides_in_each_small_core(rt: HostRuntime) -> Result<(), F
             let want = wanted(first, second, third, address);
             assert_eq!(rt;
                 (found(&plain, address), found(&indexed, address)),
-                (want, want),
-                "core {number}"
-            );
-        }
-    }
-    Ok(())
-}
-
-/// An entry of NT_FILE of these bounds.
-fn mapped(bounds: (u64, u64), name: &'static [u8]) -> FilePart<'static> {
-    FilePart {
-        start: bounds.0,
-        end: bounds.0.saturating_add(bounds.1),
-        offset: 0,
-        name,
-    }
-}
-
-/// The first byte of the name of the file that is mapped at the address, or 0 where there is none.
-fn named(space: &AddressSpace<'_>, address: u64) -> u8 {
-    match space.at(address) {
-        Source::NotDumped(Some(FileSpot { name, .. })) => name.first().copied().unwrap_or(9),
-        Source::NotDumped(None) => 0,
-        _ => 9,
-    }
-}
-
-/// A core of eight addresses that are not dumped, with these three mapped files.
-fn core_with(
-    alloc: Global,
-    first: (u64, u64),
-    second: (u64, u64),
-    third: (u64, u64),
-) -> Result<Vec<u8>, AllocError> {
-    let entries = [
-        mapped(first, b"\x01"),
-        mapped(second, b"\x02"),
-        mapped(third, b"\x03"),
-    ];
-    let desc = files(alloc, 1, &entries)?;
-    let note = NotePart {
-        name: b"CORE",
-        kind: NT_FILE,
-        desc: &desc,
-    };
-    let load = LoadPart {
-        flags: 4,
-        vaddr: 0,
-        memsz: 8,
-        bytes: b"",
-    };
-    core_image(alloc, &[note], &[load])
-}
-
-#[test]
-fn the_first_entry_answers_in_each_small_list(rt: HostRuntime) -> Result<(), Fail> {
-    for number in 0..15_625u64 {
-        let (first, second, third) = (
-            bounds(number / 625),
-            bounds(number / 25 % 25),
-            bounds(number % 25),
-        );
-        let image = core_with(rt.alloc(), first, second, third)?;
-        let elf = Elf::read(&image, Want::Core).ok().ok_or("refused")?;
-        let notes = CoreNotes::of(&elf).ok().ok_or("faulty")?;
-        let plain = AddressSpace::new(rt.alloc(), &elf, notes.files());
-        let indexed = AddressSpace::indexed(rt.alloc(), &elf, notes.files())?;
-        for address in 0..6 {
-            let want = wanted(first, second, third, address);
-            assert_eq!(rt;
-                (named(&plain, address), named(&indexed, address)),
                 (want, want),
                 "core {number}"
             );
