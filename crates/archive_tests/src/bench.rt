@@ -5,9 +5,8 @@ ghost use Rattle.journal_layout.specs.Soundness.{IsName};
 
 use case_journal::format;
 use disk_model::{Disk, MemDisk, Pick};
-use extents::Run;
 use intake::{Archive, ArchiveFault, Settings};
-use journal_layout::{Entry, Kind, Name, Shape};
+use journal_layout::{Kind, Name, Shape};
 use std::alloc::Global;
 use std::test::Fail;
 
@@ -65,14 +64,6 @@ pub fn name_of(bytes: &[u8]) -> Result<Name, Fail>
         return Err(Fail::from("these bytes are no name"));
     };
     Ok(name)
-}
-
-/// The cases of an archive.
-pub fn cases_of<D: Disk>(archive: &Archive<D>) -> Result<&[Entry], Fail> {
-    let Ok(cases) = archive.cases() else {
-        return Err(Fail::from("the archive is stopped"));
-    };
-    Ok(cases)
 }
 
 /// Begins the stream of an executable.
@@ -178,19 +169,6 @@ pub fn store<D: Disk>(
         return Ok(Err(fault));
     }
     Ok(archive.finish(0))
-}
-
-/// Whether the case of this number lies in these runs of blocks.
-pub fn has_runs<D: Disk>(archive: &Archive<D>, seq: u32, runs: &[Run]) -> bool {
-    let Ok(entries) = archive.cases() else {
-        return false;
-    };
-    for entry in entries {
-        if entry.seq == seq {
-            return entry.runs.runs() == runs;
-        }
-    }
-    false
 }
 
 /// Gives a case a label.

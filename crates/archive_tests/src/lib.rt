@@ -1,30 +1,18 @@
-//! Tests of the calls of an archive over a disk in memory: its space, its pins and retirements, its images, and what
-//! stops, faults and crashes leave of it.
+//! Tests of the calls of an archive over disks in memory that stop, fail, lose a sync or crash, and of calls that are refused memory.
+//! What is answered where nothing fails is shown by rows of `examples/rows`.
 #![tactic(auto)]
 
 #[cfg(test)]
 mod bench;
 #[cfg(test)]
-mod calls;
-#[cfg(test)]
 mod courses;
-#[cfg(test)]
-mod crashes;
-#[cfg(test)]
-mod images;
 #[cfg(test)]
 mod refused;
 #[cfg(test)]
 mod reopened;
 #[cfg(test)]
-mod retirement;
-#[cfg(test)]
 mod rows;
 #[cfg(test)]
-mod run_lists;
-#[cfg(test)]
 mod script;
-#[cfg(test)]
-mod space;
 #[cfg(test)]
 mod stops;

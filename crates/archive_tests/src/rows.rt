@@ -1,7 +1,6 @@
 // Calls in a row, each with what it is to answer.
-use crate::bench::{begin, fresh, has_image, has_runs, label, put, store};
+use crate::bench::{begin, label, put, store};
 use disk_model::Disk;
-use extents::Run;
 use intake::{Archive, ArchiveFault, Space};
 use retention::Policy;
 use std::process::Abort;
@@ -14,8 +13,6 @@ pub enum Call {
     Begin(u8, &'static [u8]),
     /// The stream in the slot takes the bytes of the seed from the one place up to the other.
     Put(u8, u8, u64, u64),
-    /// The stream in the slot becomes the case of this number.
-    Finish(u8, u32),
     /// The stream in the slot is dropped.
     Abandon(u8),
     /// An image of this name, seed and length becomes the case of this number.
@@ -32,14 +29,8 @@ pub enum Call {
     Keep(u64, &'static [u32], bool),
     /// This number of the four data blocks is free.
     Free(u32),
-    /// The case of this number lies in these runs of blocks.
-    Runs(u32, &'static [Run]),
-    /// The case of this number has the image of this seed and length.
-    Image(u32, u8, u64),
     /// These are the numbers and the pins of the cases.
     Cases(&'static [(u32, bool)]),
-    /// There are so many cases.
-    Count(usize),
 }
 
 /// A call with its answer.
@@ -100,14 +91,6 @@ pub fn has_cases<D: Disk>(archive: &Archive<D>, cases: &[(u32, bool)]) -> bool {
     true
 }
 
-// Whether there are `count` cases.
-fn has_count<D: Disk>(archive: &Archive<D>, count: usize) -> bool {
-    match archive.cases() {
-        Ok(entries) => entries.len() == count,
-        Err(_) => false,
-    }
-}
-
 /// Whether `free` of the four data blocks are free.
 pub fn is_free<D: Disk>(archive: &Archive<D>, free: u32) -> bool {
     archive.free_blocks()
@@ -125,7 +108,6 @@ pub fn make<D: Disk>(
     match call {
         Call::Begin(slot, name) => begin(archive, *slot, name),
         Call::Put(slot, seed, from, end) => Ok(put(archive, *slot, *seed, *from, *end)),
-        Call::Finish(slot, seq) => numbered(archive.finish(*slot), *seq),
         Call::Abandon(slot) => Ok(archive.abandon(*slot)),
         Call::Store(name, seed, length, seq) => {
             numbered(store(archive, name, *seed, *length)?, *seq)
@@ -136,10 +118,7 @@ pub fn make<D: Disk>(
         Call::Upgrade => Ok(archive.upgrade()),
         Call::Keep(count, dropped, unmet) => keep(archive, *count, dropped, *unmet),
         Call::Free(free) => seen(is_free(archive, *free)),
-        Call::Runs(seq, runs) => seen(has_runs(archive, *seq, runs)),
-        Call::Image(seq, seed, length) => seen(has_image(archive, *seq, *seed, *length)),
         Call::Cases(cases) => seen(has_cases(archive, cases)),
-        Call::Count(count) => seen(has_count(archive, *count)),
     }
 }
 
@@ -161,10 +140,4 @@ pub fn answers_on<D: Disk>(
 ) -> Result<(), Fail> {
     assert_eq!(rt; follow(archive, rows)?, rows.len());
     Ok(())
-}
-
-/// The same on a fresh archive.
-pub fn answers(rt: &(impl AllocGlobal + Abort), rows: &[Row]) -> Result<(), Fail> {
-    let mut archive = fresh(rt.alloc())?;
-    answers_on(rt, &mut archive, rows)
 }
