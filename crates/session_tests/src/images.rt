@@ -1,5 +1,5 @@
 // Archives with images in them, and what lines that ask these read of the disk.
-use crate::archives::{disk_of, fresh, opened, tells, told};
+use crate::archives::{disk_of, opened, tells, told};
 use disk_model::{Disk, Fuse, MemDisk};
 use elf_view::sample::executable;
 use intake::Archive;
@@ -20,7 +20,7 @@ pub(crate) fn calls(
 }
 
 // Stores an image after this line.
-pub(crate) fn stores<D: Disk>(
+fn stores<D: Disk>(
     alloc: Global,
     archive: &mut Archive<D>,
     begin: &str,
@@ -38,35 +38,11 @@ pub(crate) fn stores<D: Disk>(
     Ok(())
 }
 
-// A disk whose archive has the sample executable as its first case, and this core as its second and as its third.
+// A disk whose archive has the sample executable as its first case, and this core as its second.
 pub(crate) fn with_executable(alloc: Global, core: &[u8]) -> Result<MemDisk, Fail> {
     let mut archive = opened(alloc, disk_of(alloc, 8)?, 1 << 30)?;
     let exec = executable(alloc)?;
     stores(alloc, &mut archive, "begin exec 0 /bin/cat", &exec)?;
     stores(alloc, &mut archive, "begin core 0 comm=demo pid=1", core)?;
-    stores(alloc, &mut archive, "begin core 0 comm=demo pid=2", core)?;
     Ok(archive.close())
-}
-
-// An image with these bytes set.
-pub(crate) fn changed(image: Vec<u8>, changes: &[(usize, u8)]) -> Vec<u8> {
-    let mut image = image;
-    for (at, byte) in changes {
-        if let Some(place) = image.get_mut(*at) {
-            *place = *byte;
-        }
-    }
-    image
-}
-
-// An archive whose first case is this core.
-pub(crate) fn with_core(alloc: Global, image: &[u8]) -> Result<Archive<MemDisk>, Fail> {
-    let mut archive = fresh(alloc, 1 << 30)?;
-    stores(
-        alloc,
-        &mut archive,
-        "begin core 0 comm=demo pid=4242",
-        image,
-    )?;
-    Ok(archive)
 }

@@ -11,17 +11,9 @@ mod course;
 #[cfg(test)]
 mod course_stops;
 #[cfg(test)]
-mod executables;
-#[cfg(test)]
 mod failing;
 #[cfg(test)]
-mod faults;
-#[cfg(test)]
-mod fronts;
-#[cfg(test)]
 mod images;
-#[cfg(test)]
-mod kinds;
 #[cfg(test)]
 mod reasons;
 #[cfg(test)]

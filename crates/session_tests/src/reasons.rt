@@ -1,20 +1,21 @@
-// In what order lines over memory are refused.
+// A disk that fails at each read of a line over an image.
 use crate::archives::{opened, tells};
-use crate::images::{calls, changed, with_executable};
+use crate::images::{calls, with_executable};
 use disk_model::{MemDisk, OneFault};
 use elf_view::sample::mapped_core;
 use std::alloc::Global;
 use std::process::Abort;
 use std::test::Fail;
 
-// A disk of the sample executable and two cores that map it.
+// A disk of the sample executable and a core that maps it.
 fn stored(alloc: Global) -> Result<MemDisk, Fail> {
     let core = mapped_core(alloc)?;
     with_executable(alloc, &core)
 }
 
 // Lines, and their replies where no call of the disk fails.
-static READING: [(&str, &str); 8] = [
+static READING: [(&str, &str); 9] = [
+    ("threads 2\n", "0 4242 11 0x10400\nok\n"),
     (
         "maps 2\n",
         "0x7000 0x8000 rw- 0x1000 - -\n0x10000 0x12000 r-x 0x0 0x0 /bin/cat\nok\n",
@@ -47,7 +48,7 @@ fn stops_at(rt: &(impl AllocGlobal + Abort), line: &str, call: u64) -> Result<()
 // The same of each call that the line makes.
 fn stops_at_each(rt: &(impl AllocGlobal + Abort), row: &(&str, &str)) -> Result<(), Fail> {
     let (line, wanted) = *row;
-    let first = calls(rt, stored(rt.alloc())?, "free\n", "free 2 of 8\nok\n")?;
+    let first = calls(rt, stored(rt.alloc())?, "free\n", "free 4 of 8\nok\n")?;
     let past = calls(rt, stored(rt.alloc())?, line, wanted)?;
     assert!(rt; first < past);
     for call in first..past {
@@ -62,56 +63,4 @@ fn a_disk_that_fails_at_any_read_of_a_line(rt: HostRuntime) -> Result<(), Fail> 
         stops_at_each(&rt, row)?;
     }
     Ok(())
-}
-
-#[test]
-fn cases_that_a_line_does_not_ask_are_not_read(rt: HostRuntime) -> Result<(), Fail> {
-    let none = calls(&rt, stored(rt.alloc())?, "free\n", "free 2 of 8\nok\n")?;
-    let asked = calls(
-        &rt,
-        stored(rt.alloc())?,
-        "maps 9\ndump 9 0 65537\nbt 9 1\nsymbol 9 0\nmaps 1\ndump 1 0 65537\nfind 1 00\nstrings 1 1\nbt 1 1\nsymbol 2 0\n",
-        "no NoCase\nno NoCase\nno NoCase\nno NoCase\nno NotCore\nno NotCore\nno NotCore\nno NotCore\nno NotCore\nno NotExec\n",
-    )?;
-    assert_eq!(rt; asked, none);
-    Ok(())
-}
-
-// Over cores with these bytes set each line is refused for this, and no executable is read.
-fn refuses(
-    rt: &(impl AllocGlobal + Abort),
-    changes: &[(usize, u8)],
-    reason: &str,
-    reasons: &str,
-) -> Result<(), Fail> {
-    let core = changed(mapped_core(rt.alloc())?, changes);
-    let one = calls(rt, with_executable(rt.alloc(), &core)?, "maps 2\n", reason)?;
-    let all = calls(
-        rt,
-        with_executable(rt.alloc(), &core)?,
-        "dump 2 0 65537\nfind 2 00\nstrings 2 1\nbt 2 1\n",
-        reasons,
-    )?;
-    assert_eq!(rt; all, one);
-    Ok(())
-}
-
-#[test]
-fn a_fault_of_the_headers_comes_before_one_of_a_note(rt: HostRuntime) -> Result<(), Fail> {
-    refuses(
-        &rt,
-        &[(18, 62), (636, 6)],
-        "no e_machine\n",
-        "no e_machine\nno e_machine\nno e_machine\nno e_machine\n",
-    )
-}
-
-#[test]
-fn a_fault_of_a_note_comes_before_the_executable(rt: HostRuntime) -> Result<(), Fail> {
-    refuses(
-        &rt,
-        &[(636, 6)],
-        "no DescSize 1\n",
-        "no DescSize 1\nno DescSize 1\nno DescSize 1\nno DescSize 1\n",
-    )
 }
