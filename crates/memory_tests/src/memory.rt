@@ -122,6 +122,26 @@ fn matches_overlap_and_cross_segments(rt: HostRuntime) -> Result<(), Fail> {
     core_shows(&rt, &CROSSING, &OVERLAPPING)
 }
 
+/// The first of the last sixteen addresses.
+const LAST: u64 = 0xffff_ffff_ffff_fff0;
+
+static AT_THE_END: [Dumped; 1] = [(LAST, &[1; 16])];
+
+static NOTHING_BEHIND: [Look; 3] = [
+    Look::Pieces(
+        LAST,
+        16,
+        &[Some(("held", LAST, 16, &[1; 16], 0)), None, None],
+    ),
+    Look::Number(LAST + 8, Some(0x0101_0101_0101_0101)),
+    Look::Number(LAST + 9, None),
+];
+
+#[test]
+fn the_last_addresses_of_all(rt: HostRuntime) -> Result<(), Fail> {
+    core_shows(&rt, &AT_THE_END, &NOTHING_BEHIND)
+}
+
 static CHAIN: [Look; 4] = [
     Look::Frames(
         0x7f40,
