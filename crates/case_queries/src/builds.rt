@@ -80,11 +80,7 @@ fn gather_read<D: Disk>(
 }
 
 // The build ID of a front, kept.
-fn kept_id<'a>(
-    alloc: Global,
-    name: &'a [u8],
-    id: Option<&[u8]>,
-) -> Result<FrontId<'a>, WalkFault>
+fn kept_id<'a>(alloc: Global, name: &'a [u8], id: Option<&[u8]>) -> Result<FrontId<'a>, WalkFault>
     ensures { MatchResult result (λ front. id_view front ≡ (name.entry.now, option_map (λ x. x.now) id.entry)) (λ fault. fault ≡ faults.OutOfMemory) }
 {
     match FrontId::new(alloc, name, id) {
