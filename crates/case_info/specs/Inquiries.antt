@@ -1,5 +1,5 @@
 -- A line that is asked of an open archive, and its reply.
-use Rattle.std.specs.Prelude.{◌≡◌, ℕ, List, Some}
+use Rattle.std.specs.Prelude.{ℕ, List}
 use Rattle.archive_files.specs.declared.collected.Collected.{Collected}
 use Rattle.case_queries.specs.Inspecting.{Inspects}
 use Rattle.disk_model.specs.declared.disk.Disk as disk

@@ -1,1 +1,3 @@
+pub mod Archives
 pub mod Inquiries
+pub mod Screens

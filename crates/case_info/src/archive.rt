@@ -1,4 +1,7 @@
 // `info` of an archive.
+ghost use Rattle.case_info.specs.Archives.{AreFactsOf, FactsOn};
+ghost use Rattle.extents.specs.FreeSet.{free_count};
+
 use crate::telling::{shown, write_json, write_text};
 use archive_files::{ArchivePath, Collected, Failure, Refusal, take_look};
 use case_journal::{Journal, Opened};
@@ -52,7 +55,9 @@ fn tell_facts<O: Output>(
 }
 
 // Opens the journal on a disk, and finds what is known of its archive.
-fn facts_over<D: Disk + Drop>(alloc: Global, disk: D) -> Result<ArchiveFacts, Refusal> {
+fn facts_over<D: Disk + Drop>(alloc: Global, disk: D) -> Result<ArchiveFacts, Refusal>
+    ensures { FactsOn D.Disk disk result }
+{
     let mut disk = disk;
     match Journal::open(alloc, &mut disk) {
         Ok(opened) => Ok(facts_of(&opened)),
@@ -61,7 +66,9 @@ fn facts_over<D: Disk + Drop>(alloc: Global, disk: D) -> Result<ArchiveFacts, Re
 }
 
 // What is known of an archive, by its journal and its free data blocks.
-fn facts_of(opened: &Opened) -> ArchiveFacts {
+fn facts_of(opened: &Opened) -> ArchiveFacts
+    ensures { AreFactsOf opened.now.journal.standing (free_count opened.now.free) result }
+{
     let journal = &opened.journal;
     let tally = tally_of(journal.entries());
     ArchiveFacts {

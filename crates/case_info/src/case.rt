@@ -1,14 +1,24 @@
 // `info` of a case: one screen of it.
-use crate::gathered::{answer, ask_core, ask_image, shown_threads};
+ghost use Rattle.std.specs.Prelude.{◌≡◌, false, IfOk, map};
+ghost use Rattle.case_screens.specs.Screen.{info_answer};
+ghost use Rattle.case_screens.specs.declared.answer.CaseAnswers.TheVariants.{Core, Exec};
+ghost use Rattle.case_screens.specs.declared.answer.Answer.{Answer};
+ghost use Rattle.case_screens.specs.declared.answer.CoreAnswers.{CoreAnswers};
+ghost use Rattle.intake.specs.Parts.{state_of};
+ghost use Rattle.intake.specs.Step.{HasCase};
+ghost use Rattle.journal_layout.specs.Case.{Case, case_of};
+ghost use Rattle.case_info.specs.Inquiries.{held};
+ghost use Rattle.case_info.specs.Screens.{AreTold, IsScreenBy, ShowsCase, ShowsCore, ShowsExec, ShowsOn, answer_view, told_view};
+
+use crate::gathered::{CoreReplies, ask_core, ask_header, lines_of_each, shown_threads};
+use crate::inquiry::Told;
 use crate::telling::{shown, write_text};
 use archive_files::{ArchivePath, Collected, Failure, Refusal, take_look, unasked};
 use case_listing::find_case;
-use case_queries::Images;
 use case_screens::{CaseAnswers, CoreAnswers, case_json, tell_case_screen};
 use disk_model::Disk;
 use intake::{Archive, Settings};
-use journal_layout::Kind;
-use script_lines::ImageQuery;
+use journal_layout::{Entry, Kind};
 use script_streams::{Output, Reply};
 use script_words::parse_case_number;
 use shared_disk::{Looked, SharedDisk};
@@ -83,18 +93,36 @@ fn screen_over<D: Disk + Drop>(
     disk: D,
     seq: u32,
     words: InfoWords,
-) -> Result<Collected, Refusal> {
-    let mut archive = match Archive::open(alloc, disk, Settings { limit: 0 }) {
-        Ok(archive) => archive,
-        Err((fault, _)) => return Err(Refusal::Open(fault)),
-    };
-    match kind_of(&archive, seq)? {
-        Kind::Core => core_screen(alloc, &mut archive, seq, words),
-        Kind::Exec => exec_screen(alloc, &mut archive, seq, words),
+) -> Result<Collected, Refusal>
+    ensures { ShowsOn D.Disk seq words disk result }
+{
+    match Archive::open(alloc, disk, Settings { limit: 0 }) {
+        Ok(archive) => {
+            let mut archive = archive;
+            screen_in(alloc, &mut archive, seq, words)
+        }
+        Err((fault, _)) => Err(Refusal::Open(fault)),
     }
 }
 
-fn kind_of<D: Disk>(archive: &Archive<D>, seq: u32) -> Result<Kind, Refusal> {
+// The same of an archive that is open.
+fn screen_in<D: Disk>(
+    alloc: Global,
+    archive: &mut Archive<D>,
+    seq: u32,
+    words: InfoWords,
+) -> Result<Collected, Refusal>
+    ensures { IfOk result (ShowsCase D.Disk archive.old seq words) }
+{
+    match kind_of(archive, seq)? {
+        Kind::Core => Ok(core_screen(alloc, archive, seq, words)?),
+        Kind::Exec => Ok(exec_screen(alloc, archive, seq, words)?),
+    }
+}
+
+fn kind_of<D: Disk>(archive: &Archive<D>, seq: u32) -> Result<Kind, Refusal>
+    ensures { IfOk result (λ kind. (c : Case) × HasCase (state_of archive.now) seq c × (c.origin.kind ≡ kind)) }
+{
     match archive.case(seq) {
         Ok(entry) => Ok(entry.kind),
         Err(fault) => Err(Refusal::Call(fault)),
@@ -106,23 +134,39 @@ fn core_screen<D: Disk>(
     archive: &mut Archive<D>,
     seq: u32,
     words: InfoWords,
-) -> Result<Collected, Refusal> {
+) -> Result<Collected, Refusal>
+    ensures { IfOk result (λ text. words.is_json ≡ false → ShowsCore D.Disk archive.old seq words.all_threads text archive.new) }
+{
     let replies = ask_core(alloc, seq, words.all_threads, archive)?;
+    Ok(put_core(alloc, archive, seq, &replies, words.is_json)?)
+}
+
+// Puts what a core is asked into a text.
+fn put_core<D: Disk>(
+    alloc: Global,
+    archive: &Archive<D>,
+    seq: u32,
+    replies: &CoreReplies,
+    is_json: bool,
+) -> Result<Collected, Refusal>
+    ensures { IfOk result (λ text. is_json ≡ false → (a : CoreAnswers) × AreTold replies.now a × IsScreenBy archive.now seq (Core a) text) }
+{
     let process = replies.process.lines(alloc)?;
     let signal = replies.signal.lines(alloc)?;
     let threads = replies.threads.lines(alloc)?;
     let files = replies.files.lines(alloc)?;
     let builds = replies.builds.lines(alloc)?;
-    let shown = shown_threads(alloc, &replies.unwound, &threads)?;
+    let unwound = lines_of_each(alloc, &replies.unwound)?;
+    let shown = shown_threads(alloc, &threads.lines, &unwound)?;
     let answers = CaseAnswers::Core(CoreAnswers {
-        process: answer(&replies.process, &process),
-        signal: answer(&replies.signal, &signal),
-        threads: answer(&replies.threads, &threads),
-        files: answer(&replies.files, &files),
-        unwound: shown,
-        builds: answer(&replies.builds, &builds),
+        process: process.answer(),
+        signal: signal.answer(),
+        threads: threads.answer(),
+        files: files.answer(),
+        unwound: &shown,
+        builds: builds.answer(),
     });
-    put_text(alloc, archive, seq, &answers, words.is_json)
+    Ok(put_text(alloc, archive, seq, &answers, is_json)?)
 }
 
 fn exec_screen<D: Disk>(
@@ -130,12 +174,26 @@ fn exec_screen<D: Disk>(
     archive: &mut Archive<D>,
     seq: u32,
     words: InfoWords,
-) -> Result<Collected, Refusal> {
-    let mut images = Images { alloc, kept: None };
-    let told = ask_image(seq, ImageQuery::Header, &mut images, archive)?;
+) -> Result<Collected, Refusal>
+    ensures { IfOk result (λ text. words.is_json ≡ false → ShowsExec D.Disk archive.old seq text archive.new) }
+{
+    let told = ask_header(alloc, seq, archive)?;
+    Ok(put_exec(alloc, archive, seq, &told, words.is_json)?)
+}
+
+// Puts what an executable is asked into a text.
+fn put_exec<D: Disk>(
+    alloc: Global,
+    archive: &Archive<D>,
+    seq: u32,
+    told: &Told,
+    is_json: bool,
+) -> Result<Collected, Refusal>
+    ensures { IfOk result (λ text. is_json ≡ false → (a : Answer) × (answer_view a ≡ told_view told.now) × IsScreenBy archive.now seq (Exec a) text) }
+{
     let lines = told.lines(alloc)?;
-    let answers = CaseAnswers::Exec(answer(&told, &lines));
-    put_text(alloc, archive, seq, &answers, words.is_json)
+    let answers = CaseAnswers::Exec(lines.answer());
+    Ok(put_text(alloc, archive, seq, &answers, is_json)?)
 }
 
 // Puts what is told of a case into a text.
@@ -143,19 +201,52 @@ fn put_text<D: Disk>(
     alloc: Global,
     archive: &Archive<D>,
     seq: u32,
-    answers: &CaseAnswers<'_>,
+    answers: &CaseAnswers<'_, '_>,
     is_json: bool,
+) -> Result<Collected, Refusal>
+    ensures { IfOk result (λ text. is_json ≡ false → IsScreenBy archive.now seq answers.now text) }
+{
+    let case = match archive.case(seq) {
+        Ok(case) => case,
+        Err(fault) => return Err(Refusal::Call(fault)),
+    };
+    let cases = match archive.cases() {
+        Ok(cases) => cases,
+        Err(fault) => return Err(Refusal::Call(fault)),
+    };
+    if is_json {
+        return put_json(alloc, case, cases, answers);
+    }
+    Ok(put_screen(alloc, case, cases, answers)?)
+}
+
+fn put_json(
+    alloc: Global,
+    case: &Entry,
+    cases: &[Entry],
+    answers: &CaseAnswers<'_, '_>,
 ) -> Result<Collected, Refusal> {
-    let case = archive.case(seq).map_err(|fault| Refusal::Call(fault))?;
-    let cases = archive.cases().map_err(|fault| Refusal::Call(fault))?;
     let mut text = Collected::new(alloc);
     let mut reply = Reply::new(&mut text);
-    if is_json {
-        reply.tell(case_json(alloc, case, cases, answers)?.as_bytes());
-        reply.tell(b"\n");
-    } else {
-        tell_case_screen(&mut reply, case, cases, answers);
+    reply.tell(case_json(alloc, case, cases, answers)?.as_bytes());
+    reply.tell(b"\n");
+    match reply.finish() {
+        Ok(()) => Ok(text),
+        Err(_) => Err(Refusal::OutOfMemory),
     }
+}
+
+fn put_screen(
+    alloc: Global,
+    case: &Entry,
+    cases: &[Entry],
+    answers: &CaseAnswers<'_, '_>,
+) -> Result<Collected, Refusal>
+    ensures { IfOk result (λ text. held text ≡ info_answer (case_of case.now) (map case_of cases.now) answers.now) }
+{
+    let mut text = Collected::new(alloc);
+    let mut reply = Reply::new(&mut text);
+    tell_case_screen(&mut reply, case, cases, answers);
     match reply.finish() {
         Ok(()) => Ok(text),
         Err(_) => Err(Refusal::OutOfMemory),

@@ -3,11 +3,12 @@ ghost use Rattle.std.specs.Prelude.{◌≡◌, IfOk, ℕ, List};
 ghost use Rattle.case_queries.specs.Keeping.{AreKept};
 ghost use Rattle.case_queries.specs.Seeing.{IsKept};
 ghost use Rattle.case_info.specs.Inquiries.{AnswersLine};
+ghost use Rattle.case_info.specs.Screens.{answer_view, lines_view, told_view};
 ghost use Rattle.script_lines.specs.Queries.{query_of};
 
 use archive_files::{Collected, Refusal};
 use case_queries::{Images, answer_query};
-use case_screens::reply_lines;
+use case_screens::{Answer, reply_lines};
 use disk_model::Disk;
 use intake::{Archive, ArchiveFault};
 use script_lines::Query;
@@ -21,10 +22,34 @@ pub(crate) struct Told {
     pub(crate) is_done: bool,
 }
 
+// A reply by its lines.
+#[derive(Drop)]
+pub(crate) struct Lines<'t> {
+    pub(crate) is_done: bool,
+    pub(crate) lines: Vec<&'t [u8]>,
+}
+
 impl Told {
-    // The lines of the reply. The error is that there is no memory.
-    pub(crate) fn lines(&self, alloc: Global) -> Result<Vec<&[u8]>, AllocError> {
-        reply_lines(alloc, self.text.text())
+    // The reply by its lines. The error is that there is no memory.
+    pub(crate) fn lines(&self, alloc: Global) -> Result<Lines<'_>, AllocError>
+        ensures { IfOk result (λ l. lines_view l ≡ told_view self.now) }
+    {
+        Ok(Lines {
+            is_done: self.is_done,
+            lines: reply_lines(alloc, self.text.text())?,
+        })
+    }
+}
+
+impl<'t> Lines<'t> {
+    // The reply as a screen takes it.
+    pub(crate) fn answer(&self) -> Answer<'_>
+        ensures { answer_view result ≡ lines_view self.now }
+    {
+        Answer {
+            is_done: self.is_done,
+            lines: &self.lines,
+        }
     }
 }
 
