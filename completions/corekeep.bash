@@ -11,7 +11,7 @@ _corekeep() {
         return
     fi
     case $before in
-    --half | --data | --template | --limit | --keep | --bytes | --before | --exec | --label | --name | --pid | --since | --until | --last) return ;;
+    --half | --data | --template | --limit | --keep | --bytes | --before | --exec | --label | --text | --name | --pid | --since | --until | --last) return ;;
     --kind)
         COMPREPLY=($(compgen -W "core exec" -- "$word"))
         return
@@ -37,7 +37,7 @@ _corekeep() {
     handle) options="--check --archive --help" ;;
     list) options="--json --kind --name --pid --signal --since --until --label --pinned --last --no-wait --help" ;;
     info) options="--threads --json --no-wait --help" ;;
-    ask) options="--json --no-wait --help" ;;
+    ask) options="--text --plain --json --no-wait --help" ;;
     look | extract | salvage) options="--no-wait --help" ;;
     check) options="--images --no-wait --help" ;;
     copy) options="--half --data --layout --sparse --no-wait --help" ;;

@@ -1,24 +1,21 @@
 // What the words ask for.
+use crate::ask_words::{AskedLine, ask_words};
 use crate::endings::Ending;
-use crate::info_words::{info_words, rows_asked};
+use crate::info_words::info_words;
 use crate::list_words::list_words;
 use archive_files::{ArchivePath, CopyWords, NewArchive, Refusal, StoreWords, WordPart};
 use arrayvec::ArrayVec;
 use case_info::InfoWords;
-use case_listing::{ListWords, foreseen_by, names_a_case};
+use case_listing::ListWords;
 use clap::ArgMatches;
-use command_words::{is_text, line_of, program, push_escaped, push_text};
+use command_words::{is_text, program, push_escaped, push_text};
 use core_handler::{HandleWords, label_in};
 use inspector_cli::StoreOptions;
 use journal_layout::Shape;
-use line_help::help_of;
 use retention::Policy;
-use script_lines::{Command, Question, Request, parse_question, parse_text};
+use script_lines::{Command, Question, Request, parse_text};
 use script_words::parse_number;
 use std::alloc::{AllocError, Global};
-
-// The most bytes of a line of a script.
-const LONGEST_LINE: usize = 1024;
 
 // What the program is asked to do. Files are named by their paths.
 #[derive(Drop)]
@@ -66,21 +63,11 @@ pub(crate) enum Asked<'a> {
         case: Option<&'a str>,
         wanted: InfoWords,
     },
-    // What one line of a script asks, and its reply.
+    // What one line of a script asks, and its reply. Without a question its second word names a case.
     Ask {
         archive: ArchivePath<'a>,
-        question: Question,
-    },
-    // The same, of a line whose second word names a case.
-    AskCase {
-        archive: ArchivePath<'a>,
-        words: Vec<&'a str>,
-    },
-    // The rows of a line that asks an image. Without a question its second word names a case.
-    AskRows {
-        archive: ArchivePath<'a>,
+        line: AskedLine<'a>,
         question: Option<Question>,
-        words: Vec<&'a str>,
     },
     // Which cases `retire` would drop.
     WouldRetire {
@@ -144,7 +131,7 @@ fn asked_of<'a>(alloc: Global, name: &str, found: &ArgMatches<'a>) -> Result<Ask
         "extract" => extract_words(found),
         "handle" => handle_words(alloc, found),
         "list" => list_asked(found),
-        "ask" => ask_asked(alloc, found),
+        "ask" => ask_words(alloc, found),
         _ => care_words(name, found),
     }
 }
@@ -433,61 +420,6 @@ fn takes_pair(line: &mut Vec<u8>, pair: &str) -> Result<bool, AllocError> {
 
 fn begins_core(line: &[u8]) -> bool {
     matches!(parse_text(line), Command::Plain(Request::BeginCore { .. }))
-}
-
-// What the words of `ask` ask for, or its rows as JSON.
-fn ask_asked<'a>(alloc: Global, found: &ArgMatches<'a>) -> Result<Asked<'a>, Refusal> {
-    if found.get_flag("json") {
-        return rows_asked(alloc, found);
-    }
-    ask_words(alloc, found)
-}
-
-// What the words of `ask` ask for.
-fn ask_words<'a>(alloc: Global, found: &ArgMatches<'a>) -> Result<Asked<'a>, Refusal> {
-    let archive = place_of(found)?;
-    let words = found.get_strs("words").unwrap_or(&[]);
-    if let Some(policy) = foreseen_by(alloc, words)? {
-        return Ok(Asked::WouldRetire { archive, policy });
-    }
-    match question_of(alloc, found) {
-        Ok(question) => Ok(Asked::Ask { archive, question }),
-        Err(Refusal::NoLine(_)) if names_a_case(alloc, words)? => Ok(Asked::AskCase {
-            archive,
-            words: words.to_vec(alloc)?,
-        }),
-        Err(refusal) => Err(refusal),
-    }
-}
-
-// What the line of a script that these words are asks.
-pub(crate) fn question_of(alloc: Global, found: &ArgMatches<'_>) -> Result<Question, Refusal> {
-    let line = asked_line(alloc, found)?;
-    if line.len() > LONGEST_LINE {
-        return Err(Refusal::LineTooLong);
-    }
-    match parse_question(&line) {
-        Some(question) => Ok(question),
-        None => Err(Refusal::NoLine(usage_of(found))),
-    }
-}
-
-// The words of the line that these words begin like; empty if there is none.
-fn usage_of(found: &ArgMatches<'_>) -> &'static str {
-    let words = found.get_strs("words").unwrap_or(&[]);
-    match words.first() {
-        Some(name) => help_of(name).map_or("", |help| help.usage),
-        None => "",
-    }
-}
-
-// The line of a script that these words are.
-fn asked_line(alloc: Global, found: &ArgMatches<'_>) -> Result<Vec<u8>, Refusal> {
-    let words = found.get_strs("words").unwrap_or(&[]);
-    for word in words {
-        checked(word)?;
-    }
-    Ok(line_of(alloc, words)?)
 }
 
 // The line that begins a core, with a space before each of its pairs.

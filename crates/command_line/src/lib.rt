@@ -1,6 +1,7 @@
 //! The program but for its `main`: the words of its command line, and what they ask for.
 #![tactic(auto)]
 
+mod ask_words;
 mod asked;
 mod endings;
 mod info_words;

@@ -2,6 +2,7 @@
 ghost use Rattle.std.specs.Prelude.{◌≡◌, ◌≤◌, false};
 ghost use Rattle.command_words.specs.Notes.{IsQuietButForANote, asks_to_store};
 
+use crate::ask_words::{AskedLine, Form};
 use crate::asked::{Asked, SessionWords, read_words};
 use crate::endings::{Clues, Ending, tell_ending};
 use archive_files::{
@@ -9,7 +10,7 @@ use archive_files::{
     look, make_archive, names_output, resize_archive_file, run_over, salvage, take_disk,
 };
 use case_info::{InfoWords, ask_rows, info_archive, info_case};
-use case_listing::{ask_case, extract_case, list, would_retire};
+use case_listing::{ask_case, ask_plain, extract_case, list, would_retire};
 use command_words::{
     Watched, asked_help, in_order, line_in_place_of_a_command, tell_help, tell_note, words_of,
 };
@@ -18,6 +19,7 @@ use inspector_cli::{Naming, memory_session};
 use intake::Settings;
 use journal_layout::Shape;
 use name_template::Template;
+use script_lines::Question;
 use script_streams::{Output, ReadInput};
 use std::fs::File;
 use std::io::Read;
@@ -69,8 +71,8 @@ pub fn run_program<
 /// - `list ARCHIVE` shows the cases as a table, or as JSON; with words that only some cases meet, those. The status is 1 if there are
 ///   none of these.
 /// - `info ARCHIVE CASE` shows what is known of a case on one screen, and `info ARCHIVE` what is known of the archive.
-/// - `ask ARCHIVE WORD..` carries out one line of a script, `extract ARCHIVE N [FILE]` writes the image of a
-///   case. A line that changes no case, and `extract`, need no right to write the archive's file, and hold its lock only while they
+/// - `ask ARCHIVE WORD..` carries out one line of a script, with `--plain` so that people read its reply, and `find N --text TEXT` looks
+///   for these bytes. `extract ARCHIVE N [FILE]` writes the image of a case. A line that changes no case, and `extract`, need no right to write the archive's file, and hold its lock only while they
 ///   read its journal.
 /// - `look ARCHIVE` answers the lines of `input` that change no case, each as `ask` does.
 /// - `check ARCHIVE` tells what an archive holds and that it is sound, or where it is damaged.
@@ -172,13 +174,11 @@ fn answer_asked<R: AllocGlobal + Files<File = File> + Clock, I: Read, O: Output>
         } => extract_case(rt, archive, case, file, output),
         Asked::Handle(words) => handle(rt, words, input, output),
         Asked::List { archive, wanted } => list(rt, archive, wanted, output),
-        Asked::Ask { archive, question } => ask(rt, archive, question, output),
-        Asked::AskCase { archive, words } => ask_case(rt, archive, &words, output),
-        Asked::AskRows {
+        Asked::Ask {
             archive,
+            line,
             question,
-            words,
-        } => ask_rows(rt, archive, &words, question, output),
+        } => answer_line(rt, archive, &line, question, output),
         Asked::Info {
             archive,
             case,
@@ -198,6 +198,23 @@ fn answer_asked<R: AllocGlobal + Files<File = File> + Clock, I: Read, O: Output>
         Asked::Resize { archive, wanted } => Ok(resize_archive_file(rt, archive, wanted)?),
         Asked::Salvage { archive, new } => salvage(rt, archive, new, output),
         Asked::Nothing => Ok(()),
+    }
+}
+
+// Answers one line. Without a question its second word names a case.
+fn answer_line<R: AllocGlobal + Files<File = File>, O: Output>(
+    rt: &R,
+    place: ArchivePath<'_>,
+    line: &AskedLine<'_>,
+    question: Option<Question>,
+    output: &mut O,
+) -> Result<(), Failure> {
+    let words = line.words(rt.alloc())?;
+    match (line.form(), question) {
+        (Form::Rows, question) => ask_rows(rt, place, &words, question, output),
+        (Form::Plain, question) => ask_plain(rt, place, &words, question, output),
+        (Form::Reply, Some(question)) => ask(rt, place, question, output),
+        (Form::Reply, None) => ask_case(rt, place, &words, output),
     }
 }
 

@@ -1,0 +1,143 @@
+// What the words of `ask` ask for.
+use crate::asked::{Asked, checked, place_of};
+use archive_files::Refusal;
+use case_listing::{foreseen_by, names_a_case};
+use clap::ArgMatches;
+use command_words::{digits_of, line_of};
+use line_help::{help_of, rows_of};
+use script_lines::{Question, parse_question};
+use std::alloc::{AllocError, Global};
+use std::str;
+
+// The most bytes of a line of a script.
+const LONGEST_LINE: usize = 1024;
+
+// The words of a line whose rows may be told as JSON.
+const ROWS: &str = "--json LINE, a line that asks an image";
+
+// The words of a line that takes a text.
+const TEXT: &str = "find N --text TEXT";
+
+// How a reply is told.
+#[derive(Clone, Copy, Debug, PartialEq, Eq)]
+pub(crate) enum Form {
+    // As the script has it.
+    Reply,
+    // For people.
+    Plain,
+    // Its rows as JSON.
+    Rows,
+}
+
+// One line of a script, as the words have it.
+#[derive(Drop)]
+pub(crate) struct AskedLine<'a> {
+    words: Vec<&'a str>,
+    // The last word of the line, if its bytes are said as a text: their digits.
+    digits: Option<Vec<u8>>,
+    form: Form,
+}
+
+impl AskedLine<'_> {
+    pub(crate) fn form(&self) -> Form {
+        self.form
+    }
+
+    // The words of the line.
+    pub(crate) fn words(&self, alloc: Global) -> Result<Vec<&str>, AllocError> {
+        let mut words = Vec::new(alloc);
+        for word in &self.words {
+            words.push(*word)?;
+        }
+        if let Some(digits) = &self.digits {
+            words.push(str::from_utf8(digits).unwrap_or(""))?;
+        }
+        Ok(words)
+    }
+
+    // What the line asks, if it has a number for the case. If it has none its second word names a case.
+    fn question(&self, alloc: Global) -> Result<Option<Question>, Refusal> {
+        for word in &self.words {
+            checked(word)?;
+        }
+        let words = self.words(alloc)?;
+        let line = line_of(alloc, &words)?;
+        if line.len() > LONGEST_LINE {
+            return Err(Refusal::LineTooLong);
+        }
+        match parse_question(&line) {
+            Some(question) => Ok(Some(question)),
+            None if names_a_case(alloc, &words)? => Ok(None),
+            None => Err(Refusal::NoLine(usage_of(&self.words))),
+        }
+    }
+}
+
+// What the words of `ask` ask for.
+pub(crate) fn ask_words<'a>(alloc: Global, found: &ArgMatches<'a>) -> Result<Asked<'a>, Refusal> {
+    let archive = place_of(found)?;
+    let words = found.get_strs("words").unwrap_or(&[]);
+    let form = form_of(found);
+    if let Some(policy) = foreseen_by(alloc, words)? {
+        refuse_forms(found, form)?;
+        return Ok(Asked::WouldRetire { archive, policy });
+    }
+    let line = AskedLine {
+        words: words.to_vec(alloc)?,
+        digits: digits_said(alloc, found)?,
+        form,
+    };
+    let question = line.question(alloc)?;
+    if form == Form::Rows && rows_of(first_of(words)).is_empty() {
+        return Err(Refusal::NoLine(ROWS));
+    }
+    Ok(Asked::Ask {
+        archive,
+        line,
+        question,
+    })
+}
+
+// The reply to `would-retire` has no rows and no text: people read it as it is.
+fn refuse_forms(found: &ArgMatches<'_>, form: Form) -> Result<(), Refusal> {
+    if form == Form::Rows {
+        return Err(Refusal::NoLine(ROWS));
+    }
+    match found.get_str("text") {
+        Some(_) => Err(Refusal::NoLine(TEXT)),
+        None => Ok(()),
+    }
+}
+
+fn form_of(found: &ArgMatches<'_>) -> Form {
+    if found.get_flag("json") {
+        Form::Rows
+    } else if found.get_flag("plain") {
+        Form::Plain
+    } else {
+        Form::Reply
+    }
+}
+
+// The digits of the text that `find` looks for, if one is said.
+fn digits_said(alloc: Global, found: &ArgMatches<'_>) -> Result<Option<Vec<u8>>, Refusal> {
+    let Some(text) = found.get_str("text") else {
+        return Ok(None);
+    };
+    if first_of(found.get_strs("words").unwrap_or(&[])) != "find" {
+        return Err(Refusal::NoLine(TEXT));
+    }
+    Ok(Some(digits_of(alloc, text)?))
+}
+
+fn first_of<'a>(words: &[&'a str]) -> &'a str {
+    words.first().copied().unwrap_or("")
+}
+
+// The words of the line that these words begin like; empty if there is none.
+fn usage_of(words: &[&str]) -> &'static str {
+    match words.first() {
+        Some(name) => help_of(name).map_or("", |help| help.usage),
+        None => "",
+    }
+}
