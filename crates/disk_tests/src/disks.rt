@@ -1,7 +1,5 @@
 //! A disk in memory, what crashes leave of it, and disks that fail.
-use disk_model::{
-    CachedDisk, Disk, DiskFault, Fuse, Gathering, MemDisk, OneFault, Pick, write_stable,
-};
+use disk_model::{Disk, DiskFault, Fuse, MemDisk, OneFault, Pick};
 use std::process::Abort;
 use std::test::Fail;
 
@@ -36,39 +34,6 @@ fn read<D: Disk>(
 // A crash of this kind leaves these bytes.
 fn leaves(rt: &impl Abort, disk: &MemDisk, pick: Pick, bytes: &[u8]) -> Result<(), Fail> {
     assert_eq!(rt; disk.after_crash(pick)?.bytes(), bytes, "{pick:?}");
-    Ok(())
-}
-
-#[test]
-fn memory_reads_back_what_was_written(rt: HostRuntime) -> Result<(), Fail> {
-    let mut disk = MemDisk::new(rt.alloc(), 6)?;
-    assert_eq!(rt; disk.length(), 6);
-    assert_eq!(rt; disk.bytes(), [0; 6].as_slice());
-    put(&mut disk, 1, &[7, 8, 9])??;
-    put(&mut disk, 6, &[])??;
-    disk.sync()?;
-    let mut bytes = [0u8; 4];
-    read(&mut disk, 2, &mut bytes)??;
-    assert_eq!(rt; bytes, [8, 9, 0, 0]);
-    assert_eq!(rt; disk.bytes(), [0, 7, 8, 9, 0, 0].as_slice());
-    Ok(())
-}
-
-// Two writes that adjoin, and one within them. Reads give what is gathered, and what was written.
-#[test]
-fn writes_are_gathered_over_memory(rt: HostRuntime) -> Result<(), Fail> {
-    let mut disk = Gathering::new(rt.alloc(), MemDisk::new(rt.alloc(), 8)?)?;
-    put(&mut disk, 1, &[7, 8])??;
-    put(&mut disk, 3, &[9])??;
-    let mut bytes = [0u8; 4];
-    read(&mut disk, 2, &mut bytes)??;
-    assert_eq!(rt; bytes, [8, 9, 0, 0]);
-    put(&mut disk, 2, &[5])??;
-    read(&mut disk, 0, &mut bytes)??;
-    assert_eq!(rt; bytes, [0, 7, 5, 9]);
-    disk.sync()?;
-    read(&mut disk, 1, &mut bytes)??;
-    assert_eq!(rt; bytes, [7, 5, 9, 0]);
     Ok(())
 }
 
@@ -116,35 +81,6 @@ fn a_crash_leaves_what_is_picked(rt: HostRuntime) -> Result<(), Fail> {
         leaves(&rt, &disk, pick, &[1, 2, 5, 8, 9, 10, 11, 0])?;
     }
     Ok(())
-}
-
-#[test]
-fn a_crash_begins_a_disk_anew(rt: HostRuntime) -> Result<(), Fail> {
-    let mut disk = MemDisk::new(rt.alloc(), 3)?;
-    put(&mut disk, 0, &[1, 2])??;
-    let mut left = disk.after_crash(Pick::Whole)?;
-    put(&mut left, 2, &[3])??;
-    leaves(&rt, &left, Pick::FirstHalf, &[1, 2, 0])
-}
-
-// Makes a write stable that lies within the disk.
-fn put_stable<D: Disk>(disk: &mut D, at: u64, bytes: &[u8]) -> Result<Result<(), DiskFault>, Fail> {
-    if disk.length() < at || disk.length() - at < bytes.len() as u64 {
-        return Err(Fail::from("these bytes leave the disk"));
-    }
-    Ok(write_stable(disk, at, bytes))
-}
-
-#[test]
-fn a_stable_write_outlives_a_crash(rt: HostRuntime) -> Result<(), Fail> {
-    let mut disk = Fuse::new(MemDisk::new(rt.alloc(), 4)?, 3);
-    put_stable(&mut disk, 1, &[5, 6])??;
-    if put_stable(&mut disk, 0, &[7, 7])? != SYNC {
-        Err("the second write ended otherwise")?;
-    }
-    let disk = disk.into_inner();
-    assert_eq!(rt; disk.bytes(), [7, 7, 6, 0].as_slice());
-    leaves(&rt, &disk, Pick::Nothing, &[0, 5, 6, 0])
 }
 
 // Writes four bytes, syncs and reads them back.
@@ -197,26 +133,5 @@ fn one_fault_fails_one_call(rt: HostRuntime) -> Result<(), Fail> {
         assert_eq!(rt; disk.calls(), 3, "call {at}");
         assert_eq!(rt; disk.into_inner().bytes(), bytes.as_slice(), "call {at}");
     }
-    Ok(())
-}
-
-// After a lost sync the cache has what the device never got, until the file is opened anew.
-#[test]
-fn a_lost_sync_is_seen_when_the_file_is_opened_anew(rt: HostRuntime) -> Result<(), Fail> {
-    let mut disk = CachedDisk::new(MemDisk::new(rt.alloc(), 4)?, 1);
-    put(&mut disk, 0, &[1, 2])??;
-    assert_eq!(rt; disk.sync(), DONE);
-    put(&mut disk, 1, &[7, 7])??;
-    assert_eq!(rt; disk.sync(), SYNC);
-    assert_eq!(rt; disk.sync(), SYNC);
-    let mut bytes = [0u8; 4];
-    read(&mut disk, 0, &mut bytes)??;
-    assert_eq!(rt; bytes, [1, 7, 7, 0]);
-    let mut anew = disk.reopened()?;
-    read(&mut anew, 0, &mut bytes)??;
-    assert_eq!(rt; bytes, [1, 2, 0, 0]);
-    put(&mut anew, 3, &[9])??;
-    assert_eq!(rt; anew.sync(), DONE);
-    assert_eq!(rt; anew.after_stop()?.bytes(), [1, 2, 0, 9].as_slice());
     Ok(())
 }

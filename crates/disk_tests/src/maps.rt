@@ -89,30 +89,6 @@ fn given_back(rt: HostRuntime) -> Result<(), Fail> {
 }
 
 #[test]
-fn past_the_ends_of_words(rt: HostRuntime) -> Result<(), Fail> {
-    let mut map = FreeMap::new(rt.alloc(), 130)?;
-    takes(&rt, &mut map, 63, Some(run(0, 63)));
-    let border = map.take(2).expect(&rt, "blocks are free");
-    map.give_back(&[border]);
-    assert_eq!(rt; border, run(63, 2));
-    marks(&rt, &mut map, 127, 2, DONE);
-    has_free(&rt, &map, 65);
-    takes(&rt, &mut map, u32::MAX, Some(run(63, 64)));
-    takes(&rt, &mut map, 2, Some(run(129, 1)));
-    takes(&rt, &mut map, 1, None);
-    Ok(())
-}
-
-#[test]
-fn no_blocks(rt: HostRuntime) -> Result<(), Fail> {
-    let mut map = FreeMap::new(rt.alloc(), 0)?;
-    has_free(&rt, &map, 0);
-    takes(&rt, &mut map, 1, None);
-    marks(&rt, &mut map, 0, 1, OUT_OF_RANGE);
-    Ok(())
-}
-
-#[test]
 fn runs_of_a_list(rt: HostRuntime) -> Result<(), Fail> {
     let mut list = RunList::new(rt.alloc());
     for run in [run(7, 2), run(9, 1), run(3, 1)] {

@@ -1,6 +1,6 @@
 -- What may be stored, from what is looked at when a test runs.
-use Rattle.std.proofs.Common.{◌≡◌, ◌≢◌, ℕ, zero, suc, ◌+◌, ◌/◌, ◌<◌, ◌≤◌, ◌||◌, Bool, false, List, [], ◌∷◌, nat_eq, map, length, refl, sym, ap, ◌∙◌, subst, arith}
-use Rattle.std.proofs.lemmas.Bool.{or_parts, ne_eqb, eqb-false}
+use Rattle.std.proofs.Common.{◌≡◌, ◌≢◌, ℕ, ◌+◌, ◌/◌, ◌≤◌, ◌||◌, Bool, false, List, [], ◌∷◌, nat_eq, map, length, refl, sym, ap, ◌∙◌, subst, arith}
+use Rattle.std.proofs.lemmas.Bool.{or_parts, eqb-false}
 use Rattle.std.specs.List.{AllByRecursion, list_any}
 use Rattle.std.specs.Str.{bytes_eq}
 use Rattle.disk_model.specs.Places.{AreBytes}
@@ -35,30 +35,6 @@ empty_storable limit cases c name new pid signal time bytes none unlabelled = re
   spare = λ k some. absurd (omega (arith, some, ap (uses k) none));
   no_label = unlabelled;
 }
-
--- an image of 5 bytes in block 0, where there is no case
-pub first_storable : (limit : ℕ) (c : Case) → 0 < limit → IsName c.origin.name
-    → c.origin.pid ≡ 0 → c.origin.signal ≡ 0 → c.origin.time ≡ 0 → c.len ≡ 5 → c.blocks ≡ 0 ∷ [] → c.label ≡ [] → IsStorable limit [] c
-first_storable limit c blocks name pid signal time bytes one unlabelled = record {
-  origin = record { name = name; pid = omega (arith, pid); signal = omega (arith, signal); time = omega (arith, time) };
-  new_name = refl;
-  bytes = omega (arith, bytes);
-  enough = ap (λ (l : List ℕ). length l) one ∙ sym (ap (λ (n : ℕ). (n + 4095) / 4096) bytes);
-  spare = λ k some. only k (subst (λ (l : List ℕ). 0 < uses k l) one some) (ap (uses k) one);
-  no_label = unlabelled;
-}
-  where
-    clash : 0 < 0 + 0 → ⊥
-    clash h = omega arith
-
-    only : (k : ℕ) → 0 < uses k (0 ∷ []) → uses k c.blocks ≡ uses k (0 ∷ []) → (k < limit) × (uses k c.blocks ≡ 1) × (uses k [] ≡ 0)
-    only zero some e = (blocks, e, refl)
-    only (suc k) some e = absurd (clash (rw (ne_eqb 0 (suc k) (λ s. omega (arith, s))) at some))
-
--- where there is no entry, there is no case
-pub no_case : (entries : List Entry) (cases : List Case) → map case_of entries ≡ cases → length entries ≡ 0 → cases ≡ []
-no_case [] cases same none = sym same
-no_case (e ∷ rest) cases same none = absurd (omega (arith, none))
 
 -- a name of no entry is no name of a case
 pub not_named : (entries : List Entry) (cases : List Case) (name : List ℕ) → map case_of entries ≡ cases → is_name_of (map case_of entries) name ≡ false → is_name_of cases name ≡ false

@@ -1,5 +1,5 @@
 // A journal with the disk that it was opened on. The conditions of its appends are looked at when they run.
-ghost use Rattle.std.specs.Prelude.{◌≡◌, ◌<◌, ◌≤◌, ℕ, List, [], ◌∷◌, false, map, IfOk, IsTrue};
+ghost use Rattle.std.specs.Prelude.{◌≡◌, ℕ, List, false, map, IfOk, IsTrue};
 ghost use Rattle.journal_layout.specs.Case.{Case, case_of};
 ghost use Rattle.journal_layout.specs.Folding.{is_name_of, is_among};
 ghost use Rattle.journal_layout.specs.Soundness.{IsName, IsStorable, IsDroppable};
@@ -9,7 +9,7 @@ ghost use Rattle.std.specs.Str.{bytes_eq};
 
 use case_journal::{Journal, JournalFault, format};
 use disk_model::{Disk, MemDisk};
-use extents::{Run, RunList};
+use extents::RunList;
 use journal_layout::{Entry, Kind, Label, Name, OpenFault, Shape};
 use std::alloc::Global;
 use std::marker::Model;
@@ -89,36 +89,6 @@ fn empty(alloc: Global, name: Name) -> Entry
         runs: RunList::new(alloc),
         label: Label::new(),
     }
-}
-
-// An executable of 5 bytes in block 0.
-fn cat_entry(name: Name, runs: RunList) -> Entry
-    requires name { IsName name.items }
-    requires runs { runs ≡ 0 ∷ [] }
-    ensures { (limit : ℕ) → 0 < limit → IsStorable limit [] (case_of result) }
-{
-    Entry {
-        seq: 0,
-        kind: Kind::Exec,
-        name,
-        pid: 0,
-        signal: 0,
-        time: 0,
-        pinned: false,
-        length: 5,
-        runs,
-        label: Label::new(),
-    }
-}
-
-/// The same, with the name `/bin/cat`.
-pub fn cat(alloc: Global) -> Result<Entry, Fail>
-    ensures { IfOk result (λ e. (limit : ℕ) → 0 < limit → IsStorable limit [] (case_of e)) }
-{
-    let name = name_of(b"/bin/cat")?;
-    let mut runs = RunList::new(alloc);
-    runs.append(Run { start: 0, count: 1 })?;
-    Ok(cat_entry(name, runs))
 }
 
 // Whether a case of this number is live and not pinned.
@@ -203,16 +173,6 @@ impl<D: Disk + Drop> Bench<D> {
         Ok(bench)
     }
 
-    /// Stores an entry where there is no other.
-    pub fn store_first(&mut self, entry: Entry) -> Result<Result<u32, (JournalFault, Entry)>, Fail>
-        requires { (limit : ℕ) → 0 < limit → IsStorable limit [] (case_of entry) }
-    {
-        if self.journal.entries().is_empty() && self.journal.shape().data_blocks > 0 {
-            return Ok(self.journal.append_store(&mut self.disk, entry));
-        }
-        Err(Fail::from("another case stands"))
-    }
-
     /// Stores an empty executable.
     pub fn store(&mut self, alloc: Global, name: &[u8]) -> Result<Result<u32, JournalFault>, Fail> {
         let name = name_of(name)?;
@@ -271,4 +231,24 @@ impl<D: Disk + Drop> Bench<D> {
             Step::Upgrade => Ok(self.journal.upgrade(&mut self.disk)),
         }
     }
+}
+
+/// A journal on a fresh archive.
+pub fn fresh(alloc: Global) -> Result<Bench<MemDisk>, Fail> {
+    let Ok(bench) = Bench::open(alloc, formatted(alloc)?) else {
+        return Err(Fail::from("the journal was not opened"));
+    };
+    Ok(bench)
+}
+
+/// A journal of 63 cases, which leave no room for a further one.
+pub fn filled(alloc: Global) -> Result<Bench<MemDisk>, Fail> {
+    let mut bench = fresh(alloc)?;
+    for number in 1..64u32 {
+        let name = format!(in alloc; "n{number}")?;
+        if bench.store(alloc, name.as_bytes())? != Ok(number) {
+            return Err(Fail::from("a case was not stored"));
+        }
+    }
+    Ok(bench)
 }

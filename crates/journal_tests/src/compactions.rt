@@ -1,11 +1,34 @@
-// Journals that are written anew into their other half.
-use crate::appends::{filled, fresh, has_sizes, holds, stores};
-use crate::bench::{Bench, formatted};
-use crate::states::shows_all;
-use case_journal::JournalFault;
+// Journals that are written anew into their other half by a call, which no line makes.
+use crate::bench::{Bench, formatted, fresh};
+use case_journal::{Journal, JournalFault};
 use disk_model::{Disk, Fuse, MemDisk};
 use std::process::Abort;
 use std::test::Fail;
+
+// From this place on the disk has these bytes.
+fn holds(rt: &impl Abort, bytes: &[u8], at: usize, wanted: &[u8]) {
+    let found = bytes.get(at..at.saturating_add(wanted.len()));
+    assert_eq!(rt; found, Some(wanted), "at {at}");
+}
+
+// Stores a case, which has this number.
+fn stores<D: Disk + Drop>(
+    rt: &(impl AllocGlobal + Abort),
+    bench: &mut Bench<D>,
+    number: u32,
+) -> Result<(), Fail> {
+    let name = format!(in rt.alloc(); "n{number}")?;
+    assert_eq!(rt; bench.store(rt.alloc(), name.as_bytes())?, Ok(number));
+    Ok(())
+}
+
+// The journal shows `cases` cases, and `bytes` bytes of the half are used.
+fn has_sizes(rt: &impl Abort, journal: &Journal, cases: usize, bytes: u64) {
+    assert_eq!(rt;
+        (journal.entries().len(), journal.use_bytes()),
+        (cases, bytes)
+    );
+}
 
 // Half B's header with the second generation, the record of the next number 1, and a closed gate after it.
 static ANEW: [(usize, &[u8]); 3] = [
@@ -54,92 +77,6 @@ fn no_generation_is_left(rt: HostRuntime) -> Result<(), Fail> {
     let mut bench = last_generation(&rt)?;
     assert_eq!(rt; bench.compact(), Err(JournalFault::JournalFull));
     has_sizes(&rt, bench.journal(), 0, 32);
-    Ok(())
-}
-
-// A further case has no room, and changes nothing.
-fn is_refused<D: Disk + Drop>(
-    rt: &(impl AllocGlobal + Abort),
-    bench: &mut Bench<D>,
-    name: &[u8],
-    bytes: u64,
-) -> Result<(), Fail> {
-    let stored = bench.store(rt.alloc(), name)?;
-    assert_eq!(rt; stored, Err(JournalFault::JournalFull));
-    has_sizes(rt, bench.journal(), 63, bytes);
-    Ok(())
-}
-
-// A case ends, and 62 are left.
-fn ends<D: Disk + Drop>(
-    rt: &impl Abort,
-    bench: &mut Bench<D>,
-    seq: u32,
-    bytes: u64,
-) -> Result<(), Fail> {
-    assert_eq!(rt; bench.end(seq)?, Ok(()));
-    has_sizes(rt, bench.journal(), 62, bytes);
-    Ok(())
-}
-
-// In a full journal whose first case has ended, room is made for one case more.
-#[test]
-fn room_is_made(rt: HostRuntime) -> Result<(), Fail> {
-    let mut bench = filled(rt.alloc())?;
-    ends(&rt, &mut bench, 1, 4080)?;
-    assert_eq!(rt; bench.compact(), Ok(()));
-    has_sizes(&rt, bench.journal(), 62, 4016);
-    stores(&rt, &mut bench, 64)
-}
-
-// Half A's header with the third generation.
-const THIRD: [u8; 16] = [0xa5, 0, 0, 0, 1, 0, 0, 0, 3, 0, 0, 0, 0, 0, 0, 0];
-
-// Where a record has no room after the others, the other half takes the cases, as long as there are not too many.
-#[test]
-fn a_full_half_goes_on_in_the_other(rt: HostRuntime) -> Result<(), Fail> {
-    let mut bench = filled(rt.alloc())?;
-    is_refused(&rt, &mut bench, b"n64", 4064)?;
-    ends(&rt, &mut bench, 1, 4080)?;
-    stores(&rt, &mut bench, 64)?;
-    has_sizes(&rt, bench.journal(), 63, 4080);
-    holds(&rt, bench.disk().bytes(), 8192, ANEW[0].1);
-    is_refused(&rt, &mut bench, b"n65", 4080)?;
-    ends(&rt, &mut bench, 2, 4016)?;
-    holds(&rt, bench.disk().bytes(), 4096, &THIRD);
-    stores(&rt, &mut bench, 65)
-}
-
-// At the greatest generation a full half is final: neither a case nor an end is taken.
-#[test]
-fn a_full_half_of_the_last_generation_is_final(rt: HostRuntime) -> Result<(), Fail> {
-    let mut bench = last_generation(&rt)?;
-    for number in 1..64u32 {
-        stores(&rt, &mut bench, number)?;
-    }
-    ends(&rt, &mut bench, 1, 4080)?;
-    assert_eq!(rt; bench.end(2)?, Err(JournalFault::JournalFull));
-    assert_eq!(rt; bench.pin(2, true)?, Err(JournalFault::JournalFull));
-    has_sizes(&rt, bench.journal(), 62, 4080);
-    Ok(())
-}
-
-// Half B's header with the generation 1,002.
-const LATE: [u8; 16] = [0xa5, 0, 0, 0, 1, 0, 0, 0, 0xea, 3, 0, 0, 0, 0, 0, 0];
-
-// Stores a case and ends the first, over and over. The first pair writes the journal anew twice, each other one once.
-#[test]
-fn a_thousand_compactions_leave_the_cases(rt: HostRuntime) -> Result<(), Fail> {
-    let mut bench = filled(rt.alloc())?;
-    ends(&rt, &mut bench, 1, 4080)?;
-    for number in 64..1064u32 {
-        stores(&rt, &mut bench, number)?;
-        ends(&rt, &mut bench, number.saturating_sub(62), 4016)?;
-    }
-    let bench = bench.reopened(rt.alloc())?;
-    has_sizes(&rt, bench.journal(), 62, 4016);
-    assert!(rt; shows_all(bench.journal(), &(1002, 1063, 0)));
-    holds(&rt, bench.disk().bytes(), 8192, &LATE);
     Ok(())
 }
 

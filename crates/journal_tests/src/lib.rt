@@ -1,8 +1,7 @@
-//! Tests of a journal over a disk in memory: appends and compactions over reopenings, and stops at each disk call.
+//! Tests of a journal over disks in memory that stop or fail, of compactions by a call, and of calls that are refused memory. What
+//! appends leave where nothing fails is shown by rows of `examples/rows`.
 #![tactic(auto)]
 
-#[cfg(test)]
-mod appends;
 #[cfg(test)]
 mod bench;
 #[cfg(test)]

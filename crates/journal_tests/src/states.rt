@@ -1,6 +1,5 @@
 // Scripts of appends, compactions and an upgrade, and what the journal shows before them and after each of their steps.
-use crate::appends::filled;
-use crate::bench::{Step, formatted};
+use crate::bench::{Step, filled, formatted};
 use case_journal::Journal;
 use disk_model::MemDisk;
 use journal_layout::Entry;
@@ -23,16 +22,11 @@ static SCRIPT: [Step; 13] = [
     Step::Compact,
 ];
 
-/// The script.
-pub fn script() -> &'static [Step; 13] {
-    &SCRIPT
-}
-
-/// The number, the name and the pin of each case, the number of the next one, and the labels that are not empty.
-pub struct State {
-    pub cases: &'static [(u32, &'static [u8], bool)],
-    pub next: u64,
-    pub labels: &'static [(u32, &'static [u8])],
+// The number, the name and the pin of each case, the number of the next one, and the labels that are not empty.
+struct State {
+    cases: &'static [(u32, &'static [u8], bool)],
+    next: u64,
+    labels: &'static [(u32, &'static [u8])],
 }
 
 static STATES: [State; 14] = [
@@ -108,13 +102,8 @@ static STATES: [State; 14] = [
     },
 ];
 
-/// The states before the script, and after each of its steps.
-pub fn states() -> &'static [State; 14] {
-    &STATES
-}
-
-/// Whether these are the cases.
-pub fn are_cases(entries: &[Entry], cases: &[(u32, &[u8], bool)]) -> bool {
+// Whether these are the cases.
+fn are_cases(entries: &[Entry], cases: &[(u32, &[u8], bool)]) -> bool {
     if entries.len() != cases.len() {
         return false;
     }
@@ -144,8 +133,8 @@ static FULL_STATES: [(u32, u32, u32); 5] = [
     (3, 65, 3),
 ];
 
-/// Whether the cases from the first number to the second are shown, the one of the third pinned, and no other.
-pub fn shows_all(journal: &Journal, state: &(u32, u32, u32)) -> bool {
+// Whether the cases from the first number to the second are shown, the one of the third pinned, and no other.
+fn shows_all(journal: &Journal, state: &(u32, u32, u32)) -> bool {
     let (first, last, pinned) = *state;
     let mut number = first;
     for entry in journal.entries() {
@@ -227,8 +216,8 @@ fn have_labels(entries: &[Entry], labels: &[(u32, &'static [u8])]) -> bool {
     true
 }
 
-/// Whether the journal shows this state.
-pub fn shows(journal: &Journal, state: &State) -> bool {
+// Whether the journal shows this state.
+fn shows(journal: &Journal, state: &State) -> bool {
     journal.next_seq() == state.next
         && are_cases(journal.entries(), state.cases)
         && have_labels(journal.entries(), state.labels)

@@ -1,4 +1,4 @@
-//! Policies on archives of three cases.
+//! A policy that is decided again after memory was refused. What policies decide is shown by rows of `examples/rows`.
 ghost use Rattle.std.specs.Prelude.{◌≡◌, ◌<◌};
 
 use retention::{Brief, Decision, Policy, decide};
@@ -43,38 +43,6 @@ fn policy(keep: Option<u64>, bytes: Option<u64>, before: Option<u64>) -> Policy 
 fn drops(rt: &impl Abort, decision: &Decision, dropped: &[u32], unmet: bool) {
     assert_eq!(rt; decision.dropped.as_slice(), dropped);
     assert_eq!(rt; decision.unmet, unmet);
-}
-
-#[test]
-fn the_first_is_pinned(rt: HostRuntime) -> Result<(), Fail> {
-    let cases = (case(1, 1, true), case(2, 2, false), case(3, 3, false));
-    let kept = decided(rt.alloc(), cases, &policy(Some(1), None, None))?;
-    drops(&rt, &kept, &[2, 3], false);
-    let none = decided(rt.alloc(), cases, &policy(Some(0), None, None))?;
-    drops(&rt, &none, &[2, 3], true);
-    let all = decided(rt.alloc(), cases, &policy(None, None, None))?;
-    drops(&rt, &all, &[], false);
-    Ok(())
-}
-
-#[test]
-fn the_last_is_pinned(rt: HostRuntime) -> Result<(), Fail> {
-    let cases = (case(4, 1, false), case(7, 2, false), case(9, 3, true));
-    let old = decided(rt.alloc(), cases, &policy(None, None, Some(3)))?;
-    assert_eq!(rt; old.dropped.as_slice(), [4, 7].as_slice());
-    let bytes = decided(rt.alloc(), cases, &policy(None, Some(50), None))?;
-    assert_eq!(rt; bytes.dropped.as_slice(), [4].as_slice());
-    let both = decided(rt.alloc(), cases, &policy(Some(3), Some(29), Some(2)))?;
-    drops(&rt, &both, &[4, 7], true);
-    Ok(())
-}
-
-#[test]
-fn all_are_pinned(rt: HostRuntime) -> Result<(), Fail> {
-    let cases = (case(1, 1, true), case(2, 2, true), case(3, 3, true));
-    let decision = decided(rt.alloc(), cases, &policy(Some(2), None, Some(9)))?;
-    drops(&rt, &decision, &[], true);
-    Ok(())
 }
 
 // What is decided, asked again where memory is refused.

@@ -151,25 +151,6 @@ fn lines_and_parts(rt: HostRuntime) -> Result<(), Fail> {
     Ok(())
 }
 
-// Whether a line of `count` bytes, at most 3,000, each of them `byte`, is too long, and whether it is blank or a comment.
-fn long_line(byte: u8, count: usize) -> Result<(bool, bool), ReadStop> {
-    let bytes = [byte; 3000];
-    let mut script = script_of(&bytes[..count.min(3000)], 700, false);
-    next_line(&mut script)?;
-    Ok((script.line.is_too_long(), script.line.is_blank_or_comment()))
-}
-
-#[test]
-fn long_lines(rt: HostRuntime) -> Result<(), Fail> {
-    let (is_too_long, _) = long_line(b'a', 1024)?;
-    assert!(rt; !is_too_long);
-    assert_eq!(rt; long_line(b'a', 1025)?, (true, false));
-    assert_eq!(rt; long_line(b' ', 3000)?, (true, true));
-    let (_, is_comment) = long_line(b'#', 3000)?;
-    assert!(rt; is_comment);
-    Ok(())
-}
-
 // How many bytes of a part of four come next.
 fn next_part(script: &mut Script<'_>) -> Result<usize, ReadStop> {
     let mut part = [0u8; 4];
