@@ -10,7 +10,7 @@ struct Meaning {
 static MEANINGS: [Meaning; 37] = [
     Meaning {
         reason: b"SpaceFull",
-        words: b"the image takes more blocks than are free (corekeep ask ARCHIVE free counts them): delete or retire cases, or make the archive larger (corekeep resize)",
+        words: b"the image takes more blocks than are free (corekeep ask ARCHIVE free counts them): delete or retire cases (pinned ones once they are unpinned), or make the archive larger (corekeep resize)",
     },
     Meaning {
         reason: b"JournalFull",

@@ -350,7 +350,7 @@ const CASE: Word = Word {
     shown: "N",
     takes: Takes::Place,
     default: None,
-    help: "the case's number",
+    help: "the case: its number, its name, or last",
 };
 
 // A new file for an image.

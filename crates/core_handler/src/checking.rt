@@ -3,6 +3,7 @@ use crate::config_file::Document;
 use crate::handling::{HANDLER_LIMIT, HANDLER_TEMPLATE, HandleWords};
 use crate::labels::escaped_label;
 use crate::log::KERNEL_LOG;
+use crate::outcome_lines::words_of;
 use archive_files::{Access, ArchivePath, Failure, Refusal, reason_of, shape_on, take_disk};
 use disk_model::Disk;
 use handler_config::{Burst, Config};
@@ -228,7 +229,13 @@ fn tell_refused<O: Output>(alloc: Global, reply: &mut Reply<'_, O>, what: &[u8],
     reply.tell(b"fault the archive ");
     reply.tell(what);
     reply.tell(b": ");
-    reply.tell(reason_of(alloc, refusal).text());
+    let reason = reason_of(alloc, refusal);
+    let words = words_of(alloc, refusal, reason.text());
+    reply.tell(reason.text());
+    if !words.text().is_empty() {
+        reply.tell(b": ");
+        reply.tell(words.text());
+    }
     reply.tell(b"\n");
 }
 
@@ -247,7 +254,11 @@ fn tell_blocks<O: Output>(reply: &mut Reply<'_, O>, config: &Config<'_>, shape: 
     reply.tell_decimal(wanted);
     reply.tell(b" wanted, ");
     reply.tell_decimal(u128::from(shape.data_blocks));
-    reply.tell(b" there\n");
+    reply.tell(if is_large {
+        b" there\n"
+    } else {
+        b" there: set a lower limit, or make it larger (corekeep resize)\n"
+    });
     is_large
 }
 

@@ -85,7 +85,7 @@ pub fn handle<R: AllocGlobal + Files<File = File> + Clock, I: Read, O: Output>(
     let handler = Handler { config, teller };
     tell_faults(rt, &handler, &words, &document);
     let Some(archive) = config.archive.or(words.archive) else {
-        handler.tell(rt, Level::Error, b"lost a core: no archive is named");
+        handler.tell_unnamed(rt, &words.begin);
         return Err(Failure::Refused(Refusal::File(FileWord::Archive, FileFault::Missing)));
     };
     let place = ArchivePath {
@@ -132,6 +132,20 @@ fn tell_faults<R: AllocGlobal + Files<File = File>>(
 impl<'a> Handler<'a> {
     fn tell<R: Files<File = File>>(&self, rt: &R, level: Level, text: &[u8]) {
         self.teller.tell(rt, level, text);
+    }
+
+    // Tells that a core is lost since no archive is named.
+    fn tell_unnamed<R: Files<File = File> + Clock>(&self, rt: &R, begin: &Vec<u8>) {
+        let mut line = Collected::new(self.teller.alloc);
+        let mut reply = Reply::new(&mut line);
+        reply.tell(b"lost ");
+        match self.request(rt, begin) {
+            Ok(request) => reply.tell(request.printed_name(self.teller.alloc).text()),
+            Err(_) => reply.tell(b"a core"),
+        }
+        reply.tell(b": no archive is named");
+        let _ = reply.finish();
+        self.tell(rt, Level::Error, line.text());
     }
 
     // What is stored, and by what. A template or a label that is faulty is told and left out, and so is a name.

@@ -1,5 +1,5 @@
 // What the replies of a store say of its outcome, for a log.
-use archive_files::Collected;
+use archive_files::{Collected, FileWord, Refusal};
 use command_words::meaning_of;
 use script_streams::Reply;
 use std::alloc::Global;
@@ -95,13 +95,35 @@ pub(crate) fn stored_line(
     line
 }
 
-// What is told of a core that is lost for this reason, and of the cases that were dropped even so.
+// What a refusal for this reason means, in words: of a file which one, and why it could not be opened.
+pub(crate) fn words_of(alloc: Global, refusal: Refusal, reason: &[u8]) -> Collected {
+    let mut words = Collected::new(alloc);
+    let mut reply = Reply::new(&mut words);
+    match file_text(alloc, refusal) {
+        Some(text) => reply.tell(text.as_bytes()),
+        None => reply.tell(meaning_of(reason)),
+    }
+    let _ = reply.finish();
+    words
+}
+
+fn file_text(alloc: Global, refusal: Refusal) -> Option<String> {
+    let text = match refusal {
+        Refusal::File(FileWord::Archive, fault) => format!(in alloc; "ARCHIVE: {fault}"),
+        Refusal::File(FileWord::File, fault) => format!(in alloc; "FILE: {fault}"),
+        _ => return None,
+    };
+    text.ok()
+}
+
+// What is told of a core that is lost for this reason, which means this, and of the cases that were dropped even so.
 pub(crate) fn lost_line(
     alloc: Global,
     replies: &[u8],
     name: &[u8],
     archive: &str,
     reason: &[u8],
+    words: &[u8],
 ) -> Collected {
     let mut line = Collected::new(alloc);
     let mut reply = Reply::new(&mut line);
@@ -111,7 +133,6 @@ pub(crate) fn lost_line(
     reply.tell_text(archive.as_bytes());
     reply.tell(b": no ");
     reply.tell(reason);
-    let words = meaning_of(reason);
     if !words.is_empty() {
         reply.tell(b": ");
         reply.tell(words);

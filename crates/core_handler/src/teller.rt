@@ -1,8 +1,9 @@
 // What becomes of a case that is stored, told to a log.
 use crate::examine::{Seen, look_at_case};
 use crate::log::{Level, Log};
-use crate::outcome_lines::{lost_line, outcome_of, stored_line};
+use crate::outcome_lines::{lost_line, outcome_of, stored_line, words_of};
 use archive_files::{ArchivePath, Collected, Failure, Held, StoreRequest, reason_of, store_file};
+use command_words::meaning_of;
 use disk_model::FileDisk;
 use inspector_cli::SessionFault;
 use script_streams::{Output, Reply, write_whole};
@@ -68,8 +69,9 @@ impl<'a> Teller<'a> {
         replies: &[u8],
         name: &[u8],
         reason: &[u8],
+        words: &[u8],
     ) {
-        let line = lost_line(self.alloc, replies, name, archive, reason);
+        let line = lost_line(self.alloc, replies, name, archive, reason, words);
         self.tell(rt, Level::Error, line.text());
     }
 
@@ -86,9 +88,10 @@ impl<'a> Teller<'a> {
         match ended {
             Err(Failure::Refused(refusal)) => {
                 let reason = reason_of(self.alloc, *refusal);
-                self.tell_lost(rt, archive, replies, name, reason.text());
+                let words = words_of(self.alloc, *refusal, reason.text());
+                self.tell_lost(rt, archive, replies, name, reason.text(), words.text());
             }
-            _ => self.tell_lost(rt, archive, replies, name, refused),
+            _ => self.tell_lost(rt, archive, replies, name, refused, meaning_of(refused)),
         }
     }
 
