@@ -7,6 +7,7 @@ ghost use Rattle.disk_model.specs.Gathers.{place_of, bytes_of};
 use crate::gathered::Gathered;
 use crate::raw_file::RawFile;
 use crate::{Disk, DiskFault, Gathering};
+use onlooker::{Onlooker, Trouble};
 use std::alloc::{AllocError, Global};
 use std::fs::{File, Permissions, TryLockError};
 use std::io;
@@ -111,17 +112,21 @@ impl FileDisk {
     /// system has room for all of its bytes from then on, and made durable, and so is its name in its folder. Only its
     /// owner may read and write it.
     ///
-    /// A file that was made stays where a later step fails. It never waits.
-    pub fn create<R: AllocGlobal + Files<File = File>>(
+    /// A file that was made stays where a later step fails. It never waits. The onlooker is told of each write.
+    pub fn create<R: AllocGlobal + Files<File = File>, W: Onlooker>(
         rt: &R,
         path: &str,
         length: u64,
+        onlooker: &mut W,
     ) -> Result<FileDisk, FileFault>
         ensures size { IfOk result (λ d. ⟦<FileDisk as Disk>⟧.size d ≡ length) }
         ensures uncounted { IfOk result (λ d. ⟦<FileDisk as Disk>⟧.failures d ≡ 0) }
     {
         let disk = made(rt, path, length)?;
-        write_zeros(disk.file(), length)?;
+        onlooker.begin("makes room", Some(length));
+        let written = write_zeros(disk.file(), length, onlooker);
+        onlooker.end();
+        written?;
         make_durable(rt, path, disk.file())?;
         Ok(disk)
     }
@@ -179,6 +184,11 @@ impl FileDisk {
         let front = length.min(self.disk.length());
         write_front(self.file(), front).map_err(|_| FileFault::Settle)?;
         self.file().sync_all().map_err(|_| FileFault::Settle)
+    }
+
+    /// The last call on the file that failed, of those that its methods as a disk made.
+    pub fn trouble(&self) -> Option<Trouble> {
+        self.disk.below().trouble()
     }
 
     // The file.
@@ -243,7 +253,7 @@ fn asked_for(tried: Result<(), TryLockError>) -> Result<(), FileFault> {
 }
 
 // Writes zeros over the whole file.
-fn write_zeros(file: &File, length: u64) -> Result<(), FileFault> {
+fn write_zeros<W: Onlooker>(file: &File, length: u64, onlooker: &mut W) -> Result<(), FileFault> {
     let zeros = [0u8; ZEROS];
     let mut at = 0u64;
     while at < length {
@@ -255,6 +265,7 @@ fn write_zeros(file: &File, length: u64) -> Result<(), FileFault> {
         };
         file.write_all_at(&zeros[..size], at)?;
         at += size as u64;
+        onlooker.advance(size as u64);
     }
     Ok(())
 }

@@ -5,6 +5,7 @@ ghost use Rattle.disk_model.specs.Disk.{HasCause};
 
 use crate::{Backing, Disk, DiskFault};
 use failure_count::after_failure;
+use onlooker::{Call, Trouble};
 use std::fs::File;
 use std::io;
 use std::os::unix::fs::FileExt;
@@ -16,6 +17,8 @@ pub(crate) struct RawFile {
     file: File,
     length: u64,
     failures: u64,
+    // The last call that failed.
+    trouble: Option<Trouble>,
     ghost small: { length < 2 ^ 64 },
 }
 
@@ -29,6 +32,7 @@ impl RawFile {
             file,
             length,
             failures: 0,
+            trouble: None,
         }
     }
 
@@ -37,16 +41,30 @@ impl RawFile {
         &self.file
     }
 
+    /// The last call that failed.
+    pub(crate) fn trouble(&self) -> Option<Trouble> {
+        self.trouble
+    }
+
     // Counts a failure where the call failed, which is answered as this fault.
-    fn counted(&mut self, outcome: io::Result<()>, fault: DiskFault) -> Result<(), DiskFault>
+    fn counted(
+        &mut self,
+        outcome: io::Result<()>,
+        call: Call,
+        fault: DiskFault,
+    ) -> Result<(), DiskFault>
         ensures outcome { is_ok result ≡ is_ok outcome }
         ensures cause { HasCause self.old.failures self.new.failures result }
         ensures kind { IsOkUnless result fault }
         ensures length { self.new.length ≡ self.old.length }
     {
-        if outcome.is_ok() {
+        let Err(error) = outcome else {
             return Ok(());
-        }
+        };
+        self.trouble = Some(Trouble {
+            call,
+            errno: error.raw_os_error(),
+        });
         self.failures = after_failure(self.failures);
         Err(fault)
     }
@@ -89,17 +107,17 @@ impl Disk for RawFile {
 
     fn read_at(&mut self, at: u64, into: &mut [u8]) -> Result<(), DiskFault> {
         let outcome = self.file.read_exact_at(into, at);
-        self.counted(outcome, DiskFault::Read)
+        self.counted(outcome, Call::Read, DiskFault::Read)
     }
 
     fn write_at(&mut self, at: u64, from: &[u8]) -> Result<(), DiskFault> {
         let outcome = self.file.write_all_at(from, at);
-        self.counted(outcome, DiskFault::Write)
+        self.counted(outcome, Call::Write, DiskFault::Write)
     }
 
     fn sync(&mut self) -> Result<(), DiskFault> {
         let outcome = self.file.sync_all();
-        self.counted(outcome, DiskFault::Sync)
+        self.counted(outcome, Call::Sync, DiskFault::Sync)
     }
 }
 

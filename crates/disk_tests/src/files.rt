@@ -1,5 +1,6 @@
 //! Disks in files, which lie in the folder for temporary files.
 use disk_model::{Disk, DiskFault, FileDisk, FileFault};
+use onlooker::Nobody;
 use std::fs::{File, TryLockError};
 use std::os::unix::fs::MetadataExt;
 use std::process::Abort;
@@ -31,7 +32,7 @@ fn created<R: AllocGlobal + Files<File = File>>(
     rt: &R,
     path: &str,
 ) -> Result<Result<(), FileFault>, Fail> {
-    match FileDisk::create(rt, path, 10) {
+    match FileDisk::create(rt, path, 10, &mut Nobody) {
         Ok(_) => Ok(Ok(())),
         Err(FileFault::OutOfMemory) => Err(Fail::from("there is no memory")),
         Err(fault) => Ok(Err(fault)),
@@ -67,7 +68,7 @@ fn put<D: Disk>(disk: &mut D, at: u64, bytes: &[u8; 3]) -> Result<(), Fail> {
 
 // Makes the file of a disk of ten bytes, of which the fourth to the sixth are 1, 2, 3.
 fn a_file<R: Abort + AllocGlobal + Files<File = File>>(rt: &R, path: &str) -> Result<(), Fail> {
-    let mut disk = FileDisk::create(rt, path, 10)?;
+    let mut disk = FileDisk::create(rt, path, 10, &mut Nobody)?;
     assert_eq!(rt; disk.length(), 10);
     put(&mut disk, 3, &[1, 2, 3])?;
     let mut bytes = [9u8; 5];
@@ -111,7 +112,7 @@ fn from_a_locked_file<R: Abort + AllocGlobal + Files<File = File>>(
 fn a_file_is_one_disks_at_a_time(rt: HostRuntime) -> Result<(), Fail> {
     let path = path_of(&rt, "lock")?;
     let path = path.as_str();
-    let disk = FileDisk::create(&rt, path, 10)?;
+    let disk = FileDisk::create(&rt, path, 10, &mut Nobody)?;
     assert_eq!(rt; created(&rt, path)?, Err(FileFault::Exists));
     assert_eq!(rt; opened(&rt, path)?, Err(FileFault::Busy));
     drop(disk);
@@ -188,7 +189,7 @@ fn has_room<R: Abort + AllocGlobal + Files<File = File>>(
     let disk = if is_sparse {
         FileDisk::create_sparse(rt, path, length)?
     } else {
-        FileDisk::create(rt, path, length)?
+        FileDisk::create(rt, path, length, &mut Nobody)?
     };
     let metadata = fs::metadata(rt, path)?;
     assert_eq!(rt; (disk.length(), metadata.len()), (length, length));

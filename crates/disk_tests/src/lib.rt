@@ -9,3 +9,5 @@ mod disks;
 mod files;
 #[cfg(test)]
 mod maps;
+#[cfg(test)]
+mod troubles;
