@@ -1,5 +1,5 @@
 -- What the program does over the archive on a disk, by the values that its words say.
-use Rattle.std.specs.Prelude.{◌≡◌, ◌⊎◌, ℕ, Bool, List, [], Option, None, Some, Result, Ok, Err, codes}
+use Rattle.std.specs.Prelude.{◌≡◌, ◌⊎◌, ℕ, Bool, false, List, [], Option, None, Some, Result, Ok, Err, codes}
 use Rattle.std.specs.Io.KnownBytes.{Keeps}
 use Rattle.disk_model.specs.declared.disk.Disk as disk
 use Rattle.inspector_cli.specs.Asking.{AsksAlone, as_session, line_streams}
@@ -71,6 +71,10 @@ name_found (Err reason) = codes "a core"
 -- the same request, or without its policy
 abbrev pub IsFitted : StoreRequest → StoreRequest → Type 0
 IsFitted request fitted = (fitted ≡ request) ⊎ (fitted ≡ record request { policy = None })
+
+-- the same request, or one for which no case goes
+abbrev pub IsSparing : StoreRequest → StoreRequest → Type 0
+IsSparing request fitted = (fitted ≡ request) ⊎ (fitted ≡ record request { policy = None; options = record request.options { fit = false } })
 
 -- The same of a file that is read ahead.
 abbrev pub StoresFile : {D : Type 0} → disk.Ghosts D → StoreRequest → Option (List ℕ) → Option (List ℕ) → Option (List ℕ) → ℕ → ℕ → D → Result (Unit {0}) Failure → D → Type 0

@@ -9,6 +9,7 @@ use crate::making::format_over;
 use crate::part_file::{clear, give_name, is_named, is_same, part_of};
 use disk_model::{Disk, FileDisk, FileFault};
 use journal_layout::Shape;
+use onlooker::Onlooker;
 use std::fs;
 use std::fs::{File, Metadata, TryLockError};
 use std::rt::Files;
@@ -40,16 +41,18 @@ pub struct NewArchive {
 
 /// Makes an archive in a new file. The shape is looked at before there is one. Until the archive is whole its file is called
 /// ARCHIVE.part, so that one that is stopped leaves nothing in the way.
-pub fn make_archive<R: AllocGlobal + Files<File = File>>(
+pub fn make_archive<R: AllocGlobal + Files<File = File>, W: Onlooker>(
     rt: &R,
     path: &str,
     wanted: NewArchive,
+    onlooker: &mut W,
 ) -> Result<(), Refusal> {
     let length = wanted.shape.length()?;
     let part = part_of(rt.alloc(), path)?;
     clear(rt, path, &part).map_err(|fault| Refusal::File(FileWord::Archive, fault))?;
-    let disk = make_file(rt, &part, length, wanted.is_sparse)?;
+    let disk = make_file(rt, &part, length, wanted.is_sparse, onlooker)?;
     let (formatted, disk) = format_over(rt.alloc(), disk, wanted);
+    tell_trouble(&disk, onlooker);
     if formatted.is_err() {
         let _ = fs::remove_file(rt, &part);
     }
@@ -61,16 +64,17 @@ pub fn make_archive<R: AllocGlobal + Files<File = File>>(
 }
 
 // Makes the file of an archive. One that can't be made whole is removed, unless another process made it.
-pub(crate) fn make_file<R: AllocGlobal + Files<File = File>>(
+pub(crate) fn make_file<R: AllocGlobal + Files<File = File>, W: Onlooker>(
     rt: &R,
     part: &str,
     length: u64,
     is_sparse: bool,
+    onlooker: &mut W,
 ) -> Result<FileDisk, Refusal> {
     let made = if is_sparse {
         FileDisk::create_sparse(rt, part, length)
     } else {
-        FileDisk::create(rt, part, length)
+        FileDisk::create(rt, part, length, onlooker)
     };
     made.map_err(|fault| {
         if fault != FileFault::Exists && fault != FileFault::Busy {
@@ -78,6 +82,13 @@ pub(crate) fn make_file<R: AllocGlobal + Files<File = File>>(
         }
         Refusal::File(FileWord::Archive, fault)
     })
+}
+
+/// Tells an onlooker of the last call on the disk's file that failed, if one has.
+pub fn tell_trouble<W: Onlooker>(disk: &FileDisk, onlooker: &mut W) {
+    if let Some(trouble) = disk.trouble() {
+        onlooker.fail(trouble);
+    }
 }
 
 /// Takes the disk of an archive in a file. This alone waits: for the file's lock, as long as another process has it, or, of

@@ -1,6 +1,6 @@
 // Archives, copied into new files.
 use crate::archive_path::ArchivePath;
-use crate::archives::{Access, make_file, take_disk};
+use crate::archives::{Access, make_file, take_disk, tell_trouble};
 use crate::copy_over::copy_disk;
 use crate::failures::{FileWord, Refusal};
 use crate::over_disk::look_over;
@@ -9,6 +9,9 @@ use archive_care::CopyWish;
 use archive_checks::shape_on;
 use disk_model::{FileDisk, FileFault};
 use journal_layout::Shape;
+use onlooker::Onlooker;
+use shown_progress::CountedDisk;
+use std::alloc::Global;
 use std::fs;
 use std::fs::File;
 use std::rt::Files;
@@ -28,17 +31,18 @@ pub struct CopyWords {
 
 /// Copies the archive in a file into a new file, which has its name only once it is whole and durable: until then it is called
 /// NEW.part. The archive's lock is shared meanwhile with others that only look.
-pub fn copy_archive_file<R: AllocGlobal + Files<File = File>>(
+pub fn copy_archive_file<R: AllocGlobal + Files<File = File>, W: Onlooker>(
     rt: &R,
     place: ArchivePath<'_>,
     new: &str,
     wanted: CopyWords,
+    onlooker: &mut W,
 ) -> Result<(), Refusal> {
     let from = take_disk(rt, place, Access::Looking)?;
     let part = part_of(rt.alloc(), new)?;
     clear(rt, new, &part).map_err(|fault| Refusal::File(FileWord::New, fault))?;
     // The locks of both files are kept until the new one has its name.
-    let (from, onto) = copy_part(rt, from, &part, wanted)?;
+    let (from, onto) = copy_part(rt, from, &part, wanted, onlooker)?;
     let named = give_name(rt, new, &part);
     drop(onto);
     drop(from);
@@ -47,15 +51,16 @@ pub fn copy_archive_file<R: AllocGlobal + Files<File = File>>(
 
 /// Copies the archive in a file into a file in the same folder, which takes its place once it is whole and durable. The archive's lock is held
 /// alone meanwhile: whoever waits for it finds the new file. The new file has the owner and the mode of the old one.
-pub fn resize_archive_file<R: AllocGlobal + Files<File = File>>(
+pub fn resize_archive_file<R: AllocGlobal + Files<File = File>, W: Onlooker>(
     rt: &R,
     place: ArchivePath<'_>,
     wanted: CopyWords,
+    onlooker: &mut W,
 ) -> Result<(), Refusal> {
     let from = take_disk(rt, place, Access::Changing)?;
     let part = part_of(rt.alloc(), place.path)?;
     clear_part(rt, &part).map_err(|fault| Refusal::File(FileWord::Archive, fault))?;
-    let (from, onto) = copy_part(rt, from, &part, wanted)?;
+    let (from, onto) = copy_part(rt, from, &part, wanted, onlooker)?;
     let placed = take_place(rt, place.path, &part);
     drop(onto);
     drop(from);
@@ -63,11 +68,12 @@ pub fn resize_archive_file<R: AllocGlobal + Files<File = File>>(
 }
 
 // Copies the archive on a disk into a new file of this name, and gives both disks. A copy that fails leaves no file.
-fn copy_part<R: AllocGlobal + Files<File = File>>(
+fn copy_part<R: AllocGlobal + Files<File = File>, W: Onlooker>(
     rt: &R,
     from: FileDisk,
     part: &str,
     wanted: CopyWords,
+    onlooker: &mut W,
 ) -> Result<(FileDisk, FileDisk), Refusal> {
     let (looked, from) = look_over(rt.alloc(), from, 0);
     looked?;
@@ -77,13 +83,30 @@ fn copy_part<R: AllocGlobal + Files<File = File>>(
     };
     let wish = wish_of(wanted, shape);
     let length = wish.shape.length()?;
-    let onto = make_file(rt, part, length, wanted.is_sparse)?;
-    let (copied, from, onto) = copy_disk(rt.alloc(), from, onto, wish);
+    let onto = make_file(rt, part, length, wanted.is_sparse, onlooker)?;
+    let (copied, from, onto) = copy_counted(rt.alloc(), from, onto, wish, onlooker);
     if copied.is_err() {
         let _ = fs::remove_file(rt, part);
     }
     copied?;
     Ok((from, onto))
+}
+
+// Copies the archive on a disk onto a new disk, and gives both disks.
+fn copy_counted<W: Onlooker>(
+    alloc: Global,
+    from: FileDisk,
+    onto: FileDisk,
+    wish: CopyWish,
+    onlooker: &mut W,
+) -> (Result<(), Refusal>, FileDisk, FileDisk) {
+    onlooker.begin("copies", None);
+    let (copied, from, onto) = copy_disk(alloc, CountedDisk::new(from, onlooker), onto, wish);
+    let from = from.into_disk();
+    onlooker.end();
+    tell_trouble(&from, onlooker);
+    tell_trouble(&onto, onlooker);
+    (copied, from, onto)
 }
 
 // What is wished for, of an archive of this shape.

@@ -1,15 +1,18 @@
 // A file as a case of an archive.
 ghost use Rattle.std.specs.Prelude.{◌≡◌};
-ghost use Rattle.archive_files.specs.OverDisks.{IsFitted};
 ghost use Rattle.archive_files.specs.Taken.{StoresTaken, RefusesTaken, refused_after};
 
 use crate::archive_path::ArchivePath;
-use crate::archives::{Access, take_disk};
+use crate::archives::{Access, take_disk, tell_trouble};
 use crate::failures::{Failure, FileWord, Refusal};
 use crate::over_disk::look_over;
 use crate::storing::{StoreRequest, store_from};
+use archive_checks::shape_on;
 use disk_model::{Disk, FileDisk, FileFault};
+use journal_layout::BLOCK;
+use onlooker::Onlooker;
 use script_streams::Output;
+use shown_progress::CountedInput;
 use std::alloc::Global;
 use std::fs::File;
 use std::io::Read;
@@ -18,27 +21,50 @@ use std::rt::Files;
 /// Stores a file, or the standard input, and hands the archive's disk on, if it was taken. The file is opened before the archive's
 /// lock is taken, so that a pipe that nobody writes to keeps no other process waiting; yet what is wrong with the archive is told
 /// first.
-pub fn store_file<R: AllocGlobal + Files<File = File>, I: Read, O: Output>(
+pub fn store_file<R: AllocGlobal + Files<File = File>, I: Read, O: Output, W: Onlooker>(
     rt: &R,
     place: ArchivePath<'_>,
     file: &str,
     request: StoreRequest,
     input: &mut I,
     output: &mut O,
+    onlooker: &mut W,
 ) -> (Result<(), Failure>, Option<FileDisk>) {
     if file == "-" {
         let taken = take_disk(rt, place, Access::Changing);
-        return store_taken(rt.alloc(), taken, request, input, output);
+        return store_counted(rt.alloc(), taken, request, None, input, output, onlooker);
     }
     let opened = File::open(rt, file);
     let taken = take_disk(rt, place, Access::Changing);
     match opened {
         Ok(mut file) => {
-            let request = fitted_to(request, &file);
-            store_taken(rt.alloc(), taken, request, &mut file, output)
+            let mut taken = taken;
+            let length = length_of(&file);
+            let request = request.of_length(length, room_in(&mut taken));
+            store_counted(rt.alloc(), taken, request, length, &mut file, output, onlooker)
         }
         Err(error) => refuse_taken(rt.alloc(), taken, request.limit(), FileFault::from(error)),
     }
+}
+
+// Stores what a reader gives, of which this may be the length, and hands the archive's disk on, if that was taken.
+fn store_counted<I: Read, O: Output, W: Onlooker>(
+    alloc: Global,
+    taken: Result<FileDisk, Refusal>,
+    request: StoreRequest,
+    length: Option<u64>,
+    input: &mut I,
+    output: &mut O,
+    onlooker: &mut W,
+) -> (Result<(), Failure>, Option<FileDisk>) {
+    onlooker.begin("stores", length);
+    let mut counted = CountedInput::new(input, onlooker);
+    let (ended, disk) = store_taken(alloc, taken, request, &mut counted, output);
+    onlooker.end();
+    if let Some(disk) = &disk {
+        tell_trouble(disk, onlooker);
+    }
+    (ended, disk)
 }
 
 /// Stores what a reader gives in the archive on a disk, if that was taken, and hands the disk on; or tells why it was not.
@@ -88,17 +114,19 @@ fn refused_after(looked: Result<(), Refusal>, fault: FileFault) -> Result<(), Fa
     }
 }
 
-// The request for a file. Nothing is retired for one that is known to be refused for its length.
-fn fitted_to(request: StoreRequest, file: &File) -> StoreRequest
-    ensures { IsFitted request result }
-{
-    let is_refused = match file.metadata() {
-        Ok(attributes) => attributes.is_file() && request.is_too_long(attributes.len()),
-        Err(_) => false,
-    };
-    if is_refused {
-        request.without_retiring()
-    } else {
-        request
+// The length of what is a file with an end.
+fn length_of(file: &File) -> Option<u64> {
+    match file.metadata() {
+        Ok(attributes) if attributes.is_file() => Some(attributes.len()),
+        _ => None,
     }
+}
+
+// How many bytes an archive's data may take, if a disk was taken and its superblock tells.
+fn room_in<D: Disk>(taken: &mut Result<D, Refusal>) -> Option<u64> {
+    let Ok(disk) = taken else {
+        return None;
+    };
+    let shape = shape_on(disk)?;
+    Some(u64::from(shape.data_blocks) * BLOCK)
 }

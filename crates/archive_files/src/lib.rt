@@ -24,7 +24,7 @@ mod unsent;
 
 pub use archive_checks::shape_on;
 pub use archive_path::ArchivePath;
-pub use archives::{Access, NewArchive, make_archive, names_output, take_disk};
+pub use archives::{Access, NewArchive, make_archive, names_output, take_disk, tell_trouble};
 pub use asking::{ask_looked, unasked};
 pub use checks::check;
 pub use collected::Collected;

@@ -5,13 +5,14 @@ ghost use Rattle.salvage.specs.Readings.{FoundWithin};
 ghost use Rattle.archive_files.specs.Salvaging.{SalvagesOnto};
 
 use crate::archive_path::ArchivePath;
-use crate::archives::{Access, make_file, take_file};
+use crate::archives::{Access, make_file, take_file, tell_trouble};
 use crate::copy_over::copy_refusal;
 use crate::failures::{Failure, FileWord, Refusal};
 use crate::part_file::{clear, give_name, part_of};
 use archive_care::CopyWish;
 use disk_model::{Disk, DiskFault, FileDisk, FileFault};
 use inspector_cli::SessionFault;
+use onlooker::Onlooker;
 use salvage::{Found, Source, copy_cases, find_cases, tell_cases};
 use script_streams::Output;
 use std::alloc::Global;
@@ -67,15 +68,16 @@ impl Source for ReadFile {
 /// Copies the cases of the archive in a file into a new file, as far as its records can be read, and tells the first fault and of each
 /// case whether it is whole. The archive's file is opened for reading, and its lock is shared meanwhile with others that only look. The
 /// new file has its name only once it is whole and durable: until then it is called NEW.part.
-pub fn salvage<R: AllocGlobal + Files<File = File>, O: Output>(
+pub fn salvage<R: AllocGlobal + Files<File = File>, O: Output, W: Onlooker>(
     rt: &R,
     place: ArchivePath<'_>,
     new: &str,
     output: &mut O,
+    onlooker: &mut W,
 ) -> Result<(), Failure> {
     let source = open_source(rt, place)?;
     let found = find_cases(rt.alloc(), &source).map_err(Refusal::Open)?;
-    put_cases(rt, &source, &found, new)?;
+    put_cases(rt, &source, &found, new, onlooker)?;
     if tell_cases(&found, output) {
         return Ok(());
     }
@@ -91,19 +93,21 @@ fn open_source<R: AllocGlobal + Files<File = File>>(
 }
 
 // Copies the cases that were found into a new file. A copy that fails leaves no file.
-fn put_cases<R: AllocGlobal + Files<File = File>>(
+fn put_cases<R: AllocGlobal + Files<File = File>, W: Onlooker>(
     rt: &R,
     source: &ReadFile,
     found: &Found,
     new: &str,
+    onlooker: &mut W,
 ) -> Result<(), Refusal>
     requires { FoundWithin source.now.length found.now }
 {
     let part = part_of(rt.alloc(), new)?;
     clear(rt, new, &part).map_err(|fault| Refusal::File(FileWord::New, fault))?;
     let length = found.shape().length()?;
-    let onto = make_file(rt, &part, length, false)?;
+    let onto = make_file(rt, &part, length, false, onlooker)?;
     let (copied, onto) = salvage_onto(rt.alloc(), source, found, onto);
+    tell_trouble(&onto, onlooker);
     if copied.is_err() {
         let _ = fs::remove_file(rt, &part);
     }

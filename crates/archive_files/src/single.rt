@@ -5,62 +5,83 @@ ghost use Rattle.script_lines.specs.Said.{only_looks};
 ghost use Rattle.archive_files.specs.Told.{access_by};
 
 use crate::archive_path::ArchivePath;
-use crate::archives::{Access, take_disk};
+use crate::archives::{Access, take_disk, tell_trouble};
 use crate::asking::ask_looked;
 use crate::failures::{Failure, FileWord, Refusal};
 use crate::held::Held;
 use crate::looking::take_look;
-use crate::over_disk::{CaseNumber, ask_over, copy_over};
+use crate::over_disk::{CaseNumber, Unfinished, ask_over, copy_over};
 use crate::part_file::{begin, give_name, part_of};
 use disk_model::FileFault;
 use inspector_cli::{Question, SessionFault};
+use onlooker::Onlooker;
 use script_streams::{Output, WriteOutput};
+use shown_progress::CountedOutput;
 use std::fs;
 use std::fs::File;
 use std::io::ErrorKind;
 use std::rt::Files;
 
 /// Writes the image of a case to the output, or to a new file, which is durable then.
-pub fn extract<R: AllocGlobal + Files<File = File>, O: Output>(
+pub fn extract<R: AllocGlobal + Files<File = File>, O: Output, W: Onlooker>(
     rt: &R,
     place: ArchivePath<'_>,
     case: &str,
     file: Option<&str>,
     output: &mut O,
+    onlooker: &mut W,
 ) -> Result<(), Failure> {
     let Some(case) = CaseNumber::of(case.as_bytes()) else {
         return Err(Failure::Aside(Refusal::BadLine));
     };
     match file {
-        None => extract_to(rt, place, case, output),
-        Some(path) => extract_to_file(rt, place, case, path),
+        None => extract_to(rt, place, case, output, onlooker),
+        Some(path) => extract_to_file(rt, place, case, path, onlooker),
     }
 }
 
 // What is written is known to be the image once the case is found again: the status says so.
-fn extract_to<R: AllocGlobal + Files<File = File>, O: Output>(
+fn extract_to<R: AllocGlobal + Files<File = File>, O: Output, W: Onlooker>(
     rt: &R,
     place: ArchivePath<'_>,
     case: CaseNumber,
     output: &mut O,
+    onlooker: &mut W,
 ) -> Result<(), Failure> {
-    let copied = copy_over(rt.alloc(), take_look(rt, place), case, output);
+    let copied = copy_counted(rt, place, case, output, onlooker);
     copied.map_err(|unfinished| unfinished.failure)
+}
+
+// Copies the image of a case to an output.
+fn copy_counted<R: AllocGlobal + Files<File = File>, O: Output, W: Onlooker>(
+    rt: &R,
+    place: ArchivePath<'_>,
+    case: CaseNumber,
+    output: &mut O,
+    onlooker: &mut W,
+) -> Result<(), Unfinished> {
+    let looked = take_look(rt, place);
+    onlooker.begin("extracts", None);
+    let mut counted = CountedOutput::new(output, onlooker);
+    let copied = copy_over(rt.alloc(), looked, case, &mut counted);
+    onlooker.end();
+    copied
 }
 
 // FILE has its name only once it is whole and synced, and the case was found again. Until then it is called FILE.part. What was
 // written stays there, whatever failed after it. If nothing was written, or the case is not known to have been there all the time,
 // it is removed.
-fn extract_to_file<R: AllocGlobal + Files<File = File>>(
+fn extract_to_file<R: AllocGlobal + Files<File = File>, W: Onlooker>(
     rt: &R,
     place: ArchivePath<'_>,
     case: CaseNumber,
     path: &str,
+    onlooker: &mut W,
 ) -> Result<(), Failure> {
     let part = part_of(rt.alloc(), path).map_err(|_| Failure::Aside(Refusal::OutOfMemory))?;
     let file = begin(rt, path, &part).map_err(|fault| refused_file(fault))?;
     let mut output = WriteOutput::new(file);
-    let done = copy_over(rt.alloc(), take_look(rt, place), case, &mut output);
+    let done = copy_counted(rt, place, case, &mut output, onlooker);
     let why = output.fault();
     let file = output.into_inner();
     match done {
@@ -100,28 +121,31 @@ fn is_empty(file: &File) -> bool {
 }
 
 /// Answers one question. If it only looks, others may change the archive while its images are read and its reply is written.
-pub fn ask<R: AllocGlobal + Files<File = File>, O: Output>(
+pub fn ask<R: AllocGlobal + Files<File = File>, O: Output, W: Onlooker>(
     rt: &R,
     place: ArchivePath<'_>,
     question: Question,
     output: &mut O,
+    onlooker: &mut W,
 ) -> Result<(), Failure> {
     match access_of(&question) {
         Access::Looking => ask_looked(rt.alloc(), take_look(rt, place), question, output),
-        Access::Changing => ask_locked(rt, place, question, output),
+        Access::Changing => ask_locked(rt, place, question, output, onlooker),
     }
 }
 
 // Answers one question with the archive's lock, and writes its reply once the archive is let go.
-fn ask_locked<R: AllocGlobal + Files<File = File>, O: Output>(
+fn ask_locked<R: AllocGlobal + Files<File = File>, O: Output, W: Onlooker>(
     rt: &R,
     place: ArchivePath<'_>,
     question: Question,
     output: &mut O,
+    onlooker: &mut W,
 ) -> Result<(), Failure> {
     let disk = take_disk(rt, place, Access::Changing)?;
     let mut reply = Held::new(rt.alloc(), output);
     let (asked, disk) = ask_over(rt.alloc(), disk, question, &mut reply);
+    tell_trouble(&disk, onlooker);
     drop(disk);
     let Ok(()) = reply.finish() else {
         return Err(Failure::Faulted(SessionFault::WriteFailed));

@@ -1,5 +1,5 @@
 // What `store` does over the archive on a disk.
-ghost use Rattle.std.specs.Prelude.{◌≡◌, None};
+ghost use Rattle.std.specs.Prelude.{◌≡◌, None, false};
 ghost use Rattle.std.specs.Option.{option_map};
 ghost use Rattle.std.specs.Io.KnownBytes.{Keeps};
 ghost use Rattle.script_lines.specs.Said.{said};
@@ -7,7 +7,7 @@ ghost use Rattle.stream_names.specs.Commands.{stream_found};
 ghost use Rattle.inspector_cli.specs.Session.{streams_of};
 ghost use Rattle.inspector_cli.specs.Storing.{line_stream};
 ghost use Rattle.script_streams.specs.Replies.{TellsText, telling};
-ghost use Rattle.archive_files.specs.OverDisks.{StoresOnDisk, StoresFile, IsFitted, name_found, reason_found};
+ghost use Rattle.archive_files.specs.OverDisks.{StoresOnDisk, StoresFile, IsFitted, IsSparing, name_found, reason_found};
 ghost use Rattle.archive_files.specs.Telling.{IsKeptAs};
 
 use crate::collected::Collected;
@@ -104,6 +104,43 @@ impl StoreRequest {
         StoreRequest {
             policy: None,
             ..self
+        }
+    }
+
+    /// The request for a stream of so many bytes, if that is known, in an archive whose data takes at most so many. No case goes for
+    /// a stream that is refused whichever go.
+    pub fn of_length(self, length: Option<u64>, most: Option<u64>) -> Self
+        ensures { IsSparing self result }
+    {
+        let Some(length) = length else {
+            return self;
+        };
+        if self.is_too_long(length) || self.is_over(length, most) {
+            self.sparing()
+        } else {
+            self
+        }
+    }
+
+    // No case goes.
+    fn sparing(self) -> Self
+        ensures { result ≡ record self { policy = None; options = record self.options { fit = false } } }
+    {
+        StoreRequest {
+            policy: None,
+            options: StoreOptions {
+                fit: false,
+                ..self.options
+            },
+            ..self
+        }
+    }
+
+    // A stream of so many bytes finds no room among so many, and may not be cut.
+    fn is_over(&self, length: u64, most: Option<u64>) -> bool {
+        match most {
+            Some(most) => self.options.cut.is_none() && length > most,
+            None => false,
         }
     }
 

@@ -4,6 +4,7 @@ use archive_files::{ArchivePath, Collected, Failure, ask};
 use case_listing::ask_case;
 use case_screens::{Answer, refusal_json, reply_lines, rows_json};
 use line_help::rows_of;
+use onlooker::Onlooker;
 use script_lines::Question;
 use script_streams::Output;
 use std::alloc::Global;
@@ -16,18 +17,19 @@ use std::rt::Files;
 /// # Errors
 ///
 /// `Refused` with `NoLine` if it is no such line. Those of `ask` of `archive_files`.
-pub fn ask_rows<R: AllocGlobal + Files<File = File>, O: Output>(
+pub fn ask_rows<R: AllocGlobal + Files<File = File>, O: Output, W: Onlooker>(
     rt: &R,
     place: ArchivePath<'_>,
     words: &[&str],
     question: Option<Question>,
     output: &mut O,
+    onlooker: &mut W,
 ) -> Result<(), Failure> {
     let alloc = rt.alloc();
     let mut reply = Collected::new(alloc);
     let asked = match question {
-        Some(question) => ask(rt, place, question, &mut reply),
-        None => ask_case(rt, place, words, &mut reply),
+        Some(question) => ask(rt, place, question, &mut reply, onlooker),
+        None => ask_case(rt, place, words, &mut reply, onlooker),
     };
     let done = match asked {
         Ok(()) => tell_rows(alloc, words, reply.text(), output),

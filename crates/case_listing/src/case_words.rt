@@ -9,6 +9,7 @@ use case_tables::number_named;
 use command_words::line_of;
 use disk_model::Disk;
 use intake::{Archive, ArchiveFault, Settings};
+use onlooker::Onlooker;
 use script_lines::{Question, parse_question};
 use script_streams::Output;
 use script_words::{parse_number, print_decimal};
@@ -94,20 +95,21 @@ fn number_found(number: Option<u32>) -> Result<u32, Refusal>
 ///
 /// Those of `extract` of `archive_files`. If the word is no number, what the look at the archive is refused for, and `NoCase` if no case
 /// has this name.
-pub fn extract_case<R: AllocGlobal + Files<File = File>, O: Output>(
+pub fn extract_case<R: AllocGlobal + Files<File = File>, O: Output, W: Onlooker>(
     rt: &R,
     place: ArchivePath<'_>,
     case: &str,
     file: Option<&str>,
     output: &mut O,
+    onlooker: &mut W,
 ) -> Result<(), Failure> {
     if is_number(case) {
-        return extract(rt, place, case, file, output);
+        return extract(rt, place, case, file, output, onlooker);
     }
     let number = number_of(rt, place, case).map_err(|refusal| Failure::Aside(refusal))?;
     let digits = print_decimal(u128::from(number));
     match str::from_utf8(digits.as_slice()) {
-        Ok(number) => extract(rt, place, number, file, output),
+        Ok(number) => extract(rt, place, number, file, output, onlooker),
         Err(_) => Err(Failure::Aside(Refusal::BadLine)),
     }
 }
@@ -117,17 +119,18 @@ pub fn extract_case<R: AllocGlobal + Files<File = File>, O: Output>(
 /// # Errors
 ///
 /// Those of `ask` of `archive_files`. Before, what the look at the archive is refused for, and `NoCase` if no case has this name.
-pub fn ask_case<R: AllocGlobal + Files<File = File>, O: Output>(
+pub fn ask_case<R: AllocGlobal + Files<File = File>, O: Output, W: Onlooker>(
     rt: &R,
     place: ArchivePath<'_>,
     words: &[&str],
     output: &mut O,
+    onlooker: &mut W,
 ) -> Result<(), Failure> {
     let name = words.get(1).copied().unwrap_or("");
     let digits = print_decimal(u128::from(number_of(rt, place, name)?));
     let number = str::from_utf8(digits.as_slice()).unwrap_or("");
     match numbered(rt.alloc(), words, number)? {
-        Some(question) => ask(rt, place, question, output),
+        Some(question) => ask(rt, place, question, output, onlooker),
         None => Err(Failure::Refused(Refusal::BadLine)),
     }
 }

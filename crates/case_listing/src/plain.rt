@@ -4,6 +4,7 @@ ghost use Rattle.case_listing.specs.Plain.{DeliversPlain};
 use crate::case_words::ask_case;
 use archive_files::{ArchivePath, Collected, Failure, ask};
 use inspector_cli::SessionFault;
+use onlooker::Onlooker;
 use plain_replies::send_plain;
 use script_lines::Question;
 use script_streams::Output;
@@ -16,17 +17,18 @@ use std::rt::Files;
 /// # Errors
 ///
 /// Those of `ask` and of `ask_case`. `WriteFailed` too if there is no memory to hold the reply: a front of it is told.
-pub fn ask_plain<R: AllocGlobal + Files<File = File>, O: Output>(
+pub fn ask_plain<R: AllocGlobal + Files<File = File>, O: Output, W: Onlooker>(
     rt: &R,
     place: ArchivePath<'_>,
     words: &[&str],
     question: Option<Question>,
     output: &mut O,
+    onlooker: &mut W,
 ) -> Result<(), Failure> {
     let mut reply = Collected::new(rt.alloc());
     let asked = match question {
-        Some(question) => ask(rt, place, question, &mut reply),
-        None => ask_case(rt, place, words, &mut reply),
+        Some(question) => ask(rt, place, question, &mut reply, onlooker),
+        None => ask_case(rt, place, words, &mut reply, onlooker),
     };
     deliver_plain(reply.text(), asked, output)
 }

@@ -112,12 +112,15 @@ pub(crate) struct SessionWords<'a> {
     pub(crate) limit: u64,
 }
 
-// What the words ask for.
-pub(crate) fn read_words<'a>(alloc: Global, words: &'a [String]) -> Result<Asked<'a>, Ending> {
+// What the words ask for, and whether nothing is to be shown meanwhile.
+pub(crate) fn read_words<'a>(
+    alloc: Global,
+    words: &'a [String],
+) -> Result<(Asked<'a>, bool), Ending> {
     let matches = program(alloc)?.try_get_matches_from(words)?;
     match matches.subcommand() {
-        Some((name, found)) => Ok(asked_of(alloc, name, found)?),
-        None => Ok(Asked::Nothing),
+        Some((name, found)) => Ok((asked_of(alloc, name, found)?, found.get_flag("quiet"))),
+        None => Ok((Asked::Nothing, true)),
     }
 }
 

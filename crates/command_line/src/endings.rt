@@ -3,8 +3,9 @@ ghost use Rattle.std.specs.Prelude.{◌≡◌, ◌≤◌};
 
 use archive_files::{Failure, Refusal, reason_of, tell_failure};
 use clap::error::ErrorKind;
-use command_words::{meaning_of, tell_how_it_is_asked};
+use command_words::{meaning_of, tell_how_it_is_asked, tell_meaning};
 use line_help::LineHelp;
+use onlooker::Trouble;
 use script_streams::{Output, Reply, write_whole};
 use std::alloc::{AllocError, Global};
 
@@ -61,6 +62,8 @@ pub(crate) struct Clues<'a> {
     pub(crate) last_line: &'a [u8],
     // The line of a script that the words begin with.
     pub(crate) line: Option<&'static LineHelp>,
+    // The last call on an archive's file that failed.
+    pub(crate) trouble: Option<Trouble>,
 }
 
 // Says why the program ends so, and answers its status. What a reason means is told to people. Help is no failure: it goes to the
@@ -78,23 +81,23 @@ pub(crate) fn tell_ending<O: Output, E: Output>(
     match ending {
         Ending::Words(error) => tell_words(alloc, error, clues.line, output, errors),
         Ending::Failed(failure) => {
-            tell_meaning(alloc, failure, clues.last_line, errors);
+            tell_why(alloc, failure, clues, errors);
             tell_failure(alloc, failure, output, errors)
         }
     }
 }
 
 // Tells people what the reason of a refusal means.
-fn tell_meaning<E: Output>(alloc: Global, failure: &Failure, last_line: &[u8], errors: &mut E) {
+fn tell_why<E: Output>(alloc: Global, failure: &Failure, clues: Clues<'_>, errors: &mut E) {
     match failure {
         Failure::Refused(refusal) | Failure::Aside(refusal) => {
             if !is_told(*refusal) {
-                tell_words_of(reason_of(alloc, *refusal).text(), errors);
+                tell_words_of(reason_of(alloc, *refusal).text(), clues.trouble, errors);
             }
         }
         Failure::Told => {
-            if let Some(reason) = reason_in(last_line) {
-                tell_words_of(reason, errors);
+            if let Some(reason) = reason_in(clues.last_line) {
+                tell_words_of(reason, clues.trouble, errors);
             }
         }
         _ => {}
@@ -120,14 +123,13 @@ fn is_told(refusal: Refusal) -> bool {
 }
 
 // Tells what a reason means, if there are words for it.
-fn tell_words_of<E: Output>(reason: &[u8], errors: &mut E) {
-    let words = meaning_of(reason);
-    if words.is_empty() {
+fn tell_words_of<E: Output>(reason: &[u8], trouble: Option<Trouble>, errors: &mut E) {
+    if meaning_of(reason).is_empty() {
         return;
     }
     let mut reply = Reply::new(errors);
     reply.tell(b"corekeep: ");
-    reply.tell(words);
+    tell_meaning(&mut reply, reason, trouble);
     reply.tell(b"\n");
     let _ = reply.finish();
 }

@@ -7,7 +7,7 @@ use crate::asked::{Asked, SessionWords, read_words};
 use crate::endings::{Clues, Ending, tell_ending};
 use archive_files::{
     Access, ArchivePath, Collected, Failure, Refusal, StoreRequest, ask, check, copy_archive_file,
-    look, make_archive, names_output, resize_archive_file, run_over, salvage, take_disk,
+    look, make_archive, names_output, resize_archive_file, run_over, salvage, take_disk, tell_trouble,
 };
 use case_info::{InfoWords, ask_rows, info_archive, info_case};
 use case_listing::{ask_case, ask_plain, extract_case, list, would_retire};
@@ -19,32 +19,36 @@ use inspector_cli::{Naming, memory_session};
 use intake::Settings;
 use journal_layout::Shape;
 use name_template::Template;
+use onlooker::Onlooker;
 use script_lines::Question;
 use script_streams::{Output, ReadInput};
+use shown_progress::Listener;
 use std::fs::File;
 use std::io::Read;
 use std::rt::{Env, Files};
 use std::time::Clock;
 
 /// The program but for its standard streams, which its `main` hands in. Its words are those of the process, of any bytes.
-/// It answers the status that the program ends with, as `run_words` does.
+/// It answers the status that the program ends with, as `run_words` does. An onlooker is told how far it is.
 pub fn run_program<
     R: Env + AllocGlobal + Files<File = File> + Clock,
     I: Read,
     O: Output,
     E: Output,
->(rt: &R, input: &mut I, output: &mut O, errors: &mut E) -> u8
+    W: Onlooker,
+>(rt: &R, input: &mut I, output: &mut O, errors: &mut E, onlooker: &mut W) -> u8
     ensures most { result ≤ 2 }
     ensures quiet { result ≡ 0 → IsQuietButForANote E.Output errors.old errors.new }
 {
     match words_of(rt) {
-        Ok(words) => run_words(rt, words.as_slice(), input, output, errors),
+        Ok(words) => run_words(rt, words.as_slice(), input, output, errors, onlooker),
         Err(_) => tell_ending(
             rt.alloc(),
             &Ending::from(Refusal::OutOfMemory),
             Clues {
                 last_line: b"",
                 line: None,
+                trouble: None,
             },
             output,
             errors,
@@ -85,12 +89,21 @@ pub fn run_program<
 /// `errors`), or the session ends before its script, with one line `fault NAME` on `errors`; 2 where the words are refused,
 /// with the reason on `errors`. Help goes to `output`, and the status is 0 then. What is refused is looked for in this
 /// order: the words, the template, the shape, ARCHIVE, FILE.
-pub fn run_words<R: AllocGlobal + Files<File = File> + Clock, I: Read, O: Output, E: Output>(
+///
+/// An onlooker is told how far `format`, `store`, `extract`, `copy`, `resize` and `salvage` are, unless `--quiet` is there.
+pub fn run_words<
+    R: AllocGlobal + Files<File = File> + Clock,
+    I: Read,
+    O: Output,
+    E: Output,
+    W: Onlooker,
+>(
     rt: &R,
     words: &[String],
     input: &mut I,
     output: &mut O,
     errors: &mut E,
+    onlooker: &mut W,
 ) -> u8
     // The status. If it is 0, nothing was written to the errors, but for a note on the case that `store` stored.
     ensures most { result ≤ 2 }
@@ -99,7 +112,9 @@ pub fn run_words<R: AllocGlobal + Files<File = File> + Clock, I: Read, O: Output
 {
     let mut watched = Watched::new(output);
     let mut note = Collected::new(rt.alloc());
-    let answered = answer_words(rt, words, input, &mut watched, &mut note);
+    let mut listener = Listener::new(onlooker);
+    let answered = answer_words(rt, words, input, &mut watched, &mut note, &mut listener);
+    let trouble = listener.trouble();
     let line = watched.into_line();
     tell_note(words, note.text(), errors);
     match answered {
@@ -108,6 +123,7 @@ pub fn run_words<R: AllocGlobal + Files<File = File> + Clock, I: Read, O: Output
             let clues = Clues {
                 last_line: line.text(),
                 line: line_in_place_of_a_command(words),
+                trouble,
             };
             tell_ending(rt.alloc(), &ending, clues, output, errors)
         }
@@ -115,12 +131,18 @@ pub fn run_words<R: AllocGlobal + Files<File = File> + Clock, I: Read, O: Output
 }
 
 // Does what the words ask for, unless what is told of it would overwrite a file that they name.
-fn answer_words<R: AllocGlobal + Files<File = File> + Clock, I: Read, O: Output>(
+fn answer_words<
+    R: AllocGlobal + Files<File = File> + Clock,
+    I: Read,
+    O: Output,
+    W: Onlooker,
+>(
     rt: &R,
     words: &[String],
     input: &mut I,
     output: &mut O,
     note: &mut Collected,
+    listener: &mut Listener<'_, W>,
 ) -> Result<(), Ending> {
     if names_output(rt, words) {
         return Err(Ending::Failed(Failure::Aside(Refusal::Output)));
@@ -134,7 +156,12 @@ fn answer_words<R: AllocGlobal + Files<File = File> + Clock, I: Read, O: Output>
         None => words,
     };
     match read_words(rt.alloc(), words) {
-        Ok(asked) => Ok(answer_asked(rt, asked, input, output, note)?),
+        Ok((asked, is_quiet)) => {
+            if is_quiet {
+                listener.hush();
+            }
+            Ok(answer_asked(rt, asked, input, output, note, listener)?)
+        }
         Err(ending) => {
             if ordered.is_some() && ending.is_refusal() {
                 tell_lost_words(rt);
@@ -145,16 +172,22 @@ fn answer_words<R: AllocGlobal + Files<File = File> + Clock, I: Read, O: Output>
 }
 
 // Does what is asked for.
-fn answer_asked<R: AllocGlobal + Files<File = File> + Clock, I: Read, O: Output>(
+fn answer_asked<
+    R: AllocGlobal + Files<File = File> + Clock,
+    I: Read,
+    O: Output,
+    W: Onlooker,
+>(
     rt: &R,
     asked: Asked<'_>,
     input: &mut I,
     output: &mut O,
     note: &mut Collected,
+    onlooker: &mut W,
 ) -> Result<(), Failure> {
     match asked {
-        Asked::Format { archive, wanted } => Ok(make_archive(rt, archive, wanted)?),
-        Asked::Run { archive, settings } => run_file(rt, archive, settings, input, output),
+        Asked::Format { archive, wanted } => Ok(make_archive(rt, archive, wanted, onlooker)?),
+        Asked::Run { archive, settings } => run_file(rt, archive, settings, input, output, onlooker),
         Asked::Memory { shape, settings } => run_memory(rt, shape, settings, input, output),
         Asked::Store {
             archive,
@@ -165,20 +198,20 @@ fn answer_asked<R: AllocGlobal + Files<File = File> + Clock, I: Read, O: Output>
         } => {
             let naming = naming_of(settings)?;
             let request = StoreRequest::of(wanted, &naming, settings.limit);
-            store(rt, archive, file, request, log, input, output, note)
+            store(rt, archive, file, request, log, input, output, note, onlooker)
         }
         Asked::Extract {
             archive,
             case,
             file,
-        } => extract_case(rt, archive, case, file, output),
-        Asked::Handle(words) => handle(rt, words, input, output),
+        } => extract_case(rt, archive, case, file, output, onlooker),
+        Asked::Handle(words) => handle(rt, words, input, output, onlooker),
         Asked::List { archive, wanted } => list(rt, archive, wanted, output),
         Asked::Ask {
             archive,
             line,
             question,
-        } => answer_line(rt, archive, &line, question, output),
+        } => answer_line(rt, archive, &line, question, output, onlooker),
         Asked::Info {
             archive,
             case,
@@ -194,27 +227,30 @@ fn answer_asked<R: AllocGlobal + Files<File = File> + Clock, I: Read, O: Output>
             archive,
             new,
             wanted,
-        } => Ok(copy_archive_file(rt, archive, new, wanted)?),
-        Asked::Resize { archive, wanted } => Ok(resize_archive_file(rt, archive, wanted)?),
-        Asked::Salvage { archive, new } => salvage(rt, archive, new, output),
+        } => Ok(copy_archive_file(rt, archive, new, wanted, onlooker)?),
+        Asked::Resize { archive, wanted } => {
+            Ok(resize_archive_file(rt, archive, wanted, onlooker)?)
+        }
+        Asked::Salvage { archive, new } => salvage(rt, archive, new, output, onlooker),
         Asked::Nothing => Ok(()),
     }
 }
 
 // Answers one line. Without a question its second word names a case.
-fn answer_line<R: AllocGlobal + Files<File = File>, O: Output>(
+fn answer_line<R: AllocGlobal + Files<File = File>, O: Output, W: Onlooker>(
     rt: &R,
     place: ArchivePath<'_>,
     line: &AskedLine<'_>,
     question: Option<Question>,
     output: &mut O,
+    onlooker: &mut W,
 ) -> Result<(), Failure> {
     let words = line.words(rt.alloc())?;
     match (line.form(), question) {
-        (Form::Rows, question) => ask_rows(rt, place, &words, question, output),
-        (Form::Plain, question) => ask_plain(rt, place, &words, question, output),
-        (Form::Reply, Some(question)) => ask(rt, place, question, output),
-        (Form::Reply, None) => ask_case(rt, place, &words, output),
+        (Form::Rows, question) => ask_rows(rt, place, &words, question, output, onlooker),
+        (Form::Plain, question) => ask_plain(rt, place, &words, question, output, onlooker),
+        (Form::Reply, Some(question)) => ask(rt, place, question, output, onlooker),
+        (Form::Reply, None) => ask_case(rt, place, &words, output, onlooker),
     }
 }
 
@@ -250,17 +286,18 @@ fn asks_for_an_image(words: &[String]) -> bool {
 }
 
 // Runs a script over the archive in a file.
-fn run_file<R: AllocGlobal + Files<File = File>, I: Read, O: Output>(
+fn run_file<R: AllocGlobal + Files<File = File>, I: Read, O: Output, W: Onlooker>(
     rt: &R,
     place: ArchivePath<'_>,
     settings: SessionWords<'_>,
     input: &mut I,
     output: &mut O,
+    onlooker: &mut W,
 ) -> Result<(), Failure> {
     let naming = naming_of(settings)?;
     let disk = take_disk(rt, place, Access::Changing)?;
     let mut script = ReadInput::new(input);
-    let (ended, _) = run_over(
+    let (ended, disk) = run_over(
         rt.alloc(),
         disk,
         settings.limit,
@@ -268,6 +305,7 @@ fn run_file<R: AllocGlobal + Files<File = File>, I: Read, O: Output>(
         &mut script,
         output,
     );
+    tell_trouble(&disk, onlooker);
     ended
 }
 
@@ -294,7 +332,7 @@ fn run_memory<R: AllocGlobal, I: Read, O: Output>(
 }
 
 // Stores a file, or the standard input, and tells a log of it, if one is named. What can't be read of the case goes to a note.
-fn store<R: AllocGlobal + Files<File = File>, I: Read, O: Output>(
+fn store<R: AllocGlobal + Files<File = File>, I: Read, O: Output, W: Onlooker>(
     rt: &R,
     place: ArchivePath<'_>,
     file: &str,
@@ -303,6 +341,7 @@ fn store<R: AllocGlobal + Files<File = File>, I: Read, O: Output>(
     input: &mut I,
     output: &mut O,
     note: &mut Collected,
+    onlooker: &mut W,
 ) -> Result<(), Failure> {
     let teller = Teller {
         alloc: rt.alloc(),
@@ -310,7 +349,7 @@ fn store<R: AllocGlobal + Files<File = File>, I: Read, O: Output>(
             path: log.unwrap_or(""),
         },
     };
-    store_told(rt, teller, place, file, request, input, output, note)
+    store_told(rt, teller, place, file, request, input, output, note, onlooker)
 }
 
 // How cores are named.

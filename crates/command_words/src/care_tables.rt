@@ -14,22 +14,31 @@ pub(crate) static CARE_COMMANDS: [CommandWords; 4] = [
         about: "copies an archive into a new file, each case under its number; its size may be another",
         after_help: None,
         words: &[
-            ARCHIVE, NEW, NEW_HALF, NEW_DATA, NEW_LAYOUT, NEW_SPARSE, NO_WAIT,
+            ARCHIVE, NEW, NEW_HALF, NEW_DATA, NEW_LAYOUT, NEW_SPARSE, NO_WAIT, QUIET,
         ],
     },
     CommandWords {
         name: "resize",
         about: "makes an archive larger or smaller: copies it into a file beside it, which takes its place",
         after_help: None,
-        words: &[ARCHIVE, NEW_HALF, NEW_DATA, NEW_SPARSE, NO_WAIT],
+        words: &[ARCHIVE, NEW_HALF, NEW_DATA, NEW_SPARSE, NO_WAIT, QUIET],
     },
     CommandWords {
         name: "salvage",
         about: "copies the cases of a damaged archive into a new file, and tells of each whether it is whole",
         after_help: None,
-        words: &[ARCHIVE, NEW, NO_WAIT],
+        words: &[ARCHIVE, NEW, NO_WAIT, QUIET],
     },
 ];
+
+// Whether nothing is shown of how far it is.
+pub(crate) const QUIET: Word = Word {
+    id: "quiet",
+    shown: "",
+    takes: Takes::Flag,
+    default: None,
+    help: "does not show on a terminal how far it is",
+};
 
 // Whether images are read.
 const IMAGES: Word = Word {

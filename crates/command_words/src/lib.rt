@@ -15,6 +15,7 @@ mod raw_words;
 mod reasons;
 mod tables;
 mod text_digits;
+mod troubles;
 mod watched;
 
 pub use grammar::program;
@@ -25,4 +26,5 @@ pub use notes::tell_note;
 pub use raw_words::{is_text, push_escaped, words_of};
 pub use reasons::meaning_of;
 pub use text_digits::digits_of;
+pub use troubles::tell_meaning;
 pub use watched::{LastLine, Watched};

@@ -1,5 +1,6 @@
 // The program's commands and their words, as tables.
 use crate::ask_help::ASK_HELP;
+use crate::care_tables::QUIET;
 use crate::list_tables::JSON;
 
 // What replaces a word.
@@ -53,7 +54,7 @@ pub(crate) static COMMANDS: [CommandWords; 9] = [
         name: "format",
         about: "makes an archive in a new file, with no case in it",
         after_help: None,
-        words: &[NEW_ARCHIVE, SPARSE, LAYOUT, HALF, DATA],
+        words: &[NEW_ARCHIVE, SPARSE, LAYOUT, HALF, DATA, QUIET],
     },
     CommandWords {
         name: "run",
@@ -67,7 +68,7 @@ pub(crate) static COMMANDS: [CommandWords; 9] = [
         after_help: None,
         words: &[
             ARCHIVE, FILE, PAIRS, EXEC, PIN, LABEL, ESCAPE, KEEP, BYTES, BEFORE, FIT, CUT, NO_WAIT,
-            TEMPLATE, USES_PID, LIMIT, LOG,
+            TEMPLATE, USES_PID, LIMIT, LOG, QUIET,
         ],
     },
     CommandWords {
@@ -100,7 +101,7 @@ pub(crate) static COMMANDS: [CommandWords; 9] = [
         name: "extract",
         about: "writes the image of a case, byte for byte, and nothing else; what is refused is told on standard error",
         after_help: None,
-        words: &[ARCHIVE, CASE, NEW_FILE, NO_WAIT],
+        words: &[ARCHIVE, CASE, NEW_FILE, NO_WAIT, QUIET],
     },
     CommandWords {
         name: "memory",

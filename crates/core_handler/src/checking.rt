@@ -230,7 +230,7 @@ fn tell_refused<O: Output>(alloc: Global, reply: &mut Reply<'_, O>, what: &[u8],
     reply.tell(what);
     reply.tell(b": ");
     let reason = reason_of(alloc, refusal);
-    let words = words_of(alloc, refusal, reason.text());
+    let words = words_of(alloc, Some(refusal), reason.text(), None);
     reply.tell(reason.text());
     if !words.text().is_empty() {
         reply.tell(b": ");

@@ -11,6 +11,7 @@ use disk_model::FileFault;
 use handler_config::Config;
 use inspector_cli::{Burst, Naming, StoreOptions};
 use name_template::Template;
+use onlooker::Onlooker;
 use retention::Policy;
 use script_streams::{Output, Reply};
 use std::fs::File;
@@ -65,11 +66,17 @@ impl<'a> HandleWords<'a> {
 /// # Errors
 ///
 /// Those of `store_file` of `archive_files`, and `File` if no archive is named. With `--check` it is `Told` if not all is in order.
-pub fn handle<R: AllocGlobal + Files<File = File> + Clock, I: Read, O: Output>(
+pub fn handle<
+    R: AllocGlobal + Files<File = File> + Clock,
+    I: Read,
+    O: Output,
+    W: Onlooker,
+>(
     rt: &R,
     words: HandleWords<'_>,
     input: &mut I,
     output: &mut O,
+    onlooker: &mut W,
 ) -> Result<(), Failure> {
     let document = read_document(rt, words.path());
     let config = Config::of(&document.value);
@@ -93,7 +100,7 @@ pub fn handle<R: AllocGlobal + Files<File = File> + Clock, I: Read, O: Output>(
         waits: !config.no_wait,
     };
     let request = handler.request(rt, &words.begin)?;
-    handler.store(rt, place, request, input, output)
+    handler.store(rt, place, request, input, output, onlooker)
 }
 
 /// Tells the kernel's log of a core that is lost since the words can't be read: no configuration names another log.
@@ -247,13 +254,14 @@ impl<'a> Handler<'a> {
     }
 
     // Stores the core, and tells what became of it.
-    fn store<R: AllocGlobal + Files<File = File>, I: Read, O: Output>(
+    fn store<R: AllocGlobal + Files<File = File>, I: Read, O: Output, W: Onlooker>(
         &self,
         rt: &R,
         place: ArchivePath<'_>,
         request: StoreRequest,
         input: &mut I,
         output: &mut O,
+        onlooker: &mut W,
     ) -> Result<(), Failure> {
         let mut note = Collected::new(self.teller.alloc);
         store_told(
@@ -265,6 +273,7 @@ impl<'a> Handler<'a> {
             input,
             output,
             &mut note,
+            onlooker,
         )
     }
 }

@@ -1,6 +1,7 @@
 // What the replies of a store say of its outcome, for a log.
 use archive_files::{Collected, FileWord, Refusal};
-use command_words::meaning_of;
+use command_words::tell_meaning;
+use onlooker::Trouble;
 use script_streams::Reply;
 use std::alloc::Global;
 
@@ -95,13 +96,19 @@ pub(crate) fn stored_line(
     line
 }
 
-// What a refusal for this reason means, in words: of a file which one, and why it could not be opened.
-pub(crate) fn words_of(alloc: Global, refusal: Refusal, reason: &[u8]) -> Collected {
+// What a refusal for this reason means, in words: of a file which one, and why it could not be opened; of a disk that failed which
+// call of the system that was, if it is known.
+pub(crate) fn words_of(
+    alloc: Global,
+    refusal: Option<Refusal>,
+    reason: &[u8],
+    trouble: Option<Trouble>,
+) -> Collected {
     let mut words = Collected::new(alloc);
     let mut reply = Reply::new(&mut words);
-    match file_text(alloc, refusal) {
+    match refusal.and_then(|refusal| file_text(alloc, refusal)) {
         Some(text) => reply.tell(text.as_bytes()),
-        None => reply.tell(meaning_of(reason)),
+        None => tell_meaning(&mut reply, reason, trouble),
     }
     let _ = reply.finish();
     words

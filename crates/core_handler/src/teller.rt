@@ -3,9 +3,9 @@ use crate::examine::{Seen, look_at_case};
 use crate::log::{Level, Log};
 use crate::outcome_lines::{lost_line, outcome_of, stored_line, words_of};
 use archive_files::{ArchivePath, Collected, Failure, Held, StoreRequest, reason_of, store_file};
-use command_words::meaning_of;
 use disk_model::FileDisk;
 use inspector_cli::SessionFault;
+use onlooker::{Onlooker, Trouble};
 use script_streams::{Output, Reply, write_whole};
 use script_words::parse_case_number;
 use std::alloc::Global;
@@ -23,12 +23,13 @@ pub struct Teller<'a> {
     pub log: Log<'a>,
 }
 
-/// Stores a file, or the standard input, and tells what became of it. What can't be read of the case goes to a note, too.
+/// Stores a file, or the standard input, and tells what became of it. What can't be read of the case goes to a note, too. An onlooker is
+/// told how far the store is, and which call on the archive's file failed.
 ///
 /// # Errors
 ///
 /// Those of `store_file` of `archive_files`, and `WriteFailed` if the replies could not be written.
-pub fn store_told<R: AllocGlobal + Files<File = File>, I: Read, O: Output>(
+pub fn store_told<R: AllocGlobal + Files<File = File>, I: Read, O: Output, W: Onlooker>(
     rt: &R,
     teller: Teller<'_>,
     place: ArchivePath<'_>,
@@ -37,10 +38,11 @@ pub fn store_told<R: AllocGlobal + Files<File = File>, I: Read, O: Output>(
     input: &mut I,
     output: &mut O,
     note: &mut Collected,
+    onlooker: &mut W,
 ) -> Result<(), Failure> {
     let name = request.printed_name(teller.alloc);
     let mut reply = Held::new(teller.alloc, output);
-    let (ended, disk) = store_file(rt, place, file, request, input, &mut reply);
+    let (ended, disk) = store_file(rt, place, file, request, input, &mut reply, onlooker);
     teller.tell_outcome(
         rt,
         place.path,
@@ -84,14 +86,18 @@ impl<'a> Teller<'a> {
         name: &[u8],
         refused: &[u8],
         ended: &Result<(), Failure>,
+        trouble: Option<Trouble>,
     ) {
         match ended {
             Err(Failure::Refused(refusal)) => {
                 let reason = reason_of(self.alloc, *refusal);
-                let words = words_of(self.alloc, *refusal, reason.text());
+                let words = words_of(self.alloc, Some(*refusal), reason.text(), trouble);
                 self.tell_lost(rt, archive, replies, name, reason.text(), words.text());
             }
-            _ => self.tell_lost(rt, archive, replies, name, refused, meaning_of(refused)),
+            _ => {
+                let words = words_of(self.alloc, None, refused, trouble);
+                self.tell_lost(rt, archive, replies, name, refused, words.text());
+            }
         }
     }
 
@@ -133,7 +139,13 @@ impl<'a> Teller<'a> {
             (Some(number), Some(disk)) => {
                 self.tell_stored(rt, archive, replies, number, disk, note)
             }
-            _ => self.tell_refused(rt, archive, replies, name, outcome.refused, ended),
+            (_, disk) => {
+                let trouble = match &disk {
+                    Some(disk) => disk.trouble(),
+                    None => None,
+                };
+                self.tell_refused(rt, archive, replies, name, outcome.refused, ended, trouble);
+            }
         }
     }
 

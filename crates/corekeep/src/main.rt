@@ -4,8 +4,10 @@
 use archive_files::tell_unwritten;
 use command_line::run_program;
 use script_streams::{Output, Reply, WriteOutput};
+use shown_progress::Meter;
 use std::fs::File;
 use std::io;
+use std::io::IsTerminal;
 use std::process::ExitCode;
 use std::rt::Files;
 
@@ -15,8 +17,15 @@ fn main(rt: HostRuntime) -> io::Result<ExitCode> {
     let mut input = rt.stdin();
     let mut output = WriteOutput::new(rt.stdout());
     let mut errors = WriteOutput::new(rt.stderr());
+    let terminal = rt.stderr();
+    let shown = if terminal.is_terminal() {
+        Some(WriteOutput::new(terminal))
+    } else {
+        None
+    };
+    let mut meter = Meter::new(&rt, shown);
     let status = match &held {
-        Ok(_) => run_program(&rt, &mut input, &mut output, &mut errors),
+        Ok(_) => run_program(&rt, &mut input, &mut output, &mut errors, &mut meter),
         Err(_) => refuse_descriptors(&mut output, &mut errors),
     };
     if let Some(kind) = output.fault() {

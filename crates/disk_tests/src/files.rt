@@ -27,12 +27,24 @@ fn opened<R: AllocGlobal + Files<File = File>>(
     }
 }
 
+// Makes a file of zeros, on which nobody looks.
+fn create<R: AllocGlobal + Files<File = File>>(
+    rt: &R,
+    path: &str,
+    length: u64,
+) -> Result<FileDisk, FileFault> {
+    let mut nobody = Nobody;
+    let made = FileDisk::create(rt, path, length, &mut nobody);
+    let Nobody = nobody;
+    made
+}
+
 // Whether a new file can be made there as a disk of ten bytes, where there is memory.
 fn created<R: AllocGlobal + Files<File = File>>(
     rt: &R,
     path: &str,
 ) -> Result<Result<(), FileFault>, Fail> {
-    match FileDisk::create(rt, path, 10, &mut Nobody) {
+    match create(rt, path, 10) {
         Ok(_) => Ok(Ok(())),
         Err(FileFault::OutOfMemory) => Err(Fail::from("there is no memory")),
         Err(fault) => Ok(Err(fault)),
@@ -68,7 +80,7 @@ fn put<D: Disk>(disk: &mut D, at: u64, bytes: &[u8; 3]) -> Result<(), Fail> {
 
 // Makes the file of a disk of ten bytes, of which the fourth to the sixth are 1, 2, 3.
 fn a_file<R: Abort + AllocGlobal + Files<File = File>>(rt: &R, path: &str) -> Result<(), Fail> {
-    let mut disk = FileDisk::create(rt, path, 10, &mut Nobody)?;
+    let mut disk = create(rt, path, 10)?;
     assert_eq!(rt; disk.length(), 10);
     put(&mut disk, 3, &[1, 2, 3])?;
     let mut bytes = [9u8; 5];
@@ -112,7 +124,7 @@ fn from_a_locked_file<R: Abort + AllocGlobal + Files<File = File>>(
 fn a_file_is_one_disks_at_a_time(rt: HostRuntime) -> Result<(), Fail> {
     let path = path_of(&rt, "lock")?;
     let path = path.as_str();
-    let disk = FileDisk::create(&rt, path, 10, &mut Nobody)?;
+    let disk = create(&rt, path, 10)?;
     assert_eq!(rt; created(&rt, path)?, Err(FileFault::Exists));
     assert_eq!(rt; opened(&rt, path)?, Err(FileFault::Busy));
     drop(disk);
@@ -189,7 +201,7 @@ fn has_room<R: Abort + AllocGlobal + Files<File = File>>(
     let disk = if is_sparse {
         FileDisk::create_sparse(rt, path, length)?
     } else {
-        FileDisk::create(rt, path, length, &mut Nobody)?
+        create(rt, path, length)?
     };
     let metadata = fs::metadata(rt, path)?;
     assert_eq!(rt; (disk.length(), metadata.len()), (length, length));

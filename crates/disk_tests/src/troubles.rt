@@ -8,6 +8,7 @@ use std::test::Fail;
 use std::{env, fs, process};
 
 // What an onlooker heard.
+#[derive(Drop)]
 struct Heard {
     whole: Option<u64>,
     done: u64,
@@ -48,7 +49,8 @@ fn each_byte_of_a_new_file_is_told(rt: HostRuntime) -> Result<(), Fail> {
         works: 0,
         ends: 0,
     };
-    let disk = FileDisk::create(&rt, path.as_str(), 200_000, &mut heard)?;
+    let made = FileDisk::create(&rt, path.as_str(), 200_000, &mut heard);
+    let disk = made?;
     assert_eq!(rt; disk.trouble(), None);
     assert_eq!(rt; (heard.whole, heard.done), (Some(200_000), 200_000));
     assert_eq!(rt; (heard.works, heard.ends), (1, 1));

@@ -1,0 +1,99 @@
+// Why a call on an archive's file failed, in words for people.
+use crate::reasons::meaning_of;
+use onlooker::{Call, Trouble};
+use script_streams::{Output, Reply};
+
+// An error of the system: its number on Linux (errno(3)), its name, and what it means.
+struct SystemError {
+    number: i32,
+    name: &'static [u8],
+    words: &'static [u8],
+}
+
+// The errors that calls on files are likely to meet.
+static ERRORS: [SystemError; 9] = [
+    SystemError {
+        number: 5,
+        name: b"EIO",
+        words: b"the device failed",
+    },
+    SystemError {
+        number: 9,
+        name: b"EBADF",
+        words: b"the file is not open for that",
+    },
+    SystemError {
+        number: 19,
+        name: b"ENODEV",
+        words: b"the device is gone",
+    },
+    SystemError {
+        number: 27,
+        name: b"EFBIG",
+        words: b"the file may not grow so large",
+    },
+    SystemError {
+        number: 28,
+        name: b"ENOSPC",
+        words: b"the file system is full",
+    },
+    SystemError {
+        number: 30,
+        name: b"EROFS",
+        words: b"the file system is read-only",
+    },
+    SystemError {
+        number: 116,
+        name: b"ESTALE",
+        words: b"the file server has the file no longer",
+    },
+    SystemError {
+        number: 117,
+        name: b"EUCLEAN",
+        words: b"the file system is damaged",
+    },
+    SystemError {
+        number: 122,
+        name: b"EDQUOT",
+        words: b"the quota is used up",
+    },
+];
+
+/// Tells what a reason means. If the disk failed, and it is known which call of the system that was, it is told with the system's
+/// reason.
+pub fn tell_meaning<O: Output>(reply: &mut Reply<'_, O>, reason: &[u8], trouble: Option<Trouble>) {
+    match trouble {
+        Some(trouble) if reason == b"Disk".as_slice() => tell_trouble(reply, trouble),
+        _ => reply.tell(meaning_of(reason)),
+    }
+}
+
+// Tells which call on the archive's file failed, and why.
+fn tell_trouble<O: Output>(reply: &mut Reply<'_, O>, trouble: Trouble) {
+    let call: &[u8] = match trouble.call {
+        Call::Read => b"a read",
+        Call::Write => b"a write",
+        Call::Sync => b"a sync",
+    };
+    reply.tell(call);
+    reply.tell(b" of the archive failed: ");
+    match trouble.errno {
+        Some(number) => tell_error(reply, number),
+        None => reply.tell(b"the file is shorter than it was"),
+    }
+}
+
+// Tells an error of the system by its name, or by its number if it is none of these.
+fn tell_error<O: Output>(reply: &mut Reply<'_, O>, number: i32) {
+    for error in &ERRORS {
+        if error.number == number {
+            reply.tell(error.name);
+            reply.tell(b" (");
+            reply.tell(error.words);
+            reply.tell(b")");
+            return;
+        }
+    }
+    reply.tell(b"errno ");
+    reply.tell_signed(i64::from(number));
+}

@@ -1,0 +1,16 @@
+//! How far a command is, shown on a terminal; and streams and disks that tell an onlooker of each byte that passes.
+#![tactic(auto)]
+
+mod counted_disk;
+mod counted_input;
+mod counted_output;
+mod listener;
+mod meter;
+mod work_text;
+
+pub use counted_disk::CountedDisk;
+pub use counted_input::CountedInput;
+pub use counted_output::CountedOutput;
+pub use listener::Listener;
+pub use meter::Meter;
+pub use work_text::{Work, tell_work};
