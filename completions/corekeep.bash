@@ -31,17 +31,18 @@ _corekeep() {
     esac
     local options=--help
     case ${COMP_WORDS[1]} in
-    format) options="--half --data --sparse --layout --help" ;;
+    format) options="--half --data --sparse --layout --quiet --help" ;;
     run) options="--no-wait $session --help" ;;
-    store) options="--exec --pin --label --escape --keep --bytes --before --fit --cut --log --no-wait $session --help" ;;
+    store) options="--exec --pin --label --escape --keep --bytes --before --fit --cut --log --no-wait --quiet $session --help" ;;
     handle) options="--check --archive --help" ;;
     list) options="--json --kind --name --pid --signal --since --until --label --pinned --last --no-wait --help" ;;
     info) options="--threads --json --no-wait --help" ;;
     ask) options="--text --plain --json --no-wait --help" ;;
-    look | extract | salvage) options="--no-wait --help" ;;
+    look) options="--no-wait --help" ;;
+    extract | salvage) options="--no-wait --quiet --help" ;;
     check) options="--images --no-wait --help" ;;
-    copy) options="--half --data --layout --sparse --no-wait --help" ;;
-    resize) options="--half --data --sparse --no-wait --help" ;;
+    copy) options="--half --data --layout --sparse --no-wait --quiet --help" ;;
+    resize) options="--half --data --sparse --no-wait --quiet --help" ;;
     memory) options="--half --data $session --help" ;;
     esac
     case $word in

@@ -17,6 +17,8 @@
    failed between two processes. With FAULT_ONCE a write of bytes that the file has already makes no page dirty, as if the
    program did not write them again.
 
+   With FAULT_SLOW each pwrite takes at least so many microseconds.
+
    With FAULT_READS a read of standard input gives at most so many bytes, so that a script comes in many reads, and its
    replies go in many writes.
 
@@ -51,6 +53,7 @@ static struct fault fault;
 static int is_read;
 static long calls;
 static size_t most_read;
+static useconds_t slow;
 static int trace = -1;
 
 #define REAL(type, name) type real = (type)dlsym(RTLD_NEXT, name)
@@ -62,8 +65,9 @@ typedef ssize_t (*pwrite_type)(int, const void *, size_t, off_t);
 typedef int (*fsync_type)(int);
 
 static void read_settings(void) {
-    const char *reads = getenv("FAULT_READS"), *path = getenv("FAULT_TRACE");
+    const char *reads = getenv("FAULT_READS"), *path = getenv("FAULT_TRACE"), *wait = getenv("FAULT_SLOW");
     is_read = 1;
+    slow = wait ? (useconds_t)atol(wait) : 0;
     most_read = reads ? (size_t)atol(reads) : 0;
     if (path)
         trace = open(path, O_WRONLY | O_CREAT | O_APPEND | O_CLOEXEC, 0600);
@@ -266,6 +270,8 @@ ssize_t pwrite64(int file, const void *from, size_t size, off_t at) {
     ssize_t done;
     REAL(pwrite_type, "pwrite64");
     int is_same, met = is_met("pwrite");
+    if (slow)
+        usleep(slow);
     if (met && fault.kind == FAILS)
         return failed();
     is_same = getenv("FAULT_ONCE") && has(file, from, size, at);
