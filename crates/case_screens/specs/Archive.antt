@@ -1,21 +1,25 @@
 -- What a person is shown of an archive.
-use Rattle.std.specs.Prelude.{ℕ, List, [], ◌∷◌, ◌++◌, codes, decimal}
+use Rattle.std.specs.Prelude.{ℕ, ◌==◌, if◌then◌else◌, List, [], ◌∷◌, ◌++◌, codes, decimal}
 use Rattle.case_tables.specs.Sizes.{size_text}
 use Rattle.case_tables.specs.Times.{time_text}
 use Rattle.case_screens.specs.declared.archive.ArchiveFacts.{ArchiveFacts}
+
+-- how many there are of what a word names: the word has an s unless there is one
+abbrev pub counted_text : ℕ → List ℕ → List ℕ
+counted_text count word = decimal count ++ (word ++ (if count == 1 then [] else codes "s"))
 
 abbrev pub layout_text : ArchiveFacts → List ℕ
 layout_text a = codes "layout    version " ++ (decimal a.version ++ (codes ", " ++ (size_text a.length ++ 10 ∷ [])))
 
 abbrev pub data_text : ArchiveFacts → List ℕ
-data_text a = codes "data      " ++ (decimal a.data_blocks ++ (codes " blocks of 4096 bytes, " ++ (decimal a.free_blocks ++ (codes " free" ++ 10 ∷ []))))
+data_text a = codes "data      " ++ (counted_text a.data_blocks (codes " block") ++ (codes " of 4096 bytes, " ++ (decimal a.free_blocks ++ (codes " free" ++ 10 ∷ []))))
 
 abbrev pub journal_text : ArchiveFacts → List ℕ
 journal_text a = codes "journal   " ++ (decimal a.used ++ (codes " of " ++ (decimal a.half ++ (codes " bytes of a half in use" ++ 10 ∷ []))))
 
 abbrev pub cases_text : ArchiveFacts → List ℕ
 cases_text a =
-    codes "cases     " ++ (decimal a.cores ++ (codes " cores, " ++ (decimal a.executables ++ (codes " executables, "
+    codes "cases     " ++ (counted_text a.cores (codes " core") ++ (codes ", " ++ (counted_text a.executables (codes " executable") ++ (codes ", "
     ++ (decimal a.pinned ++ (codes " pinned" ++ 10 ∷ []))))))
 
 abbrev pub times_text : ArchiveFacts → List ℕ

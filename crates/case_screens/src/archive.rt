@@ -1,7 +1,7 @@
 // What a person is shown of an archive.
 ghost use Rattle.std.specs.Prelude.{◌≡◌};
 ghost use Rattle.script_streams.specs.Replies.{TellsText, telling};
-ghost use Rattle.case_screens.specs.Archive.{archive_text, cases_text, data_text, journal_text, layout_text, numbers_text, times_text};
+ghost use Rattle.case_screens.specs.Archive.{archive_text, cases_text, counted_text, data_text, journal_text, layout_text, numbers_text, times_text};
 
 use case_tables::{tell_size, tell_time};
 use script_streams::{Output, Reply};
@@ -56,8 +56,8 @@ fn tell_data<O: Output>(reply: &mut Reply<'_, O>, facts: &ArchiveFacts)
     ensures { TellsText (telling O.Output reply.old reply.new) (data_text facts.now) }
 {
     reply.tell(b"data      ");
-    reply.tell_decimal(u128::from(facts.data_blocks));
-    reply.tell(b" blocks of 4096 bytes, ");
+    tell_counted(reply, u64::from(facts.data_blocks), b" block");
+    reply.tell(b" of 4096 bytes, ");
     reply.tell_decimal(u128::from(facts.free_blocks));
     reply.tell(b" free\n");
 }
@@ -76,12 +76,23 @@ fn tell_cases<O: Output>(reply: &mut Reply<'_, O>, facts: &ArchiveFacts)
     ensures { TellsText (telling O.Output reply.old reply.new) (cases_text facts.now) }
 {
     reply.tell(b"cases     ");
-    reply.tell_decimal(u128::from(facts.cores));
-    reply.tell(b" cores, ");
-    reply.tell_decimal(u128::from(facts.executables));
-    reply.tell(b" executables, ");
+    tell_counted(reply, facts.cores, b" core");
+    reply.tell(b", ");
+    tell_counted(reply, facts.executables, b" executable");
+    reply.tell(b", ");
     reply.tell_decimal(u128::from(facts.pinned));
     reply.tell(b" pinned\n");
+}
+
+// Tells how many there are of what a word names. The word has an s unless there is one.
+fn tell_counted<O: Output>(reply: &mut Reply<'_, O>, count: u64, word: &[u8])
+    ensures { TellsText (telling O.Output reply.old reply.new) (counted_text count word.now) }
+{
+    reply.tell_decimal(u128::from(count));
+    reply.tell(word);
+    if count != 1 {
+        reply.tell(b"s");
+    }
 }
 
 fn tell_times<O: Output>(reply: &mut Reply<'_, O>, facts: &ArchiveFacts)

@@ -6,8 +6,8 @@ use Rattle.case_screens.proofs.archive.tell_cases.Goals as goal
 pub returns : goal.returns
 returns g c =
     tells_then c.tell.ensures
-    (tells_then (tells_as (ap decimal c.from.ensures) c.tell_decimal.ensures)
+    (tells_then c.tell_counted.ensures
     (tells_then c.tell-2.ensures
-    (tells_then (tells_as (ap decimal c.from-2.ensures) c.tell_decimal-2.ensures)
+    (tells_then c.tell_counted-2.ensures
     (tells_then c.tell-3.ensures
-    (tells_then (tells_as (ap decimal c.from-3.ensures) c.tell_decimal-3.ensures) c.tell-4.ensures)))))
+    (tells_then (tells_as (ap decimal c.from.ensures) c.tell_decimal.ensures) c.tell-4.ensures)))))
