@@ -49,7 +49,7 @@ pub fn make_archive<R: AllocGlobal + Files<File = File>, W: Onlooker>(
 ) -> Result<(), Refusal> {
     let length = wanted.shape.length()?;
     let part = part_of(rt.alloc(), path)?;
-    clear(rt, path, &part).map_err(|fault| Refusal::File(FileWord::Archive, fault))?;
+    clear(rt, path, &part).map_err(|fault| Refusal::File(FileWord::NewArchive, fault))?;
     let disk = make_file(rt, &part, length, wanted.is_sparse, onlooker)?;
     let (formatted, disk) = format_over(rt.alloc(), disk, wanted);
     tell_trouble(&disk, onlooker);
@@ -60,7 +60,7 @@ pub fn make_archive<R: AllocGlobal + Files<File = File>, W: Onlooker>(
     // The lock of its file is kept until it has its name.
     let named = give_name(rt, path, &part);
     drop(disk);
-    named.map_err(|fault| Refusal::File(FileWord::Archive, fault))
+    named.map_err(|fault| Refusal::File(FileWord::NewArchive, fault))
 }
 
 // Makes the file of an archive. One that can't be made whole is removed, unless another process made it.
@@ -80,7 +80,7 @@ pub(crate) fn make_file<R: AllocGlobal + Files<File = File>, W: Onlooker>(
         if fault != FileFault::Exists && fault != FileFault::Busy {
             let _ = fs::remove_file(rt, part);
         }
-        Refusal::File(FileWord::Archive, fault)
+        Refusal::File(FileWord::Made, fault)
     })
 }
 

@@ -36,10 +36,35 @@ pub enum Failure {
 /// Which word of the command line names a file.
 #[derive(Clone, Copy, Debug, PartialEq, Eq)]
 pub enum FileWord {
+    /// ARCHIVE, an archive that is there.
     Archive,
+    /// FILE, which is read.
     File,
-    /// The file of a new archive.
+    /// ARCHIVE, the file of a new archive.
+    NewArchive,
+    /// FILE, which is made.
+    NewFile,
+    /// NEW, the file of a new archive.
     New,
+    /// Whichever word names the file of a new archive.
+    Made,
+}
+
+impl FileWord {
+    // What people are told of it as.
+    fn shown(self) -> &'static str {
+        match self {
+            FileWord::Archive | FileWord::NewArchive => "ARCHIVE",
+            FileWord::File | FileWord::NewFile => "FILE",
+            FileWord::New => "NEW",
+            FileWord::Made => "the new file",
+        }
+    }
+
+    // Whether its file is to be made. Then it is the folder that is missing, if something is.
+    fn is_made(self) -> bool {
+        !matches!(self, FileWord::Archive | FileWord::File)
+    }
 }
 
 /// Which part of the command line is not UTF-8.
@@ -192,11 +217,7 @@ pub fn tell_unwritten<E: Output>(file: &[u8], kind: io::ErrorKind, errors: &mut 
 // Tells people what a reason for scripts leaves open.
 fn tell_in_words<E: Output>(alloc: Global, refusal: Refusal, errors: &mut E) {
     let text = match refusal {
-        Refusal::File(FileWord::Archive, fault) => format!(in alloc;
-            "corekeep: ARCHIVE: {fault}\n"
-        ),
-        Refusal::File(FileWord::File, fault) => format!(in alloc; "corekeep: FILE: {fault}\n"),
-        Refusal::File(FileWord::New, fault) => format!(in alloc; "corekeep: NEW: {fault}\n"),
+        Refusal::File(word, fault) => file_text(alloc, word, fault),
         Refusal::NoLine("") => format!(in alloc;
             "corekeep: no line begins so: corekeep ask --help lists them\n"
         ),
@@ -216,6 +237,15 @@ fn tell_in_words<E: Output>(alloc: Global, refusal: Refusal, errors: &mut E) {
         return;
     };
     let _ = write_whole(errors, text.as_bytes());
+}
+
+// Why the file of a word is refused.
+fn file_text(alloc: Global, word: FileWord, fault: FileFault) -> Result<String, AllocError> {
+    let name = word.shown();
+    if fault == FileFault::Missing && word.is_made() {
+        return format!(in alloc; "corekeep: {name}: there is no such folder\n");
+    }
+    format!(in alloc; "corekeep: {name}: {fault}\n")
 }
 
 // Tells what is refused.

@@ -101,7 +101,7 @@ fn extract_to_file<R: AllocGlobal + Files<File = File>, W: Onlooker>(
 
 // FILE is refused.
 fn refused_file(fault: FileFault) -> Failure {
-    Failure::Aside(Refusal::File(FileWord::File, fault))
+    Failure::Aside(Refusal::File(FileWord::NewFile, fault))
 }
 
 // What failed, with the reason where it is that of a write.
