@@ -3,8 +3,8 @@ use crate::asked::{Asked, checked, place_of};
 use archive_files::Refusal;
 use case_listing::{foreseen_by, names_a_case};
 use clap::ArgMatches;
-use command_words::{digits_of, line_of};
-use line_help::{help_of, rows_of};
+use command_words::{digits_of, line_of, usage_told};
+use line_help::rows_of;
 use script_lines::{Question, parse_question};
 use std::alloc::{AllocError, Global};
 use std::str;
@@ -68,7 +68,7 @@ impl AskedLine<'_> {
         match parse_question(&line) {
             Some(question) => Ok(Some(question)),
             None if names_a_case(alloc, &words)? => Ok(None),
-            None => Err(Refusal::NoLine(usage_of(&self.words))),
+            None => Err(Refusal::NoLine(usage_told(first_of(&self.words)))),
         }
     }
 }
@@ -132,12 +132,4 @@ fn digits_said(alloc: Global, found: &ArgMatches<'_>) -> Result<Option<Vec<u8>>,
 
 fn first_of<'a>(words: &[&'a str]) -> &'a str {
     words.first().copied().unwrap_or("")
-}
-
-// The words of the line that these words begin like; empty if there is none.
-fn usage_of(words: &[&str]) -> &'static str {
-    match words.first() {
-        Some(name) => help_of(name).map_or("", |help| help.usage),
-        None => "",
-    }
 }

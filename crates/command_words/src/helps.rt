@@ -5,6 +5,13 @@ use crate::tables::COMMANDS;
 use line_help::{LineHelp, help_of, rows_of};
 use script_streams::{Output, Reply, StreamFault};
 
+// The words of the lines whose last word is often taken for a text as it is.
+const FIND_USAGE: &str =
+    "find N HEX: HEX is 1 to 64 bytes in hexadecimal digits; find N --text TEXT looks for a text";
+
+const LABEL_USAGE: &str =
+    "label N [TEXT]: TEXT is one word of at most 64 bytes, in which a space is \\x20 and a backslash \\x5c";
+
 /// The line whose help these words ask for. What is a command too has the command's help.
 pub fn asked_help(words: &[String]) -> Option<&'static LineHelp> {
     let [help, name] = words else {
@@ -32,6 +39,15 @@ pub fn tell_how_it_is_asked<E: Output>(line: &LineHelp, errors: &mut E) {
     reply.tell(line.usage.as_bytes());
     reply.tell(b"\n");
     let _ = reply.finish();
+}
+
+/// The words of the line that begins with this word, as people are told them if theirs are none of it; empty if there is no such line.
+pub fn usage_told(name: &str) -> &'static str {
+    match name {
+        "find" => FIND_USAGE,
+        "label" => LABEL_USAGE,
+        _ => help_of(name).map_or("", |help| help.usage),
+    }
 }
 
 fn is_command(name: &str) -> bool {

@@ -20,7 +20,9 @@ mod watched;
 
 pub use grammar::program;
 pub use handler_words::in_order;
-pub use helps::{asked_help, line_in_place_of_a_command, tell_help, tell_how_it_is_asked};
+pub use helps::{
+    asked_help, line_in_place_of_a_command, tell_help, tell_how_it_is_asked, usage_told,
+};
 pub use line_texts::{line_of, push_text};
 pub use notes::tell_note;
 pub use raw_words::{is_text, push_escaped, words_of};
