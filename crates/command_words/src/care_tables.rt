@@ -46,7 +46,7 @@ const IMAGES: Word = Word {
     shown: "",
     takes: Takes::Flag,
     default: None,
-    help: "reads each image too, and tells whether its headers and notes are sound, or the first faulty field",
+    help: "reads each image too, and tells whether its headers and notes are sound, or the first faulty field; an image of another machine has one too, and is kept whole all the same",
 };
 
 // The file of a copy.
