@@ -3,7 +3,7 @@ ghost use Rattle.std.specs.Prelude.{◌≡◌, ◌≤◌};
 
 use archive_files::{Failure, Refusal, reason_of, tell_failure};
 use clap::error::ErrorKind;
-use command_words::{meaning_of, tell_how_it_is_asked, tell_meaning};
+use command_words::{Context, meaning_when, tell_how_it_is_asked, tell_meaning};
 use line_help::LineHelp;
 use onlooker::Trouble;
 use script_streams::{Output, Reply, write_whole};
@@ -58,6 +58,8 @@ impl From<AllocError> for Ending {
 // What people are told by beside an ending.
 #[derive(Clone, Copy)]
 pub(crate) struct Clues<'a> {
+    // What was done.
+    pub(crate) context: Context,
     // The last line of the output: it has the reason for which a step was refused.
     pub(crate) last_line: &'a [u8],
     // The line of a script that the words begin with.
@@ -92,12 +94,12 @@ fn tell_why<E: Output>(alloc: Global, failure: &Failure, clues: Clues<'_>, error
     match failure {
         Failure::Refused(refusal) | Failure::Aside(refusal) => {
             if !is_told(*refusal) {
-                tell_words_of(reason_of(alloc, *refusal).text(), clues.trouble, errors);
+                tell_words_of(reason_of(alloc, *refusal).text(), clues, errors);
             }
         }
         Failure::Told => {
             if let Some(reason) = reason_in(clues.last_line) {
-                tell_words_of(reason, clues.trouble, errors);
+                tell_words_of(reason, clues, errors);
             }
         }
         _ => {}
@@ -123,13 +125,13 @@ fn is_told(refusal: Refusal) -> bool {
 }
 
 // Tells what a reason means, if there are words for it.
-fn tell_words_of<E: Output>(reason: &[u8], trouble: Option<Trouble>, errors: &mut E) {
-    if meaning_of(reason).is_empty() {
+fn tell_words_of<E: Output>(reason: &[u8], clues: Clues<'_>, errors: &mut E) {
+    if meaning_when(clues.context, reason).is_empty() {
         return;
     }
     let mut reply = Reply::new(errors);
     reply.tell(b"corekeep: ");
-    tell_meaning(&mut reply, reason, trouble);
+    tell_meaning(&mut reply, clues.context, reason, clues.trouble);
     reply.tell(b"\n");
     let _ = reply.finish();
 }

@@ -12,7 +12,8 @@ use archive_files::{
 use case_info::{InfoWords, ask_rows, info_archive, info_case};
 use case_listing::{ask_case, ask_plain, extract_case, list, would_retire};
 use command_words::{
-    Watched, asked_help, in_order, line_in_place_of_a_command, tell_help, tell_note, words_of,
+    Context, Watched, asked_help, context_of, in_order, line_in_place_of_a_command, tell_help,
+    tell_note, words_of,
 };
 use core_handler::{Log, Teller, handle, store_told, tell_lost_words};
 use inspector_cli::{Naming, memory_session};
@@ -46,6 +47,7 @@ pub fn run_program<
             rt.alloc(),
             &Ending::from(Refusal::OutOfMemory),
             Clues {
+                context: Context::Other,
                 last_line: b"",
                 line: None,
                 trouble: None,
@@ -121,6 +123,7 @@ pub fn run_words<
         Ok(()) => 0,
         Err(ending) => {
             let clues = Clues {
+                context: context_of(words, &line),
                 last_line: line.text(),
                 line: line_in_place_of_a_command(words),
                 trouble,

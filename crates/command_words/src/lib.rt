@@ -4,6 +4,7 @@
 mod ask_help;
 mod ask_tables;
 mod care_tables;
+mod contexts;
 mod grammar;
 mod handler_words;
 mod helps;
@@ -18,6 +19,7 @@ mod text_digits;
 mod troubles;
 mod watched;
 
+pub use contexts::{Context, context_of, meaning_when};
 pub use grammar::program;
 pub use handler_words::in_order;
 pub use helps::{

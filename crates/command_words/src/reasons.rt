@@ -1,9 +1,9 @@
 // What a reason means, in words for people.
 
 // A reason, and what it means.
-struct Meaning {
-    reason: &'static [u8],
-    words: &'static [u8],
+pub(crate) struct Meaning {
+    pub(crate) reason: &'static [u8],
+    pub(crate) words: &'static [u8],
 }
 
 // The reasons for which something is refused. Other reasons are fields of an image.
@@ -30,7 +30,7 @@ static MEANINGS: [Meaning; 37] = [
     },
     Meaning {
         reason: b"TooLong",
-        words: b"the image is over the limit, or its name has over 128 bytes: raise the limit, or keep the front by cut",
+        words: b"the image is over the limit: raise the limit, or keep the front by cut; or its name has over 128 bytes: take a shorter one",
     },
     Meaning {
         reason: b"NulByte",
@@ -160,12 +160,21 @@ static MEANINGS: [Meaning; 37] = [
 
 /// What a reason means. It may have words after it. Empty if there is nothing to say.
 pub fn meaning_of(reason: &[u8]) -> &'static [u8] {
-    let first = match reason.iter().position(|byte| *byte == b' ') {
+    meaning_in(&MEANINGS, first_word(reason))
+}
+
+// A reason without the words after it.
+pub(crate) fn first_word(reason: &[u8]) -> &[u8] {
+    match reason.iter().position(|byte| *byte == b' ') {
         Some(end) => &reason[..end],
         None => reason,
-    };
-    for meaning in &MEANINGS {
-        if meaning.reason == first {
+    }
+}
+
+// The words of a reason in a table; empty if it has none there.
+pub(crate) fn meaning_in(meanings: &[Meaning], reason: &[u8]) -> &'static [u8] {
+    for meaning in meanings {
+        if meaning.reason == reason {
             return meaning.words;
         }
     }

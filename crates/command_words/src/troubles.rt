@@ -1,5 +1,5 @@
 // Why a call on an archive's file failed, in words for people.
-use crate::reasons::meaning_of;
+use crate::contexts::{Context, meaning_when};
 use onlooker::{Call, Trouble};
 use script_streams::{Output, Reply};
 
@@ -59,12 +59,17 @@ static ERRORS: [SystemError; 9] = [
     },
 ];
 
-/// Tells what a reason means. If the disk failed, and it is known which call of the system that was, it is told with the system's
-/// reason.
-pub fn tell_meaning<O: Output>(reply: &mut Reply<'_, O>, reason: &[u8], trouble: Option<Trouble>) {
+/// Tells what a reason means when this was done. If the disk failed, and it is known which call of the system that was, it is told with
+/// the system's reason.
+pub fn tell_meaning<O: Output>(
+    reply: &mut Reply<'_, O>,
+    context: Context,
+    reason: &[u8],
+    trouble: Option<Trouble>,
+) {
     match trouble {
         Some(trouble) if reason == b"Disk".as_slice() => tell_trouble(reply, trouble),
-        _ => reply.tell(meaning_of(reason)),
+        _ => reply.tell(meaning_when(context, reason)),
     }
 }
 

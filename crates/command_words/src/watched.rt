@@ -15,6 +15,8 @@ pub struct LastLine {
     is_cut: bool,
     // A newline ends it.
     is_whole: bool,
+    // No line precedes it.
+    is_first: bool,
 }
 
 impl LastLine {
@@ -23,7 +25,13 @@ impl LastLine {
             text: ArrayVec::new(),
             is_cut: false,
             is_whole: false,
+            is_first: true,
         }
+    }
+
+    /// Whether no line precedes it.
+    pub(crate) fn is_first(&self) -> bool {
+        self.is_first
     }
 
     /// The line; empty if not all of it is kept.
@@ -41,6 +49,7 @@ impl LastLine {
         if skipped > 0 {
             self.is_cut = true;
             self.is_whole = false;
+            self.is_first = false;
         }
         for byte in &bytes[skipped..] {
             self.add_byte(*byte);
@@ -62,6 +71,7 @@ impl LastLine {
         self.text.clear();
         self.is_cut = false;
         self.is_whole = false;
+        self.is_first = false;
     }
 }
 

@@ -1,6 +1,6 @@
 // What the replies of a store say of its outcome, for a log.
 use archive_files::{Collected, FileWord, Refusal};
-use command_words::tell_meaning;
+use command_words::{Context, tell_meaning};
 use onlooker::Trouble;
 use script_streams::Reply;
 use std::alloc::Global;
@@ -108,7 +108,7 @@ pub(crate) fn words_of(
     let mut reply = Reply::new(&mut words);
     match refusal.and_then(|refusal| file_text(alloc, refusal)) {
         Some(text) => reply.tell(text.as_bytes()),
-        None => tell_meaning(&mut reply, reason, trouble),
+        None => tell_meaning(&mut reply, Context::Other, reason, trouble),
     }
     let _ = reply.finish();
     words
