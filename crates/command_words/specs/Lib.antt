@@ -1,1 +1,2 @@
+pub mod Handling
 pub mod Notes

@@ -1,4 +1,7 @@
 // The words of a handler, which loses no core for one that it does not know.
+ghost use Rattle.std.specs.Prelude.{◌≡◌, None, Ok, false};
+ghost use Rattle.command_words.specs.Handling.{asks_to_handle};
+
 use std::alloc::{AllocError, Global};
 
 // What kind of word it is.
@@ -18,7 +21,9 @@ enum Kind {
 /// # Errors
 ///
 /// `AllocError` if there is no memory for them.
-pub fn in_order(alloc: Global, words: &[String]) -> Result<Option<Vec<String>>, AllocError> {
+pub fn in_order(alloc: Global, words: &[String]) -> Result<Option<Vec<String>>, AllocError>
+    ensures others { asks_to_handle words.now ≡ false → result ≡ Ok None }
+{
     let Some((command, rest)) = words.split_first() else {
         return Ok(None);
     };
