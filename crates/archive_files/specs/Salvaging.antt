@@ -1,6 +1,5 @@
 -- The cases of an archive whose opening is refused, copied onto a new disk, and how that is told.
 use Rattle.std.specs.Prelude.{◌≡◌, false, Result}
-use Rattle.archive_care.specs.declared.copying.CopyWish.{CopyWish}
 use Rattle.archive_care.specs.declared.faults.CopyFault.{CopyFault}
 use Rattle.disk_model.specs.declared.disk.Disk as disk
 use Rattle.salvage.specs.Copying.{CopiesAs, found_bytes}

@@ -41,7 +41,15 @@ pub fn store_file<R: AllocGlobal + Files<File = File>, I: Read, O: Output, W: On
             let mut taken = taken;
             let length = length_of(&file);
             let request = request.of_length(length, room_in(&mut taken));
-            store_counted(rt.alloc(), taken, request, length, &mut file, output, onlooker)
+            store_counted(
+                rt.alloc(),
+                taken,
+                request,
+                length,
+                &mut file,
+                output,
+                onlooker,
+            )
         }
         Err(error) => refuse_taken(rt.alloc(), taken, request.limit(), FileFault::from(error)),
     }

@@ -7,7 +7,8 @@ use crate::asked::{Asked, SessionWords, read_words};
 use crate::endings::{Clues, Ending, tell_ending};
 use archive_files::{
     Access, ArchivePath, Collected, Failure, Refusal, StoreRequest, ask, check, copy_archive_file,
-    look, make_archive, names_output, resize_archive_file, run_over, salvage, take_disk, tell_trouble,
+    look, make_archive, names_output, resize_archive_file, run_over, salvage, take_disk,
+    tell_trouble,
 };
 use case_info::{InfoWords, ask_rows, info_archive, info_case};
 use case_listing::{ask_case, ask_plain, extract_case, list, would_retire};
@@ -99,14 +100,7 @@ pub fn run_words<
     O: Output,
     E: Output,
     W: Onlooker,
->(
-    rt: &R,
-    words: &[String],
-    input: &mut I,
-    output: &mut O,
-    errors: &mut E,
-    onlooker: &mut W,
-) -> u8
+>(rt: &R, words: &[String], input: &mut I, output: &mut O, errors: &mut E, onlooker: &mut W) -> u8
     // The status. If it is 0, nothing was written to the errors, but for a note on the case that `store` stored.
     ensures most { result ≤ 2 }
     ensures quiet { result ≡ 0 → asks_to_store words.now ≡ false → errors.new ≡ errors.old }
@@ -134,12 +128,7 @@ pub fn run_words<
 }
 
 // Does what the words ask for, unless what is told of it would overwrite a file that they name.
-fn answer_words<
-    R: AllocGlobal + Files<File = File> + Clock,
-    I: Read,
-    O: Output,
-    W: Onlooker,
->(
+fn answer_words<R: AllocGlobal + Files<File = File> + Clock, I: Read, O: Output, W: Onlooker>(
     rt: &R,
     words: &[String],
     input: &mut I,
@@ -175,12 +164,7 @@ fn answer_words<
 }
 
 // Does what is asked for.
-fn answer_asked<
-    R: AllocGlobal + Files<File = File> + Clock,
-    I: Read,
-    O: Output,
-    W: Onlooker,
->(
+fn answer_asked<R: AllocGlobal + Files<File = File> + Clock, I: Read, O: Output, W: Onlooker>(
     rt: &R,
     asked: Asked<'_>,
     input: &mut I,
@@ -190,7 +174,9 @@ fn answer_asked<
 ) -> Result<(), Failure> {
     match asked {
         Asked::Format { archive, wanted } => Ok(make_archive(rt, archive, wanted, onlooker)?),
-        Asked::Run { archive, settings } => run_file(rt, archive, settings, input, output, onlooker),
+        Asked::Run { archive, settings } => run_file(
+            rt, archive, settings, input, output, onlooker,
+        ),
         Asked::Memory { shape, settings } => run_memory(rt, shape, settings, input, output),
         Asked::Store {
             archive,
@@ -201,7 +187,9 @@ fn answer_asked<
         } => {
             let naming = naming_of(settings)?;
             let request = StoreRequest::of(wanted, &naming, settings.limit);
-            store(rt, archive, file, request, log, input, output, note, onlooker)
+            store(
+                rt, archive, file, request, log, input, output, note, onlooker,
+            )
         }
         Asked::Extract {
             archive,
@@ -352,7 +340,9 @@ fn store<R: AllocGlobal + Files<File = File>, I: Read, O: Output, W: Onlooker>(
             path: log.unwrap_or(""),
         },
     };
-    store_told(rt, teller, place, file, request, input, output, note, onlooker)
+    store_told(
+        rt, teller, place, file, request, input, output, note, onlooker,
+    )
 }
 
 // How cores are named.

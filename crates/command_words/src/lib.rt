@@ -28,7 +28,6 @@ pub use helps::{
 pub use line_texts::{line_of, push_text};
 pub use notes::tell_note;
 pub use raw_words::{is_text, push_escaped, words_of};
-pub use reasons::meaning_of;
 pub use text_digits::digits_of;
 pub use troubles::tell_meaning;
 pub use watched::{LastLine, Watched};

@@ -159,7 +159,7 @@ static MEANINGS: [Meaning; 37] = [
 ];
 
 /// What a reason means. It may have words after it. Empty if there is nothing to say.
-pub fn meaning_of(reason: &[u8]) -> &'static [u8] {
+pub(crate) fn meaning_of(reason: &[u8]) -> &'static [u8] {
     meaning_in(&MEANINGS, first_word(reason))
 }
 

@@ -66,12 +66,7 @@ impl<'a> HandleWords<'a> {
 /// # Errors
 ///
 /// Those of `store_file` of `archive_files`, and `File` if no archive is named. With `--check` it is `Told` if not all is in order.
-pub fn handle<
-    R: AllocGlobal + Files<File = File> + Clock,
-    I: Read,
-    O: Output,
-    W: Onlooker,
->(
+pub fn handle<R: AllocGlobal + Files<File = File> + Clock, I: Read, O: Output, W: Onlooker>(
     rt: &R,
     words: HandleWords<'_>,
     input: &mut I,

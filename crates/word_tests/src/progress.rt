@@ -64,7 +64,13 @@ type Row = (&'static str, Option<u64>, u64, u64, &'static str);
 
 static ROWS: [Row; 8] = [
     ("stores", None, 0, 1_000, "stores 0 B, 0 B/s"),
-    ("stores", None, 3_145_728, 1_500, "stores 3.0 MiB, 2.0 MiB/s"),
+    (
+        "stores",
+        None,
+        3_145_728,
+        1_500,
+        "stores 3.0 MiB, 2.0 MiB/s",
+    ),
     (
         "stores",
         Some(4_096),
@@ -100,7 +106,13 @@ static ROWS: [Row; 8] = [
         1_000,
         "stores 20 B of 10 B, 200 %, 20 B/s, 0 s left",
     ),
-    ("copies", None, u64::MAX, 0, "copies 17179869183.9 GiB, 0 B/s"),
+    (
+        "copies",
+        None,
+        u64::MAX,
+        0,
+        "copies 17179869183.9 GiB, 0 B/s",
+    ),
 ];
 
 // What is told of a piece of work.
@@ -147,11 +159,14 @@ fn the_line_is_shown_from_the_first_second_on(rt: HostRuntime) -> Result<(), Fai
     advance_at(&hand, &mut meter, 9_000);
     meter.end();
     drop(meter);
-    assert_eq!(rt; str::from_utf8(&shown), Ok(concat!(
-        "\r\x1b[Kcorekeep stores 2 B of 4 B, 50 %, 2 B/s, 1 s left",
-        "\r\x1b[Kcorekeep stores 4 B of 4 B, 100 %, 3 B/s, 0 s left",
-        "\r\x1b[K",
-    )));
+    assert_eq!(rt;
+        str::from_utf8(&shown),
+        Ok(concat!(
+            "\r\x1b[Kcorekeep stores 2 B of 4 B, 50 %, 2 B/s, 1 s left",
+            "\r\x1b[Kcorekeep stores 4 B of 4 B, 100 %, 3 B/s, 0 s left",
+            "\r\x1b[K",
+        ))
+    );
     Ok(())
 }
 
@@ -169,7 +184,10 @@ fn the_next_work_begins_anew(rt: HostRuntime) -> Result<(), Fail> {
     advance_at(&hand, &mut meter, 1_800);
     advance_at(&hand, &mut meter, 2_900);
     drop(meter);
-    assert_eq!(rt; str::from_utf8(&shown), Ok("\r\x1b[Kcorekeep copies 2 B, 1 B/s"));
+    assert_eq!(rt;
+        str::from_utf8(&shown),
+        Ok("\r\x1b[Kcorekeep copies 2 B, 1 B/s")
+    );
     Ok(())
 }
 

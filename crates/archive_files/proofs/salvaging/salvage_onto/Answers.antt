@@ -1,5 +1,4 @@
-use Rattle.std.proofs.Common.{◌∙◌, false, Ok, Err, ap, subst, sym, Result}
-use Rattle.archive_care.specs.declared.copying.CopyWish.{CopyWish}
+use Rattle.std.proofs.Common.{◌∙◌, false, Err, ap, subst, sym}
 use Rattle.archive_files.specs.Copying.{copy_told}
 use Rattle.archive_files.specs.declared.failures.Refusal.{Refusal}
 use Rattle.journal_layout.specs.declared.shape.Shape.{Shape}
