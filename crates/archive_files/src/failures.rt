@@ -218,10 +218,6 @@ pub fn tell_unwritten<E: Output>(file: &[u8], kind: io::ErrorKind, errors: &mut 
 fn tell_in_words<E: Output>(alloc: Global, refusal: Refusal, errors: &mut E) {
     let text = match refusal {
         Refusal::File(word, fault) => file_text(alloc, word, fault),
-        Refusal::NoLine("") => format!(in alloc;
-            "corekeep: no line begins so: corekeep ask --help lists them\n"
-        ),
-        Refusal::NoLine(usage) => format!(in alloc; "corekeep: the line is: {usage}\n"),
         Refusal::Output => format!(in alloc;
             "corekeep: standard output goes to a file that the command names, and would overwrite it\n"
         ),

@@ -3,7 +3,7 @@ ghost use Rattle.std.specs.Prelude.{◌≡◌, ◌≤◌};
 
 use archive_files::{Failure, Refusal, reason_of, tell_failure};
 use clap::error::ErrorKind;
-use command_words::{Context, meaning_when, tell_how_it_is_asked, tell_meaning};
+use command_words::{Context, meaning_when, tell_how_it_is_asked, tell_meaning, tell_no_line};
 use line_help::LineHelp;
 use onlooker::Trouble;
 use script_streams::{Output, Reply, write_whole};
@@ -62,6 +62,8 @@ pub(crate) struct Clues<'a> {
     pub(crate) context: Context,
     // The last line of the output: it has the reason for which a step was refused.
     pub(crate) last_line: &'a [u8],
+    // The words of the command line.
+    pub(crate) words: &'a [String],
     // The line of a script that the words begin with.
     pub(crate) line: Option<&'static LineHelp>,
     // The last call on an archive's file that failed.
@@ -92,6 +94,7 @@ pub(crate) fn tell_ending<O: Output, E: Output>(
 // Tells people what the reason of a refusal means.
 fn tell_why<E: Output>(alloc: Global, failure: &Failure, clues: Clues<'_>, errors: &mut E) {
     match failure {
+        Failure::Refused(Refusal::NoLine(usage)) => tell_no_line(usage, clues.words, errors),
         Failure::Refused(refusal) | Failure::Aside(refusal) => {
             if !is_told(*refusal) {
                 tell_words_of(reason_of(alloc, *refusal).text(), clues, errors);

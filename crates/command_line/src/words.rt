@@ -50,6 +50,7 @@ pub fn run_program<
             Clues {
                 context: Context::Other,
                 last_line: b"",
+                words: &[],
                 line: None,
                 trouble: None,
             },
@@ -119,6 +120,7 @@ pub fn run_words<
             let clues = Clues {
                 context: context_of(words, &line),
                 last_line: line.text(),
+                words,
                 line: line_in_place_of_a_command(words),
                 trouble,
             };

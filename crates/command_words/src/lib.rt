@@ -18,6 +18,7 @@ mod tables;
 mod text_digits;
 mod troubles;
 mod watched;
+mod wrong_words;
 
 pub use contexts::{Context, context_of, meaning_when};
 pub use grammar::program;
@@ -31,3 +32,4 @@ pub use raw_words::{is_text, push_escaped, words_of};
 pub use text_digits::digits_of;
 pub use troubles::tell_meaning;
 pub use watched::{LastLine, Watched};
+pub use wrong_words::tell_no_line;

@@ -1,0 +1,122 @@
+// Words that are no line of a script: what people are told of them.
+use script_streams::{Output, Reply};
+use script_words::{parse_number, parse_number_within};
+
+// A word of a line, as its usage names it, and what stands there.
+struct Part {
+    name: &'static str,
+    words: &'static [u8],
+}
+
+static PARTS: [Part; 6] = [
+    Part {
+        name: "N",
+        words: b"the case: its number, its name, or last",
+    },
+    Part {
+        name: "T",
+        words: b"the number of a thread, from 0 on: threads N lists them",
+    },
+    Part {
+        name: "I",
+        words: b"the number of a frame, from 0 on: unwind N T lists them",
+    },
+    Part {
+        name: "ADDR",
+        words: b"an address, as 0x11000",
+    },
+    Part {
+        name: "LEN",
+        words: b"how many bytes",
+    },
+    Part {
+        name: "MIN",
+        words: b"the least bytes of a text, 1 to 1,024",
+    },
+];
+
+// What is wrong with the words of a line.
+enum Fault<'a> {
+    // This one is not there.
+    Missing(&'static Part),
+    // This word is not what stands there.
+    Wrong(&'a str, &'static Part),
+    // This word is one too many.
+    Surplus(&'a str),
+}
+
+/// Tells people the usage of the line that the words of `ask` begin like, and which word is wrong. Without a usage no line begins so.
+pub fn tell_no_line<E: Output>(usage: &str, words: &[String], errors: &mut E) {
+    let mut reply = Reply::new(errors);
+    if usage.is_empty() {
+        reply.tell(b"corekeep: no line begins so: corekeep ask --help lists them\n");
+    } else {
+        reply.tell(b"corekeep: the line is: ");
+        reply.tell(usage.as_bytes());
+        tell_fault(&mut reply, fault_in(usage, words));
+        reply.tell(b"\n");
+    }
+    let _ = reply.finish();
+}
+
+// Tells which word is wrong, if that is known.
+fn tell_fault<E: Output>(reply: &mut Reply<'_, E>, fault: Option<Fault<'_>>) {
+    match fault {
+        Some(Fault::Missing(part)) => {
+            reply.tell(b"; ");
+            reply.tell(part.name.as_bytes());
+            reply.tell(b" is missing: ");
+            reply.tell(part.words);
+        }
+        Some(Fault::Wrong(word, part)) => {
+            reply.tell(b"; ");
+            reply.tell_text(word.as_bytes());
+            reply.tell(b" is no ");
+            reply.tell(part.name.as_bytes());
+            reply.tell(b": ");
+            reply.tell(part.words);
+        }
+        Some(Fault::Surplus(word)) => {
+            reply.tell(b"; ");
+            reply.tell_text(word.as_bytes());
+            reply.tell(b" is one word too many");
+        }
+        None => {}
+    }
+}
+
+// The first word of these that is not as the usage has it. It is not looked for where a word may be left out, or is told already.
+fn fault_in<'a>(usage: &str, words: &'a [String]) -> Option<Fault<'a>> {
+    if usage.contains('[') || usage.contains(':') || usage.contains('-') {
+        return None;
+    }
+    // The command, the archive and the name of the line come first; options may stand anywhere.
+    let mut given = words.iter().filter(|word| !word.starts_with("--")).skip(3);
+    for name in usage.split(' ').skip(1) {
+        let part = part_of(name)?;
+        match given.next() {
+            Some(word) if is_such(part, word) => {}
+            Some(word) => return Some(Fault::Wrong(word.as_str(), part)),
+            None => return Some(Fault::Missing(part)),
+        }
+    }
+    Some(Fault::Surplus(given.next()?.as_str()))
+}
+
+fn part_of(name: &str) -> Option<&'static Part> {
+    for part in &PARTS {
+        if part.name == name {
+            return Some(part);
+        }
+    }
+    None
+}
+
+// Whether a word can stand there. A case may have any name.
+fn is_such(part: &Part, word: &str) -> bool {
+    match part.name {
+        "N" => true,
+        "MIN" => parse_number_within(word.as_bytes(), 1, 1_024).is_some(),
+        _ => parse_number(word.as_bytes()).is_some(),
+    }
+}
