@@ -1,5 +1,5 @@
 -- What the program does over the archive on a disk, by the values that its words say.
-use Rattle.std.specs.Prelude.{◌≡◌, ◌⊎◌, ℕ, Bool, false, List, [], Option, None, Some, Result, Ok, Err, codes}
+use Rattle.std.specs.Prelude.{◌≡◌, ◌⊎◌, ◌&&◌, ◌||◌, nat_lt, is_none, if◌then◌else◌, ℕ, Bool, false, List, [], Option, None, Some, Result, Ok, Err, codes}
 use Rattle.std.specs.Io.KnownBytes.{Keeps}
 use Rattle.disk_model.specs.declared.disk.Disk as disk
 use Rattle.inspector_cli.specs.Asking.{AsksAlone, as_session, line_streams}
@@ -72,9 +72,24 @@ name_found (Err reason) = codes "a core"
 abbrev pub IsFitted : StoreRequest → StoreRequest → Type 0
 IsFitted request fitted = (fitted ≡ request) ⊎ (fitted ≡ record request { policy = None })
 
--- the same request, or one for which no case goes
-abbrev pub IsSparing : StoreRequest → StoreRequest → Type 0
-IsSparing request fitted = (fitted ≡ request) ⊎ (fitted ≡ record request { policy = None; options = record request.options { fit = false } })
+-- the same request, but no case goes for it
+abbrev pub sparing : StoreRequest → StoreRequest
+sparing request = record request { policy = None; options = record request.options { fit = false } }
+
+-- whether a stream of so many bytes is over the limit, and may not be cut
+abbrev pub is_too_long : ℕ → StoreRequest → Bool
+is_too_long size request = is_none request.options.cut && nat_lt request.limit size
+
+-- Whether a stream of so many bytes is refused whichever cases go: it is too long, or longer than all of the archive's data, if that is
+-- known, and may not be cut.
+abbrev pub is_refused : ℕ → Option ℕ → StoreRequest → Bool
+is_refused size (Some most) request = is_too_long size request || is_none request.options.cut && nat_lt most size
+is_refused size None request = is_too_long size request
+
+-- The request for a stream of this length, if it is known.
+abbrev pub sparing_for : Option ℕ → Option ℕ → StoreRequest → StoreRequest
+sparing_for (Some size) most request = if is_refused size most request then sparing request else request
+sparing_for None most request = request
 
 -- The same of a file that is read ahead.
 abbrev pub StoresFile : {D : Type 0} → disk.Ghosts D → StoreRequest → Option (List ℕ) → Option (List ℕ) → Option (List ℕ) → ℕ → ℕ → D → Result (Unit {0}) Failure → D → Type 0

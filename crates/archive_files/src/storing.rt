@@ -7,7 +7,7 @@ ghost use Rattle.stream_names.specs.Commands.{stream_found};
 ghost use Rattle.inspector_cli.specs.Session.{streams_of};
 ghost use Rattle.inspector_cli.specs.Storing.{line_stream};
 ghost use Rattle.script_streams.specs.Replies.{TellsText, telling};
-ghost use Rattle.archive_files.specs.OverDisks.{StoresOnDisk, StoresFile, IsFitted, IsSparing, name_found, reason_found};
+ghost use Rattle.archive_files.specs.OverDisks.{StoresOnDisk, StoresFile, IsFitted, is_refused, is_too_long, name_found, reason_found, sparing, sparing_for};
 ghost use Rattle.archive_files.specs.Telling.{IsKeptAs};
 
 use crate::collected::Collected;
@@ -110,21 +110,17 @@ impl StoreRequest {
     /// The request for a stream of so many bytes, if that is known, in an archive whose data takes at most so many. No case goes for
     /// a stream that is refused whichever go.
     pub fn of_length(self, length: Option<u64>, most: Option<u64>) -> Self
-        ensures { IsSparing self result }
+        ensures { result ≡ sparing_for length most self }
     {
-        let Some(length) = length else {
-            return self;
-        };
-        if self.is_too_long(length) || self.is_over(length, most) {
-            self.sparing()
-        } else {
-            self
+        match length {
+            Some(length) if self.is_refused(length, most) => self.sparing(),
+            _ => self,
         }
     }
 
     // No case goes.
     fn sparing(self) -> Self
-        ensures { result ≡ record self { policy = None; options = record self.options { fit = false } } }
+        ensures { result ≡ sparing self }
     {
         StoreRequest {
             policy: None,
@@ -136,16 +132,20 @@ impl StoreRequest {
         }
     }
 
-    // A stream of so many bytes finds no room among so many, and may not be cut.
-    fn is_over(&self, length: u64, most: Option<u64>) -> bool {
+    // A stream of so many bytes is refused, if the data of the archive takes at most so many. None is that may be cut.
+    fn is_refused(&self, length: u64, most: Option<u64>) -> bool
+        ensures { result ≡ is_refused length most self.now }
+    {
         match most {
-            Some(most) => self.options.cut.is_none() && length > most,
-            None => false,
+            Some(most) => self.is_too_long(length) || self.options.cut.is_none() && length > most,
+            None => self.is_too_long(length),
         }
     }
 
     // A stream of so many bytes is refused for its length. None is that may be cut.
-    pub(crate) fn is_too_long(&self, size: u64) -> bool {
+    fn is_too_long(&self, size: u64) -> bool
+        ensures { result ≡ is_too_long size self.now }
+    {
         self.options.cut.is_none() && size > self.limit
     }
 
