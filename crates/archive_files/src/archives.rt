@@ -194,6 +194,7 @@ fn takes_archive(command: &str) -> bool {
             | "store"
             | "extract"
             | "list"
+            | "info"
             | "ask"
             | "look"
             | "check"
