@@ -14,7 +14,7 @@ help:
 	@echo 'make plant CRATE=name    tries wrong bodies on a copy of a crate'
 	@echo 'make wrong-bodies [CRATE=name]   tries those that are written down and left out of the gate'
 	@echo 'make fmt                 lays the sources out'
-	@echo 'make install [PREFIX=/usr/local] [SYSCONFDIR=/etc]   installs the program, manual page, completions, unit and samples'
+	@echo 'make install [PREFIX=/usr/local] [SYSCONFDIR=/etc]   installs the program, manual pages, completions, unit and samples'
 	@echo 'make deb                 builds the Debian package bin/corekeep_VERSION_amd64.deb'
 
 try:
