@@ -3,11 +3,12 @@ ghost use Rattle.std.specs.Prelude.{◌≡◌};
 ghost use Rattle.archive_files.specs.Checks.{ChecksTaken, check_told};
 
 use crate::archive_path::ArchivePath;
-use crate::archives::{Access, take_disk};
+use crate::archives::{Access, take_disk, tell_trouble};
 use crate::failures::{Failure, Refusal};
 use archive_checks::{CheckFault, check_archive};
 use disk_model::Disk;
 use inspector_cli::SessionFault;
+use onlooker::Onlooker;
 use script_streams::Output;
 use std::alloc::Global;
 use std::fs::File;
@@ -15,14 +16,18 @@ use std::rt::Files;
 
 /// Tells what the archive in a file holds and that it is sound, or where it is damaged. The file's lock is shared meanwhile with
 /// others that only look. With `sees_images` each image is read too.
-pub fn check<R: AllocGlobal + Files<File = File>, O: Output>(
+pub fn check<R: AllocGlobal + Files<File = File>, O: Output, W: Onlooker>(
     rt: &R,
     place: ArchivePath<'_>,
     sees_images: bool,
     output: &mut O,
+    onlooker: &mut W,
 ) -> Result<(), Failure> {
     let taken = take_disk(rt, place, Access::Looking);
-    let (checked, _) = check_taken(rt.alloc(), taken, sees_images, output);
+    let (checked, disk) = check_taken(rt.alloc(), taken, sees_images, output);
+    if let Some(disk) = &disk {
+        tell_trouble(disk, onlooker);
+    }
     checked
 }
 

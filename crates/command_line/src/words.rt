@@ -215,7 +215,7 @@ fn answer_asked<R: AllocGlobal + Files<File = File> + Clock, I: Read, O: Output,
         Asked::Check {
             archive,
             sees_images,
-        } => check(rt, archive, sees_images, output),
+        } => check(rt, archive, sees_images, output, onlooker),
         Asked::Copy {
             archive,
             new,

@@ -13,6 +13,8 @@ pub enum Context {
     Storing,
     /// `handle` took a core.
     Handling,
+    /// A command only looked at an archive.
+    Looking,
     /// Anything else.
     Other,
 }
@@ -47,6 +49,10 @@ const LONG_IMAGE: &[u8] =
 const LONG_CORE: &[u8] =
     b"the core is over the limit of the configuration (limit, 1 GiB if it is left out): raise it, or keep the front by cut";
 
+// What `Disk` means to what only reads.
+const READ: &[u8] =
+    b"a read of the archive failed: the kernel's log (dmesg) may say why";
+
 /// What was done by these words, after which this is the last line of the output. If `store` is refused a name, the output has no
 /// other line.
 pub fn context_of(words: &[String], line: &LastLine) -> Context {
@@ -58,6 +64,7 @@ pub fn context_of(words: &[String], line: &LastLine) -> Context {
         "handle" => Context::Handling,
         "store" if line.is_first() => Context::Naming,
         "store" => Context::Storing,
+        "list" | "info" | "look" | "extract" => Context::Looking,
         _ => Context::Other,
     }
 }
@@ -69,6 +76,7 @@ pub fn meaning_when(context: Context, reason: &[u8]) -> &'static [u8] {
         Context::Naming if reason == b"TooLong".as_slice() => LONG_NAME,
         Context::Storing if reason == b"TooLong".as_slice() => LONG_IMAGE,
         Context::Handling if reason == b"TooLong".as_slice() => LONG_CORE,
+        Context::Looking if reason == b"Disk".as_slice() => READ,
         _ => b"",
     };
     if words.is_empty() {
