@@ -119,6 +119,12 @@ impl From<SessionFault> for Failure {
     }
 }
 
+impl From<StreamFault> for Failure {
+    fn from(_: StreamFault) -> Self {
+        Failure::Faulted(SessionFault::WriteFailed)
+    }
+}
+
 impl From<MemoryFault> for Failure {
     fn from(fault: MemoryFault) -> Self {
         match fault {

@@ -147,9 +147,7 @@ fn ask_locked<R: AllocGlobal + Files<File = File>, O: Output, W: Onlooker>(
     let (asked, disk) = ask_over(rt.alloc(), disk, question, &mut reply);
     tell_trouble(&disk, onlooker);
     drop(disk);
-    let Ok(()) = reply.finish() else {
-        return Err(Failure::Faulted(SessionFault::WriteFailed));
-    };
+    reply.finish()?;
     asked
 }
 

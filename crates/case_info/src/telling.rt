@@ -1,18 +1,12 @@
 // How what is shown is written.
 use archive_files::{Failure, Refusal, reason_of};
 use case_screens::refusal_json;
-use inspector_cli::SessionFault;
-use script_streams::{Output, Reply};
+use script_streams::{Output, Reply, write_whole};
 use std::alloc::Global;
 
 // Writes a text that is whole.
 pub(crate) fn write_text<O: Output>(text: &[u8], output: &mut O) -> Result<(), Failure> {
-    let mut reply = Reply::new(output);
-    reply.tell(text);
-    match reply.finish() {
-        Ok(()) => Ok(()),
-        Err(_) => Err(Failure::Faulted(SessionFault::WriteFailed)),
-    }
+    Ok(write_whole(output, text)?)
 }
 
 // Writes JSON, and a newline.
@@ -20,10 +14,7 @@ pub(crate) fn write_json<O: Output>(json: &str, output: &mut O) -> Result<(), Fa
     let mut reply = Reply::new(output);
     reply.tell(json.as_bytes());
     reply.tell(b"\n");
-    match reply.finish() {
-        Ok(()) => Ok(()),
-        Err(_) => Err(Failure::Faulted(SessionFault::WriteFailed)),
-    }
+    Ok(reply.finish()?)
 }
 
 // What was shown; or, if JSON is asked for, an object that says why it is refused.

@@ -7,7 +7,6 @@ use crate::outcome_lines::words_of;
 use archive_files::{Access, ArchivePath, Failure, Refusal, reason_of, shape_on, take_disk};
 use disk_model::Disk;
 use handler_config::{Burst, Config};
-use inspector_cli::SessionFault;
 use intake::{Archive, Settings};
 use journal_layout::Shape;
 use name_template::Template;
@@ -37,9 +36,7 @@ pub(crate) fn check<R: AllocGlobal + Files<File = File>, O: Output>(
     let are_known = tell_faults(rt, &mut reply, words, document);
     let are_taken = tell_values(rt, &mut reply, &config);
     let is_large = tell_size(rt, &mut reply, &config, words.archive);
-    let Ok(()) = reply.finish() else {
-        return Err(Failure::Faulted(SessionFault::WriteFailed));
-    };
+    reply.finish()?;
     if are_known && are_taken && is_large {
         Ok(())
     } else {

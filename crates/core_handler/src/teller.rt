@@ -4,7 +4,6 @@ use crate::log::{Level, Log};
 use crate::outcome_lines::{lost_line, outcome_of, stored_line, words_of};
 use archive_files::{ArchivePath, Collected, Failure, Held, StoreRequest, reason_of, store_file};
 use disk_model::FileDisk;
-use inspector_cli::SessionFault;
 use onlooker::{Onlooker, Trouble};
 use script_streams::{Output, Reply, write_whole};
 use script_words::parse_case_number;
@@ -52,9 +51,7 @@ pub fn store_told<R: AllocGlobal + Files<File = File>, I: Read, O: Output, W: On
         disk,
         note,
     );
-    let Ok(()) = reply.finish() else {
-        return Err(Failure::Faulted(SessionFault::WriteFailed));
-    };
+    reply.finish()?;
     ended
 }
 
