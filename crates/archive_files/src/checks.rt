@@ -5,17 +5,21 @@ ghost use Rattle.archive_files.specs.Checks.{ChecksTaken, check_told};
 use crate::archive_path::ArchivePath;
 use crate::archives::{Access, take_disk, tell_trouble};
 use crate::failures::{Failure, Refusal};
+use crate::held::Held;
+use crate::salvaging::fault_found;
 use archive_checks::{CheckFault, check_archive};
 use disk_model::Disk;
 use inspector_cli::SessionFault;
+use journal_layout::{BLOCK, OpenFault};
 use onlooker::Onlooker;
-use script_streams::Output;
+use script_streams::{Output, Reply};
 use std::alloc::Global;
 use std::fs::File;
 use std::rt::Files;
 
-/// Tells what the archive in a file holds and that it is sound, or where it is damaged. The file's lock is shared meanwhile with
-/// others that only look. With `sees_images` each image is read too.
+/// Tells what the archive in a file holds and that it is sound, or where it is damaged. An archive that opens, but with a damaged gate
+/// that may hide records, is not sound. The file's lock is shared meanwhile with others that only look. With `sees_images` each image is
+/// read too.
 pub fn check<R: AllocGlobal + Files<File = File>, O: Output, W: Onlooker>(
     rt: &R,
     place: ArchivePath<'_>,
@@ -24,11 +28,29 @@ pub fn check<R: AllocGlobal + Files<File = File>, O: Output, W: Onlooker>(
     onlooker: &mut W,
 ) -> Result<(), Failure> {
     let taken = take_disk(rt, place, Access::Looking);
-    let (checked, disk) = check_taken(rt.alloc(), taken, sees_images, output);
+    let mut reply = Held::new(rt.alloc(), output);
+    let (checked, disk) = check_taken(rt.alloc(), taken, sees_images, &mut reply);
     if let Some(disk) = &disk {
         tell_trouble(disk, onlooker);
     }
+    if let (Ok(()), Some(fault)) = (&checked, fault_found(rt, place)) {
+        drop(reply);
+        return Err(tell_hidden(fault, output));
+    }
+    reply.finish()?;
     checked
+}
+
+// Tells where the gate is that may hide records.
+fn tell_hidden<O: Output>(fault: OpenFault, output: &mut O) -> Failure {
+    if let OpenFault::Damaged { at, .. } = fault {
+        let mut reply = Reply::new(output);
+        reply.tell(b"damaged in block ");
+        reply.tell_decimal(u128::from(at / BLOCK));
+        reply.tell(b": a gate that may hide the records after it\n");
+        let _ = reply.finish();
+    }
+    Failure::Refused(Refusal::Open(fault))
 }
 
 // Tells what the archive on the disk that was taken holds and that it is sound, or where it is damaged, and hands the disk on; or tells

@@ -36,6 +36,6 @@ pub use held::Held;
 pub use look_session::look;
 pub use looking::take_look;
 pub use over_disk::{ask_over, run_over};
-pub use salvaging::{salvage, salvage_onto};
+pub use salvaging::{fault_found, salvage, salvage_onto};
 pub use single::{ask, extract};
 pub use storing::{StoreRequest, StoreWords};

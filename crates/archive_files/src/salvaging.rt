@@ -12,6 +12,7 @@ use crate::part_file::{clear, give_name, part_of};
 use archive_care::CopyWish;
 use disk_model::{Disk, DiskFault, FileDisk, FileFault};
 use inspector_cli::SessionFault;
+use journal_layout::OpenFault;
 use onlooker::Onlooker;
 use salvage::{Found, Source, copy_cases, find_cases, tell_cases};
 use script_streams::Output;
@@ -82,6 +83,17 @@ pub fn salvage<R: AllocGlobal + Files<File = File>, O: Output, W: Onlooker>(
         return Ok(());
     }
     Err(Failure::Faulted(SessionFault::WriteFailed))
+}
+
+/// The first fault of an archive that `salvage` finds, if there is one: also that of a gate by which the archive opens without the
+/// records after it.
+pub fn fault_found<R: AllocGlobal + Files<File = File>>(
+    rt: &R,
+    place: ArchivePath<'_>,
+) -> Option<OpenFault> {
+    let source = open_source(rt, place).ok()?;
+    let found = find_cases(rt.alloc(), &source).ok()?;
+    found.fault()
 }
 
 fn open_source<R: AllocGlobal + Files<File = File>>(

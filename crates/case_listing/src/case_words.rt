@@ -5,6 +5,7 @@ ghost use Rattle.intake.specs.Parts.{state_of};
 ghost use Rattle.case_listing.specs.Naming.{NamesOn, number_found};
 
 use archive_files::{ArchivePath, Failure, Refusal, ask, extract, take_look};
+use arrayvec::ArrayVec;
 use case_tables::number_named;
 use command_words::line_of;
 use disk_model::Disk;
@@ -12,7 +13,7 @@ use intake::{Archive, ArchiveFault, Settings};
 use onlooker::Onlooker;
 use script_lines::{Question, parse_question};
 use script_streams::Output;
-use script_words::{parse_number, print_decimal};
+use script_words::{decode_text, parse_number, print_decimal};
 use std::alloc::{AllocError, Global};
 use std::fs::File;
 use std::rt::Files;
@@ -44,15 +45,33 @@ fn numbered(alloc: Global, words: &[&str], number: &str) -> Result<Option<Questi
     Ok(parse_question(&line_of(alloc, &line)?))
 }
 
-// The number of the case that a word names, in the archive as it is now.
+// The number of the case that a word names, in the archive as it is now: by its name, or as the name is printed.
 fn number_of<R: AllocGlobal + Files<File = File>>(
     rt: &R,
     place: ArchivePath<'_>,
     word: &str,
 ) -> Result<u32, Refusal> {
     let looked = take_look(rt, place)?;
-    let disk = looked.unlocked(Vec::new(rt.alloc()));
-    find_case(rt.alloc(), disk, word.as_bytes())
+    let found = find_case(
+        rt.alloc(),
+        looked.unlocked(Vec::new(rt.alloc())),
+        word.as_bytes(),
+    );
+    match (found, printed(word)) {
+        (Err(Refusal::Call(ArchiveFault::NoCase)), Some(name)) => {
+            let disk = looked.unlocked(Vec::new(rt.alloc()));
+            find_case(rt.alloc(), disk, name.as_slice())
+        }
+        (found, _) => found,
+    }
+}
+
+// The name that prints as this word, if it has a byte that prints as another one.
+fn printed(word: &str) -> Option<ArrayVec<u8, 1024>> {
+    if !word.contains('\\') {
+        return None;
+    }
+    decode_text(word.as_bytes())
 }
 
 /// The number of the case that a word names by no number, in the archive on a disk.

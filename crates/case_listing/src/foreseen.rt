@@ -37,7 +37,9 @@ pub fn foreseen_by(alloc: Global, words: &[&str]) -> Result<Option<Policy>, Refu
 fn retired_by(alloc: Global, words: &[&str]) -> Result<Policy, Refusal> {
     match parse_question(&retire_line(alloc, words)?) {
         Some(Question::Call(Call::Retire { policy })) => Ok(policy),
-        _ => Err(Refusal::NoLine("would-retire [keep=K] [bytes=B] [before=T]")),
+        _ => Err(Refusal::NoLine(
+            "would-retire [keep=K] [bytes=B] [before=T]: each a number, T in seconds since 1970",
+        )),
     }
 }
 

@@ -13,7 +13,7 @@ use std::str;
 const LONGEST_LINE: usize = 1024;
 
 // The words of a line whose rows may be told as JSON.
-const ROWS: &str = "--json LINE, a line that asks an image";
+const ROWS: &str = "--json LINE, a line that asks an image; corekeep list --json tells the cases";
 
 // The words of a line that takes a text.
 const TEXT: &str = "find N --text TEXT";

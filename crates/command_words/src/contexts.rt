@@ -13,8 +13,12 @@ pub enum Context {
     Storing,
     /// `handle` took a core.
     Handling,
-    /// A command only looked at an archive.
+    /// `list` picked cases.
+    Listing,
+    /// Another command only looked at an archive.
     Looking,
+    /// `copy` or `resize` made a new archive.
+    Copying,
     /// Anything else.
     Other,
 }
@@ -39,19 +43,59 @@ static SALVAGE_MEANINGS: [Meaning; 3] = [
 const SHAPE: &[u8] =
     b"this byte of the superblock is damaged, or the file is not as long as its superblock says: docs/OPERATIONS.md has a recipe for each, under 'The care of an archive'";
 
-// What `TooLong` means.
-const LONG_NAME: &[u8] =
-    b"the name has over 128 bytes: take a shorter NAME of --exec, or a shorter --template";
+// Those that mean more to `store`, when it names the case.
+static NAME_MEANINGS: [Meaning; 2] = [
+    Meaning {
+        reason: b"TooLong",
+        words: b"the name has over 128 bytes: take a shorter NAME of --exec, or a shorter --template",
+    },
+    Meaning {
+        reason: b"BadLine",
+        words: b"a pair, a limit or the label can't be read, or --exec has pairs: KEY is comm, exe, host, pid, tid, sig, uid, gid, mode, time or limit, the VALUE of all but comm, exe and host is a number, and --escape takes one that has spaces",
+    },
+];
 
-const LONG_IMAGE: &[u8] =
-    b"the image is over the limit (--limit N, 1 GiB if it is left out): raise it, or keep the front by --cut";
+// The same, when it takes the image.
+static STORE_MEANINGS: [Meaning; 1] = [Meaning {
+    reason: b"TooLong",
+    words: b"the image is over the limit (--limit N, 1 GiB if it is left out): raise it, or keep the front by --cut",
+}];
 
-const LONG_CORE: &[u8] =
-    b"the core is over the limit of the configuration (limit, 1 GiB if it is left out): raise it, or keep the front by cut";
+// The same of `handle`.
+static HANDLER_MEANINGS: [Meaning; 1] = [Meaning {
+    reason: b"TooLong",
+    words: b"the core is over the limit of the configuration (limit, 1 GiB if it is left out): raise it, or keep the front by cut",
+}];
 
-// What `Disk` means to what only reads.
-const READ: &[u8] =
-    b"a read of the archive failed: the kernel's log (dmesg) may say why";
+// The same of `list`.
+static LIST_MEANINGS: [Meaning; 2] = [
+    Meaning {
+        reason: b"BadLine",
+        words: b"the value of a filter can't be read: --kind takes core or exec, --signal a number or a name as SEGV, --since and --until 2h, 3d, 2026-11-25, 2026-11-25T14:03:11Z or @SECONDS",
+    },
+    Meaning {
+        reason: b"Disk",
+        words: b"a read of the archive failed: the kernel's log (dmesg) may say why",
+    },
+];
+
+// The same of what else only looks.
+static LOOK_MEANINGS: [Meaning; 1] = [Meaning {
+    reason: b"Disk",
+    words: b"a read of the archive failed: the kernel's log (dmesg) may say why",
+}];
+
+// The same of `copy` and `resize`.
+static COPY_MEANINGS: [Meaning; 2] = [
+    Meaning {
+        reason: b"SpaceFull",
+        words: b"the cases take more blocks than --data says: a larger one, or delete or retire cases before (corekeep info ARCHIVE tells how many blocks there are, and how many are free)",
+    },
+    Meaning {
+        reason: b"JournalFull",
+        words: b"the cases take more of the journal than a half has by --half: a larger one, or delete or retire cases before",
+    },
+];
 
 /// What was done by these words, after which this is the last line of the output. If `store` is refused a name, the output has no
 /// other line.
@@ -64,31 +108,35 @@ pub fn context_of(words: &[String], line: &LastLine) -> Context {
         "handle" => Context::Handling,
         "store" if line.is_first() => Context::Naming,
         "store" => Context::Storing,
-        "list" | "info" | "look" | "extract" => Context::Looking,
+        "list" => Context::Listing,
+        "info" | "look" | "extract" => Context::Looking,
+        "copy" | "resize" => Context::Copying,
         _ => Context::Other,
     }
 }
 
 /// What a reason means when this was done. Empty if there is nothing to say.
 pub fn meaning_when(context: Context, reason: &[u8]) -> &'static [u8] {
-    let words = match context {
-        Context::Salvaging => salvage_meaning(reason),
-        Context::Naming if reason == b"TooLong".as_slice() => LONG_NAME,
-        Context::Storing if reason == b"TooLong".as_slice() => LONG_IMAGE,
-        Context::Handling if reason == b"TooLong".as_slice() => LONG_CORE,
-        Context::Looking if reason == b"Disk".as_slice() => READ,
-        _ => b"",
-    };
+    if reason.ends_with(b" shape") {
+        return SHAPE;
+    }
+    let words = meaning_in(meanings_of(context), first_word(reason));
     if words.is_empty() {
         return meaning_of(reason);
     }
     words
 }
 
-// What a reason means to `salvage` alone; empty if it means the same elsewhere.
-fn salvage_meaning(reason: &[u8]) -> &'static [u8] {
-    if reason.ends_with(b" shape") {
-        return SHAPE;
+// What reasons mean when this was done, where that is more than they mean elsewhere.
+fn meanings_of(context: Context) -> &'static [Meaning] {
+    match context {
+        Context::Salvaging => &SALVAGE_MEANINGS,
+        Context::Naming => &NAME_MEANINGS,
+        Context::Storing => &STORE_MEANINGS,
+        Context::Handling => &HANDLER_MEANINGS,
+        Context::Listing => &LIST_MEANINGS,
+        Context::Looking => &LOOK_MEANINGS,
+        Context::Copying => &COPY_MEANINGS,
+        Context::Other => &[],
     }
-    meaning_in(&SALVAGE_MEANINGS, first_word(reason))
 }

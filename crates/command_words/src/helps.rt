@@ -7,10 +7,13 @@ use script_streams::{Output, Reply, StreamFault};
 
 // The words of the lines whose last word is often taken for a text as it is.
 const FIND_USAGE: &str =
-    "find N HEX: HEX is 1 to 64 bytes in hexadecimal digits; find N --text TEXT looks for a text";
+    "find N HEX: HEX is 1 to 64 bytes, each by two hexadecimal digits, without 0x; find N --text TEXT looks for a text of as many";
 
 const LABEL_USAGE: &str =
     "label N [TEXT]: TEXT is one word of at most 64 bytes, in which a space is \\x20 and a backslash \\x5c";
+
+const RETIRE_USAGE: &str =
+    "retire [keep=K] [bytes=B] [before=T]: each a number, T in seconds since 1970";
 
 /// The line whose help these words ask for. What is a command too has the command's help.
 pub fn asked_help(words: &[String]) -> Option<&'static LineHelp> {
@@ -46,6 +49,7 @@ pub fn usage_told(name: &str) -> &'static str {
     match name {
         "find" => FIND_USAGE,
         "label" => LABEL_USAGE,
+        "retire" => RETIRE_USAGE,
         _ => help_of(name).map_or("", |help| help.usage),
     }
 }

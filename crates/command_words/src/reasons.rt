@@ -10,7 +10,7 @@ pub(crate) struct Meaning {
 static MEANINGS: [Meaning; 37] = [
     Meaning {
         reason: b"SpaceFull",
-        words: b"the image takes more blocks than are free (corekeep ask ARCHIVE free counts them): delete or retire cases (pinned ones once they are unpinned), or make the archive larger (corekeep resize)",
+        words: b"the image takes more blocks than are free (corekeep ask ARCHIVE free counts them): delete or retire cases (pinned ones once they are unpinned); if it takes more than the archive has, make that larger (corekeep resize)",
     },
     Meaning {
         reason: b"JournalFull",
@@ -22,7 +22,7 @@ static MEANINGS: [Meaning; 37] = [
     },
     Meaning {
         reason: b"NameTaken",
-        words: b"a case has this name: name cores by the process and the time",
+        words: b"a case has this name: delete that case, or take another name (of cores by the process and the time)",
     },
     Meaning {
         reason: b"Burst",
@@ -62,7 +62,7 @@ static MEANINGS: [Meaning; 37] = [
     },
     Meaning {
         reason: b"NotAnArchive",
-        words: b"the file is no archive",
+        words: b"the file is no archive, or its superblock is damaged (docs/OPERATIONS.md, 'The care of an archive')",
     },
     Meaning {
         reason: b"BadLine",
@@ -78,7 +78,7 @@ static MEANINGS: [Meaning; 37] = [
     },
     Meaning {
         reason: b"UnknownVersion",
-        words: b"the archive is of a later version of the layout, or this byte is damaged",
+        words: b"the archive is of a later version of the layout, or this byte is damaged (docs/OPERATIONS.md, 'The care of an archive')",
     },
     Meaning {
         reason: b"OldVersion",
@@ -86,7 +86,7 @@ static MEANINGS: [Meaning; 37] = [
     },
     Meaning {
         reason: b"NoCase",
-        words: b"the archive has no case of this number: corekeep list ARCHIVE shows them",
+        words: b"the archive has no case of this number or whole name: corekeep list ARCHIVE shows them",
     },
     Meaning {
         reason: b"Pinned",

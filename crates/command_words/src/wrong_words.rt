@@ -11,7 +11,7 @@ struct Part {
 static PARTS: [Part; 6] = [
     Part {
         name: "N",
-        words: b"the case: its number, its name, or last",
+        words: b"the case: its number, its whole name, or last",
     },
     Part {
         name: "T",
@@ -112,10 +112,10 @@ fn part_of(name: &str) -> Option<&'static Part> {
     None
 }
 
-// Whether a word can stand there. A case may have any name.
+// Whether a word can stand there. A case may have any name, and numbers begin at 1.
 fn is_such(part: &Part, word: &str) -> bool {
     match part.name {
-        "N" => true,
+        "N" => parse_number(word.as_bytes()) != Some(0),
         "MIN" => parse_number_within(word.as_bytes(), 1, 1_024).is_some(),
         _ => parse_number(word.as_bytes()).is_some(),
     }

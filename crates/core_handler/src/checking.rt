@@ -4,7 +4,9 @@ use crate::handling::{HANDLER_LIMIT, HANDLER_TEMPLATE, HandleWords};
 use crate::labels::escaped_label;
 use crate::log::KERNEL_LOG;
 use crate::outcome_lines::words_of;
-use archive_files::{Access, ArchivePath, Failure, Refusal, reason_of, shape_on, take_disk};
+use archive_files::{
+    Access, ArchivePath, Failure, Refusal, fault_found, reason_of, shape_on, take_disk,
+};
 use disk_model::Disk;
 use handler_config::{Burst, Config};
 use intake::{Archive, Settings};
@@ -191,12 +193,28 @@ fn tell_size<R: AllocGlobal + Files<File = File>, O: Output>(
     };
     let place = ArchivePath { path, waits: true };
     match take_disk(rt, place, Access::Looking) {
-        Ok(disk) => tell_archive(rt.alloc(), reply, config, disk),
+        Ok(disk) => {
+            let is_kept = tell_archive(rt.alloc(), reply, config, disk);
+            is_kept && !tell_hidden(rt, reply, place)
+        }
         Err(refusal) => {
             tell_refused(rt.alloc(), reply, b"can't be opened", refusal);
             false
         }
     }
+}
+
+// Tells the fault of a gate that may hide records of an archive that opens. Says whether there is one.
+fn tell_hidden<R: AllocGlobal + Files<File = File>, O: Output>(
+    rt: &R,
+    reply: &mut Reply<'_, O>,
+    place: ArchivePath<'_>,
+) -> bool {
+    let Some(fault) = fault_found(rt, place) else {
+        return false;
+    };
+    tell_refused(rt.alloc(), reply, b"may hide cases", Refusal::Open(fault));
+    true
 }
 
 // Tells whether the archive on a disk is large enough, and whether it opens. Says whether both hold.

@@ -97,11 +97,23 @@ fn field_trouble(alloc: Global, kind: Kind, image: &[u8]) -> Collected {
     let mut words = Collected::new(alloc);
     let mut reply = Reply::new(&mut words);
     if let Some(reason) = fault.text().strip_prefix(b"no ".as_slice()) {
-        reply.tell(b"is damaged or cut: ");
-        reply.tell(reason.trim_ascii_end());
+        tell_field(&mut reply, kind, reason.trim_ascii_end());
     }
     let _ = reply.finish();
     words
+}
+
+// Tells the field that is at fault. If that is the file's type, the case may be of the wrong kind.
+fn tell_field(reply: &mut Reply<'_, Collected>, kind: Kind, field: &[u8]) {
+    if field != b"e_type".as_slice() {
+        reply.tell(b"is damaged or cut: ");
+        reply.tell(field);
+        return;
+    }
+    match kind {
+        Kind::Core => reply.tell(b"is no core file (e_type): store an executable by --exec NAME"),
+        Kind::Exec => reply.tell(b"is no executable (e_type): store a core file without --exec"),
+    }
 }
 
 // The reply to a line over a core that has a fault; empty if it has none.
