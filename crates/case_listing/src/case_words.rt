@@ -19,6 +19,9 @@ use std::fs::File;
 use std::rt::Files;
 use std::str;
 
+// The most bytes of a word of a line.
+const LONGEST: usize = 1_024;
+
 // Whether a word is a number, as a script has it. Then it names no case, whatever the case of that number is.
 fn is_number(word: &str) -> bool {
     parse_number(word.as_bytes()).is_some()
@@ -68,10 +71,11 @@ fn number_of<R: AllocGlobal + Files<File = File>>(
 
 // The name that prints as this word, if it has a byte that prints as another one.
 fn printed(word: &str) -> Option<ArrayVec<u8, 1024>> {
-    if !word.contains('\\') {
+    let word = word.as_bytes();
+    if word.len() > LONGEST || !word.contains(&b'\\') {
         return None;
     }
-    decode_text(word.as_bytes())
+    decode_text(word)
 }
 
 /// The number of the case that a word names by no number, in the archive on a disk.

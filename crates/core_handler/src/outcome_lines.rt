@@ -1,6 +1,7 @@
 // What the replies of a store say of its outcome, for a log.
 use archive_files::{Collected, FileWord, Refusal};
 use command_words::{Context, tell_meaning};
+use disk_model::FileFault;
 use onlooker::Trouble;
 use script_streams::Reply;
 use std::alloc::Global;
@@ -116,7 +117,10 @@ pub(crate) fn words_of(
 
 fn file_text(alloc: Global, refusal: Refusal) -> Option<String> {
     let text = match refusal {
-        Refusal::File(FileWord::Archive, fault) => format!(in alloc; "ARCHIVE: {fault}"),
+        Refusal::File(FileWord::Archive, FileFault::Missing) => format!(in alloc;
+            "there is no such file: corekeep format makes an archive"
+        ),
+        Refusal::File(FileWord::Archive, fault) => format!(in alloc; "{fault}"),
         Refusal::File(FileWord::File, fault) => format!(in alloc; "FILE: {fault}"),
         _ => return None,
     };
