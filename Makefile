@@ -49,6 +49,7 @@ test:
 
 install: bin/corekeep
 	@DESTDIR="$(DESTDIR)" PREFIX="$(PREFIX)" SYSCONFDIR="$(SYSCONFDIR)" scripts/install-files bin/corekeep
+	@echo 'installed under $(DESTDIR)$(PREFIX): nothing is turned on; docs/OPERATIONS.md says how'
 
 deb: bin/corekeep
 	@scripts/make-deb bin/corekeep
