@@ -2,6 +2,7 @@
 #![tactic(auto)]
 
 mod case_words;
+mod dump;
 mod foreseen;
 mod listing;
 mod plain;

@@ -2,6 +2,7 @@
 ghost use Rattle.case_listing.specs.Plain.{DeliversPlain};
 
 use crate::case_words::ask_case;
+use crate::dump::deliver_dump;
 use archive_files::{ArchivePath, Collected, Failure, ask};
 use inspector_cli::SessionFault;
 use onlooker::Onlooker;
@@ -11,7 +12,7 @@ use script_streams::Output;
 use std::fs::File;
 use std::rt::Files;
 
-/// Answers the line of these words, and tells its reply as people read it. Without a question its second word names a case. The reply is
+/// Answers the line of these words, and tells its reply as people read it; that of `dump` has the bytes as text too. Without a question its second word names a case. The reply is
 /// held until the line is done.
 ///
 /// # Errors
@@ -30,6 +31,9 @@ pub fn ask_plain<R: AllocGlobal + Files<File = File>, O: Output, W: Onlooker>(
         Some(question) => ask(rt, place, question, &mut reply, onlooker),
         None => ask_case(rt, place, words, &mut reply, onlooker),
     };
+    if words.first().copied() == Some("dump") {
+        return deliver_dump(reply.text(), asked, output);
+    }
     deliver_plain(reply.text(), asked, output)
 }
 
