@@ -5,13 +5,15 @@ use Rattle.address_space.specs.Source.{Space, SpotView, ExecutableView, spot_of,
 use Rattle.symbols.specs.Offsets.{address_of}
 use Rattle.unwind.specs.Reasons.{checked}
 use Rattle.unwind.specs.declared.faults.Stop.{Stop}
-use Rattle.unwind.specs.declared.faults.Stop.TheVariants.{NoFile, NoExecutable, NoAddress}
+use Rattle.unwind.specs.declared.faults.Stop.TheVariants.{NoFile, NoExecutable, OtherBuild, NoAddress}
 use Rattle.unwind.specs.declared.frame.Frame.{Frame}
 
--- a process: its memory, and the executables that are attached for mapped files
+-- a process: its memory, the executables that are attached for mapped files, and those that are stored under the name of one and are not attached, since they
+-- are of another build
 pub record ProcessView : Type 0 where
   pub space : Space
   pub executables : List ExecutableView
+  pub others : List ExecutableView
 
 -- the address that is looked up for a frame: its pc if execution was there; else the one before the pc, since a call is before the address that it returns to
 abbrev pub looked_up : Frame → Option ℕ
@@ -22,13 +24,21 @@ pub record CodeView : Type 0 where
   pub image : List ℕ
   pub address : ℕ
 
+-- why none is attached for a file: an executable of another build is stored under its name, or none is
+abbrev pub missing_by : Option ExecutableView → Stop
+missing_by None = NoExecutable
+missing_by (Some other) = OtherBuild
+
+abbrev pub missing : List ExecutableView → List ℕ → Stop
+missing others name = missing_by (find (is_named name) others)
+
 -- the address of a place in the file, in the first executable of its name
-unfoldable pub code_at : List ExecutableView → SpotView → Result CodeView Stop
-code_at executables spot =
-    checked (find (is_named spot.name) executables) NoExecutable (λ x.
+unfoldable pub code_at : List ExecutableView → List ExecutableView → SpotView → Result CodeView Stop
+code_at executables others spot =
+    checked (find (is_named spot.name) executables) (missing others spot.name) (λ x.
     checked (address_of x.image spot.offset) NoAddress (λ v.
     Ok (record { image = x.image; address = v })))
 
 -- the code of a frame
 unfoldable pub code_of : ProcessView → Frame → Result CodeView Stop
-code_of p f = checked (option_and_then (λ a. spot_of a (entry_at p.space.files a)) (looked_up f)) NoFile (code_at p.executables)
+code_of p f = checked (option_and_then (λ a. spot_of a (entry_at p.space.files a)) (looked_up f)) NoFile (code_at p.executables p.others)

@@ -191,7 +191,7 @@ impl<'s, 'c, 'e, 'a> Process<'s, 'c, 'e, 'a> {
     /// The caller of a frame by call frame information.
     #[tactic(auto, unfolding(crate::specs::ByEntry::by_entry))]
     pub(crate) fn by_entry(&self, frame: &Frame) -> Result<Result<Frame, Stop>, Unread>
-        ensures { ForEach self.now.memory (λ space. spec.by_entry (process_with space self.now.executables.now) frame.now) result }
+        ensures { ForEach self.now.memory (λ space. spec.by_entry (process_with space self.now.executables.now self.now.others.now) frame.now) result }
     {
         match self.code_of(frame) {
             Ok(code) => by_code(&self.memory, frame, &code),

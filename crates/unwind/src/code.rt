@@ -4,22 +4,23 @@ ghost use Rattle.std.specs.Option.{option_map, option_and_then};
 ghost use Rattle.address_space.specs.Source as source;
 ghost use Rattle.address_space.specs.Source.{is_named};
 ghost use Rattle.address_space.specs.SourceWords.{spot_view};
-ghost use Rattle.address_space.specs.SpaceWords.{space_of};
+ghost use Rattle.address_space.specs.SpaceWords.{attached_view, space_of};
 ghost use Rattle.unwind.specs.Code as spec;
 ghost use Rattle.unwind.specs.Words.{code_view, executable_view, process_view, viewed};
 
 use crate::executable::UnwoundExecutable;
 use crate::faults::Stop;
 use crate::frame::Frame;
-use address_space::FileSpot;
+use address_space::{Attached, FileSpot};
 use seen_memory::SeenMemory;
 use symbols::vaddr_of_offset;
 
-/// A process: its memory, and the executables that are attached for mapped files.
+/// A process: its memory, the executables that are attached for mapped files, and those that are not, since they are of another build.
 #[derive(Clone, Copy)]
 pub(crate) struct Process<'s, 'c, 'e, 'a> {
     pub(crate) memory: SeenMemory<'s, 'c>,
     pub(crate) executables: &'s [UnwoundExecutable<'e, 'a>],
+    pub(crate) others: &'s [Attached<'a>],
 }
 
 /// An address in the numbering of an executable.
@@ -44,16 +45,29 @@ fn named<'e, 'a>(
     None
 }
 
+/// Why no executable is attached for the file of that path.
+fn missing(others: &[Attached<'_>], path: &[u8]) -> Stop
+    ensures { result ≡ spec.missing (map attached_view others.now) path.now }
+{
+    for other in others {
+        if other.path == path {
+            return Stop::OtherBuild;
+        }
+    }
+    Stop::NoExecutable
+}
+
 /// The address of a place in a file.
 #[tactic(auto, unfolding(crate::specs::Code::code_at))]
 fn code_at<'e, 'a>(
     executables: &[UnwoundExecutable<'e, 'a>],
+    others: &[Attached<'_>],
     spot: FileSpot<'_>,
 ) -> Result<Code<'e, 'a>, Stop>
-    ensures { viewed code_view result ≡ spec.code_at (map executable_view executables.now) (spot_view spot.entry) }
+    ensures { viewed code_view result ≡ spec.code_at (map executable_view executables.now) (map attached_view others.now) (spot_view spot.entry) }
 {
     let Some(executable) = named(executables, spot.name) else {
-        return Err(Stop::NoExecutable);
+        return Err(missing(others, spot.name));
     };
     let Some(address) = vaddr_of_offset(&executable.elf, spot.offset) else {
         return Err(Stop::NoAddress);
@@ -93,6 +107,6 @@ impl<'s, 'c, 'e, 'a> Process<'s, 'c, 'e, 'a> {
         let Some(spot) = spot_of(&self.memory, frame) else {
             return Err(Stop::NoFile);
         };
-        code_at(self.executables, spot)
+        code_at(self.executables, self.others, spot)
     }
 }

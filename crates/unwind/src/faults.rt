@@ -18,6 +18,8 @@ pub enum Stop {
     NoFile,
     /// No executable is attached for the file that is mapped there.
     NoExecutable,
+    /// No executable is attached for the file that is mapped there, and one of another build is stored under its name.
+    OtherBuild,
     /// No PT_LOAD of the executable has that place of the file, or the address is over 2^64 - 1.
     NoAddress,
     /// No entry covers the address.
