@@ -57,7 +57,7 @@ lines_same fronts stored (n ∷ names) =
 memory_by : List SegmentView → List FileView → Space
 memory_by segments files = record { segments = segments; files = files; executables = [] }
 
-memory_same : (front image : List ℕ) → notes_of Core front ≡ notes_of Core image → space_in image (memory_of front []) ≡ memory_of image []
+pub memory_same : (front image : List ℕ) → notes_of Core front ≡ notes_of Core image → space_in image (memory_of front []) ≡ memory_of image []
 unfolding memory_of memory_by
 memory_same front image notes = ap (λ (ns : List NoteView). memory_by (segments_of image) (files_by (first_desc 0x46494c45 ns))) notes
 

@@ -4,3 +4,6 @@ pub mod PlaceWords
 pub mod PlacesWords
 pub mod Compared
 pub mod ComparedLaws
+pub mod Choosing
+pub mod ChoosingWords
+pub mod ChoosingLaws

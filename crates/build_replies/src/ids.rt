@@ -44,7 +44,7 @@ impl<'a> FrontId<'a> {
     }
 
     /// The build ID, lent.
-    pub(crate) fn id(&self) -> Option<&[u8]>
+    pub fn id(&self) -> Option<&[u8]>
         ensures { option_map (λ id. id.now) result ≡ option_map (λ v. v.items) self.now.id }
     {
         match &self.id {

@@ -5,6 +5,7 @@
 #![tactic(auto)]
 
 mod builds;
+mod choosing;
 mod compared;
 mod ids;
 mod names;
@@ -12,6 +13,7 @@ mod places;
 mod table;
 
 pub use builds::{tell_builds, tell_compared};
+pub use choosing::ChosenExecutables;
 pub use compared::ComparedFiles;
 pub use ids::FrontId;
-pub use places::FrontPlace;
+pub use places::{FrontPlace, FrontPlaces};

@@ -8,6 +8,7 @@ ghost use Rattle.address_space.specs.SpaceWords.{core_of, space_of};
 ghost use Rattle.address_space.specs.StretchWords.{IsWithin, shown_in};
 ghost use Rattle.address_space.specs.Whole.{IsFrontOf, space_in};
 ghost use Rattle.build_ids.specs.BuildId.{build_id_of};
+ghost use Rattle.image_replies.specs.CoreWords.{core_bytes};
 ghost use Rattle.core_notes.specs.FileList.{files_of};
 ghost use Rattle.core_notes.specs.FileWords.{file_view, files_bytes};
 ghost use Rattle.build_replies.specs.Builds as spec;
@@ -16,6 +17,8 @@ ghost use Rattle.build_replies.specs.PlaceWords.{EndsWithin, front_by, front_in}
 
 use address_space::{AddressSpace, ByPath, Stretch, StretchKind};
 use core_notes::{FileMap, Files};
+use image_replies::CoreImage;
+use memory_replies::space_with;
 use std::alloc::{AllocError, Global};
 
 /// The place of what a core has of the front of a mapped file.
@@ -31,7 +34,7 @@ pub struct FrontPlace<'a> {
 
 /// The places of fronts in a core's image, in their order, and a table of the files' names.
 #[derive(Drop)]
-pub(crate) struct FrontPlaces<'a> {
+pub struct FrontPlaces<'a> {
     pub(crate) list: Vec<FrontPlace<'a>>,
     pub(crate) paths: ByPath<'a>,
     /// The size of the image.
@@ -87,6 +90,7 @@ fn front_of<'a>(space: &AddressSpace<'a>, size: u64, map: FileMap<'a>) -> FrontP
 }
 
 impl<'a> FrontPlaces<'a> {
+    ghost use Rattle.build_replies.specs.ChoosingWords.{ArePlacesOf};
     ghost use Rattle.build_replies.specs.PlacesWords.{fronts_in};
 
     /// None yet, of an image of `size` bytes.
@@ -133,6 +137,23 @@ impl<'a> FrontPlaces<'a> {
         Ok(places)
     }
 
+    /// Those of a core's mapped files. A core without NT_FILE has none. The core may be the first bytes alone of an image of `size` bytes.
+    /// The error is that there is no memory.
+    pub fn of_core(
+        alloc: Global,
+        core: &CoreImage<'a>,
+        size: u64,
+    ) -> Result<FrontPlaces<'a>, AllocError>
+        ensures { IfOk result (ArePlacesOf (core_bytes core.now) size) }
+    {
+        let Some(files) = core.notes().files() else {
+            return Ok(FrontPlaces::new(alloc, size));
+        };
+        // No executable is attached: the core is asked what it has.
+        let space = space_with(alloc, core, &[])?;
+        FrontPlaces::of(alloc, &space, size, &files)
+    }
+
     /// The one of that number.
     fn at(&self, number: usize) -> Option<FrontPlace<'a>>
         ensures place { (image : List ℕ) → option_map (front_in image) result ≡ slice_get (fronts_in image self.now) number }
@@ -153,7 +174,7 @@ impl<'a> FrontPlaces<'a> {
     }
 
     /// The place of the front of that name that counts: the first. If there is none, it has no bytes.
-    pub(crate) fn front(&self, name: &'a [u8]) -> FrontPlace<'a>
+    pub fn front(&self, name: &'a [u8]) -> FrontPlace<'a>
         ensures path { result.path ≡ name.entry }
         ensures id { (image : List ℕ) → build_id_of (part image result.start result.count) ≡ spec.id_named (fronts_in image self.now) name.entry.now }
         ensures within { EndsWithin self.now.size result }
