@@ -3,3 +3,4 @@ pub mod RegisterLemmas
 pub mod AnswerLemmas
 pub mod LineLemmas
 pub mod ShownLemmas
+pub mod ChoiceLemmas

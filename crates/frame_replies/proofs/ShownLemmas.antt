@@ -3,6 +3,7 @@ use Rattle.std.proofs.Common.{◌≡◌, ℕ, List, [], ◌∷◌, ◌++◌, Opt
 use Rattle.std.proofs.lemmas.Bool.{false≢true}
 use Rattle.std.specs.Prelude.{is_ok, slice_get}
 use Rattle.address_space.specs.Source.{ExecutableView}
+use Rattle.build_replies.specs.Choosing.{choice_for}
 use Rattle.image_replies.specs.Lines.{numbered_lines}
 use Rattle.memory_replies.specs.Memory.{memory_of}
 use Rattle.memory_replies.specs.Places.{known_among}
@@ -32,22 +33,22 @@ lines_of (Ok lines) = lines
 lines_of (Err reason) = []
 
 module _ (found : Found) (stands : Stands) (b : List ℕ) (xs : List ExecutableView) (t : ℕ) where
-  lines_are : (desc lines : List ℕ) (behind : List Frame) → unwound (process_in b xs) desc ≡ first_frame desc ∷ behind → unwound_answer b xs desc ≡ Ok lines
-      → lines ≡ numbered_lines (frame_line (memory_of b xs) (known_among xs)) 0 (first_frame desc ∷ behind) ++ stop_line (stop_of (process_in b xs) desc)
+  lines_are : (desc lines : List ℕ) (behind : List Frame) → unwound (process_in b (choice_for b xs)) desc ≡ first_frame desc ∷ behind → unwound_answer b (choice_for b xs) desc ≡ Ok lines
+      → lines ≡ numbered_lines (frame_line (memory_of b (choice_for b xs).used) (known_among (choice_for b xs).used)) 0 (first_frame desc ∷ behind) ++ stop_line (stop_of (process_in b (choice_for b xs)) desc)
   unfolding unwound_lines process_in lines_of
   lines_are desc lines behind is told =
-      sym (ap lines_of told) ∙ ap (λ (fs : List Frame). numbered_lines (frame_line (memory_of b xs) (known_among xs)) 0 fs ++ stop_line (stop_of (process_in b xs) desc)) is
+      sym (ap lines_of told) ∙ ap (λ (fs : List Frame). numbered_lines (frame_line (memory_of b (choice_for b xs).used) (known_among (choice_for b xs).used)) 0 fs ++ stop_line (stop_of (process_in b (choice_for b xs)) desc)) is
 
-  registers_are : (desc : List ℕ) (behind : List Frame) (i : ℕ) → state_of b t ≡ Some desc → unwound (process_in b xs) desc ≡ first_frame desc ∷ behind
+  registers_are : (desc : List ℕ) (behind : List Frame) (i : ℕ) → state_of b t ≡ Some desc → unwound (process_in b (choice_for b xs)) desc ≡ first_frame desc ∷ behind
       → frame_answer b xs t i ≡ registers_of (slice_get (first_frame desc ∷ behind) i)
   unfolding frame_answer
   registers_are desc behind i there is =
-      ap (of_thread (one_frame_answer b xs i)) there ∙ ap (λ (fs : List Frame). registers_of (slice_get fs i)) is
+      ap (of_thread (one_frame_answer b (choice_for b xs) i)) there ∙ ap (λ (fs : List Frame). registers_of (slice_get fs i)) is
 
-  shown_of : (o : Option (List ℕ)) (lines : List ℕ) → state_of b t ≡ o → of_thread (unwound_answer b xs) o ≡ Ok lines → Shows b xs t lines
+  shown_of : (o : Option (List ℕ)) (lines : List ℕ) → state_of b t ≡ o → of_thread (unwound_answer b (choice_for b xs)) o ≡ Ok lines → Shows b xs t lines
   shown_of None lines there told = absurd (false≢true (ap is_ok told))
   shown_of (Some desc) lines there told =
-      let p = process_in b xs in
+      let p = process_in b (choice_for b xs) in
       let f = found p desc in (
         desc,
         f.0,

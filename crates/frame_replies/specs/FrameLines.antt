@@ -1,6 +1,7 @@
 -- The frames of a thread's stack by call frame information, each with the function that it executes, and why they end.
 use Rattle.std.specs.Prelude.{ℕ, ◌==◌, if◌then◌else◌, List, [], ◌∷◌, ◌++◌, Result, Ok, codes, decimal}
 use Rattle.address_space.specs.Source.{Space, ExecutableView}
+use Rattle.build_replies.specs.Choosing.{Choice, choice_for}
 use Rattle.call_frames.specs.FieldNames.{cfi_field_name}
 use Rattle.frame_rows.specs.FieldNames.{row_field_name}
 use Rattle.image_replies.specs.Lines.{numbered_lines}
@@ -11,7 +12,7 @@ use Rattle.unwind.specs.Code.{ProcessView, looked_up}
 use Rattle.unwind.specs.Registers.{ra, sp, known}
 use Rattle.unwind.specs.Unwinding.{unwound, stop_of}
 use Rattle.unwind.specs.declared.faults.Stop.{Stop}
-use Rattle.unwind.specs.declared.faults.Stop.TheVariants.{NoFile, NoExecutable, NoAddress, NoEntry, FaultyEntry, FaultyRow, Outermost, Expression, Undefined, NotRising, Unreadable, ZeroPc, Limit}
+use Rattle.unwind.specs.declared.faults.Stop.TheVariants.{NoFile, NoExecutable, OtherBuild, NoAddress, NoEntry, FaultyEntry, FaultyRow, Outermost, Expression, Undefined, NotRising, Unreadable, ZeroPc, Limit}
 use Rattle.unwind.specs.declared.frame.Frame.{Frame}
 use Rattle.frame_replies.specs.Known.{known_words}
 use Rattle.frame_replies.specs.Processes.{process_in, state_of, of_thread}
@@ -38,6 +39,7 @@ faulty_words name i = codes "Faulty " ++ (name ++ (32 ∷ [] ++ decimal i))
 abbrev pub stop_words : Stop → List ℕ
 stop_words NoFile = codes "NoFile"
 stop_words NoExecutable = codes "NoExecutable"
+stop_words OtherBuild = codes "OtherBuild"
 stop_words NoAddress = codes "NoAddress"
 stop_words NoEntry = codes "NoEntry"
 stop_words (FaultyEntry fault) = faulty_words (cfi_field_name fault.«field») fault.index
@@ -57,9 +59,10 @@ stop_line stop = codes "stop " ++ (stop_words stop ++ 10 ∷ [])
 unfoldable pub unwound_lines : ProcessView → List ExecutableView → List ℕ → List ℕ
 unwound_lines p named desc = numbered_lines (frame_line p.space named) 0 (unwound p desc) ++ stop_line (stop_of p desc)
 
-abbrev pub unwound_answer : List ℕ → List ExecutableView → List ℕ → Result (List ℕ) (List ℕ)
-unwound_answer b executables desc = Ok (unwound_lines (process_in b executables) (known_among executables) desc)
+-- with what is chosen of the executables that are stored
+abbrev pub unwound_answer : List ℕ → Choice → List ℕ → Result (List ℕ) (List ℕ)
+unwound_answer b choice desc = Ok (unwound_lines (process_in b choice) (known_among choice.used) desc)
 
--- `unwind`: the frames of a thread, by its number among the NT_PRSTATUS
+-- `unwind`: the frames of a thread, by its number among the NT_PRSTATUS, with the executables that are stored under the names of the mapped files
 unfoldable pub unwind_answer : List ℕ → List ExecutableView → ℕ → Result (List ℕ) (List ℕ)
-unwind_answer b executables t = of_thread (unwound_answer b executables) (state_of b t)
+unwind_answer b stored t = of_thread (unwound_answer b (choice_for b stored)) (state_of b t)

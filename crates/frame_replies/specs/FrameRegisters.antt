@@ -2,6 +2,7 @@
 use Rattle.std.specs.Prelude.{ℕ, ◌==◌, if◌then◌else◌, List, [], ◌∷◌, ◌++◌, slice_get, Option, None, Some, Result, Ok, Err, codes}
 use Rattle.std.specs.List.{flat_map, range_with_len}
 use Rattle.address_space.specs.Source.{ExecutableView}
+use Rattle.build_replies.specs.Choosing.{Choice, choice_for}
 use Rattle.image_replies.specs.Threads.{register_name}
 use Rattle.unwind.specs.Registers.{known}
 use Rattle.unwind.specs.Unwinding.{unwound}
@@ -30,9 +31,9 @@ abbrev pub registers_of : Option Frame → Result (List ℕ) (List ℕ)
 registers_of None = Err (codes "NoFrame")
 registers_of (Some f) = Ok (register_lines f)
 
-abbrev pub one_frame_answer : List ℕ → List ExecutableView → ℕ → List ℕ → Result (List ℕ) (List ℕ)
-one_frame_answer b executables i desc = registers_of (slice_get (unwound (process_in b executables) desc) i)
+abbrev pub one_frame_answer : List ℕ → Choice → ℕ → List ℕ → Result (List ℕ) (List ℕ)
+one_frame_answer b choice i desc = registers_of (slice_get (unwound (process_in b choice) desc) i)
 
 -- `frame`: the registers of a frame of `unwind`, by its number
 unfoldable pub frame_answer : List ℕ → List ExecutableView → ℕ → ℕ → Result (List ℕ) (List ℕ)
-frame_answer b executables t i = of_thread (one_frame_answer b executables i) (state_of b t)
+frame_answer b stored t i = of_thread (one_frame_answer b (choice_for b stored) i) (state_of b t)

@@ -6,3 +6,4 @@ pub mod FrameRegisters
 pub mod Shown
 pub mod Walking
 pub mod WalkLaws
+pub mod Choices

@@ -1,6 +1,7 @@
 -- What is shown of a thread's frames.
 use Rattle.std.specs.Prelude.{◌≡◌, ℕ, List, ◌∷◌, ◌++◌, slice_get}
 use Rattle.address_space.specs.Source.{ExecutableView}
+use Rattle.build_replies.specs.Choosing.{choice_for}
 use Rattle.image_replies.specs.Lines.{numbered_lines}
 use Rattle.memory_replies.specs.Memory.{memory_of}
 use Rattle.memory_replies.specs.Places.{known_among}
@@ -14,8 +15,8 @@ use Rattle.frame_replies.specs.Processes.{process_in}
 
 -- The lines are those of a frame with the thread's registers and of the frames after it, and of why these end. Each frame after the first follows by a rule. What is told
 -- of the registers of the frame of a number is of the one in that place.
-pub record IsShown (b : List ℕ) (executables : List ExecutableView) (t : ℕ) (lines desc : List ℕ) (behind : List Frame) (stop : Stop) : Type 0 where
-  pub told : lines ≡ numbered_lines (frame_line (memory_of b executables) (known_among executables)) 0 (first_frame desc ∷ behind) ++ stop_line stop
-  pub unwound : IsUnwoundFrom (process_in b executables) most (first_frame desc) behind stop
-  pub stands : EachStands (process_in b executables) (first_frame desc) behind
-  pub registers : (i : ℕ) → frame_answer b executables t i ≡ registers_of (slice_get (first_frame desc ∷ behind) i)
+pub record IsShown (b : List ℕ) (stored : List ExecutableView) (t : ℕ) (lines desc : List ℕ) (behind : List Frame) (stop : Stop) : Type 0 where
+  pub told : lines ≡ numbered_lines (frame_line (memory_of b (choice_for b stored).used) (known_among (choice_for b stored).used)) 0 (first_frame desc ∷ behind) ++ stop_line stop
+  pub unwound : IsUnwoundFrom (process_in b (choice_for b stored)) most (first_frame desc) behind stop
+  pub stands : EachStands (process_in b (choice_for b stored)) (first_frame desc) behind
+  pub registers : (i : ℕ) → frame_answer b stored t i ≡ registers_of (slice_get (first_frame desc ∷ behind) i)

@@ -4,8 +4,9 @@ use Rattle.std.proofs.lemmas.List.{append-nil}
 use Rattle.std.specs.Prelude.{codes, decimal, slice_get}
 use Rattle.std.specs.List.{filter}
 use Rattle.address_space.specs.Source.{ExecutableView, Space}
-use Rattle.address_space.specs.SpaceWords.{space_of}
+use Rattle.address_space.specs.SpaceWords.{attached_view, space_of}
 use Rattle.address_space.specs.Whole.{space_in}
+use Rattle.build_replies.specs.Choosing.{Choice, choice_for}
 use Rattle.core_notes.specs.FileList.{FileView}
 use Rattle.elf_view.specs.Header.{SegmentView, segments_of}
 use Rattle.image_replies.specs.Lines.{numbered_lines}
@@ -53,54 +54,57 @@ module _ (image : List ℕ) (xs : List ExecutableView) (t : ℕ) (p : UnwoundPro
   pub unwind_told : Ok (numbered_lines (walked_line (space_of p.space).files (named_in p.images)) 0 w.frames.items ++ stop_line stop) ≡ unwind_answer image xs t
   unfolding unwind_answer unwound_lines
   unwind_told =
-      let q = process_in image xs in
+      let choice = choice_for image xs in
+      let q = process_in image choice in
       let files : (space_of p.space).files ≡ q.space.files = ap (λ (r : ProcessView). r.space.files) is.process in
       ap (λ (fs : List FileView). Ok (numbered_lines (walked_line fs (named_in p.images)) 0 w.frames.items ++ stop_line stop)) files
       ∙ ap (λ (named : List ExecutableView). Ok (numbered_lines (walked_line q.space.files named) 0 w.frames.items ++ stop_line stop)) is.named
-      ∙ ap (λ (ls : List ℕ). Ok (ls ++ stop_line stop)) (lines_same q (known_among xs) 0 w.frames.items is.walked.marked)
-      ∙ ap (λ (fs : List Frame). Ok (numbered_lines (frame_line q.space (known_among xs)) 0 fs ++ stop_line stop)) (sym (all_found q is.desc w stop is.walked ended))
-      ∙ ap (λ s. Ok (numbered_lines (frame_line q.space (known_among xs)) 0 (unwound q is.desc) ++ stop_line s)) (sym (is.walked.stops ∙ (ended q).stop))
-      ∙ sym (ap (of_thread (unwound_answer image xs)) is.state)
+      ∙ ap (λ (ls : List ℕ). Ok (ls ++ stop_line stop)) (lines_same q (known_among choice.used) 0 w.frames.items is.walked.marked)
+      ∙ ap (λ (fs : List Frame). Ok (numbered_lines (frame_line q.space (known_among choice.used)) 0 fs ++ stop_line stop)) (sym (all_found q is.desc w stop is.walked ended))
+      ∙ ap (λ s. Ok (numbered_lines (frame_line q.space (known_among choice.used)) 0 (unwound q is.desc) ++ stop_line s)) (sym (is.walked.stops ∙ (ended q).stop))
+      ∙ sym (ap (of_thread (unwound_answer image choice)) is.state)
 
   -- so are the registers of one of them
   pub frame_told : (i : ℕ) (o : Option Frame) → o ≡ slice_get (found w.frames.items) i → registers_of o ≡ frame_answer image xs t i
   unfolding frame_answer
   frame_told i o at =
-      ap registers_of (at ∙ ap (λ (fs : List Frame). slice_get fs i) (sym (all_found (process_in image xs) is.desc w stop is.walked ended)))
-      ∙ sym (ap (of_thread (one_frame_answer image xs i)) is.state)
+      ap registers_of (at ∙ ap (λ (fs : List Frame). slice_get fs i) (sym (all_found (process_in image (choice_for image xs)) is.desc w stop is.walked ended)))
+      ∙ sym (ap (of_thread (one_frame_answer image (choice_for image xs) i)) is.state)
 
 -- a thread that is not there
 module _ (image : List ℕ) (xs : List ExecutableView) (t : ℕ) (none : state_of image t ≡ None) where
   pub unwind_missing : Err (codes "NoThread") ≡ unwind_answer image xs t
   unfolding unwind_answer
-  unwind_missing = sym (ap (of_thread (unwound_answer image xs)) none)
+  unwind_missing = sym (ap (of_thread (unwound_answer image (choice_for image xs))) none)
 
   pub frame_missing : (i : ℕ) → Err (codes "NoThread") ≡ frame_answer image xs t i
   unfolding frame_answer
-  frame_missing i = sym (ap (of_thread (one_frame_answer image xs i)) none)
+  frame_missing i = sym (ap (of_thread (one_frame_answer image (choice_for image xs) i)) none)
 
-process_made : List SegmentView → List FileView → List ExecutableView → List ExecutableView → ProcessView
-process_made segments files attached executables = record { space = record { segments = segments; files = files; executables = attached }; executables = executables }
+process_made : List SegmentView → List FileView → List ExecutableView → List ExecutableView → List ExecutableView → ProcessView
+process_made segments files attached executables others = record { space = record { segments = segments; files = files; executables = attached }; executables = executables; others = others }
 
-process_of_space : Space → List ℕ → List ExecutableView → ProcessView
-process_of_space space image executables = record { space = space_in image space; executables = executables }
+process_of_space : Space → List ℕ → List ExecutableView → List ExecutableView → ProcessView
+process_of_space space image executables others = record { space = space_in image space; executables = executables; others = others }
 
 -- the process of an image, of which the core is the first bytes
-process_is : (front image : List ℕ) (xs : List ExecutableView) (p : UnwoundProcess) → IsProcessOf front xs p → mapped_files front ≡ mapped_files image → process_by p image ≡ process_in image xs
+process_is : (front image : List ℕ) (choice : Choice) (p : UnwoundProcess) → IsProcessOf front choice p → mapped_files front ≡ mapped_files image → process_by p image ≡ process_in image choice
 unfolding process_in memory_of process_made process_of_space
-process_is front image xs p is files =
-    ap (λ (s : Space). process_of_space s image (map described_view p.described.items)) is.memory
-    ∙ ap (λ (fs : List FileView). process_made (segments_of image) fs (filter is_attached xs) (map described_view p.described.items)) files
-    ∙ ap (process_made (segments_of image) (mapped_files image) (filter is_attached xs)) is.described
+process_is front image choice p is files =
+    let attached = filter is_attached choice.used in
+    ap (λ (s : Space). process_of_space s image (map described_view p.described.items) (map attached_view p.others.items)) is.memory
+    ∙ ap (λ (fs : List FileView). process_made (segments_of image) fs attached (map described_view p.described.items) (map attached_view p.others.items)) files
+    ∙ ap (λ (xs : List ExecutableView). process_made (segments_of image) (mapped_files image) attached xs (map attached_view p.others.items)) is.described
+    ∙ ap (process_made (segments_of image) (mapped_files image) attached attached) is.others
 
 -- a walk that begins
-pub walk_begins : (front image : List ℕ) (xs : List ExecutableView) (t : ℕ) (p : UnwoundProcess) (w : Walk) → IsProcessOf front xs p → mapped_files front ≡ mapped_files image → state_of front t ≡ state_of image t → BeginsAt (state_of front t) w → IsWalkOf image xs t p w
-walk_begins front image xs t p w is files states begins = record {
-  process = process_is front image xs p is files;
-  named = is.named;
+pub walk_begins : (front image : List ℕ) (xs : List ExecutableView) (choice : Choice) (t : ℕ) (p : UnwoundProcess) (w : Walk) → IsProcessOf front choice p → choice ≡ choice_for image xs → mapped_files front ≡ mapped_files image → state_of front t ≡ state_of image t → BeginsAt (state_of front t) w → IsWalkOf image xs t p w
+walk_begins front image xs choice t p w is own files states begins = record {
+  process = process_is front image choice p is files ∙ ap (process_in image) own;
+  named = is.named ∙ ap (λ (c : Choice). known_among c.used) own;
   desc = begins.0;
   state = sym states ∙ begins.1;
-  walked = begins.2 (process_in image xs);
+  walked = begins.2 (process_in image (choice_for image xs));
 }
 
 -- and one that goes on

@@ -2,7 +2,8 @@
 use Rattle.std.specs.Prelude.{◌≡◌, ◌<◌, ⊤, ℕ, List, ◌++◌, map, filter, Option, None, Some, Result, Ok, Err, if◌then◌else◌, codes, [], ◌∷◌, decimal}
 use Rattle.std.specs.List.{AllByRecursion}
 use Rattle.address_space.specs.Source.{ExecutableView}
-use Rattle.address_space.specs.SpaceWords.{core_of, space_of}
+use Rattle.build_replies.specs.Choosing.{Choice, choice_for}
+use Rattle.address_space.specs.SpaceWords.{attached_view, core_of, space_of}
 use Rattle.address_space.specs.Whole.{space_in}
 use Rattle.core_notes.specs.FileList.{FileView}
 use Rattle.memory_replies.specs.Memory.{is_attached, memory_of}
@@ -28,16 +29,17 @@ use Rattle.frame_replies.specs.declared.walk.WalkedFrame.{WalkedFrame}
 use Rattle.frame_replies.specs.declared.walk.WalkFault.{WalkFault}
 use Rattle.frame_replies.specs.declared.walk.WalkFault.TheVariants.{Unread, OutOfMemory}
 
--- It is the process of a core that has these bytes, with the executables that are attached among these.
-pub record IsProcessOf (b : List ℕ) (executables : List ExecutableView) (p : UnwoundProcess) : Type 0 where
-  pub memory : space_of p.space ≡ memory_of b executables
+-- It is the process of a core that has these bytes, with what is chosen of the executables that are stored.
+pub record IsProcessOf (b : List ℕ) (choice : Choice) (p : UnwoundProcess) : Type 0 where
+  pub memory : space_of p.space ≡ memory_of b choice.used
   pub core : core_of p.space ≡ b
-  pub named : named_in p.images ≡ known_among executables
-  pub described : map described_view p.described.items ≡ filter is_attached executables
+  pub named : named_in p.images ≡ known_among choice.used
+  pub described : map described_view p.described.items ≡ filter is_attached choice.used
+  pub others : map attached_view p.others.items ≡ choice.others
 
 -- the process, if its core has this image
 abbrev pub process_by : UnwoundProcess → List ℕ → ProcessView
-process_by p image = record { space = space_in image (space_of p.space); executables = map described_view p.described.items }
+process_by p image = record { space = space_in image (space_of p.space); executables = map described_view p.described.items; others = map attached_view p.others.items }
 
 -- the frames that were found
 abbrev pub found : List WalkedFrame → List Frame
@@ -57,14 +59,14 @@ pub record IsWalked (p : ProcessView) (desc : List ℕ) (w : Walk) : Type 0 wher
 abbrev pub WalksOn : ProcessView → Walk → Walk → Type 0
 WalksOn p old new = (desc : List ℕ) → IsWalked p desc old → IsWalked p desc new
 
--- The walk is through the frames of a thread, by its number, in the process of a core that has this image, with the executables
--- that are attached among these.
-pub record IsWalkOf (image : List ℕ) (executables : List ExecutableView) (t : ℕ) (p : UnwoundProcess) (w : Walk) : Type 0 where
-  pub process : process_by p image ≡ process_in image executables
-  pub named : named_in p.images ≡ known_among executables
+-- The walk is through the frames of a thread, by its number, in the process of a core that has this image, with what is chosen of the
+-- executables that are stored.
+pub record IsWalkOf (image : List ℕ) (stored : List ExecutableView) (t : ℕ) (p : UnwoundProcess) (w : Walk) : Type 0 where
+  pub process : process_by p image ≡ process_in image (choice_for image stored)
+  pub named : named_in p.images ≡ known_among (choice_for image stored).used
   pub desc : List ℕ
   pub state : state_of image t ≡ Some desc
-  pub walked : IsWalked (process_in image executables) desc w
+  pub walked : IsWalked (process_in image (choice_for image stored)) desc w
 
 -- none was found yet of the thread with this state
 abbrev pub BeginsAt : Option (List ℕ) → Walk → Type 0

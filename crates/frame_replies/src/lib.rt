@@ -15,7 +15,7 @@ mod registers;
 mod stops;
 mod walk;
 
-pub use laws::each_frame_shown_stands_on_a_rule;
+pub use laws::{by_path_where_unknown, each_frame_shown_stands_on_a_rule, never_another};
 pub use lines::{tell_unwind, tell_walked};
 pub use process::UnwoundProcess;
 pub use registers::{tell_frame, tell_walked_frame};

@@ -136,7 +136,7 @@ pub fn tell_unwind<O: Output>(
     ensures { TellsReply (telling O.Output reply.old reply.new)
         (AnswersWith result (spec.unwind_answer (core_bytes core.now) (map attached_view attached.now) thread)) }
 {
-    let Ok(process) = UnwoundProcess::of(alloc, core, attached) else {
+    let Ok(process) = UnwoundProcess::of_whole(alloc, core, attached) else {
         return tell_no_memory(reply);
     };
     let Some(begun) = Walk::begin(alloc, core, thread) else {

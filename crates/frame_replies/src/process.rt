@@ -1,42 +1,60 @@
 // The process of a core, as its frames are unwound.
 ghost use Rattle.std.specs.Prelude.{IfOk, map};
 ghost use Rattle.image_replies.specs.CoreWords.{core_bytes};
+ghost use Rattle.build_replies.specs.Choosing.{choice_for};
+ghost use Rattle.build_replies.specs.ChoosingWords.{choice_view};
 ghost use Rattle.memory_replies.specs.Memory.{attached_view};
 
 use crate::described::Described;
 use crate::executables::all_described;
 use address_space::{AddressSpace, Attached};
+use build_replies::ChosenExecutables;
 use image_replies::CoreImage;
 use memory_replies::{SymbolizedExecutables, space_and_images};
 use std::alloc::{AllocError, Global};
 
-/// The process of a core: its memory, and the executables that are attached, with their call frame information and their
-/// symbols.
+/// The process of a core: its memory, the executables that are attached, with their call frame information and their symbols, and
+/// those that are not, since they are of another build.
 #[derive(Drop)]
 pub struct UnwoundProcess<'a> {
     pub(crate) space: AddressSpace<'a>,
     pub(crate) images: SymbolizedExecutables<'a>,
     pub(crate) described: Vec<Described<'a>>,
+    pub(crate) others: Vec<Attached<'a>>,
 }
 
 impl<'a> UnwoundProcess<'a> {
     ghost use Rattle.frame_replies.specs.Walking.{IsProcessOf};
 
-    /// The process of a core, for whose mapped files these executables are stored. One whose headers have a fault is passed over. The
-    /// core may be the first bytes alone of an image. The error is that there is no memory.
+    /// The process of a core, for whose mapped files these executables are chosen. The core may be the first bytes alone of an image. The
+    /// error is that there is no memory.
     pub fn of(
         alloc: Global,
         core: &CoreImage<'a>,
-        attached: &[Attached<'a>],
+        chosen: ChosenExecutables<'a>,
     ) -> Result<UnwoundProcess<'a>, AllocError>
-        ensures { IfOk result (IsProcessOf (core_bytes core.now) (map attached_view attached.now)) }
+        ensures { IfOk result (IsProcessOf (core_bytes core.now) (choice_view chosen.entry)) }
     {
-        let (space, images) = space_and_images(alloc, core, attached)?;
-        let described = all_described(alloc, attached)?;
+        let (space, images) = space_and_images(alloc, core, &chosen.used)?;
+        let described = all_described(alloc, &chosen.used)?;
         Ok(UnwoundProcess {
             space,
             images,
             described,
+            others: chosen.others,
         })
+    }
+
+    /// The process of a core of which all bytes are at hand, for whose mapped files these executables are stored. The error is that there
+    /// is no memory.
+    pub(crate) fn of_whole(
+        alloc: Global,
+        core: &CoreImage<'a>,
+        stored: &[Attached<'a>],
+    ) -> Result<UnwoundProcess<'a>, AllocError>
+        ensures { IfOk result (IsProcessOf (core_bytes core.now) (choice_for (core_bytes core.now) (map attached_view stored.now))) }
+    {
+        let chosen = ChosenExecutables::of(alloc, core, stored)?;
+        UnwoundProcess::of(alloc, core, chosen)
     }
 }

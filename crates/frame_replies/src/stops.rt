@@ -22,6 +22,7 @@ fn tell_reason<O: Output>(reply: &mut Reply<'_, O>, stop: Stop)
     match stop {
         Stop::NoFile => reply.tell(b"NoFile"),
         Stop::NoExecutable => reply.tell(b"NoExecutable"),
+        Stop::OtherBuild => reply.tell(b"OtherBuild"),
         Stop::NoAddress => reply.tell(b"NoAddress"),
         Stop::NoEntry => reply.tell(b"NoEntry"),
         Stop::FaultyEntry(fault) => tell_faulty(reply, fault.field.name(), fault.index),

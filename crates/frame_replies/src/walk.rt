@@ -4,6 +4,7 @@ ghost use Rattle.frame_replies.specs.declared.walk.WalkFault.TheVariants as faul
 
 use crate::executables::lent;
 use crate::process::UnwoundProcess;
+use address_space::Attached;
 use image_replies::CoreImage;
 use seen_memory::{Part, SeenMemory, Unread};
 use std::alloc::{AllocError, Global};
@@ -76,12 +77,13 @@ impl Walk {
         &mut self,
         memory: SeenMemory<'_, '_>,
         executables: &[UnwoundExecutable<'_, '_>],
+        others: &[Attached<'_>],
     ) -> Result<Option<Stop>, WalkFault>
-        ensures walks { (image : List ℕ) → IsImageOf memory.entry image → WalksOn (process_with (space_by memory.entry image) executables.now) self.old self.new }
+        ensures walks { (image : List ℕ) → IsImageOf memory.entry image → WalksOn (process_with (space_by memory.entry image) executables.now others.now) self.old self.new }
         ensures told { StepsOn memory.entry.front.now memory.entry.size memory.entry.parts.now self.old result self.new }
     {
         let mut left = self.left;
-        let frame = match left.next(memory, executables)? {
+        let frame = match left.next(memory, executables, others)? {
             Ok(frame) => frame,
             Err(stop) => return Ok(Some(stop)),
         };
@@ -98,12 +100,13 @@ impl Walk {
         &mut self,
         memory: SeenMemory<'_, '_>,
         executables: &[UnwoundExecutable<'_, '_>],
+        others: &[Attached<'_>],
     ) -> Result<Stop, WalkFault>
-        ensures walks { (image : List ℕ) → IsImageOf memory.entry image → WalksOn (process_with (space_by memory.entry image) executables.now) self.old self.new }
+        ensures walks { (image : List ℕ) → IsImageOf memory.entry image → WalksOn (process_with (space_by memory.entry image) executables.now others.now) self.old self.new }
         ensures told { GoesOn memory.entry.front.now memory.entry.size memory.entry.parts.now result self.new }
     {
         loop {
-            if let Some(stop) = self.step(memory, executables)? {
+            if let Some(stop) = self.step(memory, executables, others)? {
                 return Ok(stop);
             }
         }
@@ -130,6 +133,6 @@ impl Walk {
             size,
             parts,
         };
-        self.walk(memory, &executables)
+        self.walk(memory, &executables, &process.others)
     }
 }

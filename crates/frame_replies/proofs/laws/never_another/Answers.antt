@@ -1,0 +1,11 @@
+use Rattle.frame_replies.proofs.ChoiceLemmas.{attached_own, code_own, named_own}
+use Rattle.frame_replies.proofs.laws.never_another.Goals as goal
+
+pub returns-clause-attached : goal.returns-clause-attached
+returns-clause-attached c = attached_own
+
+pub returns-clause-named : goal.returns-clause-named
+returns-clause-named c = named_own
+
+pub returns-clause-code : goal.returns-clause-code
+returns-clause-code c = code_own
